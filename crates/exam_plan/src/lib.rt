@@ -1,0 +1,5 @@
+//! Stand-in.
+#![tactic(auto)]
+
+/// Nothing yet.
+pub const NOTHING: usize = 0;

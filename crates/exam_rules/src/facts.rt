@@ -1,0 +1,34 @@
+//! The facts: one ordered map for each table.
+use crate::rows::{Appeal, Arrangement, Candidate, Entry, Hall, Opening, Paper, Session};
+use exam_types::{HallCode, Number, PaperCode, Reference, SessionCode};
+use std::alloc::Global;
+use std::collections::BTreeMap;
+
+/// The facts of an office: for each table the rows by their keys.
+#[derive(Drop)]
+pub struct Facts {
+    pub sessions: BTreeMap<SessionCode, Session>,
+    pub papers: BTreeMap<PaperCode, Paper>,
+    pub halls: BTreeMap<HallCode, Hall>,
+    pub openings: BTreeMap<(SessionCode, HallCode), Opening>,
+    pub candidates: BTreeMap<Number, Candidate>,
+    pub entries: BTreeMap<(Number, PaperCode), Entry>,
+    pub arrangements: BTreeMap<Number, Arrangement>,
+    pub appeals: BTreeMap<(Number, Reference), Appeal>,
+}
+
+impl Facts {
+    /// No facts. Takes no memory.
+    pub fn new(alloc: Global) -> Self {
+        Facts {
+            sessions: BTreeMap::new(alloc),
+            papers: BTreeMap::new(alloc),
+            halls: BTreeMap::new(alloc),
+            openings: BTreeMap::new(alloc),
+            candidates: BTreeMap::new(alloc),
+            entries: BTreeMap::new(alloc),
+            arrangements: BTreeMap::new(alloc),
+            appeals: BTreeMap::new(alloc),
+        }
+    }
+}

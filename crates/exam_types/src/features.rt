@@ -1,0 +1,93 @@
+//! Features of halls, and needs of candidates.
+ghost use Rattle.std.specs.Prelude.{◌≡◌, ◌<◌, ◌≤◌, ◌+◌, ◌↔◌, ◌==◌, ◌++◌, nat_eq, length, Some, OnOk, OnErr, IfErr};
+ghost use Rattle.exam_types.specs.declared.refusal.Refusal.TheVariants.{NoMemory};
+ghost use Rattle.std.specs.List.{list_any, slice_split};
+ghost use Rattle.std.specs.Cmp.Lexicographic.{pointwise};
+ghost use Rattle.arrayvec.specs.ArrayVec.{array_vec_len};
+ghost use Rattle.exam_types.specs.Features as spec;
+
+use arrayvec::ArrayVec;
+use crate::refusal::Refusal;
+use crate::text::append;
+
+/// A set of features.
+#[derive(Clone, Copy, Debug, PartialEq, Eq)]
+pub struct Features {
+    pub step_free: bool,
+    pub screen: bool,
+    pub reader: bool,
+    pub small_room: bool,
+    pub computer: bool,
+}
+
+impl Features {
+    /// The set that these bytes spell, or none.
+    pub fn parse(bytes: &[u8]) -> Option<Features>
+        ensures exact { (f : spec.Features) → (result ≡ Some f) ↔ (spec.features_text f ≡ bytes.now) }
+    {
+        let features = named_features(bytes);
+        if features.text().as_slice() == bytes {
+            Some(features)
+        } else {
+            None
+        }
+    }
+
+    /// Appends the text. Refused where there is not enough memory.
+    pub fn write_to(&self, out: &mut Vec<u8>) -> Result<(), Refusal>
+        ensures ok { OnOk result (out.new.items ≡ out.old.items ++ spec.features_text self.now) }
+        ensures err { OnErr result (out.new.items ≡ out.old.items) }
+        ensures memory { IfErr result (λ e. e ≡ NoMemory) }
+    {
+        append(out, self.text().as_slice())
+    }
+
+    /// The names joined by `+`, or `-` where there are none.
+    fn text(&self) -> ArrayVec<u8, 64>
+        ensures { result.items ≡ spec.features_text self.now }
+    {
+        let mut text = ArrayVec::new();
+        add_name(&mut text, self.step_free, b"step-free");
+        add_name(&mut text, self.screen, b"screen");
+        add_name(&mut text, self.reader, b"reader");
+        add_name(&mut text, self.small_room, b"small-room");
+        add_name(&mut text, self.computer, b"computer");
+        if text.is_empty() {
+            text.push(b'-');
+        }
+        text
+    }
+}
+
+/// Appends a wanted name, after a `+` where there is text before it.
+fn add_name(text: &mut ArrayVec<u8, 64>, wanted: bool, name: &[u8])
+    requires { array_vec_len text.old + length name.now < 64 }
+    ensures text { text.new.items ≡ spec.add_name text.old.items wanted name.now }
+    ensures len { array_vec_len text.new ≤ array_vec_len text.old + length name.now + 1 }
+{
+    if wanted {
+        if !text.is_empty() {
+            text.push(b'+');
+        }
+        let _fits = text.try_extend_from_slice(name);
+    }
+}
+
+/// The features that the parts between `+` name.
+fn named_features(bytes: &[u8]) -> Features
+    ensures { result ≡ spec.named_features bytes.now }
+{
+    Features {
+        step_free: has_part(bytes, b"step-free"),
+        screen: has_part(bytes, b"screen"),
+        reader: has_part(bytes, b"reader"),
+        small_room: has_part(bytes, b"small-room"),
+        computer: has_part(bytes, b"computer"),
+    }
+}
+
+fn has_part(bytes: &[u8], name: &[u8]) -> bool
+    ensures { result ≡ spec.has_part bytes.now name.now }
+{
+    bytes.split(|b| *b == b'+').any(|part| part == name)
+}

@@ -1,0 +1,69 @@
+//! A time, 00:00 to 43:59, in minutes from the start of the day.
+ghost use Rattle.std.specs.Prelude.{◌≡◌, ◌↔◌, ◌++◌, ℕ, OnOk, OnErr, IfErr, Some};
+ghost use Rattle.exam_types.specs.Numbers as spec;
+ghost use Rattle.exam_types.specs.declared.refusal.Refusal.TheVariants.{NoMemory};
+
+use crate::numerals::{minute_text, read_minute};
+use crate::refusal::Refusal;
+use crate::text::append;
+use std::marker::Model;
+
+/// A time, 00:00 to 43:59, in minutes from the start of the day. Contracts see the number.
+#[derive(Clone, Copy, Debug, PartialEq, Eq, PartialOrd, Ord)]
+pub struct Minute {
+    value: u16,
+}
+
+impl Model for Minute {
+    ghost use Rattle.std.specs.Prelude.{ℕ};
+    ghost use Rattle.exam_types.specs.Numbers.{IsMinute};
+
+    ghost Value = { ℕ };
+
+    ghost view = { λ a. a.value };
+
+    ghost invariant = { λ a. IsMinute a.value };
+
+    ghost inverse = { λ n. record { value = n } };
+}
+
+impl Minute {
+    /// The value with this number of minutes, or none where it is out of range.
+    pub fn new(value: u16) -> Option<Self>
+        ensures { (n : ℕ) → (result ≡ Some n) ↔ (spec.IsMinute n × (n ≡ value)) }
+    {
+        if value > 2639 {
+            return None;
+        }
+        Some(Minute { value })
+    }
+
+    /// The value that these bytes spell, or none.
+    pub fn parse(bytes: &[u8]) -> Option<Self>
+        ensures { (n : ℕ) → (result ≡ Some n) ↔ (spec.IsMinute n × (spec.minute_text n ≡ bytes.now)) }
+    {
+        let value = read_minute(bytes)?;
+        if value > 2639 {
+            return None;
+        }
+        Some(Minute { value: value as u16 })
+    }
+
+    /// Appends the text. Refused where there is not enough memory.
+    pub fn write_to(&self, out: &mut Vec<u8>) -> Result<(), Refusal>
+        ensures ok { OnOk result (out.new.items ≡ out.old.items ++ spec.minute_text self.now) }
+        ensures form { spec.IsMinute self.now }
+        ensures err { OnErr result (out.new.items ≡ out.old.items) }
+        ensures memory { IfErr result (λ e. e ≡ NoMemory) }
+    {
+        append(out, minute_text(u32::from(self.value)).as_slice())
+    }
+
+    /// The number of minutes.
+    pub fn get(self) -> u16
+        ensures value { result ≡ self }
+        ensures range { spec.IsMinute result }
+    {
+        self.value
+    }
+}

@@ -1,0 +1,101 @@
+//! The texts of numbers and times.
+ghost use Rattle.std.specs.Prelude.{◌≡◌, ◌≤◌, ◌<◌, ◌+◌, ◌↔◌, ◌++◌, ℕ, length, Some};
+ghost use Rattle.std.specs.Fmt.{decimal};
+ghost use Rattle.arrayvec.specs.ArrayVec.{array_vec_len};
+ghost use Rattle.exam_types.specs.Numbers as spec;
+
+use crate::digits::{ShortText, number_of, push_digits};
+use arrayvec::ArrayVec;
+
+/// The number whose seven digits these are.
+#[tactic(auto, unfolding(crate::specs::Numbers::number_text))]
+pub fn read_number(bytes: &[u8]) -> Option<u32>
+    ensures { (n : ℕ) → (result ≡ Some n) ↔ ((n < 10000000) × (spec.number_text n ≡ bytes.now)) }
+{
+    if bytes.len() != 7 {
+        return None;
+    }
+    number_of(bytes)
+}
+
+/// Seven digits.
+#[tactic(auto, unfolding(crate::specs::Numbers::number_text))]
+pub fn number_text(number: u32) -> ShortText
+    requires { number < 10000000 }
+    ensures { result.items ≡ spec.number_text number }
+{
+    let mut text = ArrayVec::new();
+    push_digits(&mut text, 7, number);
+    text
+}
+
+/// The minutes from the start of the day that `HH:MM` says, with hours up to 99.
+#[tactic(auto, unfolding(crate::specs::Numbers::minute_text))]
+pub fn read_minute(bytes: &[u8]) -> Option<u32>
+    ensures { (n : ℕ) → (result ≡ Some n) ↔ ((n < 6000) × (spec.minute_text n ≡ bytes.now)) }
+{
+    if bytes.len() != 5 || bytes[2] != b':' {
+        return None;
+    }
+    let hours = number_of(&bytes[..2])?;
+    let minutes = number_of(&bytes[3..])?;
+    if minutes > 59 {
+        return None;
+    }
+    Some(hours * 60 + minutes)
+}
+
+/// `HH:MM`.
+#[tactic(auto, unfolding(crate::specs::Numbers::minute_text))]
+pub fn minute_text(minutes: u32) -> ShortText
+    requires { minutes < 6000 }
+    ensures { result.items ≡ spec.minute_text minutes }
+{
+    let mut text = ArrayVec::new();
+    push_digits(&mut text, 2, minutes / 60);
+    text.push(b':');
+    push_digits(&mut text, 2, minutes % 60);
+    text
+}
+
+/// The number of at most four digits that a decimal without leading zeros says.
+pub fn read_decimal(bytes: &[u8]) -> Option<u32>
+    ensures { (n : ℕ) → (result ≡ Some n) ↔ ((n < 10000) × (decimal n ≡ bytes.now)) }
+{
+    if bytes.len() > 4 {
+        return None;
+    }
+    let number = number_of(bytes)?;
+    // A number with leading zeros is printed otherwise.
+    if decimal_text(number).as_slice() == bytes {
+        Some(number)
+    } else {
+        None
+    }
+}
+
+/// A decimal without leading zeros.
+#[tactic(auto, using(crate::proofs::NumeralFacts::decimal_short))]
+pub fn decimal_text(number: u32) -> ShortText
+    requires { number < 10000 }
+    ensures { result.items ≡ decimal number }
+{
+    let mut text = ArrayVec::new();
+    push_decimal(&mut text, number);
+    text
+}
+
+/// Appends a decimal without leading zeros.
+#[tactic(auto, using(crate::proofs::NumeralFacts::decimal_one, crate::proofs::NumeralFacts::decimal_more, crate::proofs::NumeralFacts::decimal_length))]
+fn push_decimal(text: &mut ShortText, number: u32)
+    requires { array_vec_len text.old + length (decimal number) ≤ 16 }
+    ensures text { text.new.items ≡ text.old.items ++ decimal number }
+    ensures len { array_vec_len text.new ≡ array_vec_len text.old + length (decimal number) }
+{
+    if number < 10 {
+        text.push(b'0' + number as u8);
+        return;
+    }
+    push_decimal(text, number / 10);
+    text.push(b'0' + (number % 10) as u8);
+}
