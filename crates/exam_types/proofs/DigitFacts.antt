@@ -1,5 +1,5 @@
 -- Digits and the numbers that they spell.
-use Rattle.std.proofs.Common.{◌≡◌, ◌∙◌, ◌<◌, ◌≤◌, ◌+◌, ◌-◌, ◌*◌, ◌/◌, ◌%◌, ◌^◌, ◌&&◌, ℕ, zero, suc, List, [], ◌∷◌, ◌++◌, Bool, true, false, length, fold, refl, sym, ap, arith, nat_le, append_assoc, add-zero, append-nil, zero-add}
+use Rattle.std.proofs.Common.{◌≡◌, ◌∙◌, ◌<◌, ◌≤◌, ◌+◌, ◌-◌, ◌*◌, ◌/◌, ◌%◌, ◌^◌, ℕ, zero, suc, List, [], ◌∷◌, ◌++◌, true, length, fold, refl, sym, ap, arith, append_assoc, add-zero, append-nil, zero-add}
 use Rattle.std.specs.List.{list_all}
 use Rattle.std.proofs.lemmas.List.Sums.{fold-append}
 use Rattle.std.proofs.lemmas.List.Folds.{list_all-append}
@@ -47,7 +47,7 @@ digits-after k n [] all = rw (add-zero) (sym (append-nil (digits k n)))
 digits-after k n (b ∷ bs) all =
     let back = digit_back n b (first_of b bs all) in
     let more : digits (suc k + length bs) (fold (λ (m b : ℕ). m * 10 + (b - 48)) (n * 10 + (b - 48)) bs) ≡ digits (suc k) (n * 10 + (b - 48)) ++ bs
-        = digits-after (suc k) (n * 10 + (b - 48)) bs (rest_of b bs all) in
+    = digits-after (suc k) (n * 10 + (b - 48)) bs (rest_of b bs all) in
     let same : k + length (b ∷ bs) ≡ suc k + length bs = omega arith in
     rw same (more ∙ rw (back.0, back.1) (append_assoc (digits k n) (b ∷ []) bs))
 

@@ -1,2 +1,4 @@
+pub mod DayFacts
+pub mod DayTexts
 pub mod DigitFacts
 pub mod NumeralFacts

@@ -1,5 +1,5 @@
 -- What reading numerals gives.
-use Rattle.std.proofs.Common.{◌≡◌, ◌↔◌, ◌∙◌, ◌<◌, ◌≤◌, ◌^◌, ℕ, List, length, Some, None, Option, true, false, Bool, if◌then◌else◌, cond, refl, sym, ap, arith, rules, get_or, nat_eq, fold, ◌*◌, ◌+◌, ◌-◌, ◌/◌, ◌%◌, [], ◌∷◌, ◌++◌}
+use Rattle.std.proofs.Common.{◌≡◌, ◌∙◌, ◌<◌, ◌≤◌, ◌^◌, ℕ, List, length, Some, None, Option, true, false, Bool, cond, refl, sym, ap, arith, rules, nat_eq, fold, ◌*◌, ◌+◌, ◌-◌, ◌/◌, ◌%◌, [], ◌∷◌, ◌++◌}
 use Rattle.std.specs.List.{list_all}
 use Rattle.std.specs.Option.{IfSome}
 use Rattle.std.specs.Cmp.Lexicographic.{pointwise}
@@ -7,10 +7,10 @@ use Rattle.std.proofs.lemmas.Bool.{eq-eqb, false≢true}
 use Rattle.std.proofs.Math.Nat.{pow-le-pow_right}
 use Rattle.std.specs.Fmt.{decimal}
 use Rattle.std.proofs.lemmas.Str.Parse.{IsNumeralModel, numerals_by_fold}
-use Rattle.std.proofs.lemmas.Fmt.{digits_decimal, digits_value-decimal, decimal-digits_value, length-decimal-le, decimal_digit, decimal_step}
+use Rattle.std.proofs.lemmas.Fmt.{digits_decimal, digits_value-decimal, length-decimal-le, decimal_digit, decimal_step}
 use Rattle.std.proofs.lemmas.List.{length-append}
 use Rattle.exam_types.specs.Digits.{digits, digits_value, is_digit, number_of}
-use Rattle.exam_types.proofs.DigitFacts.{value-digits, digits-value, digits_are, length-digits}
+use Rattle.exam_types.proofs.DigitFacts.{value-digits, digits-value, digits_are}
 
 some_is : (b : Bool) (m n : ℕ) → cond b (Some m) None ≡ Some n → (b ≡ true) × (m ≡ n)
 some_is true m n e = (refl, cc)
@@ -80,18 +80,18 @@ reads_others bytes read n none others = nothing_to_read bytes read n none (λ is
 pub reads_padded : (bytes : List ℕ) (m n : ℕ) → number_of bytes ≡ Some m → (decimal m ≡ bytes → ⊥) → Reads bytes None n
 reads_padded bytes m n number padded =
     nothing_to_read bytes None n refl (λ is.
-        let same : n ≡ m = same_number (number_of bytes) n m (decimal_read n bytes is.0 is.1) number in
-        padded (rw (← same) is.1))
+    let same : n ≡ m = same_number (number_of bytes) n m (decimal_read n bytes is.0 is.1) number in
+    padded (rw (← same) is.1))
   where
-  same_number : (read : Option ℕ) (n m : ℕ) → read ≡ Some n → read ≡ Some m → n ≡ m
-  same_number read n m a b = cc
+    same_number : (read : Option ℕ) (n m : ℕ) → read ≡ Some n → read ≡ Some m → n ≡ m
+    same_number read n m a b = cc
 
 pub reads_decimal : (bytes : List ℕ) (m n : ℕ) → number_of bytes ≡ Some m → m < 10000 → decimal m ≡ bytes → Reads bytes (Some m) n
 reads_decimal bytes m n number small text =
     ((λ some. as_read m n bytes some small text), λ is. sym number ∙ decimal_read n bytes is.0 is.1)
   where
-  as_read : (m n : ℕ) (bytes : List ℕ) → Some m ≡ Some n → m < 10000 → decimal m ≡ bytes → (n < 10000) × (decimal n ≡ bytes)
-  as_read m n bytes some small text = let same : m ≡ n = cc in rw (← same) (small, text)
+    as_read : (m n : ℕ) (bytes : List ℕ) → Some m ≡ Some n → m < 10000 → decimal m ≡ bytes → (n < 10000) × (decimal n ≡ bytes)
+    as_read m n bytes some small text = let same : m ≡ n = cc in rw (← same) (small, text)
 
 same_text : (a : List ℕ) → pointwise nat_eq a a ≡ true
 same_text [] = refl

@@ -1,5 +1,5 @@
 -- The texts of feature sets.
-use Rattle.std.specs.Prelude.{◌≡◌, ℕ, ◌==◌, nat_eq, Bool, true, false, List, [], ◌∷◌, ◌++◌, if◌then◌else◌, codes, refl}
+use Rattle.std.specs.Prelude.{ℕ, ◌==◌, nat_eq, Bool, List, [], ◌∷◌, ◌++◌, if◌then◌else◌, codes}
 use Rattle.std.specs.List.{list_any, slice_split}
 use Rattle.std.specs.Cmp.Lexicographic.{pointwise}
 pub use Rattle.exam_types.specs.declared.features.Features.{Features}
@@ -33,4 +33,3 @@ named_features bytes = record {
   small_room = has_part bytes (codes "small-room");
   computer = has_part bytes (codes "computer");
 }
-

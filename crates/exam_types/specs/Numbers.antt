@@ -1,5 +1,5 @@
 -- The numbered values: their ranges, and their texts.
-use Rattle.std.specs.Prelude.{ℕ, ◌≤◌, ◌<◌, ◌/◌, ◌%◌, List, ◌∷◌, ◌++◌}
+use Rattle.std.specs.Prelude.{ℕ, ◌≤◌, ◌/◌, ◌%◌, List, ◌∷◌, ◌++◌}
 use Rattle.exam_types.specs.Digits.{digits}
 
 -- 1 to 9,999,999

@@ -1,11 +1,29 @@
-//! A day from 2000-01-01 to 2199-12-31, by its number from 1970-01-01.
+//! A day from 2000-01-01 to 2199-12-31.
+ghost use Rattle.std.specs.Prelude.{◌≡◌, ◌<◌, ◌↔◌, ◌+◌, ◌-◌, ◌++◌, ℕ, nat_le, length, pos, neg_ℤ, Some, None, IsSome, IfSome, OnOk, OnErr, IfErr, if◌then◌else◌};
+ghost use Rattle.jiff.specs.Types.{Day as SpanDay};
+ghost use Rattle.jiff.specs.Words.{IsDate, IsOnly, IsYmd, epoch_day};
+ghost use Rattle.arrayvec.specs.ArrayVec.{array_vec_len};
+ghost use Rattle.exam_types.specs.Days as spec;
 ghost use Rattle.exam_types.specs.Days.{IsDay};
-ghost use Rattle.std.specs.Prelude.{◌≡◌, ◌+◌, ◌-◌, nat_le, Some, None, if◌then◌else◌};
+ghost use Rattle.exam_types.specs.declared.refusal.Refusal.TheVariants.{NoMemory};
 
+use crate::digits::{ShortText, number_of, push_digits};
 use crate::refusal::Refusal;
+use jiff::civil::Date;
+use jiff::{Span, ToSpan};
+use jiff_core::civil::Date as PlainDate;
 use std::marker::Model;
 
-/// A day from 2000-01-01 to 2199-12-31, by its number from 1970-01-01. Contracts see the number.
+/// The number of 2000-01-01, where 1970-01-01 is 0.
+const FIRST: i32 = 10_957;
+
+/// The number of 2199-12-31.
+const LAST: i32 = 84_005;
+
+/// The days from -9999-01-01, from which `jiff_core` counts, to 1970-01-01.
+const EPOCH: u32 = 4_371_587;
+
+/// A day from 2000-01-01 to 2199-12-31. Contracts see its number, where 1970-01-01 is 0.
 #[derive(Clone, Copy, Debug, PartialEq, Eq, PartialOrd, Ord)]
 pub struct Day {
     value: u32,
@@ -25,17 +43,32 @@ impl Model for Day {
 }
 
 impl Day {
-    /// Stand-in: the text of days is being proved elsewhere.
-    pub fn parse(bytes: &[u8]) -> Option<Day> {
-        let _ = bytes;
-        None
+    /// The day that a text `YYYY-MM-DD` names, or none where no day is written so.
+    pub fn parse(bytes: &[u8]) -> Option<Day>
+        ensures exact { (n : ℕ) → (result ≡ Some n) ↔ (IsDay n × (spec.day_text n ≡ bytes.now)) }
+        ensures value { result ≡ spec.day_of bytes.now }
+    {
+        let (year, month, day) = parts_of(bytes)?;
+        Day::from_date(date_of(year, month, day)?)
     }
 
-    /// Stand-in.
-    pub fn write_to(&self, out: &mut Vec<u8>) -> Result<(), Refusal> {
-        let _ = out;
-        let _ = self.value;
-        Err(Refusal::NoMemory)
+    /// Appends the text `YYYY-MM-DD`. Where memory is short the vector stays as it was.
+    pub fn write_to(&self, out: &mut Vec<u8>) -> Result<(), Refusal>
+        ensures form { IsDay self.now }
+        ensures ok { OnOk result (out.new.items ≡ out.old.items ++ spec.day_text self.now) }
+        ensures err { OnErr result (out.new.items ≡ out.old.items) }
+        ensures memory { IfErr result (λ e. e ≡ NoMemory) }
+    {
+        let text = self.text();
+        out.extend_from_slice(&text)?;
+        Ok(())
+    }
+
+    /// The day that many days before, or none where that is before 2000-01-01.
+    pub fn minus(self, days: u16) -> Option<Day>
+        ensures { result ≡ (if nat_le (10957 + days) self then Some (self - days) else None) }
+    {
+        Day::from_date(self.date().checked_add(days_back(days)).ok()?)
     }
 
     /// The days since 1970-01-01.
@@ -46,16 +79,150 @@ impl Day {
         self.value
     }
 
-    /// The day that many days before, or none where that is before 2000-01-01.
-    pub fn minus(self, days: u16) -> Option<Day>
-        ensures { result ≡ (if nat_le (10957 + days) self then Some (self - days) else None) }
+    fn date(self) -> Date
+        ensures number { epoch_day result ≡ pos self }
+        ensures range { IsDay self }
     {
-        let back = u32::from(days);
-        if self.value < 10957 + back {
+        Date::from_plain(PlainDate::from_days_since_min(self.number() + EPOCH))
+    }
+
+    fn from_date(date: Date) -> Option<Day>
+        ensures { (n : ℕ) → (result ≡ Some n) ↔ (IsDay n × (epoch_day date ≡ pos n)) }
+    {
+        let number = date.to_plain().to_unix_epoch_day();
+        if number < FIRST || LAST < number {
             return None;
         }
         Some(Day {
-            value: self.value - back,
+            value: number as u32,
         })
+    }
+
+    fn text(self) -> ShortText
+        ensures text { result.items ≡ spec.day_text self }
+        ensures range { IsDay self }
+    {
+        let date = self.date();
+        let mut text = ShortText::new();
+        push_digits(&mut text, 4, u32::from(date.year().unsigned_abs()));
+        text.push(b'-');
+        push_digits(&mut text, 2, u32::from(date.month().unsigned_abs()));
+        text.push(b'-');
+        push_digits(&mut text, 2, u32::from(date.day().unsigned_abs()));
+        text
+    }
+}
+
+/// The year, the month and the day that a text of the right shape spells.
+fn parts_of(bytes: &[u8]) -> Option<(u32, u32, u32)>
+    ensures { (y m d : ℕ) → (result ≡ Some (y, m, d)) ↔ ((y < 10000) × (m < 100) × (d < 100) × (spec.date_text y m d ≡ bytes.now)) }
+{
+    if bytes.len() != 10 || bytes[4] != b'-' || bytes[7] != b'-' {
+        return None;
+    }
+    let year = number_of(&bytes[..4])?;
+    let month = number_of(&bytes[5..7])?;
+    let day = number_of(&bytes[8..])?;
+    Some((year, month, day))
+}
+
+/// A span that goes back by so many days.
+fn days_back(days: u16) -> Span
+    ensures { IsOnly SpanDay (neg_ℤ (pos days)) result }
+{
+    let count = -i64::from(days);
+    count.days()
+}
+
+/// The date, where the calendar has it.
+fn date_of(year: u32, month: u32, day: u32) -> Option<Date>
+    requires year { year < 10000 }
+    requires month { month < 100 }
+    requires day { day < 100 }
+    ensures is_date { IsSome result ↔ IsDate (pos year) (pos month) (pos day) }
+    ensures value { IfSome result (IsYmd (pos year) (pos month) (pos day)) }
+{
+    Date::new(year as i16, month as i8, day as i8).ok()
+}
+
+#[cfg(test)]
+mod tests {
+    use super::*;
+    use std::test::Fail;
+
+    #[test]
+    fn reads_and_writes_days(rt: HostRuntime) -> Result<(), Fail> {
+        let rows = [
+            ("2000-01-01", 10_957),
+            ("2000-01-31", 10_987),
+            ("2000-02-29", 11_016),
+            ("2024-02-29", 19_782),
+            ("2027-06-01", 20_970),
+            ("2096-02-29", 46_080),
+            ("2100-02-28", 47_540),
+            ("2100-03-01", 47_541),
+            ("2199-12-31", 84_005),
+        ];
+        for (text, number) in rows {
+            let day = Day::parse(text.as_bytes()).expect(&rt, "a day");
+            assert_eq!(rt; day.number(), number, "{text}");
+            let mut out = Vec::from_slice(rt.alloc(), b"on ")?;
+            day.write_to(&mut out)?;
+            assert!(rt; out.starts_with(b"on "), "{text}");
+            assert_eq!(rt; &out[3..], text.as_bytes(), "{text}");
+        }
+        Ok(())
+    }
+
+    #[test]
+    fn reads_no_other_text(rt: HostRuntime) {
+        let texts = [
+            "2100-02-29",
+            "2026-02-29",
+            "2027-02-30",
+            "2027-04-31",
+            "2027-13-01",
+            "2027-00-10",
+            "2027-10-00",
+            "1999-12-31",
+            "2200-01-01",
+            "0000-01-01",
+            "2027-6-1",
+            "2027-06-01 ",
+            " 2027-06-01",
+            "+027-06-01",
+            "2027/06/01",
+            "20270601xx",
+            "2027-06-0a",
+            "12027-06-01",
+            "",
+        ];
+        for text in texts {
+            assert!(rt; Day::parse(text.as_bytes()).is_none(), "{text}");
+        }
+    }
+
+    #[test]
+    fn goes_back_over_month_and_leap_ends(rt: HostRuntime) {
+        let rows = [
+            ("2027-06-01", 0, Some("2027-06-01")),
+            ("2027-06-01", 2, Some("2027-05-30")),
+            ("2027-03-05", 5, Some("2027-02-28")),
+            ("2024-03-05", 5, Some("2024-02-29")),
+            ("2100-03-05", 5, Some("2100-02-28")),
+            ("2027-01-10", 10, Some("2026-12-31")),
+            ("2000-01-11", 10, Some("2000-01-01")),
+            ("2000-01-10", 10, None),
+            ("2000-01-01", 1, None),
+            ("2199-12-31", 65_535, Some("2020-07-27")),
+            ("2179-06-06", 65_535, Some("2000-01-01")),
+            ("2179-06-05", 65_535, None),
+        ];
+        for (text, days, want) in rows {
+            let day = Day::parse(text.as_bytes()).expect(&rt, "a day");
+            let earlier = want.and_then(|text| Day::parse(text.as_bytes()));
+            assert_eq!(rt; earlier.is_some(), want.is_some(), "{text}");
+            assert_eq!(rt; day.minus(days), earlier, "{text} less {days}");
+        }
     }
 }

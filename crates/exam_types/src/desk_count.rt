@@ -43,11 +43,11 @@ impl DeskCount {
     pub fn parse(bytes: &[u8]) -> Option<Self>
         ensures { (n : ℕ) → (result ≡ Some n) ↔ (spec.IsDeskCount n × (decimal n ≡ bytes.now)) }
     {
-        let value = read_decimal(bytes)?;
-        if value < 1 || value > 2000 {
+        let number = read_decimal(bytes)?;
+        if number < 1 || number > 2000 {
             return None;
         }
-        Some(DeskCount { value: value })
+        Some(DeskCount { value: number })
     }
 
     /// Appends the text. Refused where there is not enough memory.
@@ -57,7 +57,7 @@ impl DeskCount {
         ensures err { OnErr result (out.new.items ≡ out.old.items) }
         ensures memory { IfErr result (λ e. e ≡ NoMemory) }
     {
-        append(out, decimal_text(self.value).as_slice())
+        append(out, decimal_text(self.get()).as_slice())
     }
 
     /// The number of desks.

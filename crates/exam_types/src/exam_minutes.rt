@@ -43,11 +43,13 @@ impl ExamMinutes {
     pub fn parse(bytes: &[u8]) -> Option<Self>
         ensures { (n : ℕ) → (result ≡ Some n) ↔ (spec.IsExamMinutes n × (decimal n ≡ bytes.now)) }
     {
-        let value = read_decimal(bytes)?;
-        if value < 1 || value > 600 {
+        let number = read_decimal(bytes)?;
+        if number < 1 || number > 600 {
             return None;
         }
-        Some(ExamMinutes { value: value as u16 })
+        Some(ExamMinutes {
+            value: number as u16,
+        })
     }
 
     /// Appends the text. Refused where there is not enough memory.
@@ -57,7 +59,7 @@ impl ExamMinutes {
         ensures err { OnErr result (out.new.items ≡ out.old.items) }
         ensures memory { IfErr result (λ e. e ≡ NoMemory) }
     {
-        append(out, decimal_text(u32::from(self.value)).as_slice())
+        append(out, decimal_text(u32::from(self.get())).as_slice())
     }
 
     /// The number of minutes.

@@ -43,11 +43,13 @@ impl Extra {
     pub fn parse(bytes: &[u8]) -> Option<Self>
         ensures { (n : ℕ) → (result ≡ Some n) ↔ (spec.IsExtra n × (decimal n ≡ bytes.now)) }
     {
-        let value = read_decimal(bytes)?;
-        if value > 100 {
+        let number = read_decimal(bytes)?;
+        if number > 100 {
             return None;
         }
-        Some(Extra { value: value as u16 })
+        Some(Extra {
+            value: number as u16,
+        })
     }
 
     /// Appends the text. Refused where there is not enough memory.
@@ -57,7 +59,7 @@ impl Extra {
         ensures err { OnErr result (out.new.items ≡ out.old.items) }
         ensures memory { IfErr result (λ e. e ≡ NoMemory) }
     {
-        append(out, decimal_text(u32::from(self.value)).as_slice())
+        append(out, decimal_text(u32::from(self.get())).as_slice())
     }
 
     /// The number of percent.

@@ -6,9 +6,9 @@ ghost use Rattle.std.specs.Cmp.Lexicographic.{pointwise};
 ghost use Rattle.arrayvec.specs.ArrayVec.{array_vec_len};
 ghost use Rattle.exam_types.specs.Features as spec;
 
-use arrayvec::ArrayVec;
 use crate::refusal::Refusal;
 use crate::text::append;
+use arrayvec::ArrayVec;
 
 /// A set of features.
 #[derive(Clone, Copy, Debug, PartialEq, Eq)]

@@ -22,6 +22,8 @@ mod refusal;
 mod session_code;
 mod session_day;
 mod start_time;
+#[cfg(test)]
+mod tests;
 mod text;
 
 pub use access_code::AccessCode;

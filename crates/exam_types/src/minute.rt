@@ -42,11 +42,13 @@ impl Minute {
     pub fn parse(bytes: &[u8]) -> Option<Self>
         ensures { (n : ℕ) → (result ≡ Some n) ↔ (spec.IsMinute n × (spec.minute_text n ≡ bytes.now)) }
     {
-        let value = read_minute(bytes)?;
-        if value > 2639 {
+        let number = read_minute(bytes)?;
+        if number > 2639 {
             return None;
         }
-        Some(Minute { value: value as u16 })
+        Some(Minute {
+            value: number as u16,
+        })
     }
 
     /// Appends the text. Refused where there is not enough memory.
@@ -56,7 +58,7 @@ impl Minute {
         ensures err { OnErr result (out.new.items ≡ out.old.items) }
         ensures memory { IfErr result (λ e. e ≡ NoMemory) }
     {
-        append(out, minute_text(u32::from(self.value)).as_slice())
+        append(out, minute_text(u32::from(self.get())).as_slice())
     }
 
     /// The number of minutes.

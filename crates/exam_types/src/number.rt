@@ -42,11 +42,11 @@ impl Number {
     pub fn parse(bytes: &[u8]) -> Option<Self>
         ensures { (n : ℕ) → (result ≡ Some n) ↔ (spec.IsNumber n × (spec.number_text n ≡ bytes.now)) }
     {
-        let value = read_number(bytes)?;
-        if value < 1 || value > 9999999 {
+        let number = read_number(bytes)?;
+        if number < 1 || number > 9999999 {
             return None;
         }
-        Some(Number { value: value })
+        Some(Number { value: number })
     }
 
     /// Appends the text. Refused where there is not enough memory.
@@ -56,7 +56,7 @@ impl Number {
         ensures err { OnErr result (out.new.items ≡ out.old.items) }
         ensures memory { IfErr result (λ e. e ≡ NoMemory) }
     {
-        append(out, number_text(self.value).as_slice())
+        append(out, number_text(self.get()).as_slice())
     }
 
     /// The number.

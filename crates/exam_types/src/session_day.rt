@@ -1,11 +1,18 @@
-//! The day of a session (stand-in until the text of days is merged).
-ghost use Rattle.std.specs.Prelude.{◌≡◌, nat_le, Some, None, if◌then◌else◌};
+//! The day of a session, from 2000-01-11 on.
+ghost use Rattle.std.specs.Prelude.{◌≡◌, ◌↔◌, ◌++◌, ℕ, nat_le, Some, None, OnOk, OnErr, IfErr, if◌then◌else◌};
+ghost use Rattle.exam_types.specs.Days as spec;
+ghost use Rattle.exam_types.specs.Days.{IsDay, IsSessionDay};
+ghost use Rattle.exam_types.specs.declared.refusal.Refusal.TheVariants.{NoMemory};
 
 use crate::day::Day;
 use crate::refusal::Refusal;
 use std::marker::Model;
 
-/// The day of a session: 2000-01-11 or later. Contracts see its number.
+/// The number of 2000-01-11, where 1970-01-01 is 0.
+const FIRST: u32 = 10_967;
+
+/// A day from 2000-01-11 to 2199-12-31, ten days before which there is a [`Day`]. Contracts see
+/// its number, where 1970-01-01 is 0.
 #[derive(Clone, Copy, Debug, PartialEq, Eq, PartialOrd, Ord)]
 pub struct SessionDay {
     day: Day,
@@ -29,26 +36,66 @@ impl SessionDay {
     pub fn new(day: Day) -> Option<SessionDay>
         ensures { result ≡ (if nat_le 10967 day then Some day else None) }
     {
-        if day.number() < 10_967 {
+        if day.number() < FIRST {
             return None;
         }
         Some(SessionDay { day })
     }
 
-    /// Stand-in.
-    pub fn parse(bytes: &[u8]) -> Option<SessionDay> {
+    /// The day that a text `YYYY-MM-DD` names, or none where no session can have a day written so.
+    pub fn parse(bytes: &[u8]) -> Option<SessionDay>
+        ensures exact { (n : ℕ) → (result ≡ Some n) ↔ (IsSessionDay n × (spec.day_text n ≡ bytes.now)) }
+    {
         SessionDay::new(Day::parse(bytes)?)
     }
 
-    /// Stand-in.
-    pub fn write_to(&self, out: &mut Vec<u8>) -> Result<(), Refusal> {
+    /// Appends the text `YYYY-MM-DD`. Where memory is short the vector stays as it was.
+    pub fn write_to(&self, out: &mut Vec<u8>) -> Result<(), Refusal>
+        ensures form { IsSessionDay self.now }
+        ensures ok { OnOk result (out.new.items ≡ out.old.items ++ spec.day_text self.now) }
+        ensures err { OnErr result (out.new.items ≡ out.old.items) }
+        ensures memory { IfErr result (λ e. e ≡ NoMemory) }
+    {
         self.day.write_to(out)
     }
 
     /// The day.
     pub fn day(self) -> Day
-        ensures { result ≡ self }
+        ensures value { result ≡ self }
+        ensures range { IsSessionDay result }
     {
         self.day
+    }
+}
+
+#[cfg(test)]
+mod tests {
+    use super::*;
+    use std::test::Fail;
+
+    #[test]
+    fn begins_ten_days_after_the_first_day(rt: HostRuntime) -> Result<(), Fail> {
+        let rows = [
+            ("2000-01-10", false),
+            ("2000-01-11", true),
+            ("2199-12-31", true),
+            ("2027-02-29", false),
+        ];
+        for (text, wanted) in rows {
+            let session_day = SessionDay::parse(text.as_bytes());
+            assert_eq!(rt; session_day.is_some(), wanted, "{text}");
+            assert_eq!(rt;
+                Day::parse(text.as_bytes()).and_then(SessionDay::new),
+                session_day,
+                "{text}"
+            );
+            if let Some(session_day) = session_day {
+                let mut out = Vec::new(rt.alloc());
+                session_day.write_to(&mut out)?;
+                assert_eq!(rt; &out[..], text.as_bytes());
+                assert_eq!(rt; Some(session_day.day()), Day::parse(text.as_bytes()));
+            }
+        }
+        Ok(())
     }
 }

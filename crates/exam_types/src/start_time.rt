@@ -42,11 +42,13 @@ impl StartTime {
     pub fn parse(bytes: &[u8]) -> Option<Self>
         ensures { (n : ℕ) → (result ≡ Some n) ↔ (spec.IsStartTime n × (spec.minute_text n ≡ bytes.now)) }
     {
-        let value = read_minute(bytes)?;
-        if value > 1439 {
+        let number = read_minute(bytes)?;
+        if number > 1439 {
             return None;
         }
-        Some(StartTime { value: value as u16 })
+        Some(StartTime {
+            value: number as u16,
+        })
     }
 
     /// Appends the text. Refused where there is not enough memory.
@@ -56,7 +58,7 @@ impl StartTime {
         ensures err { OnErr result (out.new.items ≡ out.old.items) }
         ensures memory { IfErr result (λ e. e ≡ NoMemory) }
     {
-        append(out, minute_text(u32::from(self.value)).as_slice())
+        append(out, minute_text(u32::from(self.get())).as_slice())
     }
 
     /// The number of minutes.

@@ -1,4 +1,4 @@
-use Rattle.std.proofs.Common.{◌≡◌, ◌<◌, ◌^◌, ◌&&◌, fold, drop, ◌+◌, ◌*◌, ◌-◌}
+use Rattle.std.proofs.Common.{◌≡◌, ◌<◌, ◌^◌, fold, drop, ◌+◌, ◌*◌, ◌-◌}
 use Rattle.std.specs.List.{list_all}
 use Rattle.exam_types.specs.Digits as spec
 use Rattle.exam_types.proofs.digits.number_of.Given as goal

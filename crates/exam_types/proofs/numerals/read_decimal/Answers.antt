@@ -1,4 +1,4 @@
-use Rattle.std.proofs.Common.{◌≡◌, ◌∙◌, ◌<◌, sym, arith, rules, None, Some, length, nat_eq, false}
+use Rattle.std.proofs.Common.{◌≡◌, ◌<◌, rules, None, Some, nat_eq, false}
 use Rattle.std.specs.Cmp.Lexicographic.{pointwise}
 use Rattle.std.specs.Fmt.{decimal}
 use Rattle.exam_types.specs.Digits.{number_of}
