@@ -1,37 +1,144 @@
 //! The rows of an import file.
+ghost use Rattle.std.specs.Prelude.{◌≡◌, ◌⊎◌, ◌<◌, ◌+◌, ◌++◌, ◌∷◌, [], length, true, false, Some, None, OnOk, OnErr, IfErr, option_copied};
+ghost use Rattle.std.specs.List.{find};
+ghost use Rattle.exam_office.specs.Imports as spec;
+ghost use Rattle.exam_types.specs.declared.refusal.Refusal.TheVariants as refusals;
+
 use crate::row::{Kind, Row};
-use exam_types::Refusal;
+use exam_types::{HallCode, Number, PaperCode, Refusal, SessionCode};
 use std::alloc::Global;
+use std::collections::BTreeMap;
+use std::marker::Model;
+
+/// The key of a row.
+#[derive(Clone, Copy, PartialEq, Eq, PartialOrd, Ord)]
+enum Key {
+    OfSession(SessionCode),
+    OfPaper(PaperCode),
+    OfHall(HallCode),
+    OfOpening(SessionCode, HallCode),
+    OfCandidate(Number),
+    OfEntry(Number, PaperCode),
+    OfArrangement(Number),
+}
 
 /// The rows of an import file, in the order of the file.
 #[derive(Drop)]
 pub struct Import {
     kind: Kind,
     rows: Vec<Row>,
+    /// The index of the first row with each key.
+    places: BTreeMap<Key, usize>,
+}
+
+impl Model for Import {
+    ghost use Rattle.std.specs.Prelude.{◌≡◌, true};
+    ghost use Rattle.std.specs.BTreeMap.{get};
+    ghost use Rattle.std.specs.List.{position_from};
+    ghost use Rattle.exam_office.specs.contracts.import.KeyOrd.TheImpl as keys;
+    ghost use Rattle.exam_office.specs.declared.import.Key.{Key};
+    ghost use Rattle.exam_office.specs.Imports.{ImportRows, are_of_kind, has_key, is_consistent};
+
+    ghost Value = { ImportRows };
+
+    ghost view = { λ a. record { kind = a.kind; rows = a.rows.items } };
+
+    ghost invariant = { λ a. (is_consistent a.rows.items ≡ true) × (are_of_kind a.kind a.rows.items ≡ true) × ((k : Key) → get keys.ghosts.cmp a.places k ≡ position_from (has_key k) 0 a.rows.items) };
+}
+
+/// The key of a row.
+fn key_of(row: &Row) -> Key
+    ensures { result ≡ spec.key_of row.now }
+{
+    match row {
+        Row::OfSession(session, _) => Key::OfSession(*session),
+        Row::OfPaper(paper, _) => Key::OfPaper(*paper),
+        Row::OfHall(hall, _) => Key::OfHall(*hall),
+        Row::OfOpening(session, hall, _) => Key::OfOpening(*session, *hall),
+        Row::OfCandidate(number, _) => Key::OfCandidate(*number),
+        Row::OfEntry(number, paper) => Key::OfEntry(*number, *paper),
+        Row::OfArrangement(number, _) => Key::OfArrangement(*number),
+    }
 }
 
 impl Import {
     /// An import of the kind with no rows. Takes no memory.
-    pub fn new(alloc: Global, kind: Kind) -> Self {
+    pub fn new(alloc: Global, kind: Kind) -> Self
+        ensures { result ≡ record { kind = kind; rows = [] } }
+    {
         Import {
             kind,
             rows: Vec::new(alloc),
+            places: BTreeMap::new(alloc),
         }
     }
 
     /// Appends a row. A row with the key of an earlier one and another content is refused as a conflict at its
     /// place, which counts from 1. After a refusal the import is as it was.
-    pub fn push(&mut self, row: Row) -> Result<(), Refusal> {
+    pub fn push(&mut self, row: Row) -> Result<(), Refusal>
+        requires kind { spec.kind_of row ≡ self.old.kind }
+        requires room { length self.old.rows < 4194304 }
+        ensures ok { OnOk result (self.new ≡ record self.old { rows = self.old.rows ++ row ∷ [] }) }
+        ensures agrees { OnOk result (spec.conflicts row self.old.rows ≡ false) }
+        ensures refused { IfErr result (λ e. (e ≡ refusals.NoMemory) ⊎ ((e ≡ refusals.RowConflict (length self.old.rows + 1)) × (spec.conflicts row self.old.rows ≡ true))) }
+        ensures err { OnErr result (self.new ≡ self.old) }
+    {
+        match self.first_with_key(&row) {
+            Some(first) if *first == row => self.push_repeated(row),
+            Some(_) => Err(Refusal::RowConflict {
+                record: self.rows.len() as u32 + 1,
+            }),
+            None => self.push_new(row),
+        }
+    }
+
+    /// Appends a row that is an earlier one again.
+    fn push_repeated(&mut self, row: Row) -> Result<(), Refusal>
+        requires kind { spec.kind_of row ≡ self.old.kind }
+        requires repeated { find (spec.has_key (spec.key_of row)) self.old.rows ≡ Some row }
+        ensures ok { OnOk result (self.new ≡ record self.old { rows = self.old.rows ++ row ∷ [] }) }
+        ensures memory { IfErr result (λ e. e ≡ refusals.NoMemory) }
+        ensures err { OnErr result (self.new ≡ self.old) }
+    {
         self.rows.push(row)?;
         Ok(())
     }
 
-    pub fn kind(&self) -> Kind {
+    /// Appends a row with a new key.
+    fn push_new(&mut self, row: Row) -> Result<(), Refusal>
+        requires kind { spec.kind_of row ≡ self.old.kind }
+        requires new { find (spec.has_key (spec.key_of row)) self.old.rows ≡ None }
+        ensures ok { OnOk result (self.new ≡ record self.old { rows = self.old.rows ++ row ∷ [] }) }
+        ensures memory { IfErr result (λ e. e ≡ refusals.NoMemory) }
+        ensures err { OnErr result (self.new ≡ self.old) }
+    {
+        // Room for the row first, so that nothing fails once its place is kept.
+        self.rows.reserve(1)?;
+        self.places.insert(key_of(&row), self.rows.len())?;
+        self.rows.push(row)?;
+        Ok(())
+    }
+
+    /// The first row with the key of this one.
+    fn first_with_key(&self, row: &Row) -> Option<&Row>
+        ensures { option_copied result ≡ find (spec.has_key (spec.key_of row.now)) self.now.rows }
+    {
+        let place = self.places.get(&key_of(row))?;
+        Some(&self.rows[*place])
+    }
+
+    pub fn kind(&self) -> Kind
+        ensures { result ≡ self.now.kind }
+    {
         self.kind
     }
 
     /// The rows, in the order of the file.
-    pub fn rows(&self) -> &[Row] {
+    pub fn rows(&self) -> &[Row]
+        ensures value { result.now ≡ self.now.rows }
+        ensures consistent { spec.is_consistent result.now ≡ true }
+        ensures kind { spec.are_of_kind self.now.kind result.now ≡ true }
+    {
         self.rows.as_slice()
     }
 }

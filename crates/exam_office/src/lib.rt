@@ -2,11 +2,18 @@
 #![tactic(auto)]
 
 mod command;
+mod copies;
+mod grants;
 mod import;
+mod importing;
+mod limits;
 mod office;
+mod references;
+mod repair;
 mod row;
 mod steps;
 mod view;
+mod viewing;
 
 pub use command::{Command, Reply};
 pub use import::Import;

@@ -1,23 +1,41 @@
 //! The office: its facts and the plan of each session.
+ghost use Rattle.std.specs.Prelude.{◌≡◌, IfOk};
+ghost use Rattle.exam_rules.specs.Relations.{relations_of};
+ghost use Rattle.exam_office.specs.State.{empty_state};
+
+use crate::copies::copied_facts;
 use crate::view::SessionView;
+use crate::{grants, limits, references, repair, viewing};
 use exam_rules::Facts;
 use exam_types::{HallCode, Number, Refusal, SessionCode};
 use std::alloc::Global;
 use std::collections::BTreeMap;
+use std::marker::Model;
 
 /// Where each seated candidate sits in each session.
 pub type Seats = BTreeMap<(SessionCode, Number), HallCode>;
 
-/// The facts of an office, and the plan of each session.
+/// The facts of an office, and the plan of each session. Contracts see the relations, and who sits where.
 #[derive(Drop)]
 pub struct Office {
     facts: Facts,
     seats: Seats,
 }
 
+impl Model for Office {
+    ghost use Rattle.exam_rules.specs.Relations.{relations_of};
+    ghost use Rattle.exam_office.specs.State.{State};
+
+    ghost Value = { State };
+
+    ghost view = { λ a. record { relations = relations_of a.facts; seats = a.seats.entries } };
+}
+
 impl Office {
     /// An office with no facts. Takes no memory.
-    pub fn empty(alloc: Global) -> Self {
+    pub fn empty(alloc: Global) -> Self
+        ensures { result ≡ empty_state }
+    {
         Office {
             facts: Facts::new(alloc),
             seats: BTreeMap::new(alloc),
@@ -26,22 +44,55 @@ impl Office {
 
     /// The office with these facts and plans. Refused as a bad store where they are not good, and where there is not
     /// enough memory.
-    pub fn from_parts(facts: Facts, seats: Seats) -> Result<Self, Refusal> {
+    pub fn from_parts(alloc: Global, mut facts: Facts, seats: Seats) -> Result<Self, Refusal>
+        ensures { IfOk result (λ office. office ≡ record { relations = relations_of facts; seats = seats.entries }) }
+    {
+        if !references::all_refer(&facts)
+            || !limits::is_within_limits(alloc, &facts)?
+            || !grants::are_single(alloc, &facts)?
+        {
+            return Err(Refusal::BadStore);
+        }
+        if repair::repaired(alloc, &mut facts, &seats)? != seats {
+            return Err(Refusal::BadStore);
+        }
         Ok(Office { facts, seats })
     }
 
-    pub fn facts(&self) -> &Facts {
+    pub fn facts(&self) -> &Facts
+        ensures { relations_of result.now ≡ self.now.relations }
+    {
         &self.facts
     }
 
-    pub fn seats(&self) -> &Seats {
+    pub fn seats(&self) -> &Seats
+        ensures { result.now.entries ≡ self.now.seats }
+    {
         &self.seats
     }
 
     /// One session with its plan. Refused where there is no such session, or not enough memory.
-    pub fn session_view(&self, alloc: Global, session: &SessionCode) -> Result<SessionView, Refusal> {
-        let _ = alloc;
-        let _ = session;
-        Err(Refusal::UnknownSession)
+    pub fn session_view(
+        &self,
+        alloc: Global,
+        session: &SessionCode,
+    ) -> Result<SessionView, Refusal> {
+        viewing::view_of(alloc, &self.facts, &self.seats, session)
+    }
+
+    /// An equal office. Refused where there is not enough memory.
+    pub fn copy(&self, alloc: Global) -> Result<Self, Refusal> {
+        Ok(Office {
+            facts: copied_facts(alloc, &self.facts)?,
+            seats: self.seats.clone()?,
+        })
+    }
+
+    /// Puts these facts and plans in place of the old ones.
+    pub(crate) fn replace(&mut self, facts: Facts, seats: Seats)
+        ensures { self.new ≡ record { relations = relations_of facts; seats = seats.entries } }
+    {
+        self.facts = facts;
+        self.seats = seats;
     }
 }

@@ -25,3 +25,30 @@ pub enum Row {
     OfEntry(Number, PaperCode),
     OfArrangement(Number, Arrangement),
 }
+
+/// The key of a row among the rows of its kind.
+#[derive(Clone, Copy, PartialEq, Eq, PartialOrd, Ord)]
+pub enum RowKey {
+    OfSession(SessionCode),
+    OfPaper(PaperCode),
+    OfHall(HallCode),
+    OfOpening(SessionCode, HallCode),
+    OfCandidate(Number),
+    OfEntry(Number, PaperCode),
+    OfArrangement(Number),
+}
+
+impl Row {
+    /// The key of the row.
+    pub fn key(&self) -> RowKey {
+        match self {
+            Row::OfSession(code, _) => RowKey::OfSession(*code),
+            Row::OfPaper(code, _) => RowKey::OfPaper(*code),
+            Row::OfHall(code, _) => RowKey::OfHall(*code),
+            Row::OfOpening(session, hall, _) => RowKey::OfOpening(*session, *hall),
+            Row::OfCandidate(number, _) => RowKey::OfCandidate(*number),
+            Row::OfEntry(number, paper) => RowKey::OfEntry(*number, *paper),
+            Row::OfArrangement(number, _) => RowKey::OfArrangement(*number),
+        }
+    }
+}

@@ -1,5 +1,25 @@
-//! Stand-in.
+//! Seating as matching: lawful plans, the repair of a plan, what a shortage of desks consists of, desk
+//! numbers. Candidates and halls are indices.
 #![tactic(auto)]
 
-/// Nothing yet.
-pub const NOTHING: usize = 0;
+mod calls;
+mod chains;
+mod contest;
+mod keeping;
+mod laws;
+mod numbering;
+mod problem;
+mod report;
+mod turns;
+
+pub use calls::{desks, keep_lawful, shortage, sweep};
+pub use laws::{
+    best_plan_is_its_repair, best_sizes_agree, certificate_shows_best,
+    desk_number_is_within_the_hall, desk_numbers_are_distinct, least_chain_is_one,
+    what_stays_is_lawful,
+};
+pub use problem::{Plan, Problem};
+pub use report::Shortage;
+
+#[cfg(test)]
+mod tests;

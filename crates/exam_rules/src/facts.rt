@@ -1,4 +1,7 @@
 //! The facts: one ordered map for each table.
+ghost use Rattle.std.specs.Prelude.{◌≡◌};
+ghost use Rattle.exam_rules.specs.Relations.{relations_of, no_relations};
+
 use crate::rows::{Appeal, Arrangement, Candidate, Entry, Hall, Opening, Paper, Session};
 use exam_types::{HallCode, Number, PaperCode, Reference, SessionCode};
 use std::alloc::Global;
@@ -19,7 +22,9 @@ pub struct Facts {
 
 impl Facts {
     /// No facts. Takes no memory.
-    pub fn new(alloc: Global) -> Self {
+    pub fn new(alloc: Global) -> Self
+        ensures { relations_of result ≡ no_relations }
+    {
         Facts {
             sessions: BTreeMap::new(alloc),
             papers: BTreeMap::new(alloc),

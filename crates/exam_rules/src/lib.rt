@@ -1,8 +1,24 @@
 //! The facts of an office, and the written rules over them.
 #![tactic(auto)]
 
+mod appeals;
 mod facts;
+mod fit;
+mod laws;
 mod rows;
+mod seating;
+mod sessions;
+#[cfg(test)]
+mod tests;
 
 pub use facts::Facts;
-pub use rows::{Appeal, Arrangement, Candidate, Entry, Hall, Opening, Paper, Session, Status, Subject};
+pub use fit::{finish, fits};
+pub use laws::{
+    certificates_carry_over, contested_carry_over, desk_numbers_carry_over, plans_carry_over,
+    plans_come_back,
+};
+pub use rows::{
+    Appeal, Arrangement, Candidate, Entry, Hall, Opening, Paper, Session, Status, Subject,
+};
+pub use seating::{open_halls, problem};
+pub use sessions::{arrangement_in_force, clashes, is_member, members, sitting};

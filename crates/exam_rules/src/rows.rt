@@ -1,6 +1,10 @@
 //! The rows of the facts. The key of a row is the key of its map in `Facts`.
+ghost use Rattle.std.specs.Prelude.{◌≡◌, IfOk, IfErr};
+ghost use Rattle.exam_types.specs.declared.refusal.Refusal.TheVariants.{NoMemory};
+
 use exam_types::{
-    AccessCode, ClosingTime, Day, DeskCount, ExamMinutes, Extra, Features, HallCode, Name, PaperCode, Reason, Refusal, SessionCode, SessionDay, StartTime,
+    AccessCode, ClosingTime, Day, DeskCount, ExamMinutes, Extra, Features, HallCode, Name,
+    PaperCode, Reason, Refusal, SessionCode, SessionDay, StartTime,
 };
 
 /// When a session is held.
@@ -82,7 +86,10 @@ pub struct Appeal {
 
 impl Paper {
     /// An equal row. Refused where there is not enough memory.
-    pub fn copy(&self) -> Result<Self, Refusal> {
+    pub fn copy(&self) -> Result<Self, Refusal>
+        ensures ok { IfOk result (λ row. row ≡ self.now) }
+        ensures memory { IfErr result (λ e. e ≡ NoMemory) }
+    {
         Ok(Paper {
             title: self.title.copy()?,
             session: self.session,
@@ -94,7 +101,10 @@ impl Paper {
 
 impl Hall {
     /// An equal row. Refused where there is not enough memory.
-    pub fn copy(&self) -> Result<Self, Refusal> {
+    pub fn copy(&self) -> Result<Self, Refusal>
+        ensures ok { IfOk result (λ row. row ≡ self.now) }
+        ensures memory { IfErr result (λ e. e ≡ NoMemory) }
+    {
         Ok(Hall {
             title: self.title.copy()?,
             features: self.features,
@@ -104,7 +114,10 @@ impl Hall {
 
 impl Candidate {
     /// An equal row. Refused where there is not enough memory.
-    pub fn copy(&self) -> Result<Self, Refusal> {
+    pub fn copy(&self) -> Result<Self, Refusal>
+        ensures ok { IfOk result (λ row. row ≡ self.now) }
+        ensures memory { IfErr result (λ e. e ≡ NoMemory) }
+    {
         Ok(Candidate {
             name: self.name.copy()?,
             code: self.code,
@@ -114,7 +127,10 @@ impl Candidate {
 
 impl Status {
     /// An equal status. Refused where there is not enough memory.
-    pub fn copy(&self) -> Result<Self, Refusal> {
+    pub fn copy(&self) -> Result<Self, Refusal>
+        ensures ok { IfOk result (λ row. row ≡ self.now) }
+        ensures memory { IfErr result (λ e. e ≡ NoMemory) }
+    {
         match self {
             Status::Pending => Ok(Status::Pending),
             Status::Granted(answer) => Ok(Status::Granted(answer.copy()?)),
@@ -127,7 +143,10 @@ impl Status {
 
 impl Appeal {
     /// An equal row. Refused where there is not enough memory.
-    pub fn copy(&self) -> Result<Self, Refusal> {
+    pub fn copy(&self) -> Result<Self, Refusal>
+        ensures ok { IfOk result (λ row. row ≡ self.now) }
+        ensures memory { IfErr result (λ e. e ≡ NoMemory) }
+    {
         Ok(Appeal {
             session: self.session,
             subject: self.subject,

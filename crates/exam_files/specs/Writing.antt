@@ -1,0 +1,17 @@
+-- What a call that writes a text leaves.
+use Rattle.std.specs.Prelude.{◌≡◌, ◌⊎◌, ℕ, List, ◌++◌, Option, Result, Ok, Err}
+use Rattle.std.specs.Io.KnownBytes.{Appends}
+use Rattle.exam_types.specs.declared.refusal.Refusal.{Refusal}
+use Rattle.exam_types.specs.declared.refusal.Refusal.TheVariants.{NoMemory}
+use Rattle.exam_files.specs.declared.sheet_fault.SheetFault.{SheetFault}
+use Rattle.exam_files.specs.declared.sheet_fault.SheetFault.TheVariants.{Refused, Write}
+
+-- a beginning of the text went out
+abbrev pub AppendsBeginning : Option (List ℕ) → Option (List ℕ) → List ℕ → Type 0
+AppendsBeginning old new text = (front : List ℕ) × (rest : List ℕ) × (text ≡ front ++ rest) × Appends old new front
+
+-- of a sheet, or its refusal: all of it went out, nothing at all (the writer is as it was), or a beginning
+abbrev pub Writes : {W : Type 0} → (W → Option (List ℕ)) → Result (Unit {0}) SheetFault → W → W → Result (List ℕ) Refusal → Type 0
+Writes contents (Ok done) old new sheet = (text : List ℕ) × (sheet ≡ Ok text) × Appends (contents old) (contents new) text
+Writes contents (Err (Refused refusal)) old new sheet = (new ≡ old) × ((refusal ≡ NoMemory) ⊎ (sheet ≡ Err refusal))
+Writes contents (Err Write) old new sheet = (text : List ℕ) × (sheet ≡ Ok text) × AppendsBeginning (contents old) (contents new) text

@@ -1,0 +1,146 @@
+//! The door list of a hall.
+ghost use Rattle.std.specs.Prelude.{◌≡◌, ◌++◌, ◌⊎◌, ℕ, List, Ok, Err, OnOk, IfOk, IfErr, count_by};
+ghost use Rattle.std.specs.List.{flat_map};
+ghost use Rattle.exam_files.specs.Doors as spec;
+ghost use Rattle.exam_files.specs.Writing.{Writes};
+ghost use Rattle.exam_types.specs.declared.refusal.Refusal.TheVariants.{NoMemory};
+
+use crate::sending::send;
+use crate::sheet_fault::SheetFault;
+use crate::sheet_text::{push_bytes, push_decimal, push_left, push_right};
+use exam_office::{Seat, SessionView};
+use exam_rules::Opening;
+use exam_types::{HallCode, Refusal};
+use std::alloc::Global;
+use std::io::Write;
+
+/// Writes the door list of a hall: its occupants by desk. Refused as an unknown hall where the office has no such
+/// hall, and as not opened where the session has no such opening.
+pub fn door_list<W: Write>(
+    alloc: Global,
+    view: &SessionView,
+    hall: &HallCode,
+    writer: &mut W,
+) -> Result<(), SheetFault>
+    ensures { Writes W.contents result writer.old writer.new (spec.door_list view.now hall.now) }
+{
+    let opening = opening_of(view, hall)?;
+    let text = door_list_text(alloc, view, hall, &opening)?;
+    send(writer, text.as_slice())
+}
+
+/// The opening of a hall in the session.
+fn opening_of(view: &SessionView, hall: &HallCode) -> Result<Opening, Refusal>
+    ensures { result ≡ spec.opening_in view.now hall.now }
+{
+    if !view.hall_codes.contains(hall) {
+        return Err(Refusal::UnknownHall);
+    }
+    find_opening(view.openings.as_slice(), hall).ok_or(Refusal::HallNotOpened)
+}
+
+fn find_opening(openings: &[(HallCode, Opening)], hall: &HallCode) -> Option<Opening>
+    ensures { result ≡ spec.opening_at hall.now openings.now }
+{
+    for opened in openings {
+        if opened.0 == *hall {
+            return Some(opened.1);
+        }
+    }
+    None
+}
+
+fn door_list_text(
+    alloc: Global,
+    view: &SessionView,
+    hall: &HallCode,
+    opening: &Opening,
+) -> Result<Vec<u8>, Refusal>
+    ensures ok { IfOk result (λ text. text.items ≡ spec.door_text view.now hall.now opening.now) }
+    ensures memory { IfErr result (λ e. e ≡ NoMemory) }
+{
+    let mut text = Vec::new(alloc);
+    push_heading(&mut text, view, hall, opening)?;
+    for desk in 0..u32::from(opening.desks.get()) {
+        push_desk(&mut text, view.members.as_slice(), hall, desk + 1)?;
+    }
+    Ok(text)
+}
+
+fn push_heading(
+    text: &mut Vec<u8>,
+    view: &SessionView,
+    hall: &HallCode,
+    opening: &Opening,
+) -> Result<(), Refusal>
+    ensures ok { OnOk result (text.new.items ≡ text.old.items ++ spec.door_heading view.now hall.now opening.now) }
+    ensures memory { IfErr result (λ e. e ≡ NoMemory) }
+{
+    push_bytes(text, b"DOOR LIST session ")?;
+    view.code.write_to(text)?;
+    push_bytes(text, b" hall ")?;
+    hall.write_to(text)?;
+    push_bytes(text, b"\ndate ")?;
+    view.session.day.write_to(text)?;
+    push_bytes(text, b" start ")?;
+    view.session.start.write_to(text)?;
+    push_bytes(text, b" desks ")?;
+    opening.desks.write_to(text)?;
+    push_bytes(text, b" seated ")?;
+    push_decimal(text, seated(view.members.as_slice(), hall))?;
+    push_bytes(text, b"\n")?;
+    Ok(())
+}
+
+/// How many sit in the hall.
+fn seated(seats: &[Seat], hall: &HallCode) -> usize
+    ensures { result ≡ count_by (spec.sits_in hall.now) seats.now }
+{
+    seats.iter().filter(|seat| sits_in(seat, hall)).count()
+}
+
+/// The line of each occupant of the hall at a desk.
+fn push_desk(text: &mut Vec<u8>, seats: &[Seat], hall: &HallCode, desk: u32) -> Result<(), Refusal>
+    ensures ok { OnOk result (text.new.items ≡ text.old.items ++ flat_map (spec.line_at hall.now desk) seats.now) }
+    ensures memory { IfErr result (λ e. e ≡ NoMemory) }
+{
+    for seat in seats {
+        if sits_in(seat, hall) && has_desk(seat, desk) {
+            push_line(text, seat, desk)?;
+        }
+    }
+    Ok(())
+}
+
+fn push_line(text: &mut Vec<u8>, seat: &Seat, desk: u32) -> Result<(), Refusal>
+    ensures ok { OnOk result (text.new.items ≡ text.old.items ++ spec.door_line desk seat.now) }
+    ensures memory { IfErr result (λ e. e ≡ NoMemory) }
+{
+    push_right(text, 4, desk)?;
+    push_bytes(text, b" ")?;
+    seat.number.write_to(text)?;
+    push_bytes(text, b" ")?;
+    push_left(text, 12, seat.paper.as_bytes())?;
+    push_bytes(text, b" ")?;
+    seat.name.write_to(text)?;
+    push_bytes(text, b"\n")?;
+    Ok(())
+}
+
+fn sits_in(seat: &Seat, hall: &HallCode) -> bool
+    ensures { result ≡ spec.sits_in hall.now seat.now }
+{
+    match seat.hall {
+        Some(code) => code == *hall,
+        None => false,
+    }
+}
+
+fn has_desk(seat: &Seat, desk: u32) -> bool
+    ensures { result ≡ spec.is_desk desk seat.now.desk }
+{
+    match seat.desk {
+        Some(own) => own == desk,
+        None => false,
+    }
+}

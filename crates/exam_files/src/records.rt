@@ -1,0 +1,37 @@
+//! The records of a file, as the reader of CSV gives them.
+ghost use Rattle.std.specs.Prelude.{◌≡◌, ℕ, List, Some, IfOk, IfErr};
+ghost use Rattle.csv.specs.Reading.{default_config, records, strip_bom};
+ghost use Rattle.csv.specs.Records.{fields_of};
+ghost use Rattle.exam_files.specs.Left.{Leaves, StepsBy};
+ghost use Rattle.exam_files.specs.Rows as spec;
+ghost use Rattle.exam_types.specs.declared.refusal.Refusal.TheVariants.{NoMemory};
+
+use csv::{ByteRecord, Reader, ReaderBuilder};
+use exam_types::Refusal;
+use std::alloc::Global;
+use std::io::Read;
+
+/// A reader at the start of a text. The first record is one like the others, and lengths may differ.
+pub fn reader_of(alloc: Global, bytes: &[u8]) -> Reader<&[u8]>
+    ensures { Leaves (λ s. Some s.now) result (records default_config (strip_bom bytes.now)) }
+{
+    ReaderBuilder::new()
+        .has_headers(false)
+        .flexible(true)
+        .from_reader(alloc, bytes)
+}
+
+/// Takes the next record, where there is one. Over a text in memory only memory can be wanting.
+pub fn take_record<R: Read>(reader: &mut Reader<R>, row: &mut ByteRecord) -> Result<bool, Refusal>
+    ensures steps { IfOk result (λ found. (rs : List (List (List ℕ))) → Leaves R.remaining reader.old rs → StepsBy R.remaining found row.new reader.new rs) }
+    ensures memory { IfErr result (λ e. e ≡ NoMemory) }
+{
+    reader.read_byte_record(row).map_err(|_| Refusal::NoMemory)
+}
+
+/// The field in a column, empty where there is none.
+pub fn field(fields: &ByteRecord, column: usize) -> &[u8]
+    ensures { result.now ≡ spec.field column (fields_of fields.now) }
+{
+    fields.get(column).unwrap_or(b"")
+}

@@ -1,0 +1,57 @@
+//! Pieces of a sheet's text.
+ghost use Rattle.std.specs.Prelude.{◌≡◌, ◌++◌, OnOk, IfErr, replicate};
+ghost use Rattle.std.specs.Fmt.{decimal};
+ghost use Rattle.exam_files.specs.Padding.{left_in, right_in};
+ghost use Rattle.exam_types.specs.declared.refusal.Refusal.TheVariants.{NoMemory};
+
+use exam_types::Refusal;
+use itoa::{Buffer, Integer};
+
+/// Appends the bytes.
+pub fn push_bytes(text: &mut Vec<u8>, bytes: &[u8]) -> Result<(), Refusal>
+    ensures ok { OnOk result (text.new.items ≡ text.old.items ++ bytes.now) }
+    ensures memory { IfErr result (λ e. e ≡ NoMemory) }
+{
+    Ok(text.extend_from_slice(bytes)?)
+}
+
+/// Appends a number in decimal.
+pub fn push_decimal<I: Integer>(text: &mut Vec<u8>, number: I) -> Result<(), Refusal>
+    ensures ok { OnOk result (text.new.items ≡ text.old.items ++ I.text number) }
+    ensures memory { IfErr result (λ e. e ≡ NoMemory) }
+{
+    let mut buffer = Buffer::new();
+    push_bytes(text, buffer.format(number).as_bytes())
+}
+
+/// Appends a number in decimal, with spaces on the left up to the width.
+pub fn push_right(text: &mut Vec<u8>, width: usize, number: u32) -> Result<(), Refusal>
+    ensures ok { OnOk result (text.new.items ≡ text.old.items ++ right_in width (decimal number)) }
+    ensures memory { IfErr result (λ e. e ≡ NoMemory) }
+{
+    let mut buffer = Buffer::new();
+    let digits = buffer.format(number).as_bytes();
+    push_spaces(text, width.saturating_sub(digits.len()))?;
+    push_bytes(text, digits)?;
+    Ok(())
+}
+
+/// Appends the bytes, with spaces on the right up to the width.
+pub fn push_left(text: &mut Vec<u8>, width: usize, bytes: &[u8]) -> Result<(), Refusal>
+    ensures ok { OnOk result (text.new.items ≡ text.old.items ++ left_in width bytes.now) }
+    ensures memory { IfErr result (λ e. e ≡ NoMemory) }
+{
+    push_bytes(text, bytes)?;
+    push_spaces(text, width.saturating_sub(bytes.len()))?;
+    Ok(())
+}
+
+fn push_spaces(text: &mut Vec<u8>, count: usize) -> Result<(), Refusal>
+    ensures ok { OnOk result (text.new.items ≡ text.old.items ++ replicate count 32) }
+    ensures memory { IfErr result (λ e. e ≡ NoMemory) }
+{
+    for _space in 0..count {
+        text.push(b' ')?;
+    }
+    Ok(())
+}

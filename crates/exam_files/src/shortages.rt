@@ -1,0 +1,113 @@
+//! The shortage sheet.
+ghost use Rattle.std.specs.Prelude.{◌≡◌, ◌++◌, Ok, OnOk, IfOk, IfErr, sum_by};
+ghost use Rattle.std.specs.List.{flat_map};
+ghost use Rattle.exam_files.specs.Shortages as spec;
+ghost use Rattle.exam_files.specs.Writing.{Writes};
+ghost use Rattle.exam_types.specs.declared.refusal.Refusal.TheVariants.{NoMemory};
+
+use crate::sending::send;
+use crate::sheet_fault::SheetFault;
+use crate::sheet_text::{push_bytes, push_decimal};
+use exam_office::{SessionShortage, SessionView};
+use exam_types::{HallCode, Number, Refusal};
+use std::alloc::Global;
+use std::io::Write;
+
+/// Writes the shortage sheet of a session: the deficiency certificate, halls by code and candidates by number.
+pub fn shortage_sheet<W: Write>(
+    alloc: Global,
+    view: &SessionView,
+    writer: &mut W,
+) -> Result<(), SheetFault>
+    ensures { Writes W.contents result writer.old writer.new (Ok (spec.shortage_sheet view.now)) }
+{
+    let text = shortage_text(alloc, view)?;
+    send(writer, text.as_slice())
+}
+
+fn shortage_text(alloc: Global, view: &SessionView) -> Result<Vec<u8>, Refusal>
+    ensures ok { IfOk result (λ text. text.items ≡ spec.shortage_sheet view.now) }
+    ensures memory { IfErr result (λ e. e ≡ NoMemory) }
+{
+    let mut text = Vec::new(alloc);
+    let shortage = &view.report;
+    push_heading(&mut text, view, shortage)?;
+    push_halls(&mut text, shortage.halls.as_slice())?;
+    push_bytes(&mut text, b"candidates ")?;
+    push_decimal(&mut text, shortage.candidates.len())?;
+    push_bytes(&mut text, b"\n")?;
+    push_candidates(&mut text, shortage.candidates.as_slice())?;
+    Ok(text)
+}
+
+fn push_heading(
+    text: &mut Vec<u8>,
+    view: &SessionView,
+    shortage: &SessionShortage,
+) -> Result<(), Refusal>
+    ensures ok { OnOk result (text.new.items ≡ text.old.items ++ spec.shortage_heading view.now.code shortage.now) }
+    ensures memory { IfErr result (λ e. e ≡ NoMemory) }
+{
+    push_bytes(text, b"SHORTAGE session ")?;
+    view.code.write_to(text)?;
+    push_bytes(text, b"\nunseated ")?;
+    push_decimal(text, shortage.unseated)?;
+    push_bytes(text, b"\nhalls ")?;
+    push_decimal(text, shortage.halls.len())?;
+    push_bytes(text, b" desks ")?;
+    push_decimal(text, desk_count(shortage.halls.as_slice()))?;
+    push_bytes(text, b"\n")?;
+    Ok(())
+}
+
+/// All desks of the halls.
+fn desk_count(halls: &[(HallCode, u32)]) -> u128
+    ensures { result ≡ sum_by (λ hall. hall.1) halls.now }
+{
+    let mut count = 0;
+    for hall in halls {
+        count += u128::from(hall.1);
+    }
+    count
+}
+
+fn push_halls(text: &mut Vec<u8>, halls: &[(HallCode, u32)]) -> Result<(), Refusal>
+    ensures ok { OnOk result (text.new.items ≡ text.old.items ++ flat_map spec.hall_line halls.now) }
+    ensures memory { IfErr result (λ e. e ≡ NoMemory) }
+{
+    for hall in halls {
+        push_hall(text, hall)?;
+    }
+    Ok(())
+}
+
+fn push_hall(text: &mut Vec<u8>, hall: &(HallCode, u32)) -> Result<(), Refusal>
+    ensures ok { OnOk result (text.new.items ≡ text.old.items ++ spec.hall_line hall.now) }
+    ensures memory { IfErr result (λ e. e ≡ NoMemory) }
+{
+    push_bytes(text, b"hall ")?;
+    hall.0.write_to(text)?;
+    push_bytes(text, b" desks ")?;
+    push_decimal(text, hall.1)?;
+    push_bytes(text, b"\n")?;
+    Ok(())
+}
+
+fn push_candidates(text: &mut Vec<u8>, numbers: &[Number]) -> Result<(), Refusal>
+    ensures ok { OnOk result (text.new.items ≡ text.old.items ++ flat_map spec.candidate_line numbers.now) }
+    ensures memory { IfErr result (λ e. e ≡ NoMemory) }
+{
+    for number in numbers {
+        push_candidate(text, *number)?;
+    }
+    Ok(())
+}
+
+fn push_candidate(text: &mut Vec<u8>, number: Number) -> Result<(), Refusal>
+    ensures ok { OnOk result (text.new.items ≡ text.old.items ++ spec.candidate_line number) }
+    ensures memory { IfErr result (λ e. e ≡ NoMemory) }
+{
+    number.write_to(text)?;
+    push_bytes(text, b"\n")?;
+    Ok(())
+}

@@ -1,0 +1,124 @@
+-- Rows are equal where `==` says so.
+use Rattle.std.proofs.Common.{◌≡◌, ◌∙◌, Bool, true, false, refl, sym, ap, ℕ, List, [], ◌∷◌}
+use Rattle.std.specs.Prelude.{nat_eq, ◌&&◌}
+use Rattle.std.specs.Cmp.{IsEquivalence, booleans_Decides}
+use Rattle.std.specs.Cmp.Lexicographic.{pointwise}
+use Rattle.std.proofs.Math.Bool.{beq}
+use Rattle.std.proofs.lemmas.Bool.Decides.{Decides-eqb}
+use Rattle.std.proofs.lemmas.Slice.Eq.{slice_eq-Decides}
+use Rattle.exam_rules.specs.declared.rows.Session.{Session}
+use Rattle.exam_rules.specs.declared.rows.Paper.{Paper}
+use Rattle.exam_rules.specs.declared.rows.Hall.{Hall}
+use Rattle.exam_rules.specs.declared.rows.Opening.{Opening}
+use Rattle.exam_rules.specs.declared.rows.Candidate.{Candidate}
+use Rattle.exam_rules.specs.declared.rows.Arrangement.{Arrangement}
+use Rattle.exam_types.specs.declared.features.Features.{Features}
+use Rattle.exam_office.specs.declared.row.Row.{Row}
+use Rattle.exam_office.specs.declared.row.Row.TheVariants as row
+use Rattle.exam_office.specs.contracts.row.RowPartialEq.TheImpl as rows
+use Rattle.exam_office.specs.contracts.row.RowEq.TheImpl.Laws as laws
+
+never : {A : Type 0} → false ≡ true → A
+never e = cc e
+
+left : (x y : Bool) → (x && y) ≡ true → x ≡ true
+left true y e = refl
+left false y e = e
+
+right : (x y : Bool) → (x && y) ≡ true → y ≡ true
+right true y e = e
+right false y e = never e
+
+numbers : (a b : ℕ) → nat_eq a b ≡ true → a ≡ b
+numbers a b = (Decides-eqb a b).0
+
+texts : (a b : List ℕ) → pointwise nat_eq a b ≡ true → a ≡ b
+texts a b = (slice_eq-Decides Decides-eqb a b (pointwise nat_eq a b) refl).0
+
+flags : (a b : Bool) → beq a b ≡ true → a ≡ b
+flags a b = (booleans_Decides a b).0
+
+abbrev same_features : Features → Features → Bool
+same_features x y = beq x.step_free y.step_free && (beq x.screen y.screen && (beq x.reader y.reader && (beq x.small_room y.small_room && beq x.computer y.computer)))
+
+abbrev of_flags : Bool → Bool → Bool → Bool → Bool → Features
+of_flags a b c d e = record { step_free = a; screen = b; reader = c; small_room = d; computer = e }
+
+features : (x y : Features) → same_features x y ≡ true → x ≡ y
+features x y e =
+    let e1 = right _ _ e in
+    let e2 = right _ _ e1 in
+    let e3 = right _ _ e2 in
+    ap (λ f. of_flags f x.screen x.reader x.small_room x.computer) (flags _ _ (left _ _ e))
+    ∙ ap (λ f. of_flags y.step_free f x.reader x.small_room x.computer) (flags _ _ (left _ _ e1))
+    ∙ ap (λ f. of_flags y.step_free y.screen f x.small_room x.computer) (flags _ _ (left _ _ e2))
+    ∙ ap (λ f. of_flags y.step_free y.screen y.reader f x.computer) (flags _ _ (left _ _ e3))
+    ∙ ap (λ f. of_flags y.step_free y.screen y.reader y.small_room f) (flags _ _ (right _ _ e3))
+
+sessions : (a b : List ℕ) (x y : Session) → (pointwise nat_eq a b && (nat_eq x.day y.day && nat_eq x.start y.start)) ≡ true → row.OfSession a x ≡ row.OfSession b y
+sessions a b x y e =
+    let r = right _ _ e in
+    ap (λ k. row.OfSession k x) (texts a b (left _ _ e))
+    ∙ ap (λ (d : ℕ). row.OfSession b (record { day = d; start = x.start })) (numbers _ _ (left _ _ r))
+    ∙ ap (λ (t : ℕ). row.OfSession b (record { day = y.day; start = t })) (numbers _ _ (right _ _ r))
+
+papers : (a b : List ℕ) (x y : Paper) → (pointwise nat_eq a b && (pointwise nat_eq x.title y.title && (pointwise nat_eq x.session y.session && (nat_eq x.minutes y.minutes && same_features x.required y.required)))) ≡ true
+    → row.OfPaper a x ≡ row.OfPaper b y
+papers a b x y e =
+    let r = right _ _ e in
+    let r1 = right _ _ r in
+    let r2 = right _ _ r1 in
+    ap (λ k. row.OfPaper k x) (texts a b (left _ _ e))
+    ∙ ap (λ (t : List ℕ). row.OfPaper b (record { title = t; session = x.session; minutes = x.minutes; required = x.required })) (texts _ _ (left _ _ r))
+    ∙ ap (λ (s : List ℕ). row.OfPaper b (record { title = y.title; session = s; minutes = x.minutes; required = x.required })) (texts _ _ (left _ _ r1))
+    ∙ ap (λ (m : ℕ). row.OfPaper b (record { title = y.title; session = y.session; minutes = m; required = x.required })) (numbers _ _ (left _ _ r2))
+    ∙ ap (λ (f : Features). row.OfPaper b (record { title = y.title; session = y.session; minutes = y.minutes; required = f })) (features _ _ (right _ _ r2))
+
+halls : (a b : List ℕ) (x y : Hall) → (pointwise nat_eq a b && (pointwise nat_eq x.title y.title && same_features x.features y.features)) ≡ true → row.OfHall a x ≡ row.OfHall b y
+halls a b x y e =
+    let r = right _ _ e in
+    ap (λ k. row.OfHall k x) (texts a b (left _ _ e))
+    ∙ ap (λ (t : List ℕ). row.OfHall b (record { title = t; features = x.features })) (texts _ _ (left _ _ r))
+    ∙ ap (λ (f : Features). row.OfHall b (record { title = y.title; features = f })) (features _ _ (right _ _ r))
+
+openings : (a b s t : List ℕ) (x y : Opening) → (pointwise nat_eq a b && (pointwise nat_eq s t && (nat_eq x.desks y.desks && (nat_eq x.until y.until && beq x.reserved y.reserved)))) ≡ true
+    → row.OfOpening a s x ≡ row.OfOpening b t y
+openings a b s t x y e =
+    let r = right _ _ e in
+    let r1 = right _ _ r in
+    let r2 = right _ _ r1 in
+    ap (λ k. row.OfOpening k s x) (texts a b (left _ _ e))
+    ∙ ap (λ k. row.OfOpening b k x) (texts s t (left _ _ r))
+    ∙ ap (λ (d : ℕ). row.OfOpening b t (record { desks = d; until = x.until; reserved = x.reserved })) (numbers _ _ (left _ _ r1))
+    ∙ ap (λ (u : ℕ). row.OfOpening b t (record { desks = y.desks; until = u; reserved = x.reserved })) (numbers _ _ (left _ _ r2))
+    ∙ ap (λ (f : Bool). row.OfOpening b t (record { desks = y.desks; until = y.until; reserved = f })) (flags _ _ (right _ _ r2))
+
+candidates : (a b : ℕ) (x y : Candidate) → (nat_eq a b && (pointwise nat_eq x.name y.name && pointwise nat_eq x.code y.code)) ≡ true → row.OfCandidate a x ≡ row.OfCandidate b y
+candidates a b x y e =
+    let r = right _ _ e in
+    ap (λ k. row.OfCandidate k x) (numbers a b (left _ _ e))
+    ∙ ap (λ (n : List ℕ). row.OfCandidate b (record { name = n; code = x.code })) (texts _ _ (left _ _ r))
+    ∙ ap (λ (c : List ℕ). row.OfCandidate b (record { name = y.name; code = c })) (texts _ _ (right _ _ r))
+
+entries : (a b : ℕ) (s t : List ℕ) → (nat_eq a b && pointwise nat_eq s t) ≡ true → row.OfEntry a s ≡ row.OfEntry b t
+entries a b s t e = ap (λ k. row.OfEntry k s) (numbers a b (left _ _ e)) ∙ ap (row.OfEntry b) (texts s t (right _ _ e))
+
+arrangements : (a b : ℕ) (x y : Arrangement) → (nat_eq a b && (same_features x.needs y.needs && nat_eq x.extra y.extra)) ≡ true → row.OfArrangement a x ≡ row.OfArrangement b y
+arrangements a b x y e =
+    let r = right _ _ e in
+    ap (λ k. row.OfArrangement k x) (numbers a b (left _ _ e))
+    ∙ ap (λ (f : Features). row.OfArrangement b (record { needs = f; extra = x.extra })) (features _ _ (left _ _ r))
+    ∙ ap (λ (p : ℕ). row.OfArrangement b (record { needs = y.needs; extra = p })) (numbers _ _ (right _ _ r))
+
+pub row_exact : (a b : Row) → rows.ghosts.eq a b ≡ true → a ≡ b
+row_exact (row.OfSession a x) (row.OfSession b y) e = sessions a b x y e
+row_exact (row.OfPaper a x) (row.OfPaper b y) e = papers a b x y e
+row_exact (row.OfHall a x) (row.OfHall b y) e = halls a b x y e
+row_exact (row.OfOpening a s x) (row.OfOpening b t y) e = openings a b s t x y e
+row_exact (row.OfCandidate a x) (row.OfCandidate b y) e = candidates a b x y e
+row_exact (row.OfEntry a s) (row.OfEntry b t) e = entries a b s t e
+row_exact (row.OfArrangement a x) (row.OfArrangement b y) e = arrangements a b x y e
+row_exact a b e = never e
+
+pub row_refl : (a : Row) → rows.ghosts.eq a a ≡ true
+row_refl a = laws.laws-law.refl a

@@ -1,0 +1,65 @@
+-- What a command makes of the facts, or why it is refused.
+use Rattle.std.specs.Prelude.{ℕ, not, Bool, true, List, [], ◌∷◌, fold, Option, None, Some, if◌then◌else◌}
+use Rattle.std.specs.Option.{option_or}
+use Rattle.std.specs.Ordering.{nat_cmp}
+use Rattle.exam_types.specs.declared.refusal.Refusal.{Refusal}
+use Rattle.exam_types.specs.declared.refusal.Refusal.TheVariants as refusal
+use Rattle.exam_rules.specs.Relations.{Code, Relations, code_cmp, opening_cmp, entry_cmp, has_row, put_row}
+use Rattle.exam_office.specs.declared.command.Command.{Command}
+use Rattle.exam_office.specs.declared.command.Command.TheVariants as command
+use Rattle.exam_office.specs.declared.row.Row.{Row}
+use Rattle.exam_office.specs.declared.row.Row.TheVariants as row
+
+-- ---- checks in order
+
+-- the first refusal whose case holds
+abbrev pub first_refusal : List (Bool × Refusal) → Option Refusal
+first_refusal [] = None
+first_refusal (check ∷ checks) = if check.0 then Some check.1 else first_refusal checks
+
+abbrev pub no_session : Relations → Code → Bool × Refusal
+no_session r s = (not (has_row code_cmp r.sessions s), refusal.UnknownSession)
+
+abbrev pub no_paper : Relations → Code → Bool × Refusal
+no_paper r p = (not (has_row code_cmp r.papers p), refusal.UnknownPaper)
+
+abbrev pub no_candidate : Relations → ℕ → Bool × Refusal
+no_candidate r c = (not (has_row nat_cmp r.candidates c), refusal.UnknownCandidate)
+
+abbrev pub no_hall : Relations → Code → Bool × Refusal
+no_hall r h = (not (has_row code_cmp r.halls h), refusal.UnknownHall)
+
+-- ---- imports
+
+-- the references of a row, in the order of its columns
+abbrev pub row_checks : Relations → Row → List (Bool × Refusal)
+row_checks r (row.OfSession s x) = []
+row_checks r (row.OfPaper p x) = no_session r x.session ∷ []
+row_checks r (row.OfHall h x) = []
+row_checks r (row.OfOpening s h x) = no_session r s ∷ no_hall r h ∷ []
+row_checks r (row.OfCandidate c x) = []
+row_checks r (row.OfEntry c p) = no_candidate r c ∷ no_paper r p ∷ []
+row_checks r (row.OfArrangement c x) = no_candidate r c ∷ []
+
+-- of the first row that refers to what is not there
+abbrev pub rows_refusal : Relations → List Row → Option Refusal
+rows_refusal r [] = None
+rows_refusal r (row ∷ rows) = option_or (first_refusal (row_checks r row)) (rows_refusal r rows)
+
+-- a new key is added, and a present one set to the row; an entry that is there is left alone
+abbrev pub with_row : Relations → Row → Relations
+with_row r (row.OfSession s x) = record r { sessions = put_row code_cmp r.sessions s x }
+with_row r (row.OfPaper p x) = record r { papers = put_row code_cmp r.papers p x }
+with_row r (row.OfHall h x) = record r { halls = put_row code_cmp r.halls h x }
+with_row r (row.OfOpening s h x) = record r { openings = put_row opening_cmp r.openings (s, h) x }
+with_row r (row.OfCandidate c x) = record r { candidates = put_row nat_cmp r.candidates c x }
+with_row r (row.OfEntry c p) = if has_row entry_cmp r.entries (c, p) then r else record r { entries = put_row entry_cmp r.entries (c, p) (record { live = true }) }
+with_row r (row.OfArrangement c x) = record r { arrangements = put_row nat_cmp r.arrangements c x }
+
+abbrev pub with_rows : Relations → List Row → Relations
+with_rows r rows = fold with_row r rows
+
+-- ---- the change of an accepted command
+
+abbrev pub changed : Command → Relations → Relations
+changed (command.Import import) r = with_rows r import.rows

@@ -1,0 +1,169 @@
+//! What an import makes of the facts.
+ghost use Rattle.std.specs.Prelude.{◌≡◌, IfOk, IfErr, OnOk};
+ghost use Rattle.std.specs.Option.{option_map};
+ghost use Rattle.std.specs.Result.{result_err};
+ghost use Rattle.exam_rules.specs.Relations.{opening_cmp, relations_of, row_at};
+ghost use Rattle.exam_types.specs.declared.refusal.Refusal.TheVariants.{NoMemory};
+ghost use Rattle.exam_office.specs.declared.row.Row.TheVariants as variant;
+ghost use Rattle.exam_office.specs.Changes as changes;
+ghost use Rattle.exam_office.specs.Replies as replies;
+
+use crate::command::Reply;
+use crate::copies::{copied_facts, put};
+use crate::limits::is_within_limits;
+use crate::references;
+use crate::row::{Row, RowKey};
+use exam_rules::{Entry, Facts, Opening};
+use exam_types::{HallCode, Number, PaperCode, Refusal, SessionCode};
+use std::alloc::Global;
+use std::collections::BTreeSet;
+
+/// The facts with these rows, and what the import answers.
+pub fn imported(alloc: Global, facts: &Facts, rows: &[Row]) -> Result<(Facts, Reply), Refusal>
+    ensures ok { IfOk result (λ answer. relations_of answer.0 ≡ changes.with_rows (relations_of facts.now) rows.now) }
+{
+    check_rows(facts, rows)?;
+    let reply = count_rows(alloc, facts, rows)?;
+    let facts = with_rows(alloc, facts, rows)?;
+    if !is_within_limits(alloc, &facts)? {
+        return Err(Refusal::TooMany);
+    }
+    Ok((facts, reply))
+}
+
+/// Refuses the first row, in the order of the file, that refers to what is not there.
+fn check_rows(facts: &Facts, rows: &[Row]) -> Result<(), Refusal>
+    ensures { result_err result ≡ changes.rows_refusal (relations_of facts.now) rows.now }
+{
+    for row in rows {
+        check_row(facts, row)?;
+    }
+    Ok(())
+}
+
+/// Checks the references of a row in the order of its columns.
+fn check_row(facts: &Facts, row: &Row) -> Result<(), Refusal>
+    ensures { result_err result ≡ changes.first_refusal (changes.row_checks (relations_of facts.now) row.now) }
+{
+    match row {
+        Row::OfSession(_, _) | Row::OfHall(_, _) | Row::OfCandidate(_, _) => Ok(()),
+        Row::OfPaper(_, paper) => references::check_session(facts, &paper.session),
+        Row::OfOpening(session, hall, _) => {
+            references::check_session(facts, session)?;
+            references::check_hall(facts, hall)
+        }
+        Row::OfEntry(number, paper) => {
+            references::check_candidate(facts, number)?;
+            references::check_paper(facts, paper)
+        }
+        Row::OfArrangement(number, _) => references::check_candidate(facts, number),
+    }
+}
+
+/// The facts with each row in turn.
+fn with_rows(alloc: Global, facts: &Facts, rows: &[Row]) -> Result<Facts, Refusal>
+    ensures ok { IfOk result (λ changed. relations_of changed ≡ changes.with_rows (relations_of facts.now) rows.now) }
+    ensures memory { IfErr result (λ e. e ≡ NoMemory) }
+{
+    let mut changed = copied_facts(alloc, facts)?;
+    for row in rows {
+        put_row(&mut changed, row)?;
+    }
+    Ok(changed)
+}
+
+/// Adds a row with a new key, and sets a present key to the row. An entry that is there is left alone, and a new one is live.
+pub(crate) fn put_row(facts: &mut Facts, row: &Row) -> Result<(), Refusal>
+    ensures ok { OnOk result (relations_of facts.new ≡ changes.with_row (relations_of facts.old) row.now) }
+    ensures memory { IfErr result (λ e. e ≡ NoMemory) }
+{
+    match row {
+        Row::OfSession(code, session) => put(&mut facts.sessions, *code, *session),
+        Row::OfPaper(code, paper) => {
+            let copy = paper.copy()?;
+            put(&mut facts.papers, *code, copy)
+        }
+        Row::OfHall(code, hall) => {
+            let copy = hall.copy()?;
+            put(&mut facts.halls, *code, copy)
+        }
+        Row::OfOpening(session, hall, opening) => {
+            put(&mut facts.openings, (*session, *hall), *opening)
+        }
+        Row::OfCandidate(number, candidate) => {
+            let copy = candidate.copy()?;
+            put(&mut facts.candidates, *number, copy)
+        }
+        Row::OfEntry(number, paper) => put_entry(facts, *number, *paper),
+        Row::OfArrangement(number, arrangement) => {
+            put(&mut facts.arrangements, *number, *arrangement)
+        }
+    }
+}
+
+fn put_entry(facts: &mut Facts, number: Number, paper: PaperCode) -> Result<(), Refusal>
+    ensures ok { OnOk result (relations_of facts.new ≡ changes.with_row (relations_of facts.old) (variant.OfEntry number paper)) }
+    ensures memory { IfErr result (λ e. e ≡ NoMemory) }
+{
+    if facts.entries.contains_key(&(number, paper)) {
+        return Ok(());
+    }
+    put(&mut facts.entries, (number, paper), Entry { live: true })
+}
+
+/// How the distinct rows stand to the facts.
+fn count_rows(alloc: Global, facts: &Facts, rows: &[Row]) -> Result<Reply, Refusal> {
+    let mut seen: BTreeSet<RowKey> = BTreeSet::new(alloc);
+    let mut added: u32 = 0;
+    let mut changed: u32 = 0;
+    let mut same: u32 = 0;
+    for row in rows {
+        if seen.insert(row.key())? {
+            match is_stored(facts, row) {
+                None => added = added.saturating_add(1),
+                Some(false) => changed = changed.saturating_add(1),
+                Some(true) => same = same.saturating_add(1),
+            }
+        }
+    }
+    Ok(Reply::Imported {
+        added,
+        changed,
+        same,
+    })
+}
+
+/// Whether the stored row is the same, if there is one. An entry that is there is the same, live or withdrawn.
+fn is_stored(facts: &Facts, row: &Row) -> Option<bool>
+    ensures { result ≡ replies.is_stored (relations_of facts.now) row.now }
+{
+    match row {
+        Row::OfSession(code, session) => facts.sessions.get(code).map(|stored| *session == *stored),
+        Row::OfPaper(code, paper) => facts.papers.get(code).map(|stored| *paper == *stored),
+        Row::OfHall(code, hall) => facts.halls.get(code).map(|stored| *hall == *stored),
+        Row::OfOpening(session, hall, opening) => is_opening_stored(facts, session, hall, opening),
+        Row::OfCandidate(number, candidate) => facts
+            .candidates
+            .get(number)
+            .map(|stored| *candidate == *stored),
+        Row::OfEntry(number, paper) => facts.entries.get(&(*number, *paper)).map(|_| true),
+        Row::OfArrangement(number, arrangement) => {
+            facts
+                .arrangements
+                .get(number)
+                .map(|stored| *arrangement == *stored)
+        }
+    }
+}
+
+fn is_opening_stored(
+    facts: &Facts,
+    session: &SessionCode,
+    hall: &HallCode,
+    opening: &Opening,
+) -> Option<bool>
+    ensures { result ≡ option_map (replies.same_opening opening.now) (row_at opening_cmp facts.now.openings.entries (session.now, hall.now)) }
+{
+    let stored = facts.openings.get(&(*session, *hall))?;
+    Some(*opening == *stored)
+}

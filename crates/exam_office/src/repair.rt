@@ -1,0 +1,149 @@
+//! The repair of the plans after a change of the facts.
+ghost use Rattle.exam_plan.specs.Problems.{IsPlan};
+ghost use Rattle.std.specs.Prelude.{◌≡◌, ◌<◌, length, IfOk, IfSome};
+
+use crate::limits::memberships;
+use crate::office::Seats;
+use exam_plan::{Plan, Problem, keep_lawful, sweep};
+use exam_rules::{Candidate, Facts, members, open_halls, problem};
+use exam_types::{HallCode, Number, Refusal, SessionCode};
+use std::alloc::Global;
+use std::collections::{BTreeMap, BTreeSet};
+use std::mem;
+
+/// The plans of all sessions, each repaired.
+pub fn repaired(alloc: Global, facts: &mut Facts, seats: &Seats) -> Result<Seats, Refusal>
+    ensures { facts.new ≡ facts.old }
+{
+    let memberships = memberships(alloc, facts)?;
+    let mut repaired = BTreeMap::new(alloc);
+    for session in &session_codes(alloc, facts)? {
+        let members = members_of(alloc, facts, &memberships, session)?;
+        repair_among(alloc, facts, members, session, seats, &mut repaired)?;
+    }
+    Ok(repaired)
+}
+
+fn session_codes(alloc: Global, facts: &Facts) -> Result<Vec<SessionCode>, Refusal> {
+    let mut codes = Vec::new(alloc);
+    for (code, _) in &facts.sessions {
+        codes.push(*code)?;
+    }
+    Ok(codes)
+}
+
+/// The rows of the members of a session.
+fn members_of(
+    alloc: Global,
+    facts: &Facts,
+    memberships: &BTreeSet<(SessionCode, Number)>,
+    session: &SessionCode,
+) -> Result<BTreeMap<Number, Candidate>, Refusal> {
+    let least = Number::new(1).unwrap();
+    let mut members = BTreeMap::new(alloc);
+    for key in memberships.range((*session, least)..) {
+        if key.0 != *session {
+            break;
+        }
+        if let Some(candidate) = facts.candidates.get(&key.1) {
+            members.insert(key.1, candidate.copy()?)?;
+        }
+    }
+    Ok(members)
+}
+
+/// Adds the repaired plan of a session. The rules look through all candidates for a session's members, which is too slow
+/// for the sessions of a large office together, so here they see the members alone.
+fn repair_among(
+    alloc: Global,
+    facts: &mut Facts,
+    members: BTreeMap<Number, Candidate>,
+    session: &SessionCode,
+    seats: &Seats,
+    repaired: &mut Seats,
+) -> Result<(), Refusal>
+    ensures { facts.new ≡ facts.old }
+{
+    let all = mem::replace(&mut facts.candidates, members);
+    let outcome = repair_session(alloc, facts, session, seats, repaired);
+    facts.candidates = all;
+    outcome
+}
+
+/// Adds the repaired plan of a session.
+fn repair_session(
+    alloc: Global,
+    facts: &Facts,
+    session: &SessionCode,
+    seats: &Seats,
+    repaired: &mut Seats,
+) -> Result<(), Refusal> {
+    let problem = problem(alloc, facts, session)?;
+    let numbers = members(alloc, facts, session)?;
+    let halls = open_halls(alloc, facts, session)?;
+    let plan = stored_plan(alloc, &problem, session, seats, &numbers, &halls)?;
+    let plan = keep_lawful(&problem, plan)?;
+    let plan = sweep(alloc, &problem, plan, None)?;
+    write_plan(session, &numbers, &halls, &plan, repaired)
+}
+
+/// The plan of a session by indices. Who sits in a hall that is not open has no place in it.
+pub fn stored_plan(
+    alloc: Global,
+    problem: &Problem,
+    session: &SessionCode,
+    seats: &Seats,
+    numbers: &[Number],
+    halls: &[HallCode],
+) -> Result<Plan, Refusal>
+    ensures plan { IfOk result (λ plan. IsPlan problem.now plan.items) }
+{
+    let mut plan = Vec::new(alloc);
+    for candidate in 0..problem.candidate_count() {
+        let place = match numbers.get(candidate) {
+            Some(number) => place_of(problem, session, *number, seats, halls),
+            None => None,
+        };
+        plan.push(place)?;
+    }
+    Ok(plan)
+}
+
+/// The index of the hall in which the candidate sits in the session.
+fn place_of(
+    problem: &Problem,
+    session: &SessionCode,
+    number: Number,
+    seats: &Seats,
+    halls: &[HallCode],
+) -> Option<usize>
+    ensures { IfSome result (λ h. h < length problem.now.desk_counts) }
+{
+    let hall = seats.get(&(*session, number))?;
+    let place = halls.iter().position(|open| *open == *hall)?;
+    if place < problem.hall_count() {
+        Some(place)
+    } else {
+        None
+    }
+}
+
+/// Adds the seats of a plan by indices.
+fn write_plan(
+    session: &SessionCode,
+    numbers: &[Number],
+    halls: &[HallCode],
+    plan: &[Option<usize>],
+    seats: &mut Seats,
+) -> Result<(), Refusal> {
+    for (number, place) in numbers.iter().zip(plan) {
+        if let Some(hall) = hall_at(halls, *place) {
+            seats.insert((*session, *number), hall)?;
+        }
+    }
+    Ok(())
+}
+
+fn hall_at(halls: &[HallCode], place: Option<usize>) -> Option<HallCode> {
+    halls.get(place?).copied()
+}

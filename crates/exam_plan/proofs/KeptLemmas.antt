@@ -1,0 +1,243 @@
+-- Who stays in a plan: the loops that put out, and that what stays is lawful.
+use Rattle.std.proofs.Common.{◌≡◌, ℕ, zero, suc, ◌+◌, ◌<◌, ◌≤◌, Bool, true, false, cond, ◌||◌, ◌&&◌, IsTrue, List, [], ◌∷◌, length, get_or, set, take, Option, None, Some, IsSome, IfSome, nat_eq, nat_lt, refl, sym, ap, ◌∙◌, inl, inr, subst, arith}
+use Rattle.std.specs.Prelude.{All}
+use Rattle.std.specs.List.{range_with_len, list_any}
+use Rattle.std.specs.Option.{option_eq}
+use Rattle.std.specs.Ordering.{nat_cmp, is_lt}
+use Rattle.std.specs.Cmp.{nat_cmp_is}
+use Rattle.std.specs.declared.cmp.Ordering.TheVariants.{Less, Equal, Greater}
+use Rattle.std.proofs.lemmas.Bool.{cases_eq, cases_lt, cases_Bool, cases_order, or_left, or_right, eq-eqb, ne_eqb, eqb-true, and_parts, and_right, lt-ltb, le-ltb, ltb-true}
+use Rattle.std.proofs.lemmas.List.{get_or_past, get_or-take, length-take}
+use Rattle.std.proofs.lemmas.List.Elements.{All-set}
+use Rattle.exam_plan.specs.Matching.{Seating, Plan, is_hall, IsLawful}
+use Rattle.exam_plan.specs.Problems.{Problem, seating_of, plan_at}
+use Rattle.exam_plan.specs.Repair.{is_member, where_fitting, fitting_part, lesser_occupants, where_room, room_part, kept_part}
+use Rattle.exam_plan.specs.Searches.{count_at}
+use Rattle.exam_plan.proofs.Counting.{bit, count_below, count_below-same, count_by-range, sits_at}
+use Rattle.exam_plan.proofs.Seatings.{is_hall-sits_at, length-occupants, below-member}
+use Rattle.exam_plan.proofs.Steps.{plan_at-get_or, plan_at-set, count_at-below, count_at-more}
+
+-- the candidates below i went through the rule, and the others stand as they were
+pub record IsFilteredBelow (R : ℕ → Option ℕ → Option ℕ) (before m : List (Option ℕ)) (i : ℕ) : Type 0 where
+  pub done : (c : ℕ) → c < i → plan_at m c ≡ R c (plan_at before c)
+  pub left : (c : ℕ) → i ≤ c → plan_at m c ≡ plan_at before c
+
+-- the same for the candidates from i on
+pub record IsFilteredFrom (R : ℕ → Option ℕ → Option ℕ) (before m : List (Option ℕ)) (i : ℕ) : Type 0 where
+  pub done : (c : ℕ) → i ≤ c → plan_at m c ≡ R c (plan_at before c)
+  pub left : (c : ℕ) → c < i → plan_at m c ≡ plan_at before c
+
+module _ (R : ℕ → Option ℕ → Option ℕ) (before m : List (Option ℕ)) where
+  pub below_stays : (i : ℕ) → IsFilteredBelow R before m i → R i (plan_at before i) ≡ plan_at before i → IsFilteredBelow R before m (i + 1)
+  below_stays i f e = record {
+    done = λ c l. elim (cases_lt c i) [ inl k ↦ f.done c k | inr g ↦ (let s : i ≡ c = omega arith in f.left c g ∙ sym (subst (λ (z : ℕ). R z (plan_at before z) ≡ plan_at before z) s e)) ];
+    left = λ c l. f.left c (omega arith);
+  }
+
+  pub below_out : (i : ℕ) → i < length m → IsFilteredBelow R before m i → R i (plan_at before i) ≡ None → IsFilteredBelow R before (set m i None) (i + 1)
+  below_out i inside f e = record {
+    done = λ c l. plan_at-set m i c None inside ∙ elim (cases_eq i c) [
+      | inl s ↦ ap (λ b. cond b None (plan_at m c)) (eq-eqb i c s) ∙ sym (subst (λ (z : ℕ). R z (plan_at before z) ≡ None) s e)
+      | inr n ↦ ap (λ b. cond b None (plan_at m c)) (ne_eqb i c n) ∙ f.done c (omega arith)
+    ];
+    left = λ c l. plan_at-set m i c None inside ∙ ap (λ b. cond b None (plan_at m c)) (ne_eqb i c (λ s. absurd (omega arith))) ∙ f.left c (omega arith);
+  }
+
+  pub from_stays : (i j : ℕ) → j ≡ i + 1 → IsFilteredFrom R before m j → R i (plan_at before i) ≡ plan_at before i → IsFilteredFrom R before m i
+  from_stays i j n f e = record {
+    done = λ c l. elim (cases_eq i c) [ inl s ↦ f.left c (omega arith) ∙ sym (subst (λ (z : ℕ). R z (plan_at before z) ≡ plan_at before z) s e) | inr a ↦ f.done c (omega arith) ];
+    left = λ c l. f.left c (omega arith);
+  }
+
+  pub from_out : (i j : ℕ) → j ≡ i + 1 → i < length m → IsFilteredFrom R before m j → R i (plan_at before i) ≡ None → IsFilteredFrom R before (set m i None) i
+  from_out i j n inside f e = record {
+    done = λ c l. plan_at-set m i c None inside ∙ elim (cases_eq i c) [
+      | inl s ↦ ap (λ b. cond b None (plan_at m c)) (eq-eqb i c s) ∙ sym (subst (λ (z : ℕ). R z (plan_at before z) ≡ None) s e)
+      | inr a ↦ ap (λ b. cond b None (plan_at m c)) (ne_eqb i c a) ∙ f.done c (omega arith)
+    ];
+    left = λ c l. plan_at-set m i c None inside ∙ ap (λ b. cond b None (plan_at m c)) (ne_eqb i c (λ s. absurd (omega arith))) ∙ f.left c (omega arith);
+  }
+
+  -- past the end of the list there is nobody, before and after
+  pub below_all : (i : ℕ) → ((c : ℕ) → R c None ≡ None) → length before ≤ i → IsFilteredBelow R before m i → (c : ℕ) → plan_at m c ≡ R c (plan_at before c)
+  below_all i none long f c = elim (cases_lt c i) [
+    | inl l ↦ f.done c l
+    | inr g ↦ (let e : plan_at before c ≡ None = plan_at-get_or before c ∙ get_or_past before c None (omega arith) in f.left c g ∙ e ∙ sym (none c) ∙ ap (R c) (sym e))
+  ]
+
+pub from_start : (R : ℕ → Option ℕ → Option ℕ) (before : List (Option ℕ)) (i : ℕ) → ((c : ℕ) → R c None ≡ None) → length before ≤ i → IsFilteredFrom R before before i
+from_start R before i none long = record {
+  done = λ c l. (let e : plan_at before c ≡ None = plan_at-get_or before c ∙ get_or_past before c None (omega arith) in e ∙ sym (none c) ∙ ap (R c) (sym e));
+  left = λ c l. refl;
+}
+
+pub places_none : (m : List (Option ℕ)) (n c : ℕ) → All (λ place. IfSome place (λ k. k < n)) m → All (λ place. IfSome place (λ k. k < n)) (set m c None)
+places_none m n c all = All-set (λ (o : Option ℕ). IfSome o (λ k. k < n)) m c None tt all
+
+-- ---- the rules
+
+eqb_flip : (a b : ℕ) → nat_eq a b ≡ nat_eq b a
+eqb_flip a b = elim (cases_eq a b) [ inl e ↦ eq-eqb a b e ∙ sym (eq-eqb b a (sym e)) | inr n ↦ ne_eqb a b n ∙ sym (ne_eqb b a (λ e. n (sym e))) ]
+
+pub any_flip : (h : ℕ) (xs : List ℕ) → list_any (λ y. nat_eq y h) xs ≡ list_any (nat_eq h) xs
+any_flip h [] = refl
+any_flip h (x ∷ xs) = ap (λ b. b || list_any (λ y. nat_eq y h) xs) (eqb_flip x h) ∙ ap (λ b. nat_eq h x || b) (any_flip h xs)
+
+any_range : (c a n : ℕ) → a ≤ c → c < a + n → list_any (nat_eq c) (range_with_len a n) ≡ true
+any_range c a zero l m = absurd (omega arith)
+any_range c a (suc n) l m = elim (cases_eq c a) [
+  | inl e ↦ or_left (nat_eq c a) (list_any (nat_eq c) (range_with_len (a + 1) n)) (eq-eqb c a e)
+  | inr k ↦ or_right (nat_eq c a) (list_any (nat_eq c) (range_with_len (a + 1) n)) (any_range c (a + 1) n (omega arith) (omega arith))
+]
+
+any_outside : (c a n : ℕ) → a + n ≤ c → list_any (nat_eq c) (range_with_len a n) ≡ false
+any_outside c a zero l = refl
+any_outside c a (suc n) l = ap (λ b. b || list_any (nat_eq c) (range_with_len (a + 1) n)) (ne_eqb c a (λ e. absurd (omega arith))) ∙ any_outside c (a + 1) n (omega arith)
+
+pub member_is : (p : Problem) (c : ℕ) → c < length p.fit → is_member (seating_of p) c ≡ true
+member_is p c l = any_range c 0 (length p.fit) (omega arith) (omega arith)
+
+member_below : (p : Problem) (c : ℕ) → is_member (seating_of p) c ≡ true → c < length p.fit
+member_below p c t = elim (cases_lt c (length p.fit)) [ inl l ↦ l | inr g ↦ absurd (let z : false ≡ true = sym (any_outside c 0 (length p.fit) (omega arith)) ∙ t in cc) ]
+
+pub fitting_stays : (p : Problem) (c h : ℕ) → c < length p.fit → (seating_of p).fits c h ≡ true → where_fitting (seating_of p) c (Some h) ≡ Some h
+fitting_stays p c h l f = ap (λ b. cond (b && (seating_of p).fits c h) (Some h) None) (member_is p c l) ∙ ap (λ b. cond b (Some h) None) f
+
+pub fitting_out : (p : Problem) (c h : ℕ) → (seating_of p).fits c h ≡ false → where_fitting (seating_of p) c (Some h) ≡ None
+fitting_out p c h f = ap (λ b. cond b (Some h) None) (and_right (is_member (seating_of p) c) ((seating_of p).fits c h) f)
+
+-- ---- lesser occupants
+
+less_test : (d c : ℕ) → is_lt (nat_cmp d c) ≡ nat_lt d c
+less_test d c = elim (cases_order d c) [
+  | inl e ↦ ap is_lt (sym (nat_cmp_is d c Equal e)) ∙ sym (le-ltb d c (omega arith))
+  | inr s ↦ elim s [ inl l ↦ ap is_lt (sym (nat_cmp_is d c Less l)) ∙ sym (lt-ltb d c l) | inr g ↦ ap is_lt (sym (nat_cmp_is d c Greater g)) ∙ sym (le-ltb d c (omega arith)) ]
+]
+
+count_lesser : (P : ℕ → Bool) (c n : ℕ) → c ≤ n → count_below (λ d. nat_lt d c && P d) n ≡ count_below P c
+count_lesser P c zero l = (let e : c ≡ 0 = omega arith in ap (count_below P) (sym e))
+count_lesser P c (suc n) l = elim (cases_lt n c) [
+  | inl k ↦ (let e : c ≡ suc n = omega arith in
+      count_below-same (λ d. nat_lt d c && P d) P (suc n) (λ d m. ap (λ b. bit (b && P d)) (lt-ltb d c (omega arith))) ∙ ap (count_below P) (sym e))
+  | inr k ↦ (let ih = count_lesser P c n k in let z : bit (nat_lt n c && P n) ≡ 0 = ap (λ b. bit (b && P n)) (le-ltb n c k) in omega (arith, ih, z))
+]
+
+pub lesser_count : (p : Problem) (q : Plan ℕ ℕ) (c h : ℕ) → c ≤ length p.fit → lesser_occupants (seating_of p) q c h ≡ count_below (λ d. sits_at h (q d)) c
+lesser_count p q c h l = count_by-range (λ d. is_lt (nat_cmp d c) && is_hall (seating_of p) h (q d)) (length p.fit)
+    ∙ count_below-same (λ d. is_lt (nat_cmp d c) && is_hall (seating_of p) h (q d)) (λ d. nat_lt d c && sits_at h (q d)) (length p.fit)
+    (λ d m. ap (λ b. bit (b && is_hall (seating_of p) h (q d))) (less_test d c) ∙ ap (λ b. bit (nat_lt d c && b)) (is_hall-sits_at p h (q d)))
+    ∙ count_lesser (λ d. sits_at h (q d)) c (length p.fit) l
+
+-- the count that the loop makes is that of the lesser occupants
+pub counted_lesser : (p : Problem) (before m front : List (Option ℕ)) (c h x : ℕ) → c ≤ length p.fit → front ≡ take c m → c ≤ length m → ((d : ℕ) → d < c → plan_at m d ≡ plan_at before d)
+    → x ≡ count_at (plan_at front) h (length front) → x ≡ lesser_occupants (seating_of p) (plan_at before) c h
+counted_lesser p before m front c h x l cut inside same counted =
+    let taken : length (take c m) ≡ c = omega (arith, length-take c m, inside) in
+    counted ∙ count_at-below (plan_at front) h (length front)
+    ∙ ap (count_below (λ d. sits_at h (plan_at front d))) (ap length cut ∙ taken)
+    ∙ count_below-same (λ d. sits_at h (plan_at front d)) (λ d. sits_at h (plan_at before d)) c
+    (λ d k. ap (λ o. bit (sits_at h o)) (plan_at-get_or front d ∙ ap (λ xs. get_or xs d None) cut ∙ get_or-take c m d None k ∙ sym (plan_at-get_or m d) ∙ same d k))
+    ∙ sym (lesser_count p (plan_at before) c h l)
+
+pub room_out : (g : Seating ℕ ℕ) (q : Plan ℕ ℕ) (c h d x : ℕ) → d ≡ g.desks h → x ≡ lesser_occupants g q c h → d ≤ x → where_room g q c (Some h) ≡ None
+room_out g q c h d x desks lesser l = ap (λ b. cond b (Some h) None) (le-ltb (lesser_occupants g q c h) (g.desks h) (omega (arith, desks, lesser, l)))
+
+pub room_stays : (g : Seating ℕ ℕ) (q : Plan ℕ ℕ) (c h d x : ℕ) → d ≡ g.desks h → x ≡ lesser_occupants g q c h → x < d → where_room g q c (Some h) ≡ Some h
+room_stays g q c h d x desks lesser l = ap (λ b. cond b (Some h) None) (lt-ltb (lesser_occupants g q c h) (g.desks h) (omega (arith, desks, lesser, l)))
+
+-- ---- what stays is lawful
+
+few_kept : (P K : ℕ → Bool) (desks n : ℕ) → ((c : ℕ) → c < n → K c ≡ true → (P c ≡ true) × (count_below P c < desks)) → (count_below K n ≤ desks) × (count_below K n ≤ count_below P n)
+few_kept P K desks zero h = (omega arith, omega arith)
+few_kept P K desks (suc n) h = let ih = few_kept P K desks n (λ c l. h c (omega arith)) in elim (cases_Bool (K n)) [
+  | inl t ↦ (let r = h n (omega arith) t in let one : bit (K n) ≡ 1 = ap bit t in let also : bit (P n) ≡ 1 = ap bit r.0 in let a = ih.0 in let b = ih.1 in let less = r.1 in (omega arith, omega arith))
+  | inr t ↦ (let none : bit (K n) ≡ 0 = ap bit t in let a = ih.0 in let b = ih.1 in (omega arith, omega arith))
+]
+
+fitting_some : (p : Problem) (c k : ℕ) (o : Option ℕ) → where_fitting (seating_of p) c o ≡ Some k → (c < length p.fit) × IsTrue ((seating_of p).fits c k)
+fitting_some p c k None e = absurd (let z : None ≡ Some k = e in cc)
+fitting_some p c k (Some h) e = at (is_member (seating_of p) c && (seating_of p).fits c h) refl
+  where
+    at : (b : Bool) → (is_member (seating_of p) c && (seating_of p).fits c h) ≡ b → (c < length p.fit) × IsTrue ((seating_of p).fits c k)
+    at true t = let r = and_parts (is_member (seating_of p) c) ((seating_of p).fits c h) t in
+        let s : Some h ≡ Some k = sym (ap (λ b. cond b (Some h) None) t) ∙ e in let same : h ≡ k = cc in
+        (member_below p c r.0, subst (λ (z : ℕ). IsTrue ((seating_of p).fits c z)) same r.1)
+    at false t = absurd (let z : None ≡ Some k = sym (ap (λ b. cond b (Some h) None) t) ∙ e in cc)
+
+room_some : (g : Seating ℕ ℕ) (q : Plan ℕ ℕ) (c k : ℕ) (o : Option ℕ) → where_room g q c o ≡ Some k → (o ≡ Some k) × (lesser_occupants g q c k < g.desks k)
+room_some g q c k None e = absurd (let z : None ≡ Some k = e in cc)
+room_some g q c k (Some h) e = at (nat_lt (lesser_occupants g q c h) (g.desks h)) refl
+  where
+    at : (b : Bool) → nat_lt (lesser_occupants g q c h) (g.desks h) ≡ b → (Some h ≡ Some k) × (lesser_occupants g q c k < g.desks k)
+    at true t = let s : Some h ≡ Some k = sym (ap (λ b. cond b (Some h) None) t) ∙ e in let same : h ≡ k = cc in
+        (s, subst (λ (z : ℕ). lesser_occupants g q c z < g.desks z) same (ltb-true (lesser_occupants g q c h) (g.desks h) t))
+    at false t = absurd (let z : None ≡ Some k = sym (ap (λ b. cond b (Some h) None) t) ∙ e in cc)
+
+some_of : (o : Option ℕ) → IsSome o → (h : ℕ) × (o ≡ Some h)
+some_of None s = absurd (let z : false ≡ true = s in cc)
+some_of (Some h) s = (h, refl)
+
+sits_some : (h : ℕ) (o : Option ℕ) → sits_at h o ≡ true → o ≡ Some h
+sits_some h None t = absurd (let z : false ≡ true = t in cc)
+sits_some h (Some k) t = ap Some (sym (eqb-true h k t))
+
+if_some : (P : ℕ → Type 0) (o : Option ℕ) → ((h : ℕ) → o ≡ Some h → P h) → IfSome o P
+if_some P None f = tt
+if_some P (Some h) f = f h refl
+
+pub kept_lawful : (p : Problem) (q : Plan ℕ ℕ) → IsLawful (seating_of p) (kept_part (seating_of p) q)
+kept_lawful p q = record {
+  members = λ c s. (let w = some_of (kept_part (seating_of p) q c) s in let r = room_some (seating_of p) (fitting_part (seating_of p) q) c w.0 (fitting_part (seating_of p) q c) w.1 in
+      below-member (length p.fit) c (fitting_some p c w.0 (q c) r.0).0);
+  fitting = λ c. if_some (λ h. IsTrue ((seating_of p).fits c h)) (kept_part (seating_of p) q c) (λ h e. (let r = room_some (seating_of p) (fitting_part (seating_of p) q) c h (fitting_part (seating_of p) q c) e in
+      (fitting_some p c h (q c) r.0).1));
+  within_desks = λ h. (let o = length-occupants p (kept_part (seating_of p) q) h in
+      let f = few_kept (λ c. sits_at h (fitting_part (seating_of p) q c)) (λ c. sits_at h (kept_part (seating_of p) q c)) (get_or p.desk_counts h 0) (length p.fit)
+      (λ c l t. (let e : kept_part (seating_of p) q c ≡ Some h = sits_some h (kept_part (seating_of p) q c) t in
+      let r = room_some (seating_of p) (fitting_part (seating_of p) q) c h (fitting_part (seating_of p) q c) e in (
+        ap (sits_at h) r.0 ∙ eq-eqb h h refl,
+        (let k = lesser_count p (fitting_part (seating_of p) q) c h (omega arith) in let less : lesser_occupants (seating_of p) (fitting_part (seating_of p) q) c h < get_or p.desk_counts h 0 = r.1 in omega (arith, k, less)),
+      ))) in
+      let g = f.0 in omega (arith, o, g));
+}
+
+-- ---- the steps, by what was read
+
+module _ (R : ℕ → Option ℕ → Option ℕ) (before m : List (Option ℕ)) where
+  below_read : (i : ℕ) (o : Option ℕ) → IsFilteredBelow R before m i → get_or m i None ≡ o → plan_at before i ≡ o
+  below_read i o f e = sym (f.left i (omega arith)) ∙ plan_at-get_or m i ∙ e
+
+  pub below_stays_at : (i : ℕ) (o : Option ℕ) → IsFilteredBelow R before m i → get_or m i None ≡ o → R i o ≡ o → IsFilteredBelow R before m (i + 1)
+  below_stays_at i o f e r = below_stays R before m i f (let s = below_read i o f e in ap (R i) s ∙ r ∙ sym s)
+
+  pub below_out_at : (i : ℕ) (o : Option ℕ) → i < length m → IsFilteredBelow R before m i → get_or m i None ≡ o → R i o ≡ None → IsFilteredBelow R before (set m i None) (i + 1)
+  below_out_at i o inside f e r = below_out R before m i inside f (ap (R i) (below_read i o f e) ∙ r)
+
+  from_read : (i j : ℕ) (o : Option ℕ) → j ≡ i + 1 → IsFilteredFrom R before m j → get_or m i None ≡ o → plan_at before i ≡ o
+  from_read i j o n f e = sym (f.left i (omega arith)) ∙ plan_at-get_or m i ∙ e
+
+  pub from_stays_at : (i j : ℕ) (o : Option ℕ) → j ≡ i + 1 → IsFilteredFrom R before m j → get_or m i None ≡ o → R i o ≡ o → IsFilteredFrom R before m i
+  from_stays_at i j o n f e r = from_stays R before m i j n f (let s = from_read i j o n f e in ap (R i) s ∙ r ∙ sym s)
+
+  pub from_out_at : (i j : ℕ) (o : Option ℕ) → j ≡ i + 1 → i < length m → IsFilteredFrom R before m j → get_or m i None ≡ o → R i o ≡ None → IsFilteredFrom R before (set m i None) i
+  from_out_at i j o n inside f e r = from_out R before m i j n inside f (ap (R i) (from_read i j o n f e) ∙ r)
+
+pub kept_after : (p : Problem) (before mid after : Plan ℕ ℕ) → ((c : ℕ) → mid c ≡ fitting_part (seating_of p) before c) → ((c : ℕ) → after c ≡ room_part (seating_of p) mid c) → (c : ℕ) → after c ≡ kept_part (seating_of p) before c
+kept_after p before mid after fit room c =
+    let same : mid ≡ fitting_part (seating_of p) before = λ i d. fit d i in
+    room c ∙ ap (λ (q : Plan ℕ ℕ). room_part (seating_of p) q c) same
+
+pub lawful_after : (p : Problem) (before after : Plan ℕ ℕ) → ((c : ℕ) → after c ≡ kept_part (seating_of p) before c) → IsLawful (seating_of p) after
+lawful_after p before after kept = let same : kept_part (seating_of p) before ≡ after = λ i d. (sym (kept d)) i in subst (λ (q : Plan ℕ ℕ). IsLawful (seating_of p) q) same (kept_lawful p before)
+
+-- ---- counting who sits in a hall
+
+pub counts_more : (m : List (Option ℕ)) (h i n : ℕ) (b : Bool) → n ≡ count_at (plan_at m) h i → b ≡ option_eq nat_eq (get_or m i None) (Some h) → n + bit b ≡ count_at (plan_at m) h (i + 1)
+counts_more m h i n b counted told =
+    let more = count_at-more (plan_at m) h i in
+    let s : bit (sits_at h (plan_at m i)) ≡ bit b = ap (λ o. bit (sits_at h o)) (plan_at-get_or m i) ∙ same_test (get_or m i None) ∙ ap bit (sym told) in
+    omega (arith, more, s, counted)
+  where
+    same_test : (o : Option ℕ) → bit (sits_at h o) ≡ bit (option_eq nat_eq o (Some h))
+    same_test None = refl
+    same_test (Some k) = ap bit (eqb_flip h k)

@@ -1,0 +1,46 @@
+-- There is at most one least chain, where the orders tell candidates and halls apart.
+use Rattle.std.proofs.Common.{◌≡◌, length, refl}
+use Rattle.std.specs.declared.cmp.Ordering.{Ordering}
+use Rattle.std.specs.declared.cmp.Ordering.TheVariants.{Less, Equal, Greater}
+use Rattle.std.specs.Ordering.{ordering_then, ordering_reverse}
+use Rattle.std.specs.Cmp.{IsTotalOrder, nat_cmp_total}
+use Rattle.std.specs.FinMap.{IsAntisymmetric, slice_cmp-IsAntisymmetric}
+use Rattle.std.proofs.lemmas.Cmp.{on_total, then_total, lists_total}
+use Rattle.std.proofs.lemmas.Map.Lookups.{exact_pairs}
+use Rattle.exam_plan.specs.Matching.{Seating, Plan}
+use Rattle.exam_plan.specs.Chains.{Chain, IsLeastChain, chain_cmp}
+
+-- neither is greater: they tie
+tied : (o p : Ordering) → o ≡ ordering_reverse p → (o ≡ Greater → ⊥) → (p ≡ Greater → ⊥) → o ≡ Equal
+tied Less Less e f g = cc
+tied Less Equal e f g = cc
+tied Less Greater e f g = absurd (g refl)
+tied Equal p e f g = refl
+tied Greater p e f g = absurd (f refl)
+
+second : (o p : Ordering) → ordering_then o p ≡ Equal → p ≡ Equal
+second Less p e = cc
+second Equal p e = e
+second Greater p e = cc
+
+first : (o p : Ordering) → ordering_then o p ≡ Equal → o ≡ Equal
+first Less p e = cc
+first Equal p e = refl
+first Greater p e = cc
+
+module _ {C H : Type 0} (g : Seating C H) (candidates : IsTotalOrder g.candidate_cmp) (halls : IsTotalOrder g.hall_cmp) (exact_candidates : IsAntisymmetric g.candidate_cmp) (exact_halls : IsAntisymmetric g.hall_cmp) where
+  pub chain_cmp_total : IsTotalOrder (chain_cmp g)
+  chain_cmp_total =
+      then_total (on_total (λ (a : Chain C H). length a.hops) nat_cmp_total)
+      (then_total (on_total (λ (a : Chain C H). a.hops) (lists_total (then_total (on_total (λ (x : H × C). x.0) halls) (on_total (λ (x : H × C). x.1) candidates))))
+      (on_total (λ (a : Chain C H). a.last) halls))
+
+  pub chain_cmp_exact : IsAntisymmetric (chain_cmp g)
+  chain_cmp_exact a b e =
+      let rest = second _ _ e in
+      let hops : a.hops ≡ b.hops = slice_cmp-IsAntisymmetric (exact_pairs g.hall_cmp g.candidate_cmp exact_halls exact_candidates) a.hops b.hops (first _ _ rest) in
+      let last : a.last ≡ b.last = exact_halls a.last b.last (second _ _ rest) in
+      λ i. record { hops = hops i; last = last i }
+
+  pub least_chain_is_one : (plan : Plan C H) (c : C) (a b : Chain C H) → IsLeastChain g plan c a → IsLeastChain g plan c b → a ≡ b
+  least_chain_is_one plan c a b l m = chain_cmp_exact a b (tied _ _ (chain_cmp_total.antisymm a b) (l.least b m.is_chain) (m.least a l.is_chain))

@@ -1,0 +1,8 @@
+use Rattle.std.proofs.Common.{◌≡◌, length, is_none}
+use Rattle.std.specs.Prelude.{filter}
+use Rattle.std.specs.List.{range_with_len}
+use Rattle.exam_plan.specs.Problems.{plan_at}
+use Rattle.exam_plan.proofs.contest.unseated_count.Given as goal
+
+abbrev pub invariant-loop-candidate : goal.invariant-loop-candidate
+invariant-loop-candidate l = l.count ≡ length (filter (λ c. is_none (plan_at l.plan c)) (range_with_len 0 l.candidate))

@@ -1,0 +1,5 @@
+pub mod Matching
+pub mod Chains
+pub mod Repair
+pub mod Problems
+pub mod Searches

@@ -1,0 +1,63 @@
+-- The repair of a plan.
+use Rattle.std.specs.Prelude.{◌⊎◌, ℕ, Bool, ◌&&◌, nat_lt, not, List, [], ◌∷◌, ◌++◌, filter, count_by, Option, None, Some, if◌then◌else◌}
+use Rattle.std.specs.List.{list_any}
+use Rattle.std.specs.Ordering.{is_lt}
+use Rattle.exam_plan.specs.Matching.{Seating, Plan, SamePlan, is_hall}
+use Rattle.exam_plan.specs.Chains.{Chain, IsChain, IsLeastChain, augmented}
+
+module _ {C H : Type 0} where
+  abbrev pub is_member : Seating C H → C → Bool
+  is_member g c = list_any (g.same_candidate c) g.members
+
+  -- the hall, where the candidate is a member whom it fits
+  abbrev pub where_fitting : Seating C H → C → Option H → Option H
+  where_fitting g c None = None
+  where_fitting g c (Some h) = if is_member g c && g.fits c h then Some h else None
+
+  -- without those who are no members or whose hall does not fit
+  abbrev pub fitting_part : Seating C H → Plan C H → Plan C H
+  fitting_part g plan c = where_fitting g c (plan c)
+
+  -- how many members with a lesser number sit in the hall
+  abbrev pub lesser_occupants : Seating C H → Plan C H → C → H → ℕ
+  lesser_occupants g plan c h = count_by (λ d. is_lt (g.candidate_cmp d c) && is_hall g h (plan d)) g.members
+
+  abbrev pub where_room : Seating C H → Plan C H → C → Option H → Option H
+  where_room g plan c None = None
+  where_room g plan c (Some h) = if nat_lt (lesser_occupants g plan c h) (g.desks h) then Some h else None
+
+  -- in a hall with more occupants than desks the least numbers stay
+  abbrev pub room_part : Seating C H → Plan C H → Plan C H
+  room_part g plan c = where_room g plan c (plan c)
+
+  -- what is left of a plan: those put out of it who left, whose hall no longer fits or has no desk for them
+  abbrev pub kept_part : Seating C H → Plan C H → Plan C H
+  kept_part g plan = room_part g (fitting_part g plan)
+
+  -- One turn of the sweep: a seated candidate stays; an unseated one takes the least chain, or stays
+  -- unseated where there is none.
+  abbrev pub TurnFrom : Seating C H → Plan C H → C → Option H → Plan C H → Type 0
+  TurnFrom g before c (Some h) after = SamePlan after before
+  TurnFrom g before c None after =
+      ((chain : Chain C H) × IsLeastChain g before c chain × SamePlan after (augmented g before c chain.hops chain.last))
+      ⊎ (((chain : Chain C H) → IsChain g before c chain → ⊥) × SamePlan after before)
+
+  abbrev pub Turn : Seating C H → Plan C H → C → Plan C H → Type 0
+  Turn g before c after = TurnFrom g before c (before c) after
+
+  -- the turns of these candidates, one after the other
+  abbrev pub Sweeps : Seating C H → Plan C H → List C → Plan C H → Type 0
+  Sweeps g before [] after = SamePlan after before
+  Sweeps g before (c ∷ cs) after = (mid : Plan C H) × Turn g before c mid × Sweeps g mid cs after
+
+  -- the first candidate, where that is a member, and then all others, numbers rising
+  abbrev pub sweep_order : Seating C H → Option C → List C
+  sweep_order g None = g.members
+  sweep_order g (Some c) = filter (g.same_candidate c) g.members ++ filter (λ d. not (g.same_candidate c d)) g.members
+
+  abbrev pub IsSweep : Seating C H → Option C → Plan C H → Plan C H → Type 0
+  IsSweep g first before after = Sweeps g before (sweep_order g first) after
+
+  -- the new plan of a session, from the old one
+  abbrev pub IsRepair : Seating C H → Option C → Plan C H → Plan C H → Type 0
+  IsRepair g first before after = IsSweep g first (kept_part g before) after

@@ -1,0 +1,81 @@
+//! The calls on a problem and a plan.
+ghost use Rattle.std.specs.Prelude.{◌≡◌, ◌<◌, ℕ, length, IfOk, IfErr, IfSome, IsSome, Contains, ◌↔◌};
+ghost use Rattle.exam_plan.specs.Matching.{IsLawful, IsBest, SamePlan, IsCertificate, IsContested, unseated};
+ghost use Rattle.exam_plan.specs.Problems.{IsPlan, seating_of, plan_at, desk_numbers};
+ghost use Rattle.exam_plan.specs.Repair.{kept_part, IsSweep};
+
+use crate::problem::{Plan, Problem};
+use crate::report::Shortage;
+use crate::turns::take_turn;
+use crate::{contest, keeping, numbering};
+use exam_types::Refusal;
+use std::alloc::Global;
+
+/// Puts out who has no fitting hall or no desk: first those whose hall does not fit, then, in a hall with
+/// more occupants than desks, all but the least.
+pub fn keep_lawful(problem: &Problem, mut plan: Plan) -> Result<Plan, Refusal>
+    requires { IsPlan problem.now plan.items }
+    ensures plan { IfOk result (λ new. IsPlan problem.now new.items) }
+    ensures kept { IfOk result (λ new. SamePlan (plan_at new.items) (kept_part (seating_of problem.now) (plan_at plan.items))) }
+    ensures lawful { IfOk result (λ new. IsLawful (seating_of problem.now) (plan_at new.items)) }
+    ensures memory { IfErr result (λ e. e ≡ Refusal.NoMemory) }
+{
+    keeping::put_out_unfit(problem, plan.as_mut_slice());
+    keeping::put_out_crowded(problem, plan.as_mut_slice());
+    Ok(plan)
+}
+
+/// Gives each unseated candidate one turn, the first candidate first and then numbers rising: a turn moves
+/// everybody along the least chain to a free desk, where there is a chain.
+pub fn sweep(
+    alloc: Global,
+    problem: &Problem,
+    mut plan: Plan,
+    first: Option<usize>,
+) -> Result<Plan, Refusal>
+    requires plan { IsPlan problem.now plan.items }
+    requires lawful { IsLawful (seating_of problem.now) (plan_at plan.items) }
+    requires first { IfSome first (λ c. c < length problem.now.fit) }
+    ensures plan { IfOk result (λ new. IsPlan problem.now new.items) }
+    ensures best { IfOk result (λ new. IsBest (seating_of problem.now) (plan_at new.items)) }
+    ensures kept { IfOk result (λ new. (c : ℕ) → IsSome (plan_at plan.items c) → IsSome (plan_at new.items c)) }
+    ensures chains { IfOk result (λ new. IsSweep (seating_of problem.now) first (plan_at plan.items) (plan_at new.items)) }
+    ensures memory { IfErr result (λ e. e ≡ Refusal.NoMemory) }
+{
+    let mut live = vec![in alloc; true; problem.hall_count()]?;
+    if let Some(candidate) = first {
+        live = take_turn(alloc, problem, &mut plan, live, candidate)?;
+    }
+    for candidate in 0..problem.candidate_count() {
+        if first != Some(candidate) {
+            live = take_turn(alloc, problem, &mut plan, live, candidate)?;
+        }
+    }
+    Ok(plan)
+}
+
+/// The candidates whom some best plan leaves out, with all halls that fit any of them.
+pub fn shortage(alloc: Global, problem: &Problem, plan: &Plan) -> Result<Shortage, Refusal>
+    requires plan { IsPlan problem.now plan.now.items }
+    requires best { IsBest (seating_of problem.now) (plan_at plan.now.items) }
+    ensures certificate { IfOk result (λ s. IsCertificate (seating_of problem.now) (plan_at plan.now.items) s.candidates.items s.halls.items) }
+    ensures unseated { IfOk result (λ s. s.unseated ≡ length (unseated (seating_of problem.now) (plan_at plan.now.items))) }
+    ensures contested { IfOk result (λ s. (c : ℕ) → Contains s.candidates.items c ↔ IsContested (seating_of problem.now) c) }
+    ensures memory { IfErr result (λ e. e ≡ Refusal.NoMemory) }
+{
+    let marked = contest::contested_halls(alloc, problem, plan.as_slice())?;
+    Ok(Shortage {
+        unseated: contest::unseated_count(problem, plan.as_slice()),
+        halls: contest::marked_indices(alloc, marked.as_slice())?,
+        candidates: contest::drawn_in(alloc, plan.as_slice(), marked.as_slice())?,
+    })
+}
+
+/// The desk number of each candidate who is seated.
+pub fn desks(alloc: Global, problem: &Problem, plan: &Plan) -> Result<Vec<Option<u32>>, Refusal>
+    requires { IsPlan problem.now plan.now.items }
+    ensures numbers { IfOk result (λ numbers. numbers.items ≡ desk_numbers problem.now plan.now.items) }
+    ensures memory { IfErr result (λ e. e ≡ Refusal.NoMemory) }
+{
+    numbering::desk_numbers(alloc, problem, plan.as_slice())
+}

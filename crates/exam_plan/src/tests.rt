@@ -1,0 +1,205 @@
+//! Worked examples, and a plain slow program that tries every plan of every tiny problem.
+ghost use Rattle.std.specs.Prelude.{◌≡◌, ◌<◌, ◌≤◌, ℕ, length, All, IfOk};
+ghost use Rattle.std.specs.List.{range_with_len};
+ghost use Rattle.std.specs.List.Sorted.{IsStrictlySortedBy};
+ghost use Rattle.std.specs.Ordering.{nat_cmp};
+ghost use Rattle.exam_plan.specs.Matching.{IsBest};
+ghost use Rattle.exam_plan.specs.Problems.{IsPlan, seating_of, plan_at};
+
+use crate::contest::marked_indices;
+use crate::{Plan, Problem, desks, keep_lawful, shortage, sweep};
+use exam_types::Refusal;
+use std::alloc::Global;
+use std::test::Fail;
+
+/// The rows of the halls that are marked for each candidate.
+fn rows_of(alloc: Global, fits: &[[bool; 3]]) -> Result<Vec<Vec<usize>>, Refusal>
+    ensures count { IfOk result (λ rows. length rows.items ≡ length fits.now) }
+    ensures rising { IfOk result (λ rows. All (λ row. IsStrictlySortedBy nat_cmp row.items) rows.items) }
+    ensures exist { IfOk result (λ rows. All (λ row. All (λ h. h < 3) row.items) rows.items) }
+{
+    let mut rows = Vec::new(alloc);
+    for marks in fits {
+        rows.push(marked_indices(alloc, marks.as_slice())?)?;
+    }
+    Ok(rows)
+}
+
+/// The ranks of candidates whose order of desks is that of their numbers.
+fn ranks_of(alloc: Global, count: usize) -> Result<Vec<u32>, Refusal>
+    requires { count ≤ 4096 }
+    ensures { IfOk result (λ ranks. ranks.items ≡ range_with_len 0 count) }
+{
+    let mut ranks = Vec::new(alloc);
+    for rank in 0..count {
+        ranks.push(rank as u32)?;
+    }
+    Ok(ranks)
+}
+
+/// A problem with three halls.
+fn problem_of(alloc: Global, desks: [u32; 3], fits: &[[bool; 3]]) -> Result<Problem, Refusal>
+    requires { length fits.now ≤ 4096 }
+    ensures count { IfOk result (λ p. length p.fit ≡ length fits.now) }
+    ensures halls { IfOk result (λ p. length p.desk_counts ≡ 3) }
+{
+    let rows = rows_of(alloc, fits)?;
+    let ranks = ranks_of(alloc, fits.len())?;
+    Problem::new(Vec::from_slice(alloc, desks.as_slice())?, rows, ranks)
+}
+
+/// The plan that a sweep makes of nothing.
+fn swept(alloc: Global, problem: &Problem) -> Result<Plan, Refusal>
+    ensures plan { IfOk result (λ plan. IsPlan problem.now plan.items) }
+    ensures best { IfOk result (λ plan. IsBest (seating_of problem.now) (plan_at plan.items)) }
+{
+    let nobody = vec![in alloc; None; problem.candidate_count()]?;
+    sweep(alloc, problem, keep_lawful(problem, nobody)?, None)
+}
+
+const YES: bool = true;
+
+const NO: bool = false;
+
+#[test]
+fn third_candidate_is_short_of_a_desk(rt: HostRuntime) -> Result<(), Fail> {
+    let fits = [[YES, YES, NO], [YES, NO, NO], [YES, YES, NO]];
+    let problem = problem_of(rt.alloc(), [1, 1, 0], &fits)?;
+    let plan = swept(rt.alloc(), &problem)?;
+    assert_eq!(rt; plan.as_slice(), [Some(1), Some(0), None].as_slice());
+    let short = shortage(rt.alloc(), &problem, &plan)?;
+    assert_eq!(rt; short.unseated, 1);
+    assert_eq!(rt; short.halls.as_slice(), [0, 1].as_slice());
+    assert_eq!(rt; short.candidates.as_slice(), [0, 1, 2].as_slice());
+    let numbers = desks(rt.alloc(), &problem, &plan)?;
+    assert_eq!(rt; numbers.as_slice(), [Some(1), Some(1), None].as_slice());
+    Ok(())
+}
+
+#[test]
+fn barred_candidate_is_short_in_one_hall(rt: HostRuntime) -> Result<(), Fail> {
+    let fits = [[YES, NO, NO], [YES, NO, NO], [YES, YES, NO]];
+    let problem = problem_of(rt.alloc(), [1, 1, 0], &fits)?;
+    let plan = swept(rt.alloc(), &problem)?;
+    let short = shortage(rt.alloc(), &problem, &plan)?;
+    assert_eq!(rt; short.unseated, 1);
+    assert_eq!(rt; short.halls.as_slice(), [0].as_slice());
+    assert_eq!(rt; short.candidates.as_slice(), [0, 1].as_slice());
+    Ok(())
+}
+
+#[test]
+fn nobody_fits_and_a_reader_beside_a_full_session(rt: HostRuntime) -> Result<(), Fail> {
+    let alone = problem_of(rt.alloc(), [1, 0, 0], &[[NO, NO, NO]])?;
+    let nowhere = swept(rt.alloc(), &alone)?;
+    let short = shortage(rt.alloc(), &alone, &nowhere)?;
+    assert_eq!(rt; short.unseated, 1);
+    assert_eq!(rt; short.halls.len(), 0);
+    assert_eq!(rt; short.candidates.as_slice(), [0].as_slice());
+
+    let fits = [[YES, YES, NO], [YES, NO, NO], [YES, YES, NO], [NO, NO, NO]];
+    let full = problem_of(rt.alloc(), [1, 1, 0], &fits)?;
+    let plan = swept(rt.alloc(), &full)?;
+    let short = shortage(rt.alloc(), &full, &plan)?;
+    assert_eq!(rt; short.unseated, 2);
+    assert_eq!(rt; short.candidates.as_slice(), [0, 1, 2, 3].as_slice());
+    Ok(())
+}
+
+#[test]
+fn least_of_two_short_chains_is_taken(rt: HostRuntime) -> Result<(), Fail> {
+    let fits = [[YES, NO, YES], [NO, YES, YES], [YES, YES, NO]];
+    let problem = problem_of(rt.alloc(), [1, 1, 1], &fits)?;
+    let plan = swept(rt.alloc(), &problem)?;
+    assert_eq!(rt; plan.as_slice(), [Some(2), Some(1), Some(0)].as_slice());
+    Ok(())
+}
+
+/// The hall of a candidate in the plan with this number, 3 for none.
+fn place_in(plan: usize, candidate: usize) -> usize
+    ensures { result < 4 }
+{
+    match candidate {
+        0 => plan % 4,
+        1 => plan / 4 % 4,
+        _ => plan / 16 % 4,
+    }
+}
+
+fn is_lawful(desks: &[u32; 3], fits: &[[bool; 3]; 3], plan: usize) -> bool {
+    let mut left = *desks;
+    for candidate in 0..3 {
+        let hall = place_in(plan, candidate);
+        if hall < 3 {
+            if !fits[candidate][hall] || left[hall] == 0 {
+                return false;
+            }
+            left[hall] -= 1;
+        }
+    }
+    true
+}
+
+fn seated_in(plan: usize) -> usize {
+    (0..3usize)
+        .filter(|candidate| place_in(plan, *candidate) < 3)
+        .count()
+}
+
+/// How many the best of all plans seats, and whom some best plan leaves out.
+fn tried(desks: &[u32; 3], fits: &[[bool; 3]; 3]) -> (usize, [bool; 3]) {
+    let mut most = 0;
+    let mut left_out = [false; 3];
+    for plan in 0..64 {
+        if is_lawful(desks, fits, plan) && most < seated_in(plan) {
+            most = seated_in(plan);
+        }
+    }
+    for plan in 0..64 {
+        if is_lawful(desks, fits, plan) && seated_in(plan) == most {
+            for (candidate, is_out) in left_out.iter_mut().enumerate() {
+                if place_in(plan, candidate) == 3 {
+                    *is_out = true;
+                }
+            }
+        }
+    }
+    (most, left_out)
+}
+
+fn agrees(alloc: Global, desks: [u32; 3], fits: &[[bool; 3]; 3]) -> Result<bool, Refusal> {
+    let (most, left_out) = tried(&desks, fits);
+    let problem = problem_of(alloc, desks, fits.as_slice())?;
+    let plan = swept(alloc, &problem)?;
+    let short = shortage(alloc, &problem, &plan)?;
+    let seated = plan.iter().filter(|place| place.is_some()).count();
+    let mut same = seated == most && short.unseated <= 3 && 3 - short.unseated == most;
+    for candidate in 0..3usize {
+        same &= short.candidates.as_slice().contains(&candidate) == left_out[candidate];
+    }
+    for hall in 0..3usize {
+        let is_short = (0..3usize).any(|candidate| left_out[candidate] && fits[candidate][hall]);
+        same &= short.halls.as_slice().contains(&hall) == is_short;
+    }
+    Ok(same)
+}
+
+#[test]
+fn all_tiny_problems_agree_with_trying_every_plan(rt: HostRuntime) -> Result<(), Fail> {
+    for desks in 0..27u32 {
+        for marks in 0..512u32 {
+            let counts = [desks % 3, desks / 3 % 3, desks / 9];
+            let is_on = |bit: u32| marks >> bit & 1 == 1;
+            let fits = [
+                [is_on(0), is_on(1), is_on(2)],
+                [is_on(3), is_on(4), is_on(5)],
+                [is_on(6), is_on(7), is_on(8)],
+            ];
+            assert!(rt;
+                agrees(rt.alloc(), counts, &fits)?,
+                "desks {desks} marks {marks}"
+            );
+        }
+    }
+    Ok(())
+}

@@ -1,0 +1,175 @@
+-- Small offices, and what the definitions say of them, by computation.
+use Rattle.std.specs.Prelude.{◌≡◌, ℕ, Bool, true, false, List, [], ◌∷◌, Option, None, Some, refl, codes}
+use Rattle.exam_types.specs.declared.features.Features.{Features}
+use Rattle.exam_rules.specs.declared.rows.Session.{Session}
+use Rattle.exam_rules.specs.declared.rows.Paper.{Paper}
+use Rattle.exam_rules.specs.declared.rows.Hall.{Hall}
+use Rattle.exam_rules.specs.declared.rows.Opening.{Opening}
+use Rattle.exam_rules.specs.declared.rows.Candidate.{Candidate}
+use Rattle.exam_rules.specs.declared.rows.Entry.{Entry}
+use Rattle.exam_rules.specs.declared.rows.Arrangement.{Arrangement}
+use Rattle.exam_rules.specs.declared.rows.Appeal.{Appeal}
+use Rattle.exam_rules.specs.declared.rows.Status.TheVariants as status
+use Rattle.exam_rules.specs.declared.rows.Subject.TheVariants as subject
+use Rattle.exam_plan.specs.Matching.{desk_number}
+use Rattle.exam_plan.specs.Repair.{kept_part}
+use Rattle.exam_rules.specs.Relations.{Code, Relations}
+use Rattle.exam_rules.specs.Sessions.{members, sitting, clashes, finish, no_features}
+use Rattle.exam_rules.specs.Seatings.{fits, seating, plan_of, stands_before, problem_of}
+use Rattle.exam_plan.specs.Problems.{Problem}
+
+abbrev pub paper_of : ℕ → Features → Paper
+paper_of minutes required = record { title = codes "Maths"; session = codes "S1"; minutes = minutes; required = required }
+
+abbrev pub opening_until : ℕ → Opening
+opening_until until = record { desks = 1; until = until; reserved = false }
+
+abbrev pub entered : ℕ → (ℕ × Code) × Entry
+entered c = ((c, codes "MA-1"), record { live = true })
+
+-- session S1 at 09:00 with the paper MA-1 of 60 minutes, halls A (step-free) and B, both with one desk until 12:00
+abbrev pub base : Relations
+base = record {
+  sessions = (codes "S1", record { day = 20970; start = 540 }) ∷ [];
+  papers = (codes "MA-1", paper_of 60 no_features) ∷ [];
+  halls = (codes "A", record { title = codes "A"; features = record no_features { step_free = true } }) ∷ (codes "B", record { title = codes "B"; features = no_features }) ∷ [];
+  openings = ((codes "S1", codes "A"), opening_until 720) ∷ ((codes "S1", codes "B"), opening_until 720) ∷ [];
+  candidates = (1, record { name = codes "Bo Berg"; code = codes "CODE0001" }) ∷ (2, record { name = codes "Ada Lin"; code = codes "CODE0002" }) ∷ (3, record { name = codes "Cy Dahl"; code = codes "CODE0003" }) ∷ [];
+  entries = [];
+  arrangements = [];
+  appeals = [];
+}
+
+-- 90 minutes and a quarter more: 112.5 is rounded up, from 09:00 to 10:53
+abbrev quarter_more : Relations
+quarter_more = record base {
+  papers = (codes "MA-1", paper_of 90 no_features) ∷ [];
+  entries = entered 1 ∷ [];
+  arrangements = (1, record { needs = no_features; extra = 25 }) ∷ [];
+}
+
+finish_rounds_up : finish quarter_more (codes "S1") 1 ≡ Some 653
+finish_rounds_up = refl
+
+fits_until_then : fits (record quarter_more { openings = ((codes "S1", codes "A"), opening_until 653) ∷ [] }) (codes "S1") 1 (codes "A") ≡ true
+fits_until_then = refl
+
+fits_not_sooner : fits (record quarter_more { openings = ((codes "S1", codes "A"), opening_until 652) ∷ [] }) (codes "S1") 1 (codes "A") ≡ false
+fits_not_sooner = refl
+
+-- 1 and 3 without needs, 2 with the need step-free
+abbrev pub three : Relations
+three = record base {
+  entries = entered 1 ∷ entered 2 ∷ entered 3 ∷ [];
+  arrangements = (2, record { needs = record no_features { step_free = true }; extra = 0 }) ∷ [];
+}
+
+three_members : members three (codes "S1") ≡ 1 ∷ 2 ∷ 3 ∷ []
+three_members = refl
+
+two_fits_A : fits three (codes "S1") 2 (codes "A") ≡ true
+two_fits_A = refl
+
+two_not_B : fits three (codes "S1") 2 (codes "B") ≡ false
+two_not_B = refl
+
+one_fits_B : fits three (codes "S1") 1 (codes "B") ≡ true
+one_fits_B = refl
+
+-- a granted appeal of 1 against B
+abbrev barred : Relations
+barred = record three {
+  appeals = ((1, codes "HA1"), record { session = codes "S1"; subject = subject.Hall (codes "B"); reason = []; status = status.Granted (codes "ok"); lodged = 20968 }) ∷ [];
+}
+
+one_not_B : fits barred (codes "S1") 1 (codes "B") ≡ false
+one_not_B = refl
+
+one_still_A : fits barred (codes "S1") 1 (codes "A") ≡ true
+one_still_A = refl
+
+-- who is put out when B no longer fits 1: 2 keeps A
+put_out : kept_part (seating barred (codes "S1")) (plan_of (((codes "S1", 1), codes "B") ∷ ((codes "S1", 2), codes "A") ∷ []) (codes "S1")) 1 ≡ None
+put_out = refl
+
+stays_in : kept_part (seating barred (codes "S1")) (plan_of (((codes "S1", 1), codes "B") ∷ ((codes "S1", 2), codes "A") ∷ []) (codes "S1")) 2 ≡ Some (codes "A")
+stays_in = refl
+
+-- 3 entered for MA-1 and PH-2, which wants a computer
+abbrev pub two_papers : Relations
+two_papers = record base {
+  papers = (codes "MA-1", paper_of 60 no_features) ∷ (codes "PH-2", paper_of 60 (record no_features { computer = true })) ∷ [];
+  entries = entered 3 ∷ ((3, codes "PH-2"), record { live = true }) ∷ [];
+}
+
+sits_least : sitting two_papers (codes "S1") 3 ≡ Some (codes "MA-1")
+sits_least = refl
+
+clash_named : clashes two_papers (codes "S1") ≡ (3, codes "PH-2") ∷ []
+clash_named = refl
+
+abbrev clash_granted : Relations
+clash_granted = record two_papers {
+  appeals = ((3, codes "C1"), record { session = codes "S1"; subject = subject.Clash (codes "PH-2"); reason = []; status = status.Granted (codes "ok"); lodged = 20965 }) ∷ [];
+}
+
+sits_granted : sitting clash_granted (codes "S1") 3 ≡ Some (codes "PH-2")
+sits_granted = refl
+
+clash_turned : clashes clash_granted (codes "S1") ≡ (3, codes "MA-1") ∷ []
+clash_turned = refl
+
+-- a paper of 600 minutes at 23:59 with twice the time ends at 43:59
+abbrev longest : Relations
+longest = record base {
+  sessions = (codes "S1", record { day = 20970; start = 1439 }) ∷ [];
+  papers = (codes "MA-1", paper_of 600 no_features) ∷ [];
+  entries = entered 1 ∷ [];
+  arrangements = (1, record { needs = no_features; extra = 100 }) ∷ [];
+}
+
+latest_finish : finish longest (codes "S1") 1 ≡ Some 2639
+latest_finish = refl
+
+-- a withdrawn entry makes no member
+withdrawn_is_no_member : members (record base { entries = ((1, codes "MA-1"), record { live = false }) ∷ entered 2 ∷ [] }) (codes "S1") ≡ 2 ∷ []
+withdrawn_is_no_member = refl
+
+-- a granted appeal of another session counts for nothing
+abbrev granted_elsewhere : Relations
+granted_elsewhere = record two_papers {
+  appeals = ((3, codes "C1"), record { session = codes "S2"; subject = subject.Clash (codes "PH-2"); reason = []; status = status.Granted (codes "ok"); lodged = 20965 }) ∷ [];
+}
+
+sits_least_still : sitting granted_elsewhere (codes "S1") 3 ≡ Some (codes "MA-1")
+sits_least_still = refl
+
+-- a reserved hall is for those with needs or extra time
+abbrev reserved : Relations
+reserved = record three { openings = ((codes "S1", codes "A"), record { desks = 1; until = 720; reserved = true }) ∷ [] }
+
+reserved_for_needs : fits reserved (codes "S1") 2 (codes "A") ≡ true
+reserved_for_needs = refl
+
+reserved_not_for_others : fits reserved (codes "S1") 1 (codes "A") ≡ false
+reserved_not_for_others = refl
+
+-- by indices: all three fit A, of which 2 stands second; B fits the first and the third
+three_by_indices : problem_of three (codes "S1") ≡ (let p : Problem = record { desk_counts = 1 ∷ 1 ∷ []; fit = (0 ∷ 1 ∷ []) ∷ (0 ∷ []) ∷ (0 ∷ 1 ∷ []) ∷ []; rank = 0 ∷ 1 ∷ 2 ∷ [] } in p)
+three_by_indices = refl
+
+-- one hall with 5 sitting MA-1 and 2 sitting PH-2: by the paper first
+abbrev two_sittings : Relations
+two_sittings = record two_papers {
+  candidates = (2, record { name = codes "Ada Lin"; code = codes "CODE0002" }) ∷ (5, record { name = codes "Ed Poe"; code = codes "CODE0005" }) ∷ [];
+  entries = ((2, codes "PH-2"), record { live = true }) ∷ entered 5 ∷ [];
+}
+
+abbrev both_in_A : List ((Code × ℕ) × Code)
+both_in_A = ((codes "S1", 2), codes "A") ∷ ((codes "S1", 5), codes "A") ∷ []
+
+first_desk : desk_number (seating two_sittings (codes "S1")) (stands_before two_sittings (codes "S1")) (plan_of both_in_A (codes "S1")) 5 ≡ Some 1
+first_desk = refl
+
+second_desk : desk_number (seating two_sittings (codes "S1")) (stands_before two_sittings (codes "S1")) (plan_of both_in_A (codes "S1")) 2 ≡ Some 2
+second_desk = refl

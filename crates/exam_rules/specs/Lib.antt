@@ -1,0 +1,5 @@
+pub mod Relations
+pub mod Sessions
+pub mod Seatings
+pub mod Examples
+pub mod Names

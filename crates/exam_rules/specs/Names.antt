@@ -1,0 +1,39 @@
+-- Candidates and halls as indices: the i-th member is candidate i, and the j-th open hall is hall j.
+use Rattle.std.specs.Prelude.{ℕ, ◌+◌, Bool, nat_eq, List, [], ◌∷◌, Option, None, Some, slice_index, slice_index_or, if◌then◌else◌}
+use Rattle.std.specs.List.Sorted.{IsStrictlySortedBy}
+use Rattle.std.specs.Option.{option_map, option_and_then}
+use Rattle.std.specs.Ordering.{nat_cmp}
+use Rattle.exam_plan.specs.Matching.{Plan}
+use Rattle.exam_rules.specs.Relations.{Code, Relations, code_cmp, same_code}
+use Rattle.exam_rules.specs.Sessions.{members}
+use Rattle.exam_rules.specs.Seatings.{open_halls}
+
+-- the place, counted from n, of the first that passes
+abbrev pub first_place : {A : Type 0} → (A → Bool) → ℕ → List A → Option ℕ
+first_place p n [] = None
+first_place p n (x ∷ xs) = if p x then Some n else first_place p (n + 1) xs
+
+abbrev pub number_at : Relations → Code → ℕ → ℕ
+number_at r s i = slice_index (members r s) i
+
+abbrev pub hall_at : Relations → Code → ℕ → Code
+hall_at r s j = slice_index_or (open_halls r s) j []
+
+abbrev pub index_of : Relations → Code → ℕ → Option ℕ
+index_of r s c = first_place (nat_eq c) 0 (members r s)
+
+abbrev pub hall_index : Relations → Code → Code → Option ℕ
+hall_index r s h = first_place (same_code h) 0 (open_halls r s)
+
+-- a plan by indices, read by numbers and codes
+abbrev pub named_plan : Relations → Code → Plan ℕ ℕ → Plan ℕ Code
+named_plan r s p c = option_and_then (λ i. option_map (hall_at r s) (p i)) (index_of r s c)
+
+-- a plan by numbers and codes, read by indices: where the i-th member sits, and nobody under another index
+abbrev pub indexed_plan : Relations → Code → Plan ℕ Code → Plan ℕ ℕ
+indexed_plan r s q i = option_and_then (λ k. if nat_eq k i then option_and_then (hall_index r s) (q (number_at r s i)) else None) (index_of r s (number_at r s i))
+
+-- Numbers and codes rise. It holds of the facts, whose tables are in order.
+pub record ListsRise (r : Relations) (s : Code) : Type 0 where
+  pub numbers : IsStrictlySortedBy nat_cmp (members r s)
+  pub codes : IsStrictlySortedBy code_cmp (open_halls r s)

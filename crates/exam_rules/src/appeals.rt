@@ -1,0 +1,138 @@
+//! What granted appeals give a candidate in a session.
+ghost use Rattle.std.specs.Prelude.{◌≡◌, ◌&&◌, [], filter, codes, IfOk, IfErr};
+ghost use Rattle.exam_types.specs.declared.refusal.Refusal.TheVariants.{NoMemory};
+ghost use Rattle.std.specs.List.{list_any};
+ghost use Rattle.std.specs.BTreeMap.Range.{entries_between};
+ghost use Rattle.std.specs.declared.ops.Bound.TheVariants.{Unbounded, Excluded};
+ghost use Rattle.exam_rules.specs.Relations.{Code, relations_of, appeal_cmp, is_row_of, leading, same_code};
+ghost use Rattle.exam_rules.specs.Sessions as spec;
+
+use crate::facts::Facts;
+use crate::rows::{Appeal, Arrangement, Status, Subject};
+use exam_types::{HallCode, Number, PaperCode, Reference, Refusal, SessionCode};
+use std::alloc::Global;
+use std::collections::btree_map::Range;
+
+/// The least reference, by which a candidate's appeals begin.
+fn least_reference() -> Reference
+    ensures { result ≡ codes "0" }
+{
+    Reference::parse(b"0").unwrap()
+}
+
+/// No appeal of the candidate stands before the least key.
+fn no_appeal_before(facts: &Facts, number: Number, least: Reference)
+    requires { least ≡ codes "0" }
+    ensures { filter (is_row_of number) (entries_between appeal_cmp Unbounded (Excluded (number, least)) facts.now.appeals.entries) ≡ [] }
+{
+    match facts.appeals.range(..(number, least)).next_back() {
+        Some((key, _)) => {
+            // What a reference is made of shows that none is less, so the row before is of another candidate.
+            let _reference = key.1.as_bytes();
+        }
+        None => {}
+    }
+}
+
+/// The appeals from the candidate's first on; those of later numbers follow.
+fn appeals_from<'a>(facts: &'a Facts, number: Number) -> Range<'a, (Number, Reference), Appeal>
+    // The rows that stand together are all that count for the candidate.
+    ensures { (s : Code) → spec.granted_subjects (leading (is_row_of number) result) s number ≡ spec.granted_subjects facts.now.appeals.entries s number }
+{
+    let least = least_reference();
+    no_appeal_before(facts, number, least);
+    facts.appeals.range((number, least)..)
+}
+
+fn is_granted(status: &Status) -> bool
+    ensures { result ≡ spec.is_granted status.now }
+{
+    matches!(status, Status::Granted(_))
+}
+
+fn is_granted_for(appeal: &Appeal, session: &SessionCode) -> bool
+    ensures { result ≡ (same_code appeal.now.session session.now && spec.is_granted appeal.now.status) }
+{
+    appeal.session == *session && is_granted(&appeal.status)
+}
+
+/// The paper of the granted clash appeal.
+pub fn granted_paper(facts: &Facts, session: &SessionCode, number: Number) -> Option<PaperCode>
+    ensures { result ≡ spec.granted_paper (relations_of facts.now) session.now number }
+{
+    for (key, appeal) in appeals_from(facts, number) {
+        if key.0 != number {
+            break;
+        }
+        if is_granted_for(appeal, session) {
+            if let Subject::Clash(paper) = appeal.subject {
+                return Some(paper);
+            }
+        }
+    }
+    None
+}
+
+/// The arrangement of the granted arrangement appeal.
+pub fn granted_arrangement(
+    facts: &Facts,
+    session: &SessionCode,
+    number: Number,
+) -> Option<Arrangement>
+    ensures { result ≡ spec.granted_arrangement (relations_of facts.now) session.now number }
+{
+    for (key, appeal) in appeals_from(facts, number) {
+        if key.0 != number {
+            break;
+        }
+        if is_granted_for(appeal, session) {
+            if let Subject::Arrangement(arrangement) = appeal.subject {
+                return Some(arrangement);
+            }
+        }
+    }
+    None
+}
+
+/// Whether a granted appeal of the candidate bars the hall.
+pub fn is_barred(facts: &Facts, session: &SessionCode, number: Number, hall: &HallCode) -> bool
+    ensures { result ≡ list_any (same_code hall.now) (spec.barred_halls (relations_of facts.now) session.now number) }
+{
+    for (key, appeal) in appeals_from(facts, number) {
+        if key.0 != number {
+            break;
+        }
+        if is_granted_for(appeal, session) {
+            if let Subject::Hall(barred) = appeal.subject {
+                if *hall == barred {
+                    return true;
+                }
+            }
+        }
+    }
+    false
+}
+
+/// The halls that granted appeals of the candidate bar.
+pub fn barred_halls(
+    alloc: Global,
+    facts: &Facts,
+    session: &SessionCode,
+    number: Number,
+) -> Result<Vec<HallCode>, Refusal>
+    ensures ok { IfOk result (λ halls. halls.items ≡ spec.barred_halls (relations_of facts.now) session.now number) }
+    ensures memory { IfErr result (λ e. e ≡ NoMemory) }
+{
+    let mut halls = Vec::new(alloc);
+    for (key, appeal) in appeals_from(facts, number) {
+        if key.0 != number {
+            break;
+        }
+        if is_granted_for(appeal, session) {
+            if let Subject::Hall(barred) = appeal.subject {
+                halls.push(barred)?;
+            }
+        }
+    }
+    Ok(halls)
+}

@@ -1,0 +1,217 @@
+//! When a member ends, and which halls fit.
+ghost use Rattle.std.specs.Prelude.{◌≡◌, ◌≤◌, ◌&&◌, not, map, IfOk, IfErr};
+ghost use Rattle.std.specs.List.{list_any};
+ghost use Rattle.std.specs.Option.{option_map};
+ghost use Rattle.exam_types.specs.declared.refusal.Refusal.TheVariants.{NoMemory};
+ghost use Rattle.exam_rules.specs.Relations.{relations_of, same_code};
+ghost use Rattle.exam_rules.specs.Sessions as spec;
+ghost use Rattle.exam_rules.specs.Seatings as seatings;
+
+use crate::appeals::{barred_halls, is_barred};
+use crate::facts::Facts;
+use crate::rows::{Arrangement, Hall, Opening, Paper, Session};
+use crate::sessions::{arrangement_in_force, is_member, no_features, sitting};
+use exam_types::{ClosingTime, Features, HallCode, Minute, Number, Refusal, SessionCode};
+use std::alloc::Global;
+
+/// How a member sits.
+#[derive(Clone, Copy)]
+pub struct Terms {
+    end: Minute,
+    needs: Features,
+    required: Features,
+    /// They have needs or extra time.
+    special: bool,
+}
+
+/// A hall as it is opened for a session.
+#[derive(Clone, Copy)]
+pub struct Room {
+    features: Features,
+    until: ClosingTime,
+    reserved: bool,
+}
+
+/// When a member ends who sits the paper under the arrangement; a part of a minute counts as a whole one.
+fn end_of(session: &Session, paper: &Paper, arrangement: &Arrangement) -> u16
+    ensures value { result ≡ spec.end_of session.now paper.now arrangement.now }
+    ensures bound { result ≤ 2639 }
+{
+    let hundredths = u32::from(paper.minutes.get()) * (100 + u32::from(arrangement.extra.get()));
+    session.start.get() + hundredths.div_ceil(100) as u16
+}
+
+fn holds(has: Features, wants: Features) -> bool
+    ensures { result ≡ seatings.holds_features has wants }
+{
+    (!wants.step_free || has.step_free)
+        && (!wants.screen || has.screen)
+        && (!wants.reader || has.reader)
+        && (!wants.small_room || has.small_room)
+        && (!wants.computer || has.computer)
+}
+
+fn is_special(arrangement: &Arrangement) -> bool
+    ensures { result ≡ seatings.is_special arrangement.now }
+{
+    !holds(no_features(), arrangement.needs) || arrangement.extra.get() > 0
+}
+
+/// The same as a time.
+fn end_minute(session: &Session, paper: &Paper, arrangement: &Arrangement) -> Minute
+    ensures { result ≡ spec.end_of session.now paper.now arrangement.now }
+{
+    Minute::new(end_of(session, paper, arrangement)).unwrap()
+}
+
+fn terms_of(session: &Session, paper: &Paper, arrangement: &Arrangement) -> Terms
+    ensures { result ≡ seatings.terms_of session.now paper.now arrangement.now }
+{
+    Terms {
+        end: end_minute(session, paper, arrangement),
+        needs: arrangement.needs,
+        required: paper.required,
+        special: is_special(arrangement),
+    }
+}
+
+fn sitting_row<'a>(facts: &'a Facts, session: &SessionCode, number: Number) -> Option<&'a Paper>
+    ensures { option_map (λ paper. paper.now) result ≡ spec.sitting_row (relations_of facts.now) session.now number }
+{
+    match sitting(facts, session, number) {
+        Some(paper) => facts.papers.get(&paper),
+        None => None,
+    }
+}
+
+/// How the member sits in the session.
+fn sitting_terms(facts: &Facts, session: &SessionCode, number: Number) -> Option<Terms>
+    ensures { result ≡ seatings.sitting_terms (relations_of facts.now) session.now number }
+{
+    let Some(row) = facts.sessions.get(session) else {
+        return None;
+    };
+    let Some(paper) = sitting_row(facts, session, number) else {
+        return None;
+    };
+    let arrangement = arrangement_in_force(facts, session, number);
+    Some(terms_of(row, paper, &arrangement))
+}
+
+fn room_of(hall: &Hall, opening: &Opening) -> Room
+    ensures { result ≡ seatings.room_of hall.now opening.now }
+{
+    Room {
+        features: hall.features,
+        until: opening.until,
+        reserved: opening.reserved,
+    }
+}
+
+/// The hall as it is opened for the session.
+pub fn opened_room(facts: &Facts, session: &SessionCode, hall: &HallCode) -> Option<Room>
+    ensures { result ≡ seatings.opened_room (relations_of facts.now) session.now hall.now }
+{
+    let Some(row) = facts.halls.get(hall) else {
+        return None;
+    };
+    let Some(opening) = facts.openings.get(&(*session, *hall)) else {
+        return None;
+    };
+    Some(room_of(row, opening))
+}
+
+fn suits(terms: &Terms, room: &Room) -> bool
+    ensures { result ≡ seatings.suits terms.now room.now }
+{
+    holds(room.features, terms.needs)
+        && holds(room.features, terms.required)
+        && terms.end.get() <= room.until.get()
+        && (!room.reserved || terms.special)
+}
+
+fn suits_opened(terms: &Option<Terms>, room: &Option<Room>) -> bool
+    ensures { result ≡ seatings.suits_opened terms.now room.now }
+{
+    match (terms, room) {
+        (Some(terms), Some(room)) => suits(terms, room),
+        _ => false,
+    }
+}
+
+/// When the member ends, or none for one who is no member. It may be past midnight.
+pub fn finish(facts: &Facts, session: &SessionCode, number: Number) -> Option<Minute>
+    ensures { result ≡ spec.finish (relations_of facts.now) session.now number }
+{
+    let Some(row) = facts.sessions.get(session) else {
+        return None;
+    };
+    let Some(paper) = sitting_row(facts, session, number) else {
+        return None;
+    };
+    let arrangement = arrangement_in_force(facts, session, number);
+    Some(end_minute(row, paper, &arrangement))
+}
+
+/// Whether the hall is opened for the session and fits the member.
+pub fn fits(facts: &Facts, session: &SessionCode, number: Number, hall: &HallCode) -> bool
+    ensures { result ≡ seatings.fits (relations_of facts.now) session.now number hall.now }
+{
+    is_member(facts, session, number)
+        && suits_opened(
+            &sitting_terms(facts, session, number),
+            &opened_room(facts, session, hall),
+        )
+        && !is_barred(facts, session, number, hall)
+}
+
+/// The places of the halls that suit the member and that no appeal bars.
+fn suiting_places(
+    alloc: Global,
+    terms: &Option<Terms>,
+    barred: &[HallCode],
+    halls: &[(HallCode, Option<Room>)],
+) -> Result<Vec<usize>, Refusal>
+    ensures ok { IfOk result (λ places. places.items ≡ seatings.positions (seatings.is_suiting terms.now barred.now) 0 halls.now) }
+    ensures memory { IfErr result (λ e. e ≡ NoMemory) }
+{
+    let mut places = Vec::new(alloc);
+    for (place, hall) in halls.iter().enumerate() {
+        if is_suiting(terms, barred, hall) {
+            places.push(place)?;
+        }
+    }
+    Ok(places)
+}
+
+fn is_suiting(terms: &Option<Terms>, barred: &[HallCode], hall: &(HallCode, Option<Room>)) -> bool
+    ensures { result ≡ seatings.is_suiting terms.now barred.now hall.now }
+{
+    suits_opened(terms, &hall.1) && !is_listed(barred, &hall.0)
+}
+
+fn is_listed(codes: &[HallCode], hall: &HallCode) -> bool
+    ensures { result ≡ list_any (same_code hall.now) codes.now }
+{
+    codes.iter().any(|code| *hall == *code)
+}
+
+/// The places of the halls that fit the candidate, among the halls with their rooms.
+pub fn fitting_places(
+    alloc: Global,
+    facts: &Facts,
+    session: &SessionCode,
+    number: Number,
+    halls: &[(HallCode, Option<Room>)],
+) -> Result<Vec<usize>, Refusal>
+    requires { halls.now ≡ seatings.with_rooms (relations_of facts.now) session.now (map (λ hall. hall.0) halls.now) }
+    ensures ok { IfOk result (λ places. places.items ≡ seatings.fitting_places (relations_of facts.now) session.now number (map (λ hall. hall.0) halls.now)) }
+    ensures memory { IfErr result (λ e. e ≡ NoMemory) }
+{
+    if !is_member(facts, session, number) {
+        return Ok(Vec::new(alloc));
+    }
+    let terms = sitting_terms(facts, session, number);
+    let barred = barred_halls(alloc, facts, session, number)?;
+    suiting_places(alloc, &terms, &barred, halls)
+}

@@ -1,0 +1,207 @@
+//! Who belongs to a session, which paper each sits, and under which arrangement.
+ghost use Rattle.std.specs.Prelude.{◌≡◌, ◌++◌, [], filter, codes, IsTrue, IfOk, IfErr, OnOk};
+ghost use Rattle.exam_types.specs.declared.refusal.Refusal.TheVariants.{NoMemory};
+ghost use Rattle.std.specs.List.Sorted.{IsStrictlySortedBy};
+ghost use Rattle.std.specs.Ordering.{nat_cmp};
+ghost use Rattle.std.specs.BTreeMap.Range.{entries_between};
+ghost use Rattle.std.specs.declared.ops.Bound.TheVariants.{Unbounded, Excluded};
+ghost use Rattle.exam_rules.specs.Relations.{Code, relations_of, code_cmp, entry_cmp, has_row, is_row_of, leading};
+ghost use Rattle.exam_rules.specs.Sessions as spec;
+
+use crate::appeals::{granted_arrangement, granted_paper};
+use crate::facts::Facts;
+use crate::rows::{Arrangement, Entry};
+use exam_types::{Extra, Features, Number, PaperCode, Refusal, SessionCode};
+use std::alloc::Global;
+use std::collections::btree_map::Range;
+
+/// The least paper code, by which a candidate's entries begin.
+fn least_paper() -> PaperCode
+    ensures { result ≡ codes "-" }
+{
+    PaperCode::parse(b"-").unwrap()
+}
+
+/// No entry of the candidate stands before the least key.
+fn no_entry_before(facts: &Facts, number: Number, least: PaperCode)
+    requires { least ≡ codes "-" }
+    ensures { filter (is_row_of number) (entries_between entry_cmp Unbounded (Excluded (number, least)) facts.now.entries.entries) ≡ [] }
+{
+    match facts.entries.range(..(number, least)).next_back() {
+        Some((key, _)) => {
+            // What a code is made of shows that none is less, so the row before is of another candidate.
+            let _code = key.1.as_bytes();
+        }
+        None => {}
+    }
+}
+
+/// The entries from the candidate's first on; those of later numbers follow.
+fn entries_from<'a>(facts: &'a Facts, number: Number) -> Range<'a, (Number, PaperCode), Entry>
+    // The rows that stand together are all that count for the candidate.
+    ensures { (s : Code) → spec.live_papers_in (relations_of facts.now) (leading (is_row_of number) result) s number ≡ spec.live_papers (relations_of facts.now) s number }
+{
+    let least = least_paper();
+    no_entry_before(facts, number, least);
+    facts.entries.range((number, least)..)
+}
+
+fn is_paper_of(facts: &Facts, session: &SessionCode, paper: &PaperCode) -> bool
+    ensures { result ≡ spec.is_paper_of (relations_of facts.now) session.now paper.now }
+{
+    match facts.papers.get(paper) {
+        Some(row) => row.session == *session,
+        None => false,
+    }
+}
+
+/// Whether the candidate has a live entry for the paper, which is of the session.
+fn is_live_paper(facts: &Facts, session: &SessionCode, number: Number, paper: &PaperCode) -> bool
+    ensures { result ≡ spec.is_live_paper (relations_of facts.now) session.now number paper.now }
+{
+    match facts.entries.get(&(number, *paper)) {
+        Some(entry) => entry.live && is_paper_of(facts, session, paper),
+        None => false,
+    }
+}
+
+/// The least paper of the session for which the candidate has a live entry.
+fn least_live_paper(facts: &Facts, session: &SessionCode, number: Number) -> Option<PaperCode>
+    ensures { result ≡ spec.least_live_paper (relations_of facts.now) session.now number }
+{
+    for (key, row) in entries_from(facts, number) {
+        if key.0 != number {
+            break;
+        }
+        if row.live && is_paper_of(facts, session, &key.1) {
+            return Some(key.1);
+        }
+    }
+    None
+}
+
+/// Whether the candidate has a live entry for a paper of the session.
+pub fn is_member(facts: &Facts, session: &SessionCode, number: Number) -> bool
+    ensures { result ≡ spec.is_member (relations_of facts.now) session.now number }
+{
+    least_live_paper(facts, session, number).is_some()
+}
+
+/// The numbers of the members, rising. Refused where there is no such session, or not enough memory.
+pub fn members(alloc: Global, facts: &Facts, session: &SessionCode) -> Result<Vec<Number>, Refusal>
+    ensures ok { IfOk result (λ numbers. numbers.items ≡ spec.members (relations_of facts.now) session.now) }
+    ensures rising { OnOk result (IsStrictlySortedBy nat_cmp (spec.members (relations_of facts.now) session.now)) }
+    ensures known { OnOk result (IsTrue (has_row code_cmp facts.now.sessions.entries session.now)) }
+    ensures refusal { IfErr result (spec.IsSessionRefusal (relations_of facts.now) session.now) }
+{
+    if !facts.sessions.contains_key(session) {
+        return Err(Refusal::UnknownSession);
+    }
+    let numbers = facts
+        .candidates
+        .keys()
+        .copied()
+        .filter(|number| is_member(facts, session, *number))
+        .collect(alloc)?;
+    Ok(numbers)
+}
+
+/// The paper that the member sits, or none for one who is no member: the paper of the granted clash appeal where it is
+/// live and of this session, otherwise the least live one.
+pub fn sitting(facts: &Facts, session: &SessionCode, number: Number) -> Option<PaperCode>
+    ensures { result ≡ spec.sitting (relations_of facts.now) session.now number }
+{
+    if let Some(paper) = granted_paper(facts, session, number) {
+        if is_live_paper(facts, session, number, &paper) {
+            return Some(paper);
+        }
+    }
+    least_live_paper(facts, session, number)
+}
+
+/// The arrangement in force: the granted one, otherwise the imported one, otherwise no needs and no extra time.
+pub fn arrangement_in_force(facts: &Facts, session: &SessionCode, number: Number) -> Arrangement
+    ensures { result ≡ spec.arrangement_in_force (relations_of facts.now) session.now number }
+{
+    if let Some(arrangement) = granted_arrangement(facts, session, number) {
+        return arrangement;
+    }
+    match facts.arrangements.get(&number) {
+        Some(arrangement) => *arrangement,
+        None => Arrangement {
+            needs: no_features(),
+            extra: no_extra(),
+        },
+    }
+}
+
+/// The empty set of features.
+pub fn no_features() -> Features
+    ensures { result ≡ spec.no_features }
+{
+    Features {
+        step_free: false,
+        screen: false,
+        reader: false,
+        small_room: false,
+        computer: false,
+    }
+}
+
+/// No extra time.
+fn no_extra() -> Extra
+    ensures { result ≡ 0 }
+{
+    Extra::new(0).unwrap()
+}
+
+/// The members with their live papers that they do not sit, by number and code. Refused where there is no such session,
+/// or not enough memory.
+pub fn clashes(
+    alloc: Global,
+    facts: &Facts,
+    session: &SessionCode,
+) -> Result<Vec<(Number, PaperCode)>, Refusal>
+    ensures ok { IfOk result (λ list. list.items ≡ spec.clashes (relations_of facts.now) session.now) }
+    ensures known { OnOk result (IsTrue (has_row code_cmp facts.now.sessions.entries session.now)) }
+    ensures refusal { IfErr result (spec.IsSessionRefusal (relations_of facts.now) session.now) }
+{
+    let numbers = members(alloc, facts, session)?;
+    let mut list = Vec::new(alloc);
+    for number in &numbers {
+        push_clashes(&mut list, facts, session, *number)?;
+    }
+    Ok(list)
+}
+
+/// Appends the candidate's live papers that they do not sit.
+fn push_clashes(
+    list: &mut Vec<(Number, PaperCode)>,
+    facts: &Facts,
+    session: &SessionCode,
+    number: Number,
+) -> Result<(), Refusal>
+    ensures ok { OnOk result (list.new.items ≡ list.old.items ++ spec.clashes_of (relations_of facts.now) session.now number) }
+    ensures memory { IfErr result (λ e. e ≡ NoMemory) }
+{
+    let sat = sitting(facts, session, number);
+    for (key, entry) in entries_from(facts, number) {
+        if key.0 != number {
+            break;
+        }
+        if entry.live && is_paper_of(facts, session, &key.1) && is_clash(&sat, &key.1) {
+            list.push((number, key.1))?;
+        }
+    }
+    Ok(())
+}
+
+/// Whether a live paper is another than the one that is sat.
+fn is_clash(sat: &Option<PaperCode>, paper: &PaperCode) -> bool
+    ensures { result ≡ spec.is_clash sat.now paper.now }
+{
+    match sat {
+        Some(other) => *other != *paper,
+        None => true,
+    }
+}

@@ -1,0 +1,133 @@
+//! Writing what has changed.
+ghost use Rattle.std.specs.Prelude.{◌≡◌, IsTrue, IfErr};
+ghost use Rattle.exam_types.specs.declared.refusal.Refusal.TheVariants.{NoMemory};
+ghost use Rattle.exam_store.specs.Faults.{is_store_refusal};
+
+use crate::differences::{Difference, difference_of};
+use crate::faults::refusal_of;
+use crate::rows::appeals::{cut_appeals, put_appeals};
+use crate::rows::arrangements::{cut_arrangements, put_arrangements};
+use crate::rows::candidates::{cut_candidates, put_candidates};
+use crate::rows::entries::{cut_entries, put_entries};
+use crate::rows::halls::{cut_halls, put_halls};
+use crate::rows::openings::{cut_openings, put_openings};
+use crate::rows::papers::{cut_papers, put_papers};
+use crate::rows::seats::{cut_seats, put_seats};
+use crate::rows::sessions::{cut_sessions, put_sessions};
+use crate::schema::create_tables;
+use exam_office::Office;
+use exam_rules::{Appeal, Arrangement, Candidate, Entry, Hall, Opening, Paper, Session};
+use exam_types::{HallCode, Number, PaperCode, Reference, Refusal, SessionCode};
+use sqlite::{Alter, Connection, Transaction};
+use std::alloc::Global;
+
+/// What makes the tables of one office those of another.
+#[derive(Drop)]
+pub struct Changes<'a> {
+    pub sessions: Difference<'a, SessionCode, Session>,
+    pub papers: Difference<'a, PaperCode, Paper>,
+    pub halls: Difference<'a, HallCode, Hall>,
+    pub openings: Difference<'a, (SessionCode, HallCode), Opening>,
+    pub candidates: Difference<'a, Number, Candidate>,
+    pub entries: Difference<'a, (Number, PaperCode), Entry>,
+    pub arrangements: Difference<'a, Number, Arrangement>,
+    pub appeals: Difference<'a, (Number, Reference), Appeal>,
+    pub seats: Difference<'a, (SessionCode, Number), HallCode>,
+}
+
+/// What makes the tables of the old office those of the new one.
+pub fn changes_of<'a>(
+    alloc: Global,
+    old: &'a Office,
+    new: &'a Office,
+) -> Result<Changes<'a>, Refusal>
+    ensures { IfErr result (λ e. e ≡ NoMemory) }
+{
+    let before = old.facts();
+    let after = new.facts();
+    Ok(Changes {
+        sessions: difference_of(alloc, &before.sessions, &after.sessions)?,
+        papers: difference_of(alloc, &before.papers, &after.papers)?,
+        halls: difference_of(alloc, &before.halls, &after.halls)?,
+        openings: difference_of(alloc, &before.openings, &after.openings)?,
+        candidates: difference_of(alloc, &before.candidates, &after.candidates)?,
+        entries: difference_of(alloc, &before.entries, &after.entries)?,
+        arrangements: difference_of(alloc, &before.arrangements, &after.arrangements)?,
+        appeals: difference_of(alloc, &before.appeals, &after.appeals)?,
+        seats: difference_of(alloc, old.seats(), new.seats())?,
+    })
+}
+
+/// Sets the rows that are new or have changed, parents first, so that what a row refers to is there.
+fn put_rows<S: Alter>(
+    alloc: Global,
+    tx: &mut Transaction<'_, S>,
+    changes: &Changes<'_>,
+) -> Result<(), Refusal>
+    ensures { IfErr result (λ e. IsTrue (is_store_refusal e)) }
+{
+    put_sessions(alloc, tx, changes.sessions.put.as_slice())?;
+    put_papers(tx, changes.papers.put.as_slice())?;
+    put_halls(tx, changes.halls.put.as_slice())?;
+    put_openings(tx, changes.openings.put.as_slice())?;
+    put_candidates(tx, changes.candidates.put.as_slice())?;
+    put_entries(tx, changes.entries.put.as_slice())?;
+    put_arrangements(tx, changes.arrangements.put.as_slice())?;
+    put_appeals(alloc, tx, changes.appeals.put.as_slice())?;
+    put_seats(tx, changes.seats.put.as_slice())
+}
+
+/// Takes away the rows that are gone, children first. Seats that have moved out of a hall are set by then.
+fn cut_rows<S: Alter>(tx: &mut Transaction<'_, S>, changes: &Changes<'_>) -> Result<(), Refusal>
+    ensures { IfErr result (λ e. IsTrue (is_store_refusal e)) }
+{
+    cut_seats(tx, changes.seats.cut.as_slice())?;
+    cut_appeals(tx, changes.appeals.cut.as_slice())?;
+    cut_arrangements(tx, changes.arrangements.cut.as_slice())?;
+    cut_entries(tx, changes.entries.cut.as_slice())?;
+    cut_candidates(tx, changes.candidates.cut.as_slice())?;
+    cut_openings(tx, changes.openings.cut.as_slice())?;
+    cut_halls(tx, changes.halls.cut.as_slice())?;
+    cut_papers(tx, changes.papers.cut.as_slice())?;
+    cut_sessions(tx, changes.sessions.cut.as_slice())
+}
+
+/// Makes the tables of the old office those of the new one, in one transaction or not at all.
+pub fn save<S: Alter>(
+    alloc: Global,
+    conn: &mut Connection<S>,
+    old: &Office,
+    new: &Office,
+) -> Result<(), Refusal>
+    ensures { IfErr result (λ e. IsTrue (is_store_refusal e)) }
+{
+    let changes = changes_of(alloc, old, new)?;
+    if !conn.is_autocommit() {
+        return Err(Refusal::Store);
+    }
+    let mut tx = conn.transaction();
+    put_rows(alloc, &mut tx, &changes)?;
+    cut_rows(&mut tx, &changes)?;
+    commit(tx)
+}
+
+/// Makes the tables of an office with no facts, in one transaction or not at all.
+pub fn save_empty<S: Alter>(conn: &mut Connection<S>) -> Result<(), Refusal>
+    ensures { IfErr result (λ e. IsTrue (is_store_refusal e)) }
+{
+    if !conn.is_autocommit() {
+        return Err(Refusal::Store);
+    }
+    let mut tx = conn.transaction();
+    create_tables(&mut tx)?;
+    commit(tx)
+}
+
+fn commit<S: Alter>(tx: Transaction<'_, S>) -> Result<(), Refusal>
+    ensures { IfErr result (λ e. IsTrue (is_store_refusal e)) }
+{
+    match tx.commit() {
+        Ok(()) => Ok(()),
+        Err(error) => Err(refusal_of(error)),
+    }
+}

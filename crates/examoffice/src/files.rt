@@ -1,0 +1,46 @@
+//! The database at a path.
+use exam_store::Store;
+use exam_types::Refusal;
+use sqlite::{Connection, Error, ErrorCode, FileFrom, FileStore, Unknown};
+use std::alloc::Global;
+
+/// What holds the tables of a file.
+pub type OfficeFile = FileStore<FileFrom<Unknown>>;
+
+/// Opens the office at the path, or makes an empty one where nothing is.
+pub fn create_office(rt: &HostRuntime, path: &str) -> Result<Store<OfficeFile>, Refusal> {
+    let conn = open_database(rt, path)?;
+    Store::create(rt.alloc(), conn).map_err(|(refusal, conn)| close_after(refusal, conn))
+}
+
+/// Opens the office at the path.
+pub fn open_office(rt: &HostRuntime, path: &str) -> Result<Store<OfficeFile>, Refusal> {
+    let conn = open_database(rt, path)?;
+    Store::open(rt.alloc(), conn).map_err(|(refusal, conn)| close_after(refusal, conn))
+}
+
+/// Closes the office. What was answered stands already, so a failure here takes nothing back.
+pub fn close_office(store: Store<OfficeFile>) {
+    let _ = store.close().close();
+}
+
+fn open_database(rt: &HostRuntime, path: &str) -> Result<Connection<OfficeFile>, Refusal> {
+    match Connection::open_from(rt, path, false, Unknown) {
+        Ok(conn) => Ok(conn),
+        Err((error, _)) => Err(open_refusal(&error)),
+    }
+}
+
+/// A file that is no database holds no office.
+fn open_refusal(error: &Error) -> Refusal {
+    match error {
+        Error::SqliteFailure(ErrorCode::OutOfMemory) => Refusal::NoMemory,
+        Error::SqliteFailure(ErrorCode::NotADatabase) => Refusal::BadStore,
+        _ => Refusal::Store,
+    }
+}
+
+fn close_after(refusal: Refusal, conn: Connection<OfficeFile>) -> Refusal {
+    let _ = conn.close();
+    refusal
+}

@@ -1,0 +1,65 @@
+//! The commands of the program, over any store, reader and writers.
+use crate::line::{Job, Line};
+use crate::report::{DONE, JobFault, flush, print, print_fault, reply_line};
+use exam_files::{door_list, read_import};
+use exam_office::Command;
+use exam_store::Store;
+use exam_types::Refusal;
+use sqlite::Alter;
+use std::alloc::Global;
+use std::io::{ErrorKind, Read, Write};
+
+/// One byte more than an import file may have.
+const READ_AT_MOST: u64 = 4_194_305;
+
+/// Carries out the line's command over the store, and gives the exit status. The reader is the import file; the writers
+/// are standard output and standard error.
+pub fn run_job<S: Alter, R: Read, O: Write, E: Write>(
+    alloc: Global,
+    line: &Line<'_>,
+    store: &mut Store<S>,
+    reader: &mut R,
+    out: &mut O,
+    err: &mut E,
+) -> u8 {
+    match carry_out(alloc, line, store, reader, out) {
+        Ok(()) => DONE,
+        Err(fault) => print_fault(alloc, &fault, err),
+    }
+}
+
+fn carry_out<S: Alter, R: Read, O: Write>(
+    alloc: Global,
+    line: &Line<'_>,
+    store: &mut Store<S>,
+    reader: &mut R,
+    out: &mut O,
+) -> Result<(), JobFault> {
+    match line.job {
+        // Opening the store was all that there is to do.
+        Job::Init => print(out, "ready\n"),
+        Job::Import { kind, .. } => {
+            let bytes = read_file(alloc, reader)?;
+            let import = read_import(alloc, kind, bytes.as_slice())?;
+            let reply = store.apply(alloc, &Command::Import(import), line.today)?;
+            print(out, reply_line(&reply).as_str())
+        }
+        Job::DoorList { session, hall } => {
+            let view = store.load_session(alloc, &session)?;
+            door_list(alloc, &view, &hall, out)?;
+            flush(out)
+        }
+    }
+}
+
+/// The bytes of the import file, of which no more are read than show that it is too long.
+fn read_file<R: Read>(alloc: Global, reader: &mut R) -> Result<Vec<u8>, JobFault> {
+    let mut bytes = Vec::new(alloc);
+    match reader.take(READ_AT_MOST).read_to_end(&mut bytes) {
+        Ok(_) => Ok(bytes),
+        Err(error) if error.kind() == ErrorKind::OutOfMemory => {
+            Err(JobFault::Refused(Refusal::NoMemory))
+        }
+        Err(_) => Err(JobFault::File),
+    }
+}

@@ -1,0 +1,147 @@
+//! What a command line says.
+use clap::error::ErrorKind;
+use clap::{Arg, ArgAction, ArgMatches, Command};
+use exam_office::Kind;
+use exam_types::{Day, HallCode, SessionCode};
+use std::alloc::{AllocError, Global};
+
+/// A command of the program, with its values.
+#[derive(Clone, Copy)]
+pub enum Job<'a> {
+    Init,
+    /// Imports the file at the path.
+    Import {
+        kind: Kind,
+        file: &'a str,
+    },
+    DoorList {
+        session: SessionCode,
+        hall: HallCode,
+    },
+}
+
+/// A command line that was understood.
+#[derive(Clone, Copy)]
+pub struct Line<'a> {
+    /// The path of the database, taken as it is.
+    pub db: &'a str,
+    pub today: Day,
+    pub job: Job<'a>,
+}
+
+/// Why words are no line.
+#[derive(Drop)]
+pub enum LineFault {
+    /// Other words than the program takes, or a value that is none.
+    NotUnderstood,
+    /// A request for help, with its text.
+    Help(String),
+    NoMemory,
+}
+
+/// Reads the words of a command line, the program's name first.
+pub fn parse_line<'a>(alloc: Global, words: &'a [String]) -> Result<Line<'a>, LineFault> {
+    let Ok(command) = office_command(alloc) else {
+        return Err(LineFault::NoMemory);
+    };
+    match command.try_get_matches_from(words) {
+        Ok(matches) => match read_line(&matches) {
+            Some(line) => Ok(line),
+            None => Err(LineFault::NotUnderstood),
+        },
+        Err(error) => Err(fault_from(alloc, error)),
+    }
+}
+
+fn fault_from(alloc: Global, error: clap::Error) -> LineFault {
+    match error.kind() {
+        ErrorKind::OutOfMemory => LineFault::NoMemory,
+        ErrorKind::DisplayHelp => match error.to_string(alloc) {
+            Ok(text) => LineFault::Help(text),
+            Err(_) => LineFault::NoMemory,
+        },
+        _ => LineFault::NotUnderstood,
+    }
+}
+
+fn read_line<'a>(matches: &ArgMatches<'a>) -> Option<Line<'a>> {
+    let db = matches.get_str("db")?;
+    let today = Day::parse(matches.get_str("today")?.as_bytes())?;
+    let (name, words) = matches.subcommand()?;
+    match read_job(name, words) {
+        Some(job) => Some(Line { db, today, job }),
+        None => None,
+    }
+}
+
+fn read_job<'a>(name: &str, words: &ArgMatches<'a>) -> Option<Job<'a>> {
+    match name {
+        "init" => Some(Job::Init),
+        "import" => {
+            let kind = kind_of(words.get_str("kind")?)?;
+            let file = words.get_str("file")?;
+            Some(Job::Import { kind, file })
+        }
+        "door-list" => {
+            let session = SessionCode::parse(words.get_str("session")?.as_bytes())?;
+            let hall = HallCode::parse(words.get_str("hall")?.as_bytes())?;
+            Some(Job::DoorList { session, hall })
+        }
+        _ => None,
+    }
+}
+
+/// The kind of imports that the word names.
+fn kind_of(word: &str) -> Option<Kind> {
+    match word {
+        "sessions" => Some(Kind::Sessions),
+        "papers" => Some(Kind::Papers),
+        "halls" => Some(Kind::Halls),
+        "openings" => Some(Kind::Openings),
+        "candidates" => Some(Kind::Candidates),
+        "entries" => Some(Kind::Entries),
+        "arrangements" => Some(Kind::Arrangements),
+        _ => None,
+    }
+}
+
+/// What the program takes.
+fn office_command<'a>(alloc: Global) -> Result<Command<'a>, AllocError> {
+    let command = top_command(alloc)?;
+    let command = with_job(alloc, command, "init", &[])?;
+    let command = with_job(alloc, command, "import", &["kind", "file"])?;
+    with_job(alloc, command, "door-list", &["session", "hall"])
+}
+
+/// The options, which stand before the command.
+fn top_command<'a>(alloc: Global) -> Result<Command<'a>, AllocError> {
+    Command::new(alloc, "examoffice")
+        .subcommand_required(true)
+        .arg(option(alloc, "db"))?
+        .arg(option(alloc, "today"))
+}
+
+/// The command with one more job, which takes these words.
+fn with_job<'a>(
+    alloc: Global,
+    command: Command<'a>,
+    name: &'a str,
+    words: &[&'a str],
+) -> Result<Command<'a>, AllocError> {
+    let mut job = Command::new(alloc, name);
+    for each in words {
+        job = job.arg(word(alloc, each))?;
+    }
+    command.subcommand(job)
+}
+
+fn option<'a>(alloc: Global, name: &'a str) -> Arg<'a> {
+    Arg::new(alloc, name)
+        .long(name)
+        .required(true)
+        .action(ArgAction::Set)
+}
+
+fn word<'a>(alloc: Global, name: &'a str) -> Arg<'a> {
+    Arg::new(alloc, name).required(true).action(ArgAction::Set)
+}

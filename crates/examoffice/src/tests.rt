@@ -1,0 +1,315 @@
+//! The worked rows, through all layers over a database in memory.
+use crate::job::run_job;
+use crate::line::{LineFault, parse_line};
+use exam_store::Store;
+use sqlite::MemStore;
+use std::alloc::{AllocError, Global};
+use std::process::Abort;
+use std::test::Fail;
+
+/// What a command line of the program gives.
+#[derive(Drop)]
+struct Outcome {
+    status: u8,
+    out: Vec<u8>,
+    err: Vec<u8>,
+}
+
+fn words_of(alloc: Global, line: &str) -> Result<Vec<String>, AllocError> {
+    let mut words = Vec::new(alloc);
+    for word in ["examoffice", "--db", "f", "--today", "2027-05-01"] {
+        words.push(String::from_str(alloc, word)?)?;
+    }
+    for word in line.split(' ') {
+        words.push(String::from_str(alloc, word)?)?;
+    }
+    Ok(words)
+}
+
+/// Runs the program's command over the store, with the bytes as the import file.
+fn run(
+    alloc: Global,
+    store: &mut Store<MemStore>,
+    words: &str,
+    file: &str,
+) -> Result<Outcome, Fail> {
+    let words = words_of(alloc, words)?;
+    let mut outcome = Outcome {
+        status: 2,
+        out: Vec::new(alloc),
+        err: Vec::new(alloc),
+    };
+    let mut reader = file.as_bytes();
+    if let Ok(line) = parse_line(alloc, words.as_slice()) {
+        outcome.status = run_job(
+            alloc,
+            &line,
+            store,
+            &mut reader,
+            &mut outcome.out,
+            &mut outcome.err,
+        );
+    }
+    Ok(outcome)
+}
+
+/// The base office of the worked rows: one session and paper, and two halls with a desk each.
+fn base_office<R: Abort + AllocGlobal>(rt: &R) -> Result<Store<MemStore>, Fail> {
+    let alloc = rt.alloc();
+    let mut store = Store::in_memory(alloc)?;
+    for (words, file) in [
+        (
+            "import sessions f",
+            "session,date,start\nS1,2027-06-01,09:00\n",
+        ),
+        (
+            "import papers f",
+            "paper,title,session,minutes,requires\nMA-1,Maths,S1,60,-\n",
+        ),
+        (
+            "import halls f",
+            "hall,title,features\nA,Hall A,step-free\nB,Hall B,-\n",
+        ),
+        (
+            "import openings f",
+            "session,hall,desks,until,reserved\nS1,A,1,12:00,no\nS1,B,1,12:00,no\n",
+        ),
+        (
+            "import candidates f",
+            "number,name,code\n0000001,Bo Berg,CODE0001\n0000002,Ada Lin,CODE0002\n0000003,Cy Dahl,CODE0003\n0000004,Di Roe,CODE0004\n0000005,Ed Poe,CODE0005\n",
+        ),
+    ] {
+        let outcome = run(alloc, &mut store, words, file)?;
+        assert_eq!(rt; outcome.status, 0, "{words}");
+    }
+    Ok(store)
+}
+
+/// Runs a command that is done, and compares what it prints.
+fn expect_done<R: Abort + AllocGlobal>(
+    rt: &R,
+    store: &mut Store<MemStore>,
+    words: &str,
+    file: &str,
+    out: &str,
+) -> Result<(), Fail> {
+    let outcome = run(rt.alloc(), store, words, file)?;
+    assert_eq!(rt; outcome.out.as_slice(), out.as_bytes(), "{words}");
+    assert_eq!(rt; outcome.status, 0, "{words}");
+    assert!(rt; outcome.err.is_empty(), "{words}");
+    Ok(())
+}
+
+/// Runs a command that is refused, and compares what it prints.
+fn expect_refused<R: Abort + AllocGlobal>(
+    rt: &R,
+    store: &mut Store<MemStore>,
+    words: &str,
+    file: &str,
+    err: &str,
+) -> Result<(), Fail> {
+    let outcome = run(rt.alloc(), store, words, file)?;
+    assert_eq!(rt; outcome.err.as_slice(), err.as_bytes(), "{words}");
+    assert_eq!(rt; outcome.status, 1, "{words}");
+    assert!(rt; outcome.out.is_empty(), "{words}");
+    Ok(())
+}
+
+const ONE_ENTRY: &str = "number,paper\n0000001,MA-1\n";
+
+const SECOND_ENTRY: &str = "number,paper\n0000002,MA-1\n";
+
+const SECOND_NEEDS: &str = "number,needs,extra\n0000002,step-free,0\n";
+
+#[test]
+fn first_candidate_takes_the_least_hall(rt: HostRuntime) -> Result<(), Fail> {
+    let mut store = base_office(&rt)?;
+    expect_done(
+        &rt,
+        &mut store,
+        "import entries f",
+        ONE_ENTRY,
+        "added 1 changed 0 same 0\n",
+    )?;
+    let list =
+        "DOOR LIST session S1 hall A\ndate 2027-06-01 start 09:00 desks 1 seated 1\n   1 0000001 MA-1         Bo Berg\n";
+    expect_done(&rt, &mut store, "door-list S1 A", "", list)?;
+    let empty = "DOOR LIST session S1 hall B\ndate 2027-06-01 start 09:00 desks 1 seated 0\n";
+    expect_done(&rt, &mut store, "door-list S1 B", "", empty)
+}
+
+#[test]
+fn need_moves_another_by_a_chain(rt: HostRuntime) -> Result<(), Fail> {
+    let mut store = base_office(&rt)?;
+    expect_done(
+        &rt,
+        &mut store,
+        "import entries f",
+        ONE_ENTRY,
+        "added 1 changed 0 same 0\n",
+    )?;
+    expect_done(
+        &rt,
+        &mut store,
+        "import arrangements f",
+        SECOND_NEEDS,
+        "added 1 changed 0 same 0\n",
+    )?;
+    expect_done(
+        &rt,
+        &mut store,
+        "import entries f",
+        SECOND_ENTRY,
+        "added 1 changed 0 same 0\n",
+    )?;
+    let first =
+        "DOOR LIST session S1 hall A\ndate 2027-06-01 start 09:00 desks 1 seated 1\n   1 0000002 MA-1         Ada Lin\n";
+    expect_done(&rt, &mut store, "door-list S1 A", "", first)?;
+    let second =
+        "DOOR LIST session S1 hall B\ndate 2027-06-01 start 09:00 desks 1 seated 1\n   1 0000001 MA-1         Bo Berg\n";
+    expect_done(&rt, &mut store, "door-list S1 B", "", second)
+}
+
+#[test]
+fn fewer_desks_put_the_greater_number_out(rt: HostRuntime) -> Result<(), Fail> {
+    let mut store = base_office(&rt)?;
+    let wide = "session,hall,desks,until,reserved\nS1,A,2,12:00,no\nS1,B,1,08:00,no\n";
+    expect_done(
+        &rt,
+        &mut store,
+        "import openings f",
+        wide,
+        "added 0 changed 2 same 0\n",
+    )?;
+    let entries = "number,paper\n0000004,MA-1\n0000001,MA-1\n";
+    expect_done(
+        &rt,
+        &mut store,
+        "import entries f",
+        entries,
+        "added 2 changed 0 same 0\n",
+    )?;
+    let both =
+        "DOOR LIST session S1 hall A\ndate 2027-06-01 start 09:00 desks 2 seated 2\n   1 0000001 MA-1         Bo Berg\n   2 0000004 MA-1         Di Roe\n";
+    expect_done(&rt, &mut store, "door-list S1 A", "", both)?;
+    let narrow = "session,hall,desks,until,reserved\nS1,A,1,12:00,no\n";
+    expect_done(
+        &rt,
+        &mut store,
+        "import openings f",
+        narrow,
+        "added 0 changed 1 same 0\n",
+    )?;
+    let one =
+        "DOOR LIST session S1 hall A\ndate 2027-06-01 start 09:00 desks 1 seated 1\n   1 0000001 MA-1         Bo Berg\n";
+    expect_done(&rt, &mut store, "door-list S1 A", "", one)
+}
+
+#[test]
+fn refused_imports_keep_no_row(rt: HostRuntime) -> Result<(), Fail> {
+    let mut store = base_office(&rt)?;
+    let bad =
+        "number,name,code\n0000006,Flo Ray,CODE0006\n0000007,Gil Moe,CODE0007\n000003,Cy Dahl,CODE0003\n";
+    expect_refused(
+        &rt,
+        &mut store,
+        "import candidates f",
+        bad,
+        "refused 1 record 3 column 1\n",
+    )?;
+    expect_refused(&rt, &mut store, "import candidates f", "", "refused 2\n")?;
+    let header = "number,name,code\n";
+    expect_done(
+        &rt,
+        &mut store,
+        "import candidates f",
+        header,
+        "added 0 changed 0 same 0\n",
+    )?;
+    let six = "number,name,code\n0000006,Flo Ray,CODE0006\n";
+    expect_done(
+        &rt,
+        &mut store,
+        "import candidates f",
+        six,
+        "added 1 changed 0 same 0\n",
+    )?;
+    expect_done(
+        &rt,
+        &mut store,
+        "import candidates f",
+        six,
+        "added 0 changed 0 same 1\n",
+    )?;
+    let unknown = "number,paper\n0000001,MA-9\n";
+    expect_refused(&rt, &mut store, "import entries f", unknown, "refused 5\n")?;
+    expect_refused(&rt, &mut store, "door-list S9 A", "", "refused 4\n")?;
+    expect_refused(&rt, &mut store, "door-list S1 C", "", "refused 7\n")
+}
+
+#[test]
+fn opening_129_is_too_many(rt: HostRuntime) -> Result<(), Fail> {
+    let alloc = rt.alloc();
+    let mut store = base_office(&rt)?;
+    let mut halls = String::from_str(alloc, "hall,title,features\n")?;
+    let mut openings = String::from_str(alloc, "session,hall,desks,until,reserved\n")?;
+    for n in 100..226 {
+        halls.push_str(format!(in alloc; "H{n},Hall {n},-\n")?.as_str())?;
+        openings.push_str(format!(in alloc; "S1,H{n},1,12:00,no\n")?.as_str())?;
+    }
+    expect_done(
+        &rt,
+        &mut store,
+        "import halls f",
+        halls.as_str(),
+        "added 126 changed 0 same 0\n",
+    )?;
+    expect_done(
+        &rt,
+        &mut store,
+        "import openings f",
+        openings.as_str(),
+        "added 126 changed 0 same 0\n",
+    )?;
+    let one_more = "hall,title,features\nZ,Hall Z,-\n";
+    expect_done(
+        &rt,
+        &mut store,
+        "import halls f",
+        one_more,
+        "added 1 changed 0 same 0\n",
+    )?;
+    let opening = "session,hall,desks,until,reserved\nS1,Z,1,12:00,no\n";
+    expect_refused(
+        &rt,
+        &mut store,
+        "import openings f",
+        opening,
+        "refused 20\n",
+    )
+}
+
+#[test]
+fn other_words_are_not_understood(rt: HostRuntime) -> Result<(), Fail> {
+    let alloc = rt.alloc();
+    for line in [
+        "door-list S1",
+        "door-list S1 A B",
+        "door-list s1 A",
+        "import rooms f",
+        "attendance S1 MA-1",
+        "",
+    ] {
+        let words = words_of(alloc, line)?;
+        assert!(rt;
+            matches!(
+                parse_line(alloc, words.as_slice()),
+                Err(LineFault::NotUnderstood)
+            ),
+            "{line}"
+        );
+    }
+    let help = words_of(alloc, "--help")?;
+    assert!(rt; matches!(parse_line(alloc, help.as_slice()), Err(LineFault::Help(_))));
+    Ok(())
+}
