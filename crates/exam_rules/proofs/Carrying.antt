@@ -1,5 +1,5 @@
 -- What is so by indices is so by names, for two seatings of which one renames the other.
-use Rattle.std.proofs.Common.{◌≡◌, ◌↔◌, ℕ, ◌+◌, ◌<◌, ◌≤◌, Bool, true, false, cond, IsTrue, List, [], ◌∷◌, length, map, filter, get_or, nat_eq, Contains, count_by, sum_by, Option, None, Some, IsSome, IfSome, is_some, is_none, eq-eqb, refl, sym, ap, subst, ◌∙◌, arith}
+use Rattle.std.proofs.Common.{◌≡◌, ℕ, ◌+◌, ◌<◌, ◌≤◌, Bool, true, false, cond, IsTrue, List, [], ◌∷◌, length, map, filter, get_or, nat_eq, Contains, count_by, sum_by, Option, None, Some, IsSome, IfSome, is_none, eq-eqb, refl, sym, ap, subst, ◌∙◌, arith}
 use Rattle.std.specs.declared.cmp.Ordering.{Ordering}
 use Rattle.std.specs.declared.cmp.Ordering.TheVariants.{Less}
 use Rattle.std.specs.List.{AllByRecursion}
@@ -9,7 +9,7 @@ use Rattle.std.specs.Option.{option_map, option_and_then}
 use Rattle.std.proofs.lemmas.List.{get_or-map, get_or_default, length-map}
 use Rattle.std.proofs.lemmas.List.Elements.{All-contains_itself, All-contains, All-map, recursion_from_All}
 use Rattle.exam_plan.specs.Matching.{Seating, Plan, IsLawful, IsBest, IsContested, IsCertificate, is_hall, occupants, unseated, desk_number, size}
-use Rattle.exam_plan.proofs.Renaming.{Renames, named_plan, IsLawful-named, IsBest-named, size-named, size-indexed, IsLawful-indexed}
+use Rattle.exam_plan.proofs.Renaming.{Renames, IsLawful-named, IsBest-named, size-named, size-indexed, IsLawful-indexed}
 
 all_of : {X : Type 0} (P Q : X → Type 0) → ((x : X) → P x → Q x) → (xs : List X) → AllByRecursion P xs → AllByRecursion Q xs
 all_of P Q f [] h = tt

@@ -1,6 +1,10 @@
 pub mod Carrying
+pub mod ChainNames
+pub mod Following
+pub mod KeptNames
 pub mod Naming
 pub mod Places
 pub mod Ranking
+pub mod SweepNames
 pub mod Together
 pub mod Turns

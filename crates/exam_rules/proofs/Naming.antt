@@ -1,5 +1,5 @@
 -- The problem by indices is the seating by numbers and codes.
-use Rattle.std.proofs.Common.{◌≡◌, ◌↔◌, ℕ, zero, suc, ◌+◌, ◌<◌, ◌≤◌, Bool, true, false, cond, not, ◌&&◌, ◌||◌, IsTrue, List, [], ◌∷◌, length, map, filter, get_or, nat_eq, Contains, Option, None, Some, IsSome, Result, Ok, Err, OnOk, refl, sym, ap, subst, ◌∙◌, inl, inr, arith}
+use Rattle.std.proofs.Common.{◌≡◌, ℕ, zero, suc, ◌+◌, ◌<◌, ◌≤◌, Bool, true, false, cond, not, ◌&&◌, ◌||◌, IsTrue, List, [], ◌∷◌, length, map, filter, get_or, nat_eq, Contains, Option, None, Some, IsSome, Result, Ok, Err, OnOk, refl, sym, ap, subst, ◌∙◌, inl, inr, arith}
 use Rattle.std.specs.declared.cmp.Ordering.{Ordering}
 use Rattle.std.specs.declared.cmp.Ordering.TheVariants.{Less, Equal, Greater}
 use Rattle.std.specs.Ordering.{nat_cmp, ordering_then, is_eq, MatchOrdering}
@@ -308,6 +308,14 @@ module _ (r : Relations) (s : Code) where
 
   pub numbers_rise : ListsRise r s → (i j : ℕ) → Contains (range_with_len 0 (length rows)) i → Contains (range_with_len 0 (length rows)) j → nat_cmp i j ≡ Less → nat_cmp (number_at r s i) (number_at r s j) ≡ Less
   numbers_rise up i j mi mj e = Less-from_sorted nat_cmp (members r s) i j 0 up.numbers (number_below i j e) (below_member j mj)
+
+  -- an open hall has the index of its place
+  pub hall_known : ListsRise r s → (j : ℕ) → j < length (open_halls r s) → hall_index r s (hall_at r s j) ≡ Some j
+  hall_known up j below = place_known same_code same_code_exact same_code_itself code_cmp nat_list_cmp_total 0 (open_halls r s) [] j j up.codes below (omega arith)
+
+  -- a hall fits a member alone
+  pub fit_member : (i j : ℕ) → list_any (nat_eq j) (get_or rows i []) ≡ true → Contains (range_with_len 0 (length rows)) i
+  fit_member i j e = member_below i (row_bound i j e).0
 
   -- a hall that has the index of its place is an open one
   open_index : (j : ℕ) → hall_index r s (hall_at r s j) ≡ Some j → j < length (open_halls r s)

@@ -1,5 +1,5 @@
 -- One turn of a loop that appends.
-use Rattle.std.proofs.Common.{◌≡◌, ℕ, ◌+◌, ◌<◌, Bool, true, false, cond, not, ◌&&◌, List, [], ◌∷◌, ◌++◌, length, map, filter, get_or, drop, drop-cons, append_assoc, add-one, nat_eq, Option, refl, sym, ap, ◌∙◌, arith}
+use Rattle.std.proofs.Common.{◌≡◌, ℕ, ◌+◌, ◌<◌, true, List, [], ◌∷◌, ◌++◌, length, map, filter, get_or, drop, drop-cons, append_assoc, add-one, nat_eq, Option, sym, ap, ◌∙◌}
 use Rattle.std.specs.List.{flat_map}
 use Rattle.exam_rules.specs.declared.rows.Entry.{Entry}
 use Rattle.exam_rules.specs.Relations.{Code, Relations, is_row_of, leading}

@@ -1,9 +1,10 @@
 -- Candidates and halls as indices: the i-th member is candidate i, and the j-th open hall is hall j.
-use Rattle.std.specs.Prelude.{ℕ, ◌+◌, Bool, nat_eq, List, [], ◌∷◌, Option, None, Some, slice_index, slice_index_or, if◌then◌else◌}
+use Rattle.std.specs.Prelude.{ℕ, ◌+◌, ◌<◌, Bool, nat_eq, List, [], ◌∷◌, length, map, Option, None, Some, IfSome, slice_index, slice_index_or, if◌then◌else◌}
 use Rattle.std.specs.List.Sorted.{IsStrictlySortedBy}
 use Rattle.std.specs.Option.{option_map, option_and_then}
 use Rattle.std.specs.Ordering.{nat_cmp}
 use Rattle.exam_plan.specs.Matching.{Plan}
+use Rattle.exam_plan.specs.Chains.{Chain}
 use Rattle.exam_rules.specs.Relations.{Code, Relations, code_cmp, same_code}
 use Rattle.exam_rules.specs.Sessions.{members}
 use Rattle.exam_rules.specs.Seatings.{open_halls}
@@ -32,6 +33,14 @@ named_plan r s p c = option_and_then (λ i. option_map (hall_at r s) (p i)) (ind
 -- a plan by numbers and codes, read by indices: where the i-th member sits, and nobody under another index
 abbrev pub indexed_plan : Relations → Code → Plan ℕ Code → Plan ℕ ℕ
 indexed_plan r s q i = option_and_then (λ k. if nat_eq k i then option_and_then (hall_index r s) (q (number_at r s i)) else None) (index_of r s (number_at r s i))
+
+-- a chain by indices, read by numbers and codes
+abbrev pub named_chain : Relations → Code → Chain ℕ ℕ → Chain ℕ Code
+named_chain r s chain = record { hops = map (λ (hop : ℕ × ℕ). (hall_at r s hop.0, number_at r s hop.1)) chain.hops; last = hall_at r s chain.last }
+
+-- the plan by indices seats in halls that are there
+abbrev pub SeatsInOpenHalls : Relations → Code → Plan ℕ ℕ → Type 0
+SeatsInOpenHalls r s p = (i : ℕ) → IfSome (p i) (λ j. j < length (open_halls r s))
 
 -- Numbers and codes rise. It holds of the facts, whose tables are in order.
 pub record ListsRise (r : Relations) (s : Code) : Type 0 where

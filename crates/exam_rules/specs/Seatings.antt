@@ -1,5 +1,5 @@
 -- Which halls fit a member, and the seating problem of a session.
-use Rattle.std.specs.Prelude.{◌≡◌, ◌⊎◌, ◌<◌, length, ℕ, ◌+◌, ◌&&◌, ◌||◌, nat_le, nat_lt, nat_eq, not, Bool, true, false, List, [], ◌∷◌, map, filter, count_by, Option, None, Some, if◌then◌else◌}
+use Rattle.std.specs.Prelude.{◌≡◌, ◌⊎◌, ◌<◌, length, ℕ, ◌+◌, ◌&&◌, ◌||◌, nat_le, nat_lt, nat_eq, not, Bool, false, List, [], ◌∷◌, map, filter, count_by, Option, None, Some, if◌then◌else◌}
 use Rattle.std.specs.List.{list_any}
 use Rattle.std.specs.Option.{option_map, option_and_then, option_map_or, option_cmp}
 use Rattle.std.specs.declared.cmp.Ordering.{Ordering}

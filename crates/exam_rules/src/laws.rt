@@ -1,10 +1,13 @@
 //! What is so by indices is so by numbers and codes, where numbers and codes rise.
-ghost use Rattle.std.specs.Prelude.{◌≡◌, ◌↔◌, ℕ, List, Some, map};
-ghost use Rattle.exam_plan.specs.Matching.{Plan, IsLawful, IsBest, IsCertificate, IsContested, desk_number, size, unseated};
+ghost use Rattle.std.specs.Prelude.{◌≡◌, ◌↔◌, ℕ, List, Option, Some, map};
+ghost use Rattle.std.specs.Option.{option_and_then};
+ghost use Rattle.exam_plan.specs.Matching.{Plan, SamePlan, IsLawful, IsBest, IsCertificate, IsContested, desk_number, size, unseated};
+ghost use Rattle.exam_plan.specs.Chains.{Chain, IsChain, IsLeastChain, augmented};
+ghost use Rattle.exam_plan.specs.Repair.{kept_part, IsSweep, IsRepair};
 ghost use Rattle.exam_plan.specs.Problems.{seating_of, ranks_before};
 ghost use Rattle.exam_rules.specs.Relations.{Code, Relations};
 ghost use Rattle.exam_rules.specs.Seatings.{seating, problem_of, stands_before};
-ghost use Rattle.exam_rules.specs.Names.{ListsRise, named_plan, indexed_plan, index_of, number_at, hall_at};
+ghost use Rattle.exam_rules.specs.Names.{ListsRise, SeatsInOpenHalls, named_plan, indexed_plan, named_chain, index_of, number_at, hall_at};
 
 /// A lawful plan of the problem is, read by numbers and codes, a lawful plan of the session that seats as many, a best
 /// one is a best one, and the unseated are the same.
@@ -36,4 +39,38 @@ pub fn certificates_carry_over()
 /// The desk number of a member is that of their index.
 pub fn desk_numbers_carry_over()
     ensures { (r : Relations) (s : Code) (p : Plan ℕ ℕ) (c i : ℕ) → ListsRise r s → IsLawful (seating_of (problem_of r s)) p → index_of r s c ≡ Some i → desk_number (seating r s) (stands_before r s) (named_plan r s p) c ≡ desk_number (seating_of (problem_of r s)) (ranks_before (problem_of r s)) p i }
+{}
+
+/// An augmenting chain of the problem is, by numbers and codes, one of the session, a least one is a least one, and the
+/// plans that they lead to are the same.
+pub fn chains_carry_over()
+    ensures chain { (r : Relations) (s : Code) (p : Plan ℕ ℕ) (i : ℕ) (chain : Chain ℕ ℕ) → ListsRise r s → SeatsInOpenHalls r s p → IsChain (seating_of (problem_of r s)) p i chain → IsChain (seating r s) (named_plan r s p) (number_at r s i) (named_chain r s chain) }
+    ensures least { (r : Relations) (s : Code) (p : Plan ℕ ℕ) (i : ℕ) (chain : Chain ℕ ℕ) → ListsRise r s → SeatsInOpenHalls r s p → IsLeastChain (seating_of (problem_of r s)) p i chain → IsLeastChain (seating r s) (named_plan r s p) (number_at r s i) (named_chain r s chain) }
+    ensures after { (r : Relations) (s : Code) (p : Plan ℕ ℕ) (i : ℕ) (chain : Chain ℕ ℕ) → ListsRise r s → IsChain (seating_of (problem_of r s)) p i chain
+        → SamePlan (named_plan r s (augmented (seating_of (problem_of r s)) p i chain.hops chain.last)) (augmented (seating r s) (named_plan r s p) (number_at r s i) (named_chain r s chain).hops (hall_at r s chain.last)) }
+{}
+
+/// An augmenting chain of the session from a member is one of the problem, by indices, and a least one is a least one.
+pub fn chains_come_back()
+    ensures chain { (r : Relations) (s : Code) (p : Plan ℕ ℕ) (c i : ℕ) (chain : Chain ℕ Code) → ListsRise r s → SeatsInOpenHalls r s p → index_of r s c ≡ Some i → IsChain (seating r s) (named_plan r s p) c chain
+        → (indices : Chain ℕ ℕ) × (named_chain r s indices ≡ chain) × IsChain (seating_of (problem_of r s)) p i indices }
+    ensures least { (r : Relations) (s : Code) (p : Plan ℕ ℕ) (c i : ℕ) (chain : Chain ℕ Code) → ListsRise r s → SeatsInOpenHalls r s p → index_of r s c ≡ Some i → IsLeastChain (seating r s) (named_plan r s p) c chain
+        → (indices : Chain ℕ ℕ) × (named_chain r s indices ≡ chain) × IsLeastChain (seating_of (problem_of r s)) p i indices }
+{}
+
+/// What stays of any plan of the session, also of one from before the facts changed, is what stays of it by indices.
+pub fn kept_parts_carry_over()
+    ensures named { (r : Relations) (s : Code) (q : Plan ℕ Code) → ListsRise r s → SamePlan (kept_part (seating r s) q) (named_plan r s (kept_part (seating_of (problem_of r s)) (indexed_plan r s q))) }
+    ensures indexed { (r : Relations) (s : Code) (q : Plan ℕ Code) → ListsRise r s → SamePlan (indexed_plan r s (kept_part (seating r s) q)) (kept_part (seating_of (problem_of r s)) (indexed_plan r s q)) }
+{}
+
+/// A sweep of the problem is, by numbers and codes, a sweep of the session. Its first is the index of the session's first,
+/// or nobody where that is no member.
+pub fn sweeps_carry_over()
+    ensures { (r : Relations) (s : Code) (first : Option ℕ) (p after : Plan ℕ ℕ) → ListsRise r s → SeatsInOpenHalls r s p → IsSweep (seating_of (problem_of r s)) (option_and_then (index_of r s) first) p after → IsSweep (seating r s) first (named_plan r s p) (named_plan r s after) }
+{}
+
+/// The repair, by indices, of any plan of the session is its repair in the session.
+pub fn repairs_carry_over()
+    ensures { (r : Relations) (s : Code) (first : Option ℕ) (before : Plan ℕ Code) (after : Plan ℕ ℕ) → ListsRise r s → IsRepair (seating_of (problem_of r s)) (option_and_then (index_of r s) first) (indexed_plan r s before) after → IsRepair (seating r s) first before (named_plan r s after) }
 {}

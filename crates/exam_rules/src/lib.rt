@@ -14,8 +14,9 @@ mod tests;
 pub use facts::Facts;
 pub use fit::{finish, fits};
 pub use laws::{
-    certificates_carry_over, contested_carry_over, desk_numbers_carry_over, plans_carry_over,
-    plans_come_back,
+    certificates_carry_over, chains_carry_over, chains_come_back, contested_carry_over,
+    desk_numbers_carry_over, kept_parts_carry_over, plans_carry_over, plans_come_back,
+    repairs_carry_over, sweeps_carry_over,
 };
 pub use rows::{
     Appeal, Arrangement, Candidate, Entry, Hall, Opening, Paper, Session, Status, Subject,

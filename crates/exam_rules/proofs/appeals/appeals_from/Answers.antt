@@ -1,4 +1,4 @@
-use Rattle.std.proofs.Common.{◌&&◌, ap, map, filter, ℕ, ◌∙◌}
+use Rattle.std.proofs.Common.{◌&&◌, ap, map, ℕ, ◌∙◌}
 use Rattle.exam_rules.specs.declared.rows.Appeal.{Appeal}
 use Rattle.exam_rules.specs.Relations.{Code, code_cmp, leading, is_row_of, same_code}
 use Rattle.exam_rules.specs.Sessions.{granted_subjects, is_granted}

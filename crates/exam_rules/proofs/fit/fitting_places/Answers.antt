@@ -1,4 +1,4 @@
-use Rattle.std.proofs.Common.{◌≡◌, ℕ, List, map, true, false, IfOk, Option, subst, ap, ◌∙◌, arith, rules}
+use Rattle.std.proofs.Common.{◌≡◌, ℕ, List, map, true, false, IfOk, Option, subst, ap, ◌∙◌, arith}
 use Rattle.exam_rules.specs.declared.fit.Room.{Room}
 use Rattle.exam_rules.specs.Relations.{Code, relations_of}
 use Rattle.exam_rules.specs.Sessions.{is_member, barred_halls}

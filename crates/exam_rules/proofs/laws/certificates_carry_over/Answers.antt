@@ -1,7 +1,7 @@
-use Rattle.exam_plan.specs.Problems.{seating_of, ranks_before}
+use Rattle.exam_plan.specs.Problems.{seating_of}
 use Rattle.exam_rules.proofs.Naming.{renames, numbers_rise, codes_rise}
 use Rattle.exam_rules.proofs.Carrying.{IsCertificate-named}
-use Rattle.exam_rules.specs.Seatings.{seating, problem_of, stands_before}
+use Rattle.exam_rules.specs.Seatings.{seating, problem_of}
 use Rattle.exam_rules.specs.Names.{number_at, hall_at, index_of, hall_index}
 use Rattle.exam_rules.proofs.laws.certificates_carry_over.Goals as goal
 

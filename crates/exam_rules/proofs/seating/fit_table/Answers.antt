@@ -1,5 +1,4 @@
-use Rattle.std.proofs.Common.{◌≡◌, List, map, Option, IfOk, ap, sym, subst, ◌∙◌}
-use Rattle.exam_rules.specs.declared.fit.Room.{Room}
+use Rattle.std.proofs.Common.{◌≡◌, List, map, IfOk, ap, sym, subst, ◌∙◌}
 use Rattle.exam_rules.specs.Relations.{Code, relations_of}
 use Rattle.exam_rules.specs.Seatings.{with_rooms, fitting_places}
 use Rattle.exam_rules.proofs.Places.{rooms_named}

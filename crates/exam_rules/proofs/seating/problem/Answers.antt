@@ -2,7 +2,7 @@ use Rattle.std.proofs.Common.{◌≡◌, ◌≤◌, length, map, IfOk, ap, sym, 
 use Rattle.exam_plan.specs.Problems.{Problem, IsProblem}
 use Rattle.exam_rules.specs.Relations.{relations_of}
 use Rattle.exam_rules.specs.Sessions.{members}
-use Rattle.exam_rules.specs.Seatings.{desks, open_halls, fitting_places, problem_of}
+use Rattle.exam_rules.specs.Seatings.{desks, open_halls, fitting_places}
 use Rattle.exam_rules.specs.Names.{ListsRise}
 use Rattle.exam_rules.proofs.Naming.{on_ok}
 use Rattle.exam_rules.proofs.Ranking.{is_problem, parts_are}

@@ -1,7 +1,6 @@
-use Rattle.std.proofs.Common.{◌≡◌, ℕ, List, map, length, IfOk, ap, sym, subst, ◌∙◌, arith}
+use Rattle.std.proofs.Common.{◌≡◌, ℕ, List, map, length, IfOk, ap, subst, ◌∙◌, arith}
 use Rattle.std.proofs.lemmas.List.{length-map}
-use Rattle.exam_rules.specs.Relations.{Code, relations_of}
-use Rattle.exam_rules.specs.Sessions.{members}
+use Rattle.exam_rules.specs.Relations.{relations_of}
 use Rattle.exam_rules.specs.Seatings.{desk_key, ranks_of}
 use Rattle.exam_rules.proofs.Ranking.{ranks_of_members}
 use Rattle.exam_rules.proofs.seating.rank_table.Goals as goal

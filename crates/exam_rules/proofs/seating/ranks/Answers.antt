@@ -1,4 +1,4 @@
-use Rattle.std.proofs.Common.{◌≡◌, ◌++◌, ◌∷◌, [], count_by, map, get_or, ap, sym, subst, ◌∙◌}
+use Rattle.std.proofs.Common.{◌++◌, ◌∷◌, [], count_by, ap, subst, ◌∙◌}
 use Rattle.std.specs.List.Sorted.{IsPermutation}
 use Rattle.std.specs.Ordering.{is_lt}
 use Rattle.exam_rules.specs.Seatings.{desk_cmp}

@@ -1,7 +1,7 @@
 use Rattle.exam_rules.specs.Relations.{relations_of}
 use Rattle.exam_rules.specs.Sessions.{clashes_of}
 use Rattle.exam_rules.proofs.Turns.{flat_step}
-use Rattle.std.proofs.Common.{◌≡◌, ◌++◌, get_or, rules}
+use Rattle.std.proofs.Common.{◌≡◌, ◌++◌, get_or}
 use Rattle.exam_rules.proofs.sessions.clashes.Goals as goal
 
 pub loop-number-preserved : goal.loop-number-preserved

@@ -1,4 +1,4 @@
-use Rattle.std.proofs.Common.{◌&&◌, ap, map, filter, ℕ, ◌∙◌}
+use Rattle.std.proofs.Common.{◌&&◌, ap, map, ℕ, ◌∙◌}
 use Rattle.exam_rules.specs.declared.rows.Entry.{Entry}
 use Rattle.exam_rules.specs.Relations.{Code, code_cmp, leading, is_row_of, relations_of}
 use Rattle.exam_rules.specs.Sessions.{live_papers_in, is_paper_of}

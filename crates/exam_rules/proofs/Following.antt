@@ -1,0 +1,46 @@
+-- Numbers and codes are ordered as their indices, so chains by indices can be read by numbers and codes.
+use Rattle.std.proofs.Common.{◌≡◌, ℕ, ◌<◌, Contains, length, Option, None, Some, IfSome, inl, inr, sym, ap, ◌∙◌, eq-eqb}
+use Rattle.std.specs.declared.cmp.Ordering.{Ordering}
+use Rattle.std.specs.declared.cmp.Ordering.TheVariants.{Less, Equal, Greater}
+use Rattle.std.specs.Ordering.{nat_cmp, ordering_reverse}
+use Rattle.std.specs.Cmp.{IsTotalOrder, nat_cmp_total, nat_cmp_is}
+use Rattle.std.specs.Cmp.Lexicographic.{nat_list_cmp_total}
+use Rattle.std.proofs.lemmas.Bool.{cases_order}
+use Rattle.std.proofs.lemmas.Cmp.{tied_itself}
+use Rattle.std.proofs.lemmas.Map.Views.{exact_unsigned_eq}
+use Rattle.exam_plan.specs.Problems.{seating_of}
+use Rattle.exam_plan.specs.Matching.{Plan}
+use Rattle.exam_rules.specs.Relations.{Code, Relations, code_cmp}
+use Rattle.exam_rules.specs.Seatings.{open_halls, seating, problem_of}
+use Rattle.exam_rules.specs.Names.{number_at, hall_at, index_of, hall_index, ListsRise, SeatsInOpenHalls}
+use Rattle.exam_rules.proofs.Naming.{renames, numbers_rise, codes_rise, fit_member, hall_known}
+use Rattle.exam_rules.proofs.ChainNames.{Follows, AreKnown}
+
+-- where names rise with their indices, they compare as the indices
+order_kept : {Y : Type 0} (S : Y → Y → Ordering) → IsTotalOrder S → (name : ℕ → Y) (P : ℕ → Type 0) → ((i j : ℕ) → P i → P j → nat_cmp i j ≡ Less → S (name i) (name j) ≡ Less)
+    → (i j : ℕ) → P i → P j → S (name i) (name j) ≡ nat_cmp i j
+order_kept S o name P rise i j p q = elim (cases_order i j) [
+  | inl e ↦ ap (λ k. S (name i) (name k)) (sym e) ∙ tied_itself o (name i) ∙ nat_cmp_is i j Equal e
+  | inr w ↦ elim w [
+    | inl l ↦ rise i j p q (sym (nat_cmp_is i j Less l)) ∙ nat_cmp_is i j Less l
+    | inr g ↦ o.antisymm (name i) (name j) ∙ ap ordering_reverse (rise j i q p (sym (nat_cmp_is j i Less g))) ∙ nat_cmp_is i j Greater g
+  ]
+]
+
+pub follows : (r : Relations) (s : Code) → ListsRise r s → Follows (seating_of (problem_of r s)) (seating r s) (number_at r s) (hall_at r s) (hall_index r s)
+follows r s up = record {
+  candidates = order_kept nat_cmp nat_cmp_total (number_at r s) (Contains (seating_of (problem_of r s)).members) (numbers_rise r s up);
+  halls = order_kept code_cmp nat_list_cmp_total (hall_at r s) (λ j. hall_index r s (hall_at r s j) ≡ Some j) (codes_rise r s up);
+  same_a = λ i j. (exact_unsigned_eq i j, eq-eqb i j);
+  same_b = λ c d. (exact_unsigned_eq c d, eq-eqb c d);
+  fit_members = fit_member r s;
+}
+
+-- a plan that seats in open halls alone seats in halls with names
+pub all_known : (r : Relations) (s : Code) (up : ListsRise r s) (p : Plan ℕ ℕ) → SeatsInOpenHalls r s p
+    → AreKnown (seating_of (problem_of r s)) (seating r s) (number_at r s) (hall_at r s) (index_of r s) (hall_index r s) (renames r s up) (follows r s up) p
+all_known r s up p within i = inner (p i) (within i)
+  where
+    inner : (o : Option ℕ) → IfSome o (λ j. j < length (open_halls r s)) → IfSome o (λ j. hall_index r s (hall_at r s j) ≡ Some j)
+    inner None w = tt
+    inner (Some j) w = hall_known r s up j w

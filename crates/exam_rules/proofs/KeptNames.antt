@@ -1,0 +1,203 @@
+-- What stays of a plan, and its repair, by indices are those by names, for two seatings of which one renames the other.
+use Rattle.std.proofs.Common.{◌≡◌, ℕ, Bool, true, false, cond, ◌&&◌, IsTrue, nat_eq, Contains, count_by, Option, None, Some, IsSome, IfSome, is_some, eq-eqb, refl, sym, ap, subst, ◌∙◌}
+use Rattle.std.specs.Prelude.{nat_lt}
+use Rattle.std.specs.Ordering.{is_lt}
+use Rattle.std.specs.Option.{option_map, option_and_then}
+use Rattle.std.proofs.lemmas.List.Folds.{list_any_at}
+use Rattle.std.proofs.lemmas.Map.Views.{Contains-from_any, exact_unsigned_eq}
+use Rattle.std.proofs.Math.Path.{fun_ext}
+use Rattle.exam_plan.specs.Matching.{Seating, Plan, SamePlan, is_hall}
+use Rattle.exam_plan.specs.Repair.{is_member, where_fitting, fitting_part, lesser_occupants, where_room, room_part, kept_part, IsSweep, IsRepair}
+use Rattle.exam_plan.proofs.Renaming.{Renames}
+use Rattle.exam_rules.proofs.Carrying.{named, indexed, at_index, named_member, member_index, of_elements, sum_same}
+use Rattle.exam_rules.proofs.ChainNames.{Follows, AreKnown, is_hall-known}
+use Rattle.exam_rules.proofs.SweepNames.{IsSweep-named}
+
+only_false : (t : Bool) → (t ≡ true → ⊥) → t ≡ false
+only_false true h = absurd (h refl)
+only_false false h = refl
+
+and_none : (m : Bool) → (m && false) ≡ false
+and_none true = refl
+and_none false = refl
+
+module _ {C H : Type 0} (a : Seating ℕ ℕ) (b : Seating C H) (nc : ℕ → C) (nh : ℕ → H) (ic : C → Option ℕ) (ih : H → Option ℕ) (r : Renames a b nc nh ic ih) (f : Follows a b nc nh ih) where
+  abbrev Known : Plan ℕ ℕ → Type 0
+  Known p = AreKnown a b nc nh ic ih r f p
+
+  abbrev by_name : Plan ℕ ℕ → Plan C H
+  by_name p = named a b nc nh ic ih r p
+
+  abbrev by_index : Plan C H → Plan ℕ ℕ
+  by_index q = indexed a b nc nh ic ih r q
+
+  -- ---- members
+
+  member_listed : {X Y : Type 0} (g : Seating X Y) → ((x y : X) → x ≡ y → g.same_candidate x y ≡ true) → (x : X) → Contains g.members x → is_member g x ≡ true
+  member_listed g itself x m = list_any_at (g.same_candidate x) g.members m.0 x m.1 (itself x _ (sym m.2))
+
+  outside : (c : C) → ic c ≡ None → is_member b c ≡ false
+  outside c at = only_false (is_member b c) (λ t.
+      let w = member_index a b nc nh ic ih r c (Contains-from_any (λ x y. (f.same_b x y).0) c b.members t) in
+      let e : None ≡ Some w.0 = sym at ∙ w.1 in cc)
+
+  -- ---- those whom their hall fits
+
+  -- where the hall of a member is read by indices
+  seat_index : (q : Plan C H) (c : C) (i : ℕ) → ic c ≡ Some i → by_index q i ≡ option_and_then ih (q c)
+  seat_index q c i at =
+      let is : nc i ≡ c = (r.named c i at).0 in
+      ap (option_and_then (at_index a b nc nh ic ih r q i)) (ap ic is ∙ at) ∙ ap (λ t. cond t (option_and_then ih (q (nc i))) None) (eq-eqb i i refl) ∙ ap (λ t. option_and_then ih (q t)) is
+
+  where_fitting-named : (c : C) (i : ℕ) → ic c ≡ Some i → (o : Option H) → where_fitting b c o ≡ option_map nh (where_fitting a i (option_and_then ih o))
+  where_fitting-named c i at None = refl
+  where_fitting-named c i at (Some h) = outer (ih h) refl
+    where
+      in_b : is_member b c ≡ true
+      in_b = member_listed b (λ x y. (f.same_b x y).1) c (r.named c i at).2
+
+      in_a : is_member a i ≡ true
+      in_a = member_listed a (λ x y. (f.same_a x y).1) i (r.named c i at).1
+
+      left : where_fitting b c (Some h) ≡ cond (b.fits c h) (Some h) None
+      left = ap (λ t. cond (t && b.fits c h) (Some h) None) in_b
+
+      inner : (j : ℕ) → nh j ≡ h → (t : Bool) → cond t (Some h) None ≡ option_map nh (cond t (Some j) None)
+      inner j is true = ap Some (sym is)
+      inner j is false = refl
+
+      outer : (o : Option ℕ) → ih h ≡ o → where_fitting b c (Some h) ≡ option_map nh (where_fitting a i (ih h))
+      outer None e =
+          left ∙ ap (λ t. cond t (Some h) None) (only_false (b.fits c h) (λ t. let z : IsSome (ih h) = r.known_fit c h t in let y : false ≡ true = sym (ap (λ u. is_some u) e) ∙ z in cc))
+          ∙ sym (ap (λ t. option_map nh (where_fitting a i t)) e)
+      outer (Some j) e =
+          left ∙ ap (λ t. cond t (Some h) None) (r.fits c h i j at e) ∙ inner j (r.halls h j e) (a.fits i j)
+          ∙ sym (ap (λ t. option_map nh (cond (t && a.fits i j) (Some j) None)) in_a)
+          ∙ sym (ap (λ t. option_map nh (where_fitting a i t)) e)
+
+  where_outside : (c : C) → ic c ≡ None → (o : Option H) → where_fitting b c o ≡ None
+  where_outside c at None = refl
+  where_outside c at (Some h) = ap (λ t. cond (t && b.fits c h) (Some h) None) (outside c at)
+
+  fitting_part-named : (q : Plan C H) → SamePlan (fitting_part b q) (by_name (fitting_part a (by_index q)))
+  fitting_part-named q c = outer (ic c) refl
+    where
+      outer : (o : Option ℕ) → ic c ≡ o → fitting_part b q c ≡ by_name (fitting_part a (by_index q)) c
+      outer None at = where_outside c at (q c) ∙ sym (ap (option_and_then (λ i. option_map nh (fitting_part a (by_index q) i))) at)
+      outer (Some i) at =
+          where_fitting-named c i at (q c) ∙ ap (λ t. option_map nh (where_fitting a i t)) (sym (seat_index q c i at))
+          ∙ sym (named_member a b nc nh ic ih r (fitting_part a (by_index q)) c i at)
+
+  -- who is left by that sits in a hall that fits
+  fitting_part-fits : (p : Plan ℕ ℕ) (i : ℕ) → IfSome (fitting_part a p i) (λ j. IsTrue (a.fits i j))
+  fitting_part-fits p i = outer (p i)
+    where
+      inner : (j : ℕ) (m t : Bool) → a.fits i j ≡ t → IfSome (cond (m && t) (Some j) None) (λ j. IsTrue (a.fits i j))
+      inner j true true e = e
+      inner j true false e = tt
+      inner j false t e = tt
+
+      outer : (o : Option ℕ) → IfSome (where_fitting a i o) (λ j. IsTrue (a.fits i j))
+      outer None = tt
+      outer (Some j) = inner j (is_member a i) (a.fits i j) refl
+
+  weaker : (P Q : ℕ → Type 0) → ((j : ℕ) → P j → Q j) → (o : Option ℕ) → IfSome o P → IfSome o Q
+  weaker P Q g None w = tt
+  weaker P Q g (Some j) w = g j w
+
+  fitting_part-known : (p : Plan ℕ ℕ) → Known (fitting_part a p)
+  fitting_part-known p i = weaker (λ j. IsTrue (a.fits i j)) (λ j. ih (nh j) ≡ Some j) (r.known_hall i) (fitting_part a p i) (fitting_part-fits p i)
+
+  -- ---- those for whom there is a desk
+
+  lesser-named : (p : Plan ℕ ℕ) → Known p → (i k : ℕ) → Contains a.members i → ih (nh k) ≡ Some k → lesser_occupants b (by_name p) (nc i) (nh k) ≡ lesser_occupants a p i k
+  lesser-named p known i k m at =
+      ap (count_by (λ d. is_lt (b.candidate_cmp d (nc i)) && is_hall b (nh k) (by_name p d))) r.members
+      ∙ sum_same (λ d. cond (is_lt (b.candidate_cmp d (nc i)) && is_hall b (nh k) (by_name p d)) 1 0) (λ d. cond (is_lt (a.candidate_cmp d i) && is_hall a k (p d)) 1 0) nc a.members
+      (of_elements _ a.members (λ d n. λ t. cond (is_lt (f.candidates d i n m t) && both d n t) 1 0))
+    where
+      both : (d : ℕ) → Contains a.members d → is_hall b (nh k) (by_name p (nc d)) ≡ is_hall a k (p d)
+      both d n = ap (is_hall b (nh k)) (named_member a b nc nh ic ih r p (nc d) d (r.known d n)) ∙ is_hall-known a b nc nh ic ih r f k (p d) at (known d)
+
+  where_room-named : (p : Plan ℕ ℕ) → Known p → (i : ℕ) → Contains a.members i → (o : Option ℕ) → IfSome o (λ j. ih (nh j) ≡ Some j) → where_room b (by_name p) (nc i) (option_map nh o) ≡ option_map nh (where_room a p i o)
+  where_room-named p known i m None at = refl
+  where_room-named p known i m (Some k) at =
+      (λ t. cond (nat_lt (lesser-named p known i k m at t) (r.desks (nh k) k at t)) (Some (nh k)) None) ∙ inner (nat_lt (lesser_occupants a p i k) (a.desks k))
+    where
+      inner : (t : Bool) → cond t (Some (nh k)) None ≡ option_map nh (cond t (Some k) None)
+      inner true = refl
+      inner false = refl
+
+  room_part-named : (p : Plan ℕ ℕ) → Known p → SamePlan (room_part b (by_name p)) (by_name (room_part a p))
+  room_part-named p known c = outer (ic c) refl
+    where
+      outer : (o : Option ℕ) → ic c ≡ o → room_part b (by_name p) c ≡ by_name (room_part a p) c
+      outer None at =
+          ap (where_room b (by_name p) c) (ap (option_and_then (λ i. option_map nh (p i))) at)
+          ∙ sym (ap (option_and_then (λ i. option_map nh (room_part a p i))) at)
+      outer (Some i) at =
+          ap (where_room b (by_name p) c) (named_member a b nc nh ic ih r p c i at)
+          ∙ ap (λ d. where_room b (by_name p) d (option_map nh (p i))) (sym (r.named c i at).0)
+          ∙ where_room-named p known i (r.named c i at).1 (p i) (known i)
+          ∙ sym (named_member a b nc nh ic ih r (room_part a p) c i at)
+
+  -- ---- what stays
+
+  pub kept_part-named : (q : Plan C H) → SamePlan (kept_part b q) (by_name (kept_part a (by_index q)))
+  kept_part-named q c =
+      ap (λ (p : Plan C H). room_part b p c) (fun_ext (fitting_part-named q))
+      ∙ room_part-named (fitting_part a (by_index q)) (fitting_part-known (by_index q)) c
+
+  room_part-keeps : (P : ℕ → ℕ → Type 0) (p : Plan ℕ ℕ) (i : ℕ) → IfSome (p i) (P i) → IfSome (room_part a p i) (P i)
+  room_part-keeps P p i = outer (p i)
+    where
+      inner : (j : ℕ) (t : Bool) → P i j → IfSome (cond t (Some j) None) (P i)
+      inner j true w = w
+      inner j false w = tt
+
+      outer : (o : Option ℕ) → IfSome o (P i) → IfSome (where_room a p i o) (P i)
+      outer None w = tt
+      outer (Some j) w = inner j (nat_lt (lesser_occupants a p i j) (a.desks j)) w
+
+  kept_part-fits : (p : Plan ℕ ℕ) (i : ℕ) → IfSome (kept_part a p i) (λ j. IsTrue (a.fits i j))
+  kept_part-fits p i = room_part-keeps (λ i j. IsTrue (a.fits i j)) (fitting_part a p) i (fitting_part-fits p i)
+
+  kept_part-known : (p : Plan ℕ ℕ) → Known (kept_part a p)
+  kept_part-known p i = weaker (λ j. IsTrue (a.fits i j)) (λ j. ih (nh j) ≡ Some j) (r.known_hall i) (kept_part a p i) (kept_part-fits p i)
+
+  -- a plan by indices that seats where it fits, named and read by indices again, is the same
+  index_of_name : (p : Plan ℕ ℕ) → ((i : ℕ) → IfSome (p i) (λ j. IsTrue (a.fits i j))) → SamePlan (by_index (by_name p)) p
+  index_of_name p fitting i = outer (ic (nc i)) refl
+    where
+      here : (o : Option ℕ) → IfSome o (λ j. IsTrue (a.fits i j)) → option_and_then ih (option_map nh o) ≡ o
+      here None fit = refl
+      here (Some j) fit = r.known_hall i j fit
+
+      nowhere : (o : Option ℕ) → IfSome o (λ j. IsTrue (a.fits i j)) → (Contains a.members i → ⊥) → o ≡ None
+      nowhere None fit out = refl
+      nowhere (Some j) fit out = absurd (out (f.fit_members i j fit))
+
+      inner : (k : ℕ) (t : Bool) → nat_eq k i ≡ t → ic (nc i) ≡ Some k → cond t (option_and_then ih (by_name p (nc i))) None ≡ p i
+      inner k true e at =
+          let at_i : ic (nc i) ≡ Some i = at ∙ ap Some (exact_unsigned_eq k i e) in
+          ap (option_and_then ih) (named_member a b nc nh ic ih r p (nc i) i at_i) ∙ here (p i) (fitting i)
+      inner k false e at = sym (nowhere (p i) (fitting i) (λ m.
+          let s : Some k ≡ Some i = sym at ∙ r.known i m in
+          let is : k ≡ i = cc in
+          let z : false ≡ true = sym e ∙ eq-eqb k i is in cc))
+
+      outer : (o : Option ℕ) → ic (nc i) ≡ o → by_index (by_name p) i ≡ p i
+      outer None at =
+          ap (option_and_then (at_index a b nc nh ic ih r (by_name p) i)) at
+          ∙ sym (nowhere (p i) (fitting i) (λ m. let z : None ≡ Some i = sym at ∙ r.known i m in cc))
+      outer (Some k) at = ap (option_and_then (at_index a b nc nh ic ih r (by_name p) i)) at ∙ inner k (nat_eq k i) refl at
+
+  pub kept_part-indexed : (q : Plan C H) → SamePlan (by_index (kept_part b q)) (kept_part a (by_index q))
+  kept_part-indexed q i = ap (λ (p : Plan C H). by_index p i) (fun_ext (kept_part-named q)) ∙ index_of_name (kept_part a (by_index q)) (kept_part-fits (by_index q)) i
+
+  -- ---- repairs
+
+  pub IsRepair-named : (first : Option C) (q : Plan C H) (after : Plan ℕ ℕ) → IsRepair a (option_and_then ic first) (by_index q) after → IsRepair b first q (by_name after)
+  IsRepair-named first q after repaired =
+      subst (λ (p : Plan C H). IsSweep b first p (by_name after)) (sym (fun_ext (kept_part-named q)))
+      (IsSweep-named a b nc nh ic ih r f first (kept_part a (by_index q)) after (kept_part-known (by_index q)) repaired)
