@@ -6,20 +6,16 @@ use Rattle.std.specs.Option.{option_map, option_and_then}
 use Rattle.std.proofs.lemmas.List.Folds.{list_any_at}
 use Rattle.std.proofs.lemmas.Map.Views.{Contains-from_any, exact_unsigned_eq}
 use Rattle.std.proofs.Math.Path.{fun_ext}
-use Rattle.exam_plan.specs.Matching.{Seating, Plan, SamePlan, is_hall}
+use Rattle.exam_plan.specs.Matching.{Seating, Plan, SamePlan, IsLawful, is_hall}
 use Rattle.exam_plan.specs.Repair.{is_member, where_fitting, fitting_part, lesser_occupants, where_room, room_part, kept_part, IsSweep, IsRepair}
 use Rattle.exam_plan.proofs.Renaming.{Renames}
 use Rattle.exam_rules.proofs.Carrying.{named, indexed, at_index, named_member, member_index, of_elements, sum_same}
 use Rattle.exam_rules.proofs.ChainNames.{Follows, AreKnown, is_hall-known}
-use Rattle.exam_rules.proofs.SweepNames.{IsSweep-named}
+use Rattle.exam_rules.proofs.SweepNames.{IsSweep-named, IsSweep-indexed}
 
 only_false : (t : Bool) → (t ≡ true → ⊥) → t ≡ false
 only_false true h = absurd (h refl)
 only_false false h = refl
-
-and_none : (m : Bool) → (m && false) ≡ false
-and_none true = refl
-and_none false = refl
 
 module _ {C H : Type 0} (a : Seating ℕ ℕ) (b : Seating C H) (nc : ℕ → C) (nh : ℕ → H) (ic : C → Option ℕ) (ih : H → Option ℕ) (r : Renames a b nc nh ic ih) (f : Follows a b nc nh ih) where
   abbrev Known : Plan ℕ ℕ → Type 0
@@ -166,7 +162,7 @@ module _ {C H : Type 0} (a : Seating ℕ ℕ) (b : Seating C H) (nc : ℕ → C)
   kept_part-known p i = weaker (λ j. IsTrue (a.fits i j)) (λ j. ih (nh j) ≡ Some j) (r.known_hall i) (kept_part a p i) (kept_part-fits p i)
 
   -- a plan by indices that seats where it fits, named and read by indices again, is the same
-  index_of_name : (p : Plan ℕ ℕ) → ((i : ℕ) → IfSome (p i) (λ j. IsTrue (a.fits i j))) → SamePlan (by_index (by_name p)) p
+  pub index_of_name : (p : Plan ℕ ℕ) → ((i : ℕ) → IfSome (p i) (λ j. IsTrue (a.fits i j))) → SamePlan (by_index (by_name p)) p
   index_of_name p fitting i = outer (ic (nc i)) refl
     where
       here : (o : Option ℕ) → IfSome o (λ j. IsTrue (a.fits i j)) → option_and_then ih (option_map nh o) ≡ o
@@ -192,6 +188,28 @@ module _ {C H : Type 0} (a : Seating ℕ ℕ) (b : Seating C H) (nc : ℕ → C)
           ∙ sym (nowhere (p i) (fitting i) (λ m. let z : None ≡ Some i = sym at ∙ r.known i m in cc))
       outer (Some k) at = ap (option_and_then (at_index a b nc nh ic ih r (by_name p) i)) at ∙ inner k (nat_eq k i) refl at
 
+  -- a lawful plan by names, read by indices and named again, is the same
+  pub name_of_index : (q : Plan C H) → IsLawful b q → SamePlan (by_name (by_index q)) q
+  name_of_index q lawful c = outer (ic c) refl
+    where
+      inner : (h : H) (o : Option ℕ) → ih h ≡ o → IsSome o → option_map nh o ≡ Some h
+      inner h None e there = absurd (let z : false ≡ true = there in cc)
+      inner h (Some j) e there = ap Some (r.halls h j e)
+
+      here : (o : Option H) → IfSome o (λ h. IsTrue (b.fits c h)) → option_map nh (option_and_then ih o) ≡ o
+      here None fit = refl
+      here (Some h) fit = inner h (ih h) refl (r.known_fit c h fit)
+
+      nowhere : (o : Option H) → q c ≡ o → ic c ≡ None → o ≡ None
+      nowhere None e at = refl
+      nowhere (Some h) e at = absurd (
+          let w = member_index a b nc nh ic ih r c (lawful.members c (ap is_some e)) in
+          let z : None ≡ Some w.0 = sym at ∙ w.1 in cc)
+
+      outer : (o : Option ℕ) → ic c ≡ o → by_name (by_index q) c ≡ q c
+      outer None at = ap (option_and_then (λ i. option_map nh (by_index q i))) at ∙ sym (nowhere (q c) refl at)
+      outer (Some i) at = named_member a b nc nh ic ih r (by_index q) c i at ∙ ap (option_map nh) (seat_index q c i at) ∙ here (q c) (lawful.fitting c)
+
   pub kept_part-indexed : (q : Plan C H) → SamePlan (by_index (kept_part b q)) (kept_part a (by_index q))
   kept_part-indexed q i = ap (λ (p : Plan C H). by_index p i) (fun_ext (kept_part-named q)) ∙ index_of_name (kept_part a (by_index q)) (kept_part-fits (by_index q)) i
 
@@ -201,3 +219,8 @@ module _ {C H : Type 0} (a : Seating ℕ ℕ) (b : Seating C H) (nc : ℕ → C)
   IsRepair-named first q after repaired =
       subst (λ (p : Plan C H). IsSweep b first p (by_name after)) (sym (fun_ext (kept_part-named q)))
       (IsSweep-named a b nc nh ic ih r f first (kept_part a (by_index q)) after (kept_part-known (by_index q)) repaired)
+
+  pub IsRepair-indexed : (first : Option C) (q after : Plan C H) → IsRepair b first q after → (then : Plan ℕ ℕ) × IsRepair a (option_and_then ic first) (by_index q) then × SamePlan after (by_name then)
+  IsRepair-indexed first q after repaired =
+      IsSweep-indexed a b nc nh ic ih r f first (kept_part a (by_index q)) after (kept_part-known (by_index q))
+      (subst (λ (p : Plan C H). IsSweep b first p after) (fun_ext (kept_part-named q)) repaired)

@@ -3,6 +3,7 @@ pub mod ChainNames
 pub mod Following
 pub mod KeptNames
 pub mod Naming
+pub mod OneRepair
 pub mod Places
 pub mod Ranking
 pub mod SweepNames

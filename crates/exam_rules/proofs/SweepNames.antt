@@ -1,14 +1,15 @@
--- Turns and sweeps by indices are those by names, for two seatings of which one renames the other.
+-- Turns and sweeps by indices are those by names, and the other way round, for two seatings of which one renames the other.
 use Rattle.std.proofs.Common.{◌≡◌, ℕ, Bool, true, false, cond, not, List, [], ◌∷◌, ◌++◌, map, filter, Contains, Option, None, Some, IfSome, inl, inr, refl, sym, ap, subst, ◌∙◌}
 use Rattle.std.specs.List.{AllByRecursion}
 use Rattle.std.specs.Option.{option_map, option_and_then}
 use Rattle.std.proofs.lemmas.List.{map-append}
+use Rattle.std.proofs.Math.Path.{fun_ext}
 use Rattle.exam_plan.specs.Matching.{Seating, Plan, SamePlan}
-use Rattle.exam_plan.specs.Chains.{Leads, seated, augmented}
+use Rattle.exam_plan.specs.Chains.{Chain, Leads, IsLeastChain, seated, augmented}
 use Rattle.exam_plan.specs.Repair.{TurnFrom, Turn, Sweeps, sweep_order, IsSweep}
 use Rattle.exam_plan.proofs.Renaming.{Renames}
 use Rattle.exam_rules.proofs.Carrying.{named, named_member, filter_same, of_elements}
-use Rattle.exam_rules.proofs.ChainNames.{Follows, bools, AreKnown, IsKnownHop, named_chain, hops_known, IsLeastChain-named, no_chain-named}
+use Rattle.exam_rules.proofs.ChainNames.{Follows, bools, AreKnown, IsKnownHop, named_chain, hops_known, IsChain-named, IsLeastChain-named, IsLeastChain-indexed, no_chain-named}
 
 some_same : {A : Type 0} (x y : A) → Some x ≡ Some y → x ≡ y
 some_same x y e = cc
@@ -153,3 +154,38 @@ module _ {C H : Type 0} (a : Seating ℕ ℕ) (b : Seating C H) (nc : ℕ → C)
   IsSweep-named first p after known swept =
       subst (λ (cs : List C). Sweeps b (by_name p) cs (by_name after)) (sym (order-named first))
       (Sweeps-named (sweep_order a (option_and_then ic first)) (order_members (option_and_then ic first)) p after known swept)
+
+  -- ---- from names to indices
+
+  -- the plan after a turn by names is one after that turn by indices
+  TurnFrom-indexed : (p : Plan ℕ ℕ) → Known p → (i : ℕ) → Contains a.members i → (o : Option ℕ) (after : Plan C H) → TurnFrom b (by_name p) (nc i) (option_map nh o) after
+      → (then : Plan ℕ ℕ) × TurnFrom a p i o then × SamePlan after (by_name then)
+  TurnFrom-indexed p known i m (Some h) after turn = (p, λ c. refl, turn)
+  TurnFrom-indexed p known i m None after (inl w) = inner (IsLeastChain-indexed a b nc nh ic ih r f p known i w.0 m w.1)
+    where
+      inner : (chain : Chain ℕ ℕ) × (named_chain a b nc nh ic ih r f chain ≡ w.0) × IsLeastChain a p i chain → (then : Plan ℕ ℕ) × TurnFrom a p i None then × SamePlan after (by_name then)
+      inner v = (
+        augmented a p i v.0.hops v.0.last,
+        inl (v.0, v.2, λ c. refl),
+        λ c. w.2 c ∙ ap (λ (chain : Chain C H). augmented b (by_name p) (nc i) chain.hops chain.last c) (sym v.1)
+            ∙ sym (augmented-named p i v.0.hops v.0.last m (hops_known a b nc nh ic ih r f p i v.0.hops v.0.last v.2.is_chain.leads) c),
+      )
+  TurnFrom-indexed p known i m None after (inr w) = (p, inr (λ chain is. w.0 (named_chain a b nc nh ic ih r f chain) (IsChain-named a b nc nh ic ih r f p known i chain is), λ c. refl), w.1)
+
+  Turn-indexed : (p : Plan ℕ ℕ) → Known p → (i : ℕ) → Contains a.members i → (after : Plan C H) → Turn b (by_name p) (nc i) after → (then : Plan ℕ ℕ) × Turn a p i then × SamePlan after (by_name then)
+  Turn-indexed p known i m after turn =
+      TurnFrom-indexed p known i m (p i) after (subst (λ (o : Option H). TurnFrom b (by_name p) (nc i) o after) (named_member a b nc nh ic ih r p (nc i) i (r.known i m)) turn)
+
+  Sweeps-indexed : (cs : List ℕ) → AllByRecursion (Contains a.members) cs → (p : Plan ℕ ℕ) (after : Plan C H) → Known p → Sweeps b (by_name p) (map nc cs) after
+      → (then : Plan ℕ ℕ) × Sweeps a p cs then × SamePlan after (by_name then)
+  Sweeps-indexed [] all p after known same = (p, λ c. refl, same)
+  Sweeps-indexed (c ∷ cs) all p after known w =
+      let v : (mid : Plan ℕ ℕ) × Turn a p c mid × SamePlan w.0 (by_name mid) = Turn-indexed p known c all.0 w.0 w.1 in
+      let rest = Sweeps-indexed cs all.1 v.0 after (turn_known p known c (p c) v.0 v.1) (subst (λ (mid : Plan C H). Sweeps b mid (map nc cs) after) (fun_ext v.2) w.2) in
+      (rest.0, (v.0, v.1, rest.1), rest.2)
+
+  pub IsSweep-indexed : (first : Option C) (p : Plan ℕ ℕ) (after : Plan C H) → Known p → IsSweep b first (by_name p) after
+      → (then : Plan ℕ ℕ) × IsSweep a (option_and_then ic first) p then × SamePlan after (by_name then)
+  IsSweep-indexed first p after known swept =
+      Sweeps-indexed (sweep_order a (option_and_then ic first)) (order_members (option_and_then ic first)) p after known
+      (subst (λ (cs : List C). Sweeps b (by_name p) cs after) (order-named first) swept)

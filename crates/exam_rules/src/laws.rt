@@ -10,20 +10,22 @@ ghost use Rattle.exam_rules.specs.Seatings.{seating, problem_of, stands_before};
 ghost use Rattle.exam_rules.specs.Names.{ListsRise, SeatsInOpenHalls, named_plan, indexed_plan, named_chain, index_of, number_at, hall_at};
 
 /// A lawful plan of the problem is, read by numbers and codes, a lawful plan of the session that seats as many, a best
-/// one is a best one, and the unseated are the same.
+/// one is a best one, and the unseated are the same. Read by indices again it is the same plan.
 pub fn plans_carry_over()
     ensures lawful { (r : Relations) (s : Code) (p : Plan ℕ ℕ) → ListsRise r s → IsLawful (seating_of (problem_of r s)) p → IsLawful (seating r s) (named_plan r s p) }
     ensures size { (r : Relations) (s : Code) (p : Plan ℕ ℕ) → ListsRise r s → size (seating r s) (named_plan r s p) ≡ size (seating_of (problem_of r s)) p }
     ensures best { (r : Relations) (s : Code) (p : Plan ℕ ℕ) → ListsRise r s → IsBest (seating_of (problem_of r s)) p → IsBest (seating r s) (named_plan r s p) }
     ensures unseated { (r : Relations) (s : Code) (p : Plan ℕ ℕ) → ListsRise r s → unseated (seating r s) (named_plan r s p) ≡ map (number_at r s) (unseated (seating_of (problem_of r s)) p) }
+    ensures back { (r : Relations) (s : Code) (p : Plan ℕ ℕ) → ListsRise r s → IsLawful (seating_of (problem_of r s)) p → SamePlan (indexed_plan r s (named_plan r s p)) p }
 {}
 
 /// A lawful plan of the session is, read by indices, a lawful plan of the problem that seats as many, and a best one is a
-/// best one.
+/// best one. Read by numbers and codes again it is the same plan.
 pub fn plans_come_back()
     ensures lawful { (r : Relations) (s : Code) (q : Plan ℕ Code) → ListsRise r s → IsLawful (seating r s) q → IsLawful (seating_of (problem_of r s)) (indexed_plan r s q) }
     ensures size { (r : Relations) (s : Code) (q : Plan ℕ Code) → ListsRise r s → IsLawful (seating r s) q → size (seating_of (problem_of r s)) (indexed_plan r s q) ≡ size (seating r s) q }
     ensures best { (r : Relations) (s : Code) (q : Plan ℕ Code) → ListsRise r s → IsBest (seating r s) q → IsBest (seating_of (problem_of r s)) (indexed_plan r s q) }
+    ensures back { (r : Relations) (s : Code) (q : Plan ℕ Code) → ListsRise r s → IsLawful (seating r s) q → SamePlan (named_plan r s (indexed_plan r s q)) q }
 {}
 
 /// The contested members are those at the indices of the contested candidates of the problem.
@@ -58,10 +60,12 @@ pub fn chains_come_back()
         → (indices : Chain ℕ ℕ) × (named_chain r s indices ≡ chain) × IsLeastChain (seating_of (problem_of r s)) p i indices }
 {}
 
-/// What stays of any plan of the session, also of one from before the facts changed, is what stays of it by indices.
+/// What stays of any plan of the session, also of one from before the facts changed, is what stays of it by indices, and
+/// is lawful.
 pub fn kept_parts_carry_over()
     ensures named { (r : Relations) (s : Code) (q : Plan ℕ Code) → ListsRise r s → SamePlan (kept_part (seating r s) q) (named_plan r s (kept_part (seating_of (problem_of r s)) (indexed_plan r s q))) }
     ensures indexed { (r : Relations) (s : Code) (q : Plan ℕ Code) → ListsRise r s → SamePlan (indexed_plan r s (kept_part (seating r s) q)) (kept_part (seating_of (problem_of r s)) (indexed_plan r s q)) }
+    ensures lawful { (r : Relations) (s : Code) (q : Plan ℕ Code) → ListsRise r s → IsLawful (seating r s) (kept_part (seating r s) q) }
 {}
 
 /// A sweep of the problem is, by numbers and codes, a sweep of the session. Its first is the index of the session's first,
@@ -73,4 +77,21 @@ pub fn sweeps_carry_over()
 /// The repair, by indices, of any plan of the session is its repair in the session.
 pub fn repairs_carry_over()
     ensures { (r : Relations) (s : Code) (first : Option ℕ) (before : Plan ℕ Code) (after : Plan ℕ ℕ) → ListsRise r s → IsRepair (seating_of (problem_of r s)) (option_and_then (index_of r s) first) (indexed_plan r s before) after → IsRepair (seating r s) first before (named_plan r s after) }
+{}
+
+/// A sweep of the session is, by indices, a sweep of the problem.
+pub fn sweeps_come_back()
+    ensures { (r : Relations) (s : Code) (first : Option ℕ) (p : Plan ℕ ℕ) (after : Plan ℕ Code) → ListsRise r s → SeatsInOpenHalls r s p → IsSweep (seating r s) first (named_plan r s p) after
+        → (indices : Plan ℕ ℕ) × IsSweep (seating_of (problem_of r s)) (option_and_then (index_of r s) first) p indices × SamePlan after (named_plan r s indices) }
+{}
+
+/// A repair in the session is, by indices, a repair of the problem.
+pub fn repairs_come_back()
+    ensures { (r : Relations) (s : Code) (first : Option ℕ) (before after : Plan ℕ Code) → ListsRise r s → IsRepair (seating r s) first before after
+        → (indices : Plan ℕ ℕ) × IsRepair (seating_of (problem_of r s)) (option_and_then (index_of r s) first) (indexed_plan r s before) indices × SamePlan after (named_plan r s indices) }
+{}
+
+/// A plan of the session has at most one repair.
+pub fn repair_is_one()
+    ensures { (r : Relations) (s : Code) (first : Option ℕ) (before one other : Plan ℕ Code) → IsRepair (seating r s) first before one → IsRepair (seating r s) first before other → SamePlan one other }
 {}
