@@ -5,6 +5,7 @@ pub mod KeptNames
 pub mod Naming
 pub mod OneRepair
 pub mod Places
+pub mod PlanLists
 pub mod Ranking
 pub mod SweepNames
 pub mod Together

@@ -309,6 +309,13 @@ module _ (r : Relations) (s : Code) where
   pub numbers_rise : ListsRise r s → (i j : ℕ) → Contains (range_with_len 0 (length rows)) i → Contains (range_with_len 0 (length rows)) j → nat_cmp i j ≡ Less → nat_cmp (number_at r s i) (number_at r s j) ≡ Less
   numbers_rise up i j mi mj e = Less-from_sorted nat_cmp (members r s) i j 0 up.numbers (number_below i j e) (below_member j mj)
 
+  -- a member has the index of their place, and an index is a member's
+  pub index_known : ListsRise r s → (i : ℕ) → i < length (members r s) → index_of r s (number_at r s i) ≡ Some i
+  index_known up i below = place_known nat_eq exact_unsigned_eq number_itself nat_cmp nat_cmp_total 0 (members r s) 0 i i up.numbers below (omega arith)
+
+  pub index_below : (c i : ℕ) → index_of r s c ≡ Some i → i < length (members r s)
+  index_below c i e = (number_place c i e).0
+
   -- an open hall has the index of its place
   pub hall_known : ListsRise r s → (j : ℕ) → j < length (open_halls r s) → hall_index r s (hall_at r s j) ≡ Some j
   hall_known up j below = place_known same_code same_code_exact same_code_itself code_cmp nat_list_cmp_total 0 (open_halls r s) [] j j up.codes below (omega arith)

@@ -1,13 +1,14 @@
 //! What is so by indices is so by numbers and codes, where numbers and codes rise.
-ghost use Rattle.std.specs.Prelude.{◌≡◌, ◌↔◌, ℕ, List, Option, Some, map};
-ghost use Rattle.std.specs.Option.{option_and_then};
+ghost use Rattle.std.specs.Prelude.{◌≡◌, ◌↔◌, ◌<◌, ℕ, List, Option, None, Some, length, map, slice_index_or};
+ghost use Rattle.std.specs.Option.{option_map, option_and_then};
 ghost use Rattle.exam_plan.specs.Matching.{Plan, SamePlan, IsLawful, IsBest, IsCertificate, IsContested, desk_number, size, unseated};
 ghost use Rattle.exam_plan.specs.Chains.{Chain, IsChain, IsLeastChain, augmented};
 ghost use Rattle.exam_plan.specs.Repair.{kept_part, IsSweep, IsRepair};
-ghost use Rattle.exam_plan.specs.Problems.{seating_of, ranks_before};
+ghost use Rattle.exam_plan.specs.Problems.{seating_of, plan_at, ranks_before};
 ghost use Rattle.exam_rules.specs.Relations.{Code, Relations};
+ghost use Rattle.exam_rules.specs.Sessions.{members};
 ghost use Rattle.exam_rules.specs.Seatings.{seating, problem_of, stands_before};
-ghost use Rattle.exam_rules.specs.Names.{ListsRise, SeatsInOpenHalls, named_plan, indexed_plan, named_chain, index_of, number_at, hall_at};
+ghost use Rattle.exam_rules.specs.Names.{ListsRise, SeatsInOpenHalls, named_plan, indexed_plan, named_chain, index_of, hall_index, number_at, hall_at};
 
 /// A lawful plan of the problem is, read by numbers and codes, a lawful plan of the session that seats as many, a best
 /// one is a best one, and the unseated are the same. Read by indices again it is the same plan.
@@ -26,6 +27,14 @@ pub fn plans_come_back()
     ensures size { (r : Relations) (s : Code) (q : Plan ℕ Code) → ListsRise r s → IsLawful (seating r s) q → size (seating_of (problem_of r s)) (indexed_plan r s q) ≡ size (seating r s) q }
     ensures best { (r : Relations) (s : Code) (q : Plan ℕ Code) → ListsRise r s → IsBest (seating r s) q → IsBest (seating_of (problem_of r s)) (indexed_plan r s q) }
     ensures back { (r : Relations) (s : Code) (q : Plan ℕ Code) → ListsRise r s → IsLawful (seating r s) q → SamePlan (named_plan r s (indexed_plan r s q)) q }
+{}
+
+/// A list that has, at each member's place, the place of their hall or none is the session's plan by indices; and at each
+/// member's number a plan by indices seats them where it does at their place.
+pub fn lists_are_plans()
+    ensures read { (r : Relations) (s : Code) (q : Plan ℕ Code) (halls : List (Option ℕ)) → ListsRise r s → length halls ≡ length (members r s)
+        → ((i : ℕ) → i < length (members r s) → slice_index_or halls i None ≡ option_and_then (hall_index r s) (q (number_at r s i))) → SamePlan (plan_at halls) (indexed_plan r s q) }
+    ensures named { (r : Relations) (s : Code) (p : Plan ℕ ℕ) (i : ℕ) → ListsRise r s → i < length (members r s) → named_plan r s p (number_at r s i) ≡ option_map (hall_at r s) (p i) }
 {}
 
 /// The contested members are those at the indices of the contested candidates of the problem.

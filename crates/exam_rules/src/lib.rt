@@ -15,8 +15,9 @@ pub use facts::Facts;
 pub use fit::{finish, fits};
 pub use laws::{
     certificates_carry_over, chains_carry_over, chains_come_back, contested_carry_over,
-    desk_numbers_carry_over, kept_parts_carry_over, plans_carry_over, plans_come_back,
-    repair_is_one, repairs_carry_over, repairs_come_back, sweeps_carry_over, sweeps_come_back,
+    desk_numbers_carry_over, kept_parts_carry_over, lists_are_plans, plans_carry_over,
+    plans_come_back, repair_is_one, repairs_carry_over, repairs_come_back, sweeps_carry_over,
+    sweeps_come_back,
 };
 pub use rows::{
     Appeal, Arrangement, Candidate, Entry, Hall, Opening, Paper, Session, Status, Subject,
