@@ -1,5 +1,5 @@
 -- Numbers and codes are ordered as their indices, so chains by indices can be read by numbers and codes.
-use Rattle.std.proofs.Common.{◌≡◌, ℕ, ◌<◌, Contains, length, Option, None, Some, IfSome, inl, inr, sym, ap, ◌∙◌, eq-eqb}
+use Rattle.std.proofs.Common.{◌≡◌, ℕ, ◌<◌, Contains, length, IsTrue, Option, None, Some, IfSome, inl, inr, sym, ap, ◌∙◌, eq-eqb}
 use Rattle.std.specs.declared.cmp.Ordering.{Ordering}
 use Rattle.std.specs.declared.cmp.Ordering.TheVariants.{Less, Equal, Greater}
 use Rattle.std.specs.Ordering.{nat_cmp, ordering_reverse}
@@ -9,11 +9,11 @@ use Rattle.std.proofs.lemmas.Bool.{cases_order}
 use Rattle.std.proofs.lemmas.Cmp.{tied_itself}
 use Rattle.std.proofs.lemmas.Map.Views.{exact_unsigned_eq}
 use Rattle.exam_plan.specs.Problems.{seating_of}
-use Rattle.exam_plan.specs.Matching.{Plan}
+use Rattle.exam_plan.specs.Matching.{Plan, IsLawful}
 use Rattle.exam_rules.specs.Relations.{Code, Relations, code_cmp}
 use Rattle.exam_rules.specs.Seatings.{open_halls, seating, problem_of}
 use Rattle.exam_rules.specs.Names.{number_at, hall_at, index_of, hall_index, ListsRise, SeatsInOpenHalls}
-use Rattle.exam_rules.proofs.Naming.{renames, numbers_rise, codes_rise, fit_member, hall_known}
+use Rattle.exam_rules.proofs.Naming.{renames, numbers_rise, codes_rise, fit_member, fit_open, hall_known}
 use Rattle.exam_rules.proofs.ChainNames.{Follows, AreKnown}
 
 -- where names rise with their indices, they compare as the indices
@@ -44,3 +44,10 @@ all_known r s up p within i = inner (p i) (within i)
     inner : (o : Option ℕ) → IfSome o (λ j. j < length (open_halls r s)) → IfSome o (λ j. hall_index r s (hall_at r s j) ≡ Some j)
     inner None w = tt
     inner (Some j) w = hall_known r s up j w
+
+pub lawful_seats : (r : Relations) (s : Code) (p : Plan ℕ ℕ) → IsLawful (seating_of (problem_of r s)) p → SeatsInOpenHalls r s p
+lawful_seats r s p lawful i = inner (p i) (lawful.fitting i)
+  where
+    inner : (o : Option ℕ) → IfSome o (λ j. IsTrue ((seating_of (problem_of r s)).fits i j)) → IfSome o (λ j. j < length (open_halls r s))
+    inner None fit = tt
+    inner (Some j) fit = fit_open r s i j fit

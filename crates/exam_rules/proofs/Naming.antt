@@ -320,7 +320,10 @@ module _ (r : Relations) (s : Code) where
   pub hall_known : ListsRise r s → (j : ℕ) → j < length (open_halls r s) → hall_index r s (hall_at r s j) ≡ Some j
   hall_known up j below = place_known same_code same_code_exact same_code_itself code_cmp nat_list_cmp_total 0 (open_halls r s) [] j j up.codes below (omega arith)
 
-  -- a hall fits a member alone
+  -- a hall that fits is an open one, and fits a member alone
+  pub fit_open : (i j : ℕ) → list_any (nat_eq j) (get_or rows i []) ≡ true → j < length (open_halls r s)
+  fit_open i j e = (row_bound i j e).1
+
   pub fit_member : (i j : ℕ) → list_any (nat_eq j) (get_or rows i []) ≡ true → Contains (range_with_len 0 (length rows)) i
   fit_member i j e = member_below i (row_bound i j e).0
 

@@ -10,14 +10,15 @@ ghost use Rattle.exam_rules.specs.Sessions.{members};
 ghost use Rattle.exam_rules.specs.Seatings.{seating, problem_of, stands_before};
 ghost use Rattle.exam_rules.specs.Names.{ListsRise, SeatsInOpenHalls, named_plan, indexed_plan, named_chain, index_of, hall_index, number_at, hall_at};
 
-/// A lawful plan of the problem is, read by numbers and codes, a lawful plan of the session that seats as many, a best
-/// one is a best one, and the unseated are the same. Read by indices again it is the same plan.
+/// A lawful plan of the problem seats in open halls alone. Read by numbers and codes it is a lawful plan of the session that
+/// seats as many, a best one is a best one, and the unseated are the same. Read by indices again it is the same plan.
 pub fn plans_carry_over()
     ensures lawful { (r : Relations) (s : Code) (p : Plan ℕ ℕ) → ListsRise r s → IsLawful (seating_of (problem_of r s)) p → IsLawful (seating r s) (named_plan r s p) }
     ensures size { (r : Relations) (s : Code) (p : Plan ℕ ℕ) → ListsRise r s → size (seating r s) (named_plan r s p) ≡ size (seating_of (problem_of r s)) p }
     ensures best { (r : Relations) (s : Code) (p : Plan ℕ ℕ) → ListsRise r s → IsBest (seating_of (problem_of r s)) p → IsBest (seating r s) (named_plan r s p) }
     ensures unseated { (r : Relations) (s : Code) (p : Plan ℕ ℕ) → ListsRise r s → unseated (seating r s) (named_plan r s p) ≡ map (number_at r s) (unseated (seating_of (problem_of r s)) p) }
     ensures back { (r : Relations) (s : Code) (p : Plan ℕ ℕ) → ListsRise r s → IsLawful (seating_of (problem_of r s)) p → SamePlan (indexed_plan r s (named_plan r s p)) p }
+    ensures seats { (r : Relations) (s : Code) (p : Plan ℕ ℕ) → IsLawful (seating_of (problem_of r s)) p → SeatsInOpenHalls r s p }
 {}
 
 /// A lawful plan of the session is, read by indices, a lawful plan of the problem that seats as many, and a best one is a
