@@ -3,7 +3,9 @@ use crate::facts::Facts;
 use crate::rows::{
     Appeal, Arrangement, Candidate, Entry, Hall, Opening, Paper, Session, Status, Subject,
 };
-use crate::{clashes, finish, fits, is_member, members, open_halls, problem, sitting};
+use crate::{
+    arrangement_in_force, clashes, finish, fits, is_member, members, open_halls, problem, sitting,
+};
 use exam_types::{
     AccessCode, ClosingTime, Day, DeskCount, ExamMinutes, Extra, Features, HallCode, Name, Number,
     PaperCode, Reason, Reference, Refusal, SessionCode, SessionDay, StartTime,
@@ -186,6 +188,52 @@ fn a_granted_clash_appeal_turns_the_clash(rt: HostRuntime) -> Result<(), Fail> {
     assert!(rt;
         clashes(rt.alloc(), &facts, &s)?.as_slice() == [(number(3)?, paper(b"MA-1")?)].as_slice()
     );
+    Ok(())
+}
+
+#[test]
+fn a_granted_arrangement_takes_the_place_of_the_imported_one(rt: HostRuntime) -> Result<(), Fail> {
+    let mut facts = base_office(rt.alloc())?;
+    add_candidate(rt.alloc(), &mut facts, 1, b"MA-1")?;
+    let s = session(b"S1")?;
+    let none = arrangement_in_force(&facts, &s, number(1)?);
+    assert_eq!(rt; none.extra.get(), 0);
+    assert!(rt; !none.needs.screen);
+    arrange(&mut facts, 1, b"screen", 25)?;
+    let imported = arrangement_in_force(&facts, &s, number(1)?);
+    assert_eq!(rt; imported.extra.get(), 25);
+    assert!(rt; imported.needs.screen);
+    let asked = Arrangement {
+        needs: features(b"-")?,
+        extra: Extra::new(50).ok_or("extra")?,
+    };
+    grant(
+        rt.alloc(),
+        &mut facts,
+        1,
+        b"S1",
+        Subject::Arrangement(asked),
+    )?;
+    let granted = arrangement_in_force(&facts, &s, number(1)?);
+    assert_eq!(rt; granted.extra.get(), 50);
+    assert!(rt; !granted.needs.screen);
+    Ok(())
+}
+
+#[test]
+fn copies_of_rows_are_equal(rt: HostRuntime) -> Result<(), Fail> {
+    let mut facts = base_office(rt.alloc())?;
+    add_candidate(rt.alloc(), &mut facts, 1, b"MA-1")?;
+    grant(rt.alloc(), &mut facts, 1, b"S1", Subject::Hall(hall(b"B")?))?;
+    let row = facts.papers.get(&paper(b"MA-1")?).ok_or("paper")?;
+    assert!(rt; row.copy()? == *row);
+    let row = facts.halls.get(&hall(b"A")?).ok_or("hall")?;
+    assert!(rt; row.copy()? == *row);
+    let row = facts.candidates.get(&number(1)?).ok_or("candidate")?;
+    assert!(rt; row.copy()? == *row);
+    let reference = Reference::parse(b"R1").ok_or("reference")?;
+    let row = facts.appeals.get(&(number(1)?, reference)).ok_or("appeal")?;
+    assert!(rt; row.copy()? == *row);
     Ok(())
 }
 
