@@ -108,7 +108,7 @@ best_repaired p first q r best s = sweep_stays p q best (sweep_order (seating_of
 apart_if_less : (x y : ℕ) → nat_cmp x y ≡ Less → x ≢ y
 apart_if_less x y l e = let z : nat_cmp x y ≡ Equal = sym (nat_cmp_is x y Equal e) in let b : Less ≡ Equal = sym l ∙ z in cc
 
-later_all : (x : ℕ) (xs : List ℕ) → AllByRecursion (λ y. nat_cmp x y ≡ Less) xs → list_any (nat_eq x) xs ≡ false
+pub later_all : (x : ℕ) (xs : List ℕ) → AllByRecursion (λ y. nat_cmp x y ≡ Less) xs → list_any (nat_eq x) xs ≡ false
 later_all x [] a = refl
 later_all x (y ∷ ys) a = ap (λ b. b || list_any (nat_eq x) ys) (ne_eqb x y (apart_if_less x y a.0)) ∙ later_all x ys a.1
 
@@ -152,7 +152,7 @@ module _ (p : Problem) (other : Plan ℕ ℕ) (also : IsLawful (seating_of p) ot
       let e : sum_by (seating_of p).desks (h ∷ hs) ≡ (seating_of p).desks h + sum_by (seating_of p).desks hs = sum_by-cons (seating_of p).desks h hs in
       omega (arith, rest, s, o, w, e)
 
-everybody : (p : Problem) (q : Plan ℕ ℕ) → size (seating_of p) q + length (unseated (seating_of p) q) ≡ count_below (λ c. true) (length p.fit)
+pub everybody : (p : Problem) (q : Plan ℕ ℕ) → size (seating_of p) q + length (unseated (seating_of p) q) ≡ count_below (λ c. true) (length p.fit)
 everybody p q =
     let a = count_below-add (λ c. is_some (q c)) (λ c. is_none (q c)) (λ c. true) (length p.fit) (λ c l. either (q c)) in
     let s = size-count p q in let u = length-unseated p q in omega (arith, a, s, u)
@@ -161,10 +161,10 @@ everybody p q =
     either None = refl
     either (Some h) = refl
 
-listed_in : (xs : List ℕ) (x : ℕ) → Contains xs x → list_any (nat_eq x) xs ≡ true
+pub listed_in : (xs : List ℕ) (x : ℕ) → Contains xs x → list_any (nat_eq x) xs ≡ true
 listed_in xs x m = list_any_at (nat_eq x) xs m.0 x m.1 (eq-eqb x (get_or xs m.0 x) (sym m.2))
 
-in_listed : (xs : List ℕ) (x : ℕ) → list_any (nat_eq x) xs ≡ true → Contains xs x
+pub in_listed : (xs : List ℕ) (x : ℕ) → list_any (nat_eq x) xs ≡ true → Contains xs x
 in_listed xs x t = let a = Any-from_list_any (nat_eq x) xs t in let same : x ≡ a.1 = eqb-true x a.1 a.4 in subst (λ (z : ℕ). Contains xs z) (sym same) (a.0, a.2, a.3)
 
 pub certified_best : (p : Problem) (q : Plan ℕ ℕ) (xs hs : List ℕ) → IsProblem p → IsLawful (seating_of p) q → IsCertificate (seating_of p) q xs hs → IsBest (seating_of p) q

@@ -14,5 +14,6 @@ pub mod DeskLemmas
 pub mod DrawLemmas
 pub mod ShortOfDesks
 pub mod LawLemmas
+pub mod Contested
 pub mod TestLemmas
 pub mod NumberLaws

@@ -1,6 +1,8 @@
 //! Laws of matchings.
-ghost use Rattle.std.specs.Prelude.{◌≡◌, ◌<◌, ◌≤◌, ℕ, List, Option, Some, length};
-ghost use Rattle.exam_plan.specs.Matching.{Seating, Plan, SamePlan, IsLawful, IsBest, IsCertificate, desk_number, size};
+ghost use Rattle.std.specs.Prelude.{◌≡◌, ◌↔◌, ◌<◌, ◌≤◌, ℕ, List, Option, Some, IsTrue, Contains, length};
+ghost use Rattle.std.specs.List.Sorted.{IsStrictlySortedBy};
+ghost use Rattle.std.specs.Ordering.{nat_cmp};
+ghost use Rattle.exam_plan.specs.Matching.{Seating, Plan, SamePlan, IsLawful, IsBest, IsCertificate, IsContested, desk_number, size};
 ghost use Rattle.exam_plan.specs.Chains.{Chain, IsLeastChain};
 ghost use Rattle.exam_plan.specs.Repair.{kept_part, IsRepair};
 ghost use Rattle.exam_plan.specs.Problems as problems;
@@ -14,6 +16,17 @@ pub fn best_sizes_agree()
 /// A lawful plan with a deficiency certificate is best.
 pub fn certificate_shows_best()
     ensures { (p : problems.Problem) (q : Plan ℕ ℕ) (candidates halls : List ℕ) → IsProblem p → IsLawful (seating_of p) q → IsCertificate (seating_of p) q candidates halls → IsBest (seating_of p) q }
+{}
+
+/// The contested candidates, with all halls that fit any of them, are a certificate of every best plan: there
+/// are such lists, and any two lists that rise and name exactly these are it.
+pub fn contested_are_a_certificate()
+    ensures some { (p : problems.Problem) (q : Plan ℕ ℕ) → IsProblem p → IsBest (seating_of p) q
+        → (candidates : List ℕ) × (halls : List ℕ) × ((c : ℕ) → Contains candidates c ↔ IsContested (seating_of p) c) × ((r : Plan ℕ ℕ) → IsBest (seating_of p) r → IsCertificate (seating_of p) r candidates halls) }
+    ensures every { (p : problems.Problem) (q : Plan ℕ ℕ) (candidates halls : List ℕ) → IsProblem p → IsBest (seating_of p) q
+        → IsStrictlySortedBy nat_cmp candidates → ((c : ℕ) → Contains candidates c ↔ IsContested (seating_of p) c)
+        → IsStrictlySortedBy nat_cmp halls → ((h : ℕ) → Contains halls h ↔ ((c : ℕ) × Contains candidates c × IsTrue ((seating_of p).fits c h)))
+        → IsCertificate (seating_of p) q candidates halls }
 {}
 
 /// A least chain is the only one.
