@@ -10,7 +10,7 @@ use Rattle.std.specs.Cmp.Lexicographic.{pointwise}
 use Rattle.std.specs.declared.cmp.Ordering.TheVariants.{Less, Equal, Greater}
 use Rattle.std.proofs.Math.Bool.{beq}
 use Rattle.std.proofs.Math.ListN.{replicate}
-use Rattle.std.proofs.lemmas.Bool.{cases_eq, cases_lt, cases_Bool, or_cases, or_left, or_right, eq-eqb, ne_eqb}
+use Rattle.std.proofs.lemmas.Bool.{cases_eq, cases_lt, cases_Bool, or_cases, or_left, or_right, and_parts, and_from, eq-eqb, ne_eqb}
 use Rattle.std.proofs.lemmas.List.{get_or_past, get_or-replicate, length-replicate}
 use Rattle.std.proofs.lemmas.List.Folds.{list_any_at, Any-from_list_any}
 use Rattle.std.proofs.lemmas.List.FromFn.{get_or-map-range_with_len, length-map-range_with_len}
@@ -24,14 +24,6 @@ use Rattle.exam_plan.proofs.ShortOfDesks.{is_certificate, exactly_contested}
 use Rattle.exam_plan.proofs.LawLemmas.{everybody, listed_in, in_listed, later_all}
 
 -- ---- the search, in the logic
-
-both_true : (a b : Bool) → (a && b) ≡ true → (a ≡ true) × (b ≡ true)
-both_true true b e = (refl, e)
-both_true false b e = absurd (let z : false ≡ true = e in cc)
-
-true_both : (a b : Bool) → a ≡ true → b ≡ true → (a && b) ≡ true
-true_both true b d e = e
-true_both false b d e = absurd (let z : false ≡ true = d in cc)
 
 module _ (p : Problem) (good : IsProblem p) (q : Plan ℕ ℕ) where
   -- a candidate who is drawn in by the marks, and whom the hall fits
@@ -59,7 +51,7 @@ module _ (p : Problem) (good : IsProblem p) (q : Plan ℕ ℕ) where
         let below = marked_below (next_marks marks) h t in
         elim (or_cases (get_or marks h false) (list_any (draws_in marks h) (range_with_len 0 (length p.fit))) (sym (next_at marks h (omega (arith, many, below))) ∙ t)) [
           | inl m ↦ inl m
-          | inr a ↦ inr (let w = Any-from_list_any (draws_in marks h) (range_with_len 0 (length p.fit)) a in let b = both_true (is_drawn marks (q w.1)) ((seating_of p).fits w.1 h) w.4 in (w.1, b.0, b.1))
+          | inr a ↦ inr (let w = Any-from_list_any (draws_in marks h) (range_with_len 0 (length p.fit)) a in let b = and_parts (is_drawn marks (q w.1)) ((seating_of p).fits w.1 h) w.4 in (w.1, b.0, b.1))
         ]),
     (λ s. elim s [
       | inl m ↦ next_at marks h (let l = marked_below marks h m in omega (arith, l, long)) ∙ or_left (get_or marks h false) (list_any (draws_in marks h) (range_with_len 0 (length p.fit))) m
@@ -70,7 +62,7 @@ module _ (p : Problem) (good : IsProblem p) (q : Plan ℕ ℕ) where
       drawn_one : (marks : List Bool) (h c : ℕ) → IsTrue (is_drawn marks (q c)) → IsTrue ((seating_of p).fits c h) → list_any (draws_in marks h) (range_with_len 0 (length p.fit)) ≡ true
       drawn_one marks h c d f =
           let m = below-member (length p.fit) c (fits_member p c h f) in
-          list_any_at (draws_in marks h) (range_with_len 0 (length p.fit)) m.0 c m.1 (ap (draws_in marks h) m.2 ∙ true_both (is_drawn marks (q c)) ((seating_of p).fits c h) d f)
+          list_any_at (draws_in marks h) (range_with_len 0 (length p.fit)) m.0 c m.1 (ap (draws_in marks h) m.2 ∙ and_from (is_drawn marks (q c)) ((seating_of p).fits c h) d f)
 
   -- marks of halls to which the unseated lead, and of all of them
   pub record IsClosure (marks : List Bool) : Type 0 where
@@ -100,7 +92,7 @@ module _ (p : Problem) (good : IsProblem p) (q : Plan ℕ ℕ) where
     | inr differ ↦ spread rounds (next_marks marks) (long_next marks) (draws_more p q marks (next_marks marks) drawn (next_exact marks long)) (let less = fewer_left marks long differ in omega (arith, less, few))
   ]
 
-  closure : (found : List Bool) × IsClosure found
+  pub closure : (found : List Bool) × IsClosure found
   closure =
       let none = replicate (length p.desk_counts) false in
       spread (count_by not none) none (length-replicate (length p.desk_counts) false) (λ h t. absurd (let z : false ≡ true = sym (unmarked h (cases_lt h (length p.desk_counts))) ∙ t in cc)) (omega arith)

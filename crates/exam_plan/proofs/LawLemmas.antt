@@ -112,7 +112,7 @@ pub later_all : (x : ℕ) (xs : List ℕ) → AllByRecursion (λ y. nat_cmp x y 
 later_all x [] a = refl
 later_all x (y ∷ ys) a = ap (λ b. b || list_any (nat_eq x) ys) (ne_eqb x y (apart_if_less x y a.0)) ∙ later_all x ys a.1
 
-count_none : (n : ℕ) → count_below (λ c. false) n ≡ 0
+pub count_none : (n : ℕ) → count_below (λ c. false) n ≡ 0
 count_none zero = refl
 count_none (suc n) = let e = count_none n in omega (arith, e)
 

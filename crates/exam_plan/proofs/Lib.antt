@@ -15,5 +15,6 @@ pub mod DrawLemmas
 pub mod ShortOfDesks
 pub mod LawLemmas
 pub mod Contested
+pub mod BestPlans
 pub mod TestLemmas
 pub mod NumberLaws

@@ -18,10 +18,15 @@ pub fn certificate_shows_best()
     ensures { (p : problems.Problem) (q : Plan ℕ ℕ) (candidates halls : List ℕ) → IsProblem p → IsLawful (seating_of p) q → IsCertificate (seating_of p) q candidates halls → IsBest (seating_of p) q }
 {}
 
+/// Every problem has a best plan.
+pub fn some_plan_is_best()
+    ensures { (p : problems.Problem) → IsProblem p → (q : Plan ℕ ℕ) × IsBest (seating_of p) q }
+{}
+
 /// The contested candidates, with all halls that fit any of them, are a certificate of every best plan: there
 /// are such lists, and any two lists that rise and name exactly these are it.
 pub fn contested_are_a_certificate()
-    ensures some { (p : problems.Problem) (q : Plan ℕ ℕ) → IsProblem p → IsBest (seating_of p) q
+    ensures some { (p : problems.Problem) → IsProblem p
         → (candidates : List ℕ) × (halls : List ℕ) × ((c : ℕ) → Contains candidates c ↔ IsContested (seating_of p) c) × ((r : Plan ℕ ℕ) → IsBest (seating_of p) r → IsCertificate (seating_of p) r candidates halls) }
     ensures every { (p : problems.Problem) (q : Plan ℕ ℕ) (candidates halls : List ℕ) → IsProblem p → IsBest (seating_of p) q
         → IsStrictlySortedBy nat_cmp candidates → ((c : ℕ) → Contains candidates c ↔ IsContested (seating_of p) c)
