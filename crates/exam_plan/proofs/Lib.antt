@@ -16,5 +16,6 @@ pub mod ShortOfDesks
 pub mod LawLemmas
 pub mod Contested
 pub mod BestPlans
+pub mod OneRepair
 pub mod TestLemmas
 pub mod NumberLaws

@@ -44,6 +44,11 @@ pub fn what_stays_is_lawful()
     ensures { (p : problems.Problem) (q : Plan ℕ ℕ) → IsLawful (seating_of p) (kept_part (seating_of p) q) }
 {}
 
+/// A repair has one result.
+pub fn repair_has_one_result()
+    ensures { (p : problems.Problem) (first : Option ℕ) (q r s : Plan ℕ ℕ) → IsRepair (seating_of p) first q r → IsRepair (seating_of p) first q s → SamePlan r s }
+{}
+
 /// The repair of a best plan whose problem has not changed is that plan.
 pub fn best_plan_is_its_repair()
     ensures { (p : problems.Problem) (first : Option ℕ) (q r : Plan ℕ ℕ) → IsBest (seating_of p) q → IsRepair (seating_of p) first q r → SamePlan r q }
