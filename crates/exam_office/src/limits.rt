@@ -1,8 +1,9 @@
 //! The limits on the facts.
+use crate::rolls::{Rolls, rolls};
 use exam_rules::Facts;
 use exam_types::{Number, Refusal, SessionCode};
 use std::alloc::Global;
-use std::collections::{BTreeMap, BTreeSet};
+use std::collections::BTreeMap;
 
 const MOST_CANDIDATES: usize = 20_000;
 
@@ -29,7 +30,7 @@ pub fn is_within_limits(alloc: Global, facts: &Facts) -> Result<bool, Refusal> {
     }
     Ok(
         is_each_within(alloc, &opened_sessions(alloc, facts)?, MOST_OPENINGS)?
-            && is_each_within(alloc, &member_sessions(alloc, facts)?, MOST_MEMBERS)?
+            && has_room_for_members(&rolls(alloc, facts)?)
             && is_each_within(alloc, &appellants(alloc, facts)?, MOST_APPEALS)?,
     )
 }
@@ -43,29 +44,14 @@ fn opened_sessions(alloc: Global, facts: &Facts) -> Result<Vec<SessionCode>, Ref
     Ok(sessions)
 }
 
-/// The session of each member of a session.
-fn member_sessions(alloc: Global, facts: &Facts) -> Result<Vec<SessionCode>, Refusal> {
-    let mut sessions = Vec::new(alloc);
-    for (session, _) in &memberships(alloc, facts)? {
-        sessions.push(*session)?;
-    }
-    Ok(sessions)
-}
-
-/// Each session with each of its members.
-pub fn memberships(
-    alloc: Global,
-    facts: &Facts,
-) -> Result<BTreeSet<(SessionCode, Number)>, Refusal> {
-    let mut memberships = BTreeSet::new(alloc);
-    for (key, entry) in &facts.entries {
-        if entry.live {
-            if let Some(paper) = facts.papers.get(&key.1) {
-                memberships.insert((paper.session, key.0))?;
-            }
+/// Whether no session has too many members.
+fn has_room_for_members(rolls: &Rolls) -> bool {
+    for (_, numbers) in rolls {
+        if numbers.len() > MOST_MEMBERS {
+            return false;
         }
     }
-    Ok(memberships)
+    true
 }
 
 /// The candidate of each appeal.

@@ -3,7 +3,6 @@ ghost use Rattle.std.specs.Prelude.{◌≡◌, IfOk};
 ghost use Rattle.exam_rules.specs.Relations.{relations_of};
 ghost use Rattle.exam_office.specs.State.{empty_state};
 
-use crate::copies::copied_facts;
 use crate::view::SessionView;
 use crate::{grants, limits, references, repair, viewing};
 use exam_rules::Facts;
@@ -80,19 +79,10 @@ impl Office {
         viewing::view_of(alloc, &self.facts, &self.seats, session)
     }
 
-    /// An equal office. Refused where there is not enough memory.
-    pub fn copy(&self, alloc: Global) -> Result<Self, Refusal> {
-        Ok(Office {
-            facts: copied_facts(alloc, &self.facts)?,
-            seats: self.seats.clone()?,
-        })
-    }
-
-    /// Puts these facts and plans in place of the old ones.
-    pub(crate) fn replace(&mut self, facts: Facts, seats: Seats)
-        ensures { self.new ≡ record { relations = relations_of facts; seats = seats.entries } }
+    /// The office with these facts and plans, which are good.
+    pub(crate) fn holding(facts: Facts, seats: Seats) -> Self
+        ensures { result ≡ record { relations = relations_of facts; seats = seats.entries } }
     {
-        self.facts = facts;
-        self.seats = seats;
+        Office { facts, seats }
     }
 }

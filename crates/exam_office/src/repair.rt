@@ -2,23 +2,26 @@
 ghost use Rattle.exam_plan.specs.Problems.{IsPlan};
 ghost use Rattle.std.specs.Prelude.{◌≡◌, ◌<◌, length, IfOk, IfSome};
 
-use crate::limits::memberships;
 use crate::office::Seats;
+use crate::rolls::rolls;
 use exam_plan::{Plan, Problem, keep_lawful, sweep};
 use exam_rules::{Candidate, Facts, members, open_halls, problem};
 use exam_types::{HallCode, Number, Refusal, SessionCode};
 use std::alloc::Global;
-use std::collections::{BTreeMap, BTreeSet};
+use std::collections::BTreeMap;
 use std::mem;
 
 /// The plans of all sessions, each repaired.
 pub fn repaired(alloc: Global, facts: &mut Facts, seats: &Seats) -> Result<Seats, Refusal>
     ensures { facts.new ≡ facts.old }
 {
-    let memberships = memberships(alloc, facts)?;
+    let rolls = rolls(alloc, facts)?;
     let mut repaired = BTreeMap::new(alloc);
     for session in &session_codes(alloc, facts)? {
-        let members = members_of(alloc, facts, &memberships, session)?;
+        let members = match rolls.get(session) {
+            Some(roll) => rows_of(alloc, facts, roll.as_slice())?,
+            None => BTreeMap::new(alloc),
+        };
         repair_among(alloc, facts, members, session, seats, &mut repaired)?;
     }
     Ok(repaired)
@@ -32,24 +35,19 @@ fn session_codes(alloc: Global, facts: &Facts) -> Result<Vec<SessionCode>, Refus
     Ok(codes)
 }
 
-/// The rows of the members of a session.
-fn members_of(
+/// The rows of these candidates.
+fn rows_of(
     alloc: Global,
     facts: &Facts,
-    memberships: &BTreeSet<(SessionCode, Number)>,
-    session: &SessionCode,
+    numbers: &[Number],
 ) -> Result<BTreeMap<Number, Candidate>, Refusal> {
-    let least = Number::new(1).unwrap();
-    let mut members = BTreeMap::new(alloc);
-    for key in memberships.range((*session, least)..) {
-        if key.0 != *session {
-            break;
-        }
-        if let Some(candidate) = facts.candidates.get(&key.1) {
-            members.insert(key.1, candidate.copy()?)?;
+    let mut rows = BTreeMap::new(alloc);
+    for number in numbers {
+        if let Some(candidate) = facts.candidates.get(number) {
+            rows.insert(*number, candidate.copy()?)?;
         }
     }
-    Ok(members)
+    Ok(rows)
 }
 
 /// Adds the repaired plan of a session. The rules look through all candidates for a session's members, which is too slow

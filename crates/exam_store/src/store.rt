@@ -5,7 +5,7 @@ ghost use Rattle.exam_store.specs.Faults.{is_store_refusal};
 use crate::loading::load_office;
 use crate::saving::{save, save_empty};
 use crate::schema::is_blank;
-use exam_office::{Command, Office, Reply, SessionView, step};
+use exam_office::{Command, Office, Reply, SessionView, next_office};
 use exam_types::{Day, Refusal, SessionCode};
 use sqlite::{Alter, Connection, MemStore};
 use std::alloc::Global;
@@ -70,10 +70,9 @@ impl<S: Alter> Store<S> {
     pub fn apply(&mut self, alloc: Global, command: &Command, today: Day) -> Result<Reply, Refusal>
         ensures { OnErr result (self.new.office ≡ self.old.office) }
     {
-        let mut changed = self.office.copy(alloc)?;
-        let reply = step(alloc, &mut changed, command, today)?;
-        save(alloc, &mut self.conn, &self.office, &changed)?;
-        self.office = changed;
+        let (next, reply) = next_office(alloc, &self.office, command, today)?;
+        save(alloc, &mut self.conn, &self.office, &next)?;
+        self.office = next;
         Ok(reply)
     }
 

@@ -1,8 +1,10 @@
 //! The worked rows, through all layers over a database in memory.
+mod reopening;
+
 use crate::job::run_job;
 use crate::line::{LineFault, parse_line};
 use exam_store::Store;
-use sqlite::MemStore;
+use sqlite::{Alter, MemStore};
 use std::alloc::{AllocError, Global};
 use std::process::Abort;
 use std::test::Fail;
@@ -27,9 +29,9 @@ fn words_of(alloc: Global, line: &str) -> Result<Vec<String>, AllocError> {
 }
 
 /// Runs the program's command over the store, with the bytes as the import file.
-fn run(
+fn run<S: Alter>(
     alloc: Global,
-    store: &mut Store<MemStore>,
+    store: &mut Store<S>,
     words: &str,
     file: &str,
 ) -> Result<Outcome, Fail> {
@@ -53,10 +55,15 @@ fn run(
     Ok(outcome)
 }
 
-/// The base office of the worked rows: one session and paper, and two halls with a desk each.
+/// The base office of the worked rows, in memory.
 fn base_office<R: Abort + AllocGlobal>(rt: &R) -> Result<Store<MemStore>, Fail> {
-    let alloc = rt.alloc();
-    let mut store = Store::in_memory(alloc)?;
+    let mut store = Store::in_memory(rt.alloc())?;
+    import_base(rt, &mut store)?;
+    Ok(store)
+}
+
+/// Imports the base of the worked rows: one session and paper, and two halls with a desk each.
+fn import_base<R: Abort + AllocGlobal, S: Alter>(rt: &R, store: &mut Store<S>) -> Result<(), Fail> {
     for (words, file) in [
         (
             "import sessions f",
@@ -79,16 +86,16 @@ fn base_office<R: Abort + AllocGlobal>(rt: &R) -> Result<Store<MemStore>, Fail> 
             "number,name,code\n0000001,Bo Berg,CODE0001\n0000002,Ada Lin,CODE0002\n0000003,Cy Dahl,CODE0003\n0000004,Di Roe,CODE0004\n0000005,Ed Poe,CODE0005\n",
         ),
     ] {
-        let outcome = run(alloc, &mut store, words, file)?;
+        let outcome = run(rt.alloc(), store, words, file)?;
         assert_eq!(rt; outcome.status, 0, "{words}");
     }
-    Ok(store)
+    Ok(())
 }
 
 /// Runs a command that is done, and compares what it prints.
-fn expect_done<R: Abort + AllocGlobal>(
+fn expect_done<R: Abort + AllocGlobal, S: Alter>(
     rt: &R,
-    store: &mut Store<MemStore>,
+    store: &mut Store<S>,
     words: &str,
     file: &str,
     out: &str,
@@ -101,9 +108,9 @@ fn expect_done<R: Abort + AllocGlobal>(
 }
 
 /// Runs a command that is refused, and compares what it prints.
-fn expect_refused<R: Abort + AllocGlobal>(
+fn expect_refused<R: Abort + AllocGlobal, S: Alter>(
     rt: &R,
-    store: &mut Store<MemStore>,
+    store: &mut Store<S>,
     words: &str,
     file: &str,
     err: &str,

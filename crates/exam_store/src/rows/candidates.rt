@@ -12,7 +12,6 @@ use sqlite::{Alter, Connection, Row, Transaction};
 use std::alloc::Global;
 use std::collections::BTreeMap;
 
-/// A replaced row would be looked for among the seats, which have no index by number, so the row is changed in place.
 fn put_candidate<'a, S: Alter>(
     tx: &mut Transaction<'_, S>,
     number: &'a Number,

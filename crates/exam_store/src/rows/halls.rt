@@ -21,7 +21,7 @@ fn put_hall<'a, S: Alter>(
 {
     run(
         tx,
-        "INSERT OR REPLACE INTO hall (code, title, features) VALUES (?1, ?2, ?3)",
+        "INSERT INTO hall (code, title, features) VALUES (?1, ?2, ?3) ON CONFLICT (code) DO UPDATE SET title = excluded.title, features = excluded.features",
         &[
             ValueRef::Text(code.as_bytes()),
             ValueRef::Text(hall.title.as_str().as_bytes()),

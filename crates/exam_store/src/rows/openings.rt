@@ -21,7 +21,7 @@ fn put_opening<'a, S: Alter>(
 {
     run(
         tx,
-        "INSERT OR REPLACE INTO opening (session, hall, desks, until, reserved) VALUES (?1, ?2, ?3, ?4, ?5)",
+        "INSERT INTO opening (session, hall, desks, until, reserved) VALUES (?1, ?2, ?3, ?4, ?5) ON CONFLICT (session, hall) DO UPDATE SET desks = excluded.desks, until = excluded.until, reserved = excluded.reserved",
         &[
             ValueRef::Text(key.0.as_bytes()),
             ValueRef::Text(key.1.as_bytes()),

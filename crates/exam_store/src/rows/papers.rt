@@ -23,7 +23,7 @@ fn put_paper<'a, S: Alter>(
 {
     run(
         tx,
-        "INSERT OR REPLACE INTO paper (code, title, session, minutes, requires) VALUES (?1, ?2, ?3, ?4, ?5)",
+        "INSERT INTO paper (code, title, session, minutes, requires) VALUES (?1, ?2, ?3, ?4, ?5) ON CONFLICT (code) DO UPDATE SET title = excluded.title, session = excluded.session, minutes = excluded.minutes, requires = excluded.requires",
         &[
             ValueRef::Text(code.as_bytes()),
             ValueRef::Text(paper.title.as_str().as_bytes()),

@@ -34,7 +34,7 @@ fn set_session<'a, S: Alter>(
 {
     run(
         tx,
-        "INSERT OR REPLACE INTO session (code, day, start) VALUES (?1, ?2, ?3)",
+        "INSERT INTO session (code, day, start) VALUES (?1, ?2, ?3) ON CONFLICT (code) DO UPDATE SET day = excluded.day, start = excluded.start",
         &[
             ValueRef::Text(code.as_bytes()),
             ValueRef::Text(day),

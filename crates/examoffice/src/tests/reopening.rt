@@ -1,0 +1,142 @@
+//! What is written is what is read again, and what is no office is refused.
+use super::{ONE_ENTRY, SECOND_ENTRY, SECOND_NEEDS, base_office, expect_done, import_base};
+use exam_store::Store;
+use exam_types::Refusal;
+use sqlite::{Connection, FileStore, Files, MemStore, Options};
+use sqlite_disk::Memory;
+use std::alloc::Global;
+use std::process::Abort;
+use std::test::Fail;
+
+/// A connection over two files in memory, the log and the database.
+type OnFiles = FileStore<Memory>;
+
+fn connect(alloc: Global, files: Files<Memory>) -> Result<Connection<OnFiles>, Fail> {
+    if !files.may_be_used() {
+        return Err(Fail::new("the files cannot be used"));
+    }
+    match Connection::open_files(alloc, files, Options::new(1)) {
+        Ok(conn) => Ok(conn),
+        Err((error, _)) => Err(Fail::new(error)),
+    }
+}
+
+/// A connection over what the closed one left in its files.
+fn reconnect(alloc: Global, conn: Connection<OnFiles>) -> Result<Connection<OnFiles>, Fail> {
+    match conn.close_files() {
+        Ok(files) => connect(alloc, files),
+        Err((error, _)) => Err(Fail::new(error)),
+    }
+}
+
+/// Closes the office, and opens it anew.
+fn reopened(alloc: Global, store: Store<OnFiles>) -> Result<Store<OnFiles>, Fail> {
+    let conn = reconnect(alloc, store.close())?;
+    match Store::open(alloc, conn) {
+        Ok(store) => Ok(store),
+        Err((refusal, _)) => Err(Fail::new(refusal)),
+    }
+}
+
+/// An empty office over blank files.
+fn blank_office(alloc: Global) -> Result<Store<OnFiles>, Fail> {
+    let files = Files {
+        log: Memory::new(alloc),
+        db: Memory::new(alloc),
+    };
+    match Store::create(alloc, connect(alloc, files)?) {
+        Ok(store) => Ok(store),
+        Err((refusal, _)) => Err(Fail::new(refusal)),
+    }
+}
+
+#[test]
+fn an_office_is_read_as_it_was_written(rt: HostRuntime) -> Result<(), Fail> {
+    let alloc = rt.alloc();
+    let mut store = blank_office(alloc)?;
+    import_base(&rt, &mut store)?;
+    let mut store = reopened(alloc, store)?;
+    let added = "added 1 changed 0 same 0\n";
+    expect_done(&rt, &mut store, "import entries f", ONE_ENTRY, added)?;
+    expect_done(
+        &rt,
+        &mut store,
+        "import arrangements f",
+        SECOND_NEEDS,
+        added,
+    )?;
+    let mut store = reopened(alloc, store)?;
+    // The one who was seated moves, as they would without the stop between.
+    expect_done(&rt, &mut store, "import entries f", SECOND_ENTRY, added)?;
+    let mut store = reopened(alloc, store)?;
+    let first =
+        "DOOR LIST session S1 hall A\ndate 2027-06-01 start 09:00 desks 1 seated 1\n   1 0000002 MA-1         Ada Lin\n";
+    expect_done(&rt, &mut store, "door-list S1 A", "", first)?;
+    let second =
+        "DOOR LIST session S1 hall B\ndate 2027-06-01 start 09:00 desks 1 seated 1\n   1 0000001 MA-1         Bo Berg\n";
+    expect_done(&rt, &mut store, "door-list S1 B", "", second)?;
+    let same = "added 0 changed 0 same 1\n";
+    expect_done(&rt, &mut store, "import arrangements f", SECOND_NEEDS, same)
+}
+
+/// The refusal of opening an office after this statement has changed its tables.
+fn refusal_after<R: Abort + AllocGlobal>(rt: &R, sql: &str) -> Result<Option<Refusal>, Fail> {
+    let alloc = rt.alloc();
+    let mut store = base_office(rt)?;
+    let added = "added 1 changed 0 same 0\n";
+    expect_done(rt, &mut store, "import entries f", ONE_ENTRY, added)?;
+    let mut conn: Connection<MemStore> = store.close();
+    conn.execute_batch(sql)?;
+    match Store::open(alloc, conn) {
+        Ok(_) => Ok(None),
+        Err((refusal, _)) => Ok(Some(refusal)),
+    }
+}
+
+#[test]
+fn a_doctored_office_is_refused(rt: HostRuntime) -> Result<(), Fail> {
+    for sql in [
+        "UPDATE office SET version = 2",
+        "DELETE FROM office",
+        "UPDATE session SET start = 1440",
+        "UPDATE session SET day = '2027-06-31'",
+        "UPDATE hall SET features = 32",
+        "UPDATE candidate SET number = 10000000 WHERE number = 3",
+        "UPDATE entry SET live = 2",
+        "DROP TABLE seat",
+    ] {
+        assert_eq!(rt; refusal_after(&rt, sql)?, Some(Refusal::BadStore), "{sql}");
+    }
+    Ok(())
+}
+
+#[test]
+fn a_plan_that_a_sweep_would_change_is_refused(rt: HostRuntime) -> Result<(), Fail> {
+    for sql in [
+        "DELETE FROM seat",
+        "UPDATE opening SET until = 599 WHERE hall = 'A'",
+        "UPDATE entry SET live = 0",
+        "INSERT INTO seat VALUES ('S1', 2, 'B')",
+    ] {
+        assert_eq!(rt; refusal_after(&rt, sql)?, Some(Refusal::BadStore), "{sql}");
+    }
+    // Any best plan will do, were it not the one that a repair from nothing makes.
+    let other = "UPDATE seat SET hall = 'B'";
+    assert_eq!(rt; refusal_after(&rt, other)?, None);
+    Ok(())
+}
+
+#[test]
+fn nothing_is_no_office(rt: HostRuntime) -> Result<(), Fail> {
+    let alloc = rt.alloc();
+    let conn = Connection::open_in_memory(alloc)?;
+    match Store::open(alloc, conn) {
+        Ok(_) => Err(Fail::new("an office")),
+        Err((refusal, conn)) => {
+            assert_eq!(rt; refusal, Refusal::BadStore);
+            // An office can be made in its place.
+            assert!(rt; Store::create(alloc, conn).is_ok());
+            Ok(())
+        }
+    }
+}
