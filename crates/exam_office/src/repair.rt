@@ -5,7 +5,7 @@ ghost use Rattle.std.specs.Prelude.{◌≡◌, ◌<◌, length, IfOk, IfSome};
 use crate::office::Seats;
 use crate::rolls::rolls;
 use exam_plan::{Plan, Problem, keep_lawful, sweep};
-use exam_rules::{Candidate, Facts, members, open_halls, problem};
+use exam_rules::{Candidate, Facts, ListedProblem, listed_problem};
 use exam_types::{HallCode, Number, Refusal, SessionCode};
 use std::alloc::Global;
 use std::collections::BTreeMap;
@@ -76,30 +76,26 @@ fn repair_session(
     seats: &Seats,
     repaired: &mut Seats,
 ) -> Result<(), Refusal> {
-    let problem = problem(alloc, facts, session)?;
-    let numbers = members(alloc, facts, session)?;
-    let halls = open_halls(alloc, facts, session)?;
-    let plan = stored_plan(alloc, &problem, session, seats, &numbers, &halls)?;
-    let plan = keep_lawful(&problem, plan)?;
-    let plan = sweep(alloc, &problem, plan, None)?;
-    write_plan(session, &numbers, &halls, &plan, repaired)
+    let listed = listed_problem(alloc, facts, session)?;
+    let plan = stored_plan(alloc, &listed, session, seats)?;
+    let plan = keep_lawful(&listed.problem, plan)?;
+    let plan = sweep(alloc, &listed.problem, plan, None)?;
+    write_plan(session, &listed.numbers, &listed.halls, &plan, repaired)
 }
 
 /// The plan of a session by indices. Who sits in a hall that is not open has no place in it.
 pub fn stored_plan(
     alloc: Global,
-    problem: &Problem,
+    listed: &ListedProblem,
     session: &SessionCode,
     seats: &Seats,
-    numbers: &[Number],
-    halls: &[HallCode],
 ) -> Result<Plan, Refusal>
-    ensures plan { IfOk result (λ plan. IsPlan problem.now plan.items) }
+    ensures plan { IfOk result (λ plan. IsPlan listed.now.problem plan.items) }
 {
     let mut plan = Vec::new(alloc);
-    for candidate in 0..problem.candidate_count() {
-        let place = match numbers.get(candidate) {
-            Some(number) => place_of(problem, session, *number, seats, halls),
+    for candidate in 0..listed.problem.candidate_count() {
+        let place = match listed.numbers.get(candidate) {
+            Some(number) => place_of(&listed.problem, session, *number, seats, &listed.halls),
             None => None,
         };
         plan.push(place)?;

@@ -3,7 +3,7 @@ use crate::office::Seats;
 use crate::repair::stored_plan;
 use crate::view::{Seat, SessionShortage, SessionView};
 use exam_plan::{Problem, Shortage, desks, keep_lawful, shortage, sweep};
-use exam_rules::{Facts, Opening, finish, members, open_halls, problem, sitting};
+use exam_rules::{Facts, ListedProblem, Opening, finish, listed_problem, sitting};
 use exam_types::{HallCode, Number, Refusal, SessionCode};
 use std::alloc::Global;
 
@@ -17,21 +17,24 @@ pub fn view_of(
     let Some(row) = facts.sessions.get(session) else {
         return Err(Refusal::UnknownSession);
     };
-    let problem = problem(alloc, facts, session)?;
-    let numbers = members(alloc, facts, session)?;
-    let halls = open_halls(alloc, facts, session)?;
-    let plan = stored_plan(alloc, &problem, session, seats, &numbers, &halls)?;
+    let listed = listed_problem(alloc, facts, session)?;
+    let plan = stored_plan(alloc, &listed, session, seats)?;
     // The stored plan is best, so this changes nothing.
-    let plan = sweep(alloc, &problem, keep_lawful(&problem, plan)?, None)?;
-    let numbered = desks(alloc, &problem, &plan)?;
-    let report = shortage(alloc, &problem, &plan)?;
+    let plan = sweep(
+        alloc,
+        &listed.problem,
+        keep_lawful(&listed.problem, plan)?,
+        None,
+    )?;
+    let numbered = desks(alloc, &listed.problem, &plan)?;
+    let report = shortage(alloc, &listed.problem, &plan)?;
     Ok(SessionView {
         code: *session,
         session: *row,
         hall_codes: hall_codes(alloc, facts)?,
         openings: openings_of(alloc, facts, session)?,
-        members: member_seats(alloc, facts, seats, session, &numbers, &numbered)?,
-        report: named_report(alloc, &problem, &numbers, &halls, &report)?,
+        members: member_seats(alloc, facts, seats, session, &listed.numbers, &numbered)?,
+        report: named_report(alloc, &listed, &report)?,
     })
 }
 
@@ -104,15 +107,13 @@ fn seat_of(
 /// The report in numbers and codes.
 fn named_report(
     alloc: Global,
-    problem: &Problem,
-    numbers: &[Number],
-    halls: &[HallCode],
+    listed: &ListedProblem,
     report: &Shortage,
 ) -> Result<SessionShortage, Refusal> {
     Ok(SessionShortage {
         unseated: report.unseated,
-        halls: named_halls(alloc, problem, halls, &report.halls)?,
-        candidates: named_candidates(alloc, numbers, &report.candidates)?,
+        halls: named_halls(alloc, &listed.problem, &listed.halls, &report.halls)?,
+        candidates: named_candidates(alloc, &listed.numbers, &report.candidates)?,
     })
 }
 

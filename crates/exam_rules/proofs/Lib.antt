@@ -7,6 +7,7 @@ pub mod OneRepair
 pub mod Places
 pub mod PlanLists
 pub mod Ranking
+pub mod Sitters
 pub mod SweepNames
 pub mod Together
 pub mod Turns

@@ -1,9 +1,9 @@
 //! When a member ends, and which halls fit.
 ghost use Rattle.std.specs.Prelude.{◌≡◌, ◌≤◌, ◌&&◌, not, map, IfOk, IfErr};
 ghost use Rattle.std.specs.List.{list_any};
-ghost use Rattle.std.specs.Option.{option_map};
+ghost use Rattle.std.specs.Option.{option_map, option_and_then};
 ghost use Rattle.exam_types.specs.declared.refusal.Refusal.TheVariants.{NoMemory};
-ghost use Rattle.exam_rules.specs.Relations.{relations_of, same_code};
+ghost use Rattle.exam_rules.specs.Relations.{relations_of, code_cmp, row_at, same_code};
 ghost use Rattle.exam_rules.specs.Sessions as spec;
 ghost use Rattle.exam_rules.specs.Seatings as seatings;
 
@@ -11,7 +11,9 @@ use crate::appeals::{barred_halls, is_barred};
 use crate::facts::Facts;
 use crate::rows::{Arrangement, Hall, Opening, Paper, Session};
 use crate::sessions::{arrangement_in_force, is_member, no_features, sitting};
-use exam_types::{ClosingTime, Features, HallCode, Minute, Number, Refusal, SessionCode};
+use exam_types::{
+    ClosingTime, Features, HallCode, Minute, Number, PaperCode, Refusal, SessionCode,
+};
 use std::alloc::Global;
 
 /// How a member sits.
@@ -75,23 +77,30 @@ fn terms_of(session: &Session, paper: &Paper, arrangement: &Arrangement) -> Term
     }
 }
 
-fn sitting_row<'a>(facts: &'a Facts, session: &SessionCode, number: Number) -> Option<&'a Paper>
-    ensures { option_map (λ paper. paper.now) result ≡ spec.sitting_row (relations_of facts.now) session.now number }
+/// The row of the paper that is sat, if one is.
+fn sitting_row(facts: &Facts, sat: Option<PaperCode>) -> Option<&Paper>
+    ensures { option_map (λ paper. paper.now) result ≡ option_and_then (row_at code_cmp facts.now.papers.entries) sat }
 {
-    match sitting(facts, session, number) {
+    match sat {
         Some(paper) => facts.papers.get(&paper),
         None => None,
     }
 }
 
-/// How the member sits in the session.
-fn sitting_terms(facts: &Facts, session: &SessionCode, number: Number) -> Option<Terms>
+/// How the member sits in the session, where this is their sitting paper.
+fn sitting_terms(
+    facts: &Facts,
+    session: &SessionCode,
+    number: Number,
+    sat: Option<PaperCode>,
+) -> Option<Terms>
+    requires { sat ≡ spec.sitting (relations_of facts.now) session.now number }
     ensures { result ≡ seatings.sitting_terms (relations_of facts.now) session.now number }
 {
     let Some(row) = facts.sessions.get(session) else {
         return None;
     };
-    let Some(paper) = sitting_row(facts, session, number) else {
+    let Some(paper) = sitting_row(facts, sat) else {
         return None;
     };
     let arrangement = arrangement_in_force(facts, session, number);
@@ -146,7 +155,7 @@ pub fn finish(facts: &Facts, session: &SessionCode, number: Number) -> Option<Mi
     let Some(row) = facts.sessions.get(session) else {
         return None;
     };
-    let Some(paper) = sitting_row(facts, session, number) else {
+    let Some(paper) = sitting_row(facts, sitting(facts, session, number)) else {
         return None;
     };
     let arrangement = arrangement_in_force(facts, session, number);
@@ -159,7 +168,7 @@ pub fn fits(facts: &Facts, session: &SessionCode, number: Number, hall: &HallCod
 {
     is_member(facts, session, number)
         && suits_opened(
-            &sitting_terms(facts, session, number),
+            &sitting_terms(facts, session, number, sitting(facts, session, number)),
             &opened_room(facts, session, hall),
         )
         && !is_barred(facts, session, number, hall)
@@ -196,22 +205,25 @@ fn is_listed(codes: &[HallCode], hall: &HallCode) -> bool
     codes.iter().any(|code| *hall == *code)
 }
 
-/// The places of the halls that fit the candidate, among the halls with their rooms.
+/// The places of the halls that fit the candidate, whose sitting paper this is, among the halls with their rooms.
 pub fn fitting_places(
     alloc: Global,
     facts: &Facts,
     session: &SessionCode,
     number: Number,
+    sat: Option<PaperCode>,
     halls: &[(HallCode, Option<Room>)],
 ) -> Result<Vec<usize>, Refusal>
-    requires { halls.now ≡ seatings.with_rooms (relations_of facts.now) session.now (map (λ hall. hall.0) halls.now) }
+    requires sat { sat ≡ spec.sitting (relations_of facts.now) session.now number }
+    requires halls { halls.now ≡ seatings.with_rooms (relations_of facts.now) session.now (map (λ hall. hall.0) halls.now) }
     ensures ok { IfOk result (λ places. places.items ≡ seatings.fitting_places (relations_of facts.now) session.now number (map (λ hall. hall.0) halls.now)) }
     ensures memory { IfErr result (λ e. e ≡ NoMemory) }
 {
-    if !is_member(facts, session, number) {
+    // Who sits no paper is no member.
+    if sat.is_none() {
         return Ok(Vec::new(alloc));
     }
-    let terms = sitting_terms(facts, session, number);
+    let terms = sitting_terms(facts, session, number, sat);
     let barred = barred_halls(alloc, facts, session, number)?;
     suiting_places(alloc, &terms, &barred, halls)
 }

@@ -22,5 +22,5 @@ pub use laws::{
 pub use rows::{
     Appeal, Arrangement, Candidate, Entry, Hall, Opening, Paper, Session, Status, Subject,
 };
-pub use seating::{open_halls, problem};
+pub use seating::{ListedProblem, listed_problem, open_halls, problem};
 pub use sessions::{arrangement_in_force, clashes, is_member, members, sitting};

@@ -15,6 +15,9 @@ use exam_plan::Problem;
 use exam_types::{HallCode, Number, PaperCode, Refusal, SessionCode};
 use std::alloc::Global;
 
+/// What desks are ordered by: the sitting paper, and then the number.
+type DeskKey = (Option<PaperCode>, Number);
+
 /// The most members that a session may have.
 const MOST_MEMBERS: usize = 4096;
 
@@ -83,44 +86,31 @@ fn rooms(
     Ok(rooms)
 }
 
-/// Of each candidate the places of the halls that fit.
+/// Of each candidate the places of the halls that fit, and what desks are ordered by: the sitting paper and the number.
 fn fit_rows(
     alloc: Global,
     facts: &Facts,
     session: &SessionCode,
     numbers: &[Number],
     halls: &[(HallCode, Option<Room>)],
-) -> Result<Vec<Vec<usize>>, Refusal>
+) -> Result<(Vec<Vec<usize>>, Vec<DeskKey>), Refusal>
     requires { halls.now ≡ seatings.with_rooms (relations_of facts.now) session.now (map (λ hall. hall.0) halls.now) }
-    ensures ok { IfOk result (λ rows. map (λ row. row.items) rows.items ≡ map (λ c. seatings.fitting_places (relations_of facts.now) session.now c (map (λ hall. hall.0) halls.now)) numbers.now) }
+    ensures rows { IfOk result (λ both. map (λ row. row.items) both.0.items ≡ map (λ c. seatings.fitting_places (relations_of facts.now) session.now c (map (λ hall. hall.0) halls.now)) numbers.now) }
+    ensures keys { IfOk result (λ both. both.1.items ≡ map (seatings.desk_key (relations_of facts.now) session.now) numbers.now) }
     ensures memory { IfErr result (λ e. e ≡ NoMemory) }
 {
     let mut rows = Vec::new(alloc);
+    let mut keys = Vec::new(alloc);
     for number in numbers {
-        rows.push(fitting_places(alloc, facts, session, *number, halls)?)?;
+        let sat = sitting(facts, session, *number);
+        rows.push(fitting_places(alloc, facts, session, *number, sat, halls)?)?;
+        keys.push((sat, *number))?;
     }
-    Ok(rows)
-}
-
-/// Candidates with their sitting papers, by which desks are ordered.
-fn desk_keys(
-    alloc: Global,
-    facts: &Facts,
-    session: &SessionCode,
-    numbers: &[Number],
-) -> Result<Vec<(Option<PaperCode>, Number)>, Refusal>
-    ensures ok { IfOk result (λ keys. keys.items ≡ map (seatings.desk_key (relations_of facts.now) session.now) numbers.now) }
-    ensures memory { IfErr result (λ e. e ≡ NoMemory) }
-{
-    let keys = numbers
-        .iter()
-        .map(|number| (sitting(facts, session, *number), *number))
-        .collect(alloc)?;
-    Ok(keys)
+    Ok((rows, keys))
 }
 
 /// Of each key how many keys are less.
-fn ranks(alloc: Global, keys: &[(Option<PaperCode>, Number)]) -> Result<Vec<u32>, Refusal>
+fn ranks(alloc: Global, keys: &[DeskKey]) -> Result<Vec<u32>, Refusal>
     requires { length keys.now ≤ 4096 }
     ensures ok { IfOk result (λ ranks. ranks.items ≡ seatings.ranks_of keys.now) }
     ensures memory { IfErr result (λ e. e ≡ NoMemory) }
@@ -135,7 +125,7 @@ fn ranks(alloc: Global, keys: &[(Option<PaperCode>, Number)]) -> Result<Vec<u32>
 }
 
 /// How many keys of a sorted list are less than a key.
-fn place_in(sorted: &[(Option<PaperCode>, Number)], key: &(Option<PaperCode>, Number)) -> u32
+fn place_in(sorted: &[DeskKey], key: &DeskKey) -> u32
     requires few { length sorted.now ≤ 4096 }
     requires sorted { IsSorted seatings.desk_cmp sorted.now }
     ensures { result ≡ count_by (λ other. is_lt (seatings.desk_cmp other key.now)) sorted.now }
@@ -143,35 +133,61 @@ fn place_in(sorted: &[(Option<PaperCode>, Number)], key: &(Option<PaperCode>, Nu
     sorted.partition_point(|other| *other < *key) as u32
 }
 
-/// Of each candidate the places of the halls that fit.
+/// Of each candidate the places of the halls that fit, and what desks are ordered by.
 fn fit_table(
     alloc: Global,
     facts: &Facts,
     session: &SessionCode,
     numbers: &[Number],
     halls: &[HallCode],
-) -> Result<Vec<Vec<usize>>, Refusal>
-    ensures ok { IfOk result (λ rows. map (λ row. row.items) rows.items ≡ map (λ c. seatings.fitting_places (relations_of facts.now) session.now c halls.now) numbers.now) }
+) -> Result<(Vec<Vec<usize>>, Vec<DeskKey>), Refusal>
+    ensures rows { IfOk result (λ both. map (λ row. row.items) both.0.items ≡ map (λ c. seatings.fitting_places (relations_of facts.now) session.now c halls.now) numbers.now) }
+    ensures keys { IfOk result (λ both. both.1.items ≡ map (seatings.desk_key (relations_of facts.now) session.now) numbers.now) }
     ensures memory { IfErr result (λ e. e ≡ NoMemory) }
 {
     let rooms = rooms(alloc, facts, session, halls)?;
     fit_rows(alloc, facts, session, numbers, &rooms)
 }
 
-/// The candidates' places in the order of desks.
-fn rank_table(
+/// A session's seating problem, with the members and halls for which its indices stand.
+#[derive(Drop)]
+pub struct ListedProblem {
+    /// The i-th is candidate i of the problem.
+    pub numbers: Vec<Number>,
+    /// The j-th is hall j of the problem.
+    pub halls: Vec<HallCode>,
+    pub problem: Problem,
+}
+
+/// The seating problem of the session, with its members and its open halls, as `members`, `open_halls` and `problem` give
+/// them one by one.
+pub fn listed_problem(
     alloc: Global,
     facts: &Facts,
     session: &SessionCode,
-    numbers: &[Number],
-) -> Result<Vec<u32>, Refusal>
-    requires few { length numbers.now ≤ 4096 }
-    requires members { numbers.now ≡ spec.members (relations_of facts.now) session.now }
-    ensures ok { IfOk result (λ ranks. ranks.items ≡ map (seatings.rank (relations_of facts.now) session.now) (spec.members (relations_of facts.now) session.now)) }
-    ensures memory { IfErr result (λ e. e ≡ NoMemory) }
+) -> Result<ListedProblem, Refusal>
+    ensures numbers { IfOk result (λ listed. listed.numbers.items ≡ spec.members (relations_of facts.now) session.now) }
+    ensures halls { IfOk result (λ listed. listed.halls.items ≡ seatings.open_halls (relations_of facts.now) session.now) }
+    ensures ok { IfOk result (λ listed. listed.problem ≡ seatings.problem_of (relations_of facts.now) session.now) }
+    // The premise of the laws that carry what is so by indices over to numbers and codes.
+    ensures lists { OnOk result (ListsRise (relations_of facts.now) session.now) }
+    ensures known { OnOk result (IsTrue (has_row code_cmp facts.now.sessions.entries session.now)) }
+    ensures refusal { IfErr result (seatings.IsProblemRefusal (relations_of facts.now) session.now) }
 {
-    let keys = desk_keys(alloc, facts, session, numbers)?;
-    ranks(alloc, &keys)
+    let numbers = members(alloc, facts, session)?;
+    if numbers.len() > MOST_MEMBERS {
+        return Err(Refusal::TooMany);
+    }
+    let halls = open_halls(alloc, facts, session)?;
+    let desks = desk_counts(alloc, facts, session, &halls)?;
+    let (fit, keys) = fit_table(alloc, facts, session, &numbers, &halls)?;
+    let rank = ranks(alloc, &keys)?;
+    let problem = Problem::new(desks, fit, rank)?;
+    Ok(ListedProblem {
+        numbers,
+        halls,
+        problem,
+    })
 }
 
 /// The seating problem of the session: the i-th candidate is the i-th of `members`, the j-th hall the j-th of
@@ -184,13 +200,6 @@ pub fn problem(alloc: Global, facts: &Facts, session: &SessionCode) -> Result<Pr
     ensures known { OnOk result (IsTrue (has_row code_cmp facts.now.sessions.entries session.now)) }
     ensures refusal { IfErr result (seatings.IsProblemRefusal (relations_of facts.now) session.now) }
 {
-    let numbers = members(alloc, facts, session)?;
-    if numbers.len() > MOST_MEMBERS {
-        return Err(Refusal::TooMany);
-    }
-    let halls = open_halls(alloc, facts, session)?;
-    let desks = desk_counts(alloc, facts, session, &halls)?;
-    let fit = fit_table(alloc, facts, session, &numbers, &halls)?;
-    let rank = rank_table(alloc, facts, session, &numbers)?;
-    Problem::new(desks, fit, rank)
+    let listed = listed_problem(alloc, facts, session)?;
+    Ok(listed.problem)
 }

@@ -9,9 +9,9 @@ fit_rows-requires c =
     let rooms : c.deref.result.now ≡ with_rooms (relations_of c.args.facts.now) c.args.session.now c.args.halls.now = c.deref.ensures.value ∙ c.in_ok-rooms.ensures.ok in
     rooms ∙ ap (with_rooms (relations_of c.args.facts.now) c.args.session.now) (sym (rooms_named (relations_of c.args.facts.now) c.args.session.now c.args.halls.now c.deref.result.now rooms))
 
-pub returns-clause-ok : goal.returns-clause-ok
-returns-clause-ok c =
+pub returns-clause-rows : goal.returns-clause-rows
+returns-clause-rows c =
     let rooms : c.deref.result.now ≡ with_rooms (relations_of c.args.facts.now) c.args.session.now c.args.halls.now = c.deref.ensures.value ∙ c.in_ok-rooms.ensures.ok in
-    subst (λ (halls : List Code). IfOk c.fit_rows.result (λ rows. map (λ row. row.items) rows.items ≡ map (λ n. fitting_places (relations_of c.args.facts.now) c.args.session.now n halls) c.args.numbers.now))
+    subst (λ (halls : List Code). IfOk c.fit_rows.result (λ both. map (λ row. row.items) both.0.items ≡ map (λ n. fitting_places (relations_of c.args.facts.now) c.args.session.now n halls) c.args.numbers.now))
     (rooms_named (relations_of c.args.facts.now) c.args.session.now c.args.halls.now c.deref.result.now rooms)
-    c.fit_rows.ensures.ok
+    c.fit_rows.ensures.rows
