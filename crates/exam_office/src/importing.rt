@@ -10,7 +10,6 @@ ghost use Rattle.exam_office.specs.Replies as replies;
 
 use crate::command::Reply;
 use crate::copies::{copied_facts, put};
-use crate::limits::is_within_limits;
 use crate::references;
 use crate::row::{Row, RowKey};
 use exam_rules::{Entry, Facts, Opening};
@@ -24,11 +23,7 @@ pub fn imported(alloc: Global, facts: &Facts, rows: &[Row]) -> Result<(Facts, Re
 {
     check_rows(facts, rows)?;
     let reply = count_rows(alloc, facts, rows)?;
-    let facts = with_rows(alloc, facts, rows)?;
-    if !is_within_limits(alloc, &facts)? {
-        return Err(Refusal::TooMany);
-    }
-    Ok((facts, reply))
+    Ok((with_rows(alloc, facts, rows)?, reply))
 }
 
 /// Refuses the first row, in the order of the file, that refers to what is not there.

@@ -1,7 +1,7 @@
 //! The limits on the facts.
-use crate::rolls::{Rolls, rolls};
+use crate::parts::Parts;
 use exam_rules::Facts;
-use exam_types::{Number, Refusal, SessionCode};
+use exam_types::{Number, Refusal};
 use std::alloc::Global;
 use std::collections::BTreeMap;
 
@@ -19,35 +19,23 @@ const MOST_OPENINGS: usize = 128;
 /// Of a candidate.
 const MOST_APPEALS: usize = 64;
 
-/// Whether the facts pass no limit.
-pub fn is_within_limits(alloc: Global, facts: &Facts) -> Result<bool, Refusal> {
+/// Whether the facts, of which these are the parts, pass no limit.
+pub fn is_within_limits(alloc: Global, facts: &Facts, parts: &Parts) -> Result<bool, Refusal> {
     if facts.candidates.len() > MOST_CANDIDATES
         || facts.sessions.len() > MOST_SESSIONS
         || facts.papers.len() > MOST_PAPERS
         || facts.halls.len() > MOST_HALLS
+        || !are_parts_within(parts)
     {
         return Ok(false);
     }
-    Ok(
-        is_each_within(alloc, &opened_sessions(alloc, facts)?, MOST_OPENINGS)?
-            && has_room_for_members(&rolls(alloc, facts)?)
-            && is_each_within(alloc, &appellants(alloc, facts)?, MOST_APPEALS)?,
-    )
+    is_each_within(alloc, &appellants(alloc, facts)?, MOST_APPEALS)
 }
 
-/// The session of each opening.
-fn opened_sessions(alloc: Global, facts: &Facts) -> Result<Vec<SessionCode>, Refusal> {
-    let mut sessions = Vec::new(alloc);
-    for (key, _) in &facts.openings {
-        sessions.push(key.0)?;
-    }
-    Ok(sessions)
-}
-
-/// Whether no session has too many members.
-fn has_room_for_members(rolls: &Rolls) -> bool {
-    for (_, numbers) in rolls {
-        if numbers.len() > MOST_MEMBERS {
+/// Whether no session has too many members or openings.
+fn are_parts_within(parts: &Parts) -> bool {
+    for (_, part) in parts {
+        if part.candidates.len() > MOST_MEMBERS || part.openings.len() > MOST_OPENINGS {
             return false;
         }
     }

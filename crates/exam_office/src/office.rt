@@ -4,7 +4,7 @@ ghost use Rattle.exam_rules.specs.Relations.{relations_of};
 ghost use Rattle.exam_office.specs.State.{empty_state};
 
 use crate::view::SessionView;
-use crate::{grants, limits, references, repair, viewing};
+use crate::{grants, limits, parts, references, repair, viewing};
 use exam_rules::Facts;
 use exam_types::{HallCode, Number, Refusal, SessionCode};
 use std::alloc::Global;
@@ -43,16 +43,16 @@ impl Office {
 
     /// The office with these facts and plans. Refused as a bad store where they are not good, and where there is not
     /// enough memory.
-    pub fn from_parts(alloc: Global, mut facts: Facts, seats: Seats) -> Result<Self, Refusal>
+    pub fn from_parts(alloc: Global, facts: Facts, seats: Seats) -> Result<Self, Refusal>
         ensures { IfOk result (λ office. office ≡ record { relations = relations_of facts; seats = seats.entries }) }
     {
-        if !references::all_refer(&facts)
-            || !limits::is_within_limits(alloc, &facts)?
-            || !grants::are_single(alloc, &facts)?
-        {
+        if !references::all_refer(&facts) || !grants::are_single(alloc, &facts)? {
             return Err(Refusal::BadStore);
         }
-        if repair::repaired(alloc, &mut facts, &seats)? != seats {
+        let parts = parts::session_parts(alloc, &facts)?;
+        if !limits::is_within_limits(alloc, &facts, &parts)?
+            || repair::repaired(alloc, &parts, &seats)? != seats
+        {
             return Err(Refusal::BadStore);
         }
         Ok(Office { facts, seats })

@@ -1,74 +1,25 @@
 //! The repair of the plans after a change of the facts.
 ghost use Rattle.exam_plan.specs.Problems.{IsPlan};
-ghost use Rattle.std.specs.Prelude.{◌≡◌, ◌<◌, length, IfOk, IfSome};
+ghost use Rattle.std.specs.Prelude.{◌<◌, length, IfOk, IfSome};
 
 use crate::office::Seats;
-use crate::rolls::rolls;
+use crate::parts::Parts;
 use exam_plan::{Plan, Problem, keep_lawful, sweep};
-use exam_rules::{Candidate, Facts, ListedProblem, listed_problem};
+use exam_rules::{Facts, ListedProblem, listed_problem};
 use exam_types::{HallCode, Number, Refusal, SessionCode};
 use std::alloc::Global;
 use std::collections::BTreeMap;
-use std::mem;
 
 /// The plans of all sessions, each repaired.
-pub fn repaired(alloc: Global, facts: &mut Facts, seats: &Seats) -> Result<Seats, Refusal>
-    ensures { facts.new ≡ facts.old }
-{
-    let rolls = rolls(alloc, facts)?;
+pub fn repaired(alloc: Global, parts: &Parts, seats: &Seats) -> Result<Seats, Refusal> {
     let mut repaired = BTreeMap::new(alloc);
-    for session in &session_codes(alloc, facts)? {
-        let members = match rolls.get(session) {
-            Some(roll) => rows_of(alloc, facts, roll.as_slice())?,
-            None => BTreeMap::new(alloc),
-        };
-        repair_among(alloc, facts, members, session, seats, &mut repaired)?;
+    for (session, part) in parts {
+        repair_session(alloc, part, session, seats, &mut repaired)?;
     }
     Ok(repaired)
 }
 
-fn session_codes(alloc: Global, facts: &Facts) -> Result<Vec<SessionCode>, Refusal> {
-    let mut codes = Vec::new(alloc);
-    for (code, _) in &facts.sessions {
-        codes.push(*code)?;
-    }
-    Ok(codes)
-}
-
-/// The rows of these candidates.
-fn rows_of(
-    alloc: Global,
-    facts: &Facts,
-    numbers: &[Number],
-) -> Result<BTreeMap<Number, Candidate>, Refusal> {
-    let mut rows = BTreeMap::new(alloc);
-    for number in numbers {
-        if let Some(candidate) = facts.candidates.get(number) {
-            rows.insert(*number, candidate.copy()?)?;
-        }
-    }
-    Ok(rows)
-}
-
-/// Adds the repaired plan of a session. The rules look through all candidates for a session's members, which is too slow
-/// for the sessions of a large office together, so here they see the members alone.
-fn repair_among(
-    alloc: Global,
-    facts: &mut Facts,
-    members: BTreeMap<Number, Candidate>,
-    session: &SessionCode,
-    seats: &Seats,
-    repaired: &mut Seats,
-) -> Result<(), Refusal>
-    ensures { facts.new ≡ facts.old }
-{
-    let all = mem::replace(&mut facts.candidates, members);
-    let outcome = repair_session(alloc, facts, session, seats, repaired);
-    facts.candidates = all;
-    outcome
-}
-
-/// Adds the repaired plan of a session.
+/// Adds the repaired plan of a session, which has these facts.
 fn repair_session(
     alloc: Global,
     facts: &Facts,

@@ -1,11 +1,15 @@
 //! One command.
 ghost use Rattle.std.specs.Prelude.{◌≡◌, IfOk, OnOk, OnErr};
 ghost use Rattle.exam_office.specs.Changes.{changed};
+ghost use Rattle.exam_rules.specs.Relations.{relations_of};
 
 use crate::command::{Command, Reply};
 use crate::importing::imported;
-use crate::office::Office;
+use crate::limits::is_within_limits;
+use crate::office::{Office, Seats};
+use crate::parts::session_parts;
 use crate::repair::repaired;
+use exam_rules::Facts;
 use exam_types::{Day, Refusal};
 use std::alloc::Global;
 
@@ -36,9 +40,20 @@ pub fn next_office(
     let _ = today;
     match command {
         Command::Import(import) => {
-            let (mut facts, reply) = imported(alloc, office.facts(), import.rows())?;
-            let seats = repaired(alloc, &mut facts, office.seats())?;
-            Ok((Office::holding(facts, seats), reply))
+            let (facts, reply) = imported(alloc, office.facts(), import.rows())?;
+            Ok((resettled(alloc, facts, office.seats())?, reply))
         }
     }
+}
+
+/// The office with these facts, where each session's plan is repaired. Refused as too many where a limit is passed.
+fn resettled(alloc: Global, facts: Facts, seats: &Seats) -> Result<Office, Refusal>
+    ensures { IfOk result (λ office. office.relations ≡ relations_of facts) }
+{
+    let parts = session_parts(alloc, &facts)?;
+    if !is_within_limits(alloc, &facts, &parts)? {
+        return Err(Refusal::TooMany);
+    }
+    let seats = repaired(alloc, &parts, seats)?;
+    Ok(Office::holding(facts, seats))
 }
