@@ -51,7 +51,7 @@ impl Office {
         }
         let parts = parts::session_parts(alloc, &facts)?;
         if !limits::is_within_limits(alloc, &facts, &parts)?
-            || repair::repaired(alloc, &parts, &seats)? != seats
+            || !repair::are_settled(alloc, &parts, &seats)?
         {
             return Err(Refusal::BadStore);
         }

@@ -29,9 +29,50 @@ fn repair_session(
 ) -> Result<(), Refusal> {
     let listed = listed_problem(alloc, facts, session)?;
     let plan = stored_plan(alloc, &listed, session, seats)?;
-    let plan = keep_lawful(&listed.problem, plan)?;
-    let plan = sweep(alloc, &listed.problem, plan, None)?;
+    let plan = repaired_plan(alloc, &listed.problem, plan)?;
     write_plan(session, &listed.numbers, &listed.halls, &plan, repaired)
+}
+
+fn repaired_plan(alloc: Global, problem: &Problem, plan: Plan) -> Result<Plan, Refusal>
+    requires { IsPlan problem.now plan.items }
+{
+    let plan = keep_lawful(problem, plan)?;
+    sweep(alloc, problem, plan, None)
+}
+
+/// Whether the repair of all sessions would change no plan.
+pub fn are_settled(alloc: Global, parts: &Parts, seats: &Seats) -> Result<bool, Refusal> {
+    let mut seated: usize = 0;
+    for (session, part) in parts {
+        match settled_count(alloc, part, session, seats)? {
+            Some(count) => seated = seated.saturating_add(count),
+            None => return Ok(false),
+        }
+    }
+    // Each seat is of a member, and in an open hall.
+    Ok(seated == seats.len())
+}
+
+/// How many members are seated in a session, which has these facts, or none where a repair would change its plan.
+fn settled_count(
+    alloc: Global,
+    facts: &Facts,
+    session: &SessionCode,
+    seats: &Seats,
+) -> Result<Option<usize>, Refusal> {
+    let listed = listed_problem(alloc, facts, session)?;
+    let plan = stored_plan(alloc, &listed, session, seats)?;
+    let copy = Vec::from_slice(alloc, plan.as_slice())?;
+    let repaired = repaired_plan(alloc, &listed.problem, copy)?;
+    if repaired.as_slice() == plan.as_slice() {
+        Ok(Some(seated_count(plan.as_slice())))
+    } else {
+        Ok(None)
+    }
+}
+
+fn seated_count(plan: &[Option<usize>]) -> usize {
+    plan.iter().filter(|place| place.is_some()).count()
 }
 
 /// The plan of a session by indices. Who sits in a hall that is not open has no place in it.
@@ -43,10 +84,11 @@ pub fn stored_plan(
 ) -> Result<Plan, Refusal>
     ensures plan { IfOk result (λ plan. IsPlan listed.now.problem plan.items) }
 {
+    let seated = seats_of(alloc, session, seats)?;
     let mut plan = Vec::new(alloc);
     for candidate in 0..listed.problem.candidate_count() {
         let place = match listed.numbers.get(candidate) {
-            Some(number) => place_of(&listed.problem, session, *number, seats, &listed.halls),
+            Some(number) => place_of(&listed.problem, *number, &seated, &listed.halls),
             None => None,
         };
         plan.push(place)?;
@@ -54,23 +96,49 @@ pub fn stored_plan(
     Ok(plan)
 }
 
-/// The index of the hall in which the candidate sits in the session.
+/// Who sits where in a session, numbers rising.
+fn seats_of(
+    alloc: Global,
+    session: &SessionCode,
+    seats: &Seats,
+) -> Result<Vec<(Number, HallCode)>, Refusal> {
+    let mut seated = Vec::new(alloc);
+    for (key, hall) in seats.range((*session, least_number())..) {
+        if key.0 != *session {
+            break;
+        }
+        seated.push((key.1, *hall))?;
+    }
+    Ok(seated)
+}
+
+fn least_number() -> Number {
+    Number::new(1).unwrap()
+}
+
+/// The index of the hall in which the candidate sits.
 fn place_of(
     problem: &Problem,
-    session: &SessionCode,
     number: Number,
-    seats: &Seats,
+    seated: &[(Number, HallCode)],
     halls: &[HallCode],
 ) -> Option<usize>
     ensures { IfSome result (λ h. h < length problem.now.desk_counts) }
 {
-    let hall = seats.get(&(*session, number))?;
-    let place = halls.iter().position(|open| *open == *hall)?;
+    let hall = hall_of(number, seated)?;
+    let place = halls.iter().position(|open| *open == hall)?;
     if place < problem.hall_count() {
         Some(place)
     } else {
         None
     }
+}
+
+/// The hall in which the candidate sits, among seats by number.
+fn hall_of(number: Number, seated: &[(Number, HallCode)]) -> Option<HallCode> {
+    let place = seated.partition_point(|seat| seat.0 < number);
+    let seat = seated.get(place)?;
+    if seat.0 == number { Some(seat.1) } else { None }
 }
 
 /// Adds the seats of a plan by indices.
