@@ -1,0 +1,82 @@
+//! Door lists, and who is refused one.
+use super::reading::hall;
+use super::views::{add_hall, add_seated, bare_view, short_view};
+use crate::{SheetFault, door_list};
+use exam_office::SessionView;
+use exam_types::Refusal;
+use std::process::Abort;
+use std::test::Fail;
+
+fn expect_list<R: Abort + AllocGlobal>(
+    rt: &R,
+    view: &SessionView,
+    code: &[u8],
+    text: &[u8],
+) -> Result<(), Fail> {
+    let mut out = Vec::new(rt.alloc());
+    assert!(rt; door_list(rt.alloc(), view, &hall(code)?, &mut out) == Ok(()));
+    assert_eq!(rt; out.as_slice(), text);
+    Ok(())
+}
+
+fn expect_refusal<R: Abort + AllocGlobal>(
+    rt: &R,
+    code: &[u8],
+    refusal: Refusal,
+) -> Result<(), Fail> {
+    let view = short_view(rt.alloc())?;
+    let mut out = Vec::new(rt.alloc());
+    let answer = door_list(rt.alloc(), &view, &hall(code)?, &mut out);
+    assert!(rt; answer == Err(SheetFault::Refused(refusal)));
+    assert!(rt; out.is_empty());
+    Ok(())
+}
+
+#[test]
+fn the_occupant_of_a_hall_is_listed(rt: HostRuntime) -> Result<(), Fail> {
+    let view = short_view(rt.alloc())?;
+    let text =
+        b"DOOR LIST session S1 hall A\ndate 2027-06-01 start 09:00 desks 1 seated 1\n   1 0000002 MA-1         Ada Lin\n";
+    expect_list(&rt, &view, b"A", text)
+}
+
+#[test]
+fn an_empty_hall_has_its_heading_alone(rt: HostRuntime) -> Result<(), Fail> {
+    let mut view = bare_view(rt.alloc())?;
+    add_hall(&mut view, b"HALL2027", 2000)?;
+    let text =
+        b"DOOR LIST session S1 hall HALL2027\ndate 2027-06-01 start 09:00 desks 2000 seated 0\n";
+    expect_list(&rt, &view, b"HALL2027", text)
+}
+
+/// Two of one hall: the paper comes before the number.
+#[test]
+fn occupants_are_listed_by_desk(rt: HostRuntime) -> Result<(), Fail> {
+    let mut view = bare_view(rt.alloc())?;
+    add_hall(&mut view, b"A", 1000)?;
+    add_seated(rt.alloc(), &mut view, 2, b"Ada Lin", b"PH-2", b"A", 2)?;
+    add_seated(rt.alloc(), &mut view, 5, b"Ed Poe", b"MA-1", b"A", 1)?;
+    let text =
+        b"DOOR LIST session S1 hall A\ndate 2027-06-01 start 09:00 desks 1000 seated 2\n   1 0000005 MA-1         Ed Poe\n   2 0000002 PH-2         Ada Lin\n";
+    expect_list(&rt, &view, b"A", text)
+}
+
+#[test]
+fn wide_desks_and_papers_fill_their_columns(rt: HostRuntime) -> Result<(), Fail> {
+    let mut view = bare_view(rt.alloc())?;
+    add_hall(&mut view, b"A", 1000)?;
+    add_seated(rt.alloc(), &mut view, 7, b"Bo", b"ABCDEFGH-123", b"A", 1000)?;
+    let text =
+        b"DOOR LIST session S1 hall A\ndate 2027-06-01 start 09:00 desks 1000 seated 1\n1000 0000007 ABCDEFGH-123 Bo\n";
+    expect_list(&rt, &view, b"A", text)
+}
+
+#[test]
+fn a_closed_hall_has_no_list(rt: HostRuntime) -> Result<(), Fail> {
+    expect_refusal(&rt, b"C", Refusal::HallNotOpened)
+}
+
+#[test]
+fn an_unknown_hall_has_no_list(rt: HostRuntime) -> Result<(), Fail> {
+    expect_refusal(&rt, b"D", Refusal::UnknownHall)
+}
