@@ -2,7 +2,6 @@
 use crate::read_import;
 use exam_office::{Kind, Row};
 use exam_types::{HallCode, Number, PaperCode, Refusal, SessionCode};
-use std::alloc::Global;
 use std::process::Abort;
 use std::test::Fail;
 
@@ -22,14 +21,32 @@ pub fn hall(code: &[u8]) -> Result<HallCode, Fail> {
     Ok(HallCode::parse(code).ok_or("hall")?)
 }
 
-/// The refusal of a file, or none where it is read.
-pub fn refusal_of(alloc: Global, kind: Kind, file: &[u8]) -> Option<Refusal> {
-    read_import(alloc, kind, file).err()
+/// Reads a file that is refused so.
+pub fn expect_refusal<R: Abort + AllocGlobal>(rt: &R, kind: Kind, file: &[u8], refusal: Refusal) {
+    assert_eq!(rt; read_import(rt.alloc(), kind, file).err(), Some(refusal));
 }
 
-/// The refusal of a record for one of its columns, or for its count of fields at column 0.
-pub fn bad_row(record: u32, column: u32) -> Option<Refusal> {
-    Some(Refusal::BadRow { record, column })
+/// Reads a file that is refused for a record, at its first bad column or, for its count of fields, at column 0.
+pub fn expect_bad_row<R: Abort + AllocGlobal>(
+    rt: &R,
+    kind: Kind,
+    file: &[u8],
+    record: u32,
+    column: u32,
+) {
+    expect_refusal(rt, kind, file, Refusal::BadRow { record, column });
+}
+
+/// Reads a file of so many rows.
+pub fn expect_count<R: Abort + AllocGlobal>(
+    rt: &R,
+    kind: Kind,
+    file: &[u8],
+    count: usize,
+) -> Result<(), Fail> {
+    let import = read_import(rt.alloc(), kind, file)?;
+    assert_eq!(rt; import.rows().len(), count);
+    Ok(())
 }
 
 /// Reads a file that denotes this row alone.
@@ -49,7 +66,12 @@ pub fn expect_row<R: Abort + AllocGlobal>(
 pub fn expect_two_entries<R: Abort + AllocGlobal>(rt: &R, file: &[u8]) -> Result<(), Fail> {
     let import = read_import(rt.alloc(), Kind::Entries, file)?;
     assert_eq!(rt; import.rows().len(), 2);
-    assert!(rt; import.rows()[0] == Row::OfEntry(number(1)?, paper(b"MA-1")?));
-    assert!(rt; import.rows()[1] == Row::OfEntry(number(2)?, paper(b"MA-1")?));
+    expect_entry(rt, &import.rows()[0], 1)?;
+    expect_entry(rt, &import.rows()[1], 2)
+}
+
+fn expect_entry<R: Abort + AllocGlobal>(rt: &R, row: &Row, value: u32) -> Result<(), Fail> {
+    let entry = Row::OfEntry(number(value)?, paper(b"MA-1")?);
+    assert!(rt; *row == entry);
     Ok(())
 }
