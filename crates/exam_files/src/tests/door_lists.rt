@@ -33,6 +33,15 @@ fn the_occupant_of_a_hall_is_listed(rt: HostRuntime) -> Result<(), Fail> {
 }
 
 #[test]
+fn the_other_hall_has_a_list_of_its_own(rt: HostRuntime) -> Result<(), Fail> {
+    let view = short_view(rt.alloc())?;
+    let text =
+        b"DOOR LIST session S1 hall B\ndate 2027-06-01 start 09:00 desks 1 seated 1\n   1 0000001 MA-1         Bo Berg\n";
+    expect_list(&rt, &view, hall(b"B")?, text);
+    Ok(())
+}
+
+#[test]
 fn an_empty_hall_has_its_heading_alone(rt: HostRuntime) -> Result<(), Fail> {
     let mut view = bare_view(rt.alloc())?;
     add_hall(&mut view, b"HALL2027", 2000)?;
@@ -42,7 +51,7 @@ fn an_empty_hall_has_its_heading_alone(rt: HostRuntime) -> Result<(), Fail> {
     Ok(())
 }
 
-/// Two of one hall: the paper comes before the number.
+/// Desks go by paper before number, so the lesser number may have the later desk.
 #[test]
 fn occupants_are_listed_by_desk(rt: HostRuntime) -> Result<(), Fail> {
     let mut view = bare_view(rt.alloc())?;

@@ -94,7 +94,7 @@ pub fn report_candidate(view: &mut SessionView, value: u32) -> Result<(), Fail> 
     Ok(())
 }
 
-/// A hall of one desk for two, and two closed doors: 0000002 sits in A, 0000001 in B, and 0000003 is short of a desk.
+/// Halls A and B with a desk each, and C, which is not opened. 0000002 sits in A, 0000001 in B, and 0000003 is unseated.
 pub fn short_view(alloc: Global) -> Result<SessionView, Fail> {
     let mut view = bare_view(alloc)?;
     add_hall(&mut view, b"A", 1)?;
