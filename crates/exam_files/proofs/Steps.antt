@@ -1,5 +1,5 @@
 -- How the rows of a file follow, a record at a time.
-use Rattle.std.proofs.Common.{◌≡◌, ◌∙◌, ◌+◌, ℕ, List, [], ◌∷◌, ◌++◌, Bool, length, true, false, refl, sym, ap, inl, inr}
+use Rattle.std.proofs.Common.{◌≡◌, ◌∙◌, ◌+◌, ℕ, List, [], ◌∷◌, ◌++◌, length, true, false, refl, sym, ap, inl, inr}
 use Rattle.std.specs.Prelude.{Ok, Err, Result, ◌⊎◌, nat_lt}
 use Rattle.std.specs.Result.{IsErrAnd}
 use Rattle.csv.specs.Reading.{default_config, records, strip_bom}

@@ -1,8 +1,7 @@
 -- What a read of a record says of the records that are left.
-use Rattle.std.proofs.Common.{◌≡◌, ℕ, List, [], ◌∷◌, Option, Some, None, true, false, refl, sym, ap, ◌∙◌, inl}
+use Rattle.std.proofs.Common.{◌≡◌, ℕ, List, [], ◌∷◌, Option, true, false, refl, sym, ap, ◌∙◌, inl}
 use Rattle.std.specs.Prelude.{Bool, IfOk, OnOk, Result, Ok, Err}
 use Rattle.std.specs.Result.{MatchResult, is_ok}
-use Rattle.csv.specs.Machine.{next_record}
 use Rattle.csv.specs.Reading.{ReadRecord, Reached, Ready, default_config, reader_state, reader_trim, took_first}
 use Rattle.csv.specs.Records.{Row, fields_of}
 use Rattle.csv.specs.declared.reader.Reader.{Reader}

@@ -1,12 +1,10 @@
 -- A value that is written so is the one that is found.
-use Rattle.std.proofs.Common.{◌≡◌, ◌∙◌, ◌+◌, ◌≤◌, ◌<◌, ℕ, zero, suc, List, Bool, true, false, Option, Some, None, cond, refl, sym, ap, subst, arith, inl, inr}
+use Rattle.std.proofs.Common.{◌≡◌, ◌∙◌, ◌+◌, ◌≤◌, ◌<◌, ℕ, zero, suc, List, Bool, true, false, Option, Some, None, cond, refl, sym, ap, arith, inl, inr}
 use Rattle.std.proofs.lemmas.Bool.{cases_eq}
 use Rattle.std.specs.Prelude.{◌↔◌, bytes_eq, find}
 use Rattle.std.specs.List.{range_with_len}
 use Rattle.std.proofs.lemmas.Slice.Eq.{bytes_eq-Decides}
-use Rattle.exam_types.specs.Features.{features_text, named_features}
-use Rattle.exam_types.specs.declared.features.Features.{Features}
-use Rattle.exam_files.specs.Values.{features_in, value_in}
+use Rattle.exam_files.specs.Values.{value_in}
 
 pub record IsWritten (text : ℕ → List ℕ) (least count : ℕ) (bytes : List ℕ) (n : ℕ) : Type 0 where
   pub low : least ≤ n

@@ -1,5 +1,5 @@
 -- What is left of a sheet whose text was sent.
-use Rattle.std.proofs.Common.{◌≡◌, ◌∙◌, List, ℕ, Option, refl, sym, ap, subst}
+use Rattle.std.proofs.Common.{◌≡◌, List, ℕ, Option}
 use Rattle.std.specs.Prelude.{IfErr, OnErr, OnOk, Result, Ok, Err}
 use Rattle.std.specs.Io.KnownBytes.{Appends}
 use Rattle.exam_types.specs.declared.refusal.Refusal.{Refusal}

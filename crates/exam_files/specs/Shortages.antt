@@ -1,5 +1,5 @@
 -- The text of a shortage sheet.
-use Rattle.std.specs.Prelude.{◌≡◌, ℕ, List, [], ◌∷◌, ◌++◌, vec_len, codes, sum_by}
+use Rattle.std.specs.Prelude.{ℕ, List, ◌++◌, vec_len, codes, sum_by}
 use Rattle.std.specs.Fmt.{decimal}
 use Rattle.std.specs.List.{flat_map}
 use Rattle.exam_office.specs.declared.view.SessionShortage.{SessionShortage}

@@ -10,6 +10,8 @@ mod sending;
 mod sheet_fault;
 mod sheet_text;
 mod shortages;
+#[cfg(test)]
+mod tests;
 mod values;
 
 pub use doors::door_list;

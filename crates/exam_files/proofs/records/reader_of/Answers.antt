@@ -1,4 +1,4 @@
-use Rattle.std.proofs.Common.{◌∙◌, refl, sym, rules, inr, Some}
+use Rattle.std.proofs.Common.{◌∙◌, refl, inr}
 use Rattle.csv.specs.Reading.{strip_bom}
 use Rattle.exam_files.proofs.Counts.{all_left}
 use Rattle.exam_files.proofs.records.reader_of.Goals as goal

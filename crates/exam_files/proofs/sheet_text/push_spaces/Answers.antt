@@ -1,4 +1,3 @@
-use Rattle.std.proofs.Common.{arith}
 use Rattle.exam_files.proofs.Appending.{all_spaces, more_spaces}
 use Rattle.exam_files.proofs.sheet_text.push_spaces.Goals as goal
 

@@ -1,4 +1,4 @@
-use Rattle.std.proofs.Common.{◌≡◌, ◌∙◌, ap, sym}
+use Rattle.std.proofs.Common.{◌∙◌, ap, sym}
 use Rattle.std.specs.Prelude.{Ok}
 use Rattle.exam_files.proofs.Written.{written}
 use Rattle.exam_files.proofs.shortages.shortage_sheet.Goals as goal

@@ -1,4 +1,3 @@
-use Rattle.std.proofs.Common.{◌≡◌, ◌++◌}
 use Rattle.exam_files.proofs.Appending.{more}
 use Rattle.exam_files.proofs.shortages.shortage_text.Goals as goal
 

@@ -1,0 +1,12 @@
+//! Import files and sheets by example, and writers that fail.
+mod bad_files;
+mod bad_headers;
+mod bad_records;
+mod door_lists;
+mod forms;
+mod kinds;
+mod reading;
+mod shortage_sheets;
+mod slow;
+mod views;
+mod writers;
