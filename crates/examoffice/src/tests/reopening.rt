@@ -32,10 +32,13 @@ fn reconnect(alloc: Global, conn: Connection<OnFiles>) -> Result<Connection<OnFi
 /// Closes the office, and opens it anew.
 fn reopened(alloc: Global, store: Store<OnFiles>) -> Result<Store<OnFiles>, Fail> {
     let conn = reconnect(alloc, store.close())?;
-    match Store::open(alloc, conn) {
-        Ok(store) => Ok(store),
-        Err((refusal, _)) => Err(Fail::new(refusal)),
-    }
+    Store::open(alloc, conn).map_err(|(refusal, conn)| failed(refusal, conn))
+}
+
+/// A test that meets a refusal fails. The connection goes with it.
+fn failed(refusal: Refusal, conn: Connection<OnFiles>) -> Fail {
+    drop(conn);
+    Fail::new(refusal)
 }
 
 /// An empty office over blank files.
@@ -44,10 +47,8 @@ fn blank_office(alloc: Global) -> Result<Store<OnFiles>, Fail> {
         log: Memory::new(alloc),
         db: Memory::new(alloc),
     };
-    match Store::create(alloc, connect(alloc, files)?) {
-        Ok(store) => Ok(store),
-        Err((refusal, _)) => Err(Fail::new(refusal)),
-    }
+    let conn = connect(alloc, files)?;
+    Store::create(alloc, conn).map_err(|(refusal, conn)| failed(refusal, conn))
 }
 
 #[test]
@@ -89,7 +90,10 @@ fn refusal_after<R: Abort + AllocGlobal>(rt: &R, sql: &str) -> Result<Option<Ref
     conn.execute_batch(sql)?;
     match Store::open(alloc, conn) {
         Ok(_) => Ok(None),
-        Err((refusal, _)) => Ok(Some(refusal)),
+        Err((refusal, conn)) => {
+            drop(conn);
+            Ok(Some(refusal))
+        }
     }
 }
 
