@@ -1,5 +1,5 @@
 -- The places of the first rows with each key.
-use Rattle.std.proofs.Common.{◌≡◌, ◌∙◌, ◌+◌, ◌-◌, ◌≤◌, ◌<◌, Bool, true, false, refl, sym, ap, ℕ, List, [], ◌∷◌, ◌++◌, length, Option, Some, None, cond, arith, get_or, add-one}
+use Rattle.std.proofs.Common.{◌≡◌, ◌+◌, ◌-◌, ◌≤◌, ◌<◌, Bool, true, false, refl, ℕ, List, [], ◌∷◌, ◌++◌, length, Some, None, cond, arith, get_or, add-one}
 use Rattle.std.specs.Option.{option_or}
 use Rattle.std.specs.List.{find, position_from}
 

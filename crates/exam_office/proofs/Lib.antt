@@ -1,4 +1,14 @@
 pub mod Copying
+pub mod Writing
+pub mod Stepping
+pub mod Referring
+pub mod Running
+pub mod Counting
+pub mod SameSeats
+pub mod Staying
+pub mod Distinct
+pub mod AllSessions
+pub mod Repairing
 pub mod ImportConflicts
 pub mod ImportKeys
 pub mod ImportPlaces

@@ -1,10 +1,11 @@
 -- What a command makes of the facts, or why it is refused.
-use Rattle.std.specs.Prelude.{ℕ, not, Bool, true, List, [], ◌∷◌, fold, Option, None, Some, if◌then◌else◌}
+use Rattle.std.specs.Prelude.{ℕ, not, Bool, true, List, [], ◌∷◌, fold, Option, None, Some, Result, Ok, Err, if◌then◌else◌}
 use Rattle.std.specs.Option.{option_or}
 use Rattle.std.specs.Ordering.{nat_cmp}
 use Rattle.exam_types.specs.declared.refusal.Refusal.{Refusal}
 use Rattle.exam_types.specs.declared.refusal.Refusal.TheVariants as refusal
 use Rattle.exam_rules.specs.Relations.{Code, Relations, code_cmp, opening_cmp, entry_cmp, has_row, put_row}
+use Rattle.exam_office.specs.Limits.{within_limits}
 use Rattle.exam_office.specs.declared.command.Command.{Command}
 use Rattle.exam_office.specs.declared.command.Command.TheVariants as command
 use Rattle.exam_office.specs.declared.row.Row.{Row}
@@ -59,7 +60,22 @@ with_row r (row.OfArrangement c x) = record r { arrangements = put_row nat_cmp r
 abbrev pub with_rows : Relations → List Row → Relations
 with_rows r rows = fold with_row r rows
 
--- ---- the change of an accepted command
+-- the facts pass a limit
+abbrev pub too_many : Relations → Bool × Refusal
+too_many r = (not (within_limits r), refusal.TooMany)
 
-abbrev pub changed : Command → Relations → Relations
-changed (command.Import import) r = with_rows r import.rows
+abbrev pub unless : {A : Type 0} → Option Refusal → A → Result A Refusal
+unless None value = Ok value
+unless (Some refused) value = Err refused
+
+-- all references are looked up in the facts as they were, before the limits on the new ones
+abbrev pub import_refusal : Relations → List Row → Option Refusal
+import_refusal r rows = option_or (rows_refusal r rows) (first_refusal (too_many (with_rows r rows) ∷ []))
+
+abbrev pub imported : Relations → List Row → Result Relations Refusal
+imported r rows = unless (import_refusal r rows) (with_rows r rows)
+
+-- ---- the change of a command, on a day: the new facts, or the refusal
+
+abbrev pub change : Command → ℕ → Relations → Result Relations Refusal
+change (command.Import import) today r = imported r import.rows

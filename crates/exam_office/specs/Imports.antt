@@ -1,5 +1,5 @@
 -- Imports: their rows, and what rows with one key must agree in.
-use Rattle.std.specs.Prelude.{ℕ, Bool, true, not, ◌&&◌, List, [], ◌∷◌}
+use Rattle.std.specs.Prelude.{Bool, true, not, ◌&&◌, List, [], ◌∷◌}
 use Rattle.std.specs.List.{list_any, list_all}
 use Rattle.std.specs.Ordering.{is_eq}
 use Rattle.exam_office.specs.contracts.import.KeyOrd.TheImpl as keys

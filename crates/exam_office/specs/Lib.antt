@@ -3,3 +3,7 @@ pub mod Imports
 pub mod Limits
 pub mod Replies
 pub mod State
+pub mod Repairs
+pub mod Good
+pub mod Singles
+pub mod Steps

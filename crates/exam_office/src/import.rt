@@ -1,5 +1,5 @@
 //! The rows of an import file.
-ghost use Rattle.std.specs.Prelude.{◌≡◌, ◌⊎◌, ◌<◌, ◌+◌, ◌++◌, ◌∷◌, [], length, true, false, Some, None, OnOk, OnErr, IfErr, option_copied};
+ghost use Rattle.std.specs.Prelude.{◌≤◌, ◌≡◌, ◌⊎◌, ◌<◌, ◌+◌, ◌++◌, ◌∷◌, [], length, true, false, Some, None, OnOk, OnErr, IfErr, option_copied};
 ghost use Rattle.std.specs.List.{find};
 ghost use Rattle.exam_office.specs.Imports as spec;
 ghost use Rattle.exam_types.specs.declared.refusal.Refusal.TheVariants as refusals;
@@ -32,7 +32,7 @@ pub struct Import {
 }
 
 impl Model for Import {
-    ghost use Rattle.std.specs.Prelude.{◌≡◌, true};
+    ghost use Rattle.std.specs.Prelude.{◌≡◌, ◌≤◌, length, true};
     ghost use Rattle.std.specs.BTreeMap.{get};
     ghost use Rattle.std.specs.List.{position_from};
     ghost use Rattle.exam_office.specs.contracts.import.KeyOrd.TheImpl as keys;
@@ -43,7 +43,7 @@ impl Model for Import {
 
     ghost view = { λ a. record { kind = a.kind; rows = a.rows.items } };
 
-    ghost invariant = { λ a. (is_consistent a.rows.items ≡ true) × (are_of_kind a.kind a.rows.items ≡ true) × ((k : Key) → get keys.ghosts.cmp a.places k ≡ position_from (has_key k) 0 a.rows.items) };
+    ghost invariant = { λ a. (is_consistent a.rows.items ≡ true) × (are_of_kind a.kind a.rows.items ≡ true) × ((k : Key) → get keys.ghosts.cmp a.places k ≡ position_from (has_key k) 0 a.rows.items) × (length a.rows.items ≤ 4194304) };
 }
 
 /// The key of a row.
@@ -95,6 +95,7 @@ impl Import {
     /// Appends a row that is an earlier one again.
     fn push_repeated(&mut self, row: Row) -> Result<(), Refusal>
         requires kind { spec.kind_of row ≡ self.old.kind }
+        requires room { length self.old.rows < 4194304 }
         requires repeated { find (spec.has_key (spec.key_of row)) self.old.rows ≡ Some row }
         ensures ok { OnOk result (self.new ≡ record self.old { rows = self.old.rows ++ row ∷ [] }) }
         ensures memory { IfErr result (λ e. e ≡ refusals.NoMemory) }
@@ -107,6 +108,7 @@ impl Import {
     /// Appends a row with a new key.
     fn push_new(&mut self, row: Row) -> Result<(), Refusal>
         requires kind { spec.kind_of row ≡ self.old.kind }
+        requires room { length self.old.rows < 4194304 }
         requires new { find (spec.has_key (spec.key_of row)) self.old.rows ≡ None }
         ensures ok { OnOk result (self.new ≡ record self.old { rows = self.old.rows ++ row ∷ [] }) }
         ensures memory { IfErr result (λ e. e ≡ refusals.NoMemory) }
@@ -136,6 +138,7 @@ impl Import {
     /// The rows, in the order of the file.
     pub fn rows(&self) -> &[Row]
         ensures value { result.now ≡ self.now.rows }
+        ensures few { length result.now ≤ 4194304 }
         ensures consistent { spec.is_consistent result.now ≡ true }
         ensures kind { spec.are_of_kind self.now.kind result.now ≡ true }
     {

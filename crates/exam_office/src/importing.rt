@@ -1,6 +1,6 @@
 //! What an import makes of the facts.
-ghost use Rattle.std.specs.Prelude.{◌≡◌, IfOk, IfErr, OnOk};
-ghost use Rattle.std.specs.Option.{option_map};
+ghost use Rattle.std.specs.Prelude.{◌≡◌, ◌⊎◌, ◌<◌, ◌^◌, ◌+◌, ◌-◌, is_none, not, false, if◌then◌else◌, length, None, Some, IfOk, IfErr, OnOk};
+ghost use Rattle.std.specs.Option.{option_map, option_map_or};
 ghost use Rattle.std.specs.Result.{result_err};
 ghost use Rattle.exam_rules.specs.Relations.{opening_cmp, relations_of, row_at};
 ghost use Rattle.exam_types.specs.declared.refusal.Refusal.TheVariants.{NoMemory};
@@ -19,7 +19,11 @@ use std::collections::BTreeSet;
 
 /// The facts with these rows, and what the import answers.
 pub fn imported(alloc: Global, facts: &Facts, rows: &[Row]) -> Result<(Facts, Reply), Refusal>
+    requires { length rows.now < 2 ^ 32 }
     ensures ok { IfOk result (λ answer. relations_of answer.0 ≡ changes.with_rows (relations_of facts.now) rows.now) }
+    ensures reply { IfOk result (λ answer. answer.1 ≡ replies.import_reply (relations_of facts.now) rows.now) }
+    ensures checked { OnOk result (changes.rows_refusal (relations_of facts.now) rows.now ≡ None) }
+    ensures refusal { IfErr result (λ e. (e ≡ NoMemory) ⊎ (changes.rows_refusal (relations_of facts.now) rows.now ≡ Some e)) }
 {
     check_rows(facts, rows)?;
     let reply = count_rows(alloc, facts, rows)?;
@@ -107,25 +111,59 @@ fn put_entry(facts: &mut Facts, number: Number, paper: PaperCode) -> Result<(), 
 }
 
 /// How the distinct rows stand to the facts.
-fn count_rows(alloc: Global, facts: &Facts, rows: &[Row]) -> Result<Reply, Refusal> {
+fn count_rows(alloc: Global, facts: &Facts, rows: &[Row]) -> Result<Reply, Refusal>
+    requires { length rows.now < 2 ^ 32 }
+    ensures ok { IfOk result (λ reply. reply ≡ replies.import_reply (relations_of facts.now) rows.now) }
+    ensures memory { IfErr result (λ e. e ≡ NoMemory) }
+{
     let mut seen: BTreeSet<RowKey> = BTreeSet::new(alloc);
-    let mut added: u32 = 0;
-    let mut changed: u32 = 0;
-    let mut same: u32 = 0;
+    let mut counts = Counts {
+        added: 0,
+        changed: 0,
+        same: 0,
+    };
     for row in rows {
-        if seen.insert(row.key())? {
-            match is_stored(facts, row) {
-                None => added = added.saturating_add(1),
-                Some(false) => changed = changed.saturating_add(1),
-                Some(true) => same = same.saturating_add(1),
-            }
+        if !seen.insert(row.key())? {
+            continue;
         }
+        counts = counted(counts, is_stored(facts, row));
     }
     Ok(Reply::Imported {
-        added,
-        changed,
-        same,
+        added: counts.added,
+        changed: counts.changed,
+        same: counts.same,
     })
+}
+
+/// How many distinct keys were new, had another row, and had the same row.
+#[derive(Clone, Copy)]
+struct Counts {
+    added: u32,
+    changed: u32,
+    same: u32,
+}
+
+/// One more key, whose stored row is the same or another, or not there.
+fn counted(counts: Counts, stored: Option<bool>) -> Counts
+    requires { counts.added + counts.changed + counts.same < 2 ^ 32 - 1 }
+    ensures added { result.added ≡ counts.added + (if is_none stored then 1 else 0) }
+    ensures changed { result.changed ≡ counts.changed + (if option_map_or not stored false then 1 else 0) }
+    ensures same { result.same ≡ counts.same + (if option_map_or (λ same. same) stored false then 1 else 0) }
+{
+    match stored {
+        None => Counts {
+            added: counts.added + 1,
+            ..counts
+        },
+        Some(false) => Counts {
+            changed: counts.changed + 1,
+            ..counts
+        },
+        Some(true) => Counts {
+            same: counts.same + 1,
+            ..counts
+        },
+    }
 }
 
 /// Whether the stored row is the same, if there is one. An entry that is there is the same, live or withdrawn.

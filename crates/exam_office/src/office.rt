@@ -1,11 +1,18 @@
 //! The office: its facts and the plan of each session.
-ghost use Rattle.std.specs.Prelude.{◌≡◌, IfOk};
-ghost use Rattle.exam_rules.specs.Relations.{relations_of};
+ghost use Rattle.std.specs.Prelude.{◌≡◌, ◌⊎◌, ℕ, IsTrue, IfOk, IfErr, OnOk};
+ghost use Rattle.std.specs.Bool.{Decides};
+ghost use Rattle.exam_types.specs.declared.refusal.Refusal.TheVariants.{NoMemory, BadStore};
+ghost use Rattle.exam_plan.specs.Matching.{IsBest};
+ghost use Rattle.exam_rules.specs.Lists.{AreListsOf};
+ghost use Rattle.exam_rules.specs.Seatings.{seating, plan_of};
+ghost use Rattle.exam_office.specs.Good.{IsGood};
+ghost use Rattle.exam_office.specs.Limits.{within_limits};
+ghost use Rattle.exam_rules.specs.Relations.{Code, relations_of};
 ghost use Rattle.exam_office.specs.State.{empty_state};
 
 use crate::view::SessionView;
-use crate::{grants, limits, parts, references, repair, viewing};
-use exam_rules::Facts;
+use crate::{grants, limits, references, repair, viewing};
+use exam_rules::{Facts, SessionLists, session_lists};
 use exam_types::{HallCode, Number, Refusal, SessionCode};
 use std::alloc::Global;
 use std::collections::BTreeMap;
@@ -24,10 +31,13 @@ pub struct Office {
 impl Model for Office {
     ghost use Rattle.exam_rules.specs.Relations.{relations_of};
     ghost use Rattle.exam_office.specs.State.{State};
+    ghost use Rattle.exam_office.specs.Good.{IsGood};
 
     ghost Value = { State };
 
     ghost view = { λ a. record { relations = relations_of a.facts; seats = a.seats.entries } };
+
+    ghost invariant = { λ a. IsGood (record { relations = relations_of a.facts; seats = a.seats.entries }) };
 }
 
 impl Office {
@@ -41,18 +51,14 @@ impl Office {
         }
     }
 
-    /// The office with these facts and plans. Refused as a bad store where they are not good, and where there is not
-    /// enough memory.
+    /// The office with these facts and plans. Refused as a bad store exactly where they are not good, and where there is
+    /// not enough memory.
     pub fn from_parts(alloc: Global, facts: Facts, seats: Seats) -> Result<Self, Refusal>
-        ensures { IfOk result (λ office. office ≡ record { relations = relations_of facts; seats = seats.entries }) }
+        ensures ok { IfOk result (λ office. office ≡ record { relations = relations_of facts; seats = seats.entries }) }
+        ensures good { OnOk result (IsGood (record { relations = relations_of facts; seats = seats.entries })) }
+        ensures refusal { IfErr result (λ e. (e ≡ NoMemory) ⊎ ((e ≡ BadStore) × (IsGood (record { relations = relations_of facts; seats = seats.entries }) → ⊥))) }
     {
-        if !references::all_refer(&facts) || !grants::are_single(alloc, &facts)? {
-            return Err(Refusal::BadStore);
-        }
-        let parts = parts::session_parts(alloc, &facts)?;
-        if !limits::is_within_limits(alloc, &facts, &parts)?
-            || !repair::are_settled(alloc, &parts, &seats)?
-        {
+        if !is_good(alloc, &facts, &seats)? {
             return Err(Refusal::BadStore);
         }
         Ok(Office { facts, seats })
@@ -81,8 +87,58 @@ impl Office {
 
     /// The office with these facts and plans, which are good.
     pub(crate) fn holding(facts: Facts, seats: Seats) -> Self
+        requires { IsGood (record { relations = relations_of facts; seats = seats.entries }) }
         ensures { result ≡ record { relations = relations_of facts; seats = seats.entries } }
     {
         Office { facts, seats }
     }
+
+    /// An office is good. Does nothing.
+    pub fn is_good(&self)
+        ensures { IsGood self.now }
+    {
+        // The read of a field shows what the type keeps.
+        let _ = &self.facts;
+    }
+}
+
+/// Whether these facts and plans are good.
+fn is_good(alloc: Global, facts: &Facts, seats: &Seats) -> Result<bool, Refusal>
+    ensures ok { IfOk result (λ b. Decides b (IsGood (record { relations = relations_of facts.now; seats = seats.now.entries }))) }
+    ensures memory { IfErr result (λ e. e ≡ NoMemory) }
+{
+    if !references::all_refer(facts) || !grants::are_single(alloc, facts)? {
+        return Ok(false);
+    }
+    let lists = session_lists(alloc, facts)?;
+    if !limits::is_within_limits(facts, &lists) {
+        return Ok(false);
+    }
+    are_settled(alloc, facts, &lists, seats)
+}
+
+/// Whether every session's plan is best: whether its repair is the plan.
+fn are_settled(
+    alloc: Global,
+    facts: &Facts,
+    lists: &SessionLists,
+    seats: &Seats,
+) -> Result<bool, Refusal>
+    requires lists { AreListsOf (relations_of facts.now) lists.now }
+    requires limits { IsTrue (within_limits (relations_of facts.now)) }
+    ensures ok { IfOk result (λ b. Decides b ((s : Code) → IsBest (seating (relations_of facts.now) s) (plan_of seats.now.entries s))) }
+    ensures memory { IfErr result (λ e. e ≡ NoMemory) }
+{
+    let repaired = repair::repaired(alloc, facts, lists, seats, None)?;
+    Ok(same_seats(&repaired, seats))
+}
+
+/// Whether the same candidates sit in the same halls.
+fn same_seats(one: &Seats, other: &Seats) -> bool
+    ensures { Decides result ((s : Code) (c : ℕ) → plan_of one.now.entries s c ≡ plan_of other.now.entries s c) }
+{
+    if one.len() != other.len() {
+        return false;
+    }
+    *one == *other
 }

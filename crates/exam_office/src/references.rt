@@ -2,6 +2,7 @@
 ghost use Rattle.std.specs.Prelude.{◌≡◌, ◌∷◌, []};
 ghost use Rattle.std.specs.Result.{result_err};
 ghost use Rattle.exam_rules.specs.Relations.{relations_of};
+ghost use Rattle.exam_office.specs.Good as good;
 ghost use Rattle.exam_office.specs.Changes.{first_refusal, no_session, no_paper, no_candidate, no_hall};
 
 use exam_rules::{Appeal, Facts, Subject};
@@ -52,7 +53,9 @@ pub fn check_hall(facts: &Facts, code: &HallCode) -> Result<(), Refusal>
 }
 
 /// Whether all that the rows refer to is there.
-pub fn all_refer(facts: &Facts) -> bool {
+pub fn all_refer(facts: &Facts) -> bool
+    ensures { result ≡ good.refers (relations_of facts.now) }
+{
     papers_refer(facts)
         && openings_refer(facts)
         && entries_refer(facts)
@@ -60,56 +63,57 @@ pub fn all_refer(facts: &Facts) -> bool {
         && appeals_refer(facts)
 }
 
-fn papers_refer(facts: &Facts) -> bool {
-    for (_, paper) in &facts.papers {
-        if !facts.sessions.contains_key(&paper.session) {
-            return false;
-        }
-    }
-    true
+fn papers_refer(facts: &Facts) -> bool
+    ensures { result ≡ good.papers_refer (relations_of facts.now) }
+{
+    facts
+        .papers
+        .iter()
+        .all(|(_, paper)| facts.sessions.contains_key(&paper.session))
 }
 
-fn openings_refer(facts: &Facts) -> bool {
-    for (key, _) in &facts.openings {
-        if !facts.sessions.contains_key(&key.0) || !facts.halls.contains_key(&key.1) {
-            return false;
-        }
-    }
-    true
+fn openings_refer(facts: &Facts) -> bool
+    ensures { result ≡ good.openings_refer (relations_of facts.now) }
+{
+    facts.openings.iter().all(|(key, _)| {
+        facts.sessions.contains_key(&key.0) && facts.halls.contains_key(&key.1)
+    })
 }
 
-fn entries_refer(facts: &Facts) -> bool {
-    for (key, _) in &facts.entries {
-        if !facts.candidates.contains_key(&key.0) || !facts.papers.contains_key(&key.1) {
-            return false;
-        }
-    }
-    true
+fn entries_refer(facts: &Facts) -> bool
+    ensures { result ≡ good.entries_refer (relations_of facts.now) }
+{
+    facts.entries.iter().all(|(key, _)| {
+        facts.candidates.contains_key(&key.0) && facts.papers.contains_key(&key.1)
+    })
 }
 
-fn arrangements_refer(facts: &Facts) -> bool {
-    for (number, _) in &facts.arrangements {
-        if !facts.candidates.contains_key(number) {
-            return false;
-        }
-    }
-    true
+fn arrangements_refer(facts: &Facts) -> bool
+    ensures { result ≡ good.arrangements_refer (relations_of facts.now) }
+{
+    facts
+        .arrangements
+        .iter()
+        .all(|(number, _)| facts.candidates.contains_key(number))
 }
 
-fn appeals_refer(facts: &Facts) -> bool {
-    for (key, appeal) in &facts.appeals {
-        if !facts.candidates.contains_key(&key.0) || !appeal_refers(facts, appeal) {
-            return false;
-        }
-    }
-    true
+fn appeals_refer(facts: &Facts) -> bool
+    ensures { result ≡ good.appeals_refer (relations_of facts.now) }
+{
+    facts.appeals.iter().all(|(key, appeal)| {
+        facts.candidates.contains_key(&key.0) && appeal_refers(facts, appeal)
+    })
 }
 
-fn appeal_refers(facts: &Facts, appeal: &Appeal) -> bool {
+fn appeal_refers(facts: &Facts, appeal: &Appeal) -> bool
+    ensures { result ≡ good.appeal_refers (relations_of facts.now) appeal.now }
+{
     facts.sessions.contains_key(&appeal.session) && subject_refers(facts, &appeal.subject)
 }
 
-fn subject_refers(facts: &Facts, subject: &Subject) -> bool {
+fn subject_refers(facts: &Facts, subject: &Subject) -> bool
+    ensures { result ≡ good.subject_refers (relations_of facts.now) subject.now }
+{
     match subject {
         Subject::Hall(hall) => facts.halls.contains_key(hall),
         Subject::Clash(paper) => facts.papers.contains_key(paper),

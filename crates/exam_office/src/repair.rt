@@ -1,144 +1,140 @@
 //! The repair of the plans after a change of the facts.
-ghost use Rattle.exam_plan.specs.Problems.{IsPlan};
-ghost use Rattle.std.specs.Prelude.{◌<◌, length, IfOk, IfSome};
+ghost use Rattle.std.specs.Prelude.{◌≡◌, ◌<◌, ◌≤◌, ◌&&◌, nat_eq, position, All, slice_index_or, [], if◌then◌else◌, Some, ℕ, false, length, IsTrue, Option, None, IfOk, IfErr, OnOk, IfSome};
+ghost use Rattle.std.specs.Option.{option_map, option_and_then, option_or};
+ghost use Rattle.exam_types.specs.declared.refusal.Refusal.TheVariants.{NoMemory};
+ghost use Rattle.exam_plan.specs.Matching.{Plan, SamePlan, IsBest};
+ghost use Rattle.exam_plan.specs.Problems.{IsPlan, seating_of, plan_at};
+ghost use Rattle.exam_plan.specs.Repair.{IsRepair};
+ghost use Rattle.exam_rules.specs.Relations.{Code, Relations, relations_of, code_cmp, has_row, same_code};
+ghost use Rattle.exam_rules.specs.Sessions.{members};
+ghost use Rattle.exam_rules.specs.Seatings.{open_halls, plan_of};
+ghost use Rattle.exam_rules.specs.Names.{ListsRise, named_plan};
+ghost use Rattle.exam_rules.specs.Lists.{AreListsOf};
+ghost use Rattle.exam_office.specs.Repairs as repairs;
+ghost use Rattle.exam_office.specs.Repairs.{IsRepaired};
 
 use crate::office::Seats;
-use crate::parts::Parts;
 use exam_plan::{Plan, Problem, keep_lawful, sweep};
-use exam_rules::{Facts, ListedProblem, listed_problem};
+use exam_rules::{Facts, SessionLists, indexed_problem};
 use exam_types::{HallCode, Number, Refusal, SessionCode};
 use std::alloc::Global;
 use std::collections::BTreeMap;
 
-/// The plans of all sessions, each repaired.
-pub fn repaired(alloc: Global, parts: &Parts, seats: &Seats) -> Result<Seats, Refusal> {
+/// The plans of all sessions, each repaired, the first candidate first where they are a member.
+pub fn repaired(
+    alloc: Global,
+    facts: &Facts,
+    lists: &SessionLists,
+    seats: &Seats,
+    first: Option<Number>,
+) -> Result<Seats, Refusal>
+    requires lists { AreListsOf (relations_of facts.now) lists.now }
+    requires few { (s : Code) → IsTrue (has_row code_cmp facts.now.sessions.entries s) → length (members (relations_of facts.now) s) ≤ 4096 }
+    ensures ok { IfOk result (λ new. (s : Code) → IsRepaired (relations_of facts.now) first seats.now.entries new.entries s) }
+    ensures memory { IfErr result (λ e. e ≡ NoMemory) }
+{
     let mut repaired = BTreeMap::new(alloc);
-    for (session, part) in parts {
-        repair_session(alloc, part, session, seats, &mut repaired)?;
+    for (session, _) in &facts.sessions {
+        repair_session(alloc, facts, lists, session, seats, &first, &mut repaired)?;
     }
     Ok(repaired)
 }
 
-/// Adds the repaired plan of a session, which has these facts.
+/// Adds the repaired plan of a session, of which nobody is seated yet.
 fn repair_session(
     alloc: Global,
     facts: &Facts,
+    lists: &SessionLists,
     session: &SessionCode,
     seats: &Seats,
+    first: &Option<Number>,
     repaired: &mut Seats,
-) -> Result<(), Refusal> {
-    let listed = listed_problem(alloc, facts, session)?;
-    let plan = stored_plan(alloc, &listed, session, seats)?;
-    let plan = repaired_plan(alloc, &listed.problem, plan)?;
+) -> Result<(), Refusal>
+    requires lists { AreListsOf (relations_of facts.now) lists.now }
+    requires few { length (members (relations_of facts.now) session.now) ≤ 4096 }
+    requires fresh { (c : ℕ) → plan_of repaired.old.entries session.now c ≡ None }
+    ensures ok { OnOk result (IsRepaired (relations_of facts.now) first.now seats.now.entries repaired.new.entries session.now) }
+    ensures others { OnOk result ((s : Code) (c : ℕ) → same_code session.now s ≡ false → plan_of repaired.new.entries s c ≡ plan_of repaired.old.entries s c) }
+    ensures memory { IfErr result (λ e. e ≡ NoMemory) }
+{
+    let listed = indexed_problem(alloc, facts, lists, session)?;
+    let plan = stored_plan(alloc, &listed.numbers, &listed.halls, session, seats)?;
+    let first = place_of_number(&listed.numbers, *first);
+    let plan = repaired_plan(alloc, &listed.problem, plan, first)?;
     write_plan(session, &listed.numbers, &listed.halls, &plan, repaired)
 }
 
-fn repaired_plan(alloc: Global, problem: &Problem, plan: Plan) -> Result<Plan, Refusal>
-    requires { IsPlan problem.now plan.items }
+/// The repair of a plan by indices.
+fn repaired_plan(
+    alloc: Global,
+    problem: &Problem,
+    plan: Plan,
+    first: Option<usize>,
+) -> Result<Plan, Refusal>
+    requires plan { IsPlan problem.now plan.items }
+    requires first { IfSome first (λ c. c < length problem.now.fit) }
+    ensures plan { IfOk result (λ new. IsPlan problem.now new.items) }
+    ensures repair { IfOk result (λ new. IsRepair (seating_of problem.now) first (plan_at plan.items) (plan_at new.items)) }
+    ensures best { IfOk result (λ new. IsBest (seating_of problem.now) (plan_at new.items)) }
+    ensures memory { IfErr result (λ e. e ≡ NoMemory) }
 {
     let plan = keep_lawful(problem, plan)?;
-    sweep(alloc, problem, plan, None)
+    sweep(alloc, problem, plan, first)
 }
 
-/// Whether the repair of all sessions would change no plan.
-pub fn are_settled(alloc: Global, parts: &Parts, seats: &Seats) -> Result<bool, Refusal> {
-    let mut seated: usize = 0;
-    for (session, part) in parts {
-        match settled_count(alloc, part, session, seats)? {
-            Some(count) => seated = seated.saturating_add(count),
-            None => return Ok(false),
-        }
-    }
-    // Each seat is of a member, and in an open hall.
-    Ok(seated == seats.len())
-}
-
-/// How many members are seated in a session, which has these facts, or none where a repair would change its plan.
-fn settled_count(
-    alloc: Global,
-    facts: &Facts,
-    session: &SessionCode,
-    seats: &Seats,
-) -> Result<Option<usize>, Refusal> {
-    let listed = listed_problem(alloc, facts, session)?;
-    let plan = stored_plan(alloc, &listed, session, seats)?;
-    let copy = Vec::from_slice(alloc, plan.as_slice())?;
-    let repaired = repaired_plan(alloc, &listed.problem, copy)?;
-    if repaired.as_slice() == plan.as_slice() {
-        Ok(Some(seated_count(plan.as_slice())))
-    } else {
-        Ok(None)
+/// The place of the number, if there is one and it is listed.
+fn place_of_number(numbers: &[Number], number: Option<Number>) -> Option<usize>
+    ensures { result ≡ option_and_then (λ c. position (nat_eq c) numbers.now) number }
+{
+    match number {
+        Some(number) => place_among(numbers, &number),
+        None => None,
     }
 }
 
-fn seated_count(plan: &[Option<usize>]) -> usize {
-    plan.iter().filter(|place| place.is_some()).count()
+fn place_among(numbers: &[Number], number: &Number) -> Option<usize>
+    ensures { result ≡ position (nat_eq number.now) numbers.now }
+{
+    numbers.iter().position(|other| *number == *other)
 }
 
-/// The plan of a session by indices. Who sits in a hall that is not open has no place in it.
+/// Of each of these candidates of a session the place of their hall. Who sits in a hall that is not listed has none.
 pub fn stored_plan(
     alloc: Global,
-    listed: &ListedProblem,
+    numbers: &[Number],
+    halls: &[HallCode],
     session: &SessionCode,
     seats: &Seats,
 ) -> Result<Plan, Refusal>
-    ensures plan { IfOk result (λ plan. IsPlan listed.now.problem plan.items) }
+    ensures ok { IfOk result (λ plan. plan.items ≡ repairs.places_of seats.now.entries session.now halls.now numbers.now) }
+    ensures memory { IfErr result (λ e. e ≡ NoMemory) }
 {
-    let seated = seats_of(alloc, session, seats)?;
-    let mut plan = Vec::new(alloc);
-    for candidate in 0..listed.problem.candidate_count() {
-        let place = match listed.numbers.get(candidate) {
-            Some(number) => place_of(&listed.problem, *number, &seated, &listed.halls),
-            None => None,
-        };
-        plan.push(place)?;
-    }
+    let plan = numbers
+        .iter()
+        .map(|number| place_of(seats, session, *number, halls))
+        .collect(alloc)?;
     Ok(plan)
 }
 
-/// Who sits where in a session, numbers rising.
-fn seats_of(
-    alloc: Global,
-    session: &SessionCode,
-    seats: &Seats,
-) -> Result<Vec<(Number, HallCode)>, Refusal> {
-    let mut seated = Vec::new(alloc);
-    for (key, hall) in seats.range((*session, least_number())..) {
-        if key.0 != *session {
-            break;
-        }
-        seated.push((key.1, *hall))?;
-    }
-    Ok(seated)
-}
-
-fn least_number() -> Number {
-    Number::new(1).unwrap()
-}
-
-/// The index of the hall in which the candidate sits.
+/// The place of the hall in which the candidate sits.
 fn place_of(
-    problem: &Problem,
+    seats: &Seats,
+    session: &SessionCode,
     number: Number,
-    seated: &[(Number, HallCode)],
     halls: &[HallCode],
 ) -> Option<usize>
-    ensures { IfSome result (λ h. h < length problem.now.desk_counts) }
+    ensures { result ≡ repairs.place_of seats.now.entries session.now halls.now number }
 {
-    let hall = hall_of(number, seated)?;
-    let place = halls.iter().position(|open| *open == hall)?;
-    if place < problem.hall_count() {
-        Some(place)
-    } else {
-        None
+    match seats.get(&(*session, number)) {
+        Some(hall) => place_of_hall(halls, hall),
+        None => None,
     }
 }
 
-/// The hall in which the candidate sits, among seats by number.
-fn hall_of(number: Number, seated: &[(Number, HallCode)]) -> Option<HallCode> {
-    let place = seated.partition_point(|seat| seat.0 < number);
-    let seat = seated.get(place)?;
-    if seat.0 == number { Some(seat.1) } else { None }
+fn place_of_hall(halls: &[HallCode], hall: &HallCode) -> Option<usize>
+    ensures { result ≡ position (same_code hall.now) halls.now }
+{
+    halls.iter().position(|open| *hall == *open)
 }
 
 /// Adds the seats of a plan by indices.
@@ -148,15 +144,49 @@ fn write_plan(
     halls: &[HallCode],
     plan: &[Option<usize>],
     seats: &mut Seats,
-) -> Result<(), Refusal> {
-    for (number, place) in numbers.iter().zip(plan) {
-        if let Some(hall) = hall_at(halls, *place) {
-            seats.insert((*session, *number), hall)?;
-        }
+) -> Result<(), Refusal>
+    requires long { length plan.now ≡ length numbers.now }
+    requires exist { All (λ place. IfSome place (λ h. h < length halls.now)) plan.now }
+    requires fresh { (c : ℕ) → plan_of seats.old.entries session.now c ≡ None }
+    ensures ok { OnOk result ((r : Relations) → ListsRise r session.now → numbers.now ≡ members r session.now → halls.now ≡ open_halls r session.now
+        → SamePlan (plan_of seats.new.entries session.now) (named_plan r session.now (plan_at plan.now))) }
+    ensures others { OnOk result ((s : Code) (c : ℕ) → same_code session.now s ≡ false → plan_of seats.new.entries s c ≡ plan_of seats.old.entries s c) }
+    ensures memory { IfErr result (λ e. e ≡ NoMemory) }
+{
+    for (index, number) in numbers.iter().enumerate() {
+        add_place(seats, session, *number, halls, plan[index])?;
     }
     Ok(())
 }
 
-fn hall_at(halls: &[HallCode], place: Option<usize>) -> Option<HallCode> {
-    halls.get(place?).copied()
+/// Seats a candidate in the hall at the place, if there is one.
+fn add_place(
+    seats: &mut Seats,
+    session: &SessionCode,
+    number: Number,
+    halls: &[HallCode],
+    place: Option<usize>,
+) -> Result<(), Refusal>
+    requires { IfSome place (λ h. h < length halls.now) }
+    ensures ok { OnOk result ((s : Code) (c : ℕ) → plan_of seats.new.entries s c ≡ (if same_code session.now s && nat_eq number c then option_or (option_map (λ h. slice_index_or halls.now h []) place) (plan_of seats.old.entries s c) else plan_of seats.old.entries s c)) }
+    ensures memory { IfErr result (λ e. e ≡ NoMemory) }
+{
+    match place {
+        Some(place) => add_seat(seats, session, number, halls[place]),
+        None => Ok(()),
+    }
+}
+
+/// Seats a candidate.
+fn add_seat(
+    seats: &mut Seats,
+    session: &SessionCode,
+    number: Number,
+    hall: HallCode,
+) -> Result<(), Refusal>
+    ensures ok { OnOk result ((s : Code) (c : ℕ) → plan_of seats.new.entries s c ≡ (if same_code session.now s && nat_eq number c then Some hall else plan_of seats.old.entries s c)) }
+    ensures memory { IfErr result (λ e. e ≡ NoMemory) }
+{
+    seats.insert((*session, number), hall)?;
+    Ok(())
 }

@@ -1,4 +1,7 @@
 //! The rows of imports.
+ghost use Rattle.std.specs.Prelude.{◌≡◌};
+ghost use Rattle.exam_office.specs.Replies.{row_key};
+
 use exam_rules::{Arrangement, Candidate, Hall, Opening, Paper, Session};
 use exam_types::{HallCode, Number, PaperCode, SessionCode};
 
@@ -40,7 +43,9 @@ pub enum RowKey {
 
 impl Row {
     /// The key of the row.
-    pub fn key(&self) -> RowKey {
+    pub fn key(&self) -> RowKey
+        ensures { result ≡ row_key self.now }
+    {
         match self {
             Row::OfSession(code, _) => RowKey::OfSession(*code),
             Row::OfPaper(code, _) => RowKey::OfPaper(*code),

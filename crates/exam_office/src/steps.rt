@@ -1,15 +1,22 @@
 //! One command.
-ghost use Rattle.std.specs.Prelude.{◌≡◌, IfOk, OnOk, OnErr};
-ghost use Rattle.exam_office.specs.Changes.{changed};
-ghost use Rattle.exam_rules.specs.Relations.{relations_of};
+ghost use Rattle.std.specs.Prelude.{◌≡◌, ◌≢◌, ◌⊎◌, ℕ, None, Ok, Err, IsTrue, IfOk, IfErr, OnOk, OnErr, false};
+ghost use Rattle.exam_types.specs.declared.refusal.Refusal.TheVariants.{NoMemory, TooMany};
+ghost use Rattle.exam_rules.specs.Relations.{Code, relations_of};
+ghost use Rattle.exam_rules.specs.Names.{ListsRise};
+ghost use Rattle.exam_office.specs.Limits.{within_limits};
+ghost use Rattle.exam_office.specs.Repairs.{IsRepaired};
+ghost use Rattle.exam_office.specs.Singles.{AreSingle};
+ghost use Rattle.exam_office.specs.Good as good;
+ghost use Rattle.exam_office.specs.Steps as steps;
+ghost use Rattle.exam_office.specs.declared.command.Command.TheVariants as variant;
 
 use crate::command::{Command, Reply};
+use crate::import::Import;
 use crate::importing::imported;
 use crate::limits::is_within_limits;
 use crate::office::{Office, Seats};
-use crate::parts::session_parts;
 use crate::repair::repaired;
-use exam_rules::Facts;
+use exam_rules::{Facts, session_lists};
 use exam_types::{Day, Refusal};
 use std::alloc::Global;
 
@@ -20,12 +27,29 @@ pub fn step(
     command: &Command,
     today: Day,
 ) -> Result<Reply, Refusal>
-    ensures facts { OnOk result (office.new.relations ≡ changed command.now office.old.relations) }
+    ensures step { steps.MayStep command.now today office.old result office.new }
     ensures err { OnErr result (office.new ≡ office.old) }
 {
     let (next, reply) = next_office(alloc, office, command, today)?;
     *office = next;
     Ok(reply)
+}
+
+/// Carries out commands in order, each on its day, and gives what each answers. Refused for want of memory before any
+/// command.
+pub fn run(
+    alloc: Global,
+    office: &mut Office,
+    commands: &[(Command, Day)],
+) -> Result<Vec<Result<Reply, Refusal>>, Refusal>
+    ensures run { IfOk result (λ replies. steps.Run commands.now office.old replies.items office.new) }
+    ensures memory { IfErr result (λ e. e ≡ NoMemory) }
+{
+    let mut replies = Vec::with_capacity(alloc, commands.len())?;
+    for (command, today) in commands {
+        replies.push(step(alloc, office, command, *today))?;
+    }
+    Ok(replies)
 }
 
 /// The office after a command on a day, and what the command answers. Refused as `step` is.
@@ -35,25 +59,44 @@ pub fn next_office(
     command: &Command,
     today: Day,
 ) -> Result<(Office, Reply), Refusal>
-    ensures facts { IfOk result (λ next. next.0.relations ≡ changed command.now office.now.relations) }
+    ensures ok { IfOk result (λ next. steps.Step command.now today office.now (Ok next.1) next.0) }
+    ensures refusal { IfErr result (λ e. (e ≡ NoMemory) ⊎ steps.Step command.now today office.now (Err e) office.now) }
 {
-    let _ = today;
     match command {
-        Command::Import(import) => {
-            let (facts, reply) = imported(alloc, office.facts(), import.rows())?;
-            Ok((resettled(alloc, facts, office.seats())?, reply))
-        }
+        Command::Import(import) => with_import(alloc, office, import, today),
     }
 }
 
-/// The office with these facts, where each session's plan is repaired. Refused as too many where a limit is passed.
-fn resettled(alloc: Global, facts: Facts, seats: &Seats) -> Result<Office, Refusal>
-    ensures { IfOk result (λ office. office.relations ≡ relations_of facts) }
+/// The office after an import.
+fn with_import(
+    alloc: Global,
+    office: &Office,
+    import: &Import,
+    today: Day,
+) -> Result<(Office, Reply), Refusal>
+    ensures ok { IfOk result (λ next. steps.Step (variant.Import import.now) today office.now (Ok next.1) next.0) }
+    ensures refusal { IfErr result (λ e. (e ≡ NoMemory) ⊎ steps.Step (variant.Import import.now) today office.now (Err e) office.now) }
 {
-    let parts = session_parts(alloc, &facts)?;
-    if !is_within_limits(alloc, &facts, &parts)? {
+    let _ = today;
+    office.is_good();
+    let (facts, reply) = imported(alloc, office.facts(), import.rows())?;
+    Ok((resettled(alloc, facts, office)?, reply))
+}
+
+/// The office with these facts, where each session's plan is repaired. Refused as too many where a limit is passed.
+fn resettled(alloc: Global, facts: Facts, office: &Office) -> Result<Office, Refusal>
+    requires refer { IsTrue (good.refers (relations_of facts)) }
+    requires single { AreSingle (relations_of facts) }
+    ensures relations { IfOk result (λ next. next.relations ≡ relations_of facts) }
+    ensures limits { OnOk result (IsTrue (within_limits (relations_of facts))) }
+    ensures plans { IfOk result (λ next. (s : Code) → IsRepaired (relations_of facts) None office.now.seats next.seats s) }
+    ensures rising { OnOk result ((s : Code) → ListsRise (relations_of facts) s) }
+    ensures refusal { IfErr result (λ e. (e ≡ NoMemory) ⊎ ((e ≡ TooMany) × (within_limits (relations_of facts) ≡ false))) }
+{
+    let lists = session_lists(alloc, &facts)?;
+    if !is_within_limits(&facts, &lists) {
         return Err(Refusal::TooMany);
     }
-    let seats = repaired(alloc, &parts, seats)?;
+    let seats = repaired(alloc, &facts, &lists, office.seats(), None)?;
     Ok(Office::holding(facts, seats))
 }

@@ -18,7 +18,7 @@ pub fn view_of(
         return Err(Refusal::UnknownSession);
     };
     let listed = listed_problem(alloc, facts, session)?;
-    let plan = stored_plan(alloc, &listed, session, seats)?;
+    let plan = stored_plan(alloc, &listed.numbers, &listed.halls, session, seats)?;
     // The stored plan is best, so this changes nothing.
     let plan = sweep(
         alloc,

@@ -11,3 +11,4 @@ pub mod Sitters
 pub mod SweepNames
 pub mod Together
 pub mod Turns
+pub mod Listing

@@ -1,5 +1,5 @@
 -- One sits a paper exactly where one is a member.
-use Rattle.std.proofs.Common.{◌≡◌, ◌==◌, ℕ, subst, Bool, true, false, cond, ◌&&◌, ◌||◌, is_some, List, [], ◌∷◌, Option, Some, None, refl, sym, ap, ◌∙◌, eq-eqb}
+use Rattle.std.proofs.Common.{◌≡◌, ◌==◌, ℕ, subst, Bool, true, false, cond, ◌&&◌, ◌||◌, is_some, List, [], ◌∷◌, Option, Some, None, refl, sym, eq-eqb}
 use Rattle.std.specs.List.{list_any}
 use Rattle.std.specs.BTreeMap.{is_at}
 use Rattle.std.specs.Option.{option_map_or, option_or}

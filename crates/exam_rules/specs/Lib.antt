@@ -3,3 +3,4 @@ pub mod Sessions
 pub mod Seatings
 pub mod Examples
 pub mod Names
+pub mod Lists

@@ -1,5 +1,5 @@
 -- Who belongs to a session, which paper each sits, and under which arrangement.
-use Rattle.std.specs.Prelude.{◌≡◌, ◌⊎◌, ℕ, ◌+◌, ◌*◌, ◌/◌, ◌==◌, ◌&&◌, not, Bool, true, false, List, [], ◌∷◌, map, filter, Option, None, Some, if◌then◌else◌}
+use Rattle.std.specs.Prelude.{◌≡◌, ◌⊎◌, ℕ, ◌+◌, ◌*◌, ◌/◌, ◌==◌, ◌&&◌, not, Bool, true, false, length, List, [], ◌∷◌, map, filter, Option, None, Some, if◌then◌else◌}
 use Rattle.std.specs.List.{list_any, filter_map, flat_map}
 use Rattle.std.specs.Option.{option_map, option_and_then, option_map_or, option_or, unwrap_or}
 use Rattle.std.specs.Ordering.{nat_cmp}
@@ -15,7 +15,7 @@ use Rattle.exam_rules.specs.declared.rows.Status.{Status}
 use Rattle.exam_rules.specs.declared.rows.Status.TheVariants as status
 use Rattle.exam_rules.specs.declared.rows.Subject.{Subject}
 use Rattle.exam_rules.specs.declared.rows.Subject.TheVariants as subject
-use Rattle.exam_rules.specs.Relations.{Code, Relations, code_cmp, same_code, entry_cmp, row_at, has_row}
+use Rattle.exam_rules.specs.Relations.{Code, Relations, code_cmp, same_code, entry_cmp, row_at, has_row, is_row_of}
 
 -- the first of a list, if there is one
 abbrev pub head_of : {A : Type 0} → List A → Option A
@@ -84,6 +84,10 @@ asked_arrangement (subject.Arrangement a) = Some a
 -- a granted appeal of the candidate for the session
 abbrev pub is_granted_appeal : Code → ℕ → (ℕ × Code) × Appeal → Bool
 is_granted_appeal s c a = (a.0.0 == c) && (same_code a.1.session s && is_granted a.1.status)
+
+-- all appeals of the candidate
+abbrev pub appeal_count : Relations → ℕ → ℕ
+appeal_count r c = length (filter (is_row_of c) r.appeals)
 
 -- what they ask, references rising
 abbrev pub granted_subjects : List ((ℕ × Code) × Appeal) → Code → ℕ → List Subject

@@ -1,5 +1,5 @@
 //! What granted appeals give a candidate in a session.
-ghost use Rattle.std.specs.Prelude.{◌≡◌, ◌&&◌, [], filter, codes, IfOk, IfErr};
+ghost use Rattle.std.specs.Prelude.{◌≡◌, ◌&&◌, nat_le, [], filter, codes, IfOk, IfErr};
 ghost use Rattle.exam_types.specs.declared.refusal.Refusal.TheVariants.{NoMemory};
 ghost use Rattle.std.specs.List.{list_any};
 ghost use Rattle.std.specs.BTreeMap.Range.{entries_between};
@@ -36,12 +36,30 @@ fn no_appeal_before(facts: &Facts, number: Number, least: Reference)
 
 /// The appeals from the candidate's first on; those of later numbers follow.
 fn appeals_from<'a>(facts: &'a Facts, number: Number) -> Range<'a, (Number, Reference), Appeal>
-    // The rows that stand together are all that count for the candidate.
-    ensures { (s : Code) → spec.granted_subjects (leading (is_row_of number) result) s number ≡ spec.granted_subjects facts.now.appeals.entries s number }
+    // The rows that stand together are all of the candidate's.
+    ensures rows { leading (is_row_of number) result ≡ filter (is_row_of number) facts.now.appeals.entries }
+    ensures granted { (s : Code) → spec.granted_subjects (leading (is_row_of number) result) s number ≡ spec.granted_subjects facts.now.appeals.entries s number }
 {
     let least = least_reference();
     no_appeal_before(facts, number, least);
     facts.appeals.range((number, least)..)
+}
+
+/// Whether the candidate has at most so many appeals.
+pub fn has_at_most(facts: &Facts, number: Number, most: usize) -> bool
+    ensures { result ≡ nat_le (spec.appeal_count (relations_of facts.now) number) most }
+{
+    let mut count: usize = 0;
+    for (key, _) in appeals_from(facts, number) {
+        if key.0 != number {
+            break;
+        }
+        if count >= most {
+            return false;
+        }
+        count += 1;
+    }
+    true
 }
 
 fn is_granted(status: &Status) -> bool

@@ -5,12 +5,14 @@ mod appeals;
 mod facts;
 mod fit;
 mod laws;
+mod lists;
 mod rows;
 mod seating;
 mod sessions;
 #[cfg(test)]
 mod tests;
 
+pub use appeals::has_at_most;
 pub use facts::Facts;
 pub use fit::{finish, fits};
 pub use laws::{
@@ -19,8 +21,9 @@ pub use laws::{
     plans_come_back, repair_is_one, repairs_carry_over, repairs_come_back, sweeps_carry_over,
     sweeps_come_back,
 };
+pub use lists::{BySession, SessionLists, session_lists};
 pub use rows::{
     Appeal, Arrangement, Candidate, Entry, Hall, Opening, Paper, Session, Status, Subject,
 };
-pub use seating::{ListedProblem, listed_problem, open_halls, problem};
+pub use seating::{ListedProblem, indexed_problem, listed_problem, open_halls, problem};
 pub use sessions::{arrangement_in_force, clashes, is_member, members, sitting};

@@ -1,15 +1,17 @@
 //! The seating problem of a session.
-ghost use Rattle.std.specs.Prelude.{◌≡◌, ◌≤◌, length, map, count_by, IsTrue, IfOk, IfErr, OnOk, IsSorted};
-ghost use Rattle.std.specs.Ordering.{is_lt};
+ghost use Rattle.std.specs.Prelude.{◌≡◌, ◌⊎◌, ◌<◌, ◌≤◌, length, map, count_by, IsTrue, IfOk, IfErr, OnOk, IsSorted};
+ghost use Rattle.std.specs.Ordering.{is_lt, nat_cmp};
 ghost use Rattle.std.specs.List.Sorted.{IsStrictlySortedBy};
 ghost use Rattle.exam_rules.specs.Names.{ListsRise};
-ghost use Rattle.exam_types.specs.declared.refusal.Refusal.TheVariants.{NoMemory};
+ghost use Rattle.exam_rules.specs.Lists.{AreListsOf};
+ghost use Rattle.exam_types.specs.declared.refusal.Refusal.TheVariants.{NoMemory, TooMany};
 ghost use Rattle.exam_rules.specs.Relations.{relations_of, code_cmp, has_row};
 ghost use Rattle.exam_rules.specs.Sessions as spec;
 ghost use Rattle.exam_rules.specs.Seatings as seatings;
 
 use crate::facts::Facts;
 use crate::fit::{Room, fitting_places, opened_room};
+use crate::lists::SessionLists;
 use crate::sessions::{members, sitting};
 use exam_plan::Problem;
 use exam_types::{HallCode, Number, PaperCode, Refusal, SessionCode};
@@ -179,6 +181,48 @@ pub fn listed_problem(
         return Err(Refusal::TooMany);
     }
     let halls = open_halls(alloc, facts, session)?;
+    problem_over(alloc, facts, session, numbers, halls)
+}
+
+/// The same where the members and the open halls of all sessions are listed.
+pub fn indexed_problem(
+    alloc: Global,
+    facts: &Facts,
+    lists: &SessionLists,
+    session: &SessionCode,
+) -> Result<ListedProblem, Refusal>
+    requires { AreListsOf (relations_of facts.now) lists.now }
+    ensures numbers { IfOk result (λ listed. listed.numbers.items ≡ spec.members (relations_of facts.now) session.now) }
+    ensures halls { IfOk result (λ listed. listed.halls.items ≡ seatings.open_halls (relations_of facts.now) session.now) }
+    ensures ok { IfOk result (λ listed. listed.problem ≡ seatings.problem_of (relations_of facts.now) session.now) }
+    ensures refusal { IfErr result (λ e. (e ≡ NoMemory) ⊎ ((e ≡ TooMany) × (4096 < length (spec.members (relations_of facts.now) session.now)))) }
+{
+    let members = lists.members_of(session);
+    if members.len() > MOST_MEMBERS {
+        return Err(Refusal::TooMany);
+    }
+    let numbers = Vec::from_slice(alloc, members)?;
+    let halls = Vec::from_slice(alloc, lists.halls_of(session))?;
+    problem_over(alloc, facts, session, numbers, halls)
+}
+
+/// The seating problem over the members and the open halls of the session.
+fn problem_over(
+    alloc: Global,
+    facts: &Facts,
+    session: &SessionCode,
+    numbers: Vec<Number>,
+    halls: Vec<HallCode>,
+) -> Result<ListedProblem, Refusal>
+    requires few { length numbers.items ≤ 4096 }
+    requires numbers { numbers.items ≡ spec.members (relations_of facts.now) session.now }
+    requires halls { halls.items ≡ seatings.open_halls (relations_of facts.now) session.now }
+    requires rising { IsStrictlySortedBy nat_cmp (spec.members (relations_of facts.now) session.now) }
+    ensures numbers { IfOk result (λ listed. listed.numbers.items ≡ spec.members (relations_of facts.now) session.now) }
+    ensures halls { IfOk result (λ listed. listed.halls.items ≡ seatings.open_halls (relations_of facts.now) session.now) }
+    ensures ok { IfOk result (λ listed. listed.problem ≡ seatings.problem_of (relations_of facts.now) session.now) }
+    ensures memory { IfErr result (λ e. e ≡ NoMemory) }
+{
     let desks = desk_counts(alloc, facts, session, &halls)?;
     let (fit, keys) = fit_table(alloc, facts, session, &numbers, &halls)?;
     let rank = ranks(alloc, &keys)?;

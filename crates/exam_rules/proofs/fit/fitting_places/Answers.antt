@@ -1,7 +1,7 @@
-use Rattle.std.proofs.Common.{◌≡◌, ℕ, List, map, is_some, true, false, IfOk, Option, Some, None, not, subst, ap, sym, ◌∙◌, arith}
+use Rattle.std.proofs.Common.{◌≡◌, ℕ, List, map, is_some, true, false, IfOk, Option, subst, ap, ◌∙◌, arith}
 use Rattle.exam_rules.specs.declared.fit.Room.{Room}
 use Rattle.exam_rules.specs.Relations.{Code, relations_of}
-use Rattle.exam_rules.specs.Sessions.{is_member, barred_halls, sitting}
+use Rattle.exam_rules.specs.Sessions.{is_member, barred_halls}
 use Rattle.exam_rules.specs.Seatings.{positions, is_suiting, sitting_terms}
 use Rattle.exam_rules.proofs.Places.{fits_nowhere, fits_by_rooms}
 use Rattle.exam_rules.proofs.Sitters.{members_sit}

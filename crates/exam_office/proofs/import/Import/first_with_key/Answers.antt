@@ -1,5 +1,5 @@
-use Rattle.std.proofs.Common.{◌≡◌, ◌∙◌, ◌<◌, ◌-◌, ap, sym, arith, rules, refl, Some, None, length}
-use Rattle.std.specs.List.{find, position_from}
+use Rattle.std.proofs.Common.{◌≡◌, ◌∙◌, ◌<◌, ◌-◌, ap, sym, arith, rules, Some, None, length}
+use Rattle.std.specs.List.{find}
 use Rattle.std.specs.BTreeMap.{get}
 use Rattle.exam_office.specs.contracts.import.KeyOrd.TheImpl as keys
 use Rattle.exam_office.specs.Imports.{has_key, key_of}

@@ -1,6 +1,6 @@
-use Rattle.std.proofs.Common.{◌≡◌, ◌∙◌, ◌+◌, ap, rules, Some, None, true, false, length, inr, inl, refl}
+use Rattle.std.proofs.Common.{◌≡◌, ◌∙◌, ap, rules, Some, None, true, false, length, inr, refl}
 use Rattle.std.specs.List.{find}
-use Rattle.exam_office.specs.Imports.{has_key, key_of, kind_of, same_row, conflicts, is_consistent}
+use Rattle.exam_office.specs.Imports.{has_key, key_of, same_row, conflicts, is_consistent}
 use Rattle.exam_office.proofs.ImportConflicts.{conflicts-none, conflicts-other, conflicts-same}
 use Rattle.exam_office.proofs.ImportRowsEqual.{row_exact}
 use Rattle.exam_office.proofs.import.Import.push.Goals as goal

@@ -1,5 +1,6 @@
-use Rattle.std.proofs.Common.{◌≡◌, ◌∙◌, ◌++◌, ◌∷◌, [], rules, refl, Some, None, cond, length, false}
+use Rattle.std.proofs.Common.{◌≡◌, ◌∙◌, ◌++◌, ◌∷◌, [], rules, refl, Some, None, cond, length, false, ◌≤◌, ◌<◌, arith, ◌+◌}
 use Rattle.std.specs.List.{find}
+use Rattle.std.proofs.lemmas.List.{length-append}
 use Rattle.std.specs.BTreeMap.{get}
 use Rattle.exam_office.specs.contracts.import.KeyOrd.TheImpl as keys
 use Rattle.exam_office.specs.declared.import.Key.{Key}
@@ -17,4 +18,7 @@ invariant_of-self-2 c =
     let len : c.len.result ≡ length c.self.inside.rows.items = search rules in
     let places : (k : Key) → get keys.ghosts.cmp c.insert.new.self k ≡ cond (has_key k c.args.row) (Some (length c.self.inside.rows.items)) (get keys.ghosts.cmp c.self.inside.places k) =
     λ k. c.in_ok-insert.ensures.updates.0 k ∙ rw (key, len) refl in
-    rw more (consistent-more c.args.row c.self.inside.rows.items c.self.invariant.0 none, kind-more c.self.inside.kind c.args.row c.self.inside.rows.items kind c.self.invariant.1, λ k. places k ∙ rw (c.self.invariant.2 k) (places-new c.args.row c.self.inside.rows.items found k))
+    let room : length c.self.inside.rows.items < 4194304 = search rules in
+    let one : length (c.self.inside.rows.items ++ c.args.row ∷ []) ≡ length c.self.inside.rows.items + 1 = length-append c.self.inside.rows.items (c.args.row ∷ []) in
+    let long : length (c.self.inside.rows.items ++ c.args.row ∷ []) ≤ 4194304 = omega arith in
+    rw more (consistent-more c.args.row c.self.inside.rows.items c.self.invariant.0 none, kind-more c.self.inside.kind c.args.row c.self.inside.rows.items kind c.self.invariant.1, λ k. places k ∙ rw (c.self.invariant.2 k) (places-new c.args.row c.self.inside.rows.items found k), long)

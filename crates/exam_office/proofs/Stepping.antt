@@ -1,0 +1,83 @@
+-- An accepted import is a step.
+use Rattle.std.proofs.Common.{◌≡◌, ℕ, nat_eq, not, Bool, true, false, cond, List, [], ◌∷◌, None, Some, Ok, Err, refl, ap, sym, subst, ◌∙◌}
+use Rattle.std.specs.Option.{option_or}
+use Rattle.std.proofs.Math.Path.{fun_ext}
+use Rattle.exam_types.specs.declared.refusal.Refusal.{Refusal}
+use Rattle.exam_types.specs.declared.refusal.Refusal.TheVariants as refusal
+use Rattle.exam_plan.specs.Matching.{Seating, IsBest}
+use Rattle.exam_rules.specs.Relations.{Code, Relations, same_code, code_cmp}
+use Rattle.std.specs.Ordering.{nat_cmp}
+use Rattle.exam_rules.specs.Sessions.{members}
+use Rattle.exam_rules.specs.Seatings.{seating, plan_of, fits, desks}
+use Rattle.exam_rules.specs.Names.{ListsRise}
+use Rattle.exam_office.specs.declared.row.Row.{Row}
+use Rattle.exam_office.specs.declared.command.Command.{Command}
+use Rattle.exam_office.specs.declared.command.Command.TheVariants as command
+use Rattle.exam_office.specs.Changes.{imported, unless, first_refusal, rows_refusal, with_rows, too_many}
+use Rattle.exam_office.specs.Limits.{within_limits}
+use Rattle.exam_office.specs.Repairs.{IsRepaired}
+use Rattle.exam_office.specs.State.{State, Seats}
+use Rattle.exam_office.specs.Steps.{SameSeating, IsNextPlan, StepTo, Step}
+use Rattle.exam_office.specs.Good.{IsGood}
+use Rattle.exam_office.specs.Replies.{import_reply}
+use Rattle.exam_office.specs.declared.command.Reply.{Reply}
+use Rattle.exam_office.proofs.Staying.{best_stays, kept_stays}
+
+-- ---- the change
+
+limits_refusal : (r : Relations) (rows : List Row) (b : Bool) → within_limits (with_rows r rows) ≡ b → first_refusal (too_many (with_rows r rows) ∷ []) ≡ cond (not b) (Some refusal.TooMany) None
+limits_refusal r rows b e = ap (λ t. cond (not t) (Some refusal.TooMany) None) e
+
+pub import_accepted : (r : Relations) (rows : List Row) → rows_refusal r rows ≡ None → within_limits (with_rows r rows) ≡ true → imported r rows ≡ Ok (with_rows r rows)
+import_accepted r rows ok within = ap (λ o. unless (option_or o (first_refusal (too_many (with_rows r rows) ∷ []))) (with_rows r rows)) ok ∙ ap (λ o. unless o (with_rows r rows)) (limits_refusal r rows true within)
+
+pub import_past : (r : Relations) (rows : List Row) → rows_refusal r rows ≡ None → within_limits (with_rows r rows) ≡ false → imported r rows ≡ Err refusal.TooMany
+import_past r rows ok past = ap (λ o. unless (option_or o (first_refusal (too_many (with_rows r rows) ∷ []))) (with_rows r rows)) ok ∙ ap (λ o. unless o (with_rows r rows)) (limits_refusal r rows false past)
+
+pub import_refused : (r : Relations) (rows : List Row) (e : Refusal) → rows_refusal r rows ≡ Some e → imported r rows ≡ Err e
+import_refused r rows e refused = ap (λ o. unless (option_or o (first_refusal (too_many (with_rows r rows) ∷ []))) (with_rows r rows)) refused
+
+-- ---- the plans
+
+-- a session with the same members, fits and desks has the same seating
+pub same_seating : (r t : Relations) (s : Code) → SameSeating (seating r s) (seating t s) → seating r s ≡ seating t s
+same_seating r t s same =
+    ap (λ ms. with_parts ms (fits r s) (desks r s)) same.members
+    ∙ ap (λ f. with_parts (members t s) f (desks r s)) (fun_ext (λ c. fun_ext (same.fits c)))
+    ∙ ap (with_parts (members t s) (fits t s)) (fun_ext same.desks)
+  where
+    with_parts : List ℕ → (ℕ → Code → Bool) → (Code → ℕ) → Seating ℕ Code
+    with_parts ms f d = record { members = ms; fits = f; desks = d; same_candidate = nat_eq; same_hall = same_code; candidate_cmp = nat_cmp; hall_cmp = code_cmp }
+
+pub next_plan : (done : Command) (r t : Relations) (s : Code) (before after : Seats) → ListsRise t s → IsBest (seating r s) (plan_of before s) → IsRepaired t None before after s
+    → IsNextPlan done (seating r s) (seating t s) (plan_of before s) (plan_of after s)
+next_plan (command.Import import) r t s before after up best done = record {
+  best = done.best;
+  untouched = λ same. best_stays t s up None (plan_of before s) (plan_of after s) (subst (λ g. IsBest g (plan_of before s)) (same_seating r t s same) best) done.repair;
+  kept = kept_stays (seating t s) None (plan_of before s) (plan_of after s) done.repair;
+  repair = done.repair;
+}
+
+-- ---- by cases of the command
+
+abbrev pub rows_of : Command → List Row
+rows_of (command.Import import) = import.rows
+
+pub step_accepted : (done : Command) (today : ℕ) (before after : State) (rows : List Row) (t : Relations) (reply : Reply) → rows ≡ rows_of done
+    → rows_refusal before.relations rows ≡ None → t ≡ with_rows before.relations rows → within_limits t ≡ true → after.relations ≡ t
+    → reply ≡ import_reply before.relations rows
+    → ((s : Code) → ListsRise t s) → IsGood before → ((s : Code) → IsRepaired t None before.seats after.seats s) → Step done today before (Ok reply) after
+step_accepted (command.Import import) today before after rows t reply are ok is within facts says up good plans =
+    let new : t ≡ with_rows before.relations import.rows = is ∙ ap (with_rows before.relations) are in
+    let accepted : imported before.relations import.rows ≡ Ok (with_rows before.relations import.rows) =
+    import_accepted before.relations import.rows (ap (rows_refusal before.relations) (sym are) ∙ ok) (ap within_limits (sym new) ∙ within) in
+    subst (StepTo (command.Import import) before (Ok reply) after) (sym accepted) (
+      facts ∙ new,
+      λ s. subst (λ u. IsNextPlan (command.Import import) (seating before.relations s) (seating u s) (plan_of before.seats s) (plan_of after.seats s)) new
+          (next_plan (command.Import import) before.relations t s before.seats after.seats (up s) (good.best s) (plans s)),
+      ap Ok (says ∙ ap (import_reply before.relations) are),
+    )
+
+pub step_refused : (done : Command) (today : ℕ) (before : State) (rows : List Row) (e : Refusal) → rows ≡ rows_of done → imported before.relations rows ≡ Err e → Step done today before (Err e) before
+step_refused (command.Import import) today before rows e are refused =
+    subst (StepTo (command.Import import) before (Err e) before) (sym (ap (imported before.relations) (sym are) ∙ refused)) (refl, refl)

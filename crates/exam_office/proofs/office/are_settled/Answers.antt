@@ -1,0 +1,17 @@
+use Rattle.std.proofs.Common.{None, subst}
+use Rattle.std.proofs.Math.Path.{fun_ext}
+use Rattle.exam_plan.specs.Matching.{IsBest}
+use Rattle.exam_rules.specs.Relations.{relations_of}
+use Rattle.exam_rules.specs.Seatings.{seating, plan_of}
+use Rattle.exam_office.proofs.SameSeats.{few_members}
+use Rattle.exam_office.proofs.Staying.{best_stays}
+use Rattle.exam_office.proofs.office.are_settled.Goals as goal
+
+pub repaired-requires-clause-few : goal.repaired-requires-clause-few
+repaired-requires-clause-few c = few_members (relations_of c.args.facts.now) c.requires.limits
+
+pub returns-clause-ok : goal.returns-clause-ok
+returns-clause-ok c = (
+  λ e s. subst (IsBest (seating (relations_of c.args.facts.now) s)) (fun_ext (c.same_seats.ensures.0 e s)) (c.in_ok-repaired.ensures.ok s).best,
+  λ best. c.same_seats.ensures.1 (λ s. best_stays (relations_of c.args.facts.now) s (c.requires.lists.rising s) None (plan_of c.args.seats.now.entries s) (plan_of c.in_ok-repaired.repaired.entries s) (best s) (c.in_ok-repaired.ensures.ok s).repair),
+)

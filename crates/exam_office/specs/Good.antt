@@ -1,0 +1,50 @@
+-- A good office.
+use Rattle.std.specs.Prelude.{◌&&◌, Bool, true, IsTrue}
+use Rattle.std.specs.List.{list_all}
+use Rattle.std.specs.Ordering.{nat_cmp}
+use Rattle.exam_plan.specs.Matching.{IsBest}
+use Rattle.exam_rules.specs.declared.rows.Appeal.{Appeal}
+use Rattle.exam_rules.specs.declared.rows.Subject.{Subject}
+use Rattle.exam_rules.specs.declared.rows.Subject.TheVariants as subject
+use Rattle.exam_rules.specs.Relations.{Code, Relations, code_cmp, has_row}
+use Rattle.exam_rules.specs.Seatings.{seating, plan_of}
+use Rattle.exam_office.specs.Limits.{within_limits}
+use Rattle.exam_office.specs.State.{State}
+use Rattle.exam_office.specs.Singles.{AreSingle}
+
+-- ---- what each row refers to is there
+
+abbrev pub papers_refer : Relations → Bool
+papers_refer r = list_all (λ x. has_row code_cmp r.sessions x.1.session) r.papers
+
+abbrev pub openings_refer : Relations → Bool
+openings_refer r = list_all (λ x. has_row code_cmp r.sessions x.0.0 && has_row code_cmp r.halls x.0.1) r.openings
+
+abbrev pub entries_refer : Relations → Bool
+entries_refer r = list_all (λ x. has_row nat_cmp r.candidates x.0.0 && has_row code_cmp r.papers x.0.1) r.entries
+
+abbrev pub arrangements_refer : Relations → Bool
+arrangements_refer r = list_all (λ x. has_row nat_cmp r.candidates x.0) r.arrangements
+
+-- what an appeal's subject names is there
+abbrev pub subject_refers : Relations → Subject → Bool
+subject_refers r (subject.Hall h) = has_row code_cmp r.halls h
+subject_refers r (subject.Clash p) = has_row code_cmp r.papers p
+subject_refers r (subject.Arrangement a) = true
+
+abbrev pub appeal_refers : Relations → Appeal → Bool
+appeal_refers r a = has_row code_cmp r.sessions a.session && subject_refers r a.subject
+
+abbrev pub appeals_refer : Relations → Bool
+appeals_refer r = list_all (λ x. has_row nat_cmp r.candidates x.0.0 && appeal_refers r x.1) r.appeals
+
+abbrev pub refers : Relations → Bool
+refers r = papers_refer r && (openings_refer r && (entries_refer r && (arrangements_refer r && appeals_refer r)))
+
+-- References and limits hold; a candidate has at most one granted clash appeal, one granted arrangement appeal and one
+-- open appeal of a kind for a session; every session's plan is best.
+pub record IsGood (office : State) : Type 0 where
+  pub refer : IsTrue (refers office.relations)
+  pub limits : IsTrue (within_limits office.relations)
+  pub single : AreSingle office.relations
+  pub best : (s : Code) → IsBest (seating office.relations s) (plan_of office.seats s)

@@ -1,0 +1,41 @@
+-- Appeals that stand alone.
+use Rattle.std.specs.Prelude.{ℕ, Option, None, Some}
+use Rattle.std.specs.List.{filter_map, IsDistinct}
+use Rattle.std.specs.Option.{option_map}
+use Rattle.std.specs.Ordering.{eq_by_cmp, nat_cmp, ordering_then}
+use Rattle.std.specs.declared.cmp.Ordering.{Ordering}
+use Rattle.exam_rules.specs.declared.rows.Appeal.{Appeal}
+use Rattle.exam_rules.specs.declared.rows.Status.{Status}
+use Rattle.exam_rules.specs.declared.rows.Status.TheVariants as status
+use Rattle.exam_rules.specs.declared.rows.Subject.{Subject}
+use Rattle.exam_rules.specs.declared.rows.Subject.TheVariants as subject
+use Rattle.exam_rules.specs.Relations.{Code, Relations, code_cmp}
+use Rattle.exam_office.specs.contracts.grants.SingleOrd.TheImpl as singles
+use Rattle.exam_office.specs.declared.grants.Single.{Single}
+use Rattle.exam_office.specs.declared.grants.Single.TheVariants as single
+
+-- as what an appeal of this status and subject stands alone, if it does
+abbrev pub single_as : Status → Subject → Option Single
+single_as (status.Granted answer) (subject.Hall h) = None
+single_as (status.Granted answer) (subject.Clash p) = Some single.GrantedClash
+single_as (status.Granted answer) (subject.Arrangement a) = Some single.GrantedArrangement
+single_as status.Pending (subject.Hall h) = Some single.OpenHall
+single_as status.Pending (subject.Clash p) = Some single.OpenClash
+single_as status.Pending (subject.Arrangement a) = Some single.OpenArrangement
+single_as (status.Refused answer) asked = None
+single_as status.Retracted asked = None
+single_as (status.Superseded answer) asked = None
+
+-- session, candidate and kind
+abbrev pub SingleKey : Type 0
+SingleKey = Code × ℕ × Single
+
+abbrev pub single_key : (ℕ × Code) × Appeal → Option SingleKey
+single_key a = option_map (λ kind. (a.1.session, a.0.0, kind)) (single_as a.1.status a.1.subject)
+
+abbrev pub single_cmp : SingleKey → SingleKey → Ordering
+single_cmp x y = ordering_then (ordering_then (code_cmp x.0 y.0) (nat_cmp x.1 y.1)) (singles.ghosts.cmp x.2 y.2)
+
+-- no two of them agree in all three
+abbrev pub AreSingle : Relations → Type 0
+AreSingle r = IsDistinct (eq_by_cmp single_cmp) (filter_map single_key r.appeals)

@@ -1,0 +1,58 @@
+-- One command, and lists of commands.
+use Rattle.std.specs.Prelude.{◌≡◌, ◌⊎◌, ℕ, List, [], ◌∷◌, Option, None, IsSome, Result, Ok, Err}
+use Rattle.exam_types.specs.declared.refusal.Refusal.{Refusal}
+use Rattle.exam_types.specs.declared.refusal.Refusal.TheVariants.{NoMemory}
+use Rattle.exam_plan.specs.Matching.{Seating, Plan, SamePlan, IsBest}
+use Rattle.exam_plan.specs.Repair.{kept_part, IsRepair}
+use Rattle.exam_rules.specs.Relations.{Code, Relations}
+use Rattle.exam_rules.specs.Seatings.{seating, plan_of}
+use Rattle.exam_office.specs.declared.command.Command.{Command}
+use Rattle.exam_office.specs.declared.command.Command.TheVariants as command
+use Rattle.exam_office.specs.declared.command.Reply.{Reply}
+use Rattle.exam_office.specs.Changes.{change}
+use Rattle.exam_office.specs.Replies.{reply_of}
+use Rattle.exam_office.specs.State.{State}
+
+-- whom the new plan of a session seats for certain: after an import those whom the repair does not put out
+abbrev pub SeatsOn : Command → Seating ℕ Code → Plan ℕ Code → Plan ℕ Code → Type 0
+SeatsOn (command.Import import) g before after = (c : ℕ) → IsSome (kept_part g before c) → IsSome (after c)
+
+-- the same members, fits and desks
+pub record SameSeating (a b : Seating ℕ Code) : Type 0 where
+  pub members : a.members ≡ b.members
+  pub fits : (c : ℕ) (h : Code) → a.fits c h ≡ b.fits c h
+  pub desks : (h : Code) → a.desks h ≡ b.desks h
+
+-- who is seated first
+abbrev pub first_seated : Command → Option ℕ
+first_seated (command.Import import) = None
+
+-- the plan of one session after an accepted command
+pub record IsNextPlan (done : Command) (old new : Seating ℕ Code) (before after : Plan ℕ Code) : Type 0 where
+  pub best : IsBest new after
+  pub untouched : SameSeating old new → SamePlan after before
+  pub kept : SeatsOn done new before after
+  pub repair : IsRepair new (first_seated done) before after
+
+abbrev pub StepTo : Command → State → Result Reply Refusal → State → Result Relations Refusal → Type 0
+StepTo done before reply after (Err e) = (reply ≡ Err e) × (after ≡ before)
+StepTo done before reply after (Ok r) =
+    (after.relations ≡ r)
+    × ((s : Code) → IsNextPlan done (seating before.relations s) (seating r s) (plan_of before.seats s) (plan_of after.seats s))
+    × (reply ≡ Ok (reply_of done before.relations))
+
+-- the command, on that day, leads from one state to the other with that reply
+abbrev pub Step : Command → ℕ → State → Result Reply Refusal → State → Type 0
+Step done today before reply after = StepTo done before reply after (change done today before.relations)
+
+-- the same, or want of memory, and then nothing has changed
+abbrev pub MayStep : Command → ℕ → State → Result Reply Refusal → State → Type 0
+MayStep done today before reply after = ((reply ≡ Err NoMemory) × (after ≡ before)) ⊎ Step done today before reply after
+
+-- ---- lists of commands, each with its day
+
+abbrev pub Run : List (Command × ℕ) → State → List (Result Reply Refusal) → State → Type 0
+Run [] before [] after = after ≡ before
+Run (done ∷ rest) before (reply ∷ replies) after = (mid : State) × MayStep done.0 done.1 before reply mid × Run rest mid replies after
+Run [] before (reply ∷ replies) after = ⊥
+Run (done ∷ rest) before [] after = ⊥

@@ -1,0 +1,179 @@
+//! The members and the open halls of all sessions, listed in one walk over the facts.
+ghost use Rattle.std.specs.Prelude.{◌≡◌, ◌++◌, ◌∷◌, [], IfOk, IfErr, OnOk, if◌then◌else◌};
+ghost use Rattle.std.specs.List.Sorted.{IsStrictlySortedBy};
+ghost use Rattle.std.specs.Ordering.{nat_cmp};
+ghost use Rattle.exam_types.specs.declared.refusal.Refusal.TheVariants.{NoMemory};
+ghost use Rattle.exam_rules.specs.Relations.{Code, relations_of, code_cmp, same_code};
+ghost use Rattle.exam_rules.specs.Sessions as spec;
+ghost use Rattle.exam_rules.specs.Seatings as seatings;
+ghost use Rattle.exam_rules.specs.Lists as listing;
+
+use crate::facts::Facts;
+use crate::rows::Entry;
+use crate::sessions::entries_from;
+use exam_types::{HallCode, Number, PaperCode, Refusal, SessionCode};
+use std::alloc::Global;
+use std::collections::BTreeMap;
+
+/// Of each session a list, which is empty where the map has none.
+pub type BySession<T> = BTreeMap<SessionCode, Vec<T>>;
+
+/// The members and the open halls of each session.
+#[derive(Drop)]
+pub struct SessionLists {
+    pub members: BySession<Number>,
+    pub halls: BySession<HallCode>,
+}
+
+/// Appends to the session's list.
+fn append<T: Copy + Drop>(
+    alloc: Global,
+    lists: &mut BySession<T>,
+    session: SessionCode,
+    value: T,
+) -> Result<(), Refusal>
+    ensures ok { OnOk result ((s : Code) → listing.listed lists.new.entries s ≡ (if same_code session s then listing.listed lists.old.entries s ++ value ∷ [] else listing.listed lists.old.entries s)) }
+    ensures memory { IfErr result (λ e. e ≡ NoMemory) }
+{
+    match lists.get_mut(&session) {
+        Some(list) => {
+            list.push(value)?;
+            Ok(())
+        }
+        None => {
+            let list = one(alloc, value)?;
+            lists.insert(session, list)?;
+            Ok(())
+        }
+    }
+}
+
+/// A list of one value.
+fn one<T: Copy + Drop>(alloc: Global, value: T) -> Result<Vec<T>, Refusal>
+    ensures ok { IfOk result (λ list. list.items ≡ value ∷ []) }
+    ensures memory { IfErr result (λ e. e ≡ NoMemory) }
+{
+    let mut list = Vec::new(alloc);
+    list.push(value)?;
+    Ok(list)
+}
+
+fn listed<'a, T: Copy>(lists: &'a BySession<T>, session: &SessionCode) -> &'a [T]
+    ensures { result.now ≡ listing.listed lists.now.entries session.now }
+{
+    match lists.get(session) {
+        Some(list) => list.as_slice(),
+        None => &[],
+    }
+}
+
+/// Whether the number is the last of the list.
+fn ends_with(numbers: &[Number], number: Number) -> bool
+    ensures { result ≡ listing.ends_with numbers.now number }
+{
+    match numbers.last() {
+        Some(last) => *last == number,
+        None => false,
+    }
+}
+
+/// Appends the number to the session's list, where it is not its last.
+fn append_last(
+    alloc: Global,
+    members: &mut BySession<Number>,
+    session: SessionCode,
+    number: Number,
+) -> Result<(), Refusal>
+    ensures ok { OnOk result ((s : Code) → listing.listed members.new.entries s ≡ (if same_code session s then listing.with_last number (listing.listed members.old.entries s) else listing.listed members.old.entries s)) }
+    ensures memory { IfErr result (λ e. e ≡ NoMemory) }
+{
+    if ends_with(listed(members, &session), number) {
+        return Ok(());
+    }
+    append(alloc, members, session, number)
+}
+
+/// The session for which a live entry counts.
+fn entered_session(facts: &Facts, paper: &PaperCode, entry: &Entry) -> Option<SessionCode>
+    ensures { result ≡ listing.entered_session (relations_of facts.now) paper.now entry.now }
+{
+    if !entry.live {
+        return None;
+    }
+    let row = facts.papers.get(paper)?;
+    Some(row.session)
+}
+
+/// Appends the candidate to the list of each session of which they are a member.
+fn append_member(
+    alloc: Global,
+    facts: &Facts,
+    number: Number,
+    members: &mut BySession<Number>,
+) -> Result<(), Refusal>
+    ensures ok { OnOk result ((s : Code) → listing.listed members.new.entries s ≡ (if spec.is_member (relations_of facts.now) s number then listing.with_last number (listing.listed members.old.entries s) else listing.listed members.old.entries s)) }
+    ensures memory { IfErr result (λ e. e ≡ NoMemory) }
+{
+    for (key, entry) in entries_from(facts, number) {
+        if key.0 != number {
+            break;
+        }
+        if let Some(session) = entered_session(facts, &key.1, entry) {
+            append_last(alloc, members, session, number)?;
+        }
+    }
+    Ok(())
+}
+
+/// Of each session its members, numbers rising.
+fn members_by_session(alloc: Global, facts: &Facts) -> Result<BySession<Number>, Refusal>
+    ensures ok { IfOk result (λ members. (s : Code) → listing.listed members.entries s ≡ spec.members (relations_of facts.now) s) }
+    ensures rising { OnOk result ((s : Code) → IsStrictlySortedBy nat_cmp (spec.members (relations_of facts.now) s)) }
+    ensures memory { IfErr result (λ e. e ≡ NoMemory) }
+{
+    let mut members = BTreeMap::new(alloc);
+    for (number, _) in &facts.candidates {
+        append_member(alloc, facts, *number, &mut members)?;
+    }
+    Ok(members)
+}
+
+/// Of each session the halls opened for it, codes rising.
+fn halls_by_session(alloc: Global, facts: &Facts) -> Result<BySession<HallCode>, Refusal>
+    ensures ok { IfOk result (λ halls. (s : Code) → listing.listed halls.entries s ≡ seatings.open_halls (relations_of facts.now) s) }
+    ensures rising { OnOk result ((s : Code) → IsStrictlySortedBy code_cmp (seatings.open_halls (relations_of facts.now) s)) }
+    ensures memory { IfErr result (λ e. e ≡ NoMemory) }
+{
+    let mut halls = BTreeMap::new(alloc);
+    for (key, _) in &facts.openings {
+        append(alloc, &mut halls, key.0, key.1)?;
+    }
+    Ok(halls)
+}
+
+/// The members and the open halls of all sessions.
+pub fn session_lists(alloc: Global, facts: &Facts) -> Result<SessionLists, Refusal>
+    ensures ok { IfOk result (λ both. listing.AreListsOf (relations_of facts.now) both) }
+    ensures memory { IfErr result (λ e. e ≡ NoMemory) }
+{
+    Ok(SessionLists {
+        members: members_by_session(alloc, facts)?,
+        halls: halls_by_session(alloc, facts)?,
+    })
+}
+
+impl SessionLists {
+    /// The members of the session.
+    pub fn members_of(&self, session: &SessionCode) -> &[Number]
+        ensures { result.now ≡ listing.listed self.now.members.entries session.now }
+    {
+        listed(&self.members, session)
+    }
+
+    /// The halls opened for the session.
+    pub fn halls_of(&self, session: &SessionCode) -> &[HallCode]
+        ensures { result.now ≡ listing.listed self.now.halls.entries session.now }
+    {
+        listed(&self.halls, session)
+    }
+}
