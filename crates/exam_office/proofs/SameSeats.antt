@@ -15,7 +15,7 @@ use Rattle.exam_rules.specs.Relations.{Code, Relations, same_code, code_cmp, sea
 use Rattle.exam_rules.specs.Sessions.{members}
 use Rattle.exam_rules.specs.Seatings.{plan_of}
 use Rattle.exam_rules.proofs.Naming.{same_code_exact, same_code_itself}
-use Rattle.exam_office.specs.Limits.{within_limits, tables_within, sessions_within, appellants_within, session_within, opening_count}
+use Rattle.exam_office.specs.Limits.{within_limits, sessions_within, papers_within, halls_within, openings_within, candidates_within, members_within, appeals_within}
 use Rattle.exam_office.proofs.AllSessions.{known_among}
 
 pub seats_total : IsTotalOrder seat_cmp
@@ -43,9 +43,16 @@ all_at p (k ∷ keys) s every among = inner (same_code s k) refl among (all_at p
     inner true e among rest = ap p (same_code_exact s k e) ∙ (and_parts (p k) (list_all p keys) every).0
     inner false e among rest = rest among
 
--- within the limits no session has too many members
-pub few_members : (r : Relations) → IsTrue (within_limits r) → (s : Code) → IsTrue (has_row code_cmp r.sessions s) → length (members r s) ≤ 4096
-few_members r limits s known =
-    let sessions = (and_parts (sessions_within r) (appellants_within r) (and_parts (tables_within r) (sessions_within r && appellants_within r) limits).1).0 in
-    let within : session_within r s ≡ true = all_at (session_within r) (keys_of r.sessions) s sessions (sym (known_among s r.sessions) ∙ known) in
-    leb-true (length (members r s)) 4096 (and_parts (nat_le (length (members r s)) 4096) (nat_le (opening_count r s) 128) within).0
+pub within_members : (r : Relations) → IsTrue (within_limits r) → IsTrue (members_within r)
+within_members r limits =
+    let from_members = members_within r && appeals_within r in
+    let from_openings = openings_within r && (candidates_within r && from_members) in
+    let past_sessions = and_parts (sessions_within r) (papers_within r && (halls_within r && from_openings)) limits in
+    let past_halls = and_parts (halls_within r) from_openings (and_parts (papers_within r) (halls_within r && from_openings) past_sessions.1).1 in
+    let past_openings = and_parts (openings_within r) (candidates_within r && from_members) past_halls.1 in
+    (and_parts (members_within r) (appeals_within r) (and_parts (candidates_within r) from_members past_openings.1).1).0
+
+-- within its limit no session has too many members
+pub few_members : (r : Relations) → IsTrue (members_within r) → (s : Code) → IsTrue (has_row code_cmp r.sessions s) → length (members r s) ≤ 4096
+few_members r within s known =
+    leb-true (length (members r s)) 4096 (all_at (λ t. nat_le (length (members r t)) 4096) (keys_of r.sessions) s within (sym (known_among s r.sessions) ∙ known))

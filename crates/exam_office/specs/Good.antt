@@ -1,5 +1,5 @@
 -- A good office.
-use Rattle.std.specs.Prelude.{◌&&◌, Bool, true, IsTrue}
+use Rattle.std.specs.Prelude.{◌≡◌, ◌&&◌, ◌⊎◌, Bool, true, IsTrue, List, [], ◌∷◌, Option, None, Some}
 use Rattle.std.specs.List.{list_all}
 use Rattle.std.specs.Ordering.{nat_cmp}
 use Rattle.exam_plan.specs.Matching.{IsBest}
@@ -8,9 +8,12 @@ use Rattle.exam_rules.specs.declared.rows.Subject.{Subject}
 use Rattle.exam_rules.specs.declared.rows.Subject.TheVariants as subject
 use Rattle.exam_rules.specs.Relations.{Code, Relations, code_cmp, has_row}
 use Rattle.exam_rules.specs.Seatings.{seating, plan_of}
+use Rattle.exam_office.specs.Limits as limits
 use Rattle.exam_office.specs.Limits.{within_limits}
 use Rattle.exam_office.specs.State.{State}
 use Rattle.exam_office.specs.Singles.{AreSingle}
+use Rattle.exam_office.specs.declared.tables.Table.{Table}
+use Rattle.exam_office.specs.declared.tables.Table.TheVariants as table
 
 -- ---- what each row refers to is there
 
@@ -48,3 +51,32 @@ pub record IsGood (office : State) : Type 0 where
   pub limits : IsTrue (within_limits office.relations)
   pub single : AreSingle office.relations
   pub best : (s : Code) → IsBest (seating office.relations s) (plan_of office.seats s)
+
+-- ---- table by table
+
+-- The rows of the table refer to what is there, and the limits that belong to it hold; of appeals those that stand
+-- alone do; of seats every session's plan is best.
+abbrev pub IsTableGood : State → Table → Type 0
+IsTableGood office table.Sessions = IsTrue (limits.sessions_within office.relations)
+IsTableGood office table.Papers = IsTrue (limits.papers_within office.relations && papers_refer office.relations)
+IsTableGood office table.Halls = IsTrue (limits.halls_within office.relations)
+IsTableGood office table.Openings = IsTrue (limits.openings_within office.relations && openings_refer office.relations)
+IsTableGood office table.Candidates = IsTrue (limits.candidates_within office.relations)
+IsTableGood office table.Entries = IsTrue (limits.members_within office.relations && entries_refer office.relations)
+IsTableGood office table.Arrangements = IsTrue (arrangements_refer office.relations)
+IsTableGood office table.Appeals = IsTrue (limits.appeals_within office.relations && appeals_refer office.relations) × AreSingle office.relations
+IsTableGood office table.Seats = (s : Code) → IsBest (seating office.relations s) (plan_of office.seats s)
+
+-- in the order in which they are looked at
+abbrev pub tables : List Table
+tables =
+    table.Sessions ∷ table.Papers ∷ table.Halls ∷ table.Openings ∷ table.Candidates ∷ table.Entries ∷ table.Arrangements
+    ∷ table.Appeals ∷ table.Seats ∷ []
+
+-- the first of these tables that is not good, or none
+abbrev pub IsFirstBadOf : State → List Table → Option Table → Type 0
+IsFirstBadOf office [] found = found ≡ None
+IsFirstBadOf office (t ∷ ts) found = ((IsTableGood office t → ⊥) × (found ≡ Some t)) ⊎ (IsTableGood office t × IsFirstBadOf office ts found)
+
+abbrev pub IsFirstBad : State → Option Table → Type 0
+IsFirstBad office found = IsFirstBadOf office tables found

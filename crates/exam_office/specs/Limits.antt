@@ -1,25 +1,36 @@
--- The limits on the facts.
+-- The limits on the facts, by the table to which each belongs.
 use Rattle.std.specs.Prelude.{ℕ, ◌&&◌, nat_le, Bool, length}
 use Rattle.std.specs.List.{list_all}
 use Rattle.std.specs.Map.{keys_of}
-use Rattle.exam_rules.specs.Relations.{Code, Relations}
+use Rattle.exam_rules.specs.Relations.{Relations}
 use Rattle.exam_rules.specs.Sessions.{members, appeal_count}
 use Rattle.exam_rules.specs.Seatings.{open_halls}
 
-abbrev pub opening_count : Relations → Code → ℕ
-opening_count r s = length (open_halls r s)
-
-abbrev pub tables_within : Relations → Bool
-tables_within r = nat_le (length r.candidates) 20000 && (nat_le (length r.sessions) 400 && (nat_le (length r.papers) 2000 && nat_le (length r.halls) 500))
-
-abbrev pub session_within : Relations → Code → Bool
-session_within r s = nat_le (length (members r s)) 4096 && nat_le (opening_count r s) 128
-
 abbrev pub sessions_within : Relations → Bool
-sessions_within r = list_all (session_within r) (keys_of r.sessions)
+sessions_within r = nat_le (length r.sessions) 400
 
-abbrev pub appellants_within : Relations → Bool
-appellants_within r = list_all (λ c. nat_le (appeal_count r c) 64) (keys_of r.candidates)
+abbrev pub papers_within : Relations → Bool
+papers_within r = nat_le (length r.papers) 2000
+
+abbrev pub halls_within : Relations → Bool
+halls_within r = nat_le (length r.halls) 500
+
+-- of each session
+abbrev pub openings_within : Relations → Bool
+openings_within r = list_all (λ s. nat_le (length (open_halls r s)) 128) (keys_of r.sessions)
+
+abbrev pub candidates_within : Relations → Bool
+candidates_within r = nat_le (length r.candidates) 20000
+
+-- of each session
+abbrev pub members_within : Relations → Bool
+members_within r = list_all (λ s. nat_le (length (members r s)) 4096) (keys_of r.sessions)
+
+-- of each candidate
+abbrev pub appeals_within : Relations → Bool
+appeals_within r = list_all (λ c. nat_le (appeal_count r c) 64) (keys_of r.candidates)
 
 abbrev pub within_limits : Relations → Bool
-within_limits r = tables_within r && (sessions_within r && appellants_within r)
+within_limits r =
+    sessions_within r && (papers_within r && (halls_within r && (openings_within r && (candidates_within r
+    && (members_within r && appeals_within r)))))

@@ -12,6 +12,7 @@ mod references;
 mod repair;
 mod row;
 mod steps;
+mod tables;
 mod view;
 mod viewing;
 
@@ -20,4 +21,5 @@ pub use import::Import;
 pub use office::{Office, Seats};
 pub use row::{Kind, Row};
 pub use steps::{next_office, run, step};
+pub use tables::{Table, first_bad_table};
 pub use view::{Seat, SessionShortage, SessionView};

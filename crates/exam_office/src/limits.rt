@@ -1,24 +1,19 @@
-//! The limits on the facts.
-ghost use Rattle.std.specs.Prelude.{◌≡◌, ◌&&◌, nat_le, length};
+//! The limits on the facts, by the table to which each belongs.
+ghost use Rattle.std.specs.Prelude.{◌≡◌};
 ghost use Rattle.exam_rules.specs.Relations.{relations_of};
-ghost use Rattle.exam_rules.specs.Sessions.{members};
 ghost use Rattle.exam_rules.specs.Lists.{AreListsOf};
 ghost use Rattle.exam_office.specs.Limits as spec;
 
 use exam_rules::{Facts, SessionLists, has_at_most};
-use exam_types::SessionCode;
-
-const MOST_CANDIDATES: usize = 20_000;
 
 const MOST_SESSIONS: usize = 400;
-
 const MOST_PAPERS: usize = 2_000;
-
 const MOST_HALLS: usize = 500;
 /// In a session.
-const MOST_MEMBERS: usize = 4_096;
-/// In a session.
 const MOST_OPENINGS: usize = 128;
+const MOST_CANDIDATES: usize = 20_000;
+/// In a session.
+const MOST_MEMBERS: usize = 4_096;
 /// Of a candidate.
 const MOST_APPEALS: usize = 64;
 
@@ -27,42 +22,64 @@ pub fn is_within_limits(facts: &Facts, lists: &SessionLists) -> bool
     requires { AreListsOf (relations_of facts.now) lists.now }
     ensures { result ≡ spec.within_limits (relations_of facts.now) }
 {
-    are_tables_within(facts) && are_sessions_within(facts, lists) && are_appellants_within(facts)
+    are_sessions_within(facts)
+        && are_papers_within(facts)
+        && are_halls_within(facts)
+        && are_openings_within(facts, lists)
+        && are_candidates_within(facts)
+        && are_members_within(facts, lists)
+        && are_appeals_within(facts)
 }
 
-fn are_tables_within(facts: &Facts) -> bool
-    ensures { result ≡ spec.tables_within (relations_of facts.now) }
-{
-    facts.candidates.len() <= MOST_CANDIDATES
-        && facts.sessions.len() <= MOST_SESSIONS
-        && facts.papers.len() <= MOST_PAPERS
-        && facts.halls.len() <= MOST_HALLS
-}
-
-/// Whether no session has too many members or openings.
-fn are_sessions_within(facts: &Facts, lists: &SessionLists) -> bool
-    requires { AreListsOf (relations_of facts.now) lists.now }
+pub fn are_sessions_within(facts: &Facts) -> bool
     ensures { result ≡ spec.sessions_within (relations_of facts.now) }
+{
+    facts.sessions.len() <= MOST_SESSIONS
+}
+
+pub fn are_papers_within(facts: &Facts) -> bool
+    ensures { result ≡ spec.papers_within (relations_of facts.now) }
+{
+    facts.papers.len() <= MOST_PAPERS
+}
+
+pub fn are_halls_within(facts: &Facts) -> bool
+    ensures { result ≡ spec.halls_within (relations_of facts.now) }
+{
+    facts.halls.len() <= MOST_HALLS
+}
+
+/// Whether no session has too many openings.
+pub fn are_openings_within(facts: &Facts, lists: &SessionLists) -> bool
+    requires { AreListsOf (relations_of facts.now) lists.now }
+    ensures { result ≡ spec.openings_within (relations_of facts.now) }
 {
     facts
         .sessions
         .keys()
-        .all(|session| is_session_within(facts, lists, session))
+        .all(|session| lists.halls_of(session).len() <= MOST_OPENINGS)
 }
 
-fn is_session_within(facts: &Facts, lists: &SessionLists, session: &SessionCode) -> bool
-    requires { AreListsOf (relations_of facts.now) lists.now }
-    ensures { result ≡ spec.session_within (relations_of facts.now) session.now }
+pub fn are_candidates_within(facts: &Facts) -> bool
+    ensures { result ≡ spec.candidates_within (relations_of facts.now) }
 {
-    // The facts themselves are of no use here; they say whose lists these are.
-    let _ = facts;
-    lists.members_of(session).len() <= MOST_MEMBERS
-        && lists.halls_of(session).len() <= MOST_OPENINGS
+    facts.candidates.len() <= MOST_CANDIDATES
+}
+
+/// Whether no session has too many members.
+pub fn are_members_within(facts: &Facts, lists: &SessionLists) -> bool
+    requires { AreListsOf (relations_of facts.now) lists.now }
+    ensures { result ≡ spec.members_within (relations_of facts.now) }
+{
+    facts
+        .sessions
+        .keys()
+        .all(|session| lists.members_of(session).len() <= MOST_MEMBERS)
 }
 
 /// Whether no candidate has too many appeals.
-fn are_appellants_within(facts: &Facts) -> bool
-    ensures { result ≡ spec.appellants_within (relations_of facts.now) }
+pub fn are_appeals_within(facts: &Facts) -> bool
+    ensures { result ≡ spec.appeals_within (relations_of facts.now) }
 {
     facts
         .candidates

@@ -10,9 +10,10 @@ ghost use Rattle.exam_office.specs.Limits.{within_limits};
 ghost use Rattle.exam_rules.specs.Relations.{Code, relations_of};
 ghost use Rattle.exam_office.specs.State.{empty_state};
 
+use crate::tables::first_bad_table;
 use crate::view::SessionView;
-use crate::{grants, limits, references, repair, viewing};
-use exam_rules::{Facts, SessionLists, session_lists};
+use crate::viewing;
+use exam_rules::Facts;
 use exam_types::{HallCode, Number, Refusal, SessionCode};
 use std::alloc::Global;
 use std::collections::BTreeMap;
@@ -58,10 +59,10 @@ impl Office {
         ensures good { OnOk result (IsGood (record { relations = relations_of facts; seats = seats.entries })) }
         ensures refusal { IfErr result (λ e. (e ≡ NoMemory) ⊎ ((e ≡ BadStore) × (IsGood (record { relations = relations_of facts; seats = seats.entries }) → ⊥))) }
     {
-        if !is_good(alloc, &facts, &seats)? {
-            return Err(Refusal::BadStore);
+        match first_bad_table(alloc, &facts, &seats)? {
+            None => Ok(Office { facts, seats }),
+            Some(_) => Err(Refusal::BadStore),
         }
-        Ok(Office { facts, seats })
     }
 
     pub fn facts(&self) -> &Facts
@@ -100,45 +101,4 @@ impl Office {
         // The read of a field shows what the type keeps.
         let _ = &self.facts;
     }
-}
-
-/// Whether these facts and plans are good.
-fn is_good(alloc: Global, facts: &Facts, seats: &Seats) -> Result<bool, Refusal>
-    ensures ok { IfOk result (λ b. Decides b (IsGood (record { relations = relations_of facts.now; seats = seats.now.entries }))) }
-    ensures memory { IfErr result (λ e. e ≡ NoMemory) }
-{
-    if !references::all_refer(facts) || !grants::are_single(alloc, facts)? {
-        return Ok(false);
-    }
-    let lists = session_lists(alloc, facts)?;
-    if !limits::is_within_limits(facts, &lists) {
-        return Ok(false);
-    }
-    are_settled(alloc, facts, &lists, seats)
-}
-
-/// Whether every session's plan is best: whether its repair is the plan.
-fn are_settled(
-    alloc: Global,
-    facts: &Facts,
-    lists: &SessionLists,
-    seats: &Seats,
-) -> Result<bool, Refusal>
-    requires lists { AreListsOf (relations_of facts.now) lists.now }
-    requires limits { IsTrue (within_limits (relations_of facts.now)) }
-    ensures ok { IfOk result (λ b. Decides b ((s : Code) → IsBest (seating (relations_of facts.now) s) (plan_of seats.now.entries s))) }
-    ensures memory { IfErr result (λ e. e ≡ NoMemory) }
-{
-    let repaired = repair::repaired(alloc, facts, lists, seats, None)?;
-    Ok(same_seats(&repaired, seats))
-}
-
-/// Whether the same candidates sit in the same halls.
-fn same_seats(one: &Seats, other: &Seats) -> bool
-    ensures { Decides result ((s : Code) (c : ℕ) → plan_of one.now.entries s c ≡ plan_of other.now.entries s c) }
-{
-    if one.len() != other.len() {
-        return false;
-    }
-    *one == *other
 }

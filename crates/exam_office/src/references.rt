@@ -52,18 +52,8 @@ pub fn check_hall(facts: &Facts, code: &HallCode) -> Result<(), Refusal>
     }
 }
 
-/// Whether all that the rows refer to is there.
-pub fn all_refer(facts: &Facts) -> bool
-    ensures { result ≡ good.refers (relations_of facts.now) }
-{
-    papers_refer(facts)
-        && openings_refer(facts)
-        && entries_refer(facts)
-        && arrangements_refer(facts)
-        && appeals_refer(facts)
-}
-
-fn papers_refer(facts: &Facts) -> bool
+/// Whether the session of each paper is there.
+pub fn papers_refer(facts: &Facts) -> bool
     ensures { result ≡ good.papers_refer (relations_of facts.now) }
 {
     facts
@@ -72,7 +62,7 @@ fn papers_refer(facts: &Facts) -> bool
         .all(|(_, paper)| facts.sessions.contains_key(&paper.session))
 }
 
-fn openings_refer(facts: &Facts) -> bool
+pub fn openings_refer(facts: &Facts) -> bool
     ensures { result ≡ good.openings_refer (relations_of facts.now) }
 {
     facts.openings.iter().all(|(key, _)| {
@@ -80,7 +70,7 @@ fn openings_refer(facts: &Facts) -> bool
     })
 }
 
-fn entries_refer(facts: &Facts) -> bool
+pub fn entries_refer(facts: &Facts) -> bool
     ensures { result ≡ good.entries_refer (relations_of facts.now) }
 {
     facts.entries.iter().all(|(key, _)| {
@@ -88,7 +78,7 @@ fn entries_refer(facts: &Facts) -> bool
     })
 }
 
-fn arrangements_refer(facts: &Facts) -> bool
+pub fn arrangements_refer(facts: &Facts) -> bool
     ensures { result ≡ good.arrangements_refer (relations_of facts.now) }
 {
     facts
@@ -97,7 +87,7 @@ fn arrangements_refer(facts: &Facts) -> bool
         .all(|(number, _)| facts.candidates.contains_key(number))
 }
 
-fn appeals_refer(facts: &Facts) -> bool
+pub fn appeals_refer(facts: &Facts) -> bool
     ensures { result ≡ good.appeals_refer (relations_of facts.now) }
 {
     facts.appeals.iter().all(|(key, appeal)| {

@@ -2,7 +2,7 @@ use Rattle.std.proofs.Common.{◌≡◌, length, ap, arith}
 use Rattle.std.proofs.lemmas.Map.Lookups.{btree_map_eq-Decides}
 use Rattle.exam_rules.specs.Seatings.{plan_of}
 use Rattle.exam_office.proofs.SameSeats.{codes_decide, keys_decide, seats_from_plans}
-use Rattle.exam_office.proofs.office.same_seats.Goals as goal
+use Rattle.exam_office.proofs.tables.same_seats.Goals as goal
 
 pub returns-then-len : goal.returns-then-len
 returns-then-len c = (

@@ -5,10 +5,10 @@ use Rattle.exam_rules.specs.Relations.{relations_of}
 use Rattle.exam_rules.specs.Seatings.{seating, plan_of}
 use Rattle.exam_office.proofs.SameSeats.{few_members}
 use Rattle.exam_office.proofs.Staying.{best_stays}
-use Rattle.exam_office.proofs.office.are_settled.Goals as goal
+use Rattle.exam_office.proofs.tables.are_seats_good.Goals as goal
 
 pub repaired-requires-clause-few : goal.repaired-requires-clause-few
-repaired-requires-clause-few c = few_members (relations_of c.args.facts.now) c.requires.limits
+repaired-requires-clause-few c = few_members (relations_of c.args.facts.now) c.requires.few
 
 pub returns-clause-ok : goal.returns-clause-ok
 returns-clause-ok c = (
