@@ -13,6 +13,8 @@ mod repair;
 mod row;
 mod steps;
 mod tables;
+#[cfg(test)]
+mod tests;
 mod view;
 mod viewing;
 

@@ -7,10 +7,13 @@ ghost use Rattle.exam_office.specs.Limits as spec;
 use exam_rules::{Facts, SessionLists, has_at_most};
 
 const MOST_SESSIONS: usize = 400;
+
 const MOST_PAPERS: usize = 2_000;
+
 const MOST_HALLS: usize = 500;
 /// In a session.
 const MOST_OPENINGS: usize = 128;
+
 const MOST_CANDIDATES: usize = 20_000;
 /// In a session.
 const MOST_MEMBERS: usize = 4_096;
