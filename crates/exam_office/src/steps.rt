@@ -17,7 +17,7 @@ use crate::limits::is_within_limits;
 use crate::office::{Office, Seats};
 use crate::repair::repaired;
 use exam_rules::{Facts, session_lists};
-use exam_types::{Day, Refusal};
+use exam_types::{Day, Number, Refusal};
 use std::alloc::Global;
 
 /// Carries out a command on a day, or refuses it; after a refusal the office is as before.
@@ -80,16 +80,22 @@ fn with_import(
     let _ = today;
     office.is_good();
     let (facts, reply) = imported(alloc, office.facts(), import.rows())?;
-    Ok((resettled(alloc, facts, office)?, reply))
+    Ok((resettled(alloc, facts, office, None)?, reply))
 }
 
-/// The office with these facts, where each session's plan is repaired. Refused as too many where a limit is passed.
-fn resettled(alloc: Global, facts: Facts, office: &Office) -> Result<Office, Refusal>
+/// The office with these facts, where each session's plan is repaired, the first candidate first where they are a member.
+/// Refused as too many where a limit is passed.
+fn resettled(
+    alloc: Global,
+    facts: Facts,
+    office: &Office,
+    first: Option<Number>,
+) -> Result<Office, Refusal>
     requires refer { IsTrue (good.refers (relations_of facts)) }
     requires single { AreSingle (relations_of facts) }
     ensures relations { IfOk result (λ next. next.relations ≡ relations_of facts) }
     ensures limits { OnOk result (IsTrue (within_limits (relations_of facts))) }
-    ensures plans { IfOk result (λ next. (s : Code) → IsRepaired (relations_of facts) None office.now.seats next.seats s) }
+    ensures plans { IfOk result (λ next. (s : Code) → IsRepaired (relations_of facts) first office.now.seats next.seats s) }
     ensures rising { OnOk result ((s : Code) → ListsRise (relations_of facts) s) }
     ensures refusal { IfErr result (λ e. (e ≡ NoMemory) ⊎ ((e ≡ TooMany) × (within_limits (relations_of facts) ≡ false))) }
 {
@@ -97,6 +103,6 @@ fn resettled(alloc: Global, facts: Facts, office: &Office) -> Result<Office, Ref
     if !is_within_limits(&facts, &lists) {
         return Err(Refusal::TooMany);
     }
-    let seats = repaired(alloc, &facts, &lists, office.seats(), None)?;
+    let seats = repaired(alloc, &facts, &lists, office.seats(), first)?;
     Ok(Office::holding(facts, seats))
 }

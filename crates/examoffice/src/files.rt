@@ -3,6 +3,8 @@ use exam_store::Store;
 use exam_types::Refusal;
 use sqlite::{Connection, Error, ErrorCode, FileFrom, FileStore, Unknown};
 use std::alloc::Global;
+use std::fs::File;
+use std::io::ErrorKind;
 
 /// What holds the tables of a file.
 pub type OfficeFile = FileStore<FileFrom<Unknown>>;
@@ -13,8 +15,11 @@ pub fn create_office(rt: &HostRuntime, path: &str) -> Result<Store<OfficeFile>, 
     Store::create(rt.alloc(), conn).map_err(|(refusal, conn)| close_after(refusal, conn))
 }
 
-/// Opens the office at the path.
+/// Opens the office at the path. Where nothing is there is no office, and no file is made.
 pub fn open_office(rt: &HostRuntime, path: &str) -> Result<Store<OfficeFile>, Refusal> {
+    if is_missing(rt, path) {
+        return Err(Refusal::BadStore);
+    }
     let conn = open_database(rt, path)?;
     Store::open(rt.alloc(), conn).map_err(|(refusal, conn)| close_after(refusal, conn))
 }
@@ -22,6 +27,13 @@ pub fn open_office(rt: &HostRuntime, path: &str) -> Result<Store<OfficeFile>, Re
 /// Closes the office. What was answered stands already, so a failure here takes nothing back.
 pub fn close_office(store: Store<OfficeFile>) {
     let _ = store.close().close();
+}
+
+fn is_missing(rt: &HostRuntime, path: &str) -> bool {
+    match File::open(rt, path) {
+        Ok(_) => false,
+        Err(error) => error.kind() == ErrorKind::NotFound,
+    }
 }
 
 fn open_database(rt: &HostRuntime, path: &str) -> Result<Connection<OfficeFile>, Refusal> {

@@ -1,4 +1,5 @@
 //! What a command line says.
+use crate::help;
 use clap::error::ErrorKind;
 use clap::{Arg, ArgAction, ArgMatches, Command};
 use exam_office::Kind;
@@ -108,40 +109,55 @@ fn kind_of(word: &str) -> Option<Kind> {
 /// What the program takes.
 fn office_command<'a>(alloc: Global) -> Result<Command<'a>, AllocError> {
     let command = top_command(alloc)?;
-    let command = with_job(alloc, command, "init", &[])?;
-    let command = with_job(alloc, command, "import", &["kind", "file"])?;
-    with_job(alloc, command, "door-list", &["session", "hall"])
+    let command = with_job(alloc, command, "init", help::INIT, &[])?;
+    let command = with_job(
+        alloc,
+        command,
+        "import",
+        help::IMPORT,
+        &[("kind", help::KIND), ("file", help::FILE)],
+    )?;
+    with_job(
+        alloc,
+        command,
+        "door-list",
+        help::DOOR_LIST,
+        &[("session", help::SESSION), ("hall", help::HALL)],
+    )
 }
 
 /// The options, which stand before the command.
 fn top_command<'a>(alloc: Global) -> Result<Command<'a>, AllocError> {
     Command::new(alloc, "examoffice")
+        .about(help::PROGRAM)
+        .after_help(help::STATUSES)
         .subcommand_required(true)
-        .arg(option(alloc, "db"))?
-        .arg(option(alloc, "today"))
+        .arg(option(alloc, "db", help::DB))?
+        .arg(option(alloc, "today", help::TODAY))
 }
 
-/// The command with one more job, which takes these words.
+/// The command with one more job, which takes these words; each has its help beside it.
 fn with_job<'a>(
     alloc: Global,
     command: Command<'a>,
     name: &'a str,
-    words: &[&'a str],
+    about: &'a str,
+    words: &[(&'a str, &'a str)],
 ) -> Result<Command<'a>, AllocError> {
-    let mut job = Command::new(alloc, name);
-    for each in words {
-        job = job.arg(word(alloc, each))?;
+    let mut job = Command::new(alloc, name).about(about);
+    for (name, help) in words {
+        job = job.arg(word(alloc, name, help))?;
     }
     command.subcommand(job)
 }
 
-fn option<'a>(alloc: Global, name: &'a str) -> Arg<'a> {
-    Arg::new(alloc, name)
-        .long(name)
-        .required(true)
-        .action(ArgAction::Set)
+fn option<'a>(alloc: Global, name: &'a str, help: &'a str) -> Arg<'a> {
+    word(alloc, name, help).long(name)
 }
 
-fn word<'a>(alloc: Global, name: &'a str) -> Arg<'a> {
-    Arg::new(alloc, name).required(true).action(ArgAction::Set)
+fn word<'a>(alloc: Global, name: &'a str, help: &'a str) -> Arg<'a> {
+    Arg::new(alloc, name)
+        .help(help)
+        .required(true)
+        .action(ArgAction::Set)
 }

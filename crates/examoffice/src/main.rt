@@ -2,6 +2,7 @@
 #![tactic(auto)]
 
 mod files;
+mod help;
 mod job;
 mod line;
 mod report;

@@ -71,9 +71,10 @@ fn tables_with_too_many_rows(rt: HostRuntime) -> Result<(), Fail> {
 fn two_granted_arrangement_appeals_for_one_session(rt: HostRuntime) -> Result<(), Fail> {
     let alloc = rt.alloc();
     let mut facts = base_facts(alloc)?;
-    let needs = super::offices::arrangement("screen", 0)?;
-    grant(alloc, &mut facts, 1, b"R1", Subject::Arrangement(needs))?;
-    grant(alloc, &mut facts, 1, b"R2", Subject::Arrangement(needs))?;
+    for reference in [b"R1", b"R2"] {
+        let needs = super::offices::arrangement("screen", 0)?;
+        grant(alloc, &mut facts, 1, reference, Subject::Arrangement(needs))?;
+    }
     expect_bad(&rt, facts, no_seats(alloc), Table::Appeals)
 }
 

@@ -1,0 +1,39 @@
+//! What `--help` and `help COMMAND` say. `{n}` stands for the end of a line.
+
+pub const PROGRAM: &str =
+    "The seating office of a school or university: it imports, seats candidates and prints door lists.";
+
+pub const DB: &str = "The file of the office, as office.db";
+
+pub const TODAY: &str = "The day of the command, as 2027-05-01";
+
+pub const INIT: &str = "Makes an empty office, or looks whether the file holds one";
+
+pub const IMPORT: &str =
+    "Adds the rows of a CSV file, or changes those that are there, and seats candidates anew";
+
+pub const KIND: &str =
+    "What the file holds: sessions, papers, halls, openings, candidates, entries or arrangements";
+
+pub const FILE: &str = "The CSV file, as examples/entries.csv; its first line is the header of its kind";
+
+pub const DOOR_LIST: &str = "Prints who sits in a hall, by desk";
+
+pub const SESSION: &str = "The code of a session, as MON-AM";
+
+pub const HALL: &str = "The code of a hall, as GYM";
+
+pub const STATUSES: &str = "Exit status: 0 done, 1 refused or a file failed, 2 the line was not understood.{n}{n}\
+A command that is refused changes nothing and prints `refused` with a number:{n}   \
+1 a bad row, with its record and column (0: a wrong count of fields){n}   \
+2 the header is not that of the kind{n}   \
+3 a record contradicts an earlier one, with its number{n}   \
+4 no such session{n}   \
+5 no such paper{n}   \
+6 no such candidate{n}   \
+7 no such hall{n}  \
+20 too many: a limit of the office would be passed, or the file is too long{n}  \
+22 not enough memory{n}  \
+23 the database failed{n}  \
+24 the file holds no office{n}  \
+25 the hall is not opened for the session";
