@@ -1,3 +1,4 @@
+pub mod CodeFacts
 pub mod DayFacts
 pub mod DayTexts
 pub mod DigitFacts
