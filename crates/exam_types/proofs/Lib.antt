@@ -2,4 +2,5 @@ pub mod CodeFacts
 pub mod DayFacts
 pub mod DayTexts
 pub mod DigitFacts
+pub mod FeatureFacts
 pub mod NumeralFacts

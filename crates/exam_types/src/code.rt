@@ -11,6 +11,7 @@ use crate::refusal::Refusal;
 use crate::text::append;
 use std::cmp::Ordering;
 use std::marker::{Model, PhantomData};
+use std::{fmt, str};
 
 /// The bytes that a code may have.
 pub trait Alphabet {
@@ -104,6 +105,16 @@ impl<K, A: Alphabet, const LEAST: usize, const GREATEST: usize> Code<K, A, LEAST
         ensures form { IsTrue (is_code A.allowed LEAST GREATEST self.now) }
     {
         &self.cells[..self.len]
+    }
+}
+
+impl<K, A: Alphabet, const LEAST: usize, const GREATEST: usize> fmt::Display
+    for Code<K, A, LEAST, GREATEST>
+{
+    ghost output = { λ code. Some code };
+
+    fn fmt<W: fmt::Write>(&self, f: &mut fmt::Formatter<W>) -> fmt::Result {
+        f.write_str(str::from_utf8(self.as_bytes()).map_err(|_| fmt::Error)?)
     }
 }
 
