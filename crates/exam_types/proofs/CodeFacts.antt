@@ -1,5 +1,5 @@
 -- The lengths of codes, and their bytes in cells.
-use Rattle.std.proofs.Common.{◌≡◌, ◌∙◌, ◌≤◌, ℕ, Bool, true, List, ◌++◌, length, take, IsTrue, arith}
+use Rattle.std.proofs.Common.{◌≡◌, ◌≤◌, ℕ, Bool, true, List, ◌++◌, length, take, IsTrue, arith}
 use Rattle.std.proofs.Math.Seq.{take-append_seam}
 use Rattle.exam_types.specs.Codes.{is_code}
 

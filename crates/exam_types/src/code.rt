@@ -54,8 +54,7 @@ pub struct Code<K, A: Alphabet, const LEAST: usize, const GREATEST: usize> {
 }
 
 impl<K, A: Alphabet, const LEAST: usize, const GREATEST: usize> Model
-    for Code<K, A, LEAST, GREATEST>
-{
+    for Code<K, A, LEAST, GREATEST> {
     ghost use Rattle.std.specs.Prelude.{◌≡◌, ℕ, ◌-◌, ◌≤◌, List, IsTrue, length, take, drop, replicate};
     ghost use Rattle.exam_types.specs.Codes.{is_code};
     ghost use Rattle.exam_types.specs.Padding.{padded, padded-take, length-front};
@@ -66,9 +65,9 @@ impl<K, A: Alphabet, const LEAST: usize, const GREATEST: usize> Model
 
     ghost invariant = { λ a. (a.len ≤ GREATEST) × (length a.cells ≡ GREATEST) × (drop a.len a.cells ≡ replicate (GREATEST - a.len) 0) × IsTrue (is_code A.allowed LEAST GREATEST (take a.len a.cells)) };
 
-    ghost inverse = { λ text. record { cells = padded GREATEST text; len = length text; kind = record { } } };
+    ghost inverse = { λ text. record { cells = padded GREATEST text; len = length text; kind = record {} } };
 
-    ghost inverse_ok = { λ a h i. record { cells = padded-take GREATEST a.len a.cells h.0 h.1 h.2 i; len = length-front GREATEST a.len a.cells h.0 h.1 i; kind = record { } } };
+    ghost inverse_ok = { λ a h i. record { cells = padded-take GREATEST a.len a.cells h.0 h.1 h.2 i; len = length-front GREATEST a.len a.cells h.0 h.1 i; kind = record {} } };
 }
 
 impl<K, A: Alphabet, const LEAST: usize, const GREATEST: usize> Code<K, A, LEAST, GREATEST> {
@@ -109,8 +108,7 @@ impl<K, A: Alphabet, const LEAST: usize, const GREATEST: usize> Code<K, A, LEAST
 }
 
 impl<K, A: Alphabet, const LEAST: usize, const GREATEST: usize> fmt::Display
-    for Code<K, A, LEAST, GREATEST>
-{
+    for Code<K, A, LEAST, GREATEST> {
     ghost output = { λ code. Some code };
 
     fn fmt<W: fmt::Write>(&self, f: &mut fmt::Formatter<W>) -> fmt::Result {
@@ -131,7 +129,8 @@ fn are_allowed<A: Alphabet>(bytes: &[u8]) -> bool
     bytes.iter().all(|byte| A::allows(*byte))
 }
 
-impl<K, A: Alphabet, const LEAST: usize, const GREATEST: usize> PartialEq for Code<K, A, LEAST, GREATEST> {
+impl<K, A: Alphabet, const LEAST: usize, const GREATEST: usize> PartialEq
+    for Code<K, A, LEAST, GREATEST> {
     ghost eq = { pointwise nat_eq };
 
     ghost laws = { partial_equiv_from_equiv nat_list_eq_equiv };
@@ -145,7 +144,8 @@ impl<K, A: Alphabet, const LEAST: usize, const GREATEST: usize> Eq for Code<K, A
     ghost laws = { nat_list_eq_equiv };
 }
 
-impl<K, A: Alphabet, const LEAST: usize, const GREATEST: usize> PartialOrd for Code<K, A, LEAST, GREATEST> {
+impl<K, A: Alphabet, const LEAST: usize, const GREATEST: usize> PartialOrd
+    for Code<K, A, LEAST, GREATEST> {
     ghost partial_cmp = { λ a b. Some (slice_cmp nat_cmp a b) };
 
     ghost laws = { texts_po };
@@ -155,7 +155,8 @@ impl<K, A: Alphabet, const LEAST: usize, const GREATEST: usize> PartialOrd for C
     }
 }
 
-impl<K, A: Alphabet, const LEAST: usize, const GREATEST: usize> Ord for Code<K, A, LEAST, GREATEST> {
+impl<K, A: Alphabet, const LEAST: usize, const GREATEST: usize> Ord
+    for Code<K, A, LEAST, GREATEST> {
     ghost cmp = { slice_cmp nat_cmp };
 
     ghost total = { nat_list_cmp_total };

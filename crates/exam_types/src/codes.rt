@@ -56,7 +56,12 @@ const SHORTEST_ACCESS_CODE: usize = 8;
 const LONGEST_ACCESS_CODE: usize = 16;
 
 /// An access code: 8 to 16 capitals and digits. Ordered by its bytes.
-pub type AccessCode = Code<AccessCodeKind, CapitalsAndDigits, SHORTEST_ACCESS_CODE, LONGEST_ACCESS_CODE>;
+pub type AccessCode = Code<
+    AccessCodeKind,
+    CapitalsAndDigits,
+    SHORTEST_ACCESS_CODE,
+    LONGEST_ACCESS_CODE,
+>;
 
 /// Tells a [`AccessCode`] from the other codes.
 pub struct AccessCodeKind;

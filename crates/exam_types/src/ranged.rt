@@ -37,7 +37,7 @@ impl<W, F: Form> Model for Ranged<W, F> {
 
     ghost invariant = { λ a. F.in_range a.value };
 
-    ghost inverse = { λ n. record { value = n; form = record { } } };
+    ghost inverse = { λ n. record { value = n; form = record {} } };
 }
 
 impl<W, F: Form> Ranged<W, F> {
