@@ -63,5 +63,5 @@ pub type AccessCode = Code<
     LONGEST_ACCESS_CODE,
 >;
 
-/// Tells a [`AccessCode`] from the other codes.
+/// Tells an [`AccessCode`] from the other codes.
 pub struct AccessCodeKind;

@@ -101,7 +101,7 @@ pub const GREATEST_EXAM_MINUTES: u32 = 600;
 /// The length of a paper, 1 to 600 minutes. Contracts see the number.
 pub type ExamMinutes = Ranged<u16, ExamMinutesForm>;
 
-/// The range and the spelling of a [`ExamMinutes`].
+/// The range and the spelling of [`ExamMinutes`].
 pub struct ExamMinutesForm;
 
 impl Form for ExamMinutesForm {
@@ -122,7 +122,7 @@ pub const GREATEST_EXTRA: u32 = 100;
 /// Extra time, 0 to 100 percent. Contracts see the number.
 pub type Extra = Ranged<u16, ExtraForm>;
 
-/// The range and the spelling of a [`Extra`].
+/// The range and the spelling of [`Extra`].
 pub struct ExtraForm;
 
 impl Form for ExtraForm {
