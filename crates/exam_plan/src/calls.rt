@@ -1,5 +1,5 @@
 //! The calls on a problem and a plan.
-ghost use Rattle.std.specs.Prelude.{◌≡◌, ◌<◌, ℕ, length, IfOk, IfErr, IfSome, IsSome, Contains, ◌↔◌};
+ghost use Rattle.std.specs.Prelude.{◌≡◌, ◌<◌, ℕ, length, IfOk, IsOk, IfErr, IfSome, IsSome, Contains, ◌↔◌};
 ghost use Rattle.exam_plan.specs.Matching.{IsLawful, IsBest, SamePlan, IsCertificate, IsContested, unseated};
 ghost use Rattle.exam_plan.specs.Problems.{IsPlan, seating_of, plan_at, desk_numbers};
 ghost use Rattle.exam_plan.specs.Repair.{kept_part, IsSweep};
@@ -18,6 +18,7 @@ pub fn keep_lawful(problem: &Problem, mut plan: Plan) -> Result<Plan, Refusal>
     ensures plan { IfOk result (λ new. IsPlan problem.now new.items) }
     ensures kept { IfOk result (λ new. SamePlan (plan_at new.items) (kept_part (seating_of problem.now) (plan_at plan.items))) }
     ensures lawful { IfOk result (λ new. IsLawful (seating_of problem.now) (plan_at new.items)) }
+    ensures accepted { IsOk result }
     ensures memory { IfErr result (λ e. e ≡ Refusal.NoMemory) }
 {
     keeping::put_out_unfit(problem, plan.as_mut_slice());

@@ -1,5 +1,5 @@
 //! The seating problem of a session, by indices.
-ghost use Rattle.std.specs.Prelude.{◌≡◌, ℕ, [], ◌<◌, length, map, All, IfOk, IfErr, slice_index, slice_index_or};
+ghost use Rattle.std.specs.Prelude.{◌≡◌, ℕ, [], ◌<◌, length, map, All, IfOk, IsOk, IfErr, slice_index, slice_index_or};
 ghost use Rattle.std.specs.List.Sorted.{IsStrictlySortedBy};
 ghost use Rattle.std.specs.Ordering.{nat_cmp};
 ghost use Rattle.exam_plan.specs.Problems.{IsProblem};
@@ -36,6 +36,7 @@ impl Problem {
     pub fn new(desks: Vec<u32>, fit: Vec<Vec<usize>>, rank: Vec<u32>) -> Result<Problem, Refusal>
         requires { IsProblem (record { desk_counts = desks.items; fit = map (λ row. row.items) fit.items; rank = rank.items }) }
         ensures problem { IfOk result (λ p. p ≡ record { desk_counts = desks.items; fit = map (λ row. row.items) fit.items; rank = rank.items }) }
+        ensures accepted { IsOk result }
         ensures memory { IfErr result (λ e. e ≡ Refusal.NoMemory) }
     {
         Ok(Problem {

@@ -2,14 +2,16 @@
 use Rattle.std.specs.Prelude.{◌≡◌, ℕ, zero, suc, ◌+◌, ◌-◌, ◌%◌, ◌==◌, ◌&&◌, ◌||◌, ◌≤◌, nat_lt, not, Bool, List, ◌∷◌, ◌++◌, find, unwrap_or, if◌then◌else◌, refl, codes, nat_le, take, drop, slice_range, bytes_eq, Option, Some, None}
 use Rattle.std.specs.List.{range_with_len}
 use Rattle.exam_types.specs.Digits.{digits, digits_value}
+use Rattle.exam_types.specs.declared.day.TheConstants.{FIRST_DAY, LAST_DAY}
+use Rattle.exam_types.specs.declared.session_day.TheConstants.{FIRST_SESSION_DAY}
 
 -- 2000-01-01 is day 10,957, and 2199-12-31 day 84,005
 abbrev pub IsDay : ℕ → Type 0
-IsDay n = (10957 ≤ n) × (n ≤ 84005)
+IsDay n = (FIRST_DAY ≤ n) × (n ≤ LAST_DAY)
 
 -- and 2000-01-11, the first day that has ten days before it, is day 10,967
 abbrev pub IsSessionDay : ℕ → Type 0
-IsSessionDay n = (10967 ≤ n) × (n ≤ 84005)
+IsSessionDay n = (FIRST_SESSION_DAY ≤ n) × (n ≤ LAST_DAY)
 
 -- every fourth year, but of the centuries only every fourth
 abbrev pub is_leap : ℕ → Bool
@@ -36,7 +38,7 @@ days_of_months y (suc m) = days_of_months y m + month_days y (suc m)
 
 -- the number of the first day of a year
 abbrev pub year_start : ℕ → ℕ
-year_start y = 10957 + days_of_years (y - 2000)
+year_start y = FIRST_DAY + days_of_years (y - 2000)
 
 -- the number of the first day of a month
 abbrev pub month_start : ℕ → ℕ → ℕ
@@ -63,7 +65,7 @@ unfoldable pub day_text : ℕ → List ℕ
 day_text n = date_text (year_of n) (month_of n) (month_day_of n)
 
 abbrev pub is_day : ℕ → Bool
-is_day n = nat_le 10957 n && nat_le n 84005
+is_day n = nat_le FIRST_DAY n && nat_le n LAST_DAY
 
 -- the number that the digits of a text make
 abbrev pub spelled_day : List ℕ → ℕ

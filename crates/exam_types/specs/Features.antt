@@ -1,5 +1,6 @@
--- The texts of feature sets.
-use Rattle.std.specs.Prelude.{ℕ, ◌==◌, nat_eq, Bool, List, [], ◌∷◌, ◌++◌, if◌then◌else◌, codes}
+-- Feature sets: what they hold, their texts and their sums.
+use Rattle.std.specs.Prelude.{ℕ, ◌+◌, ◌/◌, ◌%◌, ◌==◌, nat_eq, Bool, false, not, ◌&&◌, ◌||◌, List, [], ◌∷◌, ◌++◌, if◌then◌else◌, codes}
+use Rattle.std.proofs.Math.Bool.{beq}
 use Rattle.std.specs.List.{list_any, slice_split}
 use Rattle.std.specs.Cmp.Lexicographic.{pointwise}
 pub use Rattle.exam_types.specs.declared.features.Features.{Features}
@@ -32,4 +33,33 @@ named_features bytes = record {
   reader = has_part bytes (codes "reader");
   small_room = has_part bytes (codes "small-room");
   computer = has_part bytes (codes "computer");
+}
+
+-- the empty set
+abbrev pub no_features : Features
+no_features = record { step_free = false; screen = false; reader = false; small_room = false; computer = false }
+
+-- each wanted feature is there
+abbrev pub holds_features : Features → Features → Bool
+holds_features has wants = (not wants.step_free || has.step_free) && ((not wants.screen || has.screen) && ((not wants.reader || has.reader) && ((not wants.small_room || has.small_room) && (not wants.computer || has.computer))))
+
+-- the same features are in both
+abbrev pub same_features : Features → Features → Bool
+same_features a b = beq a.step_free b.step_free && (beq a.screen b.screen && (beq a.reader b.reader && (beq a.small_room b.small_room && beq a.computer b.computer)))
+
+abbrev pub part : Bool → ℕ → ℕ
+part wanted value = if wanted then value else 0
+
+-- each feature counts as a power of two
+abbrev pub features_sum : Features → ℕ
+features_sum f = part f.step_free 1 + part f.screen 2 + part f.reader 4 + part f.small_room 8 + part f.computer 16
+
+-- the features whose powers are in a sum
+abbrev pub summed_features : ℕ → Features
+summed_features sum = record {
+  step_free = sum % 2 == 1;
+  screen = sum / 2 % 2 == 1;
+  reader = sum / 4 % 2 == 1;
+  small_room = sum / 8 % 2 == 1;
+  computer = sum / 16 % 2 == 1;
 }

@@ -1,6 +1,8 @@
 //! A short text of bytes in a fixed array, ordered by its bytes.
-ghost use Rattle.std.specs.Prelude.{◌≡◌, ℕ, ◌-◌, ◌≤◌, ◌++◌, length, nat_eq, OnOk, OnErr, IfErr, Some, refl};
+ghost use Rattle.std.specs.Prelude.{◌≡◌, ℕ, ◌-◌, ◌≤◌, ◌++◌, length, nat_eq, Bool, IsTrue, OnOk, OnErr, IfErr, Some, None, if◌then◌else◌, refl};
+ghost use Rattle.exam_types.specs.Codes.{is_code, is_dashed, is_capital_or_digit};
 ghost use Rattle.exam_types.specs.declared.refusal.Refusal.TheVariants.{NoMemory};
+ghost use Rattle.std.specs.List.{list_all};
 ghost use Rattle.std.specs.Ordering.{nat_cmp};
 ghost use Rattle.std.specs.Cmp.{partial_equiv_from_equiv};
 ghost use Rattle.std.specs.Cmp.Lexicographic.{pointwise, slice_cmp, nat_list_eq_equiv, nat_list_cmp_total, texts_po, texts_ties};
@@ -8,61 +10,127 @@ ghost use Rattle.std.specs.Cmp.Lexicographic.{pointwise, slice_cmp, nat_list_eq_
 use crate::refusal::Refusal;
 use crate::text::append;
 use std::cmp::Ordering;
-use std::marker::Model;
+use std::marker::{Model, PhantomData};
+use std::{fmt, str};
 
-/// At most `N` bytes, which lie in the value itself.
-#[derive(Clone, Copy)]
-pub struct Code<const N: usize> {
-    cells: [u8; N],
-    len: usize,
+/// The bytes that a code may have.
+pub trait Alphabet {
+    ghost allowed: { ℕ → Bool };
+
+    /// Whether a code may have this byte.
+    fn allows(byte: u8) -> bool
+        ensures { result ≡ allowed byte };
 }
 
-impl<const N: usize> Model for Code<N> {
-    ghost use Rattle.std.specs.Prelude.{◌≡◌, ℕ, ◌-◌, ◌≤◌, List, length, take, drop, replicate};
+/// Capitals and digits.
+pub struct CapitalsAndDigits;
+
+impl Alphabet for CapitalsAndDigits {
+    ghost allowed = { is_capital_or_digit };
+
+    fn allows(byte: u8) -> bool {
+        matches!(byte, b'A'..=b'Z' | b'0'..=b'9')
+    }
+}
+
+/// Capitals, digits and dashes.
+pub struct Dashed;
+
+impl Alphabet for Dashed {
+    ghost allowed = { is_dashed };
+
+    fn allows(byte: u8) -> bool {
+        CapitalsAndDigits::allows(byte) || byte == b'-'
+    }
+}
+
+/// A code of the kind `K`: `LEAST` to `GREATEST` bytes of its alphabet, which lie in the value itself.
+/// Contracts see its bytes. Ordered by its bytes.
+#[derive_where(Clone, Copy)]
+pub struct Code<K, A: Alphabet, const LEAST: usize, const GREATEST: usize> {
+    cells: [u8; GREATEST],
+    len: usize,
+    kind: PhantomData<(K, A)>,
+}
+
+impl<K, A: Alphabet, const LEAST: usize, const GREATEST: usize> Model
+    for Code<K, A, LEAST, GREATEST> {
+    ghost use Rattle.std.specs.Prelude.{◌≡◌, ℕ, ◌-◌, ◌≤◌, List, IsTrue, length, take, drop, replicate};
+    ghost use Rattle.exam_types.specs.Codes.{is_code};
     ghost use Rattle.exam_types.specs.Padding.{padded, padded-take, length-front};
 
     ghost Value = { List ℕ };
 
     ghost view = { λ a. take a.len a.cells };
 
-    ghost invariant = { λ a. (a.len ≤ N) × (length a.cells ≡ N) × (drop a.len a.cells ≡ replicate (N - a.len) 0) };
+    ghost invariant = { λ a. (a.len ≤ GREATEST) × (length a.cells ≡ GREATEST) × (drop a.len a.cells ≡ replicate (GREATEST - a.len) 0) × IsTrue (is_code A.allowed LEAST GREATEST (take a.len a.cells)) };
 
-    ghost inverse = { λ text. record { cells = padded N text; len = length text } };
+    ghost inverse = { λ text. record { cells = padded GREATEST text; len = length text; kind = record {} } };
 
-    ghost inverse_ok = { λ a h i. record { cells = padded-take N a.len a.cells h.0 h.1 h.2 i; len = length-front N a.len a.cells h.0 h.1 i } };
+    ghost inverse_ok = { λ a h i. record { cells = padded-take GREATEST a.len a.cells h.0 h.1 h.2 i; len = length-front GREATEST a.len a.cells h.0 h.1 i; kind = record {} } };
 }
 
-impl<const N: usize> Code<N> {
-    /// The code with these bytes.
-    pub fn new(text: &[u8]) -> Self
-        requires { length text.now ≤ N }
-        ensures { result ≡ text.now }
+impl<K, A: Alphabet, const LEAST: usize, const GREATEST: usize> Code<K, A, LEAST, GREATEST> {
+    /// The code that these bytes are, or none.
+    #[tactic(auto, using(crate::proofs::CodeFacts::longest))]
+    pub fn parse(bytes: &[u8]) -> Option<Self>
+        ensures { result ≡ (if is_code A.allowed LEAST GREATEST bytes.now then Some bytes.now else None) }
     {
-        let mut cells = [0; N];
-        cells[..text.len()].copy_from_slice(text);
-        Code {
-            cells,
-            len: text.len(),
+        if !has_form::<A>(bytes, LEAST, GREATEST) {
+            return None;
         }
+        let mut cells = [0; GREATEST];
+        cells[..bytes.len()].copy_from_slice(bytes);
+        Some(Code {
+            cells,
+            len: bytes.len(),
+            kind: PhantomData,
+        })
     }
 
-    pub fn as_bytes(&self) -> &[u8]
-        ensures { result.now ≡ self.now }
-    {
-        &self.cells[..self.len]
-    }
-
-    /// Appends the bytes.
+    /// Appends the code's bytes. Refused where there is not enough memory.
     pub fn write_to(&self, out: &mut Vec<u8>) -> Result<(), Refusal>
         ensures ok { OnOk result (out.new.items ≡ out.old.items ++ self.now) }
+        ensures form { IsTrue (is_code A.allowed LEAST GREATEST self.now) }
         ensures err { OnErr result (out.new.items ≡ out.old.items) }
         ensures memory { IfErr result (λ e. e ≡ NoMemory) }
     {
         append(out, self.as_bytes())
     }
+
+    /// The code's bytes.
+    pub fn as_bytes(&self) -> &[u8]
+        ensures value { result.now ≡ self.now }
+        ensures form { IsTrue (is_code A.allowed LEAST GREATEST self.now) }
+    {
+        &self.cells[..self.len]
+    }
 }
 
-impl<const N: usize> PartialEq for Code<N> {
+impl<K, A: Alphabet, const LEAST: usize, const GREATEST: usize> fmt::Display
+    for Code<K, A, LEAST, GREATEST> {
+    ghost output = { λ code. Some code };
+
+    fn fmt<W: fmt::Write>(&self, f: &mut fmt::Formatter<W>) -> fmt::Result {
+        f.write_str(str::from_utf8(self.as_bytes()).map_err(|_| fmt::Error)?)
+    }
+}
+
+/// Whether these are between low and high bytes of the alphabet.
+fn has_form<A: Alphabet>(bytes: &[u8], low: usize, high: usize) -> bool
+    ensures { result ≡ is_code A.allowed low high bytes.now }
+{
+    low <= bytes.len() && bytes.len() <= high && are_allowed::<A>(bytes)
+}
+
+fn are_allowed<A: Alphabet>(bytes: &[u8]) -> bool
+    ensures { result ≡ list_all A.allowed bytes.now }
+{
+    bytes.iter().all(|byte| A::allows(*byte))
+}
+
+impl<K, A: Alphabet, const LEAST: usize, const GREATEST: usize> PartialEq
+    for Code<K, A, LEAST, GREATEST> {
     ghost eq = { pointwise nat_eq };
 
     ghost laws = { partial_equiv_from_equiv nat_list_eq_equiv };
@@ -72,11 +140,12 @@ impl<const N: usize> PartialEq for Code<N> {
     }
 }
 
-impl<const N: usize> Eq for Code<N> {
+impl<K, A: Alphabet, const LEAST: usize, const GREATEST: usize> Eq for Code<K, A, LEAST, GREATEST> {
     ghost laws = { nat_list_eq_equiv };
 }
 
-impl<const N: usize> PartialOrd for Code<N> {
+impl<K, A: Alphabet, const LEAST: usize, const GREATEST: usize> PartialOrd
+    for Code<K, A, LEAST, GREATEST> {
     ghost partial_cmp = { λ a b. Some (slice_cmp nat_cmp a b) };
 
     ghost laws = { texts_po };
@@ -86,7 +155,8 @@ impl<const N: usize> PartialOrd for Code<N> {
     }
 }
 
-impl<const N: usize> Ord for Code<N> {
+impl<K, A: Alphabet, const LEAST: usize, const GREATEST: usize> Ord
+    for Code<K, A, LEAST, GREATEST> {
     ghost cmp = { slice_cmp nat_cmp };
 
     ghost total = { nat_list_cmp_total };

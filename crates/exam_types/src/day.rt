@@ -13,12 +13,13 @@ use jiff::civil::Date;
 use jiff::{Span, ToSpan};
 use jiff_core::civil::Date as PlainDate;
 use std::marker::Model;
+use std::{fmt, str};
 
 /// The number of 2000-01-01, where 1970-01-01 is 0.
-const FIRST: i32 = 10_957;
+pub const FIRST_DAY: u32 = 10_957;
 
 /// The number of 2199-12-31.
-const LAST: i32 = 84_005;
+pub const LAST_DAY: u32 = 84_005;
 
 /// The days from -9999-01-01, from which `jiff_core` counts, to 1970-01-01.
 const EPOCH: u32 = 4_371_587;
@@ -66,7 +67,7 @@ impl Day {
 
     /// The day that many days before, or none where that is before 2000-01-01.
     pub fn minus(self, days: u16) -> Option<Day>
-        ensures { result ≡ (if nat_le (10957 + days) self then Some (self - days) else None) }
+        ensures { result ≡ (if nat_le (FIRST_DAY + days) self then Some (self - days) else None) }
     {
         Day::from_date(self.date().checked_add(days_back(days)).ok()?)
     }
@@ -90,7 +91,7 @@ impl Day {
         ensures { (n : ℕ) → (result ≡ Some n) ↔ (IsDay n × (epoch_day date ≡ pos n)) }
     {
         let number = date.to_plain().to_unix_epoch_day();
-        if number < FIRST || LAST < number {
+        if number < FIRST_DAY as i32 || number > LAST_DAY as i32 {
             return None;
         }
         Some(Day {
@@ -110,6 +111,14 @@ impl Day {
         text.push(b'-');
         push_digits(&mut text, 2, u32::from(date.day().unsigned_abs()));
         text
+    }
+}
+
+impl fmt::Display for Day {
+    ghost output = { λ day. Some (spec.day_text day) };
+
+    fn fmt<W: fmt::Write>(&self, f: &mut fmt::Formatter<W>) -> fmt::Result {
+        f.write_str(str::from_utf8(&self.text()).map_err(|_| fmt::Error)?)
     }
 }
 

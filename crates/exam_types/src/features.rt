@@ -1,5 +1,5 @@
 //! Features of halls, and needs of candidates.
-ghost use Rattle.std.specs.Prelude.{◌≡◌, ◌<◌, ◌≤◌, ◌+◌, ◌↔◌, ◌==◌, ◌++◌, nat_eq, length, Some, OnOk, OnErr, IfErr};
+ghost use Rattle.std.specs.Prelude.{◌≡◌, ◌<◌, ◌≤◌, ◌+◌, ◌↔◌, ◌==◌, ◌++◌, nat_eq, length, IsTrue, Some, OnOk, OnErr, IfErr};
 ghost use Rattle.exam_types.specs.declared.refusal.Refusal.TheVariants.{NoMemory};
 ghost use Rattle.std.specs.List.{list_any, slice_split};
 ghost use Rattle.std.specs.Cmp.Lexicographic.{pointwise};
@@ -21,6 +21,62 @@ pub struct Features {
 }
 
 impl Features {
+    /// The empty set.
+    pub fn none() -> Features
+        ensures { result ≡ spec.no_features }
+    {
+        Features {
+            step_free: false,
+            screen: false,
+            reader: false,
+            small_room: false,
+            computer: false,
+        }
+    }
+
+    /// Whether each wanted feature is there.
+    pub fn holds(self, wanted: Features) -> bool
+        ensures { result ≡ spec.holds_features self wanted }
+    {
+        (!wanted.step_free || self.step_free)
+            && (!wanted.screen || self.screen)
+            && (!wanted.reader || self.reader)
+            && (!wanted.small_room || self.small_room)
+            && (!wanted.computer || self.computer)
+    }
+
+    /// Whether both are one set.
+    pub fn equals(self, other: Features) -> bool
+        ensures value { result ≡ spec.same_features self other }
+        ensures decides { IsTrue result ↔ (self ≡ other) }
+    {
+        self == other
+    }
+
+    /// The sum of 1 for step-free, 2 for screen, 4 for reader, 8 for a small room and 16 for a computer.
+    pub fn sum(self) -> u32
+        ensures value { result ≡ spec.features_sum self }
+        ensures range { result ≤ 31 }
+    {
+        part(self.step_free, 1)
+            + part(self.screen, 2)
+            + part(self.reader, 4)
+            + part(self.small_room, 8)
+            + part(self.computer, 16)
+    }
+
+    /// The set with this sum, or none.
+    pub fn from_sum(sum: u32) -> Option<Features>
+        ensures { (f : spec.Features) → (result ≡ Some f) ↔ (spec.features_sum f ≡ sum) }
+    {
+        let features = summed_features(sum);
+        if features.sum() == sum {
+            Some(features)
+        } else {
+            None
+        }
+    }
+
     /// The set that these bytes spell, or none.
     pub fn parse(bytes: &[u8]) -> Option<Features>
         ensures exact { (f : spec.Features) → (result ≡ Some f) ↔ (spec.features_text f ≡ bytes.now) }
@@ -83,6 +139,25 @@ fn named_features(bytes: &[u8]) -> Features
         reader: has_part(bytes, b"reader"),
         small_room: has_part(bytes, b"small-room"),
         computer: has_part(bytes, b"computer"),
+    }
+}
+
+fn part(wanted: bool, value: u32) -> u32
+    ensures { result ≡ spec.part wanted value }
+{
+    if wanted { value } else { 0 }
+}
+
+/// The features whose powers of two are in the sum.
+fn summed_features(sum: u32) -> Features
+    ensures { result ≡ spec.summed_features sum }
+{
+    Features {
+        step_free: sum % 2 == 1,
+        screen: sum / 2 % 2 == 1,
+        reader: sum / 4 % 2 == 1,
+        small_room: sum / 8 % 2 == 1,
+        computer: sum / 16 % 2 == 1,
     }
 }
 

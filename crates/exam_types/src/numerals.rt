@@ -1,11 +1,92 @@
 //! The texts of numbers and times.
-ghost use Rattle.std.specs.Prelude.{◌≡◌, ◌≤◌, ◌<◌, ◌+◌, ◌↔◌, ◌++◌, ℕ, length, Some};
+ghost use Rattle.std.specs.Prelude.{◌≡◌, ◌≤◌, ◌<◌, ◌+◌, ◌↔◌, ◌++◌, ℕ, List, length, Some};
+ghost use Rattle.std.proofs.Common.{arith};
 ghost use Rattle.std.specs.Fmt.{decimal};
 ghost use Rattle.arrayvec.specs.ArrayVec.{array_vec_len};
 ghost use Rattle.exam_types.specs.Numbers as spec;
 
 use crate::digits::{ShortText, number_of, push_digits};
 use arrayvec::ArrayVec;
+
+/// A way to write numbers below a limit.
+pub trait Spelling {
+    ghost limit: { ℕ };
+
+    ghost text: { ℕ → List ℕ };
+
+    /// The number that these bytes spell, or none.
+    fn read(bytes: &[u8]) -> Option<u32>
+        ensures { (n : ℕ) → (result ≡ Some n) ↔ ((n < limit) × (text n ≡ bytes.now)) };
+
+    /// The text of a number.
+    fn write(number: u32) -> ShortText
+        requires { number < limit }
+        ensures { result.items ≡ text number };
+}
+
+/// A way to write numbers of at most 16 bits.
+pub trait ShortSpelling: Spelling {
+    ghost is_short: { (n : ℕ) → n < Self.limit → n < 65536 };
+}
+
+/// Seven digits.
+pub struct SevenDigits;
+
+impl Spelling for SevenDigits {
+    ghost limit = { 10000000 };
+
+    ghost text = { spec.number_text };
+
+    fn read(bytes: &[u8]) -> Option<u32> {
+        read_number(bytes)
+    }
+
+    fn write(number: u32) -> ShortText {
+        number_text(number)
+    }
+}
+
+/// `HH:MM`, from the number of minutes.
+pub struct HourAndMinute;
+
+impl Spelling for HourAndMinute {
+    ghost limit = { 6000 };
+
+    ghost text = { spec.minute_text };
+
+    fn read(bytes: &[u8]) -> Option<u32> {
+        read_minute(bytes)
+    }
+
+    fn write(number: u32) -> ShortText {
+        minute_text(number)
+    }
+}
+
+impl ShortSpelling for HourAndMinute {
+    ghost is_short = { λ n h. Prim.omega arith };
+}
+
+/// A decimal without leading zeros.
+pub struct Decimal;
+
+impl Spelling for Decimal {
+    ghost limit = { 10000 };
+
+    ghost text = { decimal };
+
+    fn read(bytes: &[u8]) -> Option<u32> {
+        read_decimal(bytes)
+    }
+
+    fn write(number: u32) -> ShortText {
+        decimal_text(number)
+    }
+}
+
+impl ShortSpelling for Decimal {
+    ghost is_short = { λ n h. Prim.omega arith };
+}
 
 /// The number whose seven digits these are.
 #[tactic(auto, unfolding(crate::specs::Numbers::number_text))]

@@ -9,7 +9,7 @@ use crate::refusal::Refusal;
 use std::marker::Model;
 
 /// The number of 2000-01-11, where 1970-01-01 is 0.
-const FIRST: u32 = 10_967;
+pub const FIRST_SESSION_DAY: u32 = 10_967;
 
 /// A day from 2000-01-11 to 2199-12-31, ten days before which there is a [`Day`]. Contracts see
 /// its number, where 1970-01-01 is 0.
@@ -34,9 +34,9 @@ impl Model for SessionDay {
 impl SessionDay {
     /// The day as a session's, or none before 2000-01-11.
     pub fn new(day: Day) -> Option<SessionDay>
-        ensures { result ≡ (if nat_le 10967 day then Some day else None) }
+        ensures { result ≡ (if nat_le FIRST_SESSION_DAY day then Some day else None) }
     {
-        if day.number() < FIRST {
+        if day.number() < FIRST_SESSION_DAY {
             return None;
         }
         Some(SessionDay { day })

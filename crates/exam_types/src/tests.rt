@@ -155,6 +155,39 @@ fn reads_features(rt: HostRuntime) {
 }
 
 #[test]
+fn sums_features(rt: HostRuntime) -> Result<(), Fail> {
+    let none = Features::none();
+    for (text, sum) in [
+        (b"-".as_slice(), 0),
+        (b"step-free", 1),
+        (b"screen", 2),
+        (b"reader", 4),
+        (b"small-room", 8),
+        (b"computer", 16),
+        (b"step-free+screen+reader+small-room+computer", 31),
+    ] {
+        let features = Features::parse(text).ok_or("features")?;
+        assert_eq!(rt; features.sum(), sum, "{text:?}");
+        assert_eq!(rt; Features::from_sum(sum), Some(features), "{text:?}");
+        assert!(rt; features.holds(none), "{text:?}");
+        assert_eq!(rt; none.holds(features), sum == 0, "{text:?}");
+        assert_eq!(rt; none.equals(features), sum == 0, "{text:?}");
+    }
+    assert!(rt; Features::from_sum(32).is_none());
+    Ok(())
+}
+
+#[test]
+fn prints_days_and_codes(rt: HostRuntime) -> Result<(), Fail> {
+    let day = Day::parse(b"2027-06-01").ok_or("a day")?;
+    let hall = HallCode::parse(b"A1").ok_or("a code")?;
+    let paper = PaperCode::parse(b"MA-1").ok_or("a code")?;
+    let line = format!(in rt.alloc(); "{day} {hall} {paper}")?;
+    assert_eq!(rt; line.as_str(), "2027-06-01 A1 MA-1");
+    Ok(())
+}
+
+#[test]
 fn reads_texts(rt: HostRuntime) -> Result<(), Fail> {
     let alloc = rt.alloc();
     let eighty = [b'n'; 80];

@@ -1,56 +1,113 @@
-//! Tests of the bytes of codes and of texts.
-ghost use Rattle.std.specs.Prelude.{◌≡◌, ◌++◌, false, IsTrue, IfSome, IfNone, IfErr, OnOk, OnErr};
-ghost use Rattle.std.specs.List.{list_all};
+//! Texts of a person's words, and how bytes are appended.
+ghost use Rattle.std.specs.Prelude.{◌≡◌, ◌++◌, false, nat_eq, IsTrue, IfSome, IfNone, IfOk, IfErr, OnOk, OnErr, Some, None, if◌then◌else◌};
+ghost use Rattle.std.specs.Cmp.{partial_equiv_from_equiv};
+ghost use Rattle.std.specs.Cmp.Lexicographic.{pointwise, nat_list_eq_equiv};
 ghost use Rattle.std.specs.Str.{is_utf8};
-ghost use Rattle.exam_types.specs.Codes as codes;
-ghost use Rattle.exam_types.specs.Texts as texts;
+ghost use Rattle.exam_types.specs.Texts.{has_control as spec_has_control, is_text};
 ghost use Rattle.exam_types.specs.declared.refusal.Refusal.TheVariants.{NoMemory};
 
 use crate::refusal::Refusal;
+use std::alloc::Global;
+use std::marker::Model;
 use std::str;
 
-/// Whether these are between low and high bytes that are capitals, digits or dashes.
-pub fn is_dashed_code(bytes: &[u8], low: usize, high: usize) -> bool
-    ensures { result ≡ codes.is_code codes.is_dashed low high bytes.now }
-{
-    low <= bytes.len() && bytes.len() <= high && all_dashed(bytes)
+/// The length of the shortest name, in bytes.
+const SHORTEST_NAME: usize = 1;
+
+/// The length of the longest name, in bytes.
+const LONGEST_NAME: usize = 80;
+
+/// The name of a candidate, or the title of a paper or a hall: 1 to 80 bytes.
+pub type Name = Text<SHORTEST_NAME, LONGEST_NAME>;
+
+/// The length of the shortest reason, in bytes.
+const SHORTEST_REASON: usize = 0;
+
+/// The length of the longest reason, in bytes.
+const LONGEST_REASON: usize = 200;
+
+/// Why an appeal is lodged, or why it was decided so: 0 to 200 bytes.
+pub type Reason = Text<SHORTEST_REASON, LONGEST_REASON>;
+
+/// `LEAST` to `GREATEST` bytes of UTF-8 with no control character. Contracts see the bytes.
+#[derive(Drop)]
+pub struct Text<const LEAST: usize, const GREATEST: usize> {
+    text: String,
 }
 
-/// Whether these are between low and high bytes that are capitals or digits.
-pub fn is_capital_or_digit_code(bytes: &[u8], low: usize, high: usize) -> bool
-    ensures { result ≡ codes.is_code codes.is_capital_or_digit low high bytes.now }
-{
-    low <= bytes.len() && bytes.len() <= high && all_capitals_or_digits(bytes)
+impl<const LEAST: usize, const GREATEST: usize> Model for Text<LEAST, GREATEST> {
+    ghost use Rattle.std.specs.Prelude.{ℕ, List, IsTrue};
+    ghost use Rattle.std.specs.String.{string_bytes};
+    ghost use Rattle.exam_types.specs.Texts.{is_text};
+
+    ghost Value = { List ℕ };
+
+    ghost view = { λ a. string_bytes a.text };
+
+    ghost invariant = { λ a. IsTrue (is_text LEAST GREATEST (string_bytes a.text)) };
 }
 
-fn all_dashed(bytes: &[u8]) -> bool
-    ensures { result ≡ list_all codes.is_dashed bytes.now }
-{
-    bytes.iter().all(|b| is_dashed(*b))
+impl<const LEAST: usize, const GREATEST: usize> Text<LEAST, GREATEST> {
+    /// The text that these bytes are, or none. Refused where there is not enough memory.
+    pub fn parse(alloc: Global, bytes: &[u8]) -> Result<Option<Self>, Refusal>
+        ensures ok { IfOk result (λ text. text ≡ (if is_text LEAST GREATEST bytes.now then Some bytes.now else None)) }
+        ensures memory { IfErr result (λ e. (e ≡ NoMemory) × IsTrue (is_text LEAST GREATEST bytes.now)) }
+    {
+        match plain_text(bytes, LEAST, GREATEST) {
+            Some(text) => Ok(Some(Text {
+                text: String::from_str(alloc, text)?,
+            })),
+            None => Ok(None),
+        }
+    }
+
+    /// Appends the bytes. Refused where there is not enough memory.
+    pub fn write_to(&self, out: &mut Vec<u8>) -> Result<(), Refusal>
+        ensures ok { OnOk result (out.new.items ≡ out.old.items ++ self.now) }
+        ensures form { IsTrue (is_text LEAST GREATEST self.now) }
+        ensures err { OnErr result (out.new.items ≡ out.old.items) }
+        ensures memory { IfErr result (λ e. e ≡ NoMemory) }
+    {
+        append(out, self.text.as_bytes())
+    }
+
+    /// An equal text. Refused where there is not enough memory.
+    pub fn copy(&self) -> Result<Self, Refusal>
+        ensures ok { IfOk result (λ text. text ≡ self.now) }
+        ensures memory { IfErr result (λ e. e ≡ NoMemory) }
+    {
+        Ok(Text {
+            text: self.text.clone()?,
+        })
+    }
+
+    /// The text.
+    pub fn as_str(&self) -> &str
+        ensures value { result.now ≡ self.now }
+        ensures form { IsTrue (is_text LEAST GREATEST self.now) }
+    {
+        self.text.as_str()
+    }
 }
 
-fn all_capitals_or_digits(bytes: &[u8]) -> bool
-    ensures { result ≡ list_all codes.is_capital_or_digit bytes.now }
-{
-    bytes.iter().all(|b| is_capital_or_digit(*b))
+impl<const LEAST: usize, const GREATEST: usize> PartialEq for Text<LEAST, GREATEST> {
+    ghost eq = { pointwise nat_eq };
+
+    ghost laws = { partial_equiv_from_equiv nat_list_eq_equiv };
+
+    fn eq(&self, other: &Self) -> bool {
+        self.text.as_bytes() == other.text.as_bytes()
+    }
 }
 
-fn is_dashed(b: u8) -> bool
-    ensures { result ≡ codes.is_dashed b }
-{
-    is_capital_or_digit(b) || b == b'-'
-}
-
-fn is_capital_or_digit(b: u8) -> bool
-    ensures { result ≡ codes.is_capital_or_digit b }
-{
-    matches!(b, b'A'..=b'Z' | b'0'..=b'9')
+impl<const LEAST: usize, const GREATEST: usize> Eq for Text<LEAST, GREATEST> {
+    ghost laws = { nat_list_eq_equiv };
 }
 
 /// The bytes as text, where they are between low and high bytes of UTF-8 with no control character.
-pub fn plain_text(bytes: &[u8], low: usize, high: usize) -> Option<&str>
-    ensures some { IfSome result (λ text. (text.now ≡ bytes.now) × IsTrue (texts.is_text low high bytes.now)) }
-    ensures none { IfNone result (texts.is_text low high bytes.now ≡ false) }
+fn plain_text(bytes: &[u8], low: usize, high: usize) -> Option<&str>
+    ensures some { IfSome result (λ text. (text.now ≡ bytes.now) × IsTrue (is_text low high bytes.now)) }
+    ensures none { IfNone result (is_text low high bytes.now ≡ false) }
 {
     if bytes.len() < low || high < bytes.len() || has_control(bytes) {
         return None;
@@ -59,7 +116,7 @@ pub fn plain_text(bytes: &[u8], low: usize, high: usize) -> Option<&str>
 }
 
 fn has_control(bytes: &[u8]) -> bool
-    ensures { result ≡ texts.has_control bytes.now }
+    ensures { result ≡ spec_has_control bytes.now }
 {
     bytes.iter().any(|b| *b < 32 || *b == 127)
 }
