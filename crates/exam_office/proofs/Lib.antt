@@ -16,3 +16,4 @@ pub mod ImportRowsEqual
 pub mod Repeating
 pub mod Stored
 pub mod RepeatedImports
+pub mod Seated

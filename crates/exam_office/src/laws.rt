@@ -1,4 +1,4 @@
-//! Laws of imports.
+//! Laws of offices and of imports.
 ghost use Rattle.std.specs.Prelude.{◌≡◌, ℕ, true, List, Result, Ok, length};
 ghost use Rattle.exam_types.specs.declared.refusal.Refusal.{Refusal};
 ghost use Rattle.exam_plan.specs.Matching.{SamePlan};
@@ -10,10 +10,18 @@ ghost use Rattle.exam_office.specs.declared.command.Reply.{Reply};
 ghost use Rattle.exam_office.specs.declared.command.Reply.TheVariants as reply;
 ghost use Rattle.exam_office.specs.declared.row.Row.{Row};
 ghost use Rattle.exam_office.specs.Changes.{imported};
+ghost use Rattle.exam_office.specs.Good.{IsGood};
+ghost use Rattle.exam_office.specs.Headline.{IsSeated};
 ghost use Rattle.exam_office.specs.Imports.{ImportRows, is_consistent};
 ghost use Rattle.exam_office.specs.Replies.{distinct_rows, import_reply};
 ghost use Rattle.exam_office.specs.State.{State};
 ghost use Rattle.exam_office.specs.Steps.{Step};
+
+/// A good office whose tables are in order seats every session as promised: `Office::is_seated`. Every `Office` is good
+/// (`Office::is_good`) and in order (`Office::is_in_order`).
+pub fn good_office_is_seated()
+    ensures { (office : State) (s : Code) → IsGood office → AreInOrder office.relations → IsSeated office s }
+{}
 
 /// An accepted import, repeated at once, is accepted, makes the same facts, and answers that all of its keys have the same
 /// row. Every `Facts` is in order (`Facts::are_in_order`), and the rows of every `Import` agree (`Import::rows`).
