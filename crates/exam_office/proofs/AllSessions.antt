@@ -78,7 +78,7 @@ module _ {C H : Type 0} (g : Seating C H) (nothing : (c : C) (h : H) → g.fits 
 
 -- ---- a session that is not there has no seats
 
-unknown_fits : (r : Relations) (s : Code) → has_row code_cmp r.sessions s ≡ false → (c : ℕ) (h : Code) → fits r s c h ≡ false
+pub unknown_fits : (r : Relations) (s : Code) → has_row code_cmp r.sessions s ≡ false → (c : ℕ) (h : Code) → fits r s c h ≡ false
 unknown_fits r s unknown c h = none (is_member r s c) (not (list_any (same_code h) (barred_halls r s c))) (sitting_terms r s c) (terms (row_at code_cmp r.sessions s) unknown)
   where
     terms : (o : Option Session) → is_some o ≡ false → option_and_then (λ session. option_map (λ paper. terms_of session paper (arrangement_in_force r s c)) (sitting_row r s c)) o ≡ None

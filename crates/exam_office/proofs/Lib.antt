@@ -13,3 +13,7 @@ pub mod ImportConflicts
 pub mod ImportKeys
 pub mod ImportPlaces
 pub mod ImportRowsEqual
+pub mod Repeating
+pub mod Stored
+pub mod RepeatedImports
+pub mod Seated

@@ -22,7 +22,7 @@ use Rattle.exam_office.specs.Good as good
 -- ---- one row more
 
 module _ {K X : Type 0} (cmp : K → K → Ordering) where
-  has_put : (rows : List (K × X)) (k q : K) (v : X) → has_row cmp rows q ≡ true → has_row cmp (put_row cmp rows k v) q ≡ true
+  pub has_put : (rows : List (K × X)) (k q : K) (v : X) → has_row cmp rows q ≡ true → has_row cmp (put_row cmp rows k v) q ≡ true
   has_put [] k q v has = absurd (let e : false ≡ true = has in cc)
   has_put (e ∷ es) k q v has = inner (cmp k e.0) (is_at (cmp q) k) (is_at (cmp q) e.0) has (has_put es k q v)
     where
@@ -137,10 +137,10 @@ passed : (b : Bool) (e : Refusal) (checks : List (Bool × Refusal)) → first_re
 passed true e checks h = absurd (let k : Some e ≡ None = h in cc)
 passed false e checks h = (refl, h)
 
-there : (b : Bool) (e : Refusal) (checks : List (Bool × Refusal)) → first_refusal ((not b, e) ∷ checks) ≡ None → b ≡ true
+pub there : (b : Bool) (e : Refusal) (checks : List (Bool × Refusal)) → first_refusal ((not b, e) ∷ checks) ≡ None → b ≡ true
 there b e checks h = not-false b (passed (not b) e checks h).0
 
-neither : (a b : Option Refusal) → option_or a b ≡ None → (a ≡ None) × (b ≡ None)
+pub neither : (a b : Option Refusal) → option_or a b ≡ None → (a ≡ None) × (b ≡ None)
 neither None b h = (refl, h)
 neither (Some e) b h = absurd (let k : Some e ≡ None = h in cc)
 
@@ -220,3 +220,38 @@ appeals_row r (row.OfArrangement c x) = refl
 pub import_appeals : (r : Relations) (rows : List Row) → (with_rows r rows).appeals ≡ r.appeals
 import_appeals r [] = refl
 import_appeals r (x ∷ rows) = import_appeals (with_row r x) rows ∙ appeals_row r x
+
+-- ---- what was there for an import is there for the same import after it
+
+grows_rows : (r : Relations) (rows : List Row) → Grows r (with_rows r rows)
+grows_rows r [] = grows_none r
+grows_rows r (x ∷ rows) = grows_both r (with_row r x) (with_rows (with_row r x) rows) (grows_row r x) (grows_rows (with_row r x) rows)
+
+once_more : (b : Bool) (e : Refusal) (checks : List (Bool × Refusal)) → b ≡ true → first_refusal ((not b, e) ∷ checks) ≡ first_refusal checks
+once_more b e checks is = ap (λ t. cond (not t) (Some e) (first_refusal checks)) is
+
+row_refers_still : (r t : Relations) (x : Row) → Grows r t → first_refusal (row_checks r x) ≡ None → first_refusal (row_checks t x) ≡ None
+row_refers_still r t (row.OfSession s x) grows ok = refl
+row_refers_still r t (row.OfPaper p x) grows ok =
+    once_more (has_row code_cmp t.sessions x.session) refusal.UnknownSession [] (grows.sessions x.session (there (has_row code_cmp r.sessions x.session) refusal.UnknownSession [] ok))
+row_refers_still r t (row.OfHall h x) grows ok = refl
+row_refers_still r t (row.OfOpening s h x) grows ok =
+    let first = passed (not (has_row code_cmp r.sessions s)) refusal.UnknownSession (no_hall r h ∷ []) ok in
+    once_more (has_row code_cmp t.sessions s) refusal.UnknownSession (no_hall t h ∷ []) (grows.sessions s (not-false (has_row code_cmp r.sessions s) first.0))
+    ∙ once_more (has_row code_cmp t.halls h) refusal.UnknownHall [] (grows.halls h (there (has_row code_cmp r.halls h) refusal.UnknownHall [] first.1))
+row_refers_still r t (row.OfCandidate c x) grows ok = refl
+row_refers_still r t (row.OfEntry c k) grows ok =
+    let first = passed (not (has_row nat_cmp r.candidates c)) refusal.UnknownCandidate (no_paper r k ∷ []) ok in
+    once_more (has_row nat_cmp t.candidates c) refusal.UnknownCandidate (no_paper t k ∷ []) (grows.candidates c (not-false (has_row nat_cmp r.candidates c) first.0))
+    ∙ once_more (has_row code_cmp t.papers k) refusal.UnknownPaper [] (grows.papers k (there (has_row code_cmp r.papers k) refusal.UnknownPaper [] first.1))
+row_refers_still r t (row.OfArrangement c x) grows ok =
+    once_more (has_row nat_cmp t.candidates c) refusal.UnknownCandidate [] (grows.candidates c (there (has_row nat_cmp r.candidates c) refusal.UnknownCandidate [] ok))
+
+rows_refer_still : (r t : Relations) (rows : List Row) → Grows r t → rows_refusal r rows ≡ None → rows_refusal t rows ≡ None
+rows_refer_still r t [] grows ok = refl
+rows_refer_still r t (x ∷ rows) grows ok =
+    let both = neither (first_refusal (row_checks r x)) (rows_refusal r rows) ok in
+    ap (λ o. option_or o (rows_refusal t rows)) (row_refers_still r t x grows both.0) ∙ rows_refer_still r t rows grows both.1
+
+pub import_refers_still : (r : Relations) (rows : List Row) → rows_refusal r rows ≡ None → rows_refusal (with_rows r rows) rows ≡ None
+import_refers_still r rows ok = rows_refer_still r (with_rows r rows) rows (grows_rows r rows) ok

@@ -7,3 +7,5 @@ pub mod Repairs
 pub mod Good
 pub mod Singles
 pub mod Steps
+pub mod Orders
+pub mod Headline

@@ -6,6 +6,7 @@ mod copies;
 mod grants;
 mod import;
 mod importing;
+mod laws;
 mod limits;
 mod office;
 mod references;
@@ -20,6 +21,7 @@ mod viewing;
 
 pub use command::{Command, Reply};
 pub use import::Import;
+pub use laws::{good_office_is_seated, repeated_import_changes_nothing, repeated_import_is_no_change};
 pub use office::{Office, Seats};
 pub use row::{Kind, Row};
 pub use steps::{next_office, run, step};

@@ -6,8 +6,10 @@ ghost use Rattle.exam_plan.specs.Matching.{IsBest};
 ghost use Rattle.exam_rules.specs.Lists.{AreListsOf};
 ghost use Rattle.exam_rules.specs.Seatings.{seating, plan_of};
 ghost use Rattle.exam_office.specs.Good.{IsGood};
+ghost use Rattle.exam_office.specs.Headline.{IsSeated};
 ghost use Rattle.exam_office.specs.Limits.{within_limits};
 ghost use Rattle.exam_rules.specs.Relations.{Code, relations_of};
+ghost use Rattle.exam_office.specs.Orders.{IsInOrder};
 ghost use Rattle.exam_office.specs.State.{empty_state};
 
 use crate::tables::first_bad_table;
@@ -100,5 +102,23 @@ impl Office {
     {
         // The read of a field shows what the type keeps.
         let _ = &self.facts;
+    }
+
+    /// The keys of every table and of the seats rise. Does nothing.
+    pub fn is_in_order(&self)
+        ensures { IsInOrder self.now }
+    {
+        self.facts().are_in_order();
+        // The length of a map tells that its keys rise.
+        let _ = self.seats().len();
+    }
+
+    /// In every session whoever sits has a fitting hall and a desk of their own, and no lawful plan seats more. Does
+    /// nothing.
+    pub fn is_seated(&self)
+        ensures { (s : Code) → IsSeated self.now s }
+    {
+        self.is_good();
+        self.is_in_order();
     }
 }

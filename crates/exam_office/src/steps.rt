@@ -7,6 +7,7 @@ ghost use Rattle.exam_office.specs.Limits.{within_limits};
 ghost use Rattle.exam_office.specs.Repairs.{IsRepaired};
 ghost use Rattle.exam_office.specs.Singles.{AreSingle};
 ghost use Rattle.exam_office.specs.Good as good;
+ghost use Rattle.exam_office.specs.Headline.{IsSeated};
 ghost use Rattle.exam_office.specs.Steps as steps;
 ghost use Rattle.exam_office.specs.declared.command.Command.TheVariants as variant;
 
@@ -36,19 +37,24 @@ pub fn step(
 }
 
 /// Carries out commands in order, each on its day, and gives what each answers. Refused for want of memory before any
-/// command.
+/// command, and then the office is as before. Whatever it answers, every session is seated as promised.
 pub fn run(
     alloc: Global,
     office: &mut Office,
     commands: &[(Command, Day)],
 ) -> Result<Vec<Result<Reply, Refusal>>, Refusal>
     ensures run { IfOk result (λ replies. steps.Run commands.now office.old replies.items office.new) }
+    ensures headline { (s : Code) → IsSeated office.new s }
     ensures memory { IfErr result (λ e. e ≡ NoMemory) }
+    ensures err { OnErr result (office.new ≡ office.old) }
 {
+    office.is_seated();
+    // Room for all replies first, so that nothing fails once a command is carried out.
     let mut replies = Vec::with_capacity(alloc, commands.len())?;
     for (command, today) in commands {
-        replies.push(step(alloc, office, command, *today))?;
+        replies.push_reserved(step(alloc, office, command, *today));
     }
+    office.is_seated();
     Ok(replies)
 }
 

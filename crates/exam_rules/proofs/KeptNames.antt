@@ -40,7 +40,7 @@ module _ {C H : Type 0} (a : Seating ℕ ℕ) (b : Seating C H) (nc : ℕ → C)
   -- ---- those whom their hall fits
 
   -- where the hall of a member is read by indices
-  seat_index : (q : Plan C H) (c : C) (i : ℕ) → ic c ≡ Some i → by_index q i ≡ option_and_then ih (q c)
+  pub seat_index : (q : Plan C H) (c : C) (i : ℕ) → ic c ≡ Some i → by_index q i ≡ option_and_then ih (q c)
   seat_index q c i at =
       let is : nc i ≡ c = (r.named c i at).0 in
       ap (option_and_then (at_index a b nc nh ic ih r q i)) (ap ic is ∙ at) ∙ ap (λ t. cond t (option_and_then ih (q (nc i))) None) (eq-eqb i i refl) ∙ ap (λ t. option_and_then ih (q t)) is

@@ -12,3 +12,5 @@ pub mod SweepNames
 pub mod Together
 pub mod Turns
 pub mod Listing
+pub mod InOrder
+pub mod NamedDesks

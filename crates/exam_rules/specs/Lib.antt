@@ -4,3 +4,4 @@ pub mod Seatings
 pub mod Examples
 pub mod Names
 pub mod Lists
+pub mod Orders

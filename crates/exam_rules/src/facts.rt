@@ -1,6 +1,7 @@
 //! The facts: one ordered map for each table.
 ghost use Rattle.std.specs.Prelude.{◌≡◌};
 ghost use Rattle.exam_rules.specs.Relations.{relations_of, no_relations};
+ghost use Rattle.exam_rules.specs.Orders.{AreInOrder};
 
 use crate::rows::{Appeal, Arrangement, Candidate, Entry, Hall, Opening, Paper, Session};
 use exam_types::{HallCode, Number, PaperCode, Reference, SessionCode};
@@ -35,5 +36,20 @@ impl Facts {
             arrangements: BTreeMap::new(alloc),
             appeals: BTreeMap::new(alloc),
         }
+    }
+
+    /// The keys of every table rise. Does nothing.
+    pub fn are_in_order(&self)
+        ensures { AreInOrder (relations_of self.now) }
+    {
+        // The length of a map tells that its keys rise.
+        let _ = self.sessions.len();
+        let _ = self.papers.len();
+        let _ = self.halls.len();
+        let _ = self.openings.len();
+        let _ = self.candidates.len();
+        let _ = self.entries.len();
+        let _ = self.arrangements.len();
+        let _ = self.appeals.len();
     }
 }

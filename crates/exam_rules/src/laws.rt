@@ -1,5 +1,5 @@
 //! What is so by indices is so by numbers and codes, where numbers and codes rise.
-ghost use Rattle.std.specs.Prelude.{◌≡◌, ◌↔◌, ◌<◌, ℕ, List, Option, None, Some, length, map, slice_index_or};
+ghost use Rattle.std.specs.Prelude.{◌≡◌, ◌↔◌, ◌<◌, ◌≤◌, ℕ, List, Option, None, Some, length, map, slice_index_or};
 ghost use Rattle.std.specs.Option.{option_map, option_and_then};
 ghost use Rattle.exam_plan.specs.Matching.{Plan, SamePlan, IsLawful, IsBest, IsCertificate, IsContested, desk_number, size, unseated};
 ghost use Rattle.exam_plan.specs.Chains.{Chain, IsChain, IsLeastChain, augmented};
@@ -7,8 +7,14 @@ ghost use Rattle.exam_plan.specs.Repair.{kept_part, IsSweep, IsRepair};
 ghost use Rattle.exam_plan.specs.Problems.{seating_of, plan_at, ranks_before};
 ghost use Rattle.exam_rules.specs.Relations.{Code, Relations};
 ghost use Rattle.exam_rules.specs.Sessions.{members};
-ghost use Rattle.exam_rules.specs.Seatings.{seating, problem_of, stands_before};
+ghost use Rattle.exam_rules.specs.Seatings.{seating, problem_of, desks, stands_before};
+ghost use Rattle.exam_rules.specs.Orders.{AreInOrder};
 ghost use Rattle.exam_rules.specs.Names.{ListsRise, SeatsInOpenHalls, named_plan, indexed_plan, named_chain, index_of, hall_index, number_at, hall_at};
+
+/// Where the tables are in order, numbers and codes rise. `Facts::are_in_order` tells that they are, of any facts.
+pub fn lists_rise()
+    ensures { (r : Relations) (s : Code) → AreInOrder r → ListsRise r s }
+{}
 
 /// A lawful plan of the problem seats in open halls alone. Read by numbers and codes it is a lawful plan of the session that
 /// seats as many, a best one is a best one, and the unseated are the same. Read by indices again it is the same plan.
@@ -51,6 +57,15 @@ pub fn certificates_carry_over()
 /// The desk number of a member is that of their index.
 pub fn desk_numbers_carry_over()
     ensures { (r : Relations) (s : Code) (p : Plan ℕ ℕ) (c i : ℕ) → ListsRise r s → IsLawful (seating_of (problem_of r s)) p → index_of r s c ≡ Some i → desk_number (seating r s) (stands_before r s) (named_plan r s p) c ≡ desk_number (seating_of (problem_of r s)) (ranks_before (problem_of r s)) p i }
+{}
+
+/// Whoever a lawful plan seats has a desk number of at most the hall's desks, and two of one hall have two. Within the limits
+/// of an office no session has more than 4,096 members.
+pub fn desks_are_of_their_own()
+    ensures within { (r : Relations) (s : Code) (q : Plan ℕ Code) (c n : ℕ) (h : Code) → ListsRise r s → IsLawful (seating r s) q → q c ≡ Some h
+        → desk_number (seating r s) (stands_before r s) q c ≡ Some n → n ≤ desks r s h }
+    ensures apart { (r : Relations) (s : Code) (q : Plan ℕ Code) (c d : ℕ) (h : Code) → ListsRise r s → IsLawful (seating r s) q → length (members r s) ≤ 4096
+        → q c ≡ Some h → q d ≡ Some h → desk_number (seating r s) (stands_before r s) q c ≡ desk_number (seating r s) (stands_before r s) q d → c ≡ d }
 {}
 
 /// An augmenting chain of the problem is, by numbers and codes, one of the session, a least one is a least one, and the

@@ -17,9 +17,9 @@ pub use facts::Facts;
 pub use fit::{finish, fits};
 pub use laws::{
     certificates_carry_over, chains_carry_over, chains_come_back, contested_carry_over,
-    desk_numbers_carry_over, kept_parts_carry_over, lists_are_plans, plans_carry_over,
-    plans_come_back, repair_is_one, repairs_carry_over, repairs_come_back, sweeps_carry_over,
-    sweeps_come_back,
+    desk_numbers_carry_over, desks_are_of_their_own, kept_parts_carry_over, lists_are_plans,
+    lists_rise, plans_carry_over, plans_come_back, repair_is_one, repairs_carry_over,
+    repairs_come_back, sweeps_carry_over, sweeps_come_back,
 };
 pub use lists::{BySession, SessionLists, session_lists};
 pub use rows::{

@@ -1,0 +1,81 @@
+-- Desk numbers by numbers and codes: whoever sits in a hall has a desk of their own in it.
+use Rattle.std.proofs.Common.{◌≡◌, ℕ, ◌<◌, ◌≤◌, IsTrue, length, Option, Some, IsSome, IfSome, is_some, refl, sym, ap, subst, ◌∙◌}
+use Rattle.std.specs.Option.{option_and_then}
+use Rattle.std.proofs.Math.Path.{fun_ext}
+use Rattle.std.proofs.lemmas.List.{length-map}
+use Rattle.exam_plan.specs.Matching.{Plan, IsLawful, desk_number}
+use Rattle.exam_plan.specs.Problems.{seating_of, ranks_before}
+use Rattle.exam_plan.proofs.NumberLaws.{number_fits, numbers_differ}
+use Rattle.exam_plan.proofs.Renaming.{IsLawful-indexed}
+use Rattle.exam_rules.specs.Relations.{Code, Relations}
+use Rattle.exam_rules.specs.Sessions.{members}
+use Rattle.exam_rules.specs.Seatings.{seating, problem_of, desks, fits, open_halls, fitting_places, stands_before}
+use Rattle.exam_rules.specs.Names.{ListsRise, number_at, hall_at, index_of, hall_index, named_plan, indexed_plan}
+use Rattle.exam_rules.proofs.Naming.{renames, index_below, order_same}
+use Rattle.exam_rules.proofs.Following.{follows}
+use Rattle.exam_rules.proofs.Carrying.{member_index, desk_number-named}
+use Rattle.exam_rules.proofs.KeptNames.{name_of_index, seat_index}
+use Rattle.exam_rules.proofs.Ranking.{is_problem}
+
+known : {A : Type 0} (o : Option A) → IsSome o → (x : A) × (o ≡ Some x)
+known {A} o some = inner o some
+  where
+    inner : (o : Option A) → IsSome o → (x : A) × (o ≡ Some x)
+    inner (Some x) some = (x, refl)
+    inner o some = absurd (cc)
+
+module _ (r : Relations) (s : Code) (up : ListsRise r s) (q : Plan ℕ Code) (lawful : IsLawful (seating r s) q) where
+  lawful_indexed : IsLawful (seating_of (problem_of r s)) (indexed_plan r s q)
+  lawful_indexed = IsLawful-indexed (seating_of (problem_of r s)) (seating r s) (number_at r s) (hall_at r s) (index_of r s) (hall_index r s) (renames r s up) q lawful
+
+  back : named_plan r s (indexed_plan r s q) ≡ q
+  back = fun_ext (name_of_index (seating_of (problem_of r s)) (seating r s) (number_at r s) (hall_at r s) (index_of r s) (hall_index r s) (renames r s up) (follows r s up) q lawful)
+
+  -- the indices of one who sits, and of their hall
+  record Place (c : ℕ) (h : Code) : Type 0 where
+    index : ℕ
+    hall : ℕ
+    is : index_of r s c ≡ Some index
+    hall_is : hall_index r s h ≡ Some hall
+    sits : indexed_plan r s q index ≡ Some hall
+
+  place : (c : ℕ) (h : Code) → q c ≡ Some h → Place c h
+  place c h e =
+      let member = member_index (seating_of (problem_of r s)) (seating r s) (number_at r s) (hall_at r s) (index_of r s) (hall_index r s) (renames r s up) c (lawful.members c (ap is_some e)) in
+      let fit : IsTrue (fits r s c h) = subst (λ (o : Option Code). IfSome o (λ k. IsTrue (fits r s c k))) e (lawful.fitting c) in
+      let hall = known (hall_index r s h) ((renames r s up).known_fit c h fit) in
+      record {
+        index = member.0;
+        hall = hall.0;
+        is = member.1;
+        hall_is = hall.1;
+        sits = seat_index (seating_of (problem_of r s)) (seating r s) (number_at r s) (hall_at r s) (index_of r s) (hall_index r s) (renames r s up) (follows r s up) q c member.0 member.1
+            ∙ ap (option_and_then (hall_index r s)) e ∙ hall.1;
+      }
+
+  number_is : (c : ℕ) (h : Code) (p : Place c h) → desk_number (seating r s) (stands_before r s) q c ≡ desk_number (seating_of (problem_of r s)) (ranks_before (problem_of r s)) (indexed_plan r s q) p.index
+  number_is c h p =
+      ap (λ (plan : Plan ℕ Code). desk_number (seating r s) (stands_before r s) plan c) (sym back)
+      ∙ desk_number-named (seating_of (problem_of r s)) (seating r s) (number_at r s) (hall_at r s) (index_of r s) (hall_index r s) (renames r s up) (stands_before r s) (ranks_before (problem_of r s)) (order_same r s) (indexed_plan r s q) lawful_indexed c p.index p.is
+
+  -- the number is one of the hall's desks
+  pub desk_within : (c n : ℕ) (h : Code) → q c ≡ Some h → desk_number (seating r s) (stands_before r s) q c ≡ Some n → n ≤ desks r s h
+  desk_within c n h e number =
+      let p = place c h e in
+      subst (λ k. n ≤ k) (sym ((renames r s up).desks h p.hall p.hall_is))
+      (number_fits (problem_of r s) (indexed_plan r s q) p.hall lawful_indexed p.index n p.sits (sym (number_is c h p) ∙ number))
+
+  below : (c : ℕ) (h : Code) (p : Place c h) → p.index < length (problem_of r s).fit
+  below c h p = rw (length-map (members r s) (λ d. fitting_places r s d (open_halls r s))) (index_below r s c p.index p.is)
+
+  -- and nobody else of the hall has it
+  pub desk_apart : length (members r s) ≤ 4096 → (c d : ℕ) (h : Code) → q c ≡ Some h → q d ≡ Some h
+      → desk_number (seating r s) (stands_before r s) q c ≡ desk_number (seating r s) (stands_before r s) q d → c ≡ d
+  desk_apart few c d h ec ed same =
+      let pc = place c h ec in
+      let pd = place d h ed in
+      let one : Some pc.hall ≡ Some pd.hall = sym pc.hall_is ∙ pd.hall_is in
+      let hall : pc.hall ≡ pd.hall = cc in
+      let index : pc.index ≡ pd.index = numbers_differ (problem_of r s) (indexed_plan r s q) pc.hall (is_problem r s up.numbers few) pc.index pd.index (below c h pc) (below d h pd) pc.sits
+      (pd.sits ∙ sym one) (sym (number_is c h pc) ∙ same ∙ number_is d h pd) in
+      sym ((renames r s up).named c pc.index pc.is).0 ∙ ap (number_at r s) index ∙ ((renames r s up).named d pd.index pd.is).0
