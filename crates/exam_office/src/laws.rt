@@ -24,14 +24,14 @@ pub fn good_office_is_seated()
 
 /// An accepted import, repeated at once, is accepted, makes the same facts, and answers that all of its keys have the same
 /// row. Every `Facts` is in order (`Facts::are_in_order`), and the rows of every `Import` agree (`Import::rows`).
-pub fn repeated_import_changes_nothing()
+pub fn repeated_import_makes_the_same_facts()
     ensures { (r t : Relations) (rows : List Row) → AreInOrder r → is_consistent rows ≡ true → imported r rows ≡ Ok t
         → (imported t rows ≡ Ok t) × (import_reply t rows ≡ reply.Imported 0 0 (length (distinct_rows rows))) }
 {}
 
 /// The same of two steps, on whatever days: the office stays as it is. Every `Office` is in order (`Office::is_in_order`),
 /// and the rows of every `Import` agree (`Import::rows`).
-pub fn repeated_import_is_no_change()
+pub fn repeated_import_changes_nothing()
     ensures { (import : ImportRows) (day later : ℕ) (before mid after : State) (first : Reply) (second : Result Reply Refusal)
         → IsInOrder before → IsInOrder mid → IsInOrder after → is_consistent import.rows ≡ true
         → Step (command.Import import) day before (Ok first) mid → Step (command.Import import) later mid second after
