@@ -1,13 +1,12 @@
 -- An accepted import repeated at once is accepted, changes nothing, and finds every row the same.
-use Rattle.std.proofs.Common.{◌≡◌, ℕ, ◌&&◌, ◌||◌, not, Bool, true, false, cond, List, [], ◌∷◌, length, filter, nat_eq, Option, None, Some, Result, Ok, Err, is_some, is_none, eq-eqb, refl, ap, sym, subst, ◌∙◌}
+use Rattle.std.proofs.Common.{◌≡◌, ℕ, ◌||◌, not, Bool, true, false, cond, List, [], ◌∷◌, length, filter, nat_eq, Option, None, Some, Result, Ok, Err, is_some, is_none, eq-eqb, refl, ap, sym, subst, ◌∙◌}
 use Rattle.std.specs.Bool.{beq}
 use Rattle.std.specs.List.{AllByRecursion}
-use Rattle.std.specs.Option.{option_map, option_map_or, option_or}
+use Rattle.std.specs.Option.{option_map, option_map_or}
 use Rattle.std.proofs.lemmas.Bool.{and_from}
 use Rattle.exam_types.specs.declared.features.Features.{Features}
 use Rattle.exam_types.specs.declared.refusal.Refusal.{Refusal}
 use Rattle.exam_types.specs.declared.refusal.Refusal.TheVariants.{TooMany}
-use Rattle.exam_plan.specs.Matching.{SamePlan}
 use Rattle.exam_rules.specs.declared.rows.Arrangement.{Arrangement}
 use Rattle.exam_rules.specs.declared.rows.Candidate.{Candidate}
 use Rattle.exam_rules.specs.declared.rows.Entry.{Entry}
@@ -16,8 +15,7 @@ use Rattle.exam_rules.specs.declared.rows.Opening.{Opening}
 use Rattle.exam_rules.specs.declared.rows.Paper.{Paper}
 use Rattle.exam_rules.specs.declared.rows.Session.{Session}
 use Rattle.exam_rules.specs.Orders.{AreInOrder}
-use Rattle.exam_rules.specs.Relations.{Code, Relations, entry_cmp, row_at, same_code}
-use Rattle.exam_rules.specs.Seatings.{plan_of}
+use Rattle.exam_rules.specs.Relations.{Relations, entry_cmp, row_at, seat_cmp}
 use Rattle.exam_rules.proofs.Naming.{same_code_itself}
 use Rattle.exam_office.specs.declared.command.Command.TheVariants as command
 use Rattle.exam_office.specs.declared.command.Reply.{Reply}
@@ -28,10 +26,13 @@ use Rattle.exam_office.specs.declared.row.RowKey.{RowKey}
 use Rattle.exam_office.specs.Changes.{first_refusal, import_refusal, imported, rows_refusal, too_many, unless, with_rows}
 use Rattle.exam_office.specs.Imports.{ImportRows, is_consistent}
 use Rattle.exam_office.specs.Limits.{within_limits}
+use Rattle.exam_office.specs.Orders.{IsInOrder}
 use Rattle.exam_office.specs.Replies as replies
 use Rattle.exam_office.specs.Replies.{distinct_rows, fresh_rows, import_reply, is_changed, is_new, is_same, row_key, same_key}
 use Rattle.exam_office.specs.State.{State}
 use Rattle.exam_office.specs.Steps.{Step, StepTo}
+use Rattle.exam_office.proofs.Repeating.{same_rows}
+use Rattle.exam_office.proofs.SameSeats.{seats_exact, seats_total}
 use Rattle.exam_office.proofs.Referring.{import_refers_still, neither, there}
 use Rattle.exam_office.proofs.Stepping.{import_accepted}
 use Rattle.exam_office.proofs.Stored.{IsStored, rows_again, rows_in_order, rows_stored}
@@ -149,10 +150,12 @@ new_facts import day before after answer step = inner (imported before.relations
     inner (Ok r) e to = ap Ok (sym to.0)
     inner (Err refused) e to = absurd (let differ : Ok answer ≡ Err refused = to.0 in cc)
 
-pub repeated_step : (import : ImportRows) (day later : ℕ) (before mid after : State) (first : Reply) (second : Result Reply Refusal) → AreInOrder before.relations → is_consistent import.rows ≡ true
-    → Step (command.Import import) day before (Ok first) mid → Step (command.Import import) later mid second after
-    → (second ≡ Ok (reply.Imported 0 0 (length (distinct_rows import.rows)))) × (after.relations ≡ mid.relations) × ((s : Code) → SamePlan (plan_of after.seats s) (plan_of mid.seats s))
-repeated_step import day later before mid after first second up agree one two =
-    let again = repeated_import before.relations mid.relations import.rows up agree (new_facts import day before mid first one) in
+pub repeated_step : (import : ImportRows) (day later : ℕ) (before mid after : State) (first : Reply) (second : Result Reply Refusal) → IsInOrder before → IsInOrder mid → IsInOrder after
+    → is_consistent import.rows ≡ true → Step (command.Import import) day before (Ok first) mid → Step (command.Import import) later mid second after
+    → (second ≡ Ok (reply.Imported 0 0 (length (distinct_rows import.rows)))) × (after ≡ mid)
+repeated_step import day later before mid after first second up up_mid up_after agree one two =
+    let again = repeated_import before.relations mid.relations import.rows up.tables agree (new_facts import day before mid first one) in
     let to : StepTo (command.Import import) mid second after (Ok mid.relations) = subst (StepTo (command.Import import) mid second after) again.0 two in
-    (to.2 ∙ ap Ok again.1, to.0, λ s. (to.1 s).untouched (record { members = refl; fits = λ c h. refl; desks = λ h. refl }))
+    let same : after.seats ≡ mid.seats = same_rows seat_cmp seats_total seats_exact after.seats mid.seats up_after.seats up_mid.seats
+    (λ q. (to.1 q.0).untouched (record { members = refl; fits = λ c h. refl; desks = λ h. refl }) q.1) in
+    (to.2 ∙ ap Ok again.1, λ i. record { relations = to.0 i; seats = same i })

@@ -1,6 +1,7 @@
--- A row that is put: it is found, other rows stay, keys rise on, and put once more it changes nothing.
-use Rattle.std.proofs.Common.{◌≡◌, Bool, true, false, cond, List, [], ◌∷◌, Option, None, Some, refl, ap, sym, ◌∙◌}
-use Rattle.std.specs.Cmp.{IsTotalOrder, tied_itself}
+-- A row that is put: it is found, other rows stay, keys rise on, and put once more it changes nothing. And rows in order are
+-- the same where each key has the same.
+use Rattle.std.proofs.Common.{◌≡◌, Bool, true, false, cond, List, [], ◌∷◌, None, Some, refl, ap, sym, ◌∙◌}
+use Rattle.std.specs.Cmp.{Equal-is, IsTotalOrder, tied_itself}
 use Rattle.std.specs.List.{AllByRecursion}
 use Rattle.std.specs.List.Sorted.{IsStrictlySortedBy}
 use Rattle.std.specs.Map.{keys_of, lookup}
@@ -9,6 +10,7 @@ use Rattle.std.specs.declared.cmp.Ordering.{Ordering}
 use Rattle.std.specs.declared.cmp.Ordering.TheVariants.{Less, Equal, Greater}
 use Rattle.std.specs.Ordering.{is_eq, match_ordering, ordering_reverse}
 use Rattle.std.proofs.lemmas.Map.Keys.{sorted_head, sorted_tail}
+use Rattle.std.proofs.lemmas.Map.Lookups.{CmpEqualImpliesEq}
 use Rattle.exam_rules.specs.Relations.{row_at, put_row}
 use Rattle.exam_office.proofs.Distinct.{flips}
 
@@ -96,3 +98,42 @@ module _ {K X : Type 0} (cmp : K → K → Ordering) (o : IsTotalOrder cmp) wher
       inner Less is rest = sorted_from cmp k (e.0 ∷ keys_of es) (is, all_below cmp o k e.0 (keys_of es) is above) up
       inner Equal is rest = up
       inner Greater is rest = sorted_from cmp e.0 (keys_of (put_row cmp es k v)) (all_keys_put (λ y. cmp e.0 y ≡ Less) es k v above (o.antisymm e.0 k ∙ ap ordering_reverse is)) rest
+
+  past_all : (k q : K) (es : List (K × X)) → cmp q k ≡ Equal → AllByRecursion (λ y. cmp k y ≡ Less) (keys_of es) → row_at cmp es q ≡ None
+  past_all k q [] tied above = refl
+  past_all k q (e ∷ es) tied above = ap (λ r. cond (is_eq r) (Some e.1) (row_at cmp es q)) (o.congr q k e.0 tied ∙ above.0) ∙ past_all k q es tied above.1
+
+  at_head : (e : K × X) (es : List (K × X)) → row_at cmp (e ∷ es) e.0 ≡ Some e.1
+  at_head e es = ap (λ r. cond (is_eq r) (Some e.1) (row_at cmp es e.0)) (tied_itself o e.0)
+
+  below_head : (k : K) (e : K × X) (es : List (K × X)) → IsStrictlySortedBy cmp (e.0 ∷ keys_of es) → cmp k e.0 ≡ Less → row_at cmp (e ∷ es) k ≡ None
+  below_head k e es up less = ap (λ r. cond (is_eq r) (Some e.1) (row_at cmp es k)) less ∙ none_above k e.0 es less (sorted_head cmp e.0 (keys_of es) up)
+
+  -- rows in order are the same where each key has the same
+  pub same_rows : CmpEqualImpliesEq cmp → (es fs : List (K × X)) → IsStrictlySortedBy cmp (keys_of es) → IsStrictlySortedBy cmp (keys_of fs)
+      → ((q : K) → row_at cmp es q ≡ row_at cmp fs q) → es ≡ fs
+  same_rows exact [] [] up vp same = refl
+  same_rows exact [] (f ∷ fs) up vp same = absurd (let differ : None ≡ Some f.1 = same f.0 ∙ at_head f fs in cc)
+  same_rows exact (e ∷ es) [] up vp same = absurd (let differ : Some e.1 ≡ None = sym (at_head e es) ∙ same e.0 in cc)
+  same_rows exact (e ∷ es) (f ∷ fs) up vp same = inner (cmp e.0 f.0) refl (same_rows exact es fs (sorted_tail cmp e.0 (keys_of es) up) (sorted_tail cmp f.0 (keys_of fs) vp))
+    where
+      heads : (r : Ordering) → cmp e.0 f.0 ≡ r → r ≡ Equal
+      heads Less is = absurd (let differ : Some e.1 ≡ None = sym (at_head e es) ∙ same e.0 ∙ below_head e.0 f fs vp is in cc)
+      heads Equal is = refl
+      heads Greater is = absurd (let differ : Some f.1 ≡ None = sym (at_head f fs) ∙ sym (same f.0) ∙ below_head f.0 e es up (o.antisymm f.0 e.0 ∙ ap ordering_reverse is) in cc)
+
+      tails : e.0 ≡ f.0 → (q : K) (b : Bool) → is_at (cmp q) e.0 ≡ b → row_at cmp es q ≡ row_at cmp fs q
+      tails one q true here =
+          let tied : cmp q e.0 ≡ Equal = (Equal-is (cmp q e.0)).0 here in
+          past_all e.0 q es tied (sorted_head cmp e.0 (keys_of es) up) ∙ sym (past_all f.0 q fs (ap (cmp q) (sym one) ∙ tied) (sorted_head cmp f.0 (keys_of fs) vp))
+      tails one q false away =
+          ap (λ b. cond b (Some e.1) (row_at cmp es q)) (sym away) ∙ same q
+          ∙ ap (λ b. cond b (Some f.1) (row_at cmp fs q)) (ap (λ k. is_at (cmp q) k) (sym one) ∙ away)
+
+      inner : (r : Ordering) → cmp e.0 f.0 ≡ r → (((q : K) → row_at cmp es q ≡ row_at cmp fs q) → es ≡ fs) → e ∷ es ≡ f ∷ fs
+      inner r is rest =
+          let tied : cmp e.0 f.0 ≡ Equal = is ∙ heads r is in
+          let key : e.0 ≡ f.0 = exact e.0 f.0 tied in
+          let value : Some e.1 ≡ Some f.1 = sym (at_head e es) ∙ same e.0 ∙ ap (λ r. cond (is_eq r) (Some f.1) (row_at cmp fs e.0)) tied in
+          let content : e.1 ≡ f.1 = cc in
+          ap (λ k. (k, e.1) ∷ es) key ∙ ap (λ x. (f.0, x) ∷ es) content ∙ ap (λ t. f ∷ t) (rest (λ q. tails key q (is_at (cmp q) e.0) refl))

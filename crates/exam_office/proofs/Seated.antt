@@ -5,7 +5,7 @@ use Rattle.exam_plan.specs.Matching.{IsLawful, occupants}
 use Rattle.exam_rules.specs.Orders.{AreInOrder}
 use Rattle.exam_rules.specs.Relations.{Code, code_cmp, has_row}
 use Rattle.exam_rules.specs.Sessions.{members}
-use Rattle.exam_rules.specs.Seatings.{seating, plan_of, fits, desks, stands_before}
+use Rattle.exam_rules.specs.Seatings.{seating, plan_of, fits, stands_before}
 use Rattle.exam_rules.proofs.InOrder.{lists_rise}
 use Rattle.exam_rules.proofs.NamedDesks.{desk_within, desk_apart}
 use Rattle.exam_office.specs.Good.{IsGood}

@@ -21,7 +21,9 @@ mod viewing;
 
 pub use command::{Command, Reply};
 pub use import::Import;
-pub use laws::{good_office_is_seated, repeated_import_changes_nothing, repeated_import_is_no_change};
+pub use laws::{
+    good_office_is_seated, repeated_import_changes_nothing, repeated_import_makes_the_same_facts,
+};
 pub use office::{Office, Seats};
 pub use row::{Kind, Row};
 pub use steps::{next_office, run, step};

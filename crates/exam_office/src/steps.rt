@@ -48,6 +48,7 @@ pub fn run(
     ensures memory { IfErr result (λ e. e ≡ NoMemory) }
     ensures err { OnErr result (office.new ≡ office.old) }
 {
+    // What an office promises is shown here for a refusal, and once more after the commands.
     office.is_seated();
     // Room for all replies first, so that nothing fails once a command is carried out.
     let mut replies = Vec::with_capacity(alloc, commands.len())?;

@@ -1,4 +1,4 @@
-//! What is so by indices is so by numbers and codes, where numbers and codes rise.
+//! What is so by indices is so by numbers and codes, where numbers and codes rise; they do in any facts (`lists_rise`).
 ghost use Rattle.std.specs.Prelude.{◌≡◌, ◌↔◌, ◌<◌, ◌≤◌, ℕ, List, Option, None, Some, length, map, slice_index_or};
 ghost use Rattle.std.specs.Option.{option_map, option_and_then};
 ghost use Rattle.exam_plan.specs.Matching.{Plan, SamePlan, IsLawful, IsBest, IsCertificate, IsContested, desk_number, size, unseated};
