@@ -43,7 +43,12 @@ all_at p (k ∷ keys) s every among = inner (same_code s k) refl among (all_at p
     inner true e among rest = ap p (same_code_exact s k e) ∙ (and_parts (p k) (list_all p keys) every).0
     inner false e among rest = rest among
 
-pub within_members : (r : Relations) → IsTrue (within_limits r) → IsTrue (members_within r)
+-- within its limit no session has too many members
+pub few_within : (r : Relations) → IsTrue (members_within r) → (s : Code) → IsTrue (has_row code_cmp r.sessions s) → length (members r s) ≤ 4096
+few_within r within s known =
+    leb-true (length (members r s)) 4096 (all_at (λ t. nat_le (length (members r t)) 4096) (keys_of r.sessions) s within (sym (known_among s r.sessions) ∙ known))
+
+within_members : (r : Relations) → IsTrue (within_limits r) → IsTrue (members_within r)
 within_members r limits =
     let from_members = members_within r && appeals_within r in
     let from_openings = openings_within r && (candidates_within r && from_members) in
@@ -52,7 +57,6 @@ within_members r limits =
     let past_openings = and_parts (openings_within r) (candidates_within r && from_members) past_halls.1 in
     (and_parts (members_within r) (appeals_within r) (and_parts (candidates_within r) from_members past_openings.1).1).0
 
--- within its limit no session has too many members
-pub few_members : (r : Relations) → IsTrue (members_within r) → (s : Code) → IsTrue (has_row code_cmp r.sessions s) → length (members r s) ≤ 4096
-few_members r within s known =
-    leb-true (length (members r s)) 4096 (all_at (λ t. nat_le (length (members r t)) 4096) (keys_of r.sessions) s within (sym (known_among s r.sessions) ∙ known))
+-- within all limits too
+pub few_members : (r : Relations) → IsTrue (within_limits r) → (s : Code) → IsTrue (has_row code_cmp r.sessions s) → length (members r s) ≤ 4096
+few_members r limits = few_within r (within_members r limits)

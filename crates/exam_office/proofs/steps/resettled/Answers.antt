@@ -1,7 +1,7 @@
 use Rattle.std.proofs.Common.{sym, ◌∙◌}
 use Rattle.exam_rules.specs.Relations.{relations_of}
-use Rattle.exam_office.proofs.SameSeats.{few_members, within_members}
+use Rattle.exam_office.proofs.SameSeats.{few_members}
 use Rattle.exam_office.proofs.steps.resettled.Goals as goal
 
 pub repaired-requires-clause-few : goal.repaired-requires-clause-few
-repaired-requires-clause-few c = few_members (relations_of c.args.facts) (within_members (relations_of c.args.facts) (sym c.is_within_limits.ensures ∙ c.if-not-is_within_limits.false))
+repaired-requires-clause-few c = few_members (relations_of c.args.facts) (sym c.is_within_limits.ensures ∙ c.if-not-is_within_limits.false)

@@ -3,12 +3,12 @@ use Rattle.std.proofs.Math.Path.{fun_ext}
 use Rattle.exam_plan.specs.Matching.{IsBest}
 use Rattle.exam_rules.specs.Relations.{relations_of}
 use Rattle.exam_rules.specs.Seatings.{seating, plan_of}
-use Rattle.exam_office.proofs.SameSeats.{few_members}
+use Rattle.exam_office.proofs.SameSeats.{few_within}
 use Rattle.exam_office.proofs.Staying.{best_stays}
 use Rattle.exam_office.proofs.tables.are_seats_good.Goals as goal
 
 pub repaired-requires-clause-few : goal.repaired-requires-clause-few
-repaired-requires-clause-few c = few_members (relations_of c.args.facts.now) c.requires.few
+repaired-requires-clause-few c = few_within (relations_of c.args.facts.now) c.requires.few
 
 pub returns-clause-ok : goal.returns-clause-ok
 returns-clause-ok c = (
