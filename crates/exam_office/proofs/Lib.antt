@@ -13,3 +13,5 @@ pub mod ImportConflicts
 pub mod ImportKeys
 pub mod ImportPlaces
 pub mod ImportRowsEqual
+pub mod Members
+pub mod Showing

@@ -7,3 +7,4 @@ pub mod Repairs
 pub mod Good
 pub mod Singles
 pub mod Steps
+pub mod Views
