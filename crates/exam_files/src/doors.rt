@@ -9,8 +9,8 @@ use crate::sending::send;
 use crate::sheet_fault::SheetFault;
 use crate::sheet_text::{push_bytes, push_decimal, push_left, push_right};
 use exam_office::{Seat, SessionView};
-use exam_rules::Opening;
-use exam_types::{HallCode, Refusal};
+use exam_rules::{Opening, Session};
+use exam_types::{HallCode, Refusal, SessionCode};
 use std::alloc::Global;
 use std::io::Write;
 
@@ -25,7 +25,8 @@ pub fn door_list<W: Write>(
     ensures { Writes W.contents result writer.old writer.new (spec.door_list view.now hall.now) }
 {
     let opening = opening_of(view, hall)?;
-    let text = door_list_text(alloc, view, hall, &opening)?;
+    let seats = view.seats(alloc)?;
+    let text = door_list_text(alloc, view.code(), view.session(), hall, &opening, &seats)?;
     send(writer, text.as_slice())
 }
 
@@ -33,61 +34,54 @@ pub fn door_list<W: Write>(
 fn opening_of(view: &SessionView, hall: &HallCode) -> Result<Opening, Refusal>
     ensures { result ≡ spec.opening_in view.now hall.now }
 {
-    if !view.hall_codes.contains(hall) {
+    if !view.has_hall(hall) {
         return Err(Refusal::UnknownHall);
     }
-    find_opening(view.openings.as_slice(), hall).ok_or(Refusal::HallNotOpened)
-}
-
-fn find_opening(openings: &[(HallCode, Opening)], hall: &HallCode) -> Option<Opening>
-    ensures { result ≡ spec.opening_at hall.now openings.now }
-{
-    for opened in openings {
-        if opened.0 == *hall {
-            return Some(opened.1);
-        }
-    }
-    None
+    view.opening(hall).ok_or(Refusal::HallNotOpened)
 }
 
 fn door_list_text(
     alloc: Global,
-    view: &SessionView,
+    code: SessionCode,
+    session: Session,
     hall: &HallCode,
     opening: &Opening,
+    seats: &[Seat],
 ) -> Result<Vec<u8>, Refusal>
-    ensures ok { IfOk result (λ text. text.items ≡ spec.door_text view.now hall.now opening.now) }
+    ensures ok { IfOk result (λ text. text.items ≡ spec.door_text code session hall.now opening.now seats.now) }
     ensures memory { IfErr result (λ e. e ≡ NoMemory) }
 {
     let mut text = Vec::new(alloc);
-    push_heading(&mut text, view, hall, opening)?;
+    push_heading(&mut text, code, session, hall, opening, seats)?;
     for desk in 0..u32::from(opening.desks.get()) {
-        push_desk(&mut text, view.members.as_slice(), hall, desk + 1)?;
+        push_desk(&mut text, seats, hall, desk + 1)?;
     }
     Ok(text)
 }
 
 fn push_heading(
     text: &mut Vec<u8>,
-    view: &SessionView,
+    code: SessionCode,
+    session: Session,
     hall: &HallCode,
     opening: &Opening,
+    seats: &[Seat],
 ) -> Result<(), Refusal>
-    ensures ok { OnOk result (text.new.items ≡ text.old.items ++ spec.door_heading view.now hall.now opening.now) }
+    ensures ok { OnOk result (text.new.items ≡ text.old.items ++ spec.door_heading code session hall.now opening.now seats.now) }
     ensures memory { IfErr result (λ e. e ≡ NoMemory) }
 {
     push_bytes(text, b"DOOR LIST session ")?;
-    view.code.write_to(text)?;
+    code.write_to(text)?;
     push_bytes(text, b" hall ")?;
     hall.write_to(text)?;
     push_bytes(text, b"\ndate ")?;
-    view.session.day.write_to(text)?;
+    session.day.write_to(text)?;
     push_bytes(text, b" start ")?;
-    view.session.start.write_to(text)?;
+    session.start.write_to(text)?;
     push_bytes(text, b" desks ")?;
     opening.desks.write_to(text)?;
     push_bytes(text, b" seated ")?;
-    push_decimal(text, seated(view.members.as_slice(), hall))?;
+    push_decimal(text, seated(seats, hall))?;
     push_bytes(text, b"\n")?;
     Ok(())
 }

@@ -1,6 +1,7 @@
 //! The shortage sheet.
 ghost use Rattle.std.specs.Prelude.{◌≡◌, ◌++◌, Ok, OnOk, IfOk, IfErr, sum_by};
 ghost use Rattle.std.specs.List.{flat_map};
+ghost use Rattle.exam_office.specs.Views.{Report, ShowsShortage, report_of};
 ghost use Rattle.exam_files.specs.Shortages as spec;
 ghost use Rattle.exam_files.specs.Writing.{Writes};
 ghost use Rattle.exam_types.specs.declared.refusal.Refusal.TheVariants.{NoMemory};
@@ -9,7 +10,7 @@ use crate::sending::send;
 use crate::sheet_fault::SheetFault;
 use crate::sheet_text::{push_bytes, push_decimal};
 use exam_office::{SessionShortage, SessionView};
-use exam_types::{HallCode, Number, Refusal};
+use exam_types::{HallCode, Number, Refusal, SessionCode};
 use std::alloc::Global;
 use std::io::Write;
 
@@ -19,19 +20,25 @@ pub fn shortage_sheet<W: Write>(
     view: &SessionView,
     writer: &mut W,
 ) -> Result<(), SheetFault>
-    ensures { Writes W.contents result writer.old writer.new (Ok (spec.shortage_sheet view.now)) }
+    ensures { (report : Report) × ShowsShortage view.now report × Writes W.contents result writer.old writer.new (Ok (spec.shortage_text view.now.code report)) }
 {
-    let text = shortage_text(alloc, view)?;
+    // There is a sheet also where memory does not last for it.
+    view.has_shortage();
+    let shortage = view.shortage(alloc)?;
+    let text = shortage_text(alloc, view.code(), &shortage)?;
     send(writer, text.as_slice())
 }
 
-fn shortage_text(alloc: Global, view: &SessionView) -> Result<Vec<u8>, Refusal>
-    ensures ok { IfOk result (λ text. text.items ≡ spec.shortage_sheet view.now) }
+fn shortage_text(
+    alloc: Global,
+    session: SessionCode,
+    shortage: &SessionShortage,
+) -> Result<Vec<u8>, Refusal>
+    ensures ok { IfOk result (λ text. text.items ≡ spec.shortage_text session (report_of shortage.now)) }
     ensures memory { IfErr result (λ e. e ≡ NoMemory) }
 {
     let mut text = Vec::new(alloc);
-    let shortage = &view.report;
-    push_heading(&mut text, view, shortage)?;
+    push_heading(&mut text, session, shortage)?;
     push_halls(&mut text, shortage.halls.as_slice())?;
     push_bytes(&mut text, b"candidates ")?;
     push_decimal(&mut text, shortage.candidates.len())?;
@@ -42,14 +49,14 @@ fn shortage_text(alloc: Global, view: &SessionView) -> Result<Vec<u8>, Refusal>
 
 fn push_heading(
     text: &mut Vec<u8>,
-    view: &SessionView,
+    session: SessionCode,
     shortage: &SessionShortage,
 ) -> Result<(), Refusal>
-    ensures ok { OnOk result (text.new.items ≡ text.old.items ++ spec.shortage_heading view.now.code shortage.now) }
+    ensures ok { OnOk result (text.new.items ≡ text.old.items ++ spec.shortage_heading session (report_of shortage.now)) }
     ensures memory { IfErr result (λ e. e ≡ NoMemory) }
 {
     push_bytes(text, b"SHORTAGE session ")?;
-    view.code.write_to(text)?;
+    session.write_to(text)?;
     push_bytes(text, b"\nunseated ")?;
     push_decimal(text, shortage.unseated)?;
     push_bytes(text, b"\nhalls ")?;

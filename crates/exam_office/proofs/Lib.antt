@@ -17,3 +17,5 @@ pub mod Repeating
 pub mod Stored
 pub mod RepeatedImports
 pub mod Seated
+pub mod Members
+pub mod Showing

@@ -45,14 +45,14 @@ module _ (r : Relations) (s : Code) (before : Seats) where
       inner None = tt
       inner (Some h) = position_within (same_code h) (open_halls r s)
 
-  stored_is_plan : IsPlan (problem_of r s) (places_of before s (open_halls r s) (members r s))
+  pub stored_is_plan : IsPlan (problem_of r s) (places_of before s (open_halls r s) (members r s))
   stored_is_plan = record {
     whole = length-map (members r s) (place_of before s (open_halls r s)) ∙ sym (length-map (members r s) (λ c. fitting_places r s c (open_halls r s)));
     exist = All-map (λ hall. IfSome hall (λ h. h < length (map (desks r s) (open_halls r s)))) (place_of before s (open_halls r s)) (members r s)
         (λ k d below. rw (length-map (open_halls r s) (desks r s)) (place_exists (get_or (members r s) k d)));
   }
 
-  stored_is_indexed : ListsRise r s → SamePlan (plan_at (places_of before s (open_halls r s) (members r s))) (indexed_plan r s (plan_of before s))
+  pub stored_is_indexed : ListsRise r s → SamePlan (plan_at (places_of before s (open_halls r s) (members r s))) (indexed_plan r s (plan_of before s))
   stored_is_indexed up = list_is_plan r s up (plan_of before s) (places_of before s (open_halls r s) (members r s)) (length-map (members r s) (place_of before s (open_halls r s)))
       (λ i below. get_or-map (place_of before s (open_halls r s)) (members r s) i 0 None below ∙ inner (plan_of before s (number_at r s i)))
     where

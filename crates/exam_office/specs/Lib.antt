@@ -9,3 +9,4 @@ pub mod Singles
 pub mod Steps
 pub mod Orders
 pub mod Headline
+pub mod Views

@@ -10,7 +10,9 @@ ghost use Rattle.exam_office.specs.Headline.{IsSeated};
 ghost use Rattle.exam_office.specs.Limits.{within_limits};
 ghost use Rattle.exam_rules.specs.Relations.{Code, relations_of};
 ghost use Rattle.exam_office.specs.Orders.{IsInOrder};
+ghost use Rattle.exam_rules.specs.Sessions.{IsSessionRefusal};
 ghost use Rattle.exam_office.specs.State.{empty_state};
+ghost use Rattle.exam_office.specs.Views.{IsViewOf};
 
 use crate::tables::first_bad_table;
 use crate::view::SessionView;
@@ -80,12 +82,14 @@ impl Office {
     }
 
     /// One session with its plan. Refused where there is no such session, or not enough memory.
-    pub fn session_view(
-        &self,
-        alloc: Global,
-        session: &SessionCode,
-    ) -> Result<SessionView, Refusal> {
-        viewing::view_of(alloc, &self.facts, &self.seats, session)
+    pub fn session_view(&self, alloc: Global, session: &SessionCode) -> Result<SessionView, Refusal>
+        ensures ok { IfOk result (IsViewOf self.now session.now) }
+        ensures refusal { IfErr result (IsSessionRefusal self.now.relations session.now) }
+    {
+        let Some(row) = self.facts.sessions.get(session) else {
+            return Err(Refusal::UnknownSession);
+        };
+        viewing::view_of(alloc, &self.facts, &self.seats, session, row)
     }
 
     /// The office with these facts and plans, which are good.

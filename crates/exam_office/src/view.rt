@@ -1,6 +1,14 @@
 //! What the office shows of one session.
+ghost use Rattle.std.specs.Prelude.{◌≡◌, ◌<◌, ℕ, List, All, IfOk, IfErr, IfSome, length, map};
+ghost use Rattle.std.specs.Option.{option_map};
+ghost use Rattle.exam_types.specs.declared.refusal.Refusal.TheVariants.{NoMemory};
+ghost use Rattle.exam_office.specs.Views as views;
+
+use exam_plan::{Plan, Problem, desks, shortage};
 use exam_rules::{Opening, Session};
 use exam_types::{HallCode, Minute, Name, Number, PaperCode, Refusal, SessionCode};
+use std::alloc::Global;
+use std::marker::Model;
 
 /// A member of a session, and where they sit.
 #[derive(Drop)]
@@ -27,42 +35,171 @@ pub struct SessionShortage {
     pub candidates: Vec<Number>,
 }
 
+/// A member of a session, without their seat.
+#[derive(Drop)]
+pub struct Member {
+    pub number: Number,
+    pub name: Name,
+    /// The sitting paper.
+    pub paper: PaperCode,
+    pub finish: Minute,
+}
+
 /// One session with its plan.
 #[derive(Drop)]
 pub struct SessionView {
-    pub code: SessionCode,
-    pub session: Session,
+    pub(crate) code: SessionCode,
+    pub(crate) session: Session,
     /// The codes of all halls of the office, rising.
-    pub hall_codes: Vec<HallCode>,
+    pub(crate) hall_codes: Vec<HallCode>,
     /// The openings of the session, by hall.
-    pub openings: Vec<(HallCode, Opening)>,
-    /// The members, by number.
-    pub members: Vec<Seat>,
-    pub report: SessionShortage,
+    pub(crate) openings: Vec<(HallCode, Opening)>,
+    /// By number.
+    pub(crate) members: Vec<Member>,
+    pub(crate) clashes: Vec<(Number, PaperCode)>,
+    pub(crate) problem: Problem,
+    pub(crate) plan: Plan,
 }
 
-impl Seat {
-    /// An equal seat. Refused where there is not enough memory.
-    pub fn copy(&self) -> Result<Self, Refusal> {
+impl Model for SessionView {
+    ghost use Rattle.exam_office.specs.Views.{View, IsView};
+
+    ghost Value = { View };
+
+    ghost view = { λ a. record { code = a.code; session = a.session; hall_codes = a.hall_codes.items; openings = a.openings.items; members = a.members.items; clashes = a.clashes.items; problem = a.problem; plan = a.plan.items } };
+
+    ghost invariant = { λ a. IsView (record { code = a.code; session = a.session; hall_codes = a.hall_codes.items; openings = a.openings.items; members = a.members.items; clashes = a.clashes.items; problem = a.problem; plan = a.plan.items }) };
+}
+
+impl SessionView {
+    pub fn code(&self) -> SessionCode
+        ensures { result ≡ self.now.code }
+    {
+        self.code
+    }
+
+    pub fn session(&self) -> Session
+        ensures { result ≡ self.now.session }
+    {
+        self.session
+    }
+
+    /// Whether the office has the hall.
+    pub fn has_hall(&self, hall: &HallCode) -> bool
+        ensures { result ≡ views.has_hall self.now hall.now }
+    {
+        self.hall_codes.contains(hall)
+    }
+
+    /// How the hall is opened for the session, if it is.
+    pub fn opening(&self, hall: &HallCode) -> Option<Opening>
+        ensures { result ≡ views.opening_of self.now hall.now }
+    {
+        for opened in &self.openings {
+            if opened.0 == *hall {
+                return Some(opened.1);
+            }
+        }
+        None
+    }
+
+    /// The members by number, each with name, sitting paper, finish, hall and desk.
+    pub fn seats(&self, alloc: Global) -> Result<Vec<Seat>, Refusal>
+        ensures ok { IfOk result (λ seats. seats.items ≡ views.seats_of self.now) }
+        ensures memory { IfErr result (λ e. e ≡ NoMemory) }
+    {
+        let desks = desks(alloc, &self.problem, &self.plan)?;
+        let mut seats = Vec::with_capacity(alloc, self.members.len())?;
+        for (index, member) in self.members.iter().enumerate() {
+            let hall = self.hall_at(self.plan[index]);
+            seats.push(member.seat_in(hall, desks[index])?)?;
+        }
+        Ok(seats)
+    }
+
+    /// The members with their live papers that they do not sit, by number and code.
+    pub fn clashes(&self) -> &[(Number, PaperCode)]
+        ensures { result.now ≡ self.now.clashes }
+    {
+        self.clashes.as_slice()
+    }
+
+    /// Who is contested, with all halls that fit any of them.
+    pub fn shortage(&self, alloc: Global) -> Result<SessionShortage, Refusal>
+        ensures ok { IfOk result (λ shortage. views.ShowsShortage self.now (views.report_of shortage)) }
+        ensures memory { IfErr result (λ e. e ≡ NoMemory) }
+    {
+        let found = shortage(alloc, &self.problem, &self.plan)?;
+        Ok(SessionShortage {
+            unseated: found.unseated,
+            halls: self.halls_with_desks(alloc, &found.halls)?,
+            candidates: self.numbers_of(alloc, &found.candidates)?,
+        })
+    }
+
+    /// Every view shows some shortage. Does nothing.
+    pub fn has_shortage(&self)
+        ensures { (report : views.Report) × views.ShowsShortage self.now report }
+    {
+        // The read of a field shows what the type keeps.
+        let _ = &self.problem;
+    }
+
+    /// The hall at the place, if there is one.
+    fn hall_at(&self, place: Option<usize>) -> Option<HallCode>
+        requires { IfSome place (λ j. j < length self.now.openings) }
+        ensures { result ≡ option_map (views.hall_of self.now) place }
+    {
+        match place {
+            Some(place) => Some(self.openings[place].0),
+            None => None,
+        }
+    }
+
+    /// The halls at these places, with their desks.
+    fn halls_with_desks(
+        &self,
+        alloc: Global,
+        places: &[usize],
+    ) -> Result<Vec<(HallCode, u32)>, Refusal>
+        requires { All (λ j. j < length self.now.openings) places.now }
+        ensures ok { IfOk result (λ halls. halls.items ≡ map (views.hall_with_desks self.now) places.now) }
+        ensures memory { IfErr result (λ e. e ≡ NoMemory) }
+    {
+        let mut halls = Vec::with_capacity(alloc, places.len())?;
+        for place in places {
+            halls.push((self.openings[*place].0, self.problem.desk_count(*place)))?;
+        }
+        Ok(halls)
+    }
+
+    /// The numbers of the members at these places.
+    fn numbers_of(&self, alloc: Global, places: &[usize]) -> Result<Vec<Number>, Refusal>
+        requires { All (λ i. i < length self.now.members) places.now }
+        ensures ok { IfOk result (λ numbers. numbers.items ≡ map (views.number_of self.now) places.now) }
+        ensures memory { IfErr result (λ e. e ≡ NoMemory) }
+    {
+        let mut numbers = Vec::with_capacity(alloc, places.len())?;
+        for place in places {
+            numbers.push(self.members[*place].number)?;
+        }
+        Ok(numbers)
+    }
+}
+
+impl Member {
+    /// The member in a hall, or in none, at a desk.
+    fn seat_in(&self, hall: Option<HallCode>, desk: Option<u32>) -> Result<Seat, Refusal>
+        ensures ok { IfOk result (λ seat. seat ≡ views.seat_in self.now hall desk) }
+        ensures memory { IfErr result (λ e. e ≡ NoMemory) }
+    {
         Ok(Seat {
             number: self.number,
             name: self.name.copy()?,
             paper: self.paper,
             finish: self.finish,
-            hall: self.hall,
-            desk: self.desk,
+            hall,
+            desk,
         })
-    }
-}
-
-impl SessionView {
-    /// The members by number, each with name, sitting paper, finish, hall and desk.
-    pub fn seats(&self) -> &[Seat] {
-        self.members.as_slice()
-    }
-
-    /// Who is contested, with all halls that fit any of them.
-    pub fn shortage(&self) -> &SessionShortage {
-        &self.report
     }
 }

@@ -1,149 +1,134 @@
-//! What the office shows of a session.
+//! How a view of a session is made.
+ghost use Rattle.std.specs.Prelude.{◌≡◌, Some, Contains, IsTrue, IfOk, IfErr, OnOk, map};
+ghost use Rattle.std.specs.Map.{keys_of};
+ghost use Rattle.exam_types.specs.declared.refusal.Refusal.TheVariants.{NoMemory};
+ghost use Rattle.exam_rules.specs.Names.{ListsRise};
+ghost use Rattle.exam_rules.specs.Relations.{relations_of, code_cmp, has_row, row_at};
+ghost use Rattle.exam_rules.specs.Seatings as seatings;
+ghost use Rattle.exam_rules.specs.Sessions as sessions;
+ghost use Rattle.exam_office.specs.Good.{IsGood};
+ghost use Rattle.exam_office.specs.Limits.{within_limits};
+ghost use Rattle.exam_office.specs.Views as views;
+
 use crate::office::Seats;
 use crate::repair::stored_plan;
-use crate::view::{Seat, SessionShortage, SessionView};
-use exam_plan::{Problem, Shortage, desks, keep_lawful, shortage, sweep};
-use exam_rules::{Facts, ListedProblem, Opening, finish, listed_problem, sitting};
-use exam_types::{HallCode, Number, Refusal, SessionCode};
+use crate::view::{Member, SessionView};
+use exam_rules::{
+    Facts, ListedProblem, Opening, Session, clashes, finish, listed_problem, sitting,
+};
+use exam_types::{HallCode, Number, PaperCode, Refusal, SessionCode};
 use std::alloc::Global;
 
-/// One session with its plan.
+/// The view of a session of a good office.
 pub fn view_of(
     alloc: Global,
     facts: &Facts,
     seats: &Seats,
     session: &SessionCode,
-) -> Result<SessionView, Refusal> {
-    let Some(row) = facts.sessions.get(session) else {
-        return Err(Refusal::UnknownSession);
-    };
-    let listed = listed_problem(alloc, facts, session)?;
+    row: &Session,
+) -> Result<SessionView, Refusal>
+    requires good { IsGood (record { relations = relations_of facts.now; seats = seats.now.entries }) }
+    requires known { row_at code_cmp facts.now.sessions.entries session.now ≡ Some row.now }
+    ensures ok { IfOk result (views.IsViewOf (record { relations = relations_of facts.now; seats = seats.now.entries }) session.now) }
+    ensures memory { IfErr result (λ e. e ≡ NoMemory) }
+{
+    let listed = listed(alloc, facts, session)?;
     let plan = stored_plan(alloc, &listed.numbers, &listed.halls, session, seats)?;
-    // The stored plan is best, so this changes nothing.
-    let plan = sweep(
-        alloc,
-        &listed.problem,
-        keep_lawful(&listed.problem, plan)?,
-        None,
-    )?;
-    let numbered = desks(alloc, &listed.problem, &plan)?;
-    let report = shortage(alloc, &listed.problem, &plan)?;
     Ok(SessionView {
         code: *session,
         session: *row,
         hall_codes: hall_codes(alloc, facts)?,
         openings: openings_of(alloc, facts, session)?,
-        members: member_seats(alloc, facts, seats, session, &listed.numbers, &numbered)?,
-        report: named_report(alloc, &listed, &report)?,
+        members: members_of(alloc, facts, session, &listed.numbers)?,
+        clashes: clashes_of(alloc, facts, session)?,
+        problem: listed.problem,
+        plan,
     })
 }
 
-fn hall_codes(alloc: Global, facts: &Facts) -> Result<Vec<HallCode>, Refusal> {
-    let mut codes = Vec::new(alloc);
-    for (code, _) in &facts.halls {
-        codes.push(*code)?;
-    }
+/// The seating problem of a session that there is, within the limits.
+fn listed(alloc: Global, facts: &Facts, session: &SessionCode) -> Result<ListedProblem, Refusal>
+    requires known { IsTrue (has_row code_cmp facts.now.sessions.entries session.now) }
+    requires limits { IsTrue (within_limits (relations_of facts.now)) }
+    ensures numbers { IfOk result (λ listed. listed.numbers.items ≡ sessions.members (relations_of facts.now) session.now) }
+    ensures halls { IfOk result (λ listed. listed.halls.items ≡ seatings.open_halls (relations_of facts.now) session.now) }
+    ensures ok { IfOk result (λ listed. listed.problem ≡ seatings.problem_of (relations_of facts.now) session.now) }
+    ensures lists { OnOk result (ListsRise (relations_of facts.now) session.now) }
+    ensures memory { IfErr result (λ e. e ≡ NoMemory) }
+{
+    listed_problem(alloc, facts, session)
+}
+
+/// The clashes of a session that there is.
+fn clashes_of(
+    alloc: Global,
+    facts: &Facts,
+    session: &SessionCode,
+) -> Result<Vec<(Number, PaperCode)>, Refusal>
+    requires { IsTrue (has_row code_cmp facts.now.sessions.entries session.now) }
+    ensures ok { IfOk result (λ list. list.items ≡ sessions.clashes (relations_of facts.now) session.now) }
+    ensures memory { IfErr result (λ e. e ≡ NoMemory) }
+{
+    clashes(alloc, facts, session)
+}
+
+/// The codes of all halls, rising.
+fn hall_codes(alloc: Global, facts: &Facts) -> Result<Vec<HallCode>, Refusal>
+    ensures ok { IfOk result (λ codes. codes.items ≡ keys_of facts.now.halls.entries) }
+    ensures memory { IfErr result (λ e. e ≡ NoMemory) }
+{
+    let codes = facts.halls.keys().copied().collect(alloc)?;
     Ok(codes)
 }
 
+/// The openings of the session, by hall.
 fn openings_of(
     alloc: Global,
     facts: &Facts,
     session: &SessionCode,
-) -> Result<Vec<(HallCode, Opening)>, Refusal> {
-    let mut openings = Vec::new(alloc);
-    for (key, opening) in &facts.openings {
-        if key.0 == *session {
-            openings.push((key.1, *opening))?;
-        }
-    }
+) -> Result<Vec<(HallCode, Opening)>, Refusal>
+    ensures ok { IfOk result (λ openings. openings.items ≡ views.openings_of (relations_of facts.now) session.now) }
+    ensures memory { IfErr result (λ e. e ≡ NoMemory) }
+{
+    let openings = facts
+        .openings
+        .iter()
+        .filter(|(key, _)| key.0 == *session)
+        .map(|(key, opening)| (key.1, *opening))
+        .collect(alloc)?;
     Ok(openings)
 }
 
-/// The seats of the members, with their desks.
-fn member_seats(
+/// The members, each with their sitting paper and their finish.
+fn members_of(
     alloc: Global,
     facts: &Facts,
-    seats: &Seats,
     session: &SessionCode,
     numbers: &[Number],
-    desks: &[Option<u32>],
-) -> Result<Vec<Seat>, Refusal> {
-    let mut members = Vec::new(alloc);
-    for (number, desk) in numbers.iter().zip(desks) {
-        if let Some(seat) = seat_of(facts, seats, session, *number, *desk)? {
-            members.push(seat)?;
-        }
+) -> Result<Vec<Member>, Refusal>
+    requires known { IsTrue (has_row code_cmp facts.now.sessions.entries session.now) }
+    requires members { numbers.now ≡ sessions.members (relations_of facts.now) session.now }
+    ensures ok { IfOk result (λ members. map (λ member. Some member) members.items ≡ map (views.member_of (relations_of facts.now) session.now) numbers.now) }
+    ensures memory { IfErr result (λ e. e ≡ NoMemory) }
+{
+    let mut members = Vec::with_capacity(alloc, numbers.len())?;
+    for number in numbers {
+        members.push(member_of(facts, session, *number)?)?;
     }
     Ok(members)
 }
 
-fn seat_of(
-    facts: &Facts,
-    seats: &Seats,
-    session: &SessionCode,
-    number: Number,
-    desk: Option<u32>,
-) -> Result<Option<Seat>, Refusal> {
-    let Some(candidate) = facts.candidates.get(&number) else {
-        return Ok(None);
-    };
-    let Some(paper) = sitting(facts, session, number) else {
-        return Ok(None);
-    };
-    let Some(finish) = finish(facts, session, number) else {
-        return Ok(None);
-    };
-    Ok(Some(Seat {
+fn member_of(facts: &Facts, session: &SessionCode, number: Number) -> Result<Member, Refusal>
+    requires known { IsTrue (has_row code_cmp facts.now.sessions.entries session.now) }
+    requires member { Contains (sessions.members (relations_of facts.now) session.now) number }
+    ensures ok { IfOk result (λ member. views.member_of (relations_of facts.now) session.now number ≡ Some member) }
+    ensures memory { IfErr result (λ e. e ≡ NoMemory) }
+{
+    let candidate = facts.candidates.get(&number).unwrap();
+    Ok(Member {
         number,
         name: candidate.name.copy()?,
-        paper,
-        finish,
-        hall: seats.get(&(*session, number)).copied(),
-        desk,
-    }))
-}
-
-/// The report in numbers and codes.
-fn named_report(
-    alloc: Global,
-    listed: &ListedProblem,
-    report: &Shortage,
-) -> Result<SessionShortage, Refusal> {
-    Ok(SessionShortage {
-        unseated: report.unseated,
-        halls: named_halls(alloc, &listed.problem, &listed.halls, &report.halls)?,
-        candidates: named_candidates(alloc, &listed.numbers, &report.candidates)?,
+        paper: sitting(facts, session, number).unwrap(),
+        finish: finish(facts, session, number).unwrap(),
     })
-}
-
-fn named_halls(
-    alloc: Global,
-    problem: &Problem,
-    halls: &[HallCode],
-    indices: &[usize],
-) -> Result<Vec<(HallCode, u32)>, Refusal> {
-    let mut named = Vec::new(alloc);
-    for index in indices {
-        if let Some(hall) = halls.get(*index) {
-            if *index < problem.hall_count() {
-                named.push((*hall, problem.desk_count(*index)))?;
-            }
-        }
-    }
-    Ok(named)
-}
-
-fn named_candidates(
-    alloc: Global,
-    numbers: &[Number],
-    indices: &[usize],
-) -> Result<Vec<Number>, Refusal> {
-    let mut named = Vec::new(alloc);
-    for index in indices {
-        if let Some(number) = numbers.get(*index) {
-            named.push(*number)?;
-        }
-    }
-    Ok(named)
 }

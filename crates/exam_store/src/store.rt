@@ -1,5 +1,7 @@
 //! An office in a database.
-ghost use Rattle.std.specs.Prelude.{◌≡◌, IsTrue, IfErr, OnErr};
+ghost use Rattle.std.specs.Prelude.{◌≡◌, IsTrue, IfOk, IfErr, OnErr};
+ghost use Rattle.exam_rules.specs.Sessions.{IsSessionRefusal};
+ghost use Rattle.exam_office.specs.Views.{IsViewOf};
 ghost use Rattle.exam_store.specs.Faults.{is_store_refusal};
 
 use crate::loading::load_office;
@@ -76,13 +78,15 @@ impl<S: Alter> Store<S> {
         Ok(reply)
     }
 
-    /// One session with its plan. Refused as `UnknownSession` where there is no such session.
+    /// One session with its plan. Refused as an unknown session where there is no such session.
     pub fn load_session(
         &mut self,
         alloc: Global,
         session: &SessionCode,
     ) -> Result<SessionView, Refusal>
-        ensures { self.new ≡ self.old }
+        ensures ok { IfOk result (IsViewOf self.old.office session.now) }
+        ensures refusal { IfErr result (IsSessionRefusal self.old.office.relations session.now) }
+        ensures same { self.new ≡ self.old }
     {
         self.office.session_view(alloc, session)
     }

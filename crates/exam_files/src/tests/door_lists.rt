@@ -1,8 +1,9 @@
 //! Door lists, and who is refused one.
+use super::offices::{base_office, import, office_with, short_view, view_of};
 use super::reading::hall;
-use super::views::{add_hall, add_seated, bare_view, short_view};
+use crate::sheet_text::push_right;
 use crate::{SheetFault, door_list};
-use exam_office::SessionView;
+use exam_office::{Kind, SessionView};
 use exam_types::{HallCode, Refusal};
 use std::alloc::Global;
 use std::process::Abort;
@@ -43,8 +44,12 @@ fn the_other_hall_has_a_list_of_its_own(rt: HostRuntime) -> Result<(), Fail> {
 
 #[test]
 fn an_empty_hall_has_its_heading_alone(rt: HostRuntime) -> Result<(), Fail> {
-    let mut view = bare_view(rt.alloc())?;
-    add_hall(&mut view, b"HALL2027", 2000)?;
+    let mut office = base_office(rt.alloc())?;
+    let file = b"hall,title,features\nHALL2027,Aula,-\n";
+    import(rt.alloc(), &mut office, Kind::Halls, file)?;
+    let file = b"session,hall,desks,until,reserved\nS1,HALL2027,2000,12:00,no\n";
+    import(rt.alloc(), &mut office, Kind::Openings, file)?;
+    let view = view_of(rt.alloc(), &office)?;
     let text =
         b"DOOR LIST session S1 hall HALL2027\ndate 2027-06-01 start 09:00 desks 2000 seated 0\n";
     expect_list(&rt, &view, hall(b"HALL2027")?, text);
@@ -54,10 +59,15 @@ fn an_empty_hall_has_its_heading_alone(rt: HostRuntime) -> Result<(), Fail> {
 /// Desks go by paper before number, so the lesser number may have the later desk.
 #[test]
 fn occupants_are_listed_by_desk(rt: HostRuntime) -> Result<(), Fail> {
-    let mut view = bare_view(rt.alloc())?;
-    add_hall(&mut view, b"A", 1000)?;
-    add_seated(rt.alloc(), &mut view, 2, b"Ada Lin", b"PH-2", b"A", 2)?;
-    add_seated(rt.alloc(), &mut view, 5, b"Ed Poe", b"MA-1", b"A", 1)?;
+    let openings = b"session,hall,desks,until,reserved\nS1,A,1000,12:00,no\n";
+    let mut office = office_with(rt.alloc(), openings)?;
+    let file = b"paper,title,session,minutes,requires\nPH-2,Physics,S1,60,-\n";
+    import(rt.alloc(), &mut office, Kind::Papers, file)?;
+    let file = b"number,name,code\n0000005,Ed Poe,CODE0005\n";
+    import(rt.alloc(), &mut office, Kind::Candidates, file)?;
+    let file = b"number,paper\n0000002,PH-2\n0000005,MA-1\n";
+    import(rt.alloc(), &mut office, Kind::Entries, file)?;
+    let view = view_of(rt.alloc(), &office)?;
     let text =
         b"DOOR LIST session S1 hall A\ndate 2027-06-01 start 09:00 desks 1000 seated 2\n   1 0000005 MA-1         Ed Poe\n   2 0000002 PH-2         Ada Lin\n";
     expect_list(&rt, &view, hall(b"A")?, text);
@@ -65,13 +75,24 @@ fn occupants_are_listed_by_desk(rt: HostRuntime) -> Result<(), Fail> {
 }
 
 #[test]
-fn wide_desks_and_papers_fill_their_columns(rt: HostRuntime) -> Result<(), Fail> {
-    let mut view = bare_view(rt.alloc())?;
-    add_hall(&mut view, b"A", 1000)?;
-    add_seated(rt.alloc(), &mut view, 7, b"Bo", b"ABCDEFGH-123", b"A", 1000)?;
+fn a_wide_paper_fills_its_column(rt: HostRuntime) -> Result<(), Fail> {
+    let mut office = base_office(rt.alloc())?;
+    let file = b"paper,title,session,minutes,requires\nABCDEFGH-123,Latin,S1,60,-\n";
+    import(rt.alloc(), &mut office, Kind::Papers, file)?;
+    let file = b"number,paper\n0000001,ABCDEFGH-123\n";
+    import(rt.alloc(), &mut office, Kind::Entries, file)?;
+    let view = view_of(rt.alloc(), &office)?;
     let text =
-        b"DOOR LIST session S1 hall A\ndate 2027-06-01 start 09:00 desks 1000 seated 1\n1000 0000007 ABCDEFGH-123 Bo\n";
+        b"DOOR LIST session S1 hall A\ndate 2027-06-01 start 09:00 desks 1 seated 1\n   1 0000001 ABCDEFGH-123 Bo Berg\n";
     expect_list(&rt, &view, hall(b"A")?, text);
+    Ok(())
+}
+
+#[test]
+fn a_wide_desk_fills_its_column(rt: HostRuntime) -> Result<(), Fail> {
+    let mut text = Vec::new(rt.alloc());
+    push_right(&mut text, 4, 1000)?;
+    assert_eq!(rt; text.as_slice(), b"1000".as_slice());
     Ok(())
 }
 

@@ -1,7 +1,7 @@
 //! Sheets to writers that take little at a time, or fail.
+use super::offices::short_view;
 use super::reading::hall;
 use super::slow::Slow;
-use super::views::short_view;
 use crate::{SheetFault, door_list, shortage_sheet};
 use std::test::Fail;
 

@@ -14,5 +14,5 @@ returns-clause-ok c =
     let e8 = more t _ _ _ _ e7 c.in_ok-push_bytes-5.ensures.ok in
     let e9 = more t _ _ _ _ e8 c.in_ok-write_to-5.ensures.ok in
     let e10 = more t _ _ _ _ e9 c.in_ok-push_bytes-6.ensures.ok in
-    let e11 = more t _ _ _ _ e10 (rw (c.seated.ensures, c.as_slice.ensures.value) at c.in_ok-push_decimal.ensures.ok) in
+    let e11 = more t _ _ _ _ e10 (rw c.seated.ensures at c.in_ok-push_decimal.ensures.ok) in
     more t _ _ _ _ e11 c.in_ok-push_bytes-7.ensures.ok

@@ -1,10 +1,32 @@
-use Rattle.std.proofs.Common.{◌∙◌, None}
+use Rattle.std.proofs.Common.{refl, ap, is_some, map, ◌∙◌}
 use Rattle.exam_rules.specs.Relations.{relations_of}
-use Rattle.exam_office.proofs.Repairing.{is_plan}
+use Rattle.exam_office.specs.Views.{member_of}
+use Rattle.exam_office.proofs.SameSeats.{few_members}
+use Rattle.exam_office.proofs.Showing.{places_listed, is_view, is_view_of}
 use Rattle.exam_office.proofs.viewing.view_of.Goals as goal
 
-pub keep_lawful-requires : goal.keep_lawful-requires
-keep_lawful-requires c =
-    is_plan (relations_of c.args.facts.now) c.args.session.now c.args.seats.now.entries c.in_ok-listed.ensures.lists None
-    c.in_ok-listed.listed.problem c.deref.result.now c.deref-2.result.now c.in_ok-plan.plan.items
-    (c.deref.ensures.value ∙ c.in_ok-listed.ensures.numbers) (c.deref-2.ensures.value ∙ c.in_ok-listed.ensures.halls) c.in_ok-listed.ensures.ok c.in_ok-plan.ensures.ok
+pub returns-clause-ok : goal.returns-clause-ok
+returns-clause-ok c =
+    is_view_of (relations_of c.args.facts.now) c.args.seats.now.entries c.args.session.now c.in_ok-listed.ensures.lists (few_members (relations_of c.args.facts.now) c.requires.good.limits c.args.session.now (ap is_some c.requires.known)) (c.requires.good.best c.args.session.now) _ (record {
+      code = refl;
+      session = c.requires.known;
+      hall_codes = c.in_ok-hall_codes.ensures.ok;
+      openings = c.in_ok-openings_of.ensures.ok;
+      problem = c.in_ok-listed.ensures.ok;
+      plan = places_listed (relations_of c.args.facts.now) c.args.seats.now.entries c.args.session.now c.deref.result.now c.deref-2.result.now c.in_ok-plan.plan.items (c.deref.ensures.value ∙ c.in_ok-listed.ensures.numbers) (c.deref-2.ensures.value ∙ c.in_ok-listed.ensures.halls) c.in_ok-plan.ensures.ok;
+      clashes = c.in_ok-clashes_of.ensures.ok;
+      members = c.in_ok-members_of.ensures.ok ∙ ap (map (member_of (relations_of c.args.facts.now) c.args.session.now)) (c.deref-3.ensures.value ∙ c.in_ok-listed.ensures.numbers);
+    })
+
+pub invariant_of-result : goal.invariant_of-result
+invariant_of-result c =
+    is_view (relations_of c.args.facts.now) c.args.seats.now.entries c.args.session.now c.in_ok-listed.ensures.lists (few_members (relations_of c.args.facts.now) c.requires.good.limits c.args.session.now (ap is_some c.requires.known)) (c.requires.good.best c.args.session.now) _ (record {
+      code = refl;
+      session = c.requires.known;
+      hall_codes = c.in_ok-hall_codes.ensures.ok;
+      openings = c.in_ok-openings_of.ensures.ok;
+      problem = c.in_ok-listed.ensures.ok;
+      plan = places_listed (relations_of c.args.facts.now) c.args.seats.now.entries c.args.session.now c.deref.result.now c.deref-2.result.now c.in_ok-plan.plan.items (c.deref.ensures.value ∙ c.in_ok-listed.ensures.numbers) (c.deref-2.ensures.value ∙ c.in_ok-listed.ensures.halls) c.in_ok-plan.ensures.ok;
+      clashes = c.in_ok-clashes_of.ensures.ok;
+      members = c.in_ok-members_of.ensures.ok ∙ ap (map (member_of (relations_of c.args.facts.now) c.args.session.now)) (c.deref-3.ensures.value ∙ c.in_ok-listed.ensures.numbers);
+    })
