@@ -37,12 +37,19 @@ impl Spelling for SevenDigits {
 
     ghost text = { spec.number_text };
 
+    #[tactic(auto, unfolding(crate::specs::Numbers::number_text))]
     fn read(bytes: &[u8]) -> Option<u32> {
-        read_number(bytes)
+        if bytes.len() != 7 {
+            return None;
+        }
+        number_of(bytes)
     }
 
+    #[tactic(auto, unfolding(crate::specs::Numbers::number_text))]
     fn write(number: u32) -> ShortText {
-        number_text(number)
+        let mut text = ArrayVec::new();
+        push_digits(&mut text, 7, number);
+        text
     }
 }
 
@@ -54,12 +61,26 @@ impl Spelling for HourAndMinute {
 
     ghost text = { spec.minute_text };
 
+    #[tactic(auto, unfolding(crate::specs::Numbers::minute_text))]
     fn read(bytes: &[u8]) -> Option<u32> {
-        read_minute(bytes)
+        if bytes.len() != 5 || bytes[2] != b':' {
+            return None;
+        }
+        let hours = number_of(&bytes[..2])?;
+        let minutes = number_of(&bytes[3..])?;
+        if minutes > 59 {
+            return None;
+        }
+        Some(hours * 60 + minutes)
     }
 
+    #[tactic(auto, unfolding(crate::specs::Numbers::minute_text))]
     fn write(number: u32) -> ShortText {
-        minute_text(number)
+        let mut text = ArrayVec::new();
+        push_digits(&mut text, 2, number / 60);
+        text.push(b':');
+        push_digits(&mut text, 2, number % 60);
+        text
     }
 }
 
@@ -76,94 +97,28 @@ impl Spelling for Decimal {
     ghost text = { decimal };
 
     fn read(bytes: &[u8]) -> Option<u32> {
-        read_decimal(bytes)
+        if bytes.len() > 4 {
+            return None;
+        }
+        let number = number_of(bytes)?;
+        // A number with leading zeros is printed otherwise.
+        if Decimal::write(number).as_slice() == bytes {
+            Some(number)
+        } else {
+            None
+        }
     }
 
+    #[tactic(auto, using(crate::proofs::NumeralFacts::decimal_short))]
     fn write(number: u32) -> ShortText {
-        decimal_text(number)
+        let mut text = ArrayVec::new();
+        push_decimal(&mut text, number);
+        text
     }
 }
 
 impl ShortSpelling for Decimal {
     ghost is_short = { λ n h. Prim.omega arith };
-}
-
-/// The number whose seven digits these are.
-#[tactic(auto, unfolding(crate::specs::Numbers::number_text))]
-pub fn read_number(bytes: &[u8]) -> Option<u32>
-    ensures { (n : ℕ) → (result ≡ Some n) ↔ ((n < 10000000) × (spec.number_text n ≡ bytes.now)) }
-{
-    if bytes.len() != 7 {
-        return None;
-    }
-    number_of(bytes)
-}
-
-/// Seven digits.
-#[tactic(auto, unfolding(crate::specs::Numbers::number_text))]
-pub fn number_text(number: u32) -> ShortText
-    requires { number < 10000000 }
-    ensures { result.items ≡ spec.number_text number }
-{
-    let mut text = ArrayVec::new();
-    push_digits(&mut text, 7, number);
-    text
-}
-
-/// The minutes from the start of the day that `HH:MM` says, with hours up to 99.
-#[tactic(auto, unfolding(crate::specs::Numbers::minute_text))]
-pub fn read_minute(bytes: &[u8]) -> Option<u32>
-    ensures { (n : ℕ) → (result ≡ Some n) ↔ ((n < 6000) × (spec.minute_text n ≡ bytes.now)) }
-{
-    if bytes.len() != 5 || bytes[2] != b':' {
-        return None;
-    }
-    let hours = number_of(&bytes[..2])?;
-    let minutes = number_of(&bytes[3..])?;
-    if minutes > 59 {
-        return None;
-    }
-    Some(hours * 60 + minutes)
-}
-
-/// `HH:MM`.
-#[tactic(auto, unfolding(crate::specs::Numbers::minute_text))]
-pub fn minute_text(minutes: u32) -> ShortText
-    requires { minutes < 6000 }
-    ensures { result.items ≡ spec.minute_text minutes }
-{
-    let mut text = ArrayVec::new();
-    push_digits(&mut text, 2, minutes / 60);
-    text.push(b':');
-    push_digits(&mut text, 2, minutes % 60);
-    text
-}
-
-/// The number of at most four digits that a decimal without leading zeros says.
-pub fn read_decimal(bytes: &[u8]) -> Option<u32>
-    ensures { (n : ℕ) → (result ≡ Some n) ↔ ((n < 10000) × (decimal n ≡ bytes.now)) }
-{
-    if bytes.len() > 4 {
-        return None;
-    }
-    let number = number_of(bytes)?;
-    // A number with leading zeros is printed otherwise.
-    if decimal_text(number).as_slice() == bytes {
-        Some(number)
-    } else {
-        None
-    }
-}
-
-/// A decimal without leading zeros.
-#[tactic(auto, using(crate::proofs::NumeralFacts::decimal_short))]
-pub fn decimal_text(number: u32) -> ShortText
-    requires { number < 10000 }
-    ensures { result.items ≡ decimal number }
-{
-    let mut text = ArrayVec::new();
-    push_decimal(&mut text, number);
-    text
 }
 
 /// Appends a decimal without leading zeros.

@@ -1,7 +1,7 @@
 use Rattle.std.proofs.Common.{◌∙◌, sym}
 use Rattle.exam_types.specs.Numbers.{number_text}
 use Rattle.exam_types.proofs.NumeralFacts.{reads_digits, digits_read, below_power}
-use Rattle.exam_types.proofs.numerals.read_number.Goals as goal
+use Rattle.exam_types.proofs.numerals.SevenDigitsSpelling.read.Goals as goal
 
 pub returns : goal.returns
 unfolding number_text

@@ -3,7 +3,7 @@ use Rattle.std.specs.Cmp.Lexicographic.{pointwise}
 use Rattle.std.specs.Fmt.{decimal}
 use Rattle.exam_types.specs.Digits.{number_of}
 use Rattle.exam_types.proofs.NumeralFacts.{reads_long, reads_others, reads_padded, reads_decimal, short_power, other_text}
-use Rattle.exam_types.proofs.numerals.read_decimal.Goals as goal
+use Rattle.exam_types.proofs.numerals.DecimalSpelling.read.Goals as goal
 
 pub returns-then-bytes-gt4 : goal.returns-then-bytes-gt4
 returns-then-bytes-gt4 c = λ n. reads_long c.args.bytes.now n c.if-bytes-gt4.true
