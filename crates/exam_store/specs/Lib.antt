@@ -1,2 +1,5 @@
 pub mod Faults
+pub mod Inside
+pub mod Reading
+pub mod Rows
 pub mod Stored

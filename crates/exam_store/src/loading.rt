@@ -2,16 +2,17 @@
 ghost use Rattle.std.specs.Prelude.{IsTrue, IfErr};
 ghost use Rattle.exam_store.specs.Faults.{is_store_refusal};
 
-use crate::rows::appeals::load_appeals;
-use crate::rows::arrangements::load_arrangements;
-use crate::rows::candidates::load_candidates;
-use crate::rows::entries::load_entries;
-use crate::rows::halls::load_halls;
-use crate::rows::openings::load_openings;
-use crate::rows::papers::load_papers;
-use crate::rows::seats::load_seats;
-use crate::rows::sessions::load_sessions;
 use crate::schema::check_version;
+use crate::table::load_rows;
+use crate::tables::appeals::Appeals;
+use crate::tables::arrangements::Arrangements;
+use crate::tables::candidates::Candidates;
+use crate::tables::entries::Entries;
+use crate::tables::halls::Halls;
+use crate::tables::openings::Openings;
+use crate::tables::papers::Papers;
+use crate::tables::seats::Seats;
+use crate::tables::sessions::Sessions;
 use exam_office::Office;
 use exam_rules::Facts;
 use exam_types::Refusal;
@@ -24,7 +25,7 @@ pub fn load_office<S: Alter>(alloc: Global, conn: &mut Connection<S>) -> Result<
 {
     check_version(conn)?;
     let facts = load_facts(alloc, conn)?;
-    let seats = load_seats(alloc, conn)?;
+    let seats = load_rows::<Seats, S>(alloc, conn)?;
     match Office::from_parts(alloc, facts, seats) {
         Ok(office) => Ok(office),
         Err(Refusal::NoMemory) => Err(Refusal::NoMemory),
@@ -35,14 +36,14 @@ pub fn load_office<S: Alter>(alloc: Global, conn: &mut Connection<S>) -> Result<
 fn load_facts<S: Alter>(alloc: Global, conn: &mut Connection<S>) -> Result<Facts, Refusal>
     ensures { IfErr result (λ e. IsTrue (is_store_refusal e)) }
 {
-    let sessions = load_sessions(alloc, conn)?;
-    let papers = load_papers(alloc, conn)?;
-    let halls = load_halls(alloc, conn)?;
-    let openings = load_openings(alloc, conn)?;
-    let candidates = load_candidates(alloc, conn)?;
-    let entries = load_entries(alloc, conn)?;
-    let arrangements = load_arrangements(alloc, conn)?;
-    let appeals = load_appeals(alloc, conn)?;
+    let sessions = load_rows::<Sessions, S>(alloc, conn)?;
+    let papers = load_rows::<Papers, S>(alloc, conn)?;
+    let halls = load_rows::<Halls, S>(alloc, conn)?;
+    let openings = load_rows::<Openings, S>(alloc, conn)?;
+    let candidates = load_rows::<Candidates, S>(alloc, conn)?;
+    let entries = load_rows::<Entries, S>(alloc, conn)?;
+    let arrangements = load_rows::<Arrangements, S>(alloc, conn)?;
+    let appeals = load_rows::<Appeals, S>(alloc, conn)?;
     Ok(Facts {
         sessions,
         papers,

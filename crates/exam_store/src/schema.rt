@@ -2,7 +2,7 @@
 ghost use Rattle.std.specs.Prelude.{IsTrue, IfErr};
 ghost use Rattle.exam_store.specs.Faults.{is_store_refusal};
 
-use crate::cells::whole_at;
+use crate::columns::whole_at;
 use crate::statements::{all_rows, run};
 use exam_types::Refusal;
 use sqlite::{Alter, Connection, Transaction};

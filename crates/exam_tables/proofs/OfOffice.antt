@@ -15,7 +15,7 @@ use Rattle.sqlite_schema.specs.declared.command.Source.TheVariants.{Values}
 use Rattle.sqlite_tied.specs.Compute.{everything}
 use Rattle.sqlite.specs.declared.error.Error.{Error}
 use Rattle.sqlite.specs.Listing.{understood, reads_listing}
-use Rattle.sqlite.specs.State.{State, Executes, Shown}
+use Rattle.sqlite.specs.State.{State, Executes, Shown, IsUnchanged}
 use Rattle.sqlite.proofs.Callers.{IsPlain, command_of}
 use Rattle.exam_tables.specs.Content.{ContainsIn, places, bare, put, delete, same_key}
 use Rattle.exam_tables.specs.Plain.{one_table}
@@ -96,5 +96,5 @@ unfolding understood everything store_schema
 load_unlisted = refl
 
 pub shows : (old new : State) (rows : List Row) (all : Trees) → ContainsIn store_schema old.now all → Shown load_text [] old new rows
-    → IsPermutation (all 0) (map (λ r. Null ∷ r) rows) × AllByRecursion (λ r. length r ≡ 2) rows
+    → IsPermutation (all 0) (map (λ r. Null ∷ r) rows) × AllByRecursion (λ r. length r ≡ 2) rows × IsUnchanged old new
 shows = shown_by store_schema 0 stored_office (1 ∷ []) (0 ∷ []) office_keyed load_text shown_terms [] _ load_is load_plain load_unlisted (λ db. refl) (λ r. refl) refl
