@@ -1,5 +1,5 @@
 -- A feature set and its sum tell each other.
-use Rattle.std.proofs.Common.{◌≡◌, ◌+◌, ◌*◌, ◌/◌, ◌%◌, ◌<◌, ◌≤◌, ◌==◌, ℕ, zero, suc, Bool, true, false, refl, ap, ◌∙◌, arith}
+use Rattle.std.proofs.Common.{◌≡◌, ◌*◌, ◌/◌, ◌%◌, ◌<◌, ◌≤◌, ◌==◌, ℕ, zero, suc, Bool, true, false, refl, arith}
 use Rattle.exam_types.specs.declared.features.Features.{Features}
 use Rattle.exam_store.specs.Stored.{part, features_sum}
 

@@ -1,5 +1,5 @@
 -- What a call does inside a transaction.
-use Rattle.std.specs.Prelude.{◌≡◌, ℕ, List, [], ◌∷◌, IsTrue, Result, Ok, OnOk, IfErr}
+use Rattle.std.specs.Prelude.{ℕ, List, [], ◌∷◌, IsTrue, Result, Ok, OnOk, IfErr}
 use Rattle.sqlite_value.specs.declared.value.Value.TheVariants.{Null}
 use Rattle.sqlite_value.specs.Order.{Row}
 use Rattle.sqlite_trees.specs.Tree.{Trees, with_tree}

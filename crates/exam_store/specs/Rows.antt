@@ -1,5 +1,5 @@
 -- The rows of each table: the columns of a row, as a query shows it, and the rows that there may be.
-use Rattle.std.specs.Prelude.{◌≡◌, ℕ, List, [], ◌∷◌, ◌++◌, IsTrue}
+use Rattle.std.specs.Prelude.{ℕ, [], ◌∷◌, ◌++◌, IsTrue}
 use Rattle.sqlite_value.specs.declared.value.Value.TheVariants.{Text}
 use Rattle.sqlite_value.specs.Order.{Row}
 use Rattle.exam_types.specs.Codes.{is_session_code, is_paper_code, is_hall_code, is_reference, is_access_code}

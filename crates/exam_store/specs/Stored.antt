@@ -1,7 +1,7 @@
 -- The stored forms of values.
-use Rattle.std.specs.Prelude.{◌≡◌, ℕ, ◌+◌, ◌<◌, ◌^◌, ◌≤◌, pos, Bool, IsTrue, List, [], ◌∷◌, Option, Some, None, if◌then◌else◌}
+use Rattle.std.specs.Prelude.{ℕ, ◌+◌, pos, Bool, IsTrue, List, [], ◌∷◌, Option, Some, None, if◌then◌else◌}
 use Rattle.sqlite_value.specs.declared.value.Value.{Value}
-use Rattle.sqlite_value.specs.declared.value.Value.TheVariants.{Null, Int, Text}
+use Rattle.sqlite_value.specs.declared.value.Value.TheVariants.{Int, Text}
 use Rattle.sqlite_value.specs.Order.{Row}
 use Rattle.sqlite.specs.Values.{or_null}
 use Rattle.exam_types.specs.Codes.{is_hall_code, is_paper_code}

@@ -1,5 +1,4 @@
-use Rattle.std.proofs.Common.{◌≡◌, Some, sym, ap, ◌∙◌, arith, ◌≤◌}
-use Rattle.exam_types.specs.declared.features.Features.{Features}
+use Rattle.std.proofs.Common.{◌≡◌, Some, sym, ap, ◌∙◌, arith}
 use Rattle.exam_store.specs.Stored.{features_sum}
 use Rattle.exam_store.proofs.FeatureSums.{digits_set, set_of_sum, sum_of_set}
 use Rattle.exam_store.proofs.columns.features_of.Goals as goal
