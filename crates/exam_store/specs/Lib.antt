@@ -1,4 +1,5 @@
 pub mod Faults
+pub mod Held
 pub mod Inside
 pub mod Reading
 pub mod Rows

@@ -1,5 +1,10 @@
 //! Reading the whole office.
-ghost use Rattle.std.specs.Prelude.{IsTrue, IfErr};
+ghost use Rattle.std.specs.Prelude.{IsTrue, IfOk, IfErr};
+ghost use Rattle.sqlite.specs.Held.{state};
+ghost use Rattle.sqlite.specs.State.{HasCleanDisk, IsUnchanged};
+ghost use Rattle.exam_rules.specs.Relations.{relations_of};
+ghost use Rattle.exam_store.specs.Held.{HoldsFacts, HoldsOffice};
+ghost use Rattle.exam_store.specs.Inside.{Contains};
 ghost use Rattle.exam_store.specs.Faults.{is_store_refusal};
 
 use crate::schema::check_version;
@@ -21,7 +26,9 @@ use std::alloc::Global;
 
 /// The office that the tables hold. Refused as a bad store where they hold none.
 pub fn load_office<S: Alter>(alloc: Global, conn: &mut Connection<S>) -> Result<Office, Refusal>
-    ensures { IfErr result (λ e. IsTrue (is_store_refusal e)) }
+    ensures rows { HasCleanDisk (state S.Store conn.new) → IfOk result (λ office. (all : _) → Contains (state S.Store conn.old).now all
+        → HoldsOffice all office × IsUnchanged (state S.Store conn.old) (state S.Store conn.new)) }
+    ensures told { IfErr result (λ e. IsTrue (is_store_refusal e)) }
 {
     check_version(conn)?;
     let facts = load_facts(alloc, conn)?;
@@ -34,7 +41,10 @@ pub fn load_office<S: Alter>(alloc: Global, conn: &mut Connection<S>) -> Result<
 }
 
 fn load_facts<S: Alter>(alloc: Global, conn: &mut Connection<S>) -> Result<Facts, Refusal>
-    ensures { IfErr result (λ e. IsTrue (is_store_refusal e)) }
+    ensures rows { HasCleanDisk (state S.Store conn.new) → IfOk result (λ facts. (all : _) → Contains (state S.Store conn.old).now all
+        → HoldsFacts all (relations_of facts) × IsUnchanged (state S.Store conn.old) (state S.Store conn.new)) }
+    ensures early { HasCleanDisk (state S.Store conn.new) → HasCleanDisk (state S.Store conn.old) }
+    ensures told { IfErr result (λ e. IsTrue (is_store_refusal e)) }
 {
     let sessions = load_rows::<Sessions, S>(alloc, conn)?;
     let papers = load_rows::<Papers, S>(alloc, conn)?;

@@ -57,6 +57,7 @@ pub trait Table {
     fn shown<S: Alter>(conn: &mut Connection<S>) -> Result<Vec<Row>, Refusal>
         ensures rows { HasCleanDisk (state S.Store conn.new) → IfOk result (λ rows. (all : _) → Contains (state S.Store conn.old).now all
             → IsPermutation (all Self.tree) (map (λ row. Null ∷ row) rows.items) × IsUnchanged (state S.Store conn.old) (state S.Store conn.new)) }
+        ensures early { HasCleanDisk (state S.Store conn.new) → HasCleanDisk (state S.Store conn.old) }
         ensures told { IfErr result (λ e. IsTrue (is_store_refusal e)) };
 
     /// The row that is shown. Refused as a bad store where it is the stored form of none.
@@ -100,6 +101,7 @@ pub fn load_rows<T: Table, S: Alter>(
 ) -> Result<BTreeMap<T::Key, T::Value>, Refusal>
     ensures rows { HasCleanDisk (state S.Store conn.new) → IfOk result (λ table. (all : _) → Contains (state S.Store conn.old).now all
         → IsPermutation (all T.tree) (map (λ e. Null ∷ T.row_of e.0 e.1) table.entries) × IsUnchanged (state S.Store conn.old) (state S.Store conn.new)) }
+    ensures early { HasCleanDisk (state S.Store conn.new) → HasCleanDisk (state S.Store conn.old) }
     ensures told { IfErr result (λ e. IsTrue (is_store_refusal e)) }
 {
     let rows = T::shown(conn)?;
