@@ -1,2 +1,6 @@
 pub mod Faults
+pub mod Held
+pub mod Inside
+pub mod Reading
+pub mod Rows
 pub mod Stored

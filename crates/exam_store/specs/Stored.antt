@@ -1,28 +1,102 @@
 -- The stored forms of values.
-use Rattle.std.specs.Prelude.{ℕ, ◌+◌, ℤ, pos, Bool, if◌then◌else◌}
+use Rattle.std.specs.Prelude.{ℕ, ◌+◌, pos, Bool, IsTrue, List, [], ◌∷◌, Option, Some, None, if◌then◌else◌}
+use Rattle.sqlite_value.specs.declared.value.Value.{Value}
+use Rattle.sqlite_value.specs.declared.value.Value.TheVariants.{Int, Text}
+use Rattle.sqlite_value.specs.Order.{Row}
+use Rattle.sqlite.specs.Values.{or_null}
+use Rattle.exam_types.specs.Codes.{is_hall_code, is_paper_code}
+use Rattle.exam_types.specs.Days.{day_text}
+use Rattle.exam_types.specs.Numbers.{IsExtra}
+use Rattle.exam_types.specs.Texts.{is_reason}
 use Rattle.exam_types.specs.declared.features.Features.{Features}
 use Rattle.exam_rules.specs.declared.rows.Subject.{Subject}
 use Rattle.exam_rules.specs.declared.rows.Subject.TheVariants.{Hall, Clash, Arrangement}
 use Rattle.exam_rules.specs.declared.rows.Status.{Status}
 use Rattle.exam_rules.specs.declared.rows.Status.TheVariants.{Pending, Granted, Refused, Retracted, Superseded}
 
+-- any value of its type
+abbrev pub IsAny : {V : Type 0} → V → Type 0
+IsAny value = Unit {0}
+
+-- a number of minutes, of desks or of a candidate, as a whole number
+abbrev pub whole : ℕ → Value
+whole n = Int (pos n)
+
+-- no as 0, and yes as 1
+abbrev pub flag : Bool → Value
+flag b = whole (if b then 1 else 0)
+
+-- a day as its text
+abbrev pub day : ℕ → Value
+day n = Text (day_text n)
+
 abbrev pub part : Bool → ℕ → ℕ
 part wanted value = if wanted then value else 0
 
--- a feature set is stored as the sum of its parts
+-- a feature set as the sum of its parts
 abbrev pub features_sum : Features → ℕ
 features_sum f = part f.step_free 1 + part f.screen 2 + part f.reader 4 + part f.small_room 8 + part f.computer 16
 
--- what an appeal asks for
-abbrev pub kind_of : Subject → ℤ
-kind_of (Hall hall) = pos 1
-kind_of (Clash paper) = pos 2
-kind_of (Arrangement wanted) = pos 3
+abbrev pub features : Features → Value
+features f = whole (features_sum f)
 
--- where it stands
-abbrev pub state_of : Status → ℤ
-state_of Pending = pos 1
-state_of (Granted answer) = pos 2
-state_of (Refused answer) = pos 3
-state_of Retracted = pos 4
-state_of (Superseded answer) = pos 5
+-- what an appeal asks for: 1 another hall, 2 to sit a paper, 3 an arrangement
+abbrev pub kind_of : Subject → ℕ
+kind_of (Hall hall) = 1
+kind_of (Clash paper) = 2
+kind_of (Arrangement wanted) = 3
+
+-- the code of the hall or the paper, and no text for an arrangement
+abbrev pub target_of : Subject → List ℕ
+target_of (Hall hall) = hall
+target_of (Clash paper) = paper
+target_of (Arrangement wanted) = []
+
+-- the sum of the needs and the extra time, 0 where no arrangement is asked for
+abbrev pub needs_of : Subject → ℕ
+needs_of (Arrangement wanted) = features_sum wanted.needs
+needs_of _ = 0
+
+abbrev pub extra_of : Subject → ℕ
+extra_of (Arrangement wanted) = wanted.extra
+extra_of _ = 0
+
+-- the four columns of what an appeal asks for
+abbrev pub subject : Subject → Row
+subject s = whole (kind_of s) ∷ Text (target_of s) ∷ whole (needs_of s) ∷ whole (extra_of s) ∷ []
+
+abbrev pub IsSubject : Subject → Type 0
+IsSubject (Hall hall) = IsTrue (is_hall_code hall)
+IsSubject (Clash paper) = IsTrue (is_paper_code paper)
+IsSubject (Arrangement wanted) = IsExtra wanted.extra
+
+-- where an appeal stands: 1 open, 2 granted, 3 refused, 4 retracted, 5 superseded
+abbrev pub state_of : Status → ℕ
+state_of Pending = 1
+state_of (Granted answer) = 2
+state_of (Refused answer) = 3
+state_of Retracted = 4
+state_of (Superseded answer) = 5
+
+-- the reason of its decision, where there was one
+abbrev pub answer_of : Status → Option (List ℕ)
+answer_of Pending = None
+answer_of (Granted answer) = Some answer
+answer_of (Refused answer) = Some answer
+answer_of Retracted = None
+answer_of (Superseded answer) = Some answer
+
+-- a text, or NULL where there is none
+abbrev pub text_or_null : Option (List ℕ) → Value
+text_or_null = or_null Text
+
+-- the two columns of where an appeal stands
+abbrev pub status : Status → Row
+status s = whole (state_of s) ∷ text_or_null (answer_of s) ∷ []
+
+abbrev pub IsAnswer : Option (List ℕ) → Type 0
+IsAnswer None = Unit {0}
+IsAnswer (Some answer) = IsTrue (is_reason answer)
+
+abbrev pub IsStatus : Status → Type 0
+IsStatus s = IsAnswer (answer_of s)

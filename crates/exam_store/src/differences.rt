@@ -1,4 +1,4 @@
-//! What makes one table of another: the rows to put and the keys to cut.
+//! What makes one table of another: the rows to put and the keys to delete.
 ghost use Rattle.std.specs.Prelude.{◌<◌, ◌+◌, length};
 ghost use Rattle.std.specs.Ordering.{MatchOrdering};
 
@@ -13,7 +13,7 @@ pub type Keyed<'a, K, V> = (&'a K, &'a V);
 #[derive(Drop)]
 pub struct Difference<'a, K, V> {
     pub put: Vec<Keyed<'a, K, V>>,
-    pub cut: Vec<&'a K>,
+    pub delete: Vec<&'a K>,
 }
 
 /// What makes the new table of the old one.
@@ -45,11 +45,11 @@ fn merge<'a, K: Ord, V: PartialEq>(
     mut new: &[Keyed<'a, K, V>],
 ) -> Result<Difference<'a, K, V>, AllocError> {
     let mut put = Vec::new(alloc);
-    let mut cut = Vec::new(alloc);
+    let mut delete = Vec::new(alloc);
     'rows: while !old.is_empty() || !new.is_empty() {
         match first_of(old, new) {
             Ordering::Less => {
-                cut.push(old[0].0)?;
+                delete.push(old[0].0)?;
                 old = &old[1..];
             }
             Ordering::Greater => {
@@ -65,7 +65,7 @@ fn merge<'a, K: Ord, V: PartialEq>(
             }
         }
     }
-    Ok(Difference { put, cut })
+    Ok(Difference { put, delete })
 }
 
 /// How the first key of the old table compares with that of the new one. A table that is over compares as greater.

@@ -1,15 +1,16 @@
 //! The office in the tables of a database: one transaction a command, and opening.
 #![tactic(auto)]
 
-mod cells;
+mod columns;
 mod differences;
 mod faults;
 mod loading;
-mod rows;
 mod saving;
 mod schema;
 mod statements;
 mod store;
 mod subjects;
+mod table;
+mod tables;
 
 pub use store::Store;

@@ -1,17 +1,23 @@
 //! Reading the whole office.
-ghost use Rattle.std.specs.Prelude.{IsTrue, IfErr};
+ghost use Rattle.std.specs.Prelude.{IsTrue, IfOk, IfErr};
+ghost use Rattle.sqlite.specs.Held.{state};
+ghost use Rattle.sqlite.specs.State.{HasCleanDisk, IsUnchanged};
+ghost use Rattle.exam_rules.specs.Relations.{relations_of};
+ghost use Rattle.exam_store.specs.Held.{HoldsFacts, HoldsOffice};
+ghost use Rattle.exam_store.specs.Inside.{Contains};
 ghost use Rattle.exam_store.specs.Faults.{is_store_refusal};
 
-use crate::rows::appeals::load_appeals;
-use crate::rows::arrangements::load_arrangements;
-use crate::rows::candidates::load_candidates;
-use crate::rows::entries::load_entries;
-use crate::rows::halls::load_halls;
-use crate::rows::openings::load_openings;
-use crate::rows::papers::load_papers;
-use crate::rows::seats::load_seats;
-use crate::rows::sessions::load_sessions;
 use crate::schema::check_version;
+use crate::table::load_rows;
+use crate::tables::appeals::Appeals;
+use crate::tables::arrangements::Arrangements;
+use crate::tables::candidates::Candidates;
+use crate::tables::entries::Entries;
+use crate::tables::halls::Halls;
+use crate::tables::openings::Openings;
+use crate::tables::papers::Papers;
+use crate::tables::seats::Seats;
+use crate::tables::sessions::Sessions;
 use exam_office::Office;
 use exam_rules::Facts;
 use exam_types::Refusal;
@@ -20,11 +26,13 @@ use std::alloc::Global;
 
 /// The office that the tables hold. Refused as a bad store where they hold none.
 pub fn load_office<S: Alter>(alloc: Global, conn: &mut Connection<S>) -> Result<Office, Refusal>
-    ensures { IfErr result (λ e. IsTrue (is_store_refusal e)) }
+    ensures rows { HasCleanDisk (state S.Store conn.new) → IfOk result (λ office. (all : _) → Contains (state S.Store conn.old).now all
+        → HoldsOffice all office × IsUnchanged (state S.Store conn.old) (state S.Store conn.new)) }
+    ensures told { IfErr result (λ e. IsTrue (is_store_refusal e)) }
 {
     check_version(conn)?;
     let facts = load_facts(alloc, conn)?;
-    let seats = load_seats(alloc, conn)?;
+    let seats = load_rows::<Seats, S>(alloc, conn)?;
     match Office::from_parts(alloc, facts, seats) {
         Ok(office) => Ok(office),
         Err(Refusal::NoMemory) => Err(Refusal::NoMemory),
@@ -33,16 +41,19 @@ pub fn load_office<S: Alter>(alloc: Global, conn: &mut Connection<S>) -> Result<
 }
 
 fn load_facts<S: Alter>(alloc: Global, conn: &mut Connection<S>) -> Result<Facts, Refusal>
-    ensures { IfErr result (λ e. IsTrue (is_store_refusal e)) }
+    ensures rows { HasCleanDisk (state S.Store conn.new) → IfOk result (λ facts. (all : _) → Contains (state S.Store conn.old).now all
+        → HoldsFacts all (relations_of facts) × IsUnchanged (state S.Store conn.old) (state S.Store conn.new)) }
+    ensures early { HasCleanDisk (state S.Store conn.new) → HasCleanDisk (state S.Store conn.old) }
+    ensures told { IfErr result (λ e. IsTrue (is_store_refusal e)) }
 {
-    let sessions = load_sessions(alloc, conn)?;
-    let papers = load_papers(alloc, conn)?;
-    let halls = load_halls(alloc, conn)?;
-    let openings = load_openings(alloc, conn)?;
-    let candidates = load_candidates(alloc, conn)?;
-    let entries = load_entries(alloc, conn)?;
-    let arrangements = load_arrangements(alloc, conn)?;
-    let appeals = load_appeals(alloc, conn)?;
+    let sessions = load_rows::<Sessions, S>(alloc, conn)?;
+    let papers = load_rows::<Papers, S>(alloc, conn)?;
+    let halls = load_rows::<Halls, S>(alloc, conn)?;
+    let openings = load_rows::<Openings, S>(alloc, conn)?;
+    let candidates = load_rows::<Candidates, S>(alloc, conn)?;
+    let entries = load_rows::<Entries, S>(alloc, conn)?;
+    let arrangements = load_rows::<Arrangements, S>(alloc, conn)?;
+    let appeals = load_rows::<Appeals, S>(alloc, conn)?;
     Ok(Facts {
         sessions,
         papers,

@@ -5,16 +5,17 @@ ghost use Rattle.exam_store.specs.Faults.{is_store_refusal};
 
 use crate::differences::{Difference, difference_of};
 use crate::faults::refusal_of;
-use crate::rows::appeals::{cut_appeals, put_appeals};
-use crate::rows::arrangements::{cut_arrangements, put_arrangements};
-use crate::rows::candidates::{cut_candidates, put_candidates};
-use crate::rows::entries::{cut_entries, put_entries};
-use crate::rows::halls::{cut_halls, put_halls};
-use crate::rows::openings::{cut_openings, put_openings};
-use crate::rows::papers::{cut_papers, put_papers};
-use crate::rows::seats::{cut_seats, put_seats};
-use crate::rows::sessions::{cut_sessions, put_sessions};
 use crate::schema::create_tables;
+use crate::table::{delete_rows, put_rows};
+use crate::tables::appeals::Appeals;
+use crate::tables::arrangements::Arrangements;
+use crate::tables::candidates::Candidates;
+use crate::tables::entries::Entries;
+use crate::tables::halls::Halls;
+use crate::tables::openings::Openings;
+use crate::tables::papers::Papers;
+use crate::tables::seats::Seats;
+use crate::tables::sessions::Sessions;
 use exam_office::Office;
 use exam_rules::{Appeal, Arrangement, Candidate, Entry, Hall, Opening, Paper, Session};
 use exam_types::{HallCode, Number, PaperCode, Reference, Refusal, SessionCode};
@@ -59,37 +60,37 @@ pub fn changes_of<'a>(
 }
 
 /// Sets the rows that are new or have changed, parents first, so that what a row refers to is there.
-fn put_rows<S: Alter>(
+fn put_all<S: Alter>(
     alloc: Global,
     tx: &mut Transaction<'_, S>,
     changes: &Changes<'_>,
 ) -> Result<(), Refusal>
     ensures { IfErr result (λ e. IsTrue (is_store_refusal e)) }
 {
-    put_sessions(alloc, tx, changes.sessions.put.as_slice())?;
-    put_papers(tx, changes.papers.put.as_slice())?;
-    put_halls(tx, changes.halls.put.as_slice())?;
-    put_openings(tx, changes.openings.put.as_slice())?;
-    put_candidates(tx, changes.candidates.put.as_slice())?;
-    put_entries(tx, changes.entries.put.as_slice())?;
-    put_arrangements(tx, changes.arrangements.put.as_slice())?;
-    put_appeals(alloc, tx, changes.appeals.put.as_slice())?;
-    put_seats(tx, changes.seats.put.as_slice())
+    put_rows::<Sessions, S>(alloc, tx, changes.sessions.put.as_slice())?;
+    put_rows::<Papers, S>(alloc, tx, changes.papers.put.as_slice())?;
+    put_rows::<Halls, S>(alloc, tx, changes.halls.put.as_slice())?;
+    put_rows::<Openings, S>(alloc, tx, changes.openings.put.as_slice())?;
+    put_rows::<Candidates, S>(alloc, tx, changes.candidates.put.as_slice())?;
+    put_rows::<Entries, S>(alloc, tx, changes.entries.put.as_slice())?;
+    put_rows::<Arrangements, S>(alloc, tx, changes.arrangements.put.as_slice())?;
+    put_rows::<Appeals, S>(alloc, tx, changes.appeals.put.as_slice())?;
+    put_rows::<Seats, S>(alloc, tx, changes.seats.put.as_slice())
 }
 
 /// Takes away the rows that are gone, children first. Seats that have moved out of a hall are set by then.
-fn cut_rows<S: Alter>(tx: &mut Transaction<'_, S>, changes: &Changes<'_>) -> Result<(), Refusal>
+fn delete_all<S: Alter>(tx: &mut Transaction<'_, S>, changes: &Changes<'_>) -> Result<(), Refusal>
     ensures { IfErr result (λ e. IsTrue (is_store_refusal e)) }
 {
-    cut_seats(tx, changes.seats.cut.as_slice())?;
-    cut_appeals(tx, changes.appeals.cut.as_slice())?;
-    cut_arrangements(tx, changes.arrangements.cut.as_slice())?;
-    cut_entries(tx, changes.entries.cut.as_slice())?;
-    cut_candidates(tx, changes.candidates.cut.as_slice())?;
-    cut_openings(tx, changes.openings.cut.as_slice())?;
-    cut_halls(tx, changes.halls.cut.as_slice())?;
-    cut_papers(tx, changes.papers.cut.as_slice())?;
-    cut_sessions(tx, changes.sessions.cut.as_slice())
+    delete_rows::<Seats, S>(tx, changes.seats.delete.as_slice())?;
+    delete_rows::<Appeals, S>(tx, changes.appeals.delete.as_slice())?;
+    delete_rows::<Arrangements, S>(tx, changes.arrangements.delete.as_slice())?;
+    delete_rows::<Entries, S>(tx, changes.entries.delete.as_slice())?;
+    delete_rows::<Candidates, S>(tx, changes.candidates.delete.as_slice())?;
+    delete_rows::<Openings, S>(tx, changes.openings.delete.as_slice())?;
+    delete_rows::<Halls, S>(tx, changes.halls.delete.as_slice())?;
+    delete_rows::<Papers, S>(tx, changes.papers.delete.as_slice())?;
+    delete_rows::<Sessions, S>(tx, changes.sessions.delete.as_slice())
 }
 
 /// Makes the tables of the old office those of the new one, in one transaction or not at all.
@@ -106,8 +107,8 @@ pub fn save<S: Alter>(
         return Err(Refusal::Store);
     }
     let mut tx = conn.transaction();
-    put_rows(alloc, &mut tx, &changes)?;
-    cut_rows(&mut tx, &changes)?;
+    put_all(alloc, &mut tx, &changes)?;
+    delete_all(&mut tx, &changes)?;
     commit(tx)
 }
 

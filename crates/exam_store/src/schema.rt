@@ -1,8 +1,11 @@
 //! The tables of schema 1.
-ghost use Rattle.std.specs.Prelude.{IsTrue, IfErr};
+ghost use Rattle.std.specs.Prelude.{IsTrue, IfErr, OnOk};
+ghost use Rattle.sqlite.specs.Held.{state};
+ghost use Rattle.sqlite.specs.State.{HasCleanDisk, IsUnchanged};
+ghost use Rattle.exam_store.specs.Inside.{Contains};
 ghost use Rattle.exam_store.specs.Faults.{is_store_refusal};
 
-use crate::cells::whole_at;
+use crate::columns::whole_at;
 use crate::statements::{all_rows, run};
 use exam_types::Refusal;
 use sqlite::{Alter, Connection, Transaction};
@@ -88,7 +91,9 @@ fn create_children<S: Alter>(tx: &mut Transaction<'_, S>) -> Result<(), Refusal>
 
 /// Refused as a bad store where there is no office, or the version is another.
 pub fn check_version<S: Alter>(conn: &mut Connection<S>) -> Result<(), Refusal>
-    ensures { IfErr result (λ e. IsTrue (is_store_refusal e)) }
+    ensures same { HasCleanDisk (state S.Store conn.new) → OnOk result ((all : _) → Contains (state S.Store conn.old).now all → IsUnchanged (state S.Store conn.old) (state S.Store conn.new)) }
+    ensures early { HasCleanDisk (state S.Store conn.new) → HasCleanDisk (state S.Store conn.old) }
+    ensures told { IfErr result (λ e. IsTrue (is_store_refusal e)) }
 {
     let rows = all_rows(conn, "SELECT one, version FROM office")?;
     if rows.len() != 1 {

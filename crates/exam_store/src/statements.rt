@@ -1,6 +1,10 @@
 //! Statements, with their errors told as refusals.
-ghost use Rattle.std.specs.Prelude.{IsTrue, IfErr};
-ghost use Rattle.exam_store.specs.Faults.{is_store_refusal};
+ghost use Rattle.std.specs.Prelude.{◌≡◌, [], ◌∷◌, IsTrue, OnOk, IfOk, IfErr, Err, IsPermutation};
+ghost use Rattle.sqlite.specs.Held.{state};
+ghost use Rattle.sqlite.specs.State.{HasCleanDisk, KeepsCommit, Survives, Shown, ExecutesInside, FailsToQuery, CommitsShowing};
+ghost use Rattle.sqlite.specs.Values.{bound};
+ghost use Rattle.exam_store.specs.Faults.{refusal_of, is_store_refusal};
+ghost use Rattle.exam_store.specs.Inside.{Ran};
 
 use crate::faults::refusal_of;
 use exam_types::Refusal;
@@ -8,13 +12,20 @@ use sqlite::types::ValueRef;
 use sqlite::{Alter, Connection, Row, Transaction};
 use std::collections::BTreeMap;
 
-/// Runs a statement that shows no rows.
+/// Runs a statement that shows no rows. A refusal tells the error that the database gave.
 pub fn run<S: Alter>(
     tx: &mut Transaction<'_, S>,
     sql: &str,
     params: &[ValueRef<'_>],
 ) -> Result<(), Refusal>
-    ensures { IfErr result (λ e. IsTrue (is_store_refusal e)) }
+    ensures same_reference { tx.new.conn.ghost_name ≡ tx.old.conn.ghost_name }
+    ensures ran { HasCleanDisk (state S.Store tx.new.conn.now) → IsTrue (state S.Store tx.old.conn.now).in_transaction
+        → OnOk result (Ran sql.now (bound params.now) (state S.Store tx.old.conn.now) (state S.Store tx.new.conn.now) × IsTrue (state S.Store tx.new.conn.now).in_transaction) }
+    ensures failed { HasCleanDisk (state S.Store tx.new.conn.now) → IsTrue (state S.Store tx.old.conn.now).in_transaction
+        → IfErr result (λ e. (error : _) × (e ≡ refusal_of error) × ExecutesInside 0 sql.now (bound params.now) (state S.Store tx.old.conn.now) (state S.Store tx.new.conn.now) (Err error)) }
+    ensures kept { HasCleanDisk (state S.Store tx.new.conn.now) → KeepsCommit (state S.Store tx.old.conn.now) (state S.Store tx.new.conn.now) }
+    ensures survives { Survives (state S.Store tx.old.conn.now) (state S.Store tx.new.conn.now) (λ _. ⊥) }
+    ensures told { IfErr result (λ e. IsTrue (is_store_refusal e)) }
 {
     match tx.execute(sql, params) {
         Ok(_) => Ok(()),
@@ -22,9 +33,12 @@ pub fn run<S: Alter>(
     }
 }
 
-/// All rows of a query.
+/// All rows of a query. A refusal tells the error that the database gave.
 pub fn all_rows<S: Alter>(conn: &mut Connection<S>, sql: &str) -> Result<Vec<Row>, Refusal>
-    ensures { IfErr result (λ e. IsTrue (is_store_refusal e)) }
+    ensures shown { HasCleanDisk (state S.Store conn.new) → IfOk result (λ rows. Shown sql.now [] (state S.Store conn.old) (state S.Store conn.new) rows.items) }
+    ensures failed { HasCleanDisk (state S.Store conn.new) → IfErr result (λ e. (error : _) × (e ≡ refusal_of error) × FailsToQuery sql.now [] (state S.Store conn.old) (state S.Store conn.new) error) }
+    ensures survives { Survives (state S.Store conn.old) (state S.Store conn.new) (CommitsShowing sql.now [] (state S.Store conn.old)) }
+    ensures told { IfErr result (λ e. IsTrue (is_store_refusal e)) }
 {
     match conn.query_all(sql, &[]) {
         Ok(rows) => Ok(rows),
@@ -38,7 +52,8 @@ pub fn add_row<K: Ord + Drop, V: Drop>(
     key: K,
     row: V,
 ) -> Result<(), Refusal>
-    ensures { IfErr result (λ e. IsTrue (is_store_refusal e)) }
+    ensures ok { OnOk result (IsPermutation ((key, row) ∷ table.old.entries) table.new.entries) }
+    ensures told { IfErr result (λ e. IsTrue (is_store_refusal e)) }
 {
     match table.insert(key, row) {
         Ok(None) => Ok(()),

@@ -1,0 +1,4 @@
+pub mod FeatureSums
+pub mod Inserting
+pub mod Reading
+pub mod Steps

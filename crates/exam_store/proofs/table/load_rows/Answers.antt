@@ -1,0 +1,11 @@
+use Rattle.std.proofs.Common.{map, subst}
+use Rattle.std.specs.List.Sorted.{IsPermutation}
+use Rattle.std.proofs.lemmas.Result.{IfOk-weaker}
+use Rattle.exam_store.proofs.Inserting.{shown_entries}
+use Rattle.exam_store.proofs.table.load_rows.Goals as goal
+
+pub returns-clause-rows : goal.returns-clause-rows
+returns-clause-rows g c = λ clean.
+    IfOk-weaker c.read_rows.result _ _ (λ table read all was.
+    let it = c.in_ok-rows.ensures.rows clean all was in
+    (shown_entries (λ e. g.T.Table.row_of e.0 e.1) (all g.T.Table.tree) c.in_ok-rows.rows.items table.entries it.0 (subst (λ rows. IsPermutation rows (map (λ e. g.T.Table.row_of e.0 e.1) table.entries)) c.as_slice.ensures.value read), it.1)) c.read_rows.ensures.rows

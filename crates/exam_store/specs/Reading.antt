@@ -1,0 +1,13 @@
+-- What a reader of a column or of a whole row answers.
+use Rattle.std.specs.Prelude.{◌≡◌, ◌⊎◌, Result, Ok, Err}
+use Rattle.exam_types.specs.declared.refusal.Refusal.{Refusal}
+use Rattle.exam_types.specs.declared.refusal.Refusal.TheVariants.{NoMemory, BadStore}
+
+-- a value of the kind whose stored form is shown, or a refusal where none has that form
+abbrev pub Reads : {V W : Type 0} → (V → Type 0) → (V → W) → W → Result V Refusal → Type 0
+Reads IsOne stored shown (Ok value) = IsOne value × (shown ≡ stored value)
+Reads IsOne stored shown (Err e) = (e ≡ BadStore) × ((value : _) → IsOne value → shown ≡ stored value → ⊥)
+
+-- the same, or want of memory
+abbrev pub MayRead : {V W : Type 0} → (V → Type 0) → (V → W) → W → Result V Refusal → Type 0
+MayRead IsOne stored shown result = (result ≡ Err NoMemory) ⊎ Reads IsOne stored shown result

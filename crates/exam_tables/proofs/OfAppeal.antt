@@ -1,0 +1,108 @@
+-- The table appeal: what its texts mean, and what they do.
+use Rattle.std.proofs.Common.{◌≡◌, ℕ, ℤ, List, [], ◌∷◌, codes, map, length, false, Some, None, Option, Result, OnOk, refl}
+use Rattle.std.specs.List.{AllByRecursion, list_all}
+use Rattle.std.specs.List.Sorted.{IsPermutation}
+use Rattle.sqlite.specs.Kind.TheVariants.{Text as KindText}
+use Rattle.sqlite_rules.specs.Cast.{cast}
+use Rattle.sqlite_value.specs.declared.value.Value.TheVariants.{Null, Int, Text}
+use Rattle.sqlite_value.specs.declared.keys.Collation.TheVariants.{Binary}
+use Rattle.sqlite_value.specs.Order.{Row}
+use Rattle.sqlite_value.specs.Keys.{first_key}
+use Rattle.sqlite_trees.specs.Tree.{Trees, with_tree}
+use Rattle.sqlite_sql.specs.Term.{Term, lit, col, op2, holds}
+use Rattle.sqlite_sql.specs.declared.ops.BinaryOp.TheVariants.{Compare}
+use Rattle.sqlite_sql.specs.declared.ops.CompareOp.TheVariants.{Eq}
+use Rattle.sqlite_schema.specs.declared.command.Conflict.TheVariants.{Replace}
+use Rattle.sqlite_schema.specs.declared.command.Command.TheVariants.{InsertOr, Delete, Select}
+use Rattle.sqlite_schema.specs.declared.command.Source.TheVariants.{Values}
+use Rattle.sqlite_tied.specs.Compute.{everything}
+use Rattle.sqlite.specs.declared.error.Error.{Error}
+use Rattle.sqlite.specs.Values.{or_null}
+use Rattle.sqlite.specs.Listing.{understood, reads_listing}
+use Rattle.sqlite.specs.State.{State, Executes, Shown, IsUnchanged}
+use Rattle.sqlite.proofs.Callers.{IsPlain, command_of}
+use Rattle.exam_tables.specs.Content.{ContainsIn, places, bare, put, delete, same_key}
+use Rattle.exam_tables.specs.Plain.{one_table}
+use Rattle.exam_tables.specs.Tables.{store_schema, stored_appeal}
+use Rattle.exam_tables.proofs.Fits.{Fits, fits_chosen}
+use Rattle.exam_tables.proofs.Keys.{cast_int}
+use Rattle.exam_tables.proofs.Statements.{put_by}
+use Rattle.exam_tables.proofs.Deletes.{delete_by}
+use Rattle.exam_tables.proofs.Loads.{shown_by}
+use Rattle.exam_tables.proofs.TableFacts.{appeal_keyed}
+
+abbrev pub row : ℤ → (List ℕ) → (List ℕ) → ℤ → (List ℕ) → ℤ → ℤ → (List ℕ) → ℤ → (Option (List ℕ)) → (List ℕ) → Row
+row number reference session kind target needs extra reason state answer lodged = Int number ∷ Text reference ∷ Text session ∷ Int kind ∷ Text target ∷ Int needs ∷ Int extra ∷ Text reason ∷ Int state ∷ or_null Text answer ∷ Text lodged ∷ []
+
+cast_maybe : (o : Option (List ℕ)) → cast KindText (or_null Text o) ≡ or_null Text o
+cast_maybe None = refl
+cast_maybe (Some t) = refl
+
+-- the row as it is kept, after its rowid
+abbrev columns : ℤ → (List ℕ) → (List ℕ) → ℤ → (List ℕ) → ℤ → ℤ → (List ℕ) → ℤ → (Option (List ℕ)) → (List ℕ) → Row
+columns number reference session kind target needs extra reason state answer lodged = Int number ∷ Text reference ∷ Text session ∷ Int kind ∷ Text target ∷ Int needs ∷ Int extra ∷ Text reason ∷ Int state ∷ or_null Text answer ∷ Text lodged ∷ []
+
+fits : (number : ℤ) (reference : List ℕ) (session : List ℕ) (kind : ℤ) (target : List ℕ) (needs : ℤ) (extra : ℤ) (reason : List ℕ) (state : ℤ) (answer : Option (List ℕ)) (lodged : List ℕ) → Fits stored_appeal (1 ∷ 2 ∷ []) (Null) (columns number reference session kind target needs extra reason state answer lodged) (row number reference session kind target needs extra reason state answer lodged)
+fits number reference session kind target needs extra reason state answer lodged = fits_chosen stored_appeal (1 ∷ 2 ∷ []) (row number reference session kind target needs extra reason state answer lodged) refl (simp (cast_int, cast_maybe)) (λ v. refl)
+
+abbrev terms : List Term
+terms = lit Null ∷ col 0 0 ∷ col 0 1 ∷ col 0 2 ∷ col 0 3 ∷ col 0 4 ∷ col 0 5 ∷ col 0 6 ∷ col 0 7 ∷ col 0 8 ∷ col 0 9 ∷ col 0 10 ∷ []
+
+abbrev pub put_text : List ℕ
+put_text = codes "INSERT OR REPLACE INTO appeal (number, ref, session, kind, target, needs, extra, reason, state, answer, lodged) VALUES (?1, ?2, ?3, ?4, ?5, ?6, ?7, ?8, ?9, ?10, ?11)"
+
+put_is : command_of (understood store_schema put_text) ≡ InsertOr 8 Replace (Values terms 12) []
+unfolding understood everything store_schema
+put_is = refl
+
+put_plain : IsPlain (understood store_schema put_text)
+unfolding understood everything store_schema
+put_plain = (refl, refl)
+
+pub puts : (old new : State) (number : ℤ) (reference : List ℕ) (session : List ℕ) (kind : ℤ) (target : List ℕ) (needs : ℤ) (extra : ℤ) (reason : List ℕ) (state : ℤ) (answer : Option (List ℕ)) (lodged : List ℕ) (r : Result ℕ Error) → Executes put_text (row number reference session kind target needs extra reason state answer lodged) old new r
+    → OnOk r ((all : Trees) → ContainsIn store_schema old.now all → ContainsIn store_schema new.now (with_tree all 13 (put (1 ∷ 2 ∷ []) (Null ∷ row number reference session kind target needs extra reason state answer lodged) (all 13))))
+puts old new number reference session kind target needs extra reason state answer lodged r h = put_by store_schema 8 stored_appeal (1 ∷ 2 ∷ []) (1 ∷ 2 ∷ []) appeal_keyed put_text terms 12 put_is put_plain old new (row number reference session kind target needs extra reason state answer lodged) r (Null) (columns number reference session kind target needs extra reason state answer lodged) (row number reference session kind target needs extra reason state answer lodged) (fits number reference session kind target needs extra reason state answer lodged) refl h
+
+abbrev pub delete_text : List ℕ
+delete_text = codes "DELETE FROM appeal WHERE number = ?1 AND ref = ?2"
+
+abbrev key_terms : List Term
+key_terms = op2 (Compare Eq Binary) (col 1 1) (col 0 0) ∷ op2 (Compare Eq Binary) (col 1 2) (col 0 1) ∷ []
+
+delete_is : command_of (understood store_schema delete_text) ≡ Delete 8 (record { lets = []; body = one_table 13 key_terms (col 1 0 ∷ []) [] })
+unfolding understood everything store_schema
+delete_is = refl
+
+delete_plain : IsPlain (understood store_schema delete_text)
+unfolding understood everything store_schema
+delete_plain = (refl, refl)
+
+key_means : (params r : Row) → list_all (holds (params ∷ r ∷ [])) key_terms ≡ same_key (1 ∷ 2 ∷ []) (bare (places stored_appeal) r) (Null ∷ params)
+unfolding first_key
+key_means params r = refl
+
+pub deletes : (old new : State) (number : ℤ) (reference : List ℕ) (r : Result ℕ Error) → Executes delete_text (Int number ∷ Text reference ∷ []) old new r
+    → OnOk r ((all : Trees) → ContainsIn store_schema old.now all → ContainsIn store_schema new.now (with_tree all 13 (delete (1 ∷ 2 ∷ []) (Null ∷ Int number ∷ Text reference ∷ []) (all 13))))
+deletes old new number reference r h = delete_by store_schema 8 stored_appeal (1 ∷ 2 ∷ []) (1 ∷ 2 ∷ []) appeal_keyed key_terms delete_text delete_is delete_plain (λ db. refl) old new (Int number ∷ Text reference ∷ []) r (key_means (Int number ∷ Text reference ∷ [])) h
+
+abbrev pub load_text : List ℕ
+load_text = codes "SELECT number, ref, session, kind, target, needs, extra, reason, state, answer, lodged FROM appeal"
+
+abbrev shown_terms : List Term
+shown_terms = col 1 1 ∷ col 1 2 ∷ col 1 3 ∷ col 1 4 ∷ col 1 5 ∷ col 1 6 ∷ col 1 7 ∷ col 1 8 ∷ col 1 9 ∷ col 1 10 ∷ col 1 11 ∷ []
+
+load_is : command_of (understood store_schema load_text) ≡ Select (record { lets = []; body = one_table 13 [] shown_terms [] }) (codes "number" ∷ codes "ref" ∷ codes "session" ∷ codes "kind" ∷ codes "target" ∷ codes "needs" ∷ codes "extra" ∷ codes "reason" ∷ codes "state" ∷ codes "answer" ∷ codes "lodged" ∷ [])
+unfolding understood everything store_schema
+load_is = refl
+
+load_plain : IsPlain (understood store_schema load_text)
+unfolding understood everything store_schema
+load_plain = (refl, refl)
+
+load_unlisted : reads_listing store_schema load_text ≡ false
+unfolding understood everything store_schema
+load_unlisted = refl
+
+pub shows : (old new : State) (rows : List Row) (all : Trees) → ContainsIn store_schema old.now all → Shown load_text [] old new rows
+    → IsPermutation (all 13) (map (λ r. Null ∷ r) rows) × AllByRecursion (λ r. length r ≡ 11) rows × IsUnchanged old new
+shows = shown_by store_schema 8 stored_appeal (1 ∷ 2 ∷ []) (1 ∷ 2 ∷ []) appeal_keyed load_text shown_terms [] _ load_is load_plain load_unlisted (λ db. refl) (λ r. refl) refl

@@ -1,0 +1,101 @@
+-- The table arrangement: what its texts mean, and what they do.
+use Rattle.std.proofs.Common.{◌≡◌, ℕ, ℤ, List, [], ◌∷◌, codes, map, length, false, Result, OnOk, refl}
+use Rattle.std.specs.List.{AllByRecursion, list_all}
+use Rattle.std.specs.List.Sorted.{IsPermutation}
+use Rattle.sqlite_value.specs.declared.value.Value.TheVariants.{Null, Int}
+use Rattle.sqlite_value.specs.declared.keys.Collation.TheVariants.{Binary}
+use Rattle.sqlite_value.specs.Order.{Row}
+use Rattle.sqlite_value.specs.Keys.{first_key}
+use Rattle.sqlite_trees.specs.Tree.{Trees, with_tree}
+use Rattle.sqlite_sql.specs.Term.{Term, lit, col, op2, holds}
+use Rattle.sqlite_sql.specs.declared.ops.BinaryOp.TheVariants.{Compare}
+use Rattle.sqlite_sql.specs.declared.ops.CompareOp.TheVariants.{Eq}
+use Rattle.sqlite_schema.specs.declared.command.Conflict.TheVariants.{Replace}
+use Rattle.sqlite_schema.specs.declared.command.Command.TheVariants.{InsertOr, Delete, Select}
+use Rattle.sqlite_schema.specs.declared.command.Source.TheVariants.{Values}
+use Rattle.sqlite_tied.specs.Compute.{everything}
+use Rattle.sqlite.specs.declared.error.Error.{Error}
+use Rattle.sqlite.specs.Listing.{understood, reads_listing}
+use Rattle.sqlite.specs.State.{State, Executes, Shown, IsUnchanged}
+use Rattle.sqlite.proofs.Callers.{IsPlain, command_of}
+use Rattle.exam_tables.specs.Content.{ContainsIn, places, bare, put, delete, same_key}
+use Rattle.exam_tables.specs.Plain.{one_table}
+use Rattle.exam_tables.specs.Tables.{store_schema, stored_arrangement}
+use Rattle.exam_tables.proofs.Fits.{Fits, fits_given}
+use Rattle.exam_tables.proofs.Keys.{cast_int, cast_null}
+use Rattle.exam_tables.proofs.Statements.{put_by}
+use Rattle.exam_tables.proofs.Deletes.{delete_by}
+use Rattle.exam_tables.proofs.Loads.{shown_by}
+use Rattle.exam_tables.proofs.TableFacts.{arrangement_keyed}
+
+abbrev pub row : ℤ → ℤ → ℤ → Row
+row number needs extra = Int number ∷ Int needs ∷ Int extra ∷ []
+
+-- the row as it is kept, after its rowid
+abbrev columns : ℤ → ℤ → ℤ → Row
+columns number needs extra = Null ∷ Int needs ∷ Int extra ∷ []
+
+fits : (number : ℤ) (needs : ℤ) (extra : ℤ) → Fits stored_arrangement (1 ∷ []) (Int number) (columns number needs extra) (row number needs extra)
+fits number needs extra = fits_given stored_arrangement (1 ∷ []) number (columns number needs extra) (row number needs extra) refl (simp (cast_null, cast_int)) refl (λ r. refl)
+
+abbrev terms : List Term
+terms = col 0 0 ∷ lit Null ∷ col 0 1 ∷ col 0 2 ∷ []
+
+abbrev pub put_text : List ℕ
+put_text = codes "INSERT OR REPLACE INTO arrangement (number, needs, extra) VALUES (?1, ?2, ?3)"
+
+put_is : command_of (understood store_schema put_text) ≡ InsertOr 7 Replace (Values terms 4) []
+unfolding understood everything store_schema
+put_is = refl
+
+put_plain : IsPlain (understood store_schema put_text)
+unfolding understood everything store_schema
+put_plain = (refl, refl)
+
+pub puts : (old new : State) (number : ℤ) (needs : ℤ) (extra : ℤ) (r : Result ℕ Error) → Executes put_text (row number needs extra) old new r
+    → OnOk r ((all : Trees) → ContainsIn store_schema old.now all → ContainsIn store_schema new.now (with_tree all 12 (put (1 ∷ []) (Null ∷ row number needs extra) (all 12))))
+puts old new number needs extra r h = put_by store_schema 7 stored_arrangement (1 ∷ []) (0 ∷ []) arrangement_keyed put_text terms 4 put_is put_plain old new (row number needs extra) r (Int number) (columns number needs extra) (row number needs extra) (fits number needs extra) refl h
+
+abbrev pub delete_text : List ℕ
+delete_text = codes "DELETE FROM arrangement WHERE number = ?1"
+
+abbrev key_terms : List Term
+key_terms = op2 (Compare Eq Binary) (col 1 0) (col 0 0) ∷ []
+
+delete_is : command_of (understood store_schema delete_text) ≡ Delete 7 (record { lets = []; body = one_table 12 key_terms (col 1 0 ∷ []) [] })
+unfolding understood everything store_schema
+delete_is = refl
+
+delete_plain : IsPlain (understood store_schema delete_text)
+unfolding understood everything store_schema
+delete_plain = (refl, refl)
+
+key_means : (params r : Row) → list_all (holds (params ∷ r ∷ [])) key_terms ≡ same_key (1 ∷ []) (bare (places stored_arrangement) r) (Null ∷ params)
+unfolding first_key
+key_means params r = refl
+
+pub deletes : (old new : State) (number : ℤ) (r : Result ℕ Error) → Executes delete_text (Int number ∷ []) old new r
+    → OnOk r ((all : Trees) → ContainsIn store_schema old.now all → ContainsIn store_schema new.now (with_tree all 12 (delete (1 ∷ []) (Null ∷ Int number ∷ []) (all 12))))
+deletes old new number r h = delete_by store_schema 7 stored_arrangement (1 ∷ []) (0 ∷ []) arrangement_keyed key_terms delete_text delete_is delete_plain (λ db. refl) old new (Int number ∷ []) r (key_means (Int number ∷ [])) h
+
+abbrev pub load_text : List ℕ
+load_text = codes "SELECT number, needs, extra FROM arrangement"
+
+abbrev shown_terms : List Term
+shown_terms = col 1 0 ∷ col 1 2 ∷ col 1 3 ∷ []
+
+load_is : command_of (understood store_schema load_text) ≡ Select (record { lets = []; body = one_table 12 [] shown_terms [] }) (codes "number" ∷ codes "needs" ∷ codes "extra" ∷ [])
+unfolding understood everything store_schema
+load_is = refl
+
+load_plain : IsPlain (understood store_schema load_text)
+unfolding understood everything store_schema
+load_plain = (refl, refl)
+
+load_unlisted : reads_listing store_schema load_text ≡ false
+unfolding understood everything store_schema
+load_unlisted = refl
+
+pub shows : (old new : State) (rows : List Row) (all : Trees) → ContainsIn store_schema old.now all → Shown load_text [] old new rows
+    → IsPermutation (all 12) (map (λ r. Null ∷ r) rows) × AllByRecursion (λ r. length r ≡ 3) rows × IsUnchanged old new
+shows = shown_by store_schema 7 stored_arrangement (1 ∷ []) (0 ∷ []) arrangement_keyed load_text shown_terms [] _ load_is load_plain load_unlisted (λ db. refl) (λ r. refl) refl

@@ -1,0 +1,119 @@
+-- The table candidate: what its texts mean, and what they do.
+use Rattle.std.proofs.Common.{◌≡◌, ℕ, ℤ, List, [], ◌∷◌, ◌++◌, codes, map, length, true, false, Result, OnOk, refl}
+use Rattle.std.specs.List.{AllByRecursion, list_all}
+use Rattle.std.specs.List.Sorted.{IsPermutation}
+use Rattle.sqlite_value.specs.declared.value.Value.TheVariants.{Null, Int, Text}
+use Rattle.sqlite_value.specs.declared.keys.Collation.TheVariants.{Binary}
+use Rattle.sqlite_value.specs.Order.{Row}
+use Rattle.sqlite_value.specs.Keys.{first_key}
+use Rattle.sqlite_trees.specs.Tree.{Trees, rowid, with_tree}
+use Rattle.sqlite_sql.specs.Term.{Term, lit, col, op2, eval_all, holds}
+use Rattle.sqlite_sql.specs.declared.ops.BinaryOp.TheVariants.{Compare}
+use Rattle.sqlite_sql.specs.declared.ops.CompareOp.TheVariants.{Eq}
+use Rattle.sqlite_schema.specs.declared.command.Conflict.TheVariants.{Abort}
+use Rattle.sqlite_schema.specs.declared.command.Command.TheVariants.{InsertOr, Delete, Select}
+use Rattle.sqlite_schema.specs.declared.command.Source.TheVariants.{Values}
+use Rattle.sqlite_tied.specs.Compute.{everything}
+use Rattle.sqlite.specs.declared.error.Error.{Error}
+use Rattle.sqlite.specs.Rows.{shown}
+use Rattle.sqlite.specs.Listing.{understood, reads_listing}
+use Rattle.sqlite.specs.State.{State, Executes, Shown, IsUnchanged}
+use Rattle.sqlite.proofs.Callers.{IsPlain, command_of}
+use Rattle.exam_tables.specs.Content.{ContainsIn, places, bare, put, delete, same_key, same_rowid}
+use Rattle.exam_tables.specs.Plain.{one_table, on_conflict}
+use Rattle.exam_tables.specs.Tables.{store_schema, stored_candidate}
+use Rattle.exam_tables.proofs.Fits.{Fits, fits_given}
+use Rattle.exam_tables.proofs.Keys.{cast_null}
+use Rattle.exam_tables.proofs.Statements.{upsert_by}
+use Rattle.exam_tables.proofs.Deletes.{delete_by}
+use Rattle.exam_tables.proofs.Loads.{shown_by}
+use Rattle.exam_tables.proofs.TableFacts.{candidate_keyed}
+
+abbrev pub row : ℤ → (List ℕ) → (List ℕ) → Row
+row number name code = Int number ∷ Text name ∷ Text code ∷ []
+
+-- the row as it is kept, after its rowid
+abbrev columns : ℤ → (List ℕ) → (List ℕ) → Row
+columns number name code = Null ∷ Text name ∷ Text code ∷ []
+
+fits : (number : ℤ) (name : List ℕ) (code : List ℕ) → Fits stored_candidate (1 ∷ []) (Int number) (columns number name code) (row number name code)
+fits number name code = fits_given stored_candidate (1 ∷ []) number (columns number name code) (row number name code) refl (simp (cast_null)) refl (λ r. refl)
+
+abbrev terms : List Term
+terms = col 0 0 ∷ lit Null ∷ col 0 1 ∷ col 0 2 ∷ []
+
+abbrev pub put_text : List ℕ
+put_text = codes "INSERT INTO candidate (number, name, code) VALUES (?1, ?2, ?3) ON CONFLICT (number) DO UPDATE SET name = excluded.name, code = excluded.code"
+
+-- the row that is there
+abbrev there : List Term
+there = op2 (Compare Eq Binary) (col 1 0) (col 0 3) ∷ []
+
+-- its rowid, and the row that it becomes
+abbrev project : List Term
+project = col 1 0 ∷ col 1 0 ∷ lit Null ∷ col 0 6 ∷ col 0 7 ∷ []
+
+put_is : command_of (understood store_schema put_text) ≡ InsertOr 4 Abort (Values terms 4) (on_conflict (0 ∷ []) 7 there project ∷ [])
+unfolding understood everything store_schema
+put_is = refl
+
+put_plain : IsPlain (understood store_schema put_text)
+unfolding understood everything store_schema
+put_plain = (refl, refl)
+
+picked : (number : ℤ) (name : List ℕ) (code : List ℕ) (t r : Row) (id : ℤ) → list_all (holds ((row number name code ++ rowid t ∷ shown stored_candidate (Int id ∷ columns number name code)) ∷ r ∷ [])) there ≡ same_rowid r t
+unfolding first_key
+picked number name code t r id = refl
+
+written : (number : ℤ) (name : List ℕ) (code : List ℕ) (t : Row) (id : ℤ) → same_key (1 ∷ []) (bare (places stored_candidate) t) (Null ∷ row number name code) ≡ true
+    → eval_all project ((row number name code ++ rowid t ∷ shown stored_candidate (Int id ∷ columns number name code)) ∷ t ∷ []) ≡ rowid t ∷ rowid t ∷ columns number name code
+written number name code t id same = refl
+
+pub puts : (old new : State) (number : ℤ) (name : List ℕ) (code : List ℕ) (r : Result ℕ Error) → Executes put_text (row number name code) old new r
+    → OnOk r ((all : Trees) → ContainsIn store_schema old.now all → ContainsIn store_schema new.now (with_tree all 7 (put (1 ∷ []) (Null ∷ row number name code) (all 7))))
+puts old new number name code r h = upsert_by store_schema 4 stored_candidate (1 ∷ []) (0 ∷ []) candidate_keyed put_text terms 4 there project put_is put_plain (λ db. refl) old new (row number name code) r (Int number) (columns number name code) (row number name code) (fits number name code) refl
+    (picked number name code) (written number name code) h
+
+abbrev pub delete_text : List ℕ
+delete_text = codes "DELETE FROM candidate WHERE number = ?1"
+
+abbrev key_terms : List Term
+key_terms = op2 (Compare Eq Binary) (col 1 0) (col 0 0) ∷ []
+
+delete_is : command_of (understood store_schema delete_text) ≡ Delete 4 (record { lets = []; body = one_table 7 key_terms (col 1 0 ∷ []) [] })
+unfolding understood everything store_schema
+delete_is = refl
+
+delete_plain : IsPlain (understood store_schema delete_text)
+unfolding understood everything store_schema
+delete_plain = (refl, refl)
+
+key_means : (params r : Row) → list_all (holds (params ∷ r ∷ [])) key_terms ≡ same_key (1 ∷ []) (bare (places stored_candidate) r) (Null ∷ params)
+unfolding first_key
+key_means params r = refl
+
+pub deletes : (old new : State) (number : ℤ) (r : Result ℕ Error) → Executes delete_text (Int number ∷ []) old new r
+    → OnOk r ((all : Trees) → ContainsIn store_schema old.now all → ContainsIn store_schema new.now (with_tree all 7 (delete (1 ∷ []) (Null ∷ Int number ∷ []) (all 7))))
+deletes old new number r h = delete_by store_schema 4 stored_candidate (1 ∷ []) (0 ∷ []) candidate_keyed key_terms delete_text delete_is delete_plain (λ db. refl) old new (Int number ∷ []) r (key_means (Int number ∷ [])) h
+
+abbrev pub load_text : List ℕ
+load_text = codes "SELECT number, name, code FROM candidate"
+
+abbrev shown_terms : List Term
+shown_terms = col 1 0 ∷ col 1 2 ∷ col 1 3 ∷ []
+
+load_is : command_of (understood store_schema load_text) ≡ Select (record { lets = []; body = one_table 7 [] shown_terms [] }) (codes "number" ∷ codes "name" ∷ codes "code" ∷ [])
+unfolding understood everything store_schema
+load_is = refl
+
+load_plain : IsPlain (understood store_schema load_text)
+unfolding understood everything store_schema
+load_plain = (refl, refl)
+
+load_unlisted : reads_listing store_schema load_text ≡ false
+unfolding understood everything store_schema
+load_unlisted = refl
+
+pub shows : (old new : State) (rows : List Row) (all : Trees) → ContainsIn store_schema old.now all → Shown load_text [] old new rows
+    → IsPermutation (all 7) (map (λ r. Null ∷ r) rows) × AllByRecursion (λ r. length r ≡ 3) rows × IsUnchanged old new
+shows = shown_by store_schema 4 stored_candidate (1 ∷ []) (0 ∷ []) candidate_keyed load_text shown_terms [] _ load_is load_plain load_unlisted (λ db. refl) (λ r. refl) refl

@@ -1,0 +1,101 @@
+-- The table entry: what its texts mean, and what they do.
+use Rattle.std.proofs.Common.{◌≡◌, ℕ, ℤ, List, [], ◌∷◌, codes, map, length, false, Result, OnOk, refl}
+use Rattle.std.specs.List.{AllByRecursion, list_all}
+use Rattle.std.specs.List.Sorted.{IsPermutation}
+use Rattle.sqlite_value.specs.declared.value.Value.TheVariants.{Null, Int, Text}
+use Rattle.sqlite_value.specs.declared.keys.Collation.TheVariants.{Binary}
+use Rattle.sqlite_value.specs.Order.{Row}
+use Rattle.sqlite_value.specs.Keys.{first_key}
+use Rattle.sqlite_trees.specs.Tree.{Trees, with_tree}
+use Rattle.sqlite_sql.specs.Term.{Term, lit, col, op2, holds}
+use Rattle.sqlite_sql.specs.declared.ops.BinaryOp.TheVariants.{Compare}
+use Rattle.sqlite_sql.specs.declared.ops.CompareOp.TheVariants.{Eq}
+use Rattle.sqlite_schema.specs.declared.command.Conflict.TheVariants.{Replace}
+use Rattle.sqlite_schema.specs.declared.command.Command.TheVariants.{InsertOr, Delete, Select}
+use Rattle.sqlite_schema.specs.declared.command.Source.TheVariants.{Values}
+use Rattle.sqlite_tied.specs.Compute.{everything}
+use Rattle.sqlite.specs.declared.error.Error.{Error}
+use Rattle.sqlite.specs.Listing.{understood, reads_listing}
+use Rattle.sqlite.specs.State.{State, Executes, Shown, IsUnchanged}
+use Rattle.sqlite.proofs.Callers.{IsPlain, command_of}
+use Rattle.exam_tables.specs.Content.{ContainsIn, places, bare, put, delete, same_key}
+use Rattle.exam_tables.specs.Plain.{one_table}
+use Rattle.exam_tables.specs.Tables.{store_schema, stored_entry}
+use Rattle.exam_tables.proofs.Fits.{Fits, fits_chosen}
+use Rattle.exam_tables.proofs.Keys.{cast_int}
+use Rattle.exam_tables.proofs.Statements.{put_by}
+use Rattle.exam_tables.proofs.Deletes.{delete_by}
+use Rattle.exam_tables.proofs.Loads.{shown_by}
+use Rattle.exam_tables.proofs.TableFacts.{entry_keyed}
+
+abbrev pub row : ℤ → (List ℕ) → ℤ → Row
+row number paper live = Int number ∷ Text paper ∷ Int live ∷ []
+
+-- the row as it is kept, after its rowid
+abbrev columns : ℤ → (List ℕ) → ℤ → Row
+columns number paper live = Int number ∷ Text paper ∷ Int live ∷ []
+
+fits : (number : ℤ) (paper : List ℕ) (live : ℤ) → Fits stored_entry (1 ∷ 2 ∷ []) (Null) (columns number paper live) (row number paper live)
+fits number paper live = fits_chosen stored_entry (1 ∷ 2 ∷ []) (row number paper live) refl (simp (cast_int)) (λ v. refl)
+
+abbrev terms : List Term
+terms = lit Null ∷ col 0 0 ∷ col 0 1 ∷ col 0 2 ∷ []
+
+abbrev pub put_text : List ℕ
+put_text = codes "INSERT OR REPLACE INTO entry (number, paper, live) VALUES (?1, ?2, ?3)"
+
+put_is : command_of (understood store_schema put_text) ≡ InsertOr 6 Replace (Values terms 4) []
+unfolding understood everything store_schema
+put_is = refl
+
+put_plain : IsPlain (understood store_schema put_text)
+unfolding understood everything store_schema
+put_plain = (refl, refl)
+
+pub puts : (old new : State) (number : ℤ) (paper : List ℕ) (live : ℤ) (r : Result ℕ Error) → Executes put_text (row number paper live) old new r
+    → OnOk r ((all : Trees) → ContainsIn store_schema old.now all → ContainsIn store_schema new.now (with_tree all 10 (put (1 ∷ 2 ∷ []) (Null ∷ row number paper live) (all 10))))
+puts old new number paper live r h = put_by store_schema 6 stored_entry (1 ∷ 2 ∷ []) (1 ∷ 2 ∷ []) entry_keyed put_text terms 4 put_is put_plain old new (row number paper live) r (Null) (columns number paper live) (row number paper live) (fits number paper live) refl h
+
+abbrev pub delete_text : List ℕ
+delete_text = codes "DELETE FROM entry WHERE number = ?1 AND paper = ?2"
+
+abbrev key_terms : List Term
+key_terms = op2 (Compare Eq Binary) (col 1 1) (col 0 0) ∷ op2 (Compare Eq Binary) (col 1 2) (col 0 1) ∷ []
+
+delete_is : command_of (understood store_schema delete_text) ≡ Delete 6 (record { lets = []; body = one_table 10 key_terms (col 1 0 ∷ []) [] })
+unfolding understood everything store_schema
+delete_is = refl
+
+delete_plain : IsPlain (understood store_schema delete_text)
+unfolding understood everything store_schema
+delete_plain = (refl, refl)
+
+key_means : (params r : Row) → list_all (holds (params ∷ r ∷ [])) key_terms ≡ same_key (1 ∷ 2 ∷ []) (bare (places stored_entry) r) (Null ∷ params)
+unfolding first_key
+key_means params r = refl
+
+pub deletes : (old new : State) (number : ℤ) (paper : List ℕ) (r : Result ℕ Error) → Executes delete_text (Int number ∷ Text paper ∷ []) old new r
+    → OnOk r ((all : Trees) → ContainsIn store_schema old.now all → ContainsIn store_schema new.now (with_tree all 10 (delete (1 ∷ 2 ∷ []) (Null ∷ Int number ∷ Text paper ∷ []) (all 10))))
+deletes old new number paper r h = delete_by store_schema 6 stored_entry (1 ∷ 2 ∷ []) (1 ∷ 2 ∷ []) entry_keyed key_terms delete_text delete_is delete_plain (λ db. refl) old new (Int number ∷ Text paper ∷ []) r (key_means (Int number ∷ Text paper ∷ [])) h
+
+abbrev pub load_text : List ℕ
+load_text = codes "SELECT number, paper, live FROM entry"
+
+abbrev shown_terms : List Term
+shown_terms = col 1 1 ∷ col 1 2 ∷ col 1 3 ∷ []
+
+load_is : command_of (understood store_schema load_text) ≡ Select (record { lets = []; body = one_table 10 [] shown_terms [] }) (codes "number" ∷ codes "paper" ∷ codes "live" ∷ [])
+unfolding understood everything store_schema
+load_is = refl
+
+load_plain : IsPlain (understood store_schema load_text)
+unfolding understood everything store_schema
+load_plain = (refl, refl)
+
+load_unlisted : reads_listing store_schema load_text ≡ false
+unfolding understood everything store_schema
+load_unlisted = refl
+
+pub shows : (old new : State) (rows : List Row) (all : Trees) → ContainsIn store_schema old.now all → Shown load_text [] old new rows
+    → IsPermutation (all 10) (map (λ r. Null ∷ r) rows) × AllByRecursion (λ r. length r ≡ 3) rows × IsUnchanged old new
+shows = shown_by store_schema 6 stored_entry (1 ∷ 2 ∷ []) (1 ∷ 2 ∷ []) entry_keyed load_text shown_terms [] _ load_is load_plain load_unlisted (λ db. refl) (λ r. refl) refl

@@ -1,0 +1,120 @@
+-- The table hall: what its texts mean, and what they do.
+use Rattle.std.proofs.Common.{◌≡◌, ℕ, ℤ, List, [], ◌∷◌, ◌++◌, codes, map, length, true, false, Result, OnOk, refl, ap}
+use Rattle.std.specs.List.{AllByRecursion, list_all}
+use Rattle.std.specs.List.Sorted.{IsPermutation}
+use Rattle.std.proofs.lemmas.Bool.{and_parts}
+use Rattle.sqlite_value.specs.declared.value.Value.TheVariants.{Null, Int, Text}
+use Rattle.sqlite_value.specs.declared.keys.Collation.TheVariants.{Binary}
+use Rattle.sqlite_value.specs.Order.{Row}
+use Rattle.sqlite_value.specs.Keys.{first_key}
+use Rattle.sqlite_trees.specs.Tree.{Trees, rowid, with_tree}
+use Rattle.sqlite_sql.specs.Term.{Term, lit, col, op2, eval_all, holds}
+use Rattle.sqlite_sql.specs.declared.ops.BinaryOp.TheVariants.{Compare}
+use Rattle.sqlite_sql.specs.declared.ops.CompareOp.TheVariants.{Eq}
+use Rattle.sqlite_schema.specs.declared.command.Conflict.TheVariants.{Abort}
+use Rattle.sqlite_schema.specs.declared.command.Command.TheVariants.{InsertOr, Delete, Select}
+use Rattle.sqlite_schema.specs.declared.command.Source.TheVariants.{Values}
+use Rattle.sqlite_tied.specs.Compute.{everything}
+use Rattle.sqlite.specs.declared.error.Error.{Error}
+use Rattle.sqlite.specs.Rows.{shown}
+use Rattle.sqlite.specs.Listing.{understood, reads_listing}
+use Rattle.sqlite.specs.State.{State, Executes, Shown, IsUnchanged}
+use Rattle.sqlite.proofs.Callers.{IsPlain, command_of}
+use Rattle.exam_tables.specs.Content.{ContainsIn, places, bare, put, delete, same_key, same_rowid}
+use Rattle.exam_tables.specs.Plain.{one_table, on_conflict}
+use Rattle.exam_tables.specs.Tables.{store_schema, stored_hall}
+use Rattle.exam_tables.proofs.Fits.{Fits, fits_chosen}
+use Rattle.exam_tables.proofs.Keys.{cast_int, text_same}
+use Rattle.exam_tables.proofs.Statements.{upsert_by}
+use Rattle.exam_tables.proofs.Deletes.{delete_by}
+use Rattle.exam_tables.proofs.Loads.{shown_by}
+use Rattle.exam_tables.proofs.TableFacts.{hall_keyed}
+
+abbrev pub row : (List ℕ) → (List ℕ) → ℤ → Row
+row code title features = Text code ∷ Text title ∷ Int features ∷ []
+
+-- the row as it is kept, after its rowid
+abbrev columns : (List ℕ) → (List ℕ) → ℤ → Row
+columns code title features = Text code ∷ Text title ∷ Int features ∷ []
+
+fits : (code : List ℕ) (title : List ℕ) (features : ℤ) → Fits stored_hall (1 ∷ []) (Null) (columns code title features) (row code title features)
+fits code title features = fits_chosen stored_hall (1 ∷ []) (row code title features) refl (simp (cast_int)) (λ v. refl)
+
+abbrev terms : List Term
+terms = lit Null ∷ col 0 0 ∷ col 0 1 ∷ col 0 2 ∷ []
+
+abbrev pub put_text : List ℕ
+put_text = codes "INSERT INTO hall (code, title, features) VALUES (?1, ?2, ?3) ON CONFLICT (code) DO UPDATE SET title = excluded.title, features = excluded.features"
+
+-- the row that is there
+abbrev there : List Term
+there = op2 (Compare Eq Binary) (col 1 0) (col 0 3) ∷ []
+
+-- its rowid, and the row that it becomes
+abbrev project : List Term
+project = col 1 0 ∷ col 1 0 ∷ col 1 1 ∷ col 0 6 ∷ col 0 7 ∷ []
+
+put_is : command_of (understood store_schema put_text) ≡ InsertOr 3 Abort (Values terms 4) (on_conflict (1 ∷ []) 5 there project ∷ [])
+unfolding understood everything store_schema
+put_is = refl
+
+put_plain : IsPlain (understood store_schema put_text)
+unfolding understood everything store_schema
+put_plain = (refl, refl)
+
+picked : (code : List ℕ) (title : List ℕ) (features : ℤ) (t r : Row) (id : ℤ) → list_all (holds ((row code title features ++ rowid t ∷ shown stored_hall (Int id ∷ columns code title features)) ∷ r ∷ [])) there ≡ same_rowid r t
+unfolding first_key
+picked code title features t r id = refl
+
+written : (code : List ℕ) (title : List ℕ) (features : ℤ) (t : Row) (id : ℤ) → same_key (1 ∷ []) (bare (places stored_hall) t) (Null ∷ row code title features) ≡ true
+    → eval_all project ((row code title features ++ rowid t ∷ shown stored_hall (Int id ∷ columns code title features)) ∷ t ∷ []) ≡ rowid t ∷ rowid t ∷ columns code title features
+written code title features t id same = ap (λ v. rowid t ∷ rowid t ∷ v ∷ Text title ∷ Int features ∷ []) (text_same _ _ (and_parts _ _ same).0)
+
+pub puts : (old new : State) (code : List ℕ) (title : List ℕ) (features : ℤ) (r : Result ℕ Error) → Executes put_text (row code title features) old new r
+    → OnOk r ((all : Trees) → ContainsIn store_schema old.now all → ContainsIn store_schema new.now (with_tree all 5 (put (1 ∷ []) (Null ∷ row code title features) (all 5))))
+puts old new code title features r h = upsert_by store_schema 3 stored_hall (1 ∷ []) (1 ∷ []) hall_keyed put_text terms 4 there project put_is put_plain (λ db. refl) old new (row code title features) r (Null) (columns code title features) (row code title features) (fits code title features) refl
+    (picked code title features) (written code title features) h
+
+abbrev pub delete_text : List ℕ
+delete_text = codes "DELETE FROM hall WHERE code = ?1"
+
+abbrev key_terms : List Term
+key_terms = op2 (Compare Eq Binary) (col 1 1) (col 0 0) ∷ []
+
+delete_is : command_of (understood store_schema delete_text) ≡ Delete 3 (record { lets = []; body = one_table 5 key_terms (col 1 0 ∷ []) [] })
+unfolding understood everything store_schema
+delete_is = refl
+
+delete_plain : IsPlain (understood store_schema delete_text)
+unfolding understood everything store_schema
+delete_plain = (refl, refl)
+
+key_means : (params r : Row) → list_all (holds (params ∷ r ∷ [])) key_terms ≡ same_key (1 ∷ []) (bare (places stored_hall) r) (Null ∷ params)
+unfolding first_key
+key_means params r = refl
+
+pub deletes : (old new : State) (code : List ℕ) (r : Result ℕ Error) → Executes delete_text (Text code ∷ []) old new r
+    → OnOk r ((all : Trees) → ContainsIn store_schema old.now all → ContainsIn store_schema new.now (with_tree all 5 (delete (1 ∷ []) (Null ∷ Text code ∷ []) (all 5))))
+deletes old new code r h = delete_by store_schema 3 stored_hall (1 ∷ []) (1 ∷ []) hall_keyed key_terms delete_text delete_is delete_plain (λ db. refl) old new (Text code ∷ []) r (key_means (Text code ∷ [])) h
+
+abbrev pub load_text : List ℕ
+load_text = codes "SELECT code, title, features FROM hall"
+
+abbrev shown_terms : List Term
+shown_terms = col 1 1 ∷ col 1 2 ∷ col 1 3 ∷ []
+
+load_is : command_of (understood store_schema load_text) ≡ Select (record { lets = []; body = one_table 5 [] shown_terms [] }) (codes "code" ∷ codes "title" ∷ codes "features" ∷ [])
+unfolding understood everything store_schema
+load_is = refl
+
+load_plain : IsPlain (understood store_schema load_text)
+unfolding understood everything store_schema
+load_plain = (refl, refl)
+
+load_unlisted : reads_listing store_schema load_text ≡ false
+unfolding understood everything store_schema
+load_unlisted = refl
+
+pub shows : (old new : State) (rows : List Row) (all : Trees) → ContainsIn store_schema old.now all → Shown load_text [] old new rows
+    → IsPermutation (all 5) (map (λ r. Null ∷ r) rows) × AllByRecursion (λ r. length r ≡ 3) rows × IsUnchanged old new
+shows = shown_by store_schema 3 stored_hall (1 ∷ []) (1 ∷ []) hall_keyed load_text shown_terms [] _ load_is load_plain load_unlisted (λ db. refl) (λ r. refl) refl

@@ -1,0 +1,100 @@
+-- The table office: what its texts mean, and what they do.
+use Rattle.std.proofs.Common.{◌≡◌, ℕ, ℤ, pos, List, [], ◌∷◌, codes, map, length, false, Result, OnOk, refl}
+use Rattle.std.specs.List.{AllByRecursion, list_all}
+use Rattle.std.specs.List.Sorted.{IsPermutation}
+use Rattle.sqlite_value.specs.declared.value.Value.TheVariants.{Null, Int}
+use Rattle.sqlite_value.specs.declared.keys.Collation.TheVariants.{Binary}
+use Rattle.sqlite_value.specs.Order.{Row}
+use Rattle.sqlite_value.specs.Keys.{first_key}
+use Rattle.sqlite_trees.specs.Tree.{Trees, with_tree}
+use Rattle.sqlite_sql.specs.Term.{Term, lit, col, op2, holds}
+use Rattle.sqlite_sql.specs.declared.ops.BinaryOp.TheVariants.{Compare}
+use Rattle.sqlite_sql.specs.declared.ops.CompareOp.TheVariants.{Eq}
+use Rattle.sqlite_schema.specs.declared.command.Command.TheVariants.{Insert, Delete, Select}
+use Rattle.sqlite_schema.specs.declared.command.Source.TheVariants.{Values}
+use Rattle.sqlite_tied.specs.Compute.{everything}
+use Rattle.sqlite.specs.declared.error.Error.{Error}
+use Rattle.sqlite.specs.Listing.{understood, reads_listing}
+use Rattle.sqlite.specs.State.{State, Executes, Shown, IsUnchanged}
+use Rattle.sqlite.proofs.Callers.{IsPlain, command_of}
+use Rattle.exam_tables.specs.Content.{ContainsIn, places, bare, put, delete, same_key}
+use Rattle.exam_tables.specs.Plain.{one_table}
+use Rattle.exam_tables.specs.Tables.{store_schema, stored_office}
+use Rattle.exam_tables.proofs.Fits.{Fits, fits_given}
+use Rattle.exam_tables.proofs.Keys.{cast_int, cast_null}
+use Rattle.exam_tables.proofs.Inserts.{insert_by}
+use Rattle.exam_tables.proofs.Deletes.{delete_by}
+use Rattle.exam_tables.proofs.Loads.{shown_by}
+use Rattle.exam_tables.proofs.TableFacts.{office_keyed}
+
+abbrev pub row : ℤ → ℤ → Row
+row one version = Int one ∷ Int version ∷ []
+
+-- the row as it is kept, after its rowid
+abbrev columns : ℤ → ℤ → Row
+columns one version = Null ∷ Int version ∷ []
+
+fits : (one : ℤ) (version : ℤ) → Fits stored_office (1 ∷ []) (Int one) (columns one version) (row one version)
+fits one version = fits_given stored_office (1 ∷ []) one (columns one version) (row one version) refl (simp (cast_null, cast_int)) refl (λ r. refl)
+
+abbrev terms : List Term
+terms = lit (Int (pos 1)) ∷ lit Null ∷ lit (Int (pos 1)) ∷ []
+
+abbrev pub put_text : List ℕ
+put_text = codes "INSERT INTO office (one, version) VALUES (1, 1)"
+
+put_is : command_of (understood store_schema put_text) ≡ Insert 0 (Values terms 3)
+unfolding understood everything store_schema
+put_is = refl
+
+put_plain : IsPlain (understood store_schema put_text)
+unfolding understood everything store_schema
+put_plain = (refl, refl)
+
+pub puts : (old new : State) (r : Result ℕ Error) → Executes put_text [] old new r
+    → OnOk r ((all : Trees) → ContainsIn store_schema old.now all → ContainsIn store_schema new.now (with_tree all 0 (put (1 ∷ []) (Null ∷ Int (pos 1) ∷ Int (pos 1) ∷ []) (all 0))))
+puts old new r h = insert_by store_schema 0 stored_office (1 ∷ []) (0 ∷ []) office_keyed put_text terms 3 put_is put_plain old new [] r (Int (pos 1)) (columns (pos 1) (pos 1)) (row (pos 1) (pos 1)) (fits (pos 1) (pos 1)) refl h
+
+abbrev pub delete_text : List ℕ
+delete_text = codes "DELETE FROM office WHERE one = ?1"
+
+abbrev key_terms : List Term
+key_terms = op2 (Compare Eq Binary) (col 1 0) (col 0 0) ∷ []
+
+delete_is : command_of (understood store_schema delete_text) ≡ Delete 0 (record { lets = []; body = one_table 0 key_terms (col 1 0 ∷ []) [] })
+unfolding understood everything store_schema
+delete_is = refl
+
+delete_plain : IsPlain (understood store_schema delete_text)
+unfolding understood everything store_schema
+delete_plain = (refl, refl)
+
+key_means : (params r : Row) → list_all (holds (params ∷ r ∷ [])) key_terms ≡ same_key (1 ∷ []) (bare (places stored_office) r) (Null ∷ params)
+unfolding first_key
+key_means params r = refl
+
+pub deletes : (old new : State) (one : ℤ) (r : Result ℕ Error) → Executes delete_text (Int one ∷ []) old new r
+    → OnOk r ((all : Trees) → ContainsIn store_schema old.now all → ContainsIn store_schema new.now (with_tree all 0 (delete (1 ∷ []) (Null ∷ Int one ∷ []) (all 0))))
+deletes old new one r h = delete_by store_schema 0 stored_office (1 ∷ []) (0 ∷ []) office_keyed key_terms delete_text delete_is delete_plain (λ db. refl) old new (Int one ∷ []) r (key_means (Int one ∷ [])) h
+
+abbrev pub load_text : List ℕ
+load_text = codes "SELECT one, version FROM office"
+
+abbrev shown_terms : List Term
+shown_terms = col 1 0 ∷ col 1 2 ∷ []
+
+load_is : command_of (understood store_schema load_text) ≡ Select (record { lets = []; body = one_table 0 [] shown_terms [] }) (codes "one" ∷ codes "version" ∷ [])
+unfolding understood everything store_schema
+load_is = refl
+
+load_plain : IsPlain (understood store_schema load_text)
+unfolding understood everything store_schema
+load_plain = (refl, refl)
+
+load_unlisted : reads_listing store_schema load_text ≡ false
+unfolding understood everything store_schema
+load_unlisted = refl
+
+pub shows : (old new : State) (rows : List Row) (all : Trees) → ContainsIn store_schema old.now all → Shown load_text [] old new rows
+    → IsPermutation (all 0) (map (λ r. Null ∷ r) rows) × AllByRecursion (λ r. length r ≡ 2) rows × IsUnchanged old new
+shows = shown_by store_schema 0 stored_office (1 ∷ []) (0 ∷ []) office_keyed load_text shown_terms [] _ load_is load_plain load_unlisted (λ db. refl) (λ r. refl) refl

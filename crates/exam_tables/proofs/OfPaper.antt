@@ -1,0 +1,120 @@
+-- The table paper: what its texts mean, and what they do.
+use Rattle.std.proofs.Common.{◌≡◌, ℕ, ℤ, List, [], ◌∷◌, ◌++◌, codes, map, length, true, false, Result, OnOk, refl, ap}
+use Rattle.std.specs.List.{AllByRecursion, list_all}
+use Rattle.std.specs.List.Sorted.{IsPermutation}
+use Rattle.std.proofs.lemmas.Bool.{and_parts}
+use Rattle.sqlite_value.specs.declared.value.Value.TheVariants.{Null, Int, Text}
+use Rattle.sqlite_value.specs.declared.keys.Collation.TheVariants.{Binary}
+use Rattle.sqlite_value.specs.Order.{Row}
+use Rattle.sqlite_value.specs.Keys.{first_key}
+use Rattle.sqlite_trees.specs.Tree.{Trees, rowid, with_tree}
+use Rattle.sqlite_sql.specs.Term.{Term, lit, col, op2, eval_all, holds}
+use Rattle.sqlite_sql.specs.declared.ops.BinaryOp.TheVariants.{Compare}
+use Rattle.sqlite_sql.specs.declared.ops.CompareOp.TheVariants.{Eq}
+use Rattle.sqlite_schema.specs.declared.command.Conflict.TheVariants.{Abort}
+use Rattle.sqlite_schema.specs.declared.command.Command.TheVariants.{InsertOr, Delete, Select}
+use Rattle.sqlite_schema.specs.declared.command.Source.TheVariants.{Values}
+use Rattle.sqlite_tied.specs.Compute.{everything}
+use Rattle.sqlite.specs.declared.error.Error.{Error}
+use Rattle.sqlite.specs.Rows.{shown}
+use Rattle.sqlite.specs.Listing.{understood, reads_listing}
+use Rattle.sqlite.specs.State.{State, Executes, Shown, IsUnchanged}
+use Rattle.sqlite.proofs.Callers.{IsPlain, command_of}
+use Rattle.exam_tables.specs.Content.{ContainsIn, places, bare, put, delete, same_key, same_rowid}
+use Rattle.exam_tables.specs.Plain.{one_table, on_conflict}
+use Rattle.exam_tables.specs.Tables.{store_schema, stored_paper}
+use Rattle.exam_tables.proofs.Fits.{Fits, fits_chosen}
+use Rattle.exam_tables.proofs.Keys.{cast_int, text_same}
+use Rattle.exam_tables.proofs.Statements.{upsert_by}
+use Rattle.exam_tables.proofs.Deletes.{delete_by}
+use Rattle.exam_tables.proofs.Loads.{shown_by}
+use Rattle.exam_tables.proofs.TableFacts.{paper_keyed}
+
+abbrev pub row : (List ℕ) → (List ℕ) → (List ℕ) → ℤ → ℤ → Row
+row code title session minutes requires = Text code ∷ Text title ∷ Text session ∷ Int minutes ∷ Int requires ∷ []
+
+-- the row as it is kept, after its rowid
+abbrev columns : (List ℕ) → (List ℕ) → (List ℕ) → ℤ → ℤ → Row
+columns code title session minutes requires = Text code ∷ Text title ∷ Text session ∷ Int minutes ∷ Int requires ∷ []
+
+fits : (code : List ℕ) (title : List ℕ) (session : List ℕ) (minutes : ℤ) (requires : ℤ) → Fits stored_paper (1 ∷ []) (Null) (columns code title session minutes requires) (row code title session minutes requires)
+fits code title session minutes requires = fits_chosen stored_paper (1 ∷ []) (row code title session minutes requires) refl (simp (cast_int)) (λ v. refl)
+
+abbrev terms : List Term
+terms = lit Null ∷ col 0 0 ∷ col 0 1 ∷ col 0 2 ∷ col 0 3 ∷ col 0 4 ∷ []
+
+abbrev pub put_text : List ℕ
+put_text = codes "INSERT INTO paper (code, title, session, minutes, requires) VALUES (?1, ?2, ?3, ?4, ?5) ON CONFLICT (code) DO UPDATE SET title = excluded.title, session = excluded.session, minutes = excluded.minutes, requires = excluded.requires"
+
+-- the row that is there
+abbrev there : List Term
+there = op2 (Compare Eq Binary) (col 1 0) (col 0 5) ∷ []
+
+-- its rowid, and the row that it becomes
+abbrev project : List Term
+project = col 1 0 ∷ col 1 0 ∷ col 1 1 ∷ col 0 8 ∷ col 0 9 ∷ col 0 10 ∷ col 0 11 ∷ []
+
+put_is : command_of (understood store_schema put_text) ≡ InsertOr 2 Abort (Values terms 6) (on_conflict (1 ∷ []) 3 there project ∷ [])
+unfolding understood everything store_schema
+put_is = refl
+
+put_plain : IsPlain (understood store_schema put_text)
+unfolding understood everything store_schema
+put_plain = (refl, refl)
+
+picked : (code : List ℕ) (title : List ℕ) (session : List ℕ) (minutes : ℤ) (requires : ℤ) (t r : Row) (id : ℤ) → list_all (holds ((row code title session minutes requires ++ rowid t ∷ shown stored_paper (Int id ∷ columns code title session minutes requires)) ∷ r ∷ [])) there ≡ same_rowid r t
+unfolding first_key
+picked code title session minutes requires t r id = refl
+
+written : (code : List ℕ) (title : List ℕ) (session : List ℕ) (minutes : ℤ) (requires : ℤ) (t : Row) (id : ℤ) → same_key (1 ∷ []) (bare (places stored_paper) t) (Null ∷ row code title session minutes requires) ≡ true
+    → eval_all project ((row code title session minutes requires ++ rowid t ∷ shown stored_paper (Int id ∷ columns code title session minutes requires)) ∷ t ∷ []) ≡ rowid t ∷ rowid t ∷ columns code title session minutes requires
+written code title session minutes requires t id same = ap (λ v. rowid t ∷ rowid t ∷ v ∷ Text title ∷ Text session ∷ Int minutes ∷ Int requires ∷ []) (text_same _ _ (and_parts _ _ same).0)
+
+pub puts : (old new : State) (code : List ℕ) (title : List ℕ) (session : List ℕ) (minutes : ℤ) (requires : ℤ) (r : Result ℕ Error) → Executes put_text (row code title session minutes requires) old new r
+    → OnOk r ((all : Trees) → ContainsIn store_schema old.now all → ContainsIn store_schema new.now (with_tree all 3 (put (1 ∷ []) (Null ∷ row code title session minutes requires) (all 3))))
+puts old new code title session minutes requires r h = upsert_by store_schema 2 stored_paper (1 ∷ []) (1 ∷ []) paper_keyed put_text terms 6 there project put_is put_plain (λ db. refl) old new (row code title session minutes requires) r (Null) (columns code title session minutes requires) (row code title session minutes requires) (fits code title session minutes requires) refl
+    (picked code title session minutes requires) (written code title session minutes requires) h
+
+abbrev pub delete_text : List ℕ
+delete_text = codes "DELETE FROM paper WHERE code = ?1"
+
+abbrev key_terms : List Term
+key_terms = op2 (Compare Eq Binary) (col 1 1) (col 0 0) ∷ []
+
+delete_is : command_of (understood store_schema delete_text) ≡ Delete 2 (record { lets = []; body = one_table 3 key_terms (col 1 0 ∷ []) [] })
+unfolding understood everything store_schema
+delete_is = refl
+
+delete_plain : IsPlain (understood store_schema delete_text)
+unfolding understood everything store_schema
+delete_plain = (refl, refl)
+
+key_means : (params r : Row) → list_all (holds (params ∷ r ∷ [])) key_terms ≡ same_key (1 ∷ []) (bare (places stored_paper) r) (Null ∷ params)
+unfolding first_key
+key_means params r = refl
+
+pub deletes : (old new : State) (code : List ℕ) (r : Result ℕ Error) → Executes delete_text (Text code ∷ []) old new r
+    → OnOk r ((all : Trees) → ContainsIn store_schema old.now all → ContainsIn store_schema new.now (with_tree all 3 (delete (1 ∷ []) (Null ∷ Text code ∷ []) (all 3))))
+deletes old new code r h = delete_by store_schema 2 stored_paper (1 ∷ []) (1 ∷ []) paper_keyed key_terms delete_text delete_is delete_plain (λ db. refl) old new (Text code ∷ []) r (key_means (Text code ∷ [])) h
+
+abbrev pub load_text : List ℕ
+load_text = codes "SELECT code, title, session, minutes, requires FROM paper"
+
+abbrev shown_terms : List Term
+shown_terms = col 1 1 ∷ col 1 2 ∷ col 1 3 ∷ col 1 4 ∷ col 1 5 ∷ []
+
+load_is : command_of (understood store_schema load_text) ≡ Select (record { lets = []; body = one_table 3 [] shown_terms [] }) (codes "code" ∷ codes "title" ∷ codes "session" ∷ codes "minutes" ∷ codes "requires" ∷ [])
+unfolding understood everything store_schema
+load_is = refl
+
+load_plain : IsPlain (understood store_schema load_text)
+unfolding understood everything store_schema
+load_plain = (refl, refl)
+
+load_unlisted : reads_listing store_schema load_text ≡ false
+unfolding understood everything store_schema
+load_unlisted = refl
+
+pub shows : (old new : State) (rows : List Row) (all : Trees) → ContainsIn store_schema old.now all → Shown load_text [] old new rows
+    → IsPermutation (all 3) (map (λ r. Null ∷ r) rows) × AllByRecursion (λ r. length r ≡ 5) rows × IsUnchanged old new
+shows = shown_by store_schema 2 stored_paper (1 ∷ []) (1 ∷ []) paper_keyed load_text shown_terms [] _ load_is load_plain load_unlisted (λ db. refl) (λ r. refl) refl

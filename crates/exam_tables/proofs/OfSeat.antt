@@ -1,0 +1,101 @@
+-- The table seat: what its texts mean, and what they do.
+use Rattle.std.proofs.Common.{◌≡◌, ℕ, ℤ, List, [], ◌∷◌, codes, map, length, false, Result, OnOk, refl}
+use Rattle.std.specs.List.{AllByRecursion, list_all}
+use Rattle.std.specs.List.Sorted.{IsPermutation}
+use Rattle.sqlite_value.specs.declared.value.Value.TheVariants.{Null, Int, Text}
+use Rattle.sqlite_value.specs.declared.keys.Collation.TheVariants.{Binary}
+use Rattle.sqlite_value.specs.Order.{Row}
+use Rattle.sqlite_value.specs.Keys.{first_key}
+use Rattle.sqlite_trees.specs.Tree.{Trees, with_tree}
+use Rattle.sqlite_sql.specs.Term.{Term, lit, col, op2, holds}
+use Rattle.sqlite_sql.specs.declared.ops.BinaryOp.TheVariants.{Compare}
+use Rattle.sqlite_sql.specs.declared.ops.CompareOp.TheVariants.{Eq}
+use Rattle.sqlite_schema.specs.declared.command.Conflict.TheVariants.{Replace}
+use Rattle.sqlite_schema.specs.declared.command.Command.TheVariants.{InsertOr, Delete, Select}
+use Rattle.sqlite_schema.specs.declared.command.Source.TheVariants.{Values}
+use Rattle.sqlite_tied.specs.Compute.{everything}
+use Rattle.sqlite.specs.declared.error.Error.{Error}
+use Rattle.sqlite.specs.Listing.{understood, reads_listing}
+use Rattle.sqlite.specs.State.{State, Executes, Shown, IsUnchanged}
+use Rattle.sqlite.proofs.Callers.{IsPlain, command_of}
+use Rattle.exam_tables.specs.Content.{ContainsIn, places, bare, put, delete, same_key}
+use Rattle.exam_tables.specs.Plain.{one_table}
+use Rattle.exam_tables.specs.Tables.{store_schema, stored_seat}
+use Rattle.exam_tables.proofs.Fits.{Fits, fits_chosen}
+use Rattle.exam_tables.proofs.Keys.{cast_int}
+use Rattle.exam_tables.proofs.Statements.{put_by}
+use Rattle.exam_tables.proofs.Deletes.{delete_by}
+use Rattle.exam_tables.proofs.Loads.{shown_by}
+use Rattle.exam_tables.proofs.TableFacts.{seat_keyed}
+
+abbrev pub row : (List ℕ) → ℤ → (List ℕ) → Row
+row session number hall = Text session ∷ Int number ∷ Text hall ∷ []
+
+-- the row as it is kept, after its rowid
+abbrev columns : (List ℕ) → ℤ → (List ℕ) → Row
+columns session number hall = Text session ∷ Int number ∷ Text hall ∷ []
+
+fits : (session : List ℕ) (number : ℤ) (hall : List ℕ) → Fits stored_seat (1 ∷ 2 ∷ []) (Null) (columns session number hall) (row session number hall)
+fits session number hall = fits_chosen stored_seat (1 ∷ 2 ∷ []) (row session number hall) refl (simp (cast_int)) (λ v. refl)
+
+abbrev terms : List Term
+terms = lit Null ∷ col 0 0 ∷ col 0 1 ∷ col 0 2 ∷ []
+
+abbrev pub put_text : List ℕ
+put_text = codes "INSERT OR REPLACE INTO seat (session, number, hall) VALUES (?1, ?2, ?3)"
+
+put_is : command_of (understood store_schema put_text) ≡ InsertOr 9 Replace (Values terms 4) []
+unfolding understood everything store_schema
+put_is = refl
+
+put_plain : IsPlain (understood store_schema put_text)
+unfolding understood everything store_schema
+put_plain = (refl, refl)
+
+pub puts : (old new : State) (session : List ℕ) (number : ℤ) (hall : List ℕ) (r : Result ℕ Error) → Executes put_text (row session number hall) old new r
+    → OnOk r ((all : Trees) → ContainsIn store_schema old.now all → ContainsIn store_schema new.now (with_tree all 15 (put (1 ∷ 2 ∷ []) (Null ∷ row session number hall) (all 15))))
+puts old new session number hall r h = put_by store_schema 9 stored_seat (1 ∷ 2 ∷ []) (1 ∷ 2 ∷ []) seat_keyed put_text terms 4 put_is put_plain old new (row session number hall) r (Null) (columns session number hall) (row session number hall) (fits session number hall) refl h
+
+abbrev pub delete_text : List ℕ
+delete_text = codes "DELETE FROM seat WHERE session = ?1 AND number = ?2"
+
+abbrev key_terms : List Term
+key_terms = op2 (Compare Eq Binary) (col 1 1) (col 0 0) ∷ op2 (Compare Eq Binary) (col 1 2) (col 0 1) ∷ []
+
+delete_is : command_of (understood store_schema delete_text) ≡ Delete 9 (record { lets = []; body = one_table 15 key_terms (col 1 0 ∷ []) [] })
+unfolding understood everything store_schema
+delete_is = refl
+
+delete_plain : IsPlain (understood store_schema delete_text)
+unfolding understood everything store_schema
+delete_plain = (refl, refl)
+
+key_means : (params r : Row) → list_all (holds (params ∷ r ∷ [])) key_terms ≡ same_key (1 ∷ 2 ∷ []) (bare (places stored_seat) r) (Null ∷ params)
+unfolding first_key
+key_means params r = refl
+
+pub deletes : (old new : State) (session : List ℕ) (number : ℤ) (r : Result ℕ Error) → Executes delete_text (Text session ∷ Int number ∷ []) old new r
+    → OnOk r ((all : Trees) → ContainsIn store_schema old.now all → ContainsIn store_schema new.now (with_tree all 15 (delete (1 ∷ 2 ∷ []) (Null ∷ Text session ∷ Int number ∷ []) (all 15))))
+deletes old new session number r h = delete_by store_schema 9 stored_seat (1 ∷ 2 ∷ []) (1 ∷ 2 ∷ []) seat_keyed key_terms delete_text delete_is delete_plain (λ db. refl) old new (Text session ∷ Int number ∷ []) r (key_means (Text session ∷ Int number ∷ [])) h
+
+abbrev pub load_text : List ℕ
+load_text = codes "SELECT session, number, hall FROM seat"
+
+abbrev shown_terms : List Term
+shown_terms = col 1 1 ∷ col 1 2 ∷ col 1 3 ∷ []
+
+load_is : command_of (understood store_schema load_text) ≡ Select (record { lets = []; body = one_table 15 [] shown_terms [] }) (codes "session" ∷ codes "number" ∷ codes "hall" ∷ [])
+unfolding understood everything store_schema
+load_is = refl
+
+load_plain : IsPlain (understood store_schema load_text)
+unfolding understood everything store_schema
+load_plain = (refl, refl)
+
+load_unlisted : reads_listing store_schema load_text ≡ false
+unfolding understood everything store_schema
+load_unlisted = refl
+
+pub shows : (old new : State) (rows : List Row) (all : Trees) → ContainsIn store_schema old.now all → Shown load_text [] old new rows
+    → IsPermutation (all 15) (map (λ r. Null ∷ r) rows) × AllByRecursion (λ r. length r ≡ 3) rows × IsUnchanged old new
+shows = shown_by store_schema 9 stored_seat (1 ∷ 2 ∷ []) (1 ∷ 2 ∷ []) seat_keyed load_text shown_terms [] _ load_is load_plain load_unlisted (λ db. refl) (λ r. refl) refl
