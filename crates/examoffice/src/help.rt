@@ -15,7 +15,8 @@ pub const IMPORT: &str =
 pub const KIND: &str =
     "What the file holds: sessions, papers, halls, openings, candidates, entries or arrangements";
 
-pub const FILE: &str = "The CSV file, as examples/entries.csv; its first line is the header of its kind";
+pub const FILE: &str =
+    "The CSV file, as examples/entries.csv; its first line is the header of its kind";
 
 pub const DOOR_LIST: &str = "Prints who sits in a hall, by desk";
 
@@ -23,7 +24,8 @@ pub const SESSION: &str = "The code of a session, as MON-AM";
 
 pub const HALL: &str = "The code of a hall, as GYM";
 
-pub const STATUSES: &str = "Exit status: 0 done, 1 refused or a file failed, 2 the line was not understood.{n}{n}\
+pub const STATUSES: &str =
+    "Exit status: 0 done, 1 refused or a file failed, 2 the line was not understood.{n}{n}\
 A command that is refused changes nothing and prints `refused` with a number:{n}   \
 1 a bad row, with its record and column (0: a wrong count of fields){n}   \
 2 the header is not that of the kind{n}   \
