@@ -20,7 +20,8 @@ with_puts tree key (r ∷ more) all = with_puts tree key more (with_tree all tre
 
 abbrev pub with_deletes : ℕ → List ℕ → List Row → Trees → Trees
 with_deletes tree key [] all = all
-with_deletes tree key (r ∷ more) all = with_deletes tree key more (with_tree all tree (delete key r (all tree)))
+with_deletes tree key (r ∷ more) all =
+    with_deletes tree key more (with_tree all tree (delete key r (all tree)))
 
 -- the row has the key of one of these
 abbrev pub is_among : List ℕ → List Row → Row → Bool

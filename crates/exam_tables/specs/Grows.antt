@@ -1,7 +1,8 @@
 -- The schema as it grows.
 use Rattle.sqlite.specs.Schema.{Schema}
 use Rattle.sqlite.specs.Change.{created}
-use Rattle.exam_tables.specs.Tables.{no_schema, office, session, paper, hall, candidate, opening, entry, arrangement, appeal, seat}
+use Rattle.exam_tables.specs.Tables.{no_schema, office, session, paper, hall, candidate, opening, entry}
+use Rattle.exam_tables.specs.Tables.{arrangement, appeal, seat}
 
 unfoldable pub schema_0 : Schema
 schema_0 = no_schema
@@ -22,16 +23,31 @@ unfoldable pub schema_5 : Schema
 schema_5 = created (created (created (created (created (no_schema) office) session) paper) hall) candidate
 
 unfoldable pub schema_6 : Schema
-schema_6 = created (created (created (created (created (created (no_schema) office) session) paper) hall) candidate) opening
+schema_6 =
+    created (
+    created (created (created (created (created (no_schema) office) session) paper) hall) candidate
+    ) opening
 
 unfoldable pub schema_7 : Schema
-schema_7 = created (created (created (created (created (created (created (no_schema) office) session) paper) hall) candidate) opening) entry
+schema_7 =
+    created (created (
+    created (created (created (created (created (no_schema) office) session) paper) hall) candidate
+    ) opening) entry
 
 unfoldable pub schema_8 : Schema
-schema_8 = created (created (created (created (created (created (created (created (no_schema) office) session) paper) hall) candidate) opening) entry) arrangement
+schema_8 =
+    created (created (created (
+    created (created (created (created (created (no_schema) office) session) paper) hall) candidate
+    ) opening) entry) arrangement
 
 unfoldable pub schema_9 : Schema
-schema_9 = created (created (created (created (created (created (created (created (created (no_schema) office) session) paper) hall) candidate) opening) entry) arrangement) appeal
+schema_9 =
+    created (created (created (created (
+    created (created (created (created (created (no_schema) office) session) paper) hall) candidate
+    ) opening) entry) arrangement) appeal
 
 unfoldable pub schema_10 : Schema
-schema_10 = created (created (created (created (created (created (created (created (created (created (no_schema) office) session) paper) hall) candidate) opening) entry) arrangement) appeal) seat
+schema_10 =
+    created (created (created (created (created (
+    created (created (created (created (created (no_schema) office) session) paper) hall) candidate
+    ) opening) entry) arrangement) appeal) seat

@@ -18,8 +18,10 @@ use Rattle.exam_tables.specs.Content.{places, bare, same_key, same_rowid}
 -- where each row of the table passes UNIQUE, no two rows have the same key
 abbrev pub IsAlone : Schema → Table → List ℕ → Type 0
 IsAlone schema table key =
-    (db : Trees) → IsShaped TableShape (db table.tree) → AllByRecursion (λ row. passes Unique schema db table row ≡ true) (db table.tree)
-    → (r s : Row) → Has (db table.tree) r → Has (db table.tree) s → same_key key (bare (places table) r) (bare (places table) s) ≡ true → r ≡ s
+    (db : Trees) → IsShaped TableShape (db table.tree)
+    → AllByRecursion (λ row. passes Unique schema db table row ≡ true) (db table.tree)
+    → (r s : Row) → Has (db table.tree) r → Has (db table.tree) s
+    → same_key key (bare (places table) r) (bare (places table) s) ≡ true → r ≡ s
 
 -- `key` has the places of the key among the columns, from 1, and `target` its places in a kept row.
 pub record IsKeyed (schema : Schema) (at : ℕ) (table : Table) (key target : List ℕ) : Type 0 where
@@ -27,11 +29,16 @@ pub record IsKeyed (schema : Schema) (at : ℕ) (table : Table) (key target : Li
   pub uncounted : table.is_counted ≡ false
   pub unstamped : table.stamps.terms ≡ []
   -- a table with its tree is read as it is
-  pub apart : list_all (λ t. not (t.tree == table.tree) || bytes_eq (places t) (places table)) schema.tables ≡ true
+  pub apart :
+      list_all (λ t. not (t.tree == table.tree) || bytes_eq (places t) (places table)) schema.tables ≡ true
   -- a row gives way to one with its rowid or its key
-  pub barred : (a b : Row) → conflicts None schema.indexes table b a ≡ (same_rowid a b || same_key key (bare (places table) a) (bare (places table) b))
+  pub barred : (a b : Row)
+      → conflicts None schema.indexes table b a
+      ≡ (same_rowid a b || same_key key (bare (places table) a) (bare (places table) b))
   -- ON CONFLICT with the key finds the rows with the key
-  pub aimed : (a b : Row) → conflicts (Some target) schema.indexes table b a ≡ same_key key (bare (places table) a) (bare (places table) b)
+  pub aimed : (a b : Row)
+      → conflicts (Some target) schema.indexes table b a
+      ≡ same_key key (bare (places table) a) (bare (places table) b)
   pub alone : IsAlone schema table key
   -- no foreign key to it acts
   pub still : (olds news : List Row) → works schema Enforced 0 table.tree olds news ≡ []

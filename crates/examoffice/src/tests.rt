@@ -55,6 +55,34 @@ fn run<S: Alter>(
     Ok(outcome)
 }
 
+/// A command, its import file, and what it prints: on standard output where it is done, on the error output where it is
+/// refused.
+type Row<'a> = (&'a str, &'a str, Result<&'a str, &'a str>);
+
+/// One session with one paper, and two halls with a desk each.
+const BASE: &[(&str, &str)] = &[
+    (
+        "import sessions f",
+        "session,date,start\nS1,2027-06-01,09:00\n",
+    ),
+    (
+        "import papers f",
+        "paper,title,session,minutes,requires\nMA-1,Maths,S1,60,-\n",
+    ),
+    (
+        "import halls f",
+        "hall,title,features\nA,Hall A,step-free\nB,Hall B,-\n",
+    ),
+    (
+        "import openings f",
+        "session,hall,desks,until,reserved\nS1,A,1,12:00,no\nS1,B,1,12:00,no\n",
+    ),
+    (
+        "import candidates f",
+        "number,name,code\n0000001,Bo Berg,CODE0001\n0000002,Ada Lin,CODE0002\n0000003,Cy Dahl,CODE0003\n0000004,Di Roe,CODE0004\n0000005,Ed Poe,CODE0005\n",
+    ),
+];
+
 /// The base office of the worked rows, in memory.
 fn base_office<R: Abort + AllocGlobal>(rt: &R) -> Result<Store<MemStore>, Fail> {
     let mut store = Store::in_memory(rt.alloc())?;
@@ -62,32 +90,26 @@ fn base_office<R: Abort + AllocGlobal>(rt: &R) -> Result<Store<MemStore>, Fail> 
     Ok(store)
 }
 
-/// Imports the base of the worked rows: one session and paper, and two halls with a desk each.
+/// Imports the base of the worked rows.
 fn import_base<R: Abort + AllocGlobal, S: Alter>(rt: &R, store: &mut Store<S>) -> Result<(), Fail> {
-    for (words, file) in [
-        (
-            "import sessions f",
-            "session,date,start\nS1,2027-06-01,09:00\n",
-        ),
-        (
-            "import papers f",
-            "paper,title,session,minutes,requires\nMA-1,Maths,S1,60,-\n",
-        ),
-        (
-            "import halls f",
-            "hall,title,features\nA,Hall A,step-free\nB,Hall B,-\n",
-        ),
-        (
-            "import openings f",
-            "session,hall,desks,until,reserved\nS1,A,1,12:00,no\nS1,B,1,12:00,no\n",
-        ),
-        (
-            "import candidates f",
-            "number,name,code\n0000001,Bo Berg,CODE0001\n0000002,Ada Lin,CODE0002\n0000003,Cy Dahl,CODE0003\n0000004,Di Roe,CODE0004\n0000005,Ed Poe,CODE0005\n",
-        ),
-    ] {
+    for (words, file) in BASE {
         let outcome = run(rt.alloc(), store, words, file)?;
         assert_eq!(rt; outcome.status, 0, "{words}");
+    }
+    Ok(())
+}
+
+/// Runs the commands in turn, and compares what each prints.
+fn expect_all<R: Abort + AllocGlobal, S: Alter>(
+    rt: &R,
+    store: &mut Store<S>,
+    rows: &[Row<'_>],
+) -> Result<(), Fail> {
+    for (words, file, printed) in rows {
+        match printed {
+            Ok(out) => expect_done(rt, store, words, file, out)?,
+            Err(err) => expect_refused(rt, store, words, file, err)?,
+        }
     }
     Ok(())
 }
@@ -128,130 +150,102 @@ const SECOND_ENTRY: &str = "number,paper\n0000002,MA-1\n";
 
 const SECOND_NEEDS: &str = "number,needs,extra\n0000002,step-free,0\n";
 
+const ONE_ADDED: &str = "added 1 changed 0 same 0\n";
+
+const FIRST_IN_A: &str = "DOOR LIST session S1 hall A\ndate 2027-06-01 start 09:00 desks 1 seated 1\n   1 0000001 MA-1         Bo Berg\n";
+
+const NOBODY_IN_B: &str =
+    "DOOR LIST session S1 hall B\ndate 2027-06-01 start 09:00 desks 1 seated 0\n";
+
+const FIRST_TAKES_A: &[Row<'_>] = &[
+    ("import entries f", ONE_ENTRY, Ok(ONE_ADDED)),
+    ("door-list S1 A", "", Ok(FIRST_IN_A)),
+    ("door-list S1 B", "", Ok(NOBODY_IN_B)),
+];
+
 #[test]
 fn first_candidate_takes_the_least_hall(rt: HostRuntime) -> Result<(), Fail> {
-    let mut store = base_office(&rt)?;
-    expect_done(
-        &rt,
-        &mut store,
-        "import entries f",
-        ONE_ENTRY,
-        "added 1 changed 0 same 0\n",
-    )?;
-    let list =
-        "DOOR LIST session S1 hall A\ndate 2027-06-01 start 09:00 desks 1 seated 1\n   1 0000001 MA-1         Bo Berg\n";
-    expect_done(&rt, &mut store, "door-list S1 A", "", list)?;
-    let empty = "DOOR LIST session S1 hall B\ndate 2027-06-01 start 09:00 desks 1 seated 0\n";
-    expect_done(&rt, &mut store, "door-list S1 B", "", empty)
+    expect_all(&rt, &mut base_office(&rt)?, FIRST_TAKES_A)
 }
+
+const SECOND_IN_A: &str = "DOOR LIST session S1 hall A\ndate 2027-06-01 start 09:00 desks 1 seated 1\n   1 0000002 MA-1         Ada Lin\n";
+
+const FIRST_IN_B: &str = "DOOR LIST session S1 hall B\ndate 2027-06-01 start 09:00 desks 1 seated 1\n   1 0000001 MA-1         Bo Berg\n";
+
+const SECOND_NEEDS_A: &[Row<'_>] = &[
+    ("import entries f", ONE_ENTRY, Ok(ONE_ADDED)),
+    ("import arrangements f", SECOND_NEEDS, Ok(ONE_ADDED)),
+    ("import entries f", SECOND_ENTRY, Ok(ONE_ADDED)),
+    ("door-list S1 A", "", Ok(SECOND_IN_A)),
+    ("door-list S1 B", "", Ok(FIRST_IN_B)),
+];
 
 #[test]
 fn need_moves_another_by_a_chain(rt: HostRuntime) -> Result<(), Fail> {
-    let mut store = base_office(&rt)?;
-    expect_done(
-        &rt,
-        &mut store,
-        "import entries f",
-        ONE_ENTRY,
-        "added 1 changed 0 same 0\n",
-    )?;
-    expect_done(
-        &rt,
-        &mut store,
-        "import arrangements f",
-        SECOND_NEEDS,
-        "added 1 changed 0 same 0\n",
-    )?;
-    expect_done(
-        &rt,
-        &mut store,
-        "import entries f",
-        SECOND_ENTRY,
-        "added 1 changed 0 same 0\n",
-    )?;
-    let first =
-        "DOOR LIST session S1 hall A\ndate 2027-06-01 start 09:00 desks 1 seated 1\n   1 0000002 MA-1         Ada Lin\n";
-    expect_done(&rt, &mut store, "door-list S1 A", "", first)?;
-    let second =
-        "DOOR LIST session S1 hall B\ndate 2027-06-01 start 09:00 desks 1 seated 1\n   1 0000001 MA-1         Bo Berg\n";
-    expect_done(&rt, &mut store, "door-list S1 B", "", second)
+    expect_all(&rt, &mut base_office(&rt)?, SECOND_NEEDS_A)
 }
+
+const FEWER_DESKS: &[Row<'_>] = &[
+    (
+        "import openings f",
+        "session,hall,desks,until,reserved\nS1,A,2,12:00,no\nS1,B,1,08:00,no\n",
+        Ok("added 0 changed 2 same 0\n"),
+    ),
+    (
+        "import entries f",
+        "number,paper\n0000004,MA-1\n0000001,MA-1\n",
+        Ok("added 2 changed 0 same 0\n"),
+    ),
+    (
+        "door-list S1 A",
+        "",
+        Ok("DOOR LIST session S1 hall A\ndate 2027-06-01 start 09:00 desks 2 seated 2\n   1 0000001 MA-1         Bo Berg\n   2 0000004 MA-1         Di Roe\n"),
+    ),
+    (
+        "import openings f",
+        "session,hall,desks,until,reserved\nS1,A,1,12:00,no\n",
+        Ok("added 0 changed 1 same 0\n"),
+    ),
+    ("door-list S1 A", "", Ok(FIRST_IN_A)),
+];
 
 #[test]
 fn fewer_desks_put_the_greater_number_out(rt: HostRuntime) -> Result<(), Fail> {
-    let mut store = base_office(&rt)?;
-    let wide = "session,hall,desks,until,reserved\nS1,A,2,12:00,no\nS1,B,1,08:00,no\n";
-    expect_done(
-        &rt,
-        &mut store,
-        "import openings f",
-        wide,
-        "added 0 changed 2 same 0\n",
-    )?;
-    let entries = "number,paper\n0000004,MA-1\n0000001,MA-1\n";
-    expect_done(
-        &rt,
-        &mut store,
-        "import entries f",
-        entries,
-        "added 2 changed 0 same 0\n",
-    )?;
-    let both =
-        "DOOR LIST session S1 hall A\ndate 2027-06-01 start 09:00 desks 2 seated 2\n   1 0000001 MA-1         Bo Berg\n   2 0000004 MA-1         Di Roe\n";
-    expect_done(&rt, &mut store, "door-list S1 A", "", both)?;
-    let narrow = "session,hall,desks,until,reserved\nS1,A,1,12:00,no\n";
-    expect_done(
-        &rt,
-        &mut store,
-        "import openings f",
-        narrow,
-        "added 0 changed 1 same 0\n",
-    )?;
-    let one =
-        "DOOR LIST session S1 hall A\ndate 2027-06-01 start 09:00 desks 1 seated 1\n   1 0000001 MA-1         Bo Berg\n";
-    expect_done(&rt, &mut store, "door-list S1 A", "", one)
+    expect_all(&rt, &mut base_office(&rt)?, FEWER_DESKS)
 }
+
+const SIXTH: &str = "number,name,code\n0000006,Flo Ray,CODE0006\n";
+
+const REFUSED: &[Row<'_>] = &[
+    (
+        "import candidates f",
+        "number,name,code\n0000006,Flo Ray,CODE0006\n0000007,Gil Moe,CODE0007\n000003,Cy Dahl,CODE0003\n",
+        Err("refused 1 record 3 column 1\n"),
+    ),
+    ("import candidates f", "", Err("refused 2\n")),
+    (
+        "import candidates f",
+        "number,name,code\n",
+        Ok("added 0 changed 0 same 0\n"),
+    ),
+    ("import candidates f", SIXTH, Ok(ONE_ADDED)),
+    (
+        "import candidates f",
+        SIXTH,
+        Ok("added 0 changed 0 same 1\n"),
+    ),
+    (
+        "import entries f",
+        "number,paper\n0000001,MA-9\n",
+        Err("refused 5\n"),
+    ),
+    ("door-list S9 A", "", Err("refused 4\n")),
+    ("door-list S1 C", "", Err("refused 7\n")),
+];
 
 #[test]
 fn refused_imports_keep_no_row(rt: HostRuntime) -> Result<(), Fail> {
-    let mut store = base_office(&rt)?;
-    let bad =
-        "number,name,code\n0000006,Flo Ray,CODE0006\n0000007,Gil Moe,CODE0007\n000003,Cy Dahl,CODE0003\n";
-    expect_refused(
-        &rt,
-        &mut store,
-        "import candidates f",
-        bad,
-        "refused 1 record 3 column 1\n",
-    )?;
-    expect_refused(&rt, &mut store, "import candidates f", "", "refused 2\n")?;
-    let header = "number,name,code\n";
-    expect_done(
-        &rt,
-        &mut store,
-        "import candidates f",
-        header,
-        "added 0 changed 0 same 0\n",
-    )?;
-    let six = "number,name,code\n0000006,Flo Ray,CODE0006\n";
-    expect_done(
-        &rt,
-        &mut store,
-        "import candidates f",
-        six,
-        "added 1 changed 0 same 0\n",
-    )?;
-    expect_done(
-        &rt,
-        &mut store,
-        "import candidates f",
-        six,
-        "added 0 changed 0 same 1\n",
-    )?;
-    let unknown = "number,paper\n0000001,MA-9\n";
-    expect_refused(&rt, &mut store, "import entries f", unknown, "refused 5\n")?;
-    expect_refused(&rt, &mut store, "door-list S9 A", "", "refused 4\n")?;
-    expect_refused(&rt, &mut store, "door-list S1 C", "", "refused 7\n")
+    expect_all(&rt, &mut base_office(&rt)?, REFUSED)
 }
 
 #[test]
@@ -264,36 +258,22 @@ fn opening_129_is_too_many(rt: HostRuntime) -> Result<(), Fail> {
         halls.push_str(format!(in alloc; "H{n},Hall {n},-\n")?.as_str())?;
         openings.push_str(format!(in alloc; "S1,H{n},1,12:00,no\n")?.as_str())?;
     }
-    expect_done(
-        &rt,
-        &mut store,
-        "import halls f",
-        halls.as_str(),
-        "added 126 changed 0 same 0\n",
-    )?;
-    expect_done(
-        &rt,
-        &mut store,
-        "import openings f",
-        openings.as_str(),
-        "added 126 changed 0 same 0\n",
-    )?;
-    let one_more = "hall,title,features\nZ,Hall Z,-\n";
-    expect_done(
-        &rt,
-        &mut store,
-        "import halls f",
-        one_more,
-        "added 1 changed 0 same 0\n",
-    )?;
-    let opening = "session,hall,desks,until,reserved\nS1,Z,1,12:00,no\n";
-    expect_refused(
-        &rt,
-        &mut store,
-        "import openings f",
-        opening,
-        "refused 20\n",
-    )
+    let added = Ok("added 126 changed 0 same 0\n");
+    let rows = [
+        ("import halls f", halls.as_str(), added),
+        ("import openings f", openings.as_str(), added),
+        (
+            "import halls f",
+            "hall,title,features\nZ,Hall Z,-\n",
+            Ok(ONE_ADDED),
+        ),
+        (
+            "import openings f",
+            "session,hall,desks,until,reserved\nS1,Z,1,12:00,no\n",
+            Err("refused 20\n"),
+        ),
+    ];
+    expect_all(&rt, &mut store, &rows)
 }
 
 #[test]
