@@ -4,7 +4,7 @@ use Rattle.std.specs.List.{list_any}
 use Rattle.std.specs.Option.{option_map, option_and_then, option_map_or, option_cmp}
 use Rattle.std.specs.declared.cmp.Ordering.{Ordering}
 use Rattle.std.specs.Ordering.{nat_cmp, is_lt}
-use Rattle.exam_types.specs.declared.features.Features.{Features}
+use Rattle.exam_types.specs.Features.{no_features, holds_features}
 use Rattle.exam_types.specs.declared.refusal.Refusal.{Refusal}
 use Rattle.exam_types.specs.declared.refusal.Refusal.TheVariants.{TooMany}
 use Rattle.exam_rules.specs.declared.rows.Session.{Session}
@@ -17,11 +17,7 @@ use Rattle.exam_rules.specs.declared.fit.Room.{Room}
 use Rattle.exam_plan.specs.Matching.{Seating, Plan}
 use Rattle.exam_plan.specs.Problems.{Problem}
 use Rattle.exam_rules.specs.Relations.{Code, Relations, pair_cmp, code_cmp, same_code, opening_cmp, seat_cmp, row_at}
-use Rattle.exam_rules.specs.Sessions.{members, is_member, sitting, sitting_row, arrangement_in_force, barred_halls, end_of, no_features, IsSessionRefusal}
-
--- each wanted feature is there
-abbrev pub holds_features : Features → Features → Bool
-holds_features has wants = (not wants.step_free || has.step_free) && ((not wants.screen || has.screen) && ((not wants.reader || has.reader) && ((not wants.small_room || has.small_room) && (not wants.computer || has.computer))))
+use Rattle.exam_rules.specs.Sessions.{members, is_member, sitting, sitting_row, arrangement_in_force, barred_halls, end_of, IsSessionRefusal}
 
 -- a need, or extra time
 abbrev pub is_special : Arrangement → Bool

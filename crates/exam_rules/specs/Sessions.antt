@@ -3,7 +3,7 @@ use Rattle.std.specs.Prelude.{◌≡◌, ◌⊎◌, ℕ, ◌+◌, ◌*◌, ◌/�
 use Rattle.std.specs.List.{list_any, filter_map, flat_map}
 use Rattle.std.specs.Option.{option_map, option_and_then, option_map_or, option_or, unwrap_or}
 use Rattle.std.specs.Ordering.{nat_cmp}
-use Rattle.exam_types.specs.declared.features.Features.{Features}
+use Rattle.exam_types.specs.Features.{no_features}
 use Rattle.exam_types.specs.declared.refusal.Refusal.{Refusal}
 use Rattle.exam_types.specs.declared.refusal.Refusal.TheVariants.{UnknownSession, NoMemory}
 use Rattle.exam_rules.specs.declared.rows.Session.{Session}
@@ -137,9 +137,6 @@ abbrev pub clashes : Relations → Code → List (ℕ × Code)
 clashes r s = flat_map (clashes_of r s) (members r s)
 
 -- ---- arrangements and times
-
-abbrev pub no_features : Features
-no_features = record { step_free = false; screen = false; reader = false; small_room = false; computer = false }
 
 abbrev pub no_arrangement : Arrangement
 no_arrangement = record { needs = no_features; extra = 0 }

@@ -9,7 +9,7 @@ use std::alloc::Global;
 use std::collections::BTreeMap;
 
 /// The facts of an office: for each table the rows by their keys.
-#[derive(Drop)]
+#[derive(Clone, Drop)]
 pub struct Facts {
     pub sessions: BTreeMap<SessionCode, Session>,
     pub papers: BTreeMap<PaperCode, Paper>,

@@ -10,7 +10,7 @@ ghost use Rattle.exam_rules.specs.Seatings as seatings;
 use crate::appeals::{barred_halls, is_barred};
 use crate::facts::Facts;
 use crate::rows::{Arrangement, Hall, Opening, Paper, Session};
-use crate::sessions::{arrangement_in_force, is_member, no_features, sitting};
+use crate::sessions::{arrangement_in_force, is_member, sitting};
 use exam_types::{
     ClosingTime, Features, HallCode, Minute, Number, PaperCode, Refusal, SessionCode,
 };
@@ -43,20 +43,10 @@ fn end_of(session: &Session, paper: &Paper, arrangement: &Arrangement) -> u16
     session.start.get() + hundredths.div_ceil(100) as u16
 }
 
-fn holds(has: Features, wants: Features) -> bool
-    ensures { result ≡ seatings.holds_features has wants }
-{
-    (!wants.step_free || has.step_free)
-        && (!wants.screen || has.screen)
-        && (!wants.reader || has.reader)
-        && (!wants.small_room || has.small_room)
-        && (!wants.computer || has.computer)
-}
-
 fn is_special(arrangement: &Arrangement) -> bool
     ensures { result ≡ seatings.is_special arrangement.now }
 {
-    !holds(no_features(), arrangement.needs) || arrangement.extra.get() > 0
+    !Features::none().holds(arrangement.needs) || arrangement.extra.get() > 0
 }
 
 /// The same as a time.
@@ -133,8 +123,8 @@ pub fn opened_room(facts: &Facts, session: &SessionCode, hall: &HallCode) -> Opt
 fn suits(terms: &Terms, room: &Room) -> bool
     ensures { result ≡ seatings.suits terms.now room.now }
 {
-    holds(room.features, terms.needs)
-        && holds(room.features, terms.required)
+    room.features.holds(terms.needs)
+        && room.features.holds(terms.required)
         && terms.end.get() <= room.until.get()
         && (!room.reserved || terms.special)
 }

@@ -129,22 +129,9 @@ pub fn arrangement_in_force(facts: &Facts, session: &SessionCode, number: Number
     match facts.arrangements.get(&number) {
         Some(arrangement) => *arrangement,
         None => Arrangement {
-            needs: no_features(),
+            needs: Features::none(),
             extra: no_extra(),
         },
-    }
-}
-
-/// The empty set of features.
-pub fn no_features() -> Features
-    ensures { result ≡ spec.no_features }
-{
-    Features {
-        step_free: false,
-        screen: false,
-        reader: false,
-        small_room: false,
-        computer: false,
     }
 }
 

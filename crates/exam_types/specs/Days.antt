@@ -69,7 +69,8 @@ is_day n = nat_le FIRST_DAY n && nat_le n LAST_DAY
 
 -- the number that the digits of a text make
 abbrev pub spelled_day : List ℕ → ℕ
-spelled_day bytes = month_start (digits_value (take 4 bytes)) (digits_value (slice_range bytes 5 7)) + digits_value (drop 8 bytes) - 1
+spelled_day bytes =
+    month_start (digits_value (take 4 bytes)) (digits_value (slice_range bytes 5 7)) + digits_value (drop 8 bytes) - 1
 
 -- the day that a text names: that of its digits, if it has this text
 unfoldable pub day_of : List ℕ → Option ℕ

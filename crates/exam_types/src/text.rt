@@ -7,7 +7,7 @@ ghost use Rattle.exam_types.specs.Texts.{has_control as spec_has_control, is_tex
 ghost use Rattle.exam_types.specs.declared.refusal.Refusal.TheVariants.{NoMemory};
 
 use crate::refusal::Refusal;
-use std::alloc::Global;
+use std::alloc::{AllocError, Global};
 use std::marker::Model;
 use std::str;
 
@@ -76,9 +76,7 @@ impl<const LEAST: usize, const GREATEST: usize> Text<LEAST, GREATEST> {
         ensures ok { IfOk result (λ text. text ≡ self.now) }
         ensures memory { IfErr result (λ e. e ≡ NoMemory) }
     {
-        Ok(Text {
-            text: self.text.clone()?,
-        })
+        Ok(self.clone()?)
     }
 
     /// The text.
@@ -87,6 +85,16 @@ impl<const LEAST: usize, const GREATEST: usize> Text<LEAST, GREATEST> {
         ensures form { IsTrue (is_text LEAST GREATEST self.now) }
     {
         self.text.as_str()
+    }
+}
+
+impl<const LEAST: usize, const GREATEST: usize> Clone for Text<LEAST, GREATEST> {
+    ghost is_clone = { λ source copy. copy ≡ source };
+
+    fn clone(&self) -> Result<Self, AllocError> {
+        Ok(Text {
+            text: self.text.clone()?,
+        })
     }
 }
 
