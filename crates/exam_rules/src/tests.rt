@@ -128,7 +128,8 @@ fn grant(
     Ok(())
 }
 
-/// Session S1 at 09:00 with the paper MA-1 of 60 minutes; the halls A, which is step-free, and B are open until 12:00.
+/// Session S1 at 09:00 with the paper MA-1 of 60 minutes; the halls A, which is step-free, and B are open
+/// until 12:00.
 fn base_office(alloc: Global) -> Result<Facts, Fail> {
     let mut facts = Facts::new(alloc);
     add_session(&mut facts, b"S1", 540)?;
