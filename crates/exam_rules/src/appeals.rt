@@ -20,7 +20,7 @@ fn least_reference() -> Reference
     Reference::parse(b"0").unwrap()
 }
 
-/// No appeal of the candidate stands before the least key.
+/// No appeal of the candidate stands before the least key. For the proof of `appeals_from` alone.
 fn no_appeal_before(facts: &Facts, number: Number, least: Reference)
     requires { least ≡ codes "0" }
     ensures { filter (is_row_of number)

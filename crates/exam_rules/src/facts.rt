@@ -38,7 +38,7 @@ impl Facts {
         }
     }
 
-    /// The keys of every table rise. Does nothing.
+    /// The keys of every table rise. Does nothing: it is for proofs alone.
     pub fn are_in_order(&self)
         ensures { AreInOrder (relations_of self.now) }
     {

@@ -23,7 +23,7 @@ fn least_paper() -> PaperCode
     PaperCode::parse(b"-").unwrap()
 }
 
-/// No entry of the candidate stands before the least key.
+/// No entry of the candidate stands before the least key. For the proof of `entries_from` alone.
 fn no_entry_before(facts: &Facts, number: Number, least: PaperCode)
     requires { least ≡ codes "-" }
     ensures { filter (is_row_of number)

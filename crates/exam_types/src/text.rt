@@ -1,5 +1,6 @@
 //! Texts of a person's words, and how bytes are appended.
-ghost use Rattle.std.specs.Prelude.{◌≡◌, ◌++◌, false, nat_eq, IsTrue, IfSome, IfNone, IfOk, IfErr, OnOk, OnErr, Some, None, if◌then◌else◌};
+ghost use Rattle.std.specs.Prelude.{◌≡◌, ◌++◌, false, nat_eq, IsTrue, IfSome, IfNone, IfOk, IfErr, OnOk};
+ghost use Rattle.std.specs.Prelude.{OnErr, Some, None, if◌then◌else◌};
 ghost use Rattle.std.specs.Cmp.{partial_equiv_from_equiv};
 ghost use Rattle.std.specs.Cmp.Lexicographic.{pointwise, nat_list_eq_equiv};
 ghost use Rattle.std.specs.Str.{is_utf8};
@@ -50,7 +51,8 @@ impl<const LEAST: usize, const GREATEST: usize> Model for Text<LEAST, GREATEST> 
 impl<const LEAST: usize, const GREATEST: usize> Text<LEAST, GREATEST> {
     /// The text that these bytes are, or none. Refused where there is not enough memory.
     pub fn parse(alloc: Global, bytes: &[u8]) -> Result<Option<Self>, Refusal>
-        ensures ok { IfOk result (λ text. text ≡ (if is_text LEAST GREATEST bytes.now then Some bytes.now else None)) }
+        ensures ok { IfOk result (λ text. text
+            ≡ (if is_text LEAST GREATEST bytes.now then Some bytes.now else None)) }
         ensures memory { IfErr result (λ e. (e ≡ NoMemory) × IsTrue (is_text LEAST GREATEST bytes.now)) }
     {
         match plain_text(bytes, LEAST, GREATEST) {
