@@ -16,7 +16,7 @@ use Rattle.exam_plan.specs.Repair.{is_member as is_member_of, kept_part, where_f
 use Rattle.exam_rules.specs.declared.rows.Session.{Session}
 use Rattle.exam_rules.specs.Relations.{Code, Relations, code_cmp, same_code, row_at, has_row}
 use Rattle.exam_rules.specs.declared.fit.Terms.{Terms}
-use Rattle.exam_rules.specs.Sessions.{is_member, barred_halls, sitting_row, arrangement_in_force}
+use Rattle.exam_rules.specs.Sessions.{has_live_entry, barred_halls, sitting_row, arrangement_in_force}
 use Rattle.exam_rules.specs.Seatings.{seating, plan_of, fits, suits_opened, sitting_terms, terms_of, opened_room}
 use Rattle.exam_rules.proofs.Naming.{same_code_exact, same_code_itself}
 use Rattle.exam_office.specs.State.{Seats}
@@ -79,7 +79,7 @@ module _ {C H : Type 0} (g : Seating C H) (nothing : (c : C) (h : H) → g.fits 
 -- ---- a session that is not there has no seats
 
 pub unknown_fits : (r : Relations) (s : Code) → has_row code_cmp r.sessions s ≡ false → (c : ℕ) (h : Code) → fits r s c h ≡ false
-unknown_fits r s unknown c h = none (is_member r s c) (not (list_any (same_code h) (barred_halls r s c))) (sitting_terms r s c) (terms (row_at code_cmp r.sessions s) unknown)
+unknown_fits r s unknown c h = none (has_live_entry r s c) (not (list_any (same_code h) (barred_halls r s c))) (sitting_terms r s c) (terms (row_at code_cmp r.sessions s) unknown)
   where
     terms : (o : Option Session) → is_some o ≡ false → option_and_then (λ session. option_map (λ paper. terms_of session paper (arrangement_in_force r s c)) (sitting_row r s c)) o ≡ None
     terms None e = refl

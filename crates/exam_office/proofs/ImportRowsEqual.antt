@@ -13,6 +13,8 @@ use Rattle.exam_rules.specs.declared.rows.Opening.{Opening}
 use Rattle.exam_rules.specs.declared.rows.Candidate.{Candidate}
 use Rattle.exam_rules.specs.declared.rows.Arrangement.{Arrangement}
 use Rattle.exam_types.specs.declared.features.Features.{Features}
+use Rattle.exam_types.specs.Features.{same_features}
+use Rattle.exam_types.proofs.FeatureFacts.{same_features-is}
 use Rattle.exam_office.specs.declared.row.Row.{Row}
 use Rattle.exam_office.specs.declared.row.Row.TheVariants as row
 use Rattle.exam_office.specs.contracts.row.RowPartialEq.TheImpl as rows
@@ -38,23 +40,6 @@ texts a b = (slice_eq-Decides Decides-eqb a b (pointwise nat_eq a b) refl).0
 flags : (a b : Bool) → beq a b ≡ true → a ≡ b
 flags a b = (booleans_Decides a b).0
 
-abbrev same_features : Features → Features → Bool
-same_features x y = beq x.step_free y.step_free && (beq x.screen y.screen && (beq x.reader y.reader && (beq x.small_room y.small_room && beq x.computer y.computer)))
-
-abbrev of_flags : Bool → Bool → Bool → Bool → Bool → Features
-of_flags a b c d e = record { step_free = a; screen = b; reader = c; small_room = d; computer = e }
-
-features : (x y : Features) → same_features x y ≡ true → x ≡ y
-features x y e =
-    let e1 = right _ _ e in
-    let e2 = right _ _ e1 in
-    let e3 = right _ _ e2 in
-    ap (λ f. of_flags f x.screen x.reader x.small_room x.computer) (flags _ _ (left _ _ e))
-    ∙ ap (λ f. of_flags y.step_free f x.reader x.small_room x.computer) (flags _ _ (left _ _ e1))
-    ∙ ap (λ f. of_flags y.step_free y.screen f x.small_room x.computer) (flags _ _ (left _ _ e2))
-    ∙ ap (λ f. of_flags y.step_free y.screen y.reader f x.computer) (flags _ _ (left _ _ e3))
-    ∙ ap (λ f. of_flags y.step_free y.screen y.reader y.small_room f) (flags _ _ (right _ _ e3))
-
 sessions : (a b : List ℕ) (x y : Session) → (pointwise nat_eq a b && (nat_eq x.day y.day && nat_eq x.start y.start)) ≡ true → row.OfSession a x ≡ row.OfSession b y
 sessions a b x y e =
     let r = right _ _ e in
@@ -72,14 +57,14 @@ papers a b x y e =
     ∙ ap (λ (t : List ℕ). row.OfPaper b (record { title = t; session = x.session; minutes = x.minutes; required = x.required })) (texts _ _ (left _ _ r))
     ∙ ap (λ (s : List ℕ). row.OfPaper b (record { title = y.title; session = s; minutes = x.minutes; required = x.required })) (texts _ _ (left _ _ r1))
     ∙ ap (λ (m : ℕ). row.OfPaper b (record { title = y.title; session = y.session; minutes = m; required = x.required })) (numbers _ _ (left _ _ r2))
-    ∙ ap (λ (f : Features). row.OfPaper b (record { title = y.title; session = y.session; minutes = y.minutes; required = f })) (features _ _ (right _ _ r2))
+    ∙ ap (λ (f : Features). row.OfPaper b (record { title = y.title; session = y.session; minutes = y.minutes; required = f })) (same_features-is _ _ (right _ _ r2))
 
 halls : (a b : List ℕ) (x y : Hall) → (pointwise nat_eq a b && (pointwise nat_eq x.title y.title && same_features x.features y.features)) ≡ true → row.OfHall a x ≡ row.OfHall b y
 halls a b x y e =
     let r = right _ _ e in
     ap (λ k. row.OfHall k x) (texts a b (left _ _ e))
     ∙ ap (λ (t : List ℕ). row.OfHall b (record { title = t; features = x.features })) (texts _ _ (left _ _ r))
-    ∙ ap (λ (f : Features). row.OfHall b (record { title = y.title; features = f })) (features _ _ (right _ _ r))
+    ∙ ap (λ (f : Features). row.OfHall b (record { title = y.title; features = f })) (same_features-is _ _ (right _ _ r))
 
 openings : (a b s t : List ℕ) (x y : Opening) → (pointwise nat_eq a b && (pointwise nat_eq s t && (nat_eq x.desks y.desks && (nat_eq x.until y.until && beq x.reserved y.reserved)))) ≡ true
     → row.OfOpening a s x ≡ row.OfOpening b t y
@@ -107,7 +92,7 @@ arrangements : (a b : ℕ) (x y : Arrangement) → (nat_eq a b && (same_features
 arrangements a b x y e =
     let r = right _ _ e in
     ap (λ k. row.OfArrangement k x) (numbers a b (left _ _ e))
-    ∙ ap (λ (f : Features). row.OfArrangement b (record { needs = f; extra = x.extra })) (features _ _ (left _ _ r))
+    ∙ ap (λ (f : Features). row.OfArrangement b (record { needs = f; extra = x.extra })) (same_features-is _ _ (left _ _ r))
     ∙ ap (λ (p : ℕ). row.OfArrangement b (record { needs = y.needs; extra = p })) (numbers _ _ (right _ _ r))
 
 pub row_exact : (a b : Row) → rows.ghosts.eq a b ≡ true → a ≡ b

@@ -12,7 +12,7 @@ use Rattle.exam_rules.specs.declared.rows.Entry.{Entry}
 use Rattle.exam_rules.specs.declared.rows.Paper.{Paper}
 use Rattle.exam_rules.specs.declared.rows.Session.{Session}
 use Rattle.exam_rules.specs.Relations.{Code, Relations, code_cmp, same_code, row_at, has_row}
-use Rattle.exam_rules.specs.Sessions.{members, is_member, sitting, finish, sitting_row, end_of, arrangement_in_force, is_paper_of, is_live, is_live_paper, is_live_entry, live_papers_in, granted_paper, least_live_paper, head_of, option_filter}
+use Rattle.exam_rules.specs.Sessions.{members, has_live_entry, sitting, finish, sitting_row, end_of, arrangement_in_force, is_paper_of, is_live, is_live_paper, is_live_entry, live_papers_in, granted_paper, least_live_paper, head_of, option_filter}
 use Rattle.exam_rules.proofs.Sitters.{members_sit}
 
 none_some : {A : Type 0} (x : A) → None ≡ Some x → ⊥
@@ -62,8 +62,8 @@ module _ (r : Relations) (s : Code) where
       inner (Some paper) e = refl
 
   -- a listed number is a member's
-  pub listed_member : (c : ℕ) → Contains (members r s) c → is_member r s c ≡ true
-  listed_member c m = All-contains (λ n. is_member r s n ≡ true) (members r s) c (filter_passes (is_member r s) (keys_of r.candidates)) m
+  pub listed_member : (c : ℕ) → Contains (members r s) c → has_live_entry r s c ≡ true
+  listed_member c m = All-contains (λ n. has_live_entry r s n ≡ true) (members r s) c (filter_passes (has_live_entry r s) (keys_of r.candidates)) m
 
   pub member_sits : (c : ℕ) → Contains (members r s) c → IsSome (sitting r s c)
   member_sits c m = members_sit r s c ∙ listed_member c m
@@ -87,4 +87,4 @@ module _ (r : Relations) (s : Code) where
   candidate_at c es m = IsSome-lookup_from_Contains (eq_by_cmp_equiv nat_cmp_total) c es m
 
   pub member_known : (c : ℕ) → Contains (members r s) c → IsSome (row_at nat_cmp r.candidates c)
-  member_known c m = candidate_at c r.candidates (kept_from (is_member r s) (keys_of r.candidates) c m)
+  member_known c m = candidate_at c r.candidates (kept_from (has_live_entry r s) (keys_of r.candidates) c m)

@@ -14,11 +14,11 @@ use Rattle.exam_plan.specs.Repair.{IsRepair}
 use Rattle.exam_plan.proofs.Renaming.{IsBest-named}
 use Rattle.exam_rules.specs.Relations.{Code, Relations, same_code}
 use Rattle.exam_rules.specs.Sessions.{members}
-use Rattle.exam_rules.specs.Seatings.{seating, problem_of, plan_of, open_halls, desks, fitting_places}
-use Rattle.exam_rules.specs.Names.{first_place, ListsRise, number_at, hall_at, index_of, hall_index, named_plan, indexed_plan}
+use Rattle.exam_rules.specs.Seatings.{indexed_seating, seating, problem_of, plan_of, open_halls, desks, fitting_places}
+use Rattle.exam_rules.specs.Names.{naming, first_place, ListsRise, number_at, index_of, hall_index, named_plan, indexed_plan}
 use Rattle.exam_rules.proofs.Naming.{renames}
 use Rattle.exam_rules.proofs.Following.{follows}
-use Rattle.exam_rules.proofs.KeptNames.{IsRepair-named}
+use Rattle.exam_plan.proofs.KeptNames.{IsRepair-named}
 use Rattle.exam_rules.proofs.PlanLists.{list_is_plan}
 use Rattle.exam_office.specs.State.{Seats}
 use Rattle.exam_office.specs.Repairs.{place_of, places_of, IsRepaired}
@@ -80,16 +80,16 @@ module _ (r : Relations) (s : Code) (before : Seats) where
     is_repaired place new after place_is repair best written =
         let here : place ≡ option_and_then (index_of r s) first = place_is ∙ ap (λ ns. option_and_then (λ c. position (nat_eq c) ns) first) numbers_are ∙ first_is first in
         let old : plan_at stored ≡ indexed_plan r s (plan_of before s) = ap plan_at listed ∙ fun_ext (stored_is_indexed up) in
-        let repaired : IsRepair (seating_of (problem_of r s)) (option_and_then (index_of r s) first) (indexed_plan r s (plan_of before s)) (plan_at new) =
-        subst (λ q. IsRepair (seating_of (problem_of r s)) (option_and_then (index_of r s) first) q (plan_at new)) old
-        (subst (λ f. IsRepair (seating_of (problem_of r s)) f (plan_at stored) (plan_at new)) here
+        let repaired : IsRepair (indexed_seating r s) (option_and_then (index_of r s) first) (indexed_plan r s (plan_of before s)) (plan_at new) =
+        subst (λ q. IsRepair (indexed_seating r s) (option_and_then (index_of r s) first) q (plan_at new)) old
+        (subst (λ f. IsRepair (indexed_seating r s) f (plan_at stored) (plan_at new)) here
         (subst (λ p. IsRepair (seating_of p) place (plan_at stored) (plan_at new)) problem_is repair)) in
         let same : named_plan r s (plan_at new) ≡ plan_of after s = sym (fun_ext written) in
         record {
           repair = subst (IsRepair (seating r s) first (plan_of before s)) same
-              (IsRepair-named (seating_of (problem_of r s)) (seating r s) (number_at r s) (hall_at r s) (index_of r s) (hall_index r s) (renames r s up) (follows r s up) first (plan_of before s) (plan_at new) repaired);
+              (IsRepair-named (naming r s) (renames r s up) (follows r s up) first (plan_of before s) (plan_at new) repaired);
           best = subst (IsBest (seating r s)) same
-              (IsBest-named (seating_of (problem_of r s)) (seating r s) (number_at r s) (hall_at r s) (index_of r s) (hall_index r s) (renames r s up) (plan_at new) (subst (λ p. IsBest (seating_of p) (plan_at new)) problem_is best));
+              (IsBest-named (naming r s) (renames r s up) (plan_at new) (subst (λ p. IsBest (seating_of p) (plan_at new)) problem_is best));
         }
 
 pub on_ok : {T E : Type 0} (result : Result T E) (P Q : Type 0) → OnOk result P → (P → Q) → OnOk result Q

@@ -4,7 +4,7 @@ use Rattle.std.specs.Bool.{beq}
 use Rattle.std.specs.List.{AllByRecursion}
 use Rattle.std.specs.Option.{option_map, option_map_or}
 use Rattle.std.proofs.lemmas.Bool.{and_from}
-use Rattle.exam_types.specs.declared.features.Features.{Features}
+use Rattle.exam_types.proofs.FeatureFacts.{same_features-itself}
 use Rattle.exam_types.specs.declared.refusal.Refusal.{Refusal}
 use Rattle.exam_types.specs.declared.refusal.Refusal.TheVariants.{TooMany}
 use Rattle.exam_rules.specs.declared.rows.Arrangement.{Arrangement}
@@ -46,18 +46,14 @@ flag_itself : (b : Bool) → beq b b ≡ true
 flag_itself true = refl
 flag_itself false = refl
 
-features_itself : (f : Features) → replies.same_features f f ≡ true
-features_itself f =
-    and_from _ _ (flag_itself f.step_free) (and_from _ _ (flag_itself f.screen) (and_from _ _ (flag_itself f.reader) (and_from _ _ (flag_itself f.small_room) (flag_itself f.computer))))
-
 session_itself : (x : Session) → replies.same_session x x ≡ true
 session_itself x = and_from _ _ (number_itself x.day) (number_itself x.start)
 
 paper_itself : (x : Paper) → replies.same_paper x x ≡ true
-paper_itself x = and_from _ _ (same_code_itself x.title) (and_from _ _ (same_code_itself x.session) (and_from _ _ (number_itself x.minutes) (features_itself x.required)))
+paper_itself x = and_from _ _ (same_code_itself x.title) (and_from _ _ (same_code_itself x.session) (and_from _ _ (number_itself x.minutes) (same_features-itself x.required)))
 
 hall_itself : (x : Hall) → replies.same_hall x x ≡ true
-hall_itself x = and_from _ _ (same_code_itself x.title) (features_itself x.features)
+hall_itself x = and_from _ _ (same_code_itself x.title) (same_features-itself x.features)
 
 opening_itself : (x : Opening) → replies.same_opening x x ≡ true
 opening_itself x = and_from _ _ (number_itself x.desks) (and_from _ _ (number_itself x.until) (flag_itself x.reserved))
@@ -66,7 +62,7 @@ candidate_itself : (x : Candidate) → replies.same_candidate x x ≡ true
 candidate_itself x = and_from _ _ (same_code_itself x.name) (same_code_itself x.code)
 
 arrangement_itself : (x : Arrangement) → replies.same_arrangement x x ≡ true
-arrangement_itself x = and_from _ _ (features_itself x.needs) (number_itself x.extra)
+arrangement_itself x = and_from _ _ (same_features-itself x.needs) (number_itself x.extra)
 
 found_same : {X : Type 0} (same : X → X → Bool) (x : X) (o : Option X) → o ≡ Some x → same x x ≡ true → option_map (same x) o ≡ Some true
 found_same same x o at itself = ap (option_map (same x)) at ∙ ap Some itself

@@ -19,15 +19,15 @@ use Rattle.exam_rules.specs.declared.rows.Candidate.{Candidate}
 use Rattle.exam_rules.specs.declared.rows.Opening.{Opening}
 use Rattle.exam_rules.specs.Relations.{Code, Relations, code_cmp, same_code, row_at, has_row}
 use Rattle.exam_rules.specs.Sessions.{members, sitting, finish, clashes}
-use Rattle.exam_rules.specs.Seatings.{seating, problem_of, plan_of, open_halls, desks, fitting_places, stands_before, IsProblemRefusal}
-use Rattle.exam_rules.specs.Names.{ListsRise, number_at, hall_at, index_of, hall_index, named_plan, indexed_plan}
+use Rattle.exam_rules.specs.Seatings.{indexed_seating, seating, problem_of, plan_of, open_halls, desks, fitting_places, stands_before, IsProblemRefusal}
+use Rattle.exam_rules.specs.Names.{naming, ListsRise, number_at, hall_at, index_of, named_plan, indexed_plan}
 use Rattle.exam_rules.proofs.Naming.{renames, order_same, numbers_rise, codes_rise, fit_open, index_known}
 use Rattle.exam_rules.proofs.Ranking.{is_problem}
 use Rattle.exam_rules.proofs.Turns.{push_step}
 use Rattle.exam_rules.proofs.Following.{follows}
-use Rattle.exam_rules.proofs.KeptNames.{name_of_index}
+use Rattle.exam_plan.proofs.KeptNames.{name_of_index}
 use Rattle.exam_rules.proofs.PlanLists.{named_at_index}
-use Rattle.exam_rules.proofs.Carrying.{IsBest-indexed, IsCertificate-named, IsContested-named, IsContested-indexed, desk_number-named, unseated-named, member_index, contains_map, from_map}
+use Rattle.exam_plan.proofs.Carrying.{IsBest-indexed, IsCertificate-named, IsContested-named, IsContested-indexed, desk_number-named, unseated-named, member_index, contains_map, from_map}
 use Rattle.exam_office.specs.State.{State, Seats}
 use Rattle.exam_office.specs.Repairs.{places_of}
 use Rattle.exam_office.specs.Views.{View, IsView, IsViewOf, Report, ShowsShortage, IsShortageOf, seats_from, seat_at, seats_of, seat_of, seat_in, member_of, hall_of, number_of, hall_with_desks, openings_of}
@@ -168,11 +168,11 @@ module _ (r : Relations) (seats : Seats) (s : Code) (up : ListsRise r s) (few : 
   plan_is : plan_at view.plan ≡ indexed_plan r s (plan_of seats s)
   plan_is = ap plan_at made.plan ∙ fun_ext (stored_is_indexed r s seats up)
 
-  best_indexed : IsBest (seating_of (problem_of r s)) (plan_at view.plan)
-  best_indexed = subst (IsBest (seating_of (problem_of r s))) (sym plan_is) (IsBest-indexed (seating_of (problem_of r s)) (seating r s) (number_at r s) (hall_at r s) (index_of r s) (hall_index r s) (renames r s up) (plan_of seats s) best)
+  best_indexed : IsBest (indexed_seating r s) (plan_at view.plan)
+  best_indexed = subst (IsBest (indexed_seating r s)) (sym plan_is) (IsBest-indexed (naming r s) (renames r s up) (plan_of seats s) best)
 
   named_is : named_plan r s (plan_at view.plan) ≡ plan_of seats s
-  named_is = ap (named_plan r s) plan_is ∙ fun_ext (name_of_index (seating_of (problem_of r s)) (seating r s) (number_at r s) (hall_at r s) (index_of r s) (hall_index r s) (renames r s up) (follows r s up) (plan_of seats s) best.lawful)
+  named_is = ap (named_plan r s) plan_is ∙ fun_ext (name_of_index (naming r s) (renames r s up) (follows r s up) (plan_of seats s) best.lawful)
 
   halls_are : keys_of view.openings ≡ open_halls r s
   halls_are = ap keys_of made.openings ∙ keys_are s r.openings
@@ -203,7 +203,7 @@ module _ (r : Relations) (seats : Seats) (s : Code) (up : ListsRise r s) (few : 
       → desk_number (seating_of view.problem) (ranks_before view.problem) (plan_at view.plan) i ≡ desk_number (seating r s) (stands_before r s) (plan_of seats s) (number_at r s i)
   desk_is i below =
       ap (λ (p : Problem). desk_number (seating_of p) (ranks_before p) (plan_at view.plan) i) made.problem
-      ∙ sym (desk_number-named (seating_of (problem_of r s)) (seating r s) (number_at r s) (hall_at r s) (index_of r s) (hall_index r s) (renames r s up) (stands_before r s) (ranks_before (problem_of r s)) (order_same r s) (plan_at view.plan) best_indexed.lawful (number_at r s i) i (index_known r s up i below))
+      ∙ sym (desk_number-named (naming r s) (renames r s up) (stands_before r s) (ranks_before (problem_of r s)) (order_same r s) (plan_at view.plan) best_indexed.lawful (number_at r s i) i (index_known r s up i below))
       ∙ ap (λ (q : ℕ → Option Code). desk_number (seating r s) (stands_before r s) q (number_at r s i)) named_is
 
   abbrev office : State
@@ -245,10 +245,10 @@ module _ (r : Relations) (seats : Seats) (s : Code) (up : ListsRise r s) (few : 
   halls_same js all = map_same (hall_with_desks view) (λ (j : ℕ). (hall_at r s j, desks r s (hall_at r s j))) js (All-weaker _ _ hall_and_desks js all)
 
   module _ (report : Report) (shown : ShowsShortage view report) where
-    found : IsCertificate (seating_of (problem_of r s)) (plan_at view.plan) shown.candidates shown.halls
+    found : IsCertificate (indexed_seating r s) (plan_at view.plan) shown.candidates shown.halls
     found = subst (λ (p : Problem). IsCertificate (seating_of p) (plan_at view.plan) shown.candidates shown.halls) made.problem shown.certificate
 
-    is_contested : (i : ℕ) → Contains shown.candidates i ↔ IsContested (seating_of (problem_of r s)) i
+    is_contested : (i : ℕ) → Contains shown.candidates i ↔ IsContested (indexed_seating r s) i
     is_contested = subst (λ (p : Problem). (i : ℕ) → Contains shown.candidates i ↔ IsContested (seating_of p) i) made.problem shown.contested
 
     candidates_are : report.candidates ≡ map (number_at r s) shown.candidates
@@ -265,18 +265,18 @@ module _ (r : Relations) (seats : Seats) (s : Code) (up : ListsRise r s) (few : 
 
     certified : IsCertificate (seating r s) (plan_of seats s) (map (number_at r s) shown.candidates) (map (hall_at r s) shown.halls)
     certified = subst (λ (q : ℕ → Option Code). IsCertificate (seating r s) q (map (number_at r s) shown.candidates) (map (hall_at r s) shown.halls)) named_is
-        (IsCertificate-named (seating_of (problem_of r s)) (seating r s) (number_at r s) (hall_at r s) (index_of r s) (hall_index r s) (renames r s up) (numbers_rise r s up) (codes_rise r s up) (plan_at view.plan) shown.candidates shown.halls found)
+        (IsCertificate-named (naming r s) (renames r s up) (numbers_rise r s up) (codes_rise r s up) (plan_at view.plan) shown.candidates shown.halls found)
 
     contested_from : (c : ℕ) → Contains report.candidates c → IsContested (seating r s) c
     contested_from c m =
         let w : (i : ℕ) × Contains shown.candidates i × (number_at r s i ≡ c) = from_map (number_at r s) shown.candidates c (subst (λ (ns : List ℕ). Contains ns c) candidates_are m) in
-        let at : index_of r s c ≡ Some w.0 = sym (ap (index_of r s) w.2) ∙ (renames r s up).known w.0 (All-contains (Contains (seating_of (problem_of r s)).members) shown.candidates w.0 found.members w.1) in
-        IsContested-named (seating_of (problem_of r s)) (seating r s) (number_at r s) (hall_at r s) (index_of r s) (hall_index r s) (renames r s up) c w.0 at ((is_contested w.0).0 w.1)
+        let at : index_of r s c ≡ Some w.0 = sym (ap (index_of r s) w.2) ∙ (renames r s up).known w.0 (All-contains (Contains (indexed_seating r s).members) shown.candidates w.0 found.members w.1) in
+        IsContested-named (naming r s) (renames r s up) c w.0 at ((is_contested w.0).0 w.1)
 
     contested_to : (c : ℕ) → IsContested (seating r s) c → Contains report.candidates c
     contested_to c is =
-        let w = member_index (seating_of (problem_of r s)) (seating r s) (number_at r s) (hall_at r s) (index_of r s) (hall_index r s) (renames r s up) c is.0 in
-        let listed : Contains shown.candidates w.0 = (is_contested w.0).1 (IsContested-indexed (seating_of (problem_of r s)) (seating r s) (number_at r s) (hall_at r s) (index_of r s) (hall_index r s) (renames r s up) c w.0 w.1 is) in
+        let w = member_index (naming r s) (renames r s up) c is.0 in
+        let listed : Contains shown.candidates w.0 = (is_contested w.0).1 (IsContested-indexed (naming r s) (renames r s up) c w.0 w.1 is) in
         subst (λ (ns : List ℕ). Contains ns c) (sym candidates_are)
         (subst (Contains (map (number_at r s) shown.candidates)) ((renames r s up).named c w.0 w.1).0 (contains_map (number_at r s) shown.candidates w.0 listed))
 
@@ -287,8 +287,8 @@ module _ (r : Relations) (seats : Seats) (s : Code) (up : ListsRise r s) (few : 
       desks = subst (λ (hs : List (Code × ℕ)). All (λ (hall : Code × ℕ). hall.1 ≡ desks r s hall.0) hs) (sym halls_named)
           (All-map (λ (hall : Code × ℕ). hall.1 ≡ desks r s hall.0) (λ (j : ℕ). (hall_at r s j, desks r s (hall_at r s j))) shown.halls (λ k d below. refl));
       unseated = shown.unseated ∙ ap (λ (p : Problem). length (unseated (seating_of p) (plan_at view.plan))) made.problem
-          ∙ sym (length-map (unseated (seating_of (problem_of r s)) (plan_at view.plan)) (number_at r s))
-          ∙ sym (ap length (unseated-named (seating_of (problem_of r s)) (seating r s) (number_at r s) (hall_at r s) (index_of r s) (hall_index r s) (renames r s up) (plan_at view.plan)))
+          ∙ sym (length-map (unseated (indexed_seating r s) (plan_at view.plan)) (number_at r s))
+          ∙ sym (ap length (unseated-named (naming r s) (renames r s up) (plan_at view.plan)))
           ∙ ap (λ (q : ℕ → Option Code). length (unseated (seating r s) q)) named_is;
     }
 

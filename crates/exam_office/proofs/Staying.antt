@@ -5,24 +5,23 @@ use Rattle.std.proofs.Math.Path.{fun_ext}
 use Rattle.exam_plan.specs.Matching.{Seating, Plan, SamePlan, IsBest}
 use Rattle.exam_plan.specs.Chains.{augmented, seated}
 use Rattle.exam_plan.specs.Repair.{kept_part, sweep_order, TurnFrom, Sweeps, IsRepair}
-use Rattle.exam_plan.specs.Problems.{seating_of}
 use Rattle.exam_plan.proofs.LawLemmas.{best_repaired}
 use Rattle.exam_rules.specs.Relations.{Code, Relations}
-use Rattle.exam_rules.specs.Seatings.{seating, problem_of}
-use Rattle.exam_rules.specs.Names.{ListsRise, number_at, hall_at, index_of, hall_index, named_plan, indexed_plan}
+use Rattle.exam_rules.specs.Seatings.{indexed_seating, seating, problem_of}
+use Rattle.exam_rules.specs.Names.{naming, ListsRise, index_of, named_plan, indexed_plan}
 use Rattle.exam_rules.proofs.Naming.{renames}
 use Rattle.exam_rules.proofs.Following.{follows}
-use Rattle.exam_rules.proofs.KeptNames.{IsRepair-indexed, name_of_index}
-use Rattle.exam_rules.proofs.Carrying.{IsBest-indexed}
+use Rattle.exam_plan.proofs.KeptNames.{IsRepair-indexed, name_of_index}
+use Rattle.exam_plan.proofs.Carrying.{IsBest-indexed}
 
 -- the repair of a best plan is that plan
 pub best_stays : (r : Relations) (s : Code) → ListsRise r s → (first : Option ℕ) (before after : Plan ℕ Code) → IsBest (seating r s) before → IsRepair (seating r s) first before after → SamePlan after before
 best_stays r s up first before after best repair =
-    let back = IsRepair-indexed (seating_of (problem_of r s)) (seating r s) (number_at r s) (hall_at r s) (index_of r s) (hall_index r s) (renames r s up) (follows r s up) first before after repair in
-    let indexed : IsBest (seating_of (problem_of r s)) (indexed_plan r s before) = IsBest-indexed (seating_of (problem_of r s)) (seating r s) (number_at r s) (hall_at r s) (index_of r s) (hall_index r s) (renames r s up) before best in
+    let back = IsRepair-indexed (naming r s) (renames r s up) (follows r s up) first before after repair in
+    let indexed : IsBest (indexed_seating r s) (indexed_plan r s before) = IsBest-indexed (naming r s) (renames r s up) before best in
     let same : back.0 ≡ indexed_plan r s before = fun_ext (best_repaired (problem_of r s) (option_and_then (index_of r s) first) (indexed_plan r s before) back.0 indexed back.1) in
     λ c. back.2 c ∙ ap (λ p. named_plan r s p c) same
-    ∙ name_of_index (seating_of (problem_of r s)) (seating r s) (number_at r s) (hall_at r s) (index_of r s) (hall_index r s) (renames r s up) (follows r s up) before best.lawful c
+    ∙ name_of_index (naming r s) (renames r s up) (follows r s up) before best.lawful c
 
 -- ---- nobody is put out by a sweep
 

@@ -3,7 +3,7 @@ use Rattle.std.specs.Prelude.{◌==◌, ◌&&◌, ◌||◌, not, Bool, true, fal
 use Rattle.std.specs.Option.{option_map, option_map_or}
 use Rattle.std.specs.Ordering.{nat_cmp, eq_by_cmp}
 use Rattle.std.specs.Bool.{beq}
-use Rattle.exam_types.specs.declared.features.Features.{Features}
+use Rattle.exam_types.specs.Features.{same_features}
 use Rattle.exam_rules.specs.declared.rows.Session.{Session}
 use Rattle.exam_rules.specs.declared.rows.Paper.{Paper}
 use Rattle.exam_rules.specs.declared.rows.Hall.{Hall}
@@ -20,9 +20,6 @@ use Rattle.exam_office.specs.declared.command.Command.{Command}
 use Rattle.exam_office.specs.declared.command.Command.TheVariants as command
 use Rattle.exam_office.specs.declared.command.Reply.{Reply}
 use Rattle.exam_office.specs.declared.command.Reply.TheVariants as reply
-
-abbrev pub same_features : Features → Features → Bool
-same_features a b = beq a.step_free b.step_free && (beq a.screen b.screen && (beq a.reader b.reader && (beq a.small_room b.small_room && beq a.computer b.computer)))
 
 abbrev pub same_session : Session → Session → Bool
 same_session a b = (a.day == b.day) && (a.start == b.start)

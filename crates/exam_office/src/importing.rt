@@ -27,7 +27,7 @@ pub fn imported(alloc: Global, facts: &Facts, rows: &[Row]) -> Result<(Facts, Re
 {
     check_rows(facts, rows)?;
     let reply = count_rows(alloc, facts, rows)?;
-    Ok((with_rows(alloc, facts, rows)?, reply))
+    Ok((with_rows(facts, rows)?, reply))
 }
 
 /// Refuses the first row, in the order of the file, that refers to what is not there.
@@ -60,11 +60,11 @@ fn check_row(facts: &Facts, row: &Row) -> Result<(), Refusal>
 }
 
 /// The facts with each row in turn.
-fn with_rows(alloc: Global, facts: &Facts, rows: &[Row]) -> Result<Facts, Refusal>
+fn with_rows(facts: &Facts, rows: &[Row]) -> Result<Facts, Refusal>
     ensures ok { IfOk result (λ changed. relations_of changed ≡ changes.with_rows (relations_of facts.now) rows.now) }
     ensures memory { IfErr result (λ e. e ≡ NoMemory) }
 {
-    let mut changed = copied_facts(alloc, facts)?;
+    let mut changed = copied_facts(facts)?;
     for row in rows {
         put_row(&mut changed, row)?;
     }
@@ -79,18 +79,18 @@ pub(crate) fn put_row(facts: &mut Facts, row: &Row) -> Result<(), Refusal>
     match row {
         Row::OfSession(code, session) => put(&mut facts.sessions, *code, *session),
         Row::OfPaper(code, paper) => {
-            let copy = paper.copy()?;
+            let copy = paper.clone()?;
             put(&mut facts.papers, *code, copy)
         }
         Row::OfHall(code, hall) => {
-            let copy = hall.copy()?;
+            let copy = hall.clone()?;
             put(&mut facts.halls, *code, copy)
         }
         Row::OfOpening(session, hall, opening) => {
             put(&mut facts.openings, (*session, *hall), *opening)
         }
         Row::OfCandidate(number, candidate) => {
-            let copy = candidate.copy()?;
+            let copy = candidate.clone()?;
             put(&mut facts.candidates, *number, copy)
         }
         Row::OfEntry(number, paper) => put_entry(facts, *number, *paper),

@@ -1,5 +1,9 @@
 pub mod LeastChains
 pub mod Renaming
+pub mod Carrying
+pub mod ChainNames
+pub mod SweepNames
+pub mod KeptNames
 pub mod Marks
 pub mod Counting
 pub mod Seatings

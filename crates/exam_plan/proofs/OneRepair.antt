@@ -1,25 +1,30 @@
--- A repair has one result, since a turn has one.
-use Rattle.std.proofs.Common.{ℕ, List, [], ◌∷◌, Option, None, Some, sym, ap, ◌∙◌, inl, inr, subst}
-use Rattle.exam_plan.specs.Matching.{Plan, SamePlan}
+-- A plan has one repair, where the orders tell candidates and halls apart.
+use Rattle.std.proofs.Common.{◌≡◌, List, [], ◌∷◌, Option, None, Some, inl, inr, sym, ap, subst, ◌∙◌}
+use Rattle.std.specs.Cmp.{IsTotalOrder}
+use Rattle.std.specs.FinMap.{IsAntisymmetric}
+use Rattle.std.proofs.Math.Path.{fun_ext}
+use Rattle.exam_plan.specs.Matching.{Seating, Plan, SamePlan}
 use Rattle.exam_plan.specs.Chains.{Chain, augmented}
-use Rattle.exam_plan.specs.Repair.{TurnFrom, Sweeps, sweep_order, kept_part, IsRepair}
-use Rattle.exam_plan.specs.Problems.{Problem, seating_of}
-use Rattle.exam_plan.proofs.LawLemmas.{one_least_chain}
+use Rattle.exam_plan.specs.Repair.{TurnFrom, Sweeps, kept_part, sweep_order, IsRepair}
+use Rattle.exam_plan.proofs.LeastChains.{least_chain_is_one}
 
-module _ (p : Problem) where
-  one_turn : (q : Plan ℕ ℕ) (c : ℕ) (o : Option ℕ) (r s : Plan ℕ ℕ) → TurnFrom (seating_of p) q c o r → TurnFrom (seating_of p) q c o s → SamePlan r s
-  one_turn q c (Some h) r s t u d = t d ∙ sym (u d)
-  one_turn q c None r s (inl t) (inl u) d =
-      t.2 d ∙ ap (λ (chain : Chain ℕ ℕ). augmented (seating_of p) q c chain.hops chain.last d) (one_least_chain p q c t.0 u.0 t.1 u.1) ∙ sym (u.2 d)
-  one_turn q c None r s (inl t) (inr u) d = absurd (u.0 t.0 t.1.is_chain)
-  one_turn q c None r s (inr t) (inl u) d = absurd (t.0 u.0 u.1.is_chain)
-  one_turn q c None r s (inr t) (inr u) d = t.1 d ∙ sym (u.1 d)
+module _ {C H : Type 0} (g : Seating C H) (candidates : IsTotalOrder g.candidate_cmp) (halls : IsTotalOrder g.hall_cmp) (exact_candidates : IsAntisymmetric g.candidate_cmp) (exact_halls : IsAntisymmetric g.hall_cmp) where
+  same_as : (p x y : Plan C H) → SamePlan x p → SamePlan y p → SamePlan x y
+  same_as p x y u v c = u c ∙ sym (v c)
 
-  one_sweep : (cs : List ℕ) (q r s : Plan ℕ ℕ) → Sweeps (seating_of p) q cs r → Sweeps (seating_of p) q cs s → SamePlan r s
-  one_sweep [] q r s t u = λ d. t d ∙ sym (u d)
-  one_sweep (c ∷ cs) q r s t u =
-      let same : SamePlan u.0 t.0 = one_turn q c (q c) u.0 t.0 u.1 t.1 in
-      one_sweep cs t.0 r s t.2 (subst (λ (m : Plan ℕ ℕ). Sweeps (seating_of p) m cs s) (λ i d. same d i) u.2)
+  one_turn : (before : Plan C H) (c : C) (o : Option H) (x y : Plan C H) → TurnFrom g before c o x → TurnFrom g before c o y → SamePlan x y
+  one_turn before c (Some h) x y u v = same_as before x y u v
+  one_turn before c None x y (inl u) (inl v) =
+      let one : u.0 ≡ v.0 = least_chain_is_one g candidates halls exact_candidates exact_halls before c u.0 v.0 u.1 v.1 in
+      λ d. u.2 d ∙ ap (λ (chain : Chain C H). augmented g before c chain.hops chain.last d) one ∙ sym (v.2 d)
+  one_turn before c None x y (inl u) (inr v) = absurd (v.0 u.0 u.1.is_chain)
+  one_turn before c None x y (inr u) (inl v) = absurd (u.0 v.0 v.1.is_chain)
+  one_turn before c None x y (inr u) (inr v) = same_as before x y u.1 v.1
 
-  pub one_repair : (first : Option ℕ) (q r s : Plan ℕ ℕ) → IsRepair (seating_of p) first q r → IsRepair (seating_of p) first q s → SamePlan r s
-  one_repair first q = one_sweep (sweep_order (seating_of p) first) (kept_part (seating_of p) q)
+  one_sweep : (cs : List C) (before x y : Plan C H) → Sweeps g before cs x → Sweeps g before cs y → SamePlan x y
+  one_sweep [] before x y u v = same_as before x y u v
+  one_sweep (c ∷ cs) before x y u v =
+      one_sweep cs u.0 x y u.2 (subst (λ (mid : Plan C H). Sweeps g mid cs y) (sym (fun_ext (one_turn before c (before c) u.0 v.0 u.1 v.1))) v.2)
+
+  pub one_repair : (first : Option C) (before x y : Plan C H) → IsRepair g first before x → IsRepair g first before y → SamePlan x y
+  one_repair first before x y u v = one_sweep (sweep_order g first) (kept_part g before) x y u v

@@ -6,7 +6,8 @@ use Rattle.std.proofs.lemmas.List.Sums.{length-filter}
 use Rattle.std.proofs.lemmas.List.Elements.{All-contains_itself, recursion_from_All}
 use Rattle.std.proofs.lemmas.Bool.{cases_eq}
 use Rattle.std.proofs.lemmas.Map.Views.{exact_unsigned_eq}
-use Rattle.exam_plan.specs.Matching.{Seating, Plan, IsLawful, IsBest, is_hall, occupants, size}
+use Rattle.exam_plan.specs.Naming.{Naming, named_plan, at_index, indexed_plan}
+use Rattle.exam_plan.specs.Matching.{Plan, IsLawful, IsBest, is_hall, occupants, size}
 
 bools : (x y : Bool) → (x ≡ true → y ≡ true) → (y ≡ true → x ≡ true) → x ≡ y
 bools true y f g = sym (f refl)
@@ -37,17 +38,17 @@ of_members : {X : Type 0} (Q : X → Type 0) (xs : List X) → ((x : X) → Cont
 of_members Q xs f = all_map (Contains xs) Q f xs (recursion_from_All (Contains xs) xs (All-contains_itself xs))
 
 -- candidates and halls of a have names in b, and positions back
-pub record Renames {C H : Type 0} (a : Seating ℕ ℕ) (b : Seating C H) (nc : ℕ → C) (nh : ℕ → H) (ic : C → Option ℕ) (ih : H → Option ℕ) : Type 0 where
-  pub members : b.members ≡ map nc a.members
-  pub known : (i : ℕ) → Contains a.members i → ic (nc i) ≡ Some i
-  pub named : (c : C) (i : ℕ) → ic c ≡ Some i → (nc i ≡ c) × Contains a.members i × Contains b.members c
-  pub halls : (h : H) (j : ℕ) → ih h ≡ Some j → nh j ≡ h
-  pub known_hall : (i j : ℕ) → IsTrue (a.fits i j) → ih (nh j) ≡ Some j
-  pub fits : (c : C) (h : H) (i j : ℕ) → ic c ≡ Some i → ih h ≡ Some j → b.fits c h ≡ a.fits i j
-  pub known_fit : (c : C) (h : H) → IsTrue (b.fits c h) → IsSome (ih h)
-  pub desks : (h : H) (j : ℕ) → ih h ≡ Some j → b.desks h ≡ a.desks j
-  pub same_a : (j k : ℕ) → (a.same_hall j k ≡ true) ↔ (j ≡ k)
-  pub same_b : (h k : H) → (b.same_hall h k ≡ true) ↔ (h ≡ k)
+pub record Renames {C H : Type 0} (name : Naming C H) : Type 0 where
+  pub members : name.of_names.members ≡ map name.candidate name.of_indices.members
+  pub known : (i : ℕ) → Contains name.of_indices.members i → name.candidate_index (name.candidate i) ≡ Some i
+  pub named : (c : C) (i : ℕ) → name.candidate_index c ≡ Some i → (name.candidate i ≡ c) × Contains name.of_indices.members i × Contains name.of_names.members c
+  pub halls : (h : H) (j : ℕ) → name.hall_index h ≡ Some j → name.hall j ≡ h
+  pub known_hall : (i j : ℕ) → IsTrue (name.of_indices.fits i j) → name.hall_index (name.hall j) ≡ Some j
+  pub fits : (c : C) (h : H) (i j : ℕ) → name.candidate_index c ≡ Some i → name.hall_index h ≡ Some j → name.of_names.fits c h ≡ name.of_indices.fits i j
+  pub known_fit : (c : C) (h : H) → IsTrue (name.of_names.fits c h) → IsSome (name.hall_index h)
+  pub desks : (h : H) (j : ℕ) → name.hall_index h ≡ Some j → name.of_names.desks h ≡ name.of_indices.desks j
+  pub same_a : (j k : ℕ) → (name.of_indices.same_hall j k ≡ true) ↔ (j ≡ k)
+  pub same_b : (h k : H) → (name.of_names.same_hall h k ≡ true) ↔ (h ≡ k)
 
 some_same : {A : Type 0} (x y : A) → Some x ≡ Some y → x ≡ y
 some_same x y e = cc
@@ -56,171 +57,162 @@ is_some-map : {A B : Type 0} (f : A → B) (o : Option A) → is_some (option_ma
 is_some-map f None = refl
 is_some-map f (Some x) = refl
 
-module _ {C H : Type 0} (a : Seating ℕ ℕ) (b : Seating C H) (nc : ℕ → C) (nh : ℕ → H) (ic : C → Option ℕ) (ih : H → Option ℕ) (r : Renames a b nc nh ic ih) where
-  abbrev pub named_plan : Plan ℕ ℕ → Plan C H
-  named_plan p c = option_and_then (λ i. option_map nh (p i)) (ic c)
+module _ {C H : Type 0} (name : Naming C H) (r : Renames name) where
+  named_at : (p : Plan ℕ ℕ) (i : ℕ) → Contains name.of_indices.members i → named_plan name p (name.candidate i) ≡ option_map name.hall (p i)
+  named_at p i h = ap (option_and_then (λ k. option_map name.hall (p k))) (r.known i h)
 
-  named_at : (p : Plan ℕ ℕ) (i : ℕ) → Contains a.members i → named_plan p (nc i) ≡ option_map nh (p i)
-  named_at p i h = ap (option_and_then (λ k. option_map nh (p k))) (r.known i h)
-
-  pub size-named : (p : Plan ℕ ℕ) → size b (named_plan p) ≡ size a p
-  size-named p = ap (count_by (λ c. is_some (named_plan p c))) r.members
-      ∙ count_same (λ c. is_some (named_plan p c)) (λ i. is_some (p i)) nc a.members
-      (of_members _ a.members (λ i h. ap is_some (named_at p i h) ∙ is_some-map nh (p i)))
+  pub size-named : (p : Plan ℕ ℕ) → size name.of_names (named_plan name p) ≡ size name.of_indices p
+  size-named p = ap (count_by (λ c. is_some (named_plan name p c))) r.members
+      ∙ count_same (λ c. is_some (named_plan name p c)) (λ i. is_some (p i)) name.candidate name.of_indices.members
+      (of_members _ name.of_indices.members (λ i h. ap is_some (named_at p i h) ∙ is_some-map name.hall (p i)))
 
   -- the same hall by names and by indices
-  same_hall-named : (h : H) (i j k : ℕ) → ih h ≡ Some j → IsTrue (a.fits i k) → b.same_hall h (nh k) ≡ a.same_hall j k
+  same_hall-named : (h : H) (i j k : ℕ) → name.hall_index h ≡ Some j → IsTrue (name.of_indices.fits i k) → name.of_names.same_hall h (name.hall k) ≡ name.of_indices.same_hall j k
   same_hall-named h i j k at fit = bools _ _
-      (λ t. (r.same_a j k).1 (some_same j k (sym at ∙ ap ih ((r.same_b h (nh k)).0 t) ∙ r.known_hall i k fit)))
-      (λ t. (r.same_b h (nh k)).1 (sym (r.halls h j at) ∙ ap nh ((r.same_a j k).0 t)))
+      (λ t. (r.same_a j k).1 (some_same j k (sym at ∙ ap name.hall_index ((r.same_b h (name.hall k)).0 t) ∙ r.known_hall i k fit)))
+      (λ t. (r.same_b h (name.hall k)).1 (sym (r.halls h j at) ∙ ap name.hall ((r.same_a j k).0 t)))
 
-  is_hall-named : (h : H) (i j : ℕ) (o : Option ℕ) → ih h ≡ Some j → IfSome o (λ k. IsTrue (a.fits i k)) → is_hall b h (option_map nh o) ≡ is_hall a j o
+  is_hall-named : (h : H) (i j : ℕ) (o : Option ℕ) → name.hall_index h ≡ Some j → IfSome o (λ k. IsTrue (name.of_indices.fits i k)) → is_hall name.of_names h (option_map name.hall o) ≡ is_hall name.of_indices j o
   is_hall-named h i j None at fit = refl
   is_hall-named h i j (Some k) at fit = same_hall-named h i j k at fit
 
   -- nobody sits in a hall without an index
-  is_hall-unknown : (h : H) (i : ℕ) (o : Option ℕ) → ih h ≡ None → IfSome o (λ k. IsTrue (a.fits i k)) → is_hall b h (option_map nh o) ≡ false
+  is_hall-unknown : (h : H) (i : ℕ) (o : Option ℕ) → name.hall_index h ≡ None → IfSome o (λ k. IsTrue (name.of_indices.fits i k)) → is_hall name.of_names h (option_map name.hall o) ≡ false
   is_hall-unknown h i None at fit = refl
-  is_hall-unknown h i (Some k) at fit = bools _ _ (λ t. absurd (let e : None ≡ Some k = sym at ∙ ap ih ((r.same_b h (nh k)).0 t) ∙ r.known_hall i k fit in cc)) (λ t. cc)
+  is_hall-unknown h i (Some k) at fit = bools _ _ (λ t. absurd (let e : None ≡ Some k = sym at ∙ ap name.hall_index ((r.same_b h (name.hall k)).0 t) ∙ r.known_hall i k fit in cc)) (λ t. cc)
 
-  occupied : (p : Plan ℕ ℕ) (l : IsLawful a p) (h : H) (o : Option ℕ) → ih h ≡ o → count_by (λ c. is_hall b h (named_plan p c)) b.members ≤ b.desks h
+  occupied : (p : Plan ℕ ℕ) (l : IsLawful name.of_indices p) (h : H) (o : Option ℕ) → name.hall_index h ≡ o → count_by (λ c. is_hall name.of_names h (named_plan name p c)) name.of_names.members ≤ name.of_names.desks h
   occupied p l h (Some j) at =
-      let e : count_by (λ c. is_hall b h (named_plan p c)) b.members ≡ count_by (λ i. is_hall a j (p i)) a.members =
-      ap (count_by (λ c. is_hall b h (named_plan p c))) r.members
-      ∙ count_same _ (λ i. is_hall a j (p i)) nc a.members (of_members _ a.members (λ i m. ap (is_hall b h) (named_at p i m) ∙ is_hall-named h i j (p i) at (l.fitting i))) in
-      let d : b.desks h ≡ a.desks j = r.desks h j at in
-      let f : length (occupants a p j) ≡ count_by (λ i. is_hall a j (p i)) a.members = length-filter (λ i. is_hall a j (p i)) a.members in
-      let w : length (occupants a p j) ≤ a.desks j = l.within_desks j in
+      let e : count_by (λ c. is_hall name.of_names h (named_plan name p c)) name.of_names.members ≡ count_by (λ i. is_hall name.of_indices j (p i)) name.of_indices.members =
+      ap (count_by (λ c. is_hall name.of_names h (named_plan name p c))) r.members
+      ∙ count_same _ (λ i. is_hall name.of_indices j (p i)) name.candidate name.of_indices.members (of_members _ name.of_indices.members (λ i m. ap (is_hall name.of_names h) (named_at p i m) ∙ is_hall-named h i j (p i) at (l.fitting i))) in
+      let d : name.of_names.desks h ≡ name.of_indices.desks j = r.desks h j at in
+      let f : length (occupants name.of_indices p j) ≡ count_by (λ i. is_hall name.of_indices j (p i)) name.of_indices.members = length-filter (λ i. is_hall name.of_indices j (p i)) name.of_indices.members in
+      let w : length (occupants name.of_indices p j) ≤ name.of_indices.desks j = l.within_desks j in
       omega arith
   occupied p l h None at =
-      let e : count_by (λ c. is_hall b h (named_plan p c)) b.members ≡ count_by (λ (i : ℕ). false) a.members =
-      ap (count_by (λ c. is_hall b h (named_plan p c))) r.members
-      ∙ count_same _ (λ (i : ℕ). false) nc a.members (of_members _ a.members (λ i m. ap (is_hall b h) (named_at p i m) ∙ is_hall-unknown h i (p i) at (l.fitting i))) in
-      let z : count_by (λ (i : ℕ). false) a.members ≡ 0 = fold_none 0 a.members in
+      let e : count_by (λ c. is_hall name.of_names h (named_plan name p c)) name.of_names.members ≡ count_by (λ (i : ℕ). false) name.of_indices.members =
+      ap (count_by (λ c. is_hall name.of_names h (named_plan name p c))) r.members
+      ∙ count_same _ (λ (i : ℕ). false) name.candidate name.of_indices.members (of_members _ name.of_indices.members (λ i m. ap (is_hall name.of_names h) (named_at p i m) ∙ is_hall-unknown h i (p i) at (l.fitting i))) in
+      let z : count_by (λ (i : ℕ). false) name.of_indices.members ≡ 0 = fold_none 0 name.of_indices.members in
       omega arith
 
-  fitting-named : (p : Plan ℕ ℕ) (l : IsLawful a p) (c : C) (o : Option ℕ) → ic c ≡ o → IfSome (option_and_then (λ i. option_map nh (p i)) o) (λ h. IsTrue (b.fits c h))
+  fitting-named : (p : Plan ℕ ℕ) (l : IsLawful name.of_indices p) (c : C) (o : Option ℕ) → name.candidate_index c ≡ o → IfSome (option_and_then (λ i. option_map name.hall (p i)) o) (λ h. IsTrue (name.of_names.fits c h))
   fitting-named p l c None at = tt
   fitting-named p l c (Some i) at = inner (p i) (l.fitting i)
     where
-      inner : (o : Option ℕ) → IfSome o (λ k. IsTrue (a.fits i k)) → IfSome (option_map nh o) (λ h. IsTrue (b.fits c h))
+      inner : (o : Option ℕ) → IfSome o (λ k. IsTrue (name.of_indices.fits i k)) → IfSome (option_map name.hall o) (λ h. IsTrue (name.of_names.fits c h))
       inner None fit = tt
-      inner (Some k) fit = r.fits c (nh k) i k at (r.known_hall i k fit) ∙ fit
+      inner (Some k) fit = r.fits c (name.hall k) i k at (r.known_hall i k fit) ∙ fit
 
-  members-named : (p : Plan ℕ ℕ) (c : C) (o : Option ℕ) → ic c ≡ o → IsSome (option_and_then (λ i. option_map nh (p i)) o) → Contains b.members c
+  members-named : (p : Plan ℕ ℕ) (c : C) (o : Option ℕ) → name.candidate_index c ≡ o → IsSome (option_and_then (λ i. option_map name.hall (p i)) o) → Contains name.of_names.members c
   members-named p c None at seated = absurd (let e : false ≡ true = seated in cc)
   members-named p c (Some i) at seated = (r.named c i at).2
 
-  pub IsLawful-named : (p : Plan ℕ ℕ) → IsLawful a p → IsLawful b (named_plan p)
+  pub IsLawful-named : (p : Plan ℕ ℕ) → IsLawful name.of_indices p → IsLawful name.of_names (named_plan name p)
   IsLawful-named p l = record {
-    members = λ c. members-named p c (ic c) refl;
-    fitting = λ c. fitting-named p l c (ic c) refl;
-    within_desks = λ h. let f : length (occupants b (named_plan p) h) ≡ count_by (λ c. is_hall b h (named_plan p c)) b.members = length-filter (λ c. is_hall b h (named_plan p c)) b.members in
-        let o = occupied p l h (ih h) refl in omega arith;
+    members = λ c. members-named p c (name.candidate_index c) refl;
+    fitting = λ c. fitting-named p l c (name.candidate_index c) refl;
+    within_desks = λ h. let f : length (occupants name.of_names (named_plan name p) h) ≡ count_by (λ c. is_hall name.of_names h (named_plan name p c)) name.of_names.members = length-filter (λ c. is_hall name.of_names h (named_plan name p c)) name.of_names.members in
+        let o = occupied p l h (name.hall_index h) refl in omega arith;
   }
 
   -- ---- a plan by names, read by indices
 
-  abbrev at_index : Plan C H → ℕ → ℕ → Option ℕ
-  at_index q i k = cond (nat_eq k i) (option_and_then ih (q (nc i))) None
-
-  abbrev indexed_plan : Plan C H → Plan ℕ ℕ
-  indexed_plan q i = option_and_then (at_index q i) (ic (nc i))
-
-  indexed_at : (q : Plan C H) (i : ℕ) → Contains a.members i → indexed_plan q i ≡ option_and_then ih (q (nc i))
-  indexed_at q i h = ap (option_and_then (at_index q i)) (r.known i h) ∙ ap (λ t. cond t (option_and_then ih (q (nc i))) None) (eq-eqb i i refl)
+  indexed_at : (q : Plan C H) (i : ℕ) → Contains name.of_indices.members i → indexed_plan name q i ≡ option_and_then name.hall_index (q (name.candidate i))
+  indexed_at q i h = ap (option_and_then (at_index name q i)) (r.known i h) ∙ ap (λ t. cond t (option_and_then name.hall_index (q (name.candidate i))) None) (eq-eqb i i refl)
 
   -- what is seated by an index is a member, and sits where the name sits
-  indexed_from : (q : Plan C H) (i : ℕ) (o : Option ℕ) → ic (nc i) ≡ o → IsSome (option_and_then (at_index q i) o) → Contains a.members i
+  indexed_from : (q : Plan C H) (i : ℕ) (o : Option ℕ) → name.candidate_index (name.candidate i) ≡ o → IsSome (option_and_then (at_index name q i) o) → Contains name.of_indices.members i
   indexed_from q i None at seated = absurd (let e : false ≡ true = seated in cc)
   indexed_from q i (Some k) at seated = inner (nat_eq k i) refl
     where
-      inner : (t : Bool) → nat_eq k i ≡ t → Contains a.members i
-      inner true e = subst (Contains a.members) (exact_unsigned_eq k i e) (r.named (nc i) k at).1
-      inner false e = absurd (let z : is_some (at_index q i k) ≡ false = ap (λ t. is_some (cond t (option_and_then ih (q (nc i))) None)) e in let y : false ≡ true = sym z ∙ seated in cc)
+      inner : (t : Bool) → nat_eq k i ≡ t → Contains name.of_indices.members i
+      inner true e = subst (Contains name.of_indices.members) (exact_unsigned_eq k i e) (r.named (name.candidate i) k at).1
+      inner false e = absurd (let z : is_some (at_index name q i k) ≡ false = ap (λ t. is_some (cond t (option_and_then name.hall_index (q (name.candidate i))) None)) e in let y : false ≡ true = sym z ∙ seated in cc)
 
-  is_some-index : (c : C) (o : Option H) → IfSome o (λ h. IsTrue (b.fits c h)) → is_some (option_and_then ih o) ≡ is_some o
+  is_some-index : (c : C) (o : Option H) → IfSome o (λ h. IsTrue (name.of_names.fits c h)) → is_some (option_and_then name.hall_index o) ≡ is_some o
   is_some-index c None fit = refl
   is_some-index c (Some h) fit = r.known_fit c h fit
 
-  pub size-indexed : (q : Plan C H) → IsLawful b q → size a (indexed_plan q) ≡ size b q
+  pub size-indexed : (q : Plan C H) → IsLawful name.of_names q → size name.of_indices (indexed_plan name q) ≡ size name.of_names q
   size-indexed q l = sym (ap (count_by (λ c. is_some (q c))) r.members
-      ∙ count_same (λ c. is_some (q c)) (λ i. is_some (indexed_plan q i)) nc a.members
-      (of_members _ a.members (λ i m. sym (ap is_some (indexed_at q i m) ∙ is_some-index (nc i) (q (nc i)) (l.fitting (nc i))))))
+      ∙ count_same (λ c. is_some (q c)) (λ i. is_some (indexed_plan name q i)) name.candidate name.of_indices.members
+      (of_members _ name.of_indices.members (λ i m. sym (ap is_some (indexed_at q i m) ∙ is_some-index (name.candidate i) (q (name.candidate i)) (l.fitting (name.candidate i))))))
 
-  is_hall-index : (j : ℕ) → ih (nh j) ≡ Some j → (o : Option H) → is_hall b (nh j) o ≡ is_hall a j (option_and_then ih o)
+  is_hall-index : (j : ℕ) → name.hall_index (name.hall j) ≡ Some j → (o : Option H) → is_hall name.of_names (name.hall j) o ≡ is_hall name.of_indices j (option_and_then name.hall_index o)
   is_hall-index j at None = refl
-  is_hall-index j at (Some h) = inner (ih h) refl
+  is_hall-index j at (Some h) = inner (name.hall_index h) refl
     where
-      inner : (o : Option ℕ) → ih h ≡ o → b.same_hall (nh j) h ≡ is_hall a j o
-      inner None e = bools _ _ (λ t. absurd (let z : None ≡ Some j = sym e ∙ ap ih (sym ((r.same_b (nh j) h).0 t)) ∙ at in cc)) (λ t. cc)
+      inner : (o : Option ℕ) → name.hall_index h ≡ o → name.of_names.same_hall (name.hall j) h ≡ is_hall name.of_indices j o
+      inner None e = bools _ _ (λ t. absurd (let z : None ≡ Some j = sym e ∙ ap name.hall_index (sym ((r.same_b (name.hall j) h).0 t)) ∙ at in cc)) (λ t. cc)
       inner (Some k) e = bools _ _
-          (λ t. (r.same_a j k).1 (some_same j k (sym at ∙ ap ih ((r.same_b (nh j) h).0 t) ∙ e)))
-          (λ t. (r.same_b (nh j) h).1 (ap nh ((r.same_a j k).0 t) ∙ r.halls h k e))
+          (λ t. (r.same_a j k).1 (some_same j k (sym at ∙ ap name.hall_index ((r.same_b (name.hall j) h).0 t) ∙ e)))
+          (λ t. (r.same_b (name.hall j) h).1 (ap name.hall ((r.same_a j k).0 t) ∙ r.halls h k e))
 
-  is_hall-nowhere : (j : ℕ) → (ih (nh j) ≡ Some j → ⊥) → (o : Option H) → is_hall a j (option_and_then ih o) ≡ false
+  is_hall-nowhere : (j : ℕ) → (name.hall_index (name.hall j) ≡ Some j → ⊥) → (o : Option H) → is_hall name.of_indices j (option_and_then name.hall_index o) ≡ false
   is_hall-nowhere j away None = refl
-  is_hall-nowhere j away (Some h) = inner (ih h) refl
+  is_hall-nowhere j away (Some h) = inner (name.hall_index h) refl
     where
-      inner : (o : Option ℕ) → ih h ≡ o → is_hall a j o ≡ false
+      inner : (o : Option ℕ) → name.hall_index h ≡ o → is_hall name.of_indices j o ≡ false
       inner None e = refl
-      inner (Some k) e = bools _ _ (λ t. absurd (away (ap ih (ap nh ((r.same_a j k).0 t) ∙ r.halls h k e) ∙ e ∙ ap Some (sym ((r.same_a j k).0 t))))) (λ t. cc)
+      inner (Some k) e = bools _ _ (λ t. absurd (away (ap name.hall_index (ap name.hall ((r.same_a j k).0 t) ∙ r.halls h k e) ∙ e ∙ ap Some (sym ((r.same_a j k).0 t))))) (λ t. cc)
 
   -- whether j is the index of a hall
-  is_index : (j : ℕ) → (ih (nh j) ≡ Some j) ⊎ (ih (nh j) ≡ Some j → ⊥)
-  is_index j = inner (ih (nh j))
+  is_index : (j : ℕ) → (name.hall_index (name.hall j) ≡ Some j) ⊎ (name.hall_index (name.hall j) ≡ Some j → ⊥)
+  is_index j = inner (name.hall_index (name.hall j))
     where
       inner : (o : Option ℕ) → (o ≡ Some j) ⊎ (o ≡ Some j → ⊥)
       inner None = inr (λ e. cc)
       inner (Some k) = elim (cases_eq k j) [ inl e ↦ inl (ap Some e) | inr n ↦ inr (λ e. n (some_same k j e)) ]
 
-  occupied-index : (q : Plan C H) → IsLawful b q → (j : ℕ) → (ih (nh j) ≡ Some j) ⊎ (ih (nh j) ≡ Some j → ⊥) → count_by (λ i. is_hall a j (indexed_plan q i)) a.members ≤ a.desks j
+  occupied-index : (q : Plan C H) → IsLawful name.of_names q → (j : ℕ) → (name.hall_index (name.hall j) ≡ Some j) ⊎ (name.hall_index (name.hall j) ≡ Some j → ⊥) → count_by (λ i. is_hall name.of_indices j (indexed_plan name q i)) name.of_indices.members ≤ name.of_indices.desks j
   occupied-index q l j (inl at) =
-      let e : count_by (λ c. is_hall b (nh j) (q c)) b.members ≡ count_by (λ i. is_hall a j (indexed_plan q i)) a.members =
-      ap (count_by (λ c. is_hall b (nh j) (q c))) r.members
-      ∙ count_same _ (λ i. is_hall a j (indexed_plan q i)) nc a.members (of_members _ a.members (λ i m. is_hall-index j at (q (nc i)) ∙ sym (ap (is_hall a j) (indexed_at q i m)))) in
-      let d : b.desks (nh j) ≡ a.desks j = r.desks (nh j) j at in
-      let f : length (occupants b q (nh j)) ≡ count_by (λ c. is_hall b (nh j) (q c)) b.members = length-filter (λ c. is_hall b (nh j) (q c)) b.members in
-      let w : length (occupants b q (nh j)) ≤ b.desks (nh j) = l.within_desks (nh j) in
+      let e : count_by (λ c. is_hall name.of_names (name.hall j) (q c)) name.of_names.members ≡ count_by (λ i. is_hall name.of_indices j (indexed_plan name q i)) name.of_indices.members =
+      ap (count_by (λ c. is_hall name.of_names (name.hall j) (q c))) r.members
+      ∙ count_same _ (λ i. is_hall name.of_indices j (indexed_plan name q i)) name.candidate name.of_indices.members (of_members _ name.of_indices.members (λ i m. is_hall-index j at (q (name.candidate i)) ∙ sym (ap (is_hall name.of_indices j) (indexed_at q i m)))) in
+      let d : name.of_names.desks (name.hall j) ≡ name.of_indices.desks j = r.desks (name.hall j) j at in
+      let f : length (occupants name.of_names q (name.hall j)) ≡ count_by (λ c. is_hall name.of_names (name.hall j) (q c)) name.of_names.members = length-filter (λ c. is_hall name.of_names (name.hall j) (q c)) name.of_names.members in
+      let w : length (occupants name.of_names q (name.hall j)) ≤ name.of_names.desks (name.hall j) = l.within_desks (name.hall j) in
       omega arith
   occupied-index q l j (inr away) =
-      let e : count_by (λ i. is_hall a j (indexed_plan q i)) (map (λ (i : ℕ). i) a.members) ≡ count_by (λ (i : ℕ). false) a.members =
-      count_same (λ i. is_hall a j (indexed_plan q i)) (λ (i : ℕ). false) (λ (i : ℕ). i) a.members (of_members _ a.members (λ i m. ap (is_hall a j) (indexed_at q i m) ∙ is_hall-nowhere j away (q (nc i)))) in
-      let z : count_by (λ (i : ℕ). false) a.members ≡ 0 = fold_none 0 a.members in
-      let y : count_by (λ i. is_hall a j (indexed_plan q i)) (map (λ (i : ℕ). i) a.members) ≡ count_by (λ i. is_hall a j (indexed_plan q i)) a.members = ap (count_by (λ i. is_hall a j (indexed_plan q i))) (map_itself a.members) in
+      let e : count_by (λ i. is_hall name.of_indices j (indexed_plan name q i)) (map (λ (i : ℕ). i) name.of_indices.members) ≡ count_by (λ (i : ℕ). false) name.of_indices.members =
+      count_same (λ i. is_hall name.of_indices j (indexed_plan name q i)) (λ (i : ℕ). false) (λ (i : ℕ). i) name.of_indices.members (of_members _ name.of_indices.members (λ i m. ap (is_hall name.of_indices j) (indexed_at q i m) ∙ is_hall-nowhere j away (q (name.candidate i)))) in
+      let z : count_by (λ (i : ℕ). false) name.of_indices.members ≡ 0 = fold_none 0 name.of_indices.members in
+      let y : count_by (λ i. is_hall name.of_indices j (indexed_plan name q i)) (map (λ (i : ℕ). i) name.of_indices.members) ≡ count_by (λ i. is_hall name.of_indices j (indexed_plan name q i)) name.of_indices.members = ap (count_by (λ i. is_hall name.of_indices j (indexed_plan name q i))) (map_itself name.of_indices.members) in
       omega arith
 
-  fitting-index : (q : Plan C H) → IsLawful b q → (i : ℕ) → (o : Option ℕ) → ic (nc i) ≡ o → IfSome (option_and_then (at_index q i) o) (λ j. IsTrue (a.fits i j))
+  fitting-index : (q : Plan C H) → IsLawful name.of_names q → (i : ℕ) → (o : Option ℕ) → name.candidate_index (name.candidate i) ≡ o → IfSome (option_and_then (at_index name q i) o) (λ j. IsTrue (name.of_indices.fits i j))
   fitting-index q l i None at = tt
   fitting-index q l i (Some k) at = outer (nat_eq k i) refl
     where
-      inmost : (h : H) (o : Option ℕ) → ih h ≡ o → ic (nc i) ≡ Some i → IsTrue (b.fits (nc i) h) → IfSome o (λ j. IsTrue (a.fits i j))
+      inmost : (h : H) (o : Option ℕ) → name.hall_index h ≡ o → name.candidate_index (name.candidate i) ≡ Some i → IsTrue (name.of_names.fits (name.candidate i) h) → IfSome o (λ j. IsTrue (name.of_indices.fits i j))
       inmost h None e m fit = tt
-      inmost h (Some j) e m fit = sym (r.fits (nc i) h i j m e) ∙ fit
+      inmost h (Some j) e m fit = sym (r.fits (name.candidate i) h i j m e) ∙ fit
 
-      inner : (o : Option H) → ic (nc i) ≡ Some i → IfSome o (λ h. IsTrue (b.fits (nc i) h)) → IfSome (option_and_then ih o) (λ j. IsTrue (a.fits i j))
+      inner : (o : Option H) → name.candidate_index (name.candidate i) ≡ Some i → IfSome o (λ h. IsTrue (name.of_names.fits (name.candidate i) h)) → IfSome (option_and_then name.hall_index o) (λ j. IsTrue (name.of_indices.fits i j))
       inner None m fit = tt
-      inner (Some h) m fit = inmost h (ih h) refl m fit
+      inner (Some h) m fit = inmost h (name.hall_index h) refl m fit
 
-      outer : (t : Bool) → nat_eq k i ≡ t → IfSome (cond (nat_eq k i) (option_and_then ih (q (nc i))) None) (λ j. IsTrue (a.fits i j))
-      outer true e = rw e (inner (q (nc i)) (at ∙ ap Some (exact_unsigned_eq k i e)) (l.fitting (nc i)))
+      outer : (t : Bool) → nat_eq k i ≡ t → IfSome (cond (nat_eq k i) (option_and_then name.hall_index (q (name.candidate i))) None) (λ j. IsTrue (name.of_indices.fits i j))
+      outer true e = rw e (inner (q (name.candidate i)) (at ∙ ap Some (exact_unsigned_eq k i e)) (l.fitting (name.candidate i)))
       outer false e = rw e tt
 
-  pub IsLawful-indexed : (q : Plan C H) → IsLawful b q → IsLawful a (indexed_plan q)
+  pub IsLawful-indexed : (q : Plan C H) → IsLawful name.of_names q → IsLawful name.of_indices (indexed_plan name q)
   IsLawful-indexed q l = record {
-    members = λ i. indexed_from q i (ic (nc i)) refl;
-    fitting = λ i. fitting-index q l i (ic (nc i)) refl;
-    within_desks = λ j. let f : length (occupants a (indexed_plan q) j) ≡ count_by (λ i. is_hall a j (indexed_plan q i)) a.members = length-filter (λ i. is_hall a j (indexed_plan q i)) a.members in
+    members = λ i. indexed_from q i (name.candidate_index (name.candidate i)) refl;
+    fitting = λ i. fitting-index q l i (name.candidate_index (name.candidate i)) refl;
+    within_desks = λ j. let f : length (occupants name.of_indices (indexed_plan name q) j) ≡ count_by (λ i. is_hall name.of_indices j (indexed_plan name q i)) name.of_indices.members = length-filter (λ i. is_hall name.of_indices j (indexed_plan name q i)) name.of_indices.members in
         let o = occupied-index q l j (is_index j) in omega arith;
   }
 
   -- the best plan by indices is the best one by names
-  pub IsBest-named : (p : Plan ℕ ℕ) → IsBest a p → IsBest b (named_plan p)
+  pub IsBest-named : (p : Plan ℕ ℕ) → IsBest name.of_indices p → IsBest name.of_names (named_plan name p)
   IsBest-named p best = record {
     lawful = IsLawful-named p best.lawful;
     greatest = λ other l.
-        let e : size b (named_plan p) ≡ size a p = size-named p in
-        let f : size a (indexed_plan other) ≡ size b other = size-indexed other l in
-        let g : size a (indexed_plan other) ≤ size a p = best.greatest (indexed_plan other) (IsLawful-indexed other l) in
+        let e : size name.of_names (named_plan name p) ≡ size name.of_indices p = size-named p in
+        let f : size name.of_indices (indexed_plan name other) ≡ size name.of_names other = size-indexed other l in
+        let g : size name.of_indices (indexed_plan name other) ≤ size name.of_indices p = best.greatest (indexed_plan name other) (IsLawful-indexed other l) in
         omega arith;
   }

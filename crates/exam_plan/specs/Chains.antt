@@ -1,5 +1,6 @@
 -- Augmenting chains.
-use Rattle.std.specs.Prelude.{◌≡◌, ◌≢◌, ◌<◌, IsTrue, List, [], ◌∷◌, ◌++◌, length, map, if◌then◌else◌, AllPairs, Some}
+use Rattle.std.specs.Prelude.{◌≡◌, ◌≢◌, ◌<◌, IsTrue, List, [], ◌∷◌, ◌++◌, length, map, if◌then◌else◌}
+use Rattle.std.specs.Prelude.{AllPairs, Some}
 use Rattle.std.specs.declared.cmp.Ordering.{Ordering}
 use Rattle.std.specs.declared.cmp.Ordering.TheVariants.{Greater}
 use Rattle.std.specs.Ordering.{nat_cmp, ordering_then}
@@ -22,7 +23,9 @@ module _ {C H : Type 0} where
   -- one who moves on sits there; the last has a free desk.
   abbrev pub Leads : Seating C H → Plan C H → C → List (H × C) → H → Type 0
   Leads g plan c [] last = IsTrue (g.fits c last) × HasFreeDesk g plan last
-  Leads g plan c (hop ∷ hops) last = IsTrue (g.fits c hop.0) × (HasFreeDesk g plan hop.0 → ⊥) × (plan hop.1 ≡ Some hop.0) × Leads g plan hop.1 hops last
+  Leads g plan c (hop ∷ hops) last =
+      IsTrue (g.fits c hop.0) × (HasFreeDesk g plan hop.0 → ⊥) × (plan hop.1 ≡ Some hop.0)
+      × Leads g plan hop.1 hops last
 
   pub record IsChain (g : Seating C H) (plan : Plan C H) (c : C) (chain : Chain C H) : Type 0 where
     pub leads : Leads g plan c chain.hops chain.last
@@ -31,7 +34,8 @@ module _ {C H : Type 0} where
   -- the shorter chain comes first, and of equally long ones the one whose first difference is less
   abbrev pub chain_cmp : Seating C H → Chain C H → Chain C H → Ordering
   chain_cmp g a b = ordering_then (nat_cmp (length a.hops) (length b.hops))
-      (ordering_then (slice_cmp (λ (x y : H × C). ordering_then (g.hall_cmp x.0 y.0) (g.candidate_cmp x.1 y.1)) a.hops b.hops)
+      (ordering_then (slice_cmp (λ (x y : H × C).
+      ordering_then (g.hall_cmp x.0 y.0) (g.candidate_cmp x.1 y.1)) a.hops b.hops)
       (g.hall_cmp a.last b.last))
 
   pub record IsLeastChain (g : Seating C H) (plan : Plan C H) (c : C) (chain : Chain C H) : Type 0 where

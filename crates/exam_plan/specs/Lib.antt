@@ -3,3 +3,4 @@ pub mod Chains
 pub mod Repair
 pub mod Problems
 pub mod Searches
+pub mod Naming

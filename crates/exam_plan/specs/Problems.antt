@@ -1,5 +1,6 @@
 -- Candidates and halls as indices.
-use Rattle.std.specs.Prelude.{◌≡◌, ℕ, ◌<◌, ◌≤◌, Bool, nat_lt, nat_eq, List, [], length, map, All, Option, IfSome, slice_get, slice_index, slice_index_or}
+use Rattle.std.specs.Prelude.{◌≡◌, ℕ, ◌<◌, ◌≤◌, Bool, nat_lt, nat_eq, List, [], length, map, All, Option}
+use Rattle.std.specs.Prelude.{IfSome, slice_get, slice_index, slice_index_or}
 use Rattle.std.specs.List.{list_any}
 use Rattle.std.specs.List.Sorted.{IsStrictlySortedBy}
 use Rattle.std.specs.Option.{option_flatten}
@@ -46,4 +47,5 @@ ranks_before p c d = nat_lt (slice_index p.rank c) (slice_index p.rank d)
 
 -- the desk number of each candidate, or none
 abbrev pub desk_numbers : Problem → List (Option ℕ) → List (Option ℕ)
-desk_numbers p halls = map (desk_number (seating_of p) (ranks_before p) (plan_at halls)) (range_with_len 0 (length p.fit))
+desk_numbers p halls =
+    map (desk_number (seating_of p) (ranks_before p) (plan_at halls)) (range_with_len 0 (length p.fit))

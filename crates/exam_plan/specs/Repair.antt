@@ -1,5 +1,6 @@
 -- The repair of a plan.
-use Rattle.std.specs.Prelude.{◌⊎◌, ℕ, Bool, ◌&&◌, nat_lt, not, List, [], ◌∷◌, ◌++◌, filter, count_by, Option, None, Some, if◌then◌else◌}
+use Rattle.std.specs.Prelude.{◌⊎◌, ℕ, Bool, ◌&&◌, nat_lt, not, List, [], ◌∷◌, ◌++◌, filter, count_by, Option}
+use Rattle.std.specs.Prelude.{None, Some, if◌then◌else◌}
 use Rattle.std.specs.List.{list_any}
 use Rattle.std.specs.Ordering.{is_lt}
 use Rattle.exam_plan.specs.Matching.{Seating, Plan, SamePlan, is_hall}
@@ -39,7 +40,8 @@ module _ {C H : Type 0} where
   abbrev pub TurnFrom : Seating C H → Plan C H → C → Option H → Plan C H → Type 0
   TurnFrom g before c (Some h) after = SamePlan after before
   TurnFrom g before c None after =
-      ((chain : Chain C H) × IsLeastChain g before c chain × SamePlan after (augmented g before c chain.hops chain.last))
+      ((chain : Chain C H) × IsLeastChain g before c chain
+      × SamePlan after (augmented g before c chain.hops chain.last))
       ⊎ (((chain : Chain C H) → IsChain g before c chain → ⊥) × SamePlan after before)
 
   abbrev pub Turn : Seating C H → Plan C H → C → Plan C H → Type 0
@@ -53,7 +55,8 @@ module _ {C H : Type 0} where
   -- the first candidate, where that is a member, and then all others, numbers rising
   abbrev pub sweep_order : Seating C H → Option C → List C
   sweep_order g None = g.members
-  sweep_order g (Some c) = filter (g.same_candidate c) g.members ++ filter (λ d. not (g.same_candidate c d)) g.members
+  sweep_order g (Some c) =
+      filter (g.same_candidate c) g.members ++ filter (λ d. not (g.same_candidate c d)) g.members
 
   abbrev pub IsSweep : Seating C H → Option C → Plan C H → Plan C H → Type 0
   IsSweep g first before after = Sweeps g before (sweep_order g first) after

@@ -1,5 +1,7 @@
 -- The searches: from which halls a free desk can be reached, and which halls are closed.
-use Rattle.std.specs.Prelude.{◌≡◌, ◌⊎◌, ◌↔◌, ℕ, zero, suc, ◌-◌, ◌<◌, ◌≤◌, Bool, true, false, IsTrue, List, [], ◌∷◌, length, All, Option, None, Some, IsSome, slice_index_or, nat_eq, count_by, Vec}
+use Rattle.std.specs.Prelude.{◌≡◌, ◌⊎◌, ◌↔◌, ℕ, zero, suc, ◌-◌, ◌<◌, ◌≤◌, Bool, true, false, IsTrue, List, []}
+use Rattle.std.specs.Prelude.{◌∷◌, length, All, Option, None, Some, IsSome, slice_index_or, nat_eq, count_by}
+use Rattle.std.specs.Prelude.{Vec}
 use Rattle.std.specs.List.{range_with_len}
 use Rattle.std.specs.Option.{option_map_or}
 use Rattle.std.specs.Global.{Global}
@@ -25,7 +27,8 @@ module _ (p : Problem) (plan : Plan ℕ ℕ) where
   -- someone may go from the hall, over at most so many halls, to a free desk
   abbrev pub Reaches : ℕ → ℕ → Type 0
   Reaches zero h = HasFreeDesk (seating_of p) plan h
-  Reaches (suc j) h = Reaches j h ⊎ ((d : ℕ) × (plan d ≡ Some h) × ((k : ℕ) × IsTrue ((seating_of p).fits d k) × Reaches j k))
+  Reaches (suc j) h =
+      Reaches j h ⊎ ((d : ℕ) × (plan d ≡ Some h) × ((k : ℕ) × IsTrue ((seating_of p).fits d k) × Reaches j k))
 
   -- a hall that fits the candidate reaches a free desk
   abbrev pub CanReach : ℕ → ℕ → Type 0
@@ -33,11 +36,15 @@ module _ (p : Problem) (plan : Plan ℕ ℕ) where
 
   -- the j-th list marks the halls that reach a free desk over at most j halls
   abbrev pub AreLayers : List (Vec Bool Global) → Type 0
-  AreLayers layers = (j : ℕ) (d : Vec Bool Global) → j < length layers → MarksAll (slice_index_or layers j d).items (Reaches j)
+  AreLayers layers =
+      (j : ℕ) (d : Vec Bool Global) → j < length layers
+      → MarksAll (slice_index_or layers j d).items (Reaches j)
 
   -- the least hall of those that fit the candidate and reach a free desk
   abbrev pub IsLeastHall : ℕ → ℕ → ℕ → Type 0
-  IsLeastHall j c h = IsTrue ((seating_of p).fits c h) × Reaches j h × ((k : ℕ) → IsTrue ((seating_of p).fits c k) → Reaches j k → h ≤ k)
+  IsLeastHall j c h =
+      IsTrue ((seating_of p).fits c h) × Reaches j h
+      × ((k : ℕ) → IsTrue ((seating_of p).fits c k) → Reaches j k → h ≤ k)
 
   -- the least occupant of the hall who can reach a free desk
   abbrev pub IsLeastMover : ℕ → ℕ → ℕ → Type 0
@@ -48,16 +55,20 @@ module _ (p : Problem) (plan : Plan ℕ ℕ) where
   TakesLeast zero c [] last = IsLeastHall zero c last
   TakesLeast zero c (hop ∷ hops) last = ⊥
   TakesLeast (suc j) c [] last = ⊥
-  TakesLeast (suc j) c (hop ∷ hops) last = IsLeastHall (suc j) c hop.0 × IsLeastMover j hop.0 hop.1 × TakesLeast j hop.1 hops last
+  TakesLeast (suc j) c (hop ∷ hops) last =
+      IsLeastHall (suc j) c hop.0 × IsLeastMover j hop.0 hop.1 × TakesLeast j hop.1 hops last
 
   -- the plan after everybody has moved along such a chain
   abbrev pub IsAdvanced : ℕ → ℕ → Plan ℕ ℕ → Type 0
-  IsAdvanced j c after = (hops : List (ℕ × ℕ)) × (last : ℕ) × TakesLeast j c hops last × ((d : ℕ) → after d ≡ augmented (seating_of p) plan c hops last d)
+  IsAdvanced j c after =
+      (hops : List (ℕ × ℕ)) × (last : ℕ) × TakesLeast j c hops last
+      × ((d : ℕ) → after d ≡ augmented (seating_of p) plan c hops last d)
 
   -- the halls without a mark are full, and fit whom they hold only among themselves
   pub record AreClosed (marks : List Bool) : Type 0 where
     pub full : (h : ℕ) → HasFreeDesk (seating_of p) plan h → IsMarked marks h
-    pub stays : (d h k : ℕ) → plan d ≡ Some h → IsTrue ((seating_of p).fits d k) → IsMarked marks k → IsMarked marks h
+    pub stays : (d h k : ℕ) → plan d ≡ Some h → IsTrue ((seating_of p).fits d k)
+        → IsMarked marks k → IsMarked marks h
 
   -- seated, or no marked hall fits
   abbrev pub IsSettled : List Bool → ℕ → Type 0
@@ -65,9 +76,12 @@ module _ (p : Problem) (plan : Plan ℕ ℕ) where
 
   -- what a search from the candidate found: how long the least chain is, or that there is none
   abbrev pub IsFound : ℕ → Found → Type 0
-  IsFound c (Chain layers) = (0 < length layers.items) × AreLayers layers.items × CanReach (length layers.items - 1) c
+  IsFound c (Chain layers) =
+      (0 < length layers.items) × AreLayers layers.items × CanReach (length layers.items - 1) c
       × ((j : ℕ) → j < length layers.items - 1 → CanReach j c → ⊥)
-  IsFound c (Closed reached) = AreClosed reached.items × (IsTouching p reached.items c → ⊥) × ((h : ℕ) → IsMarked reached.items h → (j : ℕ) × Reaches j h)
+  IsFound c (Closed reached) =
+      AreClosed reached.items × (IsTouching p reached.items c → ⊥)
+      × ((h : ℕ) → IsMarked reached.items h → (j : ℕ) × Reaches j h)
 
 -- each list has a mark for each hall
 abbrev pub IsSized : ℕ → Found → Type 0
@@ -87,4 +101,6 @@ module _ (p : Problem) (plan : Plan ℕ ℕ) where
   -- over at most so many halls an unseated candidate leads to the hall
   abbrev pub Draws : ℕ → ℕ → Type 0
   Draws zero h = ⊥
-  Draws (suc j) h = (c : ℕ) × ((plan c ≡ None) ⊎ ((k : ℕ) × (plan c ≡ Some k) × Draws j k)) × IsTrue ((seating_of p).fits c h)
+  Draws (suc j) h =
+      (c : ℕ) × ((plan c ≡ None) ⊎ ((k : ℕ) × (plan c ≡ Some k) × Draws j k))
+      × IsTrue ((seating_of p).fits c h)

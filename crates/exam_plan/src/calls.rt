@@ -16,7 +16,8 @@ use std::alloc::Global;
 pub fn keep_lawful(problem: &Problem, mut plan: Plan) -> Result<Plan, Refusal>
     requires { IsPlan problem.now plan.items }
     ensures plan { IfOk result (λ new. IsPlan problem.now new.items) }
-    ensures kept { IfOk result (λ new. SamePlan (plan_at new.items) (kept_part (seating_of problem.now) (plan_at plan.items))) }
+    ensures kept { IfOk result (λ new.
+        SamePlan (plan_at new.items) (kept_part (seating_of problem.now) (plan_at plan.items))) }
     ensures lawful { IfOk result (λ new. IsLawful (seating_of problem.now) (plan_at new.items)) }
     ensures accepted { IsOk result }
     ensures memory { IfErr result (λ e. e ≡ Refusal.NoMemory) }
@@ -39,8 +40,10 @@ pub fn sweep(
     requires first { IfSome first (λ c. c < length problem.now.fit) }
     ensures plan { IfOk result (λ new. IsPlan problem.now new.items) }
     ensures best { IfOk result (λ new. IsBest (seating_of problem.now) (plan_at new.items)) }
-    ensures kept { IfOk result (λ new. (c : ℕ) → IsSome (plan_at plan.items c) → IsSome (plan_at new.items c)) }
-    ensures chains { IfOk result (λ new. IsSweep (seating_of problem.now) first (plan_at plan.items) (plan_at new.items)) }
+    ensures kept { IfOk result (λ new. (c : ℕ) → IsSome (plan_at plan.items c)
+        → IsSome (plan_at new.items c)) }
+    ensures chains { IfOk result (λ new.
+        IsSweep (seating_of problem.now) first (plan_at plan.items) (plan_at new.items)) }
     ensures memory { IfErr result (λ e. e ≡ Refusal.NoMemory) }
 {
     let mut live = vec![in alloc; true; problem.hall_count()]?;
@@ -59,9 +62,12 @@ pub fn sweep(
 pub fn shortage(alloc: Global, problem: &Problem, plan: &Plan) -> Result<Shortage, Refusal>
     requires plan { IsPlan problem.now plan.now.items }
     requires best { IsBest (seating_of problem.now) (plan_at plan.now.items) }
-    ensures certificate { IfOk result (λ s. IsCertificate (seating_of problem.now) (plan_at plan.now.items) s.candidates.items s.halls.items) }
-    ensures unseated { IfOk result (λ s. s.unseated ≡ length (unseated (seating_of problem.now) (plan_at plan.now.items))) }
-    ensures contested { IfOk result (λ s. (c : ℕ) → Contains s.candidates.items c ↔ IsContested (seating_of problem.now) c) }
+    ensures certificate { IfOk result (λ s.
+        IsCertificate (seating_of problem.now) (plan_at plan.now.items) s.candidates.items s.halls.items) }
+    ensures unseated { IfOk result (λ s. s.unseated
+        ≡ length (unseated (seating_of problem.now) (plan_at plan.now.items))) }
+    ensures contested { IfOk result (λ s. (c : ℕ) → Contains s.candidates.items c
+        ↔ IsContested (seating_of problem.now) c) }
     ensures memory { IfErr result (λ e. e ≡ Refusal.NoMemory) }
 {
     let marked = contest::contested_halls(alloc, problem, plan.as_slice())?;

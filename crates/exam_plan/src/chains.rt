@@ -1,8 +1,10 @@
 //! Augmenting chains, found backwards from the free desks.
-ghost use Rattle.std.specs.Prelude.{◌≡◌, ◌⊎◌, ◌↔◌, ◌<◌, ◌≤◌, ◌+◌, ℕ, true, false, IsTrue, length, All, Some, IfSome, IfOk, IfErr, MatchOption, find, slice_index, slice_index_or};
+ghost use Rattle.std.specs.Prelude.{◌≡◌, ◌⊎◌, ◌↔◌, ◌<◌, ◌≤◌, ◌+◌, ℕ, true, false, IsTrue, length, All, Some};
+ghost use Rattle.std.specs.Prelude.{IfSome, IfOk, IfErr, MatchOption, find, slice_index, slice_index_or};
 ghost use Rattle.exam_plan.specs.Problems.{seating_of, plan_at};
 ghost use Rattle.exam_plan.specs.Chains.{HasFreeDesk};
-ghost use Rattle.exam_plan.specs.Searches.{IsMarked, MarksAll, IsTouching, AreLayers, CanReach, IsAdvanced, IsFound, IsSized, count_at};
+ghost use Rattle.exam_plan.specs.Searches.{IsMarked, MarksAll, IsTouching, AreLayers, CanReach, IsAdvanced};
+ghost use Rattle.exam_plan.specs.Searches.{IsFound, IsSized, count_at};
 
 use crate::problem::Problem;
 use exam_types::Refusal;
@@ -12,7 +14,8 @@ use std::alloc::Global;
 fn occupancy(alloc: Global, halls: usize, plan: &[Option<usize>]) -> Result<Vec<usize>, Refusal>
     requires { All (λ place. IfSome place (λ h. h < halls)) plan.now }
     ensures sized { IfOk result (λ counts. length counts.items ≡ halls) }
-    ensures counts { IfOk result (λ counts. (h : ℕ) → h < halls → slice_index counts.items h ≡ count_at (plan_at plan.now) h (length plan.now)) }
+    ensures counts { IfOk result (λ counts. (h : ℕ) → h < halls
+        → slice_index counts.items h ≡ count_at (plan_at plan.now) h (length plan.now)) }
     ensures memory { IfErr result (λ e. e ≡ Refusal.NoMemory) }
 {
     let mut counts = vec![in alloc; 0usize; halls]?;
@@ -33,7 +36,8 @@ fn free_halls(
     requires whole { length plan.now ≡ length problem.now.fit }
     requires exist { All (λ place. IfSome place (λ h. h < length problem.now.desk_counts)) plan.now }
     ensures sized { IfOk result (λ free. length free.items ≡ length problem.now.desk_counts) }
-    ensures free { IfOk result (λ free. MarksAll free.items (HasFreeDesk (seating_of problem.now) (plan_at plan.now))) }
+    ensures free { IfOk result (λ free.
+        MarksAll free.items (HasFreeDesk (seating_of problem.now) (plan_at plan.now))) }
     ensures memory { IfErr result (λ e. e ≡ Refusal.NoMemory) }
 {
     let counts = occupancy(alloc, problem.hall_count(), plan)?;
@@ -77,8 +81,11 @@ fn widened(
     requires exist { All (λ place. IfSome place (λ h. h < length problem.now.desk_counts)) plan.now }
     requires marked { length marked.now ≡ length problem.now.desk_counts }
     ensures long { IfOk result (λ next. length next.items ≡ length marked.now) }
-    ensures wider { IfOk result (λ next. (h : ℕ) → slice_index_or marked.now h false ≡ true → slice_index_or next.items h false ≡ true) }
-    ensures exact { IfOk result (λ next. MarksAll next.items (λ h. IsMarked marked.now h ⊎ ((d : ℕ) × (plan_at plan.now d ≡ Some h) × IsTouching problem.now marked.now d))) }
+    ensures wider { IfOk result (λ next. (h : ℕ) → slice_index_or marked.now h false ≡ true
+        → slice_index_or next.items h false ≡ true) }
+    ensures exact { IfOk result (λ next.
+        MarksAll next.items (λ h. IsMarked marked.now h
+        ⊎ ((d : ℕ) × (plan_at plan.now d ≡ Some h) × IsTouching problem.now marked.now d))) }
     ensures memory { IfErr result (λ e. e ≡ Refusal.NoMemory) }
 {
     let mut next = Vec::from_slice(alloc, marked)?;
@@ -140,8 +147,10 @@ fn first_mover(
     requires whole { length plan.now ≡ length problem.now.fit }
     requires marked { length marked.now ≡ length problem.now.desk_counts }
     ensures below { IfSome result (λ c. c < length problem.now.fit) }
-    ensures first { MatchOption result ((e : ℕ) → plan_at plan.now e ≡ Some hall → IsTouching problem.now marked.now e → ⊥)
-        (λ d. (plan_at plan.now d ≡ Some hall) × IsTouching problem.now marked.now d × ((e : ℕ) → plan_at plan.now e ≡ Some hall → IsTouching problem.now marked.now e → d ≤ e)) }
+    ensures first { MatchOption result
+        ((e : ℕ) → plan_at plan.now e ≡ Some hall → IsTouching problem.now marked.now e → ⊥)
+        (λ d. (plan_at plan.now d ≡ Some hall) × IsTouching problem.now marked.now d
+        × ((e : ℕ) → plan_at plan.now e ≡ Some hall → IsTouching problem.now marked.now e → d ≤ e)) }
 {
     for (candidate, place) in plan.iter().enumerate() {
         if *place == Some(hall) && is_touching(problem, candidate, marked) {

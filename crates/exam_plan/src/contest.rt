@@ -1,5 +1,6 @@
 //! Who is contested when desks are short: the search forwards from the unseated candidates.
-ghost use Rattle.std.specs.Prelude.{◌≡◌, ◌⊎◌, ◌<◌, ◌≤◌, ℕ, true, false, IsTrue, length, All, IfSome, IfOk, IfErr, filter, slice_index_or};
+ghost use Rattle.std.specs.Prelude.{◌≡◌, ◌⊎◌, ◌<◌, ◌≤◌, ℕ, true, false, IsTrue, length, All, IfSome, IfOk};
+ghost use Rattle.std.specs.Prelude.{IfErr, filter, slice_index_or};
 ghost use Rattle.std.specs.List.{range_with_len};
 ghost use Rattle.exam_plan.specs.Matching.{unseated};
 ghost use Rattle.exam_plan.specs.Problems.{IsProblem, seating_of, plan_at};
@@ -24,7 +25,8 @@ fn is_drawn_in(place: Option<usize>, marked: &[bool]) -> bool
 fn mark_row(problem: &Problem, marked: &mut [bool], candidate: usize)
     requires candidate { candidate < length problem.now.fit }
     requires marked { length marked.old ≡ length problem.now.desk_counts }
-    ensures { MarksAll marked.new (λ h. IsMarked marked.old h ⊎ IsTrue ((seating_of problem.now).fits candidate h)) }
+    ensures { MarksAll marked.new (λ h. IsMarked marked.old h
+        ⊎ IsTrue ((seating_of problem.now).fits candidate h)) }
 {
     for hall in problem.row(candidate) {
         marked[*hall] = true;
@@ -42,8 +44,12 @@ fn spread(
     requires exist { All (λ place. IfSome place (λ h. h < length problem.now.desk_counts)) plan.now }
     requires marked { length marked.now ≡ length problem.now.desk_counts }
     ensures long { IfOk result (λ next. length next.items ≡ length marked.now) }
-    ensures wider { IfOk result (λ next. (h : ℕ) → slice_index_or marked.now h false ≡ true → slice_index_or next.items h false ≡ true) }
-    ensures exact { IfOk result (λ next. MarksAll next.items (λ h. IsMarked marked.now h ⊎ ((c : ℕ) × IsTrue (is_drawn marked.now (plan_at plan.now c)) × IsTrue ((seating_of problem.now).fits c h)))) }
+    ensures wider { IfOk result (λ next. (h : ℕ) → slice_index_or marked.now h false ≡ true
+        → slice_index_or next.items h false ≡ true) }
+    ensures exact { IfOk result (λ next.
+        MarksAll next.items (λ h. IsMarked marked.now h
+        ⊎ ((c : ℕ) × IsTrue (is_drawn marked.now (plan_at plan.now c))
+        × IsTrue ((seating_of problem.now).fits c h)))) }
     ensures memory { IfErr result (λ e. e ≡ Refusal.NoMemory) }
 {
     let mut next = Vec::from_slice(alloc, marked)?;
@@ -64,8 +70,10 @@ pub fn contested_halls(
     requires whole { length plan.now ≡ length problem.now.fit }
     requires exist { All (λ place. IfSome place (λ h. h < length problem.now.desk_counts)) plan.now }
     ensures sized { IfOk result (λ marked. length marked.items ≡ length problem.now.desk_counts) }
-    ensures drawn { IfOk result (λ marked. (h : ℕ) → IsMarked marked.items h → (j : ℕ) × Draws problem.now (plan_at plan.now) j h) }
-    ensures closed { IfOk result (λ marked. (c h : ℕ) → IsTrue (is_drawn marked.items (plan_at plan.now c)) → IsTrue ((seating_of problem.now).fits c h) → IsMarked marked.items h) }
+    ensures drawn { IfOk result (λ marked. (h : ℕ) → IsMarked marked.items h
+        → (j : ℕ) × Draws problem.now (plan_at plan.now) j h) }
+    ensures closed { IfOk result (λ marked. (c h : ℕ) → IsTrue (is_drawn marked.items (plan_at plan.now c))
+        → IsTrue ((seating_of problem.now).fits c h) → IsMarked marked.items h) }
     ensures memory { IfErr result (λ e. e ≡ Refusal.NoMemory) }
 {
     let mut marked = vec![in alloc; false; problem.hall_count()]?;
@@ -80,7 +88,8 @@ pub fn contested_halls(
 
 /// The indices that are marked.
 pub fn marked_indices(alloc: Global, marked: &[bool]) -> Result<Vec<usize>, Refusal>
-    ensures indices { IfOk result (λ indices. indices.items ≡ filter (λ h. slice_index_or marked.now h false) (range_with_len 0 (length marked.now))) }
+    ensures indices { IfOk result (λ indices. indices.items
+        ≡ filter (λ h. slice_index_or marked.now h false) (range_with_len 0 (length marked.now))) }
     ensures memory { IfErr result (λ e. e ≡ Refusal.NoMemory) }
 {
     let mut indices = Vec::new(alloc);
@@ -99,7 +108,8 @@ pub fn drawn_in(
     marked: &[bool],
 ) -> Result<Vec<usize>, Refusal>
     requires { All (λ place. IfSome place (λ h. h < length marked.now)) plan.now }
-    ensures candidates { IfOk result (λ candidates. candidates.items ≡ filter (λ c. is_drawn marked.now (plan_at plan.now c)) (range_with_len 0 (length plan.now))) }
+    ensures candidates { IfOk result (λ candidates. candidates.items
+        ≡ filter (λ c. is_drawn marked.now (plan_at plan.now c)) (range_with_len 0 (length plan.now))) }
     ensures memory { IfErr result (λ e. e ≡ Refusal.NoMemory) }
 {
     let mut candidates = Vec::new(alloc);

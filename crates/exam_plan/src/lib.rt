@@ -14,9 +14,9 @@ mod turns;
 
 pub use calls::{desks, keep_lawful, shortage, sweep};
 pub use laws::{
-    best_plan_is_its_repair, best_sizes_agree, certificate_shows_best,
+    best_plan_is_its_repair, best_sizes_agree, certificate_shows_best, contested_are_a_certificate,
     desk_number_is_within_the_hall, desk_numbers_are_distinct, least_chain_is_one,
-    what_stays_is_lawful,
+    repair_has_one_result, some_plan_is_best, what_stays_is_lawful,
 };
 pub use problem::{Plan, Problem};
 pub use report::Shortage;

@@ -1,5 +1,6 @@
 //! Desk numbers.
-ghost use Rattle.std.specs.Prelude.{◌≡◌, ◌<◌, ◌≤◌, ℕ, length, map, nat_lt, count_by, IfOk, IfErr, slice_index};
+ghost use Rattle.std.specs.Prelude.{◌≡◌, ◌<◌, ◌≤◌, ℕ, length, map, nat_lt, count_by, IfOk, IfErr};
+ghost use Rattle.std.specs.Prelude.{slice_index};
 ghost use Rattle.exam_plan.specs.Matching.{occupants};
 ghost use Rattle.exam_plan.specs.Problems.{seating_of, plan_at, desk_numbers as numbers_of};
 
@@ -12,7 +13,8 @@ fn ranked_below(problem: &Problem, plan: &[Option<usize>], hall: usize, rank: u3
     requires whole { length plan.now ≡ length problem.now.fit }
     requires few { length plan.now ≤ 4096 }
     ensures few { result ≤ length plan.now }
-    ensures count { result ≡ count_by (λ d. nat_lt (slice_index problem.now.rank d) rank) (occupants (seating_of problem.now) (plan_at plan.now) hall) }
+    ensures count { result ≡ count_by (λ d. nat_lt (slice_index problem.now.rank d) rank)
+        (occupants (seating_of problem.now) (plan_at plan.now) hall) }
 {
     let mut count = 0;
     for (candidate, place) in plan.iter().enumerate() {

@@ -1,5 +1,6 @@
 //! The seating problem of a session, by indices.
-ghost use Rattle.std.specs.Prelude.{◌≡◌, ℕ, [], ◌<◌, length, map, All, IfOk, IsOk, IfErr, slice_index, slice_index_or};
+ghost use Rattle.std.specs.Prelude.{◌≡◌, ℕ, [], ◌<◌, length, map, All, IfOk, IsOk, IfErr, slice_index};
+ghost use Rattle.std.specs.Prelude.{slice_index_or};
 ghost use Rattle.std.specs.List.Sorted.{IsStrictlySortedBy};
 ghost use Rattle.std.specs.Ordering.{nat_cmp};
 ghost use Rattle.exam_plan.specs.Problems.{IsProblem};
@@ -25,17 +26,33 @@ impl Model for Problem {
 
     ghost Value = { problems.Problem };
 
-    ghost view = { λ a. record { desk_counts = a.desk_counts.items; fit = map (λ row. row.items) a.fit.items; rank = a.rank.items } };
+    ghost view = { λ a. record {
+      desk_counts = a.desk_counts.items;
+      fit = map (λ row. row.items) a.fit.items;
+      rank = a.rank.items;
+    } };
 
-    ghost invariant = { λ a. problems.IsProblem (record { desk_counts = a.desk_counts.items; fit = map (λ row. row.items) a.fit.items; rank = a.rank.items }) };
+    ghost invariant = { λ a. problems.IsProblem (record {
+      desk_counts = a.desk_counts.items;
+      fit = map (λ row. row.items) a.fit.items;
+      rank = a.rank.items;
+    }) };
 }
 
 impl Problem {
     /// The problem with these desks in each hall, these fitting halls of each candidate, and these places
     /// of the candidates in the order of desks.
     pub fn new(desks: Vec<u32>, fit: Vec<Vec<usize>>, rank: Vec<u32>) -> Result<Problem, Refusal>
-        requires { IsProblem (record { desk_counts = desks.items; fit = map (λ row. row.items) fit.items; rank = rank.items }) }
-        ensures problem { IfOk result (λ p. p ≡ record { desk_counts = desks.items; fit = map (λ row. row.items) fit.items; rank = rank.items }) }
+        requires { IsProblem (record {
+          desk_counts = desks.items;
+          fit = map (λ row. row.items) fit.items;
+          rank = rank.items;
+        }) }
+        ensures problem { IfOk result (λ p. p ≡ record {
+          desk_counts = desks.items;
+          fit = map (λ row. row.items) fit.items;
+          rank = rank.items;
+        }) }
         ensures accepted { IsOk result }
         ensures memory { IfErr result (λ e. e ≡ Refusal.NoMemory) }
     {

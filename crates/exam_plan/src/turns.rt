@@ -27,11 +27,16 @@ pub fn take_turn(
     ensures plan { IsPlan problem.now plan.new.items }
     ensures live { IfOk result (λ live. length live.items ≡ length problem.now.desk_counts) }
     ensures lawful { OnOk result (IsLawful (seating_of problem.now) (plan_at plan.new.items)) }
-    ensures kept { OnOk result ((d : ℕ) → IsSome (plan_at plan.old.items d) → IsSome (plan_at plan.new.items d)) }
-    ensures turn { OnOk result (Turn (seating_of problem.now) (plan_at plan.old.items) candidate (plan_at plan.new.items)) }
+    ensures kept { OnOk result ((d : ℕ) → IsSome (plan_at plan.old.items d)
+        → IsSome (plan_at plan.new.items d)) }
+    ensures turn { OnOk result
+        (Turn (seating_of problem.now) (plan_at plan.old.items) candidate (plan_at plan.new.items)) }
     ensures closed { IfOk result (λ after. AreClosed problem.now (plan_at plan.new.items) after.items) }
-    ensures settled { IfOk result (λ after. IsSettled problem.now (plan_at plan.new.items) after.items candidate) }
-    ensures others { IfOk result (λ after. (d : ℕ) → IsSettled problem.now (plan_at plan.old.items) live.items d → IsSettled problem.now (plan_at plan.new.items) after.items d) }
+    ensures settled { IfOk result (λ after.
+        IsSettled problem.now (plan_at plan.new.items) after.items candidate) }
+    ensures others { IfOk result (λ after. (d : ℕ)
+        → IsSettled problem.now (plan_at plan.old.items) live.items d
+        → IsSettled problem.now (plan_at plan.new.items) after.items d) }
     ensures memory { IfErr result (λ e. e ≡ Refusal.NoMemory) }
 {
     if plan[candidate].is_some() || !chains::is_touching(problem, candidate, live.as_slice()) {

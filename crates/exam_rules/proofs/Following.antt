@@ -8,13 +8,12 @@ use Rattle.std.specs.Cmp.Lexicographic.{nat_list_cmp_total}
 use Rattle.std.proofs.lemmas.Bool.{cases_order}
 use Rattle.std.proofs.lemmas.Cmp.{tied_itself}
 use Rattle.std.proofs.lemmas.Map.Views.{exact_unsigned_eq}
-use Rattle.exam_plan.specs.Problems.{seating_of}
 use Rattle.exam_plan.specs.Matching.{Plan, IsLawful}
 use Rattle.exam_rules.specs.Relations.{Code, Relations, code_cmp}
-use Rattle.exam_rules.specs.Seatings.{open_halls, seating, problem_of}
-use Rattle.exam_rules.specs.Names.{number_at, hall_at, index_of, hall_index, ListsRise, SeatsInOpenHalls}
+use Rattle.exam_rules.specs.Seatings.{indexed_seating, open_halls}
+use Rattle.exam_rules.specs.Names.{naming, number_at, hall_at, hall_index, ListsRise, SeatsInOpenHalls}
 use Rattle.exam_rules.proofs.Naming.{renames, numbers_rise, codes_rise, fit_member, fit_open, hall_known}
-use Rattle.exam_rules.proofs.ChainNames.{Follows, AreKnown}
+use Rattle.exam_plan.proofs.ChainNames.{Follows, AreKnown}
 
 -- where names rise with their indices, they compare as the indices
 order_kept : {Y : Type 0} (S : Y → Y → Ordering) → IsTotalOrder S → (name : ℕ → Y) (P : ℕ → Type 0) → ((i j : ℕ) → P i → P j → nat_cmp i j ≡ Less → S (name i) (name j) ≡ Less)
@@ -27,9 +26,9 @@ order_kept S o name P rise i j p q = elim (cases_order i j) [
   ]
 ]
 
-pub follows : (r : Relations) (s : Code) → ListsRise r s → Follows (seating_of (problem_of r s)) (seating r s) (number_at r s) (hall_at r s) (hall_index r s)
+pub follows : (r : Relations) (s : Code) → ListsRise r s → Follows (naming r s)
 follows r s up = record {
-  candidates = order_kept nat_cmp nat_cmp_total (number_at r s) (Contains (seating_of (problem_of r s)).members) (numbers_rise r s up);
+  candidates = order_kept nat_cmp nat_cmp_total (number_at r s) (Contains (indexed_seating r s).members) (numbers_rise r s up);
   halls = order_kept code_cmp nat_list_cmp_total (hall_at r s) (λ j. hall_index r s (hall_at r s j) ≡ Some j) (codes_rise r s up);
   same_a = λ i j. (exact_unsigned_eq i j, eq-eqb i j);
   same_b = λ c d. (exact_unsigned_eq c d, eq-eqb c d);
@@ -38,16 +37,16 @@ follows r s up = record {
 
 -- a plan that seats in open halls alone seats in halls with names
 pub all_known : (r : Relations) (s : Code) (up : ListsRise r s) (p : Plan ℕ ℕ) → SeatsInOpenHalls r s p
-    → AreKnown (seating_of (problem_of r s)) (seating r s) (number_at r s) (hall_at r s) (index_of r s) (hall_index r s) (renames r s up) (follows r s up) p
+    → AreKnown (naming r s) (renames r s up) (follows r s up) p
 all_known r s up p within i = inner (p i) (within i)
   where
     inner : (o : Option ℕ) → IfSome o (λ j. j < length (open_halls r s)) → IfSome o (λ j. hall_index r s (hall_at r s j) ≡ Some j)
     inner None w = tt
     inner (Some j) w = hall_known r s up j w
 
-pub lawful_seats : (r : Relations) (s : Code) (p : Plan ℕ ℕ) → IsLawful (seating_of (problem_of r s)) p → SeatsInOpenHalls r s p
+pub lawful_seats : (r : Relations) (s : Code) (p : Plan ℕ ℕ) → IsLawful (indexed_seating r s) p → SeatsInOpenHalls r s p
 lawful_seats r s p lawful i = inner (p i) (lawful.fitting i)
   where
-    inner : (o : Option ℕ) → IfSome o (λ j. IsTrue ((seating_of (problem_of r s)).fits i j)) → IfSome o (λ j. j < length (open_halls r s))
+    inner : (o : Option ℕ) → IfSome o (λ j. IsTrue ((indexed_seating r s).fits i j)) → IfSome o (λ j. j < length (open_halls r s))
     inner None fit = tt
     inner (Some j) fit = fit_open r s i j fit

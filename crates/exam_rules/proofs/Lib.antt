@@ -1,14 +1,9 @@
-pub mod Carrying
-pub mod ChainNames
 pub mod Following
-pub mod KeptNames
 pub mod Naming
-pub mod OneRepair
 pub mod Places
 pub mod PlanLists
 pub mod Ranking
 pub mod Sitters
-pub mod SweepNames
 pub mod Together
 pub mod Turns
 pub mod Listing

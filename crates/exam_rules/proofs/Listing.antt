@@ -22,7 +22,7 @@ use Rattle.std.proofs.lemmas.Map.Views.{exact_unsigned_eq}
 use Rattle.exam_rules.specs.declared.rows.Entry.{Entry}
 use Rattle.exam_rules.specs.declared.rows.Paper.{Paper}
 use Rattle.exam_rules.specs.Relations.{Code, Relations, code_cmp, same_code, row_at, is_row_of, leading}
-use Rattle.exam_rules.specs.Sessions.{head_of, is_live_entry, is_member, is_paper_of, live_papers, live_papers_in}
+use Rattle.exam_rules.specs.Sessions.{head_of, is_live_entry, has_live_entry, is_paper_of, live_papers, live_papers_in}
 use Rattle.exam_rules.proofs.Together.{any_is}
 use Rattle.exam_rules.specs.Lists.{listed, ends_with, with_last, entered_session}
 use Rattle.exam_rules.proofs.Naming.{same_code_exact}
@@ -83,7 +83,7 @@ module _ (r : Relations) (n : ℕ) where
   enters_row s k e rest o own is = rw (own, own) (ap (λ b. b || enters s rest) (counts_for s k.1 e o is))
 
   -- the rows from the candidate's first on decide as all
-  pub enters_all : (s : Code) (rows : List ((ℕ × Code) × Entry)) → live_papers_in r (leading (is_row_of n) rows) s n ≡ live_papers r s n → enters s rows ≡ is_member r s n
+  pub enters_all : (s : Code) (rows : List ((ℕ × Code) × Entry)) → live_papers_in r (leading (is_row_of n) rows) s n ≡ live_papers r s n → enters s rows ≡ has_live_entry r s n
   enters_all s rows same =
       any_is (is_live_entry r s n) (λ (e : (ℕ × Code) × Entry). e.0.1) (leading (is_row_of n) rows)
       ∙ ap (λ t. is_some (head_of t)) same ∙ sym (any_is (is_live_entry r s n) (λ (e : (ℕ × Code) × Entry). e.0.1) r.entries)

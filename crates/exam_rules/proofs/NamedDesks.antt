@@ -4,17 +4,17 @@ use Rattle.std.specs.Option.{option_and_then}
 use Rattle.std.proofs.Math.Path.{fun_ext}
 use Rattle.std.proofs.lemmas.List.{length-map}
 use Rattle.exam_plan.specs.Matching.{Plan, IsLawful, desk_number}
-use Rattle.exam_plan.specs.Problems.{seating_of, ranks_before}
+use Rattle.exam_plan.specs.Problems.{ranks_before}
 use Rattle.exam_plan.proofs.NumberLaws.{number_fits, numbers_differ}
 use Rattle.exam_plan.proofs.Renaming.{IsLawful-indexed}
 use Rattle.exam_rules.specs.Relations.{Code, Relations}
 use Rattle.exam_rules.specs.Sessions.{members}
-use Rattle.exam_rules.specs.Seatings.{seating, problem_of, desks, fits, open_halls, fitting_places, stands_before}
-use Rattle.exam_rules.specs.Names.{ListsRise, number_at, hall_at, index_of, hall_index, named_plan, indexed_plan}
+use Rattle.exam_rules.specs.Seatings.{indexed_seating, seating, problem_of, desks, fits, open_halls, fitting_places, stands_before}
+use Rattle.exam_rules.specs.Names.{naming, ListsRise, number_at, index_of, hall_index, named_plan, indexed_plan}
 use Rattle.exam_rules.proofs.Naming.{renames, index_below, order_same}
 use Rattle.exam_rules.proofs.Following.{follows}
-use Rattle.exam_rules.proofs.Carrying.{member_index, desk_number-named}
-use Rattle.exam_rules.proofs.KeptNames.{name_of_index, seat_index}
+use Rattle.exam_plan.proofs.Carrying.{member_index, desk_number-named}
+use Rattle.exam_plan.proofs.KeptNames.{name_of_index, seat_index}
 use Rattle.exam_rules.proofs.Ranking.{is_problem}
 
 known : {A : Type 0} (o : Option A) → IsSome o → (x : A) × (o ≡ Some x)
@@ -25,11 +25,11 @@ known {A} o some = inner o some
     inner o some = absurd (cc)
 
 module _ (r : Relations) (s : Code) (up : ListsRise r s) (q : Plan ℕ Code) (lawful : IsLawful (seating r s) q) where
-  lawful_indexed : IsLawful (seating_of (problem_of r s)) (indexed_plan r s q)
-  lawful_indexed = IsLawful-indexed (seating_of (problem_of r s)) (seating r s) (number_at r s) (hall_at r s) (index_of r s) (hall_index r s) (renames r s up) q lawful
+  lawful_indexed : IsLawful (indexed_seating r s) (indexed_plan r s q)
+  lawful_indexed = IsLawful-indexed (naming r s) (renames r s up) q lawful
 
   back : named_plan r s (indexed_plan r s q) ≡ q
-  back = fun_ext (name_of_index (seating_of (problem_of r s)) (seating r s) (number_at r s) (hall_at r s) (index_of r s) (hall_index r s) (renames r s up) (follows r s up) q lawful)
+  back = fun_ext (name_of_index (naming r s) (renames r s up) (follows r s up) q lawful)
 
   -- the indices of one who sits, and of their hall
   record Place (c : ℕ) (h : Code) : Type 0 where
@@ -41,7 +41,7 @@ module _ (r : Relations) (s : Code) (up : ListsRise r s) (q : Plan ℕ Code) (la
 
   place : (c : ℕ) (h : Code) → q c ≡ Some h → Place c h
   place c h e =
-      let member = member_index (seating_of (problem_of r s)) (seating r s) (number_at r s) (hall_at r s) (index_of r s) (hall_index r s) (renames r s up) c (lawful.members c (ap is_some e)) in
+      let member = member_index (naming r s) (renames r s up) c (lawful.members c (ap is_some e)) in
       let fit : IsTrue (fits r s c h) = subst (λ (o : Option Code). IfSome o (λ k. IsTrue (fits r s c k))) e (lawful.fitting c) in
       let hall = known (hall_index r s h) ((renames r s up).known_fit c h fit) in
       record {
@@ -49,14 +49,14 @@ module _ (r : Relations) (s : Code) (up : ListsRise r s) (q : Plan ℕ Code) (la
         hall = hall.0;
         is = member.1;
         hall_is = hall.1;
-        sits = seat_index (seating_of (problem_of r s)) (seating r s) (number_at r s) (hall_at r s) (index_of r s) (hall_index r s) (renames r s up) (follows r s up) q c member.0 member.1
+        sits = seat_index (naming r s) (renames r s up) (follows r s up) q c member.0 member.1
             ∙ ap (option_and_then (hall_index r s)) e ∙ hall.1;
       }
 
-  number_is : (c : ℕ) (h : Code) (p : Place c h) → desk_number (seating r s) (stands_before r s) q c ≡ desk_number (seating_of (problem_of r s)) (ranks_before (problem_of r s)) (indexed_plan r s q) p.index
+  number_is : (c : ℕ) (h : Code) (p : Place c h) → desk_number (seating r s) (stands_before r s) q c ≡ desk_number (indexed_seating r s) (ranks_before (problem_of r s)) (indexed_plan r s q) p.index
   number_is c h p =
       ap (λ (plan : Plan ℕ Code). desk_number (seating r s) (stands_before r s) plan c) (sym back)
-      ∙ desk_number-named (seating_of (problem_of r s)) (seating r s) (number_at r s) (hall_at r s) (index_of r s) (hall_index r s) (renames r s up) (stands_before r s) (ranks_before (problem_of r s)) (order_same r s) (indexed_plan r s q) lawful_indexed c p.index p.is
+      ∙ desk_number-named (naming r s) (renames r s up) (stands_before r s) (ranks_before (problem_of r s)) (order_same r s) (indexed_plan r s q) lawful_indexed c p.index p.is
 
   -- the number is one of the hall's desks
   pub desk_within : (c n : ℕ) (h : Code) → q c ≡ Some h → desk_number (seating r s) (stands_before r s) q c ≡ Some n → n ≤ desks r s h

@@ -18,16 +18,16 @@ use Rattle.std.proofs.lemmas.List.Elements.{All-from_recursion}
 use Rattle.std.proofs.lemmas.Map.Keys.{sorted_head, sorted_tail, Less-from_sorted}
 use Rattle.std.proofs.lemmas.Map.Lookups.{exact_bytes}
 use Rattle.std.proofs.lemmas.Map.Views.{exact_unsigned_eq}
-use Rattle.exam_plan.specs.Problems.{seating_of, ranks_before}
+use Rattle.exam_plan.specs.Problems.{ranks_before}
 use Rattle.exam_plan.proofs.Renaming.{Renames}
 use Rattle.exam_rules.specs.declared.rows.Hall.{Hall}
 use Rattle.exam_rules.specs.declared.rows.Opening.{Opening}
 use Rattle.exam_rules.specs.declared.fit.Terms.{Terms}
 use Rattle.exam_rules.specs.declared.fit.Room.{Room}
 use Rattle.exam_rules.specs.Relations.{Code, Relations, code_cmp, same_code, opening_cmp, row_at}
-use Rattle.exam_rules.specs.Sessions.{members, is_member, barred_halls}
-use Rattle.exam_rules.specs.Seatings.{positions, fits, desks, open_halls, fitting_places, seating, problem_of, rank, stands_before, suits_opened, sitting_terms, opened_room, room_of}
-use Rattle.exam_rules.specs.Names.{first_place, number_at, hall_at, index_of, hall_index, ListsRise}
+use Rattle.exam_rules.specs.Sessions.{members, has_live_entry, barred_halls}
+use Rattle.exam_rules.specs.Seatings.{positions, fits, desks, open_halls, fitting_places, problem_of, rank, stands_before, suits_opened, sitting_terms, opened_room, room_of}
+use Rattle.exam_rules.specs.Names.{naming, first_place, number_at, hall_at, index_of, hall_index, ListsRise}
 use Rattle.exam_rules.proofs.Places.{within}
 use Rattle.exam_rules.proofs.Ranking.{all_there, order_is_rank}
 use Rattle.exam_rules.proofs.Together.{and_left, and_right}
@@ -227,7 +227,7 @@ module _ (r : Relations) (s : Code) where
   pub fits_open : (c : ℕ) (h : Code) → IsTrue (fits r s c h) → list_any (same_code h) (open_halls r s) ≡ true
   fits_open c h e =
       lookup_any s h r.openings (opened h (suited (sitting_terms r s c) (opened_room r s h)
-      (and_left (suits_opened (sitting_terms r s c) (opened_room r s h)) (not (list_any (same_code h) (barred_halls r s c))) (and_right (is_member r s c) (suits_opened (sitting_terms r s c) (opened_room r s h) && not (list_any (same_code h) (barred_halls r s c))) e))))
+      (and_left (suits_opened (sitting_terms r s c) (opened_room r s h)) (not (list_any (same_code h) (barred_halls r s c))) (and_right (has_live_entry r s c) (suits_opened (sitting_terms r s c) (opened_room r s h) && not (list_any (same_code h) (barred_halls r s c))) e))))
 
   -- ---- the renaming
 
@@ -275,7 +275,7 @@ module _ (r : Relations) (s : Code) where
       let at : get_or (range_with_len 0 (length rows)) i i ≡ 0 + i = get_or-range_with_len 0 (length rows) i i (omega arith) in
       (i, omega arith, omega arith)
 
-  pub renames : ListsRise r s → Renames (seating_of (problem_of r s)) (seating r s) (number_at r s) (hall_at r s) (index_of r s) (hall_index r s)
+  pub renames : ListsRise r s → Renames (naming r s)
   renames up = record {
     members = fill_by_all (number_at r s) (members r s) (length rows) 0 (sym (length-map (members r s) (λ c. fitting_places r s c (open_halls r s)))) (λ k h. refl);
     known = λ i m. place_known nat_eq exact_unsigned_eq number_itself nat_cmp nat_cmp_total 0 (members r s) 0 i i up.numbers (below_member i m) (omega arith);

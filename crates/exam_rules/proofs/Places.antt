@@ -7,7 +7,7 @@ use Rattle.std.specs.List.Sorted.{IsStrictlySortedBy}
 use Rattle.std.proofs.lemmas.Bool.Decides.{nat_tests}
 use Rattle.std.proofs.lemmas.List.Elements.{All-from_recursion}
 use Rattle.exam_rules.specs.Relations.{Code, Relations}
-use Rattle.exam_rules.specs.Sessions.{is_member, barred_halls}
+use Rattle.exam_rules.specs.Sessions.{has_live_entry, barred_halls}
 use Rattle.exam_rules.specs.declared.fit.Room.{Room}
 use Rattle.exam_rules.specs.Seatings.{positions, fits, fitting_places, sitting_terms, is_suiting, with_rooms, opened_room}
 
@@ -41,16 +41,16 @@ and_true x y h = rw h refl
 
 module _ (r : Relations) (s : Code) (c : ℕ) where
   -- no hall fits one who is no member
-  pub fits_nowhere : is_member r s c ≡ false → (halls : List Code) → [] ≡ fitting_places r s c halls
-  fits_nowhere outside halls = sym (positions_none (fits r s c) 0 halls (λ h. and_false (is_member r s c) (is_suiting (sitting_terms r s c) (barred_halls r s c) (h, opened_room r s h)) outside))
+  pub fits_nowhere : has_live_entry r s c ≡ false → (halls : List Code) → [] ≡ fitting_places r s c halls
+  fits_nowhere outside halls = sym (positions_none (fits r s c) 0 halls (λ h. and_false (has_live_entry r s c) (is_suiting (sitting_terms r s c) (barred_halls r s c) (h, opened_room r s h)) outside))
 
   -- what suits a member in the rooms fits them
-  pub fits_by_rooms : is_member r s c ≡ true → (rows : List (Code × Option Room)) → rows ≡ with_rooms r s (map (λ (row : Code × Option Room). row.0) rows)
+  pub fits_by_rooms : has_live_entry r s c ≡ true → (rows : List (Code × Option Room)) → rows ≡ with_rooms r s (map (λ (row : Code × Option Room). row.0) rows)
       → positions (is_suiting (sitting_terms r s c) (barred_halls r s c)) 0 rows ≡ fitting_places r s c (map (λ (row : Code × Option Room). row.0) rows)
   fits_by_rooms inside rows rooms =
       ap (positions (is_suiting (sitting_terms r s c) (barred_halls r s c)) 0) rooms
       ∙ positions-map (is_suiting (sitting_terms r s c) (barred_halls r s c)) (λ h. (h, opened_room r s h)) 0 (map (λ (row : Code × Option Room). row.0) rows)
-      ∙ positions_same _ (fits r s c) 0 (map (λ (row : Code × Option Room). row.0) rows) (λ h. and_true (is_member r s c) (is_suiting (sitting_terms r s c) (barred_halls r s c) (h, opened_room r s h)) inside)
+      ∙ positions_same _ (fits r s c) 0 (map (λ (row : Code × Option Room). row.0) rows) (λ h. and_true (has_live_entry r s c) (is_suiting (sitting_terms r s c) (barred_halls r s c) (h, opened_room r s h)) inside)
 
 map-with_rooms : (r : Relations) (s : Code) (halls : List Code) → map (λ (row : Code × Option Room). row.0) (with_rooms r s halls) ≡ halls
 map-with_rooms r s [] = refl

@@ -1,15 +1,20 @@
 -- One sits a paper exactly where one is a member.
-use Rattle.std.proofs.Common.{◌≡◌, ◌==◌, ℕ, subst, Bool, true, false, cond, ◌&&◌, ◌||◌, is_some, List, [], ◌∷◌, Option, Some, None, refl, sym, eq-eqb}
+use Rattle.std.proofs.Common.{◌≡◌, ◌==◌, ◌↔◌, ◌∙◌, ℕ, ap, subst, Bool, true, false, cond, ◌&&◌, ◌||◌, is_some, nat_eq, Contains, List, [], ◌∷◌, filter, Option, Some, None, refl, sym, eq-eqb}
 use Rattle.std.specs.List.{list_any}
 use Rattle.std.specs.BTreeMap.{is_at}
 use Rattle.std.specs.Option.{option_map_or, option_or}
 use Rattle.std.proofs.lemmas.Map.Lookups.{exact_bytes, exact_pairs, exact_unsigned}
-use Rattle.std.proofs.lemmas.Map.Views.{tells_apart}
+use Rattle.std.proofs.lemmas.Map.Views.{tells_apart, exact_unsigned_eq, Contains-from_any, Contains-keys_from_lookup, IsSome-lookup_from_Contains}
+use Rattle.std.proofs.lemmas.List.Elements.{All-contains, All-contains_itself, All-filter, filter_passes}
+use Rattle.std.proofs.lemmas.List.Folds.{list_any_at}
+use Rattle.std.proofs.lemmas.Bool.{and_from}
+use Rattle.std.proofs.lemmas.Cmp.{eq_by_cmp_equiv, nat_cmp_total}
+use Rattle.std.specs.Map.{keys_of}
 use Rattle.std.specs.Ordering.{nat_cmp}
 use Rattle.exam_rules.specs.declared.rows.Entry.{Entry}
-use Rattle.exam_rules.specs.Relations.{Code, Relations, code_cmp, entry_cmp, row_at}
-use Rattle.exam_rules.specs.Sessions.{is_paper_of, is_live_entry, is_live, is_live_paper, is_member, granted_paper, least_live_paper, option_filter, sitting}
-use Rattle.exam_rules.proofs.Together.{any_is}
+use Rattle.exam_rules.specs.Relations.{Code, Relations, code_cmp, entry_cmp, row_at, has_row}
+use Rattle.exam_rules.specs.Sessions.{is_paper_of, is_live_entry, is_live, is_live_paper, has_live_entry, is_member, members, granted_paper, least_live_paper, option_filter, sitting}
+use Rattle.exam_rules.proofs.Together.{any_is, and_left, and_right}
 
 same_key : (x y : ℕ × Code) → is_at (entry_cmp x) y ≡ true → x ≡ y
 same_key = tells_apart (exact_pairs nat_cmp code_cmp exact_unsigned exact_bytes)
@@ -37,21 +42,61 @@ module _ (r : Relations) (s : Code) (c : ℕ) where
       inner false at rest l = or_true (is_live_entry r s c e) _ (rest l)
 
   -- a live paper makes a member
-  live_member : (p : Code) → is_live_paper r s c p ≡ true → is_member r s c ≡ true
+  live_member : (p : Code) → is_live_paper r s c p ≡ true → has_live_entry r s c ≡ true
   live_member p h = inner (is_live r c p) refl (is_paper_of r s p) refl h
     where
-      inner : (a : Bool) → is_live r c p ≡ a → (b : Bool) → is_paper_of r s p ≡ b → (a && b) ≡ true → is_member r s c ≡ true
+      inner : (a : Bool) → is_live r c p ≡ a → (b : Bool) → is_paper_of r s p ≡ b → (a && b) ≡ true → has_live_entry r s c ≡ true
       inner true x true y e = live_listed p r.entries x y
       inner true x false y e = absurd (let f : false ≡ true = e in cc)
       inner false x b y e = absurd (let f : false ≡ true = e in cc)
 
-  pub members_sit : is_some (sitting r s c) ≡ is_member r s c
+  pub members_sit : is_some (sitting r s c) ≡ has_live_entry r s c
   members_sit = inner (granted_paper r s c)
     where
-      passed : (p : Code) (b : Bool) → is_live_paper r s c p ≡ b → is_some (option_or (cond b (Some p) None) (least_live_paper r s c)) ≡ is_member r s c
+      passed : (p : Code) (b : Bool) → is_live_paper r s c p ≡ b → is_some (option_or (cond b (Some p) None) (least_live_paper r s c)) ≡ has_live_entry r s c
       passed p true e = sym (live_member p e)
       passed p false e = sym (any_is (is_live_entry r s c) (λ (e : (ℕ × Code) × Entry). e.0.1) r.entries)
 
-      inner : (g : Option Code) → is_some (option_or (option_filter (is_live_paper r s c) g) (least_live_paper r s c)) ≡ is_member r s c
+      inner : (g : Option Code) → is_some (option_or (option_filter (is_live_paper r s c) g) (least_live_paper r s c)) ≡ has_live_entry r s c
       inner None = sym (any_is (is_live_entry r s c) (λ (e : (ℕ × Code) × Entry). e.0.1) r.entries)
       inner (Some p) = passed p (is_live_paper r s c p) refl
+
+-- ---- members are listed
+
+-- a filter keeps a number that passes
+any_kept : (p : ℕ → Bool) (x : ℕ) (xs : List ℕ) → p x ≡ true → list_any (nat_eq x) xs ≡ true → list_any (nat_eq x) (filter p xs) ≡ true
+any_kept p x [] t e = e
+any_kept p x (y ∷ ys) t e = inner (nat_eq x y) refl e (p y) refl (any_kept p x ys t)
+  where
+    inner : (b : Bool) → nat_eq x y ≡ b → (b || list_any (nat_eq x) ys) ≡ true → (q : Bool) → p y ≡ q → (list_any (nat_eq x) ys ≡ true → list_any (nat_eq x) (filter p ys) ≡ true)
+        → list_any (nat_eq x) (cond q (y ∷ filter p ys) (filter p ys)) ≡ true
+    inner true same e true at rest = rw same refl
+    inner true same e false at rest = absurd (let f : x ≡ y = exact_unsigned_eq x y same in let g : true ≡ false = sym t ∙ ap p f ∙ at in cc)
+    inner false same e true at rest = rw same (rest e)
+    inner false same e false at rest = rest e
+
+module _ (r : Relations) (s : Code) (c : ℕ) where
+  member_listed : is_member r s c ≡ true → Contains (members r s) c
+  member_listed e =
+      let known : Contains (keys_of r.candidates) c = Contains-keys_from_lookup (tells_apart exact_unsigned) c r.candidates (and_left (has_row nat_cmp r.candidates c) (has_live_entry r s c) e) in
+      let live : has_live_entry r s c ≡ true = and_right (has_row nat_cmp r.candidates c) (has_live_entry r s c) e in
+      let any : list_any (nat_eq c) (keys_of r.candidates) ≡ true = list_any_at (nat_eq c) (keys_of r.candidates) known.0 c known.1 (eq-eqb c _ (sym known.2)) in
+      Contains-from_any exact_unsigned_eq c (members r s) (any_kept (has_live_entry r s) c (keys_of r.candidates) live any)
+
+  listed_member : Contains (members r s) c → is_member r s c ≡ true
+  listed_member m =
+      let known : Contains (keys_of r.candidates) c = All-contains (Contains (keys_of r.candidates)) (members r s) c (All-filter (has_live_entry r s) (Contains (keys_of r.candidates)) (keys_of r.candidates) (All-contains_itself (keys_of r.candidates))) m in
+      let live : has_live_entry r s c ≡ true = All-contains (λ n. has_live_entry r s n ≡ true) (members r s) c (filter_passes (has_live_entry r s) (keys_of r.candidates)) m in
+      and_from _ _ (IsSome-lookup_from_Contains (eq_by_cmp_equiv nat_cmp_total) c r.candidates known) live
+
+  -- a member is one whom the members list
+  members_are : (b : Bool) → b ≡ is_member r s c → (b ≡ true) ↔ Contains (members r s) c
+  members_are b is = (λ e. member_listed (sym is ∙ e), λ m. is ∙ listed_member m)
+
+  -- of a candidate, the live entry decides
+  pub known_listed : (a b : Bool) → a ≡ has_row nat_cmp r.candidates c → a ≡ true → b ≡ has_live_entry r s c → (b ≡ true) ↔ Contains (members r s) c
+  known_listed a b known there live = members_are b (live ∙ ap (λ t. t && has_live_entry r s c) (sym there ∙ known))
+
+  -- no other is listed
+  pub unknown_listed : (a : Bool) → a ≡ has_row nat_cmp r.candidates c → a ≡ false → (a ≡ true) ↔ Contains (members r s) c
+  unknown_listed a known away = members_are a (away ∙ ap (λ t. t && has_live_entry r s c) (sym away ∙ known))

@@ -1,6 +1,7 @@
 -- Small offices, and what the definitions say of them, by computation.
 use Rattle.std.specs.Prelude.{◌≡◌, ℕ, true, false, List, [], ◌∷◌, None, Some, refl, codes}
 use Rattle.exam_types.specs.declared.features.Features.{Features}
+use Rattle.exam_types.specs.Features.{no_features}
 use Rattle.exam_rules.specs.declared.rows.Paper.{Paper}
 use Rattle.exam_rules.specs.declared.rows.Opening.{Opening}
 use Rattle.exam_rules.specs.declared.rows.Entry.{Entry}
@@ -9,7 +10,7 @@ use Rattle.exam_rules.specs.declared.rows.Subject.TheVariants as subject
 use Rattle.exam_plan.specs.Matching.{desk_number}
 use Rattle.exam_plan.specs.Repair.{kept_part}
 use Rattle.exam_rules.specs.Relations.{Code, Relations}
-use Rattle.exam_rules.specs.Sessions.{members, sitting, clashes, finish, no_features}
+use Rattle.exam_rules.specs.Sessions.{members, sitting, clashes, finish}
 use Rattle.exam_rules.specs.Seatings.{fits, seating, plan_of, stands_before, problem_of}
 use Rattle.exam_plan.specs.Problems.{Problem}
 

@@ -1,5 +1,6 @@
 -- The members and the open halls of all sessions, as lists by session.
-use Rattle.std.specs.Prelude.{◌≡◌, ℕ, ◌-◌, length, slice_get, nat_eq, Bool, List, [], ◌∷◌, ◌++◌, Option, None, Some, Vec, if◌then◌else◌}
+use Rattle.std.specs.Prelude.{◌≡◌, ℕ, ◌-◌, length, slice_get, nat_eq, Bool, List, [], ◌∷◌, ◌++◌, Option, None}
+use Rattle.std.specs.Prelude.{Some, Vec, if◌then◌else◌}
 use Rattle.std.specs.Global.{Global}
 use Rattle.std.specs.Option.{option_map, option_map_or, option_eq}
 use Rattle.exam_rules.specs.declared.rows.Entry.{Entry}
@@ -23,7 +24,8 @@ with_last n numbers = if ends_with numbers n then numbers else numbers ++ n ∷ 
 
 -- the session of the paper, where the entry is live
 abbrev pub entered_session : Relations → Code → Entry → Option Code
-entered_session r p entry = if entry.live then option_map (λ paper. paper.session) (row_at code_cmp r.papers p) else None
+entered_session r p entry =
+    if entry.live then option_map (λ paper. paper.session) (row_at code_cmp r.papers p) else None
 
 -- these are the lists of each session, also of one that does not exist; and they rise
 pub record AreListsOf (r : Relations) (lists : SessionLists) : Type 0 where

@@ -1,13 +1,14 @@
 -- Candidates and halls as indices: the i-th member is candidate i, and the j-th open hall is hall j.
-use Rattle.std.specs.Prelude.{ℕ, ◌+◌, ◌<◌, Bool, nat_eq, List, [], ◌∷◌, length, map, Option, None, Some, IfSome, slice_index, slice_index_or, if◌then◌else◌}
+use Rattle.std.specs.Prelude.{ℕ, ◌+◌, ◌<◌, Bool, nat_eq, List, [], ◌∷◌, length, Option, None, Some, IfSome}
+use Rattle.std.specs.Prelude.{slice_index, slice_index_or, if◌then◌else◌}
 use Rattle.std.specs.List.Sorted.{IsStrictlySortedBy}
-use Rattle.std.specs.Option.{option_map, option_and_then}
 use Rattle.std.specs.Ordering.{nat_cmp}
 use Rattle.exam_plan.specs.Matching.{Plan}
 use Rattle.exam_plan.specs.Chains.{Chain}
+use Rattle.exam_plan.specs.Naming as plans
 use Rattle.exam_rules.specs.Relations.{Code, Relations, code_cmp, same_code}
 use Rattle.exam_rules.specs.Sessions.{members}
-use Rattle.exam_rules.specs.Seatings.{open_halls}
+use Rattle.exam_rules.specs.Seatings.{open_halls, seating, indexed_seating}
 
 -- the place, counted from n, of the first that passes
 abbrev pub first_place : {A : Type 0} → (A → Bool) → ℕ → List A → Option ℕ
@@ -26,17 +27,28 @@ index_of r s c = first_place (nat_eq c) 0 (members r s)
 abbrev pub hall_index : Relations → Code → Code → Option ℕ
 hall_index r s h = first_place (same_code h) 0 (open_halls r s)
 
+-- the session by indices, and by numbers and codes
+abbrev pub naming : Relations → Code → plans.Naming ℕ Code
+naming r s = record {
+  of_indices = indexed_seating r s;
+  of_names = seating r s;
+  candidate = number_at r s;
+  hall = hall_at r s;
+  candidate_index = index_of r s;
+  hall_index = hall_index r s;
+}
+
 -- a plan by indices, read by numbers and codes
 abbrev pub named_plan : Relations → Code → Plan ℕ ℕ → Plan ℕ Code
-named_plan r s p c = option_and_then (λ i. option_map (hall_at r s) (p i)) (index_of r s c)
+named_plan r s = plans.named_plan (naming r s)
 
 -- a plan by numbers and codes, read by indices: where the i-th member sits, and nobody under another index
 abbrev pub indexed_plan : Relations → Code → Plan ℕ Code → Plan ℕ ℕ
-indexed_plan r s q i = option_and_then (λ k. if nat_eq k i then option_and_then (hall_index r s) (q (number_at r s i)) else None) (index_of r s (number_at r s i))
+indexed_plan r s = plans.indexed_plan (naming r s)
 
 -- a chain by indices, read by numbers and codes
 abbrev pub named_chain : Relations → Code → Chain ℕ ℕ → Chain ℕ Code
-named_chain r s chain = record { hops = map (λ (hop : ℕ × ℕ). (hall_at r s hop.0, number_at r s hop.1)) chain.hops; last = hall_at r s chain.last }
+named_chain r s = plans.named_chain (naming r s)
 
 -- the plan by indices seats in halls that are there
 abbrev pub SeatsInOpenHalls : Relations → Code → Plan ℕ ℕ → Type 0

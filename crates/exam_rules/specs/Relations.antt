@@ -67,7 +67,16 @@ relations_of f = record {
 
 -- without any row
 abbrev pub no_relations : Relations
-no_relations = record { sessions = []; papers = []; halls = []; openings = []; candidates = []; entries = []; arrangements = []; appeals = [] }
+no_relations = record {
+  sessions = [];
+  papers = [];
+  halls = [];
+  openings = [];
+  candidates = [];
+  entries = [];
+  arrangements = [];
+  appeals = [];
+}
 
 module _ {K X : Type 0} (cmp : K → K → Ordering) where
   -- the row at a key

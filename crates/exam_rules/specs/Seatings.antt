@@ -1,10 +1,11 @@
 -- Which halls fit a member, and the seating problem of a session.
-use Rattle.std.specs.Prelude.{◌≡◌, ◌⊎◌, ◌<◌, length, ℕ, ◌+◌, ◌&&◌, ◌||◌, nat_le, nat_lt, nat_eq, not, Bool, false, List, [], ◌∷◌, map, filter, count_by, Option, None, Some, if◌then◌else◌}
+use Rattle.std.specs.Prelude.{◌≡◌, ◌⊎◌, ◌<◌, length, ℕ, ◌+◌, ◌&&◌, ◌||◌, nat_le, nat_lt, nat_eq, not, Bool}
+use Rattle.std.specs.Prelude.{false, List, [], ◌∷◌, map, filter, count_by, Option, None, Some, if◌then◌else◌}
 use Rattle.std.specs.List.{list_any}
 use Rattle.std.specs.Option.{option_map, option_and_then, option_map_or, option_cmp}
 use Rattle.std.specs.declared.cmp.Ordering.{Ordering}
 use Rattle.std.specs.Ordering.{nat_cmp, is_lt}
-use Rattle.exam_types.specs.declared.features.Features.{Features}
+use Rattle.exam_types.specs.Features.{no_features, holds_features}
 use Rattle.exam_types.specs.declared.refusal.Refusal.{Refusal}
 use Rattle.exam_types.specs.declared.refusal.Refusal.TheVariants.{TooMany}
 use Rattle.exam_rules.specs.declared.rows.Session.{Session}
@@ -15,13 +16,11 @@ use Rattle.exam_rules.specs.declared.rows.Arrangement.{Arrangement}
 use Rattle.exam_rules.specs.declared.fit.Terms.{Terms}
 use Rattle.exam_rules.specs.declared.fit.Room.{Room}
 use Rattle.exam_plan.specs.Matching.{Seating, Plan}
-use Rattle.exam_plan.specs.Problems.{Problem}
-use Rattle.exam_rules.specs.Relations.{Code, Relations, pair_cmp, code_cmp, same_code, opening_cmp, seat_cmp, row_at}
-use Rattle.exam_rules.specs.Sessions.{members, is_member, sitting, sitting_row, arrangement_in_force, barred_halls, end_of, no_features, IsSessionRefusal}
-
--- each wanted feature is there
-abbrev pub holds_features : Features → Features → Bool
-holds_features has wants = (not wants.step_free || has.step_free) && ((not wants.screen || has.screen) && ((not wants.reader || has.reader) && ((not wants.small_room || has.small_room) && (not wants.computer || has.computer))))
+use Rattle.exam_plan.specs.Problems.{Problem, seating_of}
+use Rattle.exam_rules.specs.Relations.{Code, Relations, pair_cmp, code_cmp, same_code, opening_cmp, seat_cmp}
+use Rattle.exam_rules.specs.Relations.{row_at}
+use Rattle.exam_rules.specs.Sessions.{members, has_live_entry, sitting, sitting_row, arrangement_in_force}
+use Rattle.exam_rules.specs.Sessions.{barred_halls, end_of, IsSessionRefusal}
 
 -- a need, or extra time
 abbrev pub is_special : Arrangement → Bool
@@ -38,17 +37,22 @@ terms_of session paper arrangement = record {
 
 -- how a member sits: their sitting paper, under the arrangement in force
 abbrev pub sitting_terms : Relations → Code → ℕ → Option Terms
-sitting_terms r s c = option_and_then (λ session. option_map (λ paper. terms_of session paper (arrangement_in_force r s c)) (sitting_row r s c)) (row_at code_cmp r.sessions s)
+sitting_terms r s c =
+    option_and_then (λ session.
+    option_map (λ paper. terms_of session paper (arrangement_in_force r s c)) (sitting_row r s c))
+    (row_at code_cmp r.sessions s)
 
 abbrev pub room_of : Hall → Opening → Room
 room_of hall opening = record { features = hall.features; until = opening.until; reserved = opening.reserved }
 
 -- the hall as it is opened for the session
 abbrev pub opened_room : Relations → Code → Code → Option Room
-opened_room r s h = option_and_then (λ hall. option_map (room_of hall) (row_at opening_cmp r.openings (s, h))) (row_at code_cmp r.halls h)
+opened_room r s h =
+    option_and_then (λ hall. option_map (room_of hall) (row_at opening_cmp r.openings (s, h)))
+    (row_at code_cmp r.halls h)
 
--- The room has the features that are needed and required, is open long enough, and where it is reserved, the member
--- has needs or extra time.
+-- The room has the features that are needed and required, is open long enough, and where it is reserved, the
+-- member has needs or extra time.
 abbrev pub suits : Terms → Room → Bool
 suits terms room =
     (holds_features room.features terms.needs && holds_features room.features terms.required)
@@ -59,11 +63,14 @@ suits_opened (Some terms) (Some room) = suits terms room
 suits_opened None room = false
 suits_opened (Some terms) None = false
 
--- The hall fits the member: it is opened for the session and suits the member, and no granted appeal of the member
--- for the session bars it.
+-- The hall fits the member: it is opened for the session and suits the member, and no granted appeal of the
+-- member for the session bars it. A number that is no candidate's counts as if it were: plans seat members
+-- alone.
 abbrev pub fits : Relations → Code → ℕ → Code → Bool
 fits r s c h =
-    is_member r s c && (suits_opened (sitting_terms r s c) (opened_room r s h) && not (list_any (same_code h) (barred_halls r s c)))
+    has_live_entry r s c
+    && (suits_opened (sitting_terms r s c) (opened_room r s h)
+    && not (list_any (same_code h) (barred_halls r s c)))
 
 -- the desks of the hall in the session, none where it is not opened
 abbrev pub desks : Relations → Code → Code → ℕ
@@ -120,6 +127,10 @@ problem_of r s = record {
   fit = map (λ c. fitting_places r s c (open_halls r s)) (members r s);
   rank = map (rank r s) (members r s);
 }
+
+-- The seating problem of a session by indices.
+abbrev pub indexed_seating : Relations → Code → Seating ℕ ℕ
+indexed_seating r s = seating_of (problem_of r s)
 
 -- refused as every call on a session, or for more members than any session may have
 abbrev pub IsProblemRefusal : Relations → Code → Refusal → Type 0

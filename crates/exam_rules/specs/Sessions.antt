@@ -1,9 +1,10 @@
 -- Who belongs to a session, which paper each sits, and under which arrangement.
-use Rattle.std.specs.Prelude.{◌≡◌, ◌⊎◌, ℕ, ◌+◌, ◌*◌, ◌/◌, ◌==◌, ◌&&◌, not, Bool, true, false, length, List, [], ◌∷◌, map, filter, Option, None, Some, if◌then◌else◌}
+use Rattle.std.specs.Prelude.{◌≡◌, ◌⊎◌, ℕ, ◌+◌, ◌*◌, ◌/◌, ◌==◌, ◌&&◌, not, Bool, true, false, length, List}
+use Rattle.std.specs.Prelude.{[], ◌∷◌, map, filter, Option, None, Some, if◌then◌else◌}
 use Rattle.std.specs.List.{list_any, filter_map, flat_map}
 use Rattle.std.specs.Option.{option_map, option_and_then, option_map_or, option_or, unwrap_or}
 use Rattle.std.specs.Ordering.{nat_cmp}
-use Rattle.exam_types.specs.declared.features.Features.{Features}
+use Rattle.exam_types.specs.Features.{no_features}
 use Rattle.exam_types.specs.declared.refusal.Refusal.{Refusal}
 use Rattle.exam_types.specs.declared.refusal.Refusal.TheVariants.{UnknownSession, NoMemory}
 use Rattle.exam_rules.specs.declared.rows.Session.{Session}
@@ -15,7 +16,8 @@ use Rattle.exam_rules.specs.declared.rows.Status.{Status}
 use Rattle.exam_rules.specs.declared.rows.Status.TheVariants as status
 use Rattle.exam_rules.specs.declared.rows.Subject.{Subject}
 use Rattle.exam_rules.specs.declared.rows.Subject.TheVariants as subject
-use Rattle.exam_rules.specs.Relations.{Code, Relations, code_cmp, same_code, entry_cmp, row_at, has_row, is_row_of}
+use Rattle.exam_rules.specs.Relations.{Code, Relations, code_cmp, same_code, entry_cmp, row_at, has_row}
+use Rattle.exam_rules.specs.Relations.{is_row_of}
 
 -- the first of a list, if there is one
 abbrev pub head_of : {A : Type 0} → List A → Option A
@@ -49,13 +51,17 @@ is_live r c p = option_map_or (λ entry. entry.live) (row_at entry_cmp r.entries
 abbrev pub is_live_paper : Relations → Code → ℕ → Code → Bool
 is_live_paper r s c p = is_live r c p && is_paper_of r s p
 
--- a candidate with a live entry for a paper of the session
+-- a live entry for a paper of the session, whether or not the number is that of a candidate
+abbrev pub has_live_entry : Relations → Code → ℕ → Bool
+has_live_entry r s c = list_any (is_live_entry r s c) r.entries
+
+-- a candidate of the office with a live entry for a paper of the session
 abbrev pub is_member : Relations → Code → ℕ → Bool
-is_member r s c = list_any (is_live_entry r s c) r.entries
+is_member r s c = has_row nat_cmp r.candidates c && has_live_entry r s c
 
 -- the members, numbers rising
 abbrev pub members : Relations → Code → List ℕ
-members r s = filter (is_member r s) (map (λ e. e.0) r.candidates)
+members r s = filter (has_live_entry r s) (map (λ e. e.0) r.candidates)
 
 -- ---- granted appeals
 
@@ -91,7 +97,8 @@ appeal_count r c = length (filter (is_row_of c) r.appeals)
 
 -- what they ask, references rising
 abbrev pub granted_subjects : List ((ℕ × Code) × Appeal) → Code → ℕ → List Subject
-granted_subjects appeals s c = map (λ (a : (ℕ × Code) × Appeal). a.1.subject) (filter (is_granted_appeal s c) appeals)
+granted_subjects appeals s c =
+    map (λ (a : (ℕ × Code) × Appeal). a.1.subject) (filter (is_granted_appeal s c) appeals)
 
 abbrev pub granted_paper_in : List ((ℕ × Code) × Appeal) → Code → ℕ → Option Code
 granted_paper_in appeals s c = head_of (filter_map asked_paper (granted_subjects appeals s c))
@@ -118,7 +125,8 @@ barred_halls r s c = barred_halls_in r.appeals s c
 abbrev pub least_live_paper : Relations → Code → ℕ → Option Code
 least_live_paper r s c = head_of (live_papers r s c)
 
--- the paper of the granted clash appeal, where it is live, or else the least live paper
+-- the paper of the granted clash appeal, where it is live, or else the least live paper; also of a number
+-- that is no candidate's, as if it were
 abbrev pub sitting : Relations → Code → ℕ → Option Code
 sitting r s c = option_or (option_filter (is_live_paper r s c) (granted_paper r s c)) (least_live_paper r s c)
 
@@ -138,15 +146,13 @@ clashes r s = flat_map (clashes_of r s) (members r s)
 
 -- ---- arrangements and times
 
-abbrev pub no_features : Features
-no_features = record { step_free = false; screen = false; reader = false; small_room = false; computer = false }
-
 abbrev pub no_arrangement : Arrangement
 no_arrangement = record { needs = no_features; extra = 0 }
 
 -- the arrangement in force: the granted one, or else the imported one, or else none
 abbrev pub arrangement_in_force : Relations → Code → ℕ → Arrangement
-arrangement_in_force r s c = unwrap_or (option_or (granted_arrangement r s c) (row_at nat_cmp r.arrangements c)) no_arrangement
+arrangement_in_force r s c =
+    unwrap_or (option_or (granted_arrangement r s c) (row_at nat_cmp r.arrangements c)) no_arrangement
 
 -- rounded up
 abbrev pub ceiling_of_hundredths : ℕ → ℕ
@@ -154,17 +160,24 @@ ceiling_of_hundredths n = (n + 99) / 100
 
 -- the minute of the day at which the member ends
 abbrev pub end_of : Session → Paper → Arrangement → ℕ
-end_of session paper arrangement = session.start + ceiling_of_hundredths (paper.minutes * (100 + arrangement.extra))
+end_of session paper arrangement =
+    session.start + ceiling_of_hundredths (paper.minutes * (100 + arrangement.extra))
 
 abbrev pub sitting_row : Relations → Code → ℕ → Option Paper
 sitting_row r s c = option_and_then (row_at code_cmp r.papers) (sitting r s c)
 
--- the minute of the day at which a member ends: in the session, sitting their paper, under the arrangement in force
+-- the minute of the day at which a member ends: in the session, sitting their paper, under the arrangement in
+-- force; also of a number that is no candidate's, as if it were
 abbrev pub finish : Relations → Code → ℕ → Option ℕ
-finish r s c = option_and_then (λ session. option_map (λ paper. end_of session paper (arrangement_in_force r s c)) (sitting_row r s c)) (row_at code_cmp r.sessions s)
+finish r s c =
+    option_and_then (λ session.
+    option_map (λ paper. end_of session paper (arrangement_in_force r s c)) (sitting_row r s c))
+    (row_at code_cmp r.sessions s)
 
 -- ---- refusals
 
 -- refused where there is no such session, and otherwise only for want of memory
 abbrev pub IsSessionRefusal : Relations → Code → Refusal → Type 0
-IsSessionRefusal r s e = ((e ≡ UnknownSession) × (has_row code_cmp r.sessions s ≡ false)) ⊎ ((e ≡ NoMemory) × (has_row code_cmp r.sessions s ≡ true))
+IsSessionRefusal r s e =
+    ((e ≡ UnknownSession) × (has_row code_cmp r.sessions s ≡ false))
+    ⊎ ((e ≡ NoMemory) × (has_row code_cmp r.sessions s ≡ true))

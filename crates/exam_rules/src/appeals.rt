@@ -20,10 +20,11 @@ fn least_reference() -> Reference
     Reference::parse(b"0").unwrap()
 }
 
-/// No appeal of the candidate stands before the least key.
+/// No appeal of the candidate stands before the least key. For the proof of `appeals_from` alone.
 fn no_appeal_before(facts: &Facts, number: Number, least: Reference)
     requires { least ≡ codes "0" }
-    ensures { filter (is_row_of number) (entries_between appeal_cmp Unbounded (Excluded (number, least)) facts.now.appeals.entries) ≡ [] }
+    ensures { filter (is_row_of number)
+        (entries_between appeal_cmp Unbounded (Excluded (number, least)) facts.now.appeals.entries) ≡ [] }
 {
     match facts.appeals.range(..(number, least)).next_back() {
         Some((key, _)) => {
@@ -38,7 +39,9 @@ fn no_appeal_before(facts: &Facts, number: Number, least: Reference)
 fn appeals_from<'a>(facts: &'a Facts, number: Number) -> Range<'a, (Number, Reference), Appeal>
     // The rows that stand together are all of the candidate's.
     ensures rows { leading (is_row_of number) result ≡ filter (is_row_of number) facts.now.appeals.entries }
-    ensures granted { (s : Code) → spec.granted_subjects (leading (is_row_of number) result) s number ≡ spec.granted_subjects facts.now.appeals.entries s number }
+    ensures granted { (s : Code)
+        → spec.granted_subjects (leading (is_row_of number) result) s number
+        ≡ spec.granted_subjects facts.now.appeals.entries s number }
 {
     let least = least_reference();
     no_appeal_before(facts, number, least);
@@ -114,7 +117,8 @@ pub fn granted_arrangement(
 
 /// Whether a granted appeal of the candidate bars the hall.
 pub fn is_barred(facts: &Facts, session: &SessionCode, number: Number, hall: &HallCode) -> bool
-    ensures { result ≡ list_any (same_code hall.now) (spec.barred_halls (relations_of facts.now) session.now number) }
+    ensures { result
+        ≡ list_any (same_code hall.now) (spec.barred_halls (relations_of facts.now) session.now number) }
 {
     for (key, appeal) in appeals_from(facts, number) {
         if key.0 != number {
@@ -138,7 +142,8 @@ pub fn barred_halls(
     session: &SessionCode,
     number: Number,
 ) -> Result<Vec<HallCode>, Refusal>
-    ensures ok { IfOk result (λ halls. halls.items ≡ spec.barred_halls (relations_of facts.now) session.now number) }
+    ensures ok { IfOk result (λ halls. halls.items
+        ≡ spec.barred_halls (relations_of facts.now) session.now number) }
     ensures memory { IfErr result (λ e. e ≡ NoMemory) }
 {
     let mut halls = Vec::new(alloc);

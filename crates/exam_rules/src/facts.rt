@@ -9,7 +9,7 @@ use std::alloc::Global;
 use std::collections::BTreeMap;
 
 /// The facts of an office: for each table the rows by their keys.
-#[derive(Drop)]
+#[derive(Clone, Drop)]
 pub struct Facts {
     pub sessions: BTreeMap<SessionCode, Session>,
     pub papers: BTreeMap<PaperCode, Paper>,
@@ -38,7 +38,7 @@ impl Facts {
         }
     }
 
-    /// The keys of every table rise. Does nothing.
+    /// The keys of every table rise. Does nothing: it is for proofs alone.
     pub fn are_in_order(&self)
         ensures { AreInOrder (relations_of self.now) }
     {

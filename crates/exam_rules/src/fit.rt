@@ -10,7 +10,7 @@ ghost use Rattle.exam_rules.specs.Seatings as seatings;
 use crate::appeals::{barred_halls, is_barred};
 use crate::facts::Facts;
 use crate::rows::{Arrangement, Hall, Opening, Paper, Session};
-use crate::sessions::{arrangement_in_force, is_member, no_features, sitting};
+use crate::sessions::{arrangement_in_force, has_live_entry, sitting};
 use exam_types::{
     ClosingTime, Features, HallCode, Minute, Number, PaperCode, Refusal, SessionCode,
 };
@@ -43,20 +43,10 @@ fn end_of(session: &Session, paper: &Paper, arrangement: &Arrangement) -> u16
     session.start.get() + hundredths.div_ceil(100) as u16
 }
 
-fn holds(has: Features, wants: Features) -> bool
-    ensures { result ≡ seatings.holds_features has wants }
-{
-    (!wants.step_free || has.step_free)
-        && (!wants.screen || has.screen)
-        && (!wants.reader || has.reader)
-        && (!wants.small_room || has.small_room)
-        && (!wants.computer || has.computer)
-}
-
 fn is_special(arrangement: &Arrangement) -> bool
     ensures { result ≡ seatings.is_special arrangement.now }
 {
-    !holds(no_features(), arrangement.needs) || arrangement.extra.get() > 0
+    !Features::none().holds(arrangement.needs) || arrangement.extra.get() > 0
 }
 
 /// The same as a time.
@@ -79,7 +69,8 @@ fn terms_of(session: &Session, paper: &Paper, arrangement: &Arrangement) -> Term
 
 /// The row of the paper that is sat, if one is.
 fn sitting_row(facts: &Facts, sat: Option<PaperCode>) -> Option<&Paper>
-    ensures { option_map (λ paper. paper.now) result ≡ option_and_then (row_at code_cmp facts.now.papers.entries) sat }
+    ensures { option_map (λ paper. paper.now) result
+        ≡ option_and_then (row_at code_cmp facts.now.papers.entries) sat }
 {
     match sat {
         Some(paper) => facts.papers.get(&paper),
@@ -133,8 +124,8 @@ pub fn opened_room(facts: &Facts, session: &SessionCode, hall: &HallCode) -> Opt
 fn suits(terms: &Terms, room: &Room) -> bool
     ensures { result ≡ seatings.suits terms.now room.now }
 {
-    holds(room.features, terms.needs)
-        && holds(room.features, terms.required)
+    room.features.holds(terms.needs)
+        && room.features.holds(terms.required)
         && terms.end.get() <= room.until.get()
         && (!room.reserved || terms.special)
 }
@@ -148,7 +139,8 @@ fn suits_opened(terms: &Option<Terms>, room: &Option<Room>) -> bool
     }
 }
 
-/// When the member ends, or none for one who is no member. It may be past midnight.
+/// When the member ends, or none for a number without a live entry for a paper of the session. It may be past
+/// midnight. A number of entries that is no candidate's, which no office has, counts as if it were.
 pub fn finish(facts: &Facts, session: &SessionCode, number: Number) -> Option<Minute>
     ensures { result ≡ spec.finish (relations_of facts.now) session.now number }
 {
@@ -162,11 +154,13 @@ pub fn finish(facts: &Facts, session: &SessionCode, number: Number) -> Option<Mi
     Some(end_minute(row, paper, &arrangement))
 }
 
-/// Whether the hall is opened for the session and fits the member.
+/// Whether the hall is opened for the session and fits the member. It fits no number without a live entry for
+/// a paper of the session. A number of entries that is no candidate's, which no office has, counts as if it
+/// were.
 pub fn fits(facts: &Facts, session: &SessionCode, number: Number, hall: &HallCode) -> bool
     ensures { result ≡ seatings.fits (relations_of facts.now) session.now number hall.now }
 {
-    is_member(facts, session, number)
+    has_live_entry(facts, session, number)
         && suits_opened(
             &sitting_terms(facts, session, number, sitting(facts, session, number)),
             &opened_room(facts, session, hall),
@@ -181,7 +175,8 @@ fn suiting_places(
     barred: &[HallCode],
     halls: &[(HallCode, Option<Room>)],
 ) -> Result<Vec<usize>, Refusal>
-    ensures ok { IfOk result (λ places. places.items ≡ seatings.positions (seatings.is_suiting terms.now barred.now) 0 halls.now) }
+    ensures ok { IfOk result (λ places. places.items
+        ≡ seatings.positions (seatings.is_suiting terms.now barred.now) 0 halls.now) }
     ensures memory { IfErr result (λ e. e ≡ NoMemory) }
 {
     let mut places = Vec::new(alloc);
@@ -205,7 +200,8 @@ fn is_listed(codes: &[HallCode], hall: &HallCode) -> bool
     codes.iter().any(|code| *hall == *code)
 }
 
-/// The places of the halls that fit the candidate, whose sitting paper this is, among the halls with their rooms.
+/// The places of the halls that fit the candidate, whose sitting paper this is, among the halls with their
+/// rooms.
 pub fn fitting_places(
     alloc: Global,
     facts: &Facts,
@@ -215,8 +211,11 @@ pub fn fitting_places(
     halls: &[(HallCode, Option<Room>)],
 ) -> Result<Vec<usize>, Refusal>
     requires sat { sat ≡ spec.sitting (relations_of facts.now) session.now number }
-    requires halls { halls.now ≡ seatings.with_rooms (relations_of facts.now) session.now (map (λ hall. hall.0) halls.now) }
-    ensures ok { IfOk result (λ places. places.items ≡ seatings.fitting_places (relations_of facts.now) session.now number (map (λ hall. hall.0) halls.now)) }
+    requires halls { halls.now
+        ≡ seatings.with_rooms (relations_of facts.now) session.now (map (λ hall. hall.0) halls.now) }
+    ensures ok { IfOk result (λ places. places.items
+        ≡ seatings.fitting_places (relations_of facts.now) session.now number
+        (map (λ hall. hall.0) halls.now)) }
     ensures memory { IfErr result (λ e. e ≡ NoMemory) }
 {
     // Who sits no paper is no member.

@@ -32,7 +32,9 @@ fn append<T: Copy + Drop>(
     session: SessionCode,
     value: T,
 ) -> Result<(), Refusal>
-    ensures ok { OnOk result ((s : Code) → listing.listed lists.new.entries s ≡ (if same_code session s then listing.listed lists.old.entries s ++ value ∷ [] else listing.listed lists.old.entries s)) }
+    ensures ok { OnOk result ((s : Code) → listing.listed lists.new.entries s
+        ≡ (if same_code session s then listing.listed lists.old.entries s ++ value ∷ []
+        else listing.listed lists.old.entries s)) }
     ensures memory { IfErr result (λ e. e ≡ NoMemory) }
 {
     match lists.get_mut(&session) {
@@ -84,7 +86,9 @@ fn append_last(
     session: SessionCode,
     number: Number,
 ) -> Result<(), Refusal>
-    ensures ok { OnOk result ((s : Code) → listing.listed members.new.entries s ≡ (if same_code session s then listing.with_last number (listing.listed members.old.entries s) else listing.listed members.old.entries s)) }
+    ensures ok { OnOk result ((s : Code) → listing.listed members.new.entries s
+        ≡ (if same_code session s then listing.with_last number (listing.listed members.old.entries s)
+        else listing.listed members.old.entries s)) }
     ensures memory { IfErr result (λ e. e ≡ NoMemory) }
 {
     if ends_with(listed(members, &session), number) {
@@ -111,7 +115,10 @@ fn append_member(
     number: Number,
     members: &mut BySession<Number>,
 ) -> Result<(), Refusal>
-    ensures ok { OnOk result ((s : Code) → listing.listed members.new.entries s ≡ (if spec.is_member (relations_of facts.now) s number then listing.with_last number (listing.listed members.old.entries s) else listing.listed members.old.entries s)) }
+    ensures ok { OnOk result ((s : Code) → listing.listed members.new.entries s
+        ≡ (if spec.has_live_entry (relations_of facts.now) s number
+        then listing.with_last number (listing.listed members.old.entries s)
+        else listing.listed members.old.entries s)) }
     ensures memory { IfErr result (λ e. e ≡ NoMemory) }
 {
     for (key, entry) in entries_from(facts, number) {
@@ -127,8 +134,10 @@ fn append_member(
 
 /// Of each session its members, numbers rising.
 fn members_by_session(alloc: Global, facts: &Facts) -> Result<BySession<Number>, Refusal>
-    ensures ok { IfOk result (λ members. (s : Code) → listing.listed members.entries s ≡ spec.members (relations_of facts.now) s) }
-    ensures rising { OnOk result ((s : Code) → IsStrictlySortedBy nat_cmp (spec.members (relations_of facts.now) s)) }
+    ensures ok { IfOk result (λ members. (s : Code) → listing.listed members.entries s
+        ≡ spec.members (relations_of facts.now) s) }
+    ensures rising { OnOk result ((s : Code)
+        → IsStrictlySortedBy nat_cmp (spec.members (relations_of facts.now) s)) }
     ensures memory { IfErr result (λ e. e ≡ NoMemory) }
 {
     let mut members = BTreeMap::new(alloc);
@@ -140,8 +149,10 @@ fn members_by_session(alloc: Global, facts: &Facts) -> Result<BySession<Number>,
 
 /// Of each session the halls opened for it, codes rising.
 fn halls_by_session(alloc: Global, facts: &Facts) -> Result<BySession<HallCode>, Refusal>
-    ensures ok { IfOk result (λ halls. (s : Code) → listing.listed halls.entries s ≡ seatings.open_halls (relations_of facts.now) s) }
-    ensures rising { OnOk result ((s : Code) → IsStrictlySortedBy code_cmp (seatings.open_halls (relations_of facts.now) s)) }
+    ensures ok { IfOk result (λ halls. (s : Code) → listing.listed halls.entries s
+        ≡ seatings.open_halls (relations_of facts.now) s) }
+    ensures rising { OnOk result ((s : Code)
+        → IsStrictlySortedBy code_cmp (seatings.open_halls (relations_of facts.now) s)) }
     ensures memory { IfErr result (λ e. e ≡ NoMemory) }
 {
     let mut halls = BTreeMap::new(alloc);

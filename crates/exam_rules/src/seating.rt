@@ -1,5 +1,6 @@
 //! The seating problem of a session.
-ghost use Rattle.std.specs.Prelude.{◌≡◌, ◌⊎◌, ◌<◌, ◌≤◌, length, map, count_by, IsTrue, IfOk, IfErr, OnOk, IsSorted};
+ghost use Rattle.std.specs.Prelude.{◌≡◌, ◌⊎◌, ◌<◌, ◌≤◌, length, map, count_by, IsTrue, IfOk, IfErr, OnOk};
+ghost use Rattle.std.specs.Prelude.{IsSorted};
 ghost use Rattle.std.specs.Ordering.{is_lt, nat_cmp};
 ghost use Rattle.std.specs.List.Sorted.{IsStrictlySortedBy};
 ghost use Rattle.exam_rules.specs.Names.{ListsRise};
@@ -23,14 +24,17 @@ type DeskKey = (Option<PaperCode>, Number);
 /// The most members that a session may have.
 const MOST_MEMBERS: usize = 4096;
 
-/// The halls opened for the session, codes rising. Refused where there is no such session, or not enough memory.
+/// The halls opened for the session, codes rising. Refused where there is no such session, or not enough
+/// memory.
 pub fn open_halls(
     alloc: Global,
     facts: &Facts,
     session: &SessionCode,
 ) -> Result<Vec<HallCode>, Refusal>
-    ensures ok { IfOk result (λ halls. halls.items ≡ seatings.open_halls (relations_of facts.now) session.now) }
-    ensures rising { OnOk result (IsStrictlySortedBy code_cmp (seatings.open_halls (relations_of facts.now) session.now)) }
+    ensures ok { IfOk result (λ halls. halls.items
+        ≡ seatings.open_halls (relations_of facts.now) session.now) }
+    ensures rising { OnOk result
+        (IsStrictlySortedBy code_cmp (seatings.open_halls (relations_of facts.now) session.now)) }
     ensures known { OnOk result (IsTrue (has_row code_cmp facts.now.sessions.entries session.now)) }
     ensures refusal { IfErr result (spec.IsSessionRefusal (relations_of facts.now) session.now) }
 {
@@ -62,7 +66,8 @@ fn desk_counts(
     session: &SessionCode,
     halls: &[HallCode],
 ) -> Result<Vec<u32>, Refusal>
-    ensures ok { IfOk result (λ counts. counts.items ≡ map (seatings.desks (relations_of facts.now) session.now) halls.now) }
+    ensures ok { IfOk result (λ counts. counts.items
+        ≡ map (seatings.desks (relations_of facts.now) session.now) halls.now) }
     ensures memory { IfErr result (λ e. e ≡ NoMemory) }
 {
     let counts = halls
@@ -78,7 +83,8 @@ fn rooms(
     session: &SessionCode,
     halls: &[HallCode],
 ) -> Result<Vec<(HallCode, Option<Room>)>, Refusal>
-    ensures ok { IfOk result (λ rooms. rooms.items ≡ seatings.with_rooms (relations_of facts.now) session.now halls.now) }
+    ensures ok { IfOk result (λ rooms. rooms.items
+        ≡ seatings.with_rooms (relations_of facts.now) session.now halls.now) }
     ensures memory { IfErr result (λ e. e ≡ NoMemory) }
 {
     let rooms = halls
@@ -88,7 +94,8 @@ fn rooms(
     Ok(rooms)
 }
 
-/// Of each candidate the places of the halls that fit, and what desks are ordered by: the sitting paper and the number.
+/// Of each candidate the places of the halls that fit, and what desks are ordered by: the sitting paper and
+/// the number.
 fn fit_rows(
     alloc: Global,
     facts: &Facts,
@@ -96,9 +103,13 @@ fn fit_rows(
     numbers: &[Number],
     halls: &[(HallCode, Option<Room>)],
 ) -> Result<(Vec<Vec<usize>>, Vec<DeskKey>), Refusal>
-    requires { halls.now ≡ seatings.with_rooms (relations_of facts.now) session.now (map (λ hall. hall.0) halls.now) }
-    ensures rows { IfOk result (λ both. map (λ row. row.items) both.0.items ≡ map (λ c. seatings.fitting_places (relations_of facts.now) session.now c (map (λ hall. hall.0) halls.now)) numbers.now) }
-    ensures keys { IfOk result (λ both. both.1.items ≡ map (seatings.desk_key (relations_of facts.now) session.now) numbers.now) }
+    requires { halls.now
+        ≡ seatings.with_rooms (relations_of facts.now) session.now (map (λ hall. hall.0) halls.now) }
+    ensures rows { IfOk result (λ both. map (λ row. row.items) both.0.items
+        ≡ map (λ c. seatings.fitting_places (relations_of facts.now) session.now c
+        (map (λ hall. hall.0) halls.now)) numbers.now) }
+    ensures keys { IfOk result (λ both. both.1.items
+        ≡ map (seatings.desk_key (relations_of facts.now) session.now) numbers.now) }
     ensures memory { IfErr result (λ e. e ≡ NoMemory) }
 {
     let mut rows = Vec::new(alloc);
@@ -143,8 +154,10 @@ fn fit_table(
     numbers: &[Number],
     halls: &[HallCode],
 ) -> Result<(Vec<Vec<usize>>, Vec<DeskKey>), Refusal>
-    ensures rows { IfOk result (λ both. map (λ row. row.items) both.0.items ≡ map (λ c. seatings.fitting_places (relations_of facts.now) session.now c halls.now) numbers.now) }
-    ensures keys { IfOk result (λ both. both.1.items ≡ map (seatings.desk_key (relations_of facts.now) session.now) numbers.now) }
+    ensures rows { IfOk result (λ both. map (λ row. row.items) both.0.items
+        ≡ map (λ c. seatings.fitting_places (relations_of facts.now) session.now c halls.now) numbers.now) }
+    ensures keys { IfOk result (λ both. both.1.items
+        ≡ map (seatings.desk_key (relations_of facts.now) session.now) numbers.now) }
     ensures memory { IfErr result (λ e. e ≡ NoMemory) }
 {
     let rooms = rooms(alloc, facts, session, halls)?;
@@ -161,16 +174,19 @@ pub struct ListedProblem {
     pub problem: Problem,
 }
 
-/// The seating problem of the session, with its members and its open halls, as `members`, `open_halls` and `problem` give
-/// them one by one.
+/// The seating problem of the session, with its members and its open halls, as `members`, `open_halls` and
+/// `problem` give them one by one.
 pub fn listed_problem(
     alloc: Global,
     facts: &Facts,
     session: &SessionCode,
 ) -> Result<ListedProblem, Refusal>
-    ensures numbers { IfOk result (λ listed. listed.numbers.items ≡ spec.members (relations_of facts.now) session.now) }
-    ensures halls { IfOk result (λ listed. listed.halls.items ≡ seatings.open_halls (relations_of facts.now) session.now) }
-    ensures ok { IfOk result (λ listed. listed.problem ≡ seatings.problem_of (relations_of facts.now) session.now) }
+    ensures numbers { IfOk result (λ listed. listed.numbers.items
+        ≡ spec.members (relations_of facts.now) session.now) }
+    ensures halls { IfOk result (λ listed. listed.halls.items
+        ≡ seatings.open_halls (relations_of facts.now) session.now) }
+    ensures ok { IfOk result (λ listed. listed.problem
+        ≡ seatings.problem_of (relations_of facts.now) session.now) }
     // The premise of the laws that carry what is so by indices over to numbers and codes.
     ensures lists { OnOk result (ListsRise (relations_of facts.now) session.now) }
     ensures known { OnOk result (IsTrue (has_row code_cmp facts.now.sessions.entries session.now)) }
@@ -192,10 +208,14 @@ pub fn indexed_problem(
     session: &SessionCode,
 ) -> Result<ListedProblem, Refusal>
     requires { AreListsOf (relations_of facts.now) lists.now }
-    ensures numbers { IfOk result (λ listed. listed.numbers.items ≡ spec.members (relations_of facts.now) session.now) }
-    ensures halls { IfOk result (λ listed. listed.halls.items ≡ seatings.open_halls (relations_of facts.now) session.now) }
-    ensures ok { IfOk result (λ listed. listed.problem ≡ seatings.problem_of (relations_of facts.now) session.now) }
-    ensures refusal { IfErr result (λ e. (e ≡ NoMemory) ⊎ ((e ≡ TooMany) × (4096 < length (spec.members (relations_of facts.now) session.now)))) }
+    ensures numbers { IfOk result (λ listed. listed.numbers.items
+        ≡ spec.members (relations_of facts.now) session.now) }
+    ensures halls { IfOk result (λ listed. listed.halls.items
+        ≡ seatings.open_halls (relations_of facts.now) session.now) }
+    ensures ok { IfOk result (λ listed. listed.problem
+        ≡ seatings.problem_of (relations_of facts.now) session.now) }
+    ensures refusal { IfErr result (λ e. (e ≡ NoMemory)
+        ⊎ ((e ≡ TooMany) × (4096 < length (spec.members (relations_of facts.now) session.now)))) }
 {
     let members = lists.members_of(session);
     if members.len() > MOST_MEMBERS {
@@ -218,9 +238,12 @@ fn problem_over(
     requires numbers { numbers.items ≡ spec.members (relations_of facts.now) session.now }
     requires halls { halls.items ≡ seatings.open_halls (relations_of facts.now) session.now }
     requires rising { IsStrictlySortedBy nat_cmp (spec.members (relations_of facts.now) session.now) }
-    ensures numbers { IfOk result (λ listed. listed.numbers.items ≡ spec.members (relations_of facts.now) session.now) }
-    ensures halls { IfOk result (λ listed. listed.halls.items ≡ seatings.open_halls (relations_of facts.now) session.now) }
-    ensures ok { IfOk result (λ listed. listed.problem ≡ seatings.problem_of (relations_of facts.now) session.now) }
+    ensures numbers { IfOk result (λ listed. listed.numbers.items
+        ≡ spec.members (relations_of facts.now) session.now) }
+    ensures halls { IfOk result (λ listed. listed.halls.items
+        ≡ seatings.open_halls (relations_of facts.now) session.now) }
+    ensures ok { IfOk result (λ listed. listed.problem
+        ≡ seatings.problem_of (relations_of facts.now) session.now) }
     ensures memory { IfErr result (λ e. e ≡ NoMemory) }
 {
     let desks = desk_counts(alloc, facts, session, &halls)?;
@@ -235,8 +258,8 @@ fn problem_over(
 }
 
 /// The seating problem of the session: the i-th candidate is the i-th of `members`, the j-th hall the j-th of
-/// `open_halls`. Refused where there is no such session, or not enough memory. Where the limits hold no session has too
-/// many members, so that refusal is for other facts.
+/// `open_halls`. Refused where there is no such session, or not enough memory. Where the limits hold no
+/// session has too many members, so that refusal is for other facts.
 pub fn problem(alloc: Global, facts: &Facts, session: &SessionCode) -> Result<Problem, Refusal>
     ensures ok { IfOk result (λ p. p ≡ seatings.problem_of (relations_of facts.now) session.now) }
     // The premise of the laws that carry what is so by indices over to numbers and codes.

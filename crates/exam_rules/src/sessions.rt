@@ -1,11 +1,12 @@
 //! Who belongs to a session, which paper each sits, and under which arrangement.
-ghost use Rattle.std.specs.Prelude.{◌≡◌, ◌++◌, [], filter, codes, IsTrue, IfOk, IfErr, OnOk};
+ghost use Rattle.std.specs.Prelude.{◌≡◌, ◌↔◌, ◌++◌, [], filter, codes, Contains, IsTrue, IfOk, IfErr, OnOk};
 ghost use Rattle.exam_types.specs.declared.refusal.Refusal.TheVariants.{NoMemory};
 ghost use Rattle.std.specs.List.Sorted.{IsStrictlySortedBy};
 ghost use Rattle.std.specs.Ordering.{nat_cmp};
 ghost use Rattle.std.specs.BTreeMap.Range.{entries_between};
 ghost use Rattle.std.specs.declared.ops.Bound.TheVariants.{Unbounded, Excluded};
-ghost use Rattle.exam_rules.specs.Relations.{Code, relations_of, code_cmp, entry_cmp, has_row, is_row_of, leading};
+ghost use Rattle.exam_rules.specs.Relations.{Code, relations_of, code_cmp, entry_cmp, has_row, is_row_of};
+ghost use Rattle.exam_rules.specs.Relations.{leading};
 ghost use Rattle.exam_rules.specs.Sessions as spec;
 
 use crate::appeals::{granted_arrangement, granted_paper};
@@ -22,10 +23,11 @@ fn least_paper() -> PaperCode
     PaperCode::parse(b"-").unwrap()
 }
 
-/// No entry of the candidate stands before the least key.
+/// No entry of the candidate stands before the least key. For the proof of `entries_from` alone.
 fn no_entry_before(facts: &Facts, number: Number, least: PaperCode)
     requires { least ≡ codes "-" }
-    ensures { filter (is_row_of number) (entries_between entry_cmp Unbounded (Excluded (number, least)) facts.now.entries.entries) ≡ [] }
+    ensures { filter (is_row_of number)
+        (entries_between entry_cmp Unbounded (Excluded (number, least)) facts.now.entries.entries) ≡ [] }
 {
     match facts.entries.range(..(number, least)).next_back() {
         Some((key, _)) => {
@@ -39,7 +41,9 @@ fn no_entry_before(facts: &Facts, number: Number, least: PaperCode)
 /// The entries from the candidate's first on; those of later numbers follow.
 pub fn entries_from<'a>(facts: &'a Facts, number: Number) -> Range<'a, (Number, PaperCode), Entry>
     // The rows that stand together are all that count for the candidate.
-    ensures { (s : Code) → spec.live_papers_in (relations_of facts.now) (leading (is_row_of number) result) s number ≡ spec.live_papers (relations_of facts.now) s number }
+    ensures { (s : Code)
+        → spec.live_papers_in (relations_of facts.now) (leading (is_row_of number) result) s number
+        ≡ spec.live_papers (relations_of facts.now) s number }
 {
     let least = least_paper();
     no_entry_before(facts, number, least);
@@ -80,17 +84,27 @@ fn least_live_paper(facts: &Facts, session: &SessionCode, number: Number) -> Opt
     None
 }
 
-/// Whether the candidate has a live entry for a paper of the session.
-pub fn is_member(facts: &Facts, session: &SessionCode, number: Number) -> bool
-    ensures { result ≡ spec.is_member (relations_of facts.now) session.now number }
+/// Whether the number has a live entry for a paper of the session. In an office every entry is of a
+/// candidate.
+pub fn has_live_entry(facts: &Facts, session: &SessionCode, number: Number) -> bool
+    ensures { result ≡ spec.has_live_entry (relations_of facts.now) session.now number }
 {
     least_live_paper(facts, session, number).is_some()
+}
+
+/// Whether the number is that of a candidate who has a live entry for a paper of the session.
+pub fn is_member(facts: &Facts, session: &SessionCode, number: Number) -> bool
+    ensures value { result ≡ spec.is_member (relations_of facts.now) session.now number }
+    ensures listed { IsTrue result ↔ Contains (spec.members (relations_of facts.now) session.now) number }
+{
+    facts.candidates.contains_key(&number) && has_live_entry(facts, session, number)
 }
 
 /// The numbers of the members, rising. Refused where there is no such session, or not enough memory.
 pub fn members(alloc: Global, facts: &Facts, session: &SessionCode) -> Result<Vec<Number>, Refusal>
     ensures ok { IfOk result (λ numbers. numbers.items ≡ spec.members (relations_of facts.now) session.now) }
-    ensures rising { OnOk result (IsStrictlySortedBy nat_cmp (spec.members (relations_of facts.now) session.now)) }
+    ensures rising { OnOk result
+        (IsStrictlySortedBy nat_cmp (spec.members (relations_of facts.now) session.now)) }
     ensures known { OnOk result (IsTrue (has_row code_cmp facts.now.sessions.entries session.now)) }
     ensures refusal { IfErr result (spec.IsSessionRefusal (relations_of facts.now) session.now) }
 {
@@ -101,13 +115,14 @@ pub fn members(alloc: Global, facts: &Facts, session: &SessionCode) -> Result<Ve
         .candidates
         .keys()
         .copied()
-        .filter(|number| is_member(facts, session, *number))
+        .filter(|number| has_live_entry(facts, session, *number))
         .collect(alloc)?;
     Ok(numbers)
 }
 
-/// The paper that the member sits, or none for one who is no member: the paper of the granted clash appeal where it is
-/// live and of this session, otherwise the least live one.
+/// The paper that the member sits: that of the granted clash appeal where it is live and of this session,
+/// otherwise the least live one; none for a number without a live entry there. A number of entries that is no
+/// candidate's, which no office has, counts as if it were.
 pub fn sitting(facts: &Facts, session: &SessionCode, number: Number) -> Option<PaperCode>
     ensures { result ≡ spec.sitting (relations_of facts.now) session.now number }
 {
@@ -119,7 +134,8 @@ pub fn sitting(facts: &Facts, session: &SessionCode, number: Number) -> Option<P
     least_live_paper(facts, session, number)
 }
 
-/// The arrangement in force: the granted one, otherwise the imported one, otherwise no needs and no extra time.
+/// The arrangement in force: the granted one, otherwise the imported one, otherwise no needs and no extra
+/// time.
 pub fn arrangement_in_force(facts: &Facts, session: &SessionCode, number: Number) -> Arrangement
     ensures { result ≡ spec.arrangement_in_force (relations_of facts.now) session.now number }
 {
@@ -129,22 +145,9 @@ pub fn arrangement_in_force(facts: &Facts, session: &SessionCode, number: Number
     match facts.arrangements.get(&number) {
         Some(arrangement) => *arrangement,
         None => Arrangement {
-            needs: no_features(),
+            needs: Features::none(),
             extra: no_extra(),
         },
-    }
-}
-
-/// The empty set of features.
-pub fn no_features() -> Features
-    ensures { result ≡ spec.no_features }
-{
-    Features {
-        step_free: false,
-        screen: false,
-        reader: false,
-        small_room: false,
-        computer: false,
     }
 }
 
@@ -155,8 +158,8 @@ fn no_extra() -> Extra
     Extra::new(0).unwrap()
 }
 
-/// The members with their live papers that they do not sit, by number and code. Refused where there is no such session,
-/// or not enough memory.
+/// The members with their live papers that they do not sit, by number and code. Refused where there is no
+/// such session, or not enough memory.
 pub fn clashes(
     alloc: Global,
     facts: &Facts,
@@ -181,7 +184,8 @@ fn push_clashes(
     session: &SessionCode,
     number: Number,
 ) -> Result<(), Refusal>
-    ensures ok { OnOk result (list.new.items ≡ list.old.items ++ spec.clashes_of (relations_of facts.now) session.now number) }
+    ensures ok { OnOk result (list.new.items ≡ list.old.items
+        ++ spec.clashes_of (relations_of facts.now) session.now number) }
     ensures memory { IfErr result (λ e. e ≡ NoMemory) }
 {
     let sat = sitting(facts, session, number);

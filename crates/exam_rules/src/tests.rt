@@ -128,7 +128,8 @@ fn grant(
     Ok(())
 }
 
-/// Session S1 at 09:00 with the paper MA-1 of 60 minutes; the halls A, which is step-free, and B are open until 12:00.
+/// Session S1 at 09:00 with the paper MA-1 of 60 minutes; the halls A, which is step-free, and B are open
+/// until 12:00.
 fn base_office(alloc: Global) -> Result<Facts, Fail> {
     let mut facts = Facts::new(alloc);
     add_session(&mut facts, b"S1", 540)?;
@@ -226,14 +227,14 @@ fn copies_of_rows_are_equal(rt: HostRuntime) -> Result<(), Fail> {
     add_candidate(rt.alloc(), &mut facts, 1, b"MA-1")?;
     grant(rt.alloc(), &mut facts, 1, b"S1", Subject::Hall(hall(b"B")?))?;
     let row = facts.papers.get(&paper(b"MA-1")?).ok_or("paper")?;
-    assert!(rt; row.copy()? == *row);
+    assert!(rt; row.clone()? == *row);
     let row = facts.halls.get(&hall(b"A")?).ok_or("hall")?;
-    assert!(rt; row.copy()? == *row);
+    assert!(rt; row.clone()? == *row);
     let row = facts.candidates.get(&number(1)?).ok_or("candidate")?;
-    assert!(rt; row.copy()? == *row);
+    assert!(rt; row.clone()? == *row);
     let reference = Reference::parse(b"R1").ok_or("reference")?;
     let row = facts.appeals.get(&(number(1)?, reference)).ok_or("appeal")?;
-    assert!(rt; row.copy()? == *row);
+    assert!(rt; row.clone()? == *row);
     Ok(())
 }
 

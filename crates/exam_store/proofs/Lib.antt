@@ -1,4 +1,3 @@
-pub mod FeatureSums
 pub mod Inserting
 pub mod Reading
 pub mod Steps

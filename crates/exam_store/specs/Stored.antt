@@ -1,5 +1,5 @@
 -- The stored forms of values.
-use Rattle.std.specs.Prelude.{ℕ, ◌+◌, pos, Bool, IsTrue, List, [], ◌∷◌, Option, Some, None, if◌then◌else◌}
+use Rattle.std.specs.Prelude.{ℕ, pos, Bool, IsTrue, List, [], ◌∷◌, Option, Some, None, if◌then◌else◌}
 use Rattle.sqlite_value.specs.declared.value.Value.{Value}
 use Rattle.sqlite_value.specs.declared.value.Value.TheVariants.{Int, Text}
 use Rattle.sqlite_value.specs.Order.{Row}
@@ -9,6 +9,7 @@ use Rattle.exam_types.specs.Days.{day_text}
 use Rattle.exam_types.specs.Numbers.{IsExtra}
 use Rattle.exam_types.specs.Texts.{is_reason}
 use Rattle.exam_types.specs.declared.features.Features.{Features}
+use Rattle.exam_types.specs.Features.{features_sum}
 use Rattle.exam_rules.specs.declared.rows.Subject.{Subject}
 use Rattle.exam_rules.specs.declared.rows.Subject.TheVariants.{Hall, Clash, Arrangement}
 use Rattle.exam_rules.specs.declared.rows.Status.{Status}
@@ -30,13 +31,7 @@ flag b = whole (if b then 1 else 0)
 abbrev pub day : ℕ → Value
 day n = Text (day_text n)
 
-abbrev pub part : Bool → ℕ → ℕ
-part wanted value = if wanted then value else 0
-
--- a feature set as the sum of its parts
-abbrev pub features_sum : Features → ℕ
-features_sum f = part f.step_free 1 + part f.screen 2 + part f.reader 4 + part f.small_room 8 + part f.computer 16
-
+-- a feature set as its sum
 abbrev pub features : Features → Value
 features f = whole (features_sum f)
 

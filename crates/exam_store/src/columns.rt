@@ -9,7 +9,7 @@ ghost use Rattle.exam_types.specs.Texts.{is_name, is_reason};
 ghost use Rattle.exam_types.specs.declared.refusal.Refusal.TheVariants.{NoMemory, BadStore};
 ghost use Rattle.exam_store.specs.Reading.{Reads, MayRead};
 ghost use Rattle.exam_store.specs.Stored as stored;
-ghost use Rattle.exam_store.specs.Stored.{IsAny, features_sum, part};
+ghost use Rattle.exam_store.specs.Stored.{IsAny};
 
 use exam_types::{
     AccessCode, ClosingTime, Day, DeskCount, ExamMinutes, Extra, Features, HallCode, Name, Number,
@@ -123,7 +123,7 @@ pub fn extra_at(row: &Row, at: usize) -> Result<Extra, Refusal>
 pub fn features_at(row: &Row, at: usize) -> Result<Features, Refusal>
     ensures { Reads IsAny stored.features (column row.now at) result }
 {
-    features_of(whole_at(row, at)?).ok_or(Refusal::BadStore)
+    Features::from_sum(whole_at(row, at)?).ok_or(Refusal::BadStore)
 }
 
 /// 1 for yes, 0 for no.
@@ -131,40 +131,6 @@ pub fn flag(yes: bool) -> i64
     ensures { result ≡ pos (if yes then 1 else 0) }
 {
     if yes { 1 } else { 0 }
-}
-
-/// The sum of 1 for step-free, 2 for screen, 4 for reader, 8 for a small room and 16 for a computer.
-pub fn features_sum(features: Features) -> u32
-    ensures value { result ≡ features_sum features }
-    ensures range { result ≤ 31 }
-{
-    part(features.step_free, 1)
-        + part(features.screen, 2)
-        + part(features.reader, 4)
-        + part(features.small_room, 8)
-        + part(features.computer, 16)
-}
-
-fn part(wanted: bool, value: u32) -> u32
-    ensures { result ≡ part wanted value }
-{
-    if wanted { value } else { 0 }
-}
-
-/// The set with this sum, or none.
-pub fn features_of(sum: u32) -> Option<Features>
-    ensures { (f : _) → (result ≡ Some f) ↔ (features_sum f ≡ sum) }
-{
-    if sum > 31 {
-        return None;
-    }
-    Some(Features {
-        step_free: sum % 2 == 1,
-        screen: sum / 2 % 2 == 1,
-        reader: sum / 4 % 2 == 1,
-        small_room: sum / 8 % 2 == 1,
-        computer: sum / 16 % 2 == 1,
-    })
 }
 
 /// Refused also where there is not enough memory.

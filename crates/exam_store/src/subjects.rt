@@ -12,7 +12,7 @@ ghost use Rattle.exam_store.specs.Stored as stored;
 ghost use Rattle.exam_store.specs.Stored.{IsSubject, IsAnswer, IsStatus};
 
 use crate::columns::{
-    extra_at, features_at, features_sum, hall_code_at, paper_code_at, reason_at, text_at, whole_at,
+    extra_at, features_at, hall_code_at, paper_code_at, reason_at, text_at, whole_at,
 };
 use exam_rules::{Arrangement, Status, Subject};
 use exam_types::{HallCode, PaperCode, Reason, Refusal};
@@ -48,7 +48,7 @@ pub fn needs_of(subject: &Subject) -> u32
     ensures range { result ≤ 31 }
 {
     match subject {
-        Subject::Arrangement(wanted) => features_sum(wanted.needs),
+        Subject::Arrangement(wanted) => wanted.needs.sum(),
         _ => 0,
     }
 }

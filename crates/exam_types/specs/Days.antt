@@ -1,5 +1,7 @@
 -- The days from 2000-01-01 to 2199-12-31 by their numbers from 1970-01-01, and their texts.
-use Rattle.std.specs.Prelude.{◌≡◌, ℕ, zero, suc, ◌+◌, ◌-◌, ◌%◌, ◌==◌, ◌&&◌, ◌||◌, ◌≤◌, nat_lt, not, Bool, List, ◌∷◌, ◌++◌, find, unwrap_or, if◌then◌else◌, refl, codes, nat_le, take, drop, slice_range, bytes_eq, Option, Some, None}
+use Rattle.std.specs.Prelude.{◌≡◌, ℕ, zero, suc, ◌+◌, ◌-◌, ◌%◌, ◌==◌, ◌&&◌, ◌||◌, ◌≤◌, nat_lt, not, Bool}
+use Rattle.std.specs.Prelude.{List, ◌∷◌, ◌++◌, find, unwrap_or, if◌then◌else◌, refl, codes, nat_le, take}
+use Rattle.std.specs.Prelude.{drop, slice_range, bytes_eq, Option, Some, None}
 use Rattle.std.specs.List.{range_with_len}
 use Rattle.exam_types.specs.Digits.{digits, digits_value}
 use Rattle.exam_types.specs.declared.day.TheConstants.{FIRST_DAY, LAST_DAY}
@@ -69,7 +71,9 @@ is_day n = nat_le FIRST_DAY n && nat_le n LAST_DAY
 
 -- the number that the digits of a text make
 abbrev pub spelled_day : List ℕ → ℕ
-spelled_day bytes = month_start (digits_value (take 4 bytes)) (digits_value (slice_range bytes 5 7)) + digits_value (drop 8 bytes) - 1
+spelled_day bytes =
+    month_start (digits_value (take 4 bytes)) (digits_value (slice_range bytes 5 7))
+    + digits_value (drop 8 bytes) - 1
 
 -- the day that a text names: that of its digits, if it has this text
 unfoldable pub day_of : List ℕ → Option ℕ

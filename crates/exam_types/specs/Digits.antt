@@ -1,5 +1,6 @@
 -- Decimal digits.
-use Rattle.std.specs.Prelude.{ℕ, zero, suc, ◌+◌, ◌-◌, ◌*◌, ◌/◌, ◌%◌, ◌&&◌, nat_le, Bool, List, [], ◌∷◌, ◌++◌, fold, Option, Some, None, if◌then◌else◌}
+use Rattle.std.specs.Prelude.{ℕ, zero, suc, ◌+◌, ◌-◌, ◌*◌, ◌/◌, ◌%◌, ◌&&◌, nat_le, Bool, List, [], ◌∷◌, ◌++◌}
+use Rattle.std.specs.Prelude.{fold, Option, Some, None, if◌then◌else◌}
 use Rattle.std.specs.List.{list_all}
 
 -- the last k decimal digits of n, from the left

@@ -1,5 +1,6 @@
 -- Feature sets: what they hold, their texts and their sums.
-use Rattle.std.specs.Prelude.{ℕ, ◌+◌, ◌/◌, ◌%◌, ◌==◌, nat_eq, Bool, false, not, ◌&&◌, ◌||◌, List, [], ◌∷◌, ◌++◌, if◌then◌else◌, codes}
+use Rattle.std.specs.Prelude.{ℕ, ◌+◌, ◌/◌, ◌%◌, ◌==◌, nat_eq, Bool, false, not, ◌&&◌, ◌||◌}
+use Rattle.std.specs.Prelude.{List, [], ◌∷◌, ◌++◌, if◌then◌else◌, codes}
 use Rattle.std.proofs.Math.Bool.{beq}
 use Rattle.std.specs.List.{list_any, slice_split}
 use Rattle.std.specs.Cmp.Lexicographic.{pointwise}
@@ -20,7 +21,11 @@ dash_if_empty (b ∷ text) = b ∷ text
 -- the names in their order, joined by +, and - for the empty set
 abbrev pub features_text : Features → List ℕ
 features_text f = dash_if_empty (add_name (add_name (add_name (add_name (add_name []
-    f.step_free (codes "step-free")) f.screen (codes "screen")) f.reader (codes "reader")) f.small_room (codes "small-room")) f.computer (codes "computer"))
+    f.step_free (codes "step-free"))
+    f.screen (codes "screen"))
+    f.reader (codes "reader"))
+    f.small_room (codes "small-room"))
+    f.computer (codes "computer"))
 
 abbrev pub has_part : List ℕ → List ℕ → Bool
 has_part bytes name = list_any (λ part. pointwise nat_eq part name) (slice_split (λ b. b == 43) bytes)
@@ -37,22 +42,47 @@ named_features bytes = record {
 
 -- the empty set
 abbrev pub no_features : Features
-no_features = record { step_free = false; screen = false; reader = false; small_room = false; computer = false }
+no_features = record {
+  step_free = false;
+  screen = false;
+  reader = false;
+  small_room = false;
+  computer = false;
+}
+
+-- a feature is there, or not wanted
+abbrev pub is_met : Bool → Bool → Bool
+is_met wanted there = not wanted || there
 
 -- each wanted feature is there
 abbrev pub holds_features : Features → Features → Bool
-holds_features has wants = (not wants.step_free || has.step_free) && ((not wants.screen || has.screen) && ((not wants.reader || has.reader) && ((not wants.small_room || has.small_room) && (not wants.computer || has.computer))))
+holds_features has wants =
+    is_met wants.step_free has.step_free
+    && (is_met wants.screen has.screen
+    && (is_met wants.reader has.reader
+    && (is_met wants.small_room has.small_room
+    && is_met wants.computer has.computer)))
 
 -- the same features are in both
 abbrev pub same_features : Features → Features → Bool
-same_features a b = beq a.step_free b.step_free && (beq a.screen b.screen && (beq a.reader b.reader && (beq a.small_room b.small_room && beq a.computer b.computer)))
+same_features a b =
+    beq a.step_free b.step_free
+    && (beq a.screen b.screen
+    && (beq a.reader b.reader
+    && (beq a.small_room b.small_room
+    && beq a.computer b.computer)))
 
 abbrev pub part : Bool → ℕ → ℕ
 part wanted value = if wanted then value else 0
 
 -- each feature counts as a power of two
 abbrev pub features_sum : Features → ℕ
-features_sum f = part f.step_free 1 + part f.screen 2 + part f.reader 4 + part f.small_room 8 + part f.computer 16
+features_sum f =
+    part f.step_free 1
+    + part f.screen 2
+    + part f.reader 4
+    + part f.small_room 8
+    + part f.computer 16
 
 -- the features whose powers are in a sum
 abbrev pub summed_features : ℕ → Features

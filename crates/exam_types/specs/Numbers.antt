@@ -1,7 +1,10 @@
 -- The numbered values: their ranges, and their texts.
 use Rattle.std.specs.Prelude.{ℕ, ◌≤◌, ◌/◌, ◌%◌, List, ◌∷◌, ◌++◌}
 use Rattle.exam_types.specs.Digits.{digits}
-use Rattle.exam_types.specs.declared.numbers.TheConstants.{LEAST_NUMBER, GREATEST_NUMBER, GREATEST_MINUTE, GREATEST_START, GREATEST_CLOSING, LEAST_EXAM_MINUTES, GREATEST_EXAM_MINUTES, GREATEST_EXTRA, LEAST_DESKS, GREATEST_DESKS}
+use Rattle.exam_types.specs.declared.numbers.TheConstants.{LEAST_NUMBER, GREATEST_NUMBER, GREATEST_MINUTE}
+use Rattle.exam_types.specs.declared.numbers.TheConstants.{GREATEST_START, GREATEST_CLOSING}
+use Rattle.exam_types.specs.declared.numbers.TheConstants.{LEAST_EXAM_MINUTES, GREATEST_EXAM_MINUTES}
+use Rattle.exam_types.specs.declared.numbers.TheConstants.{GREATEST_EXTRA, LEAST_DESKS, GREATEST_DESKS}
 
 -- 1 to 9,999,999
 abbrev pub IsNumber : ℕ → Type 0

@@ -1,7 +1,15 @@
 -- The numbers by which refusals are printed.
 use Rattle.std.specs.Prelude.{ℕ}
 use Rattle.exam_types.specs.declared.refusal.Refusal.{Refusal}
-use Rattle.exam_types.specs.declared.refusal.Refusal.TheVariants.{BadRow, BadHeader, RowConflict, UnknownSession, UnknownPaper, UnknownCandidate, UnknownHall, NoEntry, AlreadyWithdrawn, NotWithdrawn, NotSeatedThere, NotInSession, PastClosing, RefTaken, UnknownAppeal, NotOpenAppeal, TooLate, NoClash, NothingToChange, TooMany, AppealStands, NoMemory, Store, BadStore, HallNotOpened}
+use Rattle.exam_types.specs.declared.refusal.Refusal.TheVariants.{BadRow, BadHeader, RowConflict}
+use Rattle.exam_types.specs.declared.refusal.Refusal.TheVariants.{UnknownSession, UnknownPaper}
+use Rattle.exam_types.specs.declared.refusal.Refusal.TheVariants.{UnknownCandidate, UnknownHall, NoEntry}
+use Rattle.exam_types.specs.declared.refusal.Refusal.TheVariants.{AlreadyWithdrawn, NotWithdrawn}
+use Rattle.exam_types.specs.declared.refusal.Refusal.TheVariants.{NotSeatedThere, NotInSession, PastClosing}
+use Rattle.exam_types.specs.declared.refusal.Refusal.TheVariants.{RefTaken, UnknownAppeal, NotOpenAppeal}
+use Rattle.exam_types.specs.declared.refusal.Refusal.TheVariants.{TooLate, NoClash, NothingToChange, TooMany}
+use Rattle.exam_types.specs.declared.refusal.Refusal.TheVariants.{AppealStands, NoMemory, Store, BadStore}
+use Rattle.exam_types.specs.declared.refusal.Refusal.TheVariants.{HallNotOpened}
 
 abbrev pub refusal_number : Refusal → ℕ
 refusal_number (BadRow row column) = 1

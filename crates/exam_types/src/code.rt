@@ -1,11 +1,13 @@
 //! A short text of bytes in a fixed array, ordered by its bytes.
-ghost use Rattle.std.specs.Prelude.{◌≡◌, ℕ, ◌-◌, ◌≤◌, ◌++◌, length, nat_eq, Bool, IsTrue, OnOk, OnErr, IfErr, Some, None, if◌then◌else◌, refl};
+ghost use Rattle.std.specs.Prelude.{◌≡◌, ℕ, ◌-◌, ◌≤◌, ◌++◌, length, nat_eq, Bool, IsTrue, OnOk, OnErr, IfErr};
+ghost use Rattle.std.specs.Prelude.{Some, None, if◌then◌else◌, refl};
 ghost use Rattle.exam_types.specs.Codes.{is_code, is_dashed, is_capital_or_digit};
 ghost use Rattle.exam_types.specs.declared.refusal.Refusal.TheVariants.{NoMemory};
 ghost use Rattle.std.specs.List.{list_all};
 ghost use Rattle.std.specs.Ordering.{nat_cmp};
 ghost use Rattle.std.specs.Cmp.{partial_equiv_from_equiv};
-ghost use Rattle.std.specs.Cmp.Lexicographic.{pointwise, slice_cmp, nat_list_eq_equiv, nat_list_cmp_total, texts_po, texts_ties};
+ghost use Rattle.std.specs.Cmp.Lexicographic.{pointwise, slice_cmp, nat_list_eq_equiv, nat_list_cmp_total};
+ghost use Rattle.std.specs.Cmp.Lexicographic.{texts_po, texts_ties};
 
 use crate::refusal::Refusal;
 use crate::text::append;
@@ -63,11 +65,17 @@ impl<K, A: Alphabet, const LEAST: usize, const GREATEST: usize> Model
 
     ghost view = { λ a. take a.len a.cells };
 
-    ghost invariant = { λ a. (a.len ≤ GREATEST) × (length a.cells ≡ GREATEST) × (drop a.len a.cells ≡ replicate (GREATEST - a.len) 0) × IsTrue (is_code A.allowed LEAST GREATEST (take a.len a.cells)) };
+    ghost invariant = { λ a. (a.len ≤ GREATEST) × (length a.cells ≡ GREATEST)
+        × (drop a.len a.cells ≡ replicate (GREATEST - a.len) 0)
+        × IsTrue (is_code A.allowed LEAST GREATEST (take a.len a.cells)) };
 
     ghost inverse = { λ text. record { cells = padded GREATEST text; len = length text; kind = record {} } };
 
-    ghost inverse_ok = { λ a h i. record { cells = padded-take GREATEST a.len a.cells h.0 h.1 h.2 i; len = length-front GREATEST a.len a.cells h.0 h.1 i; kind = record {} } };
+    ghost inverse_ok = { λ a h i. record {
+      cells = padded-take GREATEST a.len a.cells h.0 h.1 h.2 i;
+      len = length-front GREATEST a.len a.cells h.0 h.1 i;
+      kind = record {};
+    } };
 }
 
 impl<K, A: Alphabet, const LEAST: usize, const GREATEST: usize> Code<K, A, LEAST, GREATEST> {

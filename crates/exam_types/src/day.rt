@@ -1,5 +1,6 @@
 //! A day from 2000-01-01 to 2199-12-31.
-ghost use Rattle.std.specs.Prelude.{◌≡◌, ◌<◌, ◌↔◌, ◌+◌, ◌-◌, ◌++◌, ℕ, nat_le, length, pos, neg_ℤ, Some, None, IsSome, IfSome, OnOk, OnErr, IfErr, if◌then◌else◌};
+ghost use Rattle.std.specs.Prelude.{◌≡◌, ◌<◌, ◌↔◌, ◌+◌, ◌-◌, ◌++◌, ℕ, nat_le, length, pos, neg_ℤ, Some, None};
+ghost use Rattle.std.specs.Prelude.{IsSome, IfSome, OnOk, OnErr, IfErr, if◌then◌else◌};
 ghost use Rattle.jiff.specs.Types.{Day as SpanDay};
 ghost use Rattle.jiff.specs.Words.{IsDate, IsOnly, IsYmd, epoch_day};
 ghost use Rattle.arrayvec.specs.ArrayVec.{array_vec_len};
@@ -124,7 +125,8 @@ impl fmt::Display for Day {
 
 /// The year, the month and the day that a text of the right shape spells.
 fn parts_of(bytes: &[u8]) -> Option<(u32, u32, u32)>
-    ensures { (y m d : ℕ) → (result ≡ Some (y, m, d)) ↔ ((y < 10000) × (m < 100) × (d < 100) × (spec.date_text y m d ≡ bytes.now)) }
+    ensures { (y m d : ℕ) → (result ≡ Some (y, m, d))
+        ↔ ((y < 10000) × (m < 100) × (d < 100) × (spec.date_text y m d ≡ bytes.now)) }
 {
     if bytes.len() != 10 || bytes[4] != b'-' || bytes[7] != b'-' {
         return None;

@@ -10,7 +10,8 @@ use thiserror::Error;
 /// Why a call is refused. After a refusal everything is as before.
 #[derive(Clone, Copy, Debug, PartialEq, Eq, Error)]
 pub enum Refusal {
-    /// A row of an import is bad: its record, counted from 1 after the header, and its first bad column from the left, counted from 1, or 0 for a wrong count of fields.
+    /// A row of an import is bad: its record, counted from 1 after the header, and its first bad column from
+    /// the left, counted from 1, or 0 for a wrong count of fields.
     #[error("record {record} column {column} is bad")]
     BadRow { record: u32, column: u32 },
     /// The first record of an import is not the header of its kind.

@@ -1,5 +1,6 @@
 //! Texts of a person's words, and how bytes are appended.
-ghost use Rattle.std.specs.Prelude.{◌≡◌, ◌++◌, false, nat_eq, IsTrue, IfSome, IfNone, IfOk, IfErr, OnOk, OnErr, Some, None, if◌then◌else◌};
+ghost use Rattle.std.specs.Prelude.{◌≡◌, ◌++◌, false, nat_eq, IsTrue, IfSome, IfNone, IfOk, IfErr, OnOk};
+ghost use Rattle.std.specs.Prelude.{OnErr, Some, None, if◌then◌else◌};
 ghost use Rattle.std.specs.Cmp.{partial_equiv_from_equiv};
 ghost use Rattle.std.specs.Cmp.Lexicographic.{pointwise, nat_list_eq_equiv};
 ghost use Rattle.std.specs.Str.{is_utf8};
@@ -7,7 +8,7 @@ ghost use Rattle.exam_types.specs.Texts.{has_control as spec_has_control, is_tex
 ghost use Rattle.exam_types.specs.declared.refusal.Refusal.TheVariants.{NoMemory};
 
 use crate::refusal::Refusal;
-use std::alloc::Global;
+use std::alloc::{AllocError, Global};
 use std::marker::Model;
 use std::str;
 
@@ -50,7 +51,8 @@ impl<const LEAST: usize, const GREATEST: usize> Model for Text<LEAST, GREATEST> 
 impl<const LEAST: usize, const GREATEST: usize> Text<LEAST, GREATEST> {
     /// The text that these bytes are, or none. Refused where there is not enough memory.
     pub fn parse(alloc: Global, bytes: &[u8]) -> Result<Option<Self>, Refusal>
-        ensures ok { IfOk result (λ text. text ≡ (if is_text LEAST GREATEST bytes.now then Some bytes.now else None)) }
+        ensures ok { IfOk result (λ text. text
+            ≡ (if is_text LEAST GREATEST bytes.now then Some bytes.now else None)) }
         ensures memory { IfErr result (λ e. (e ≡ NoMemory) × IsTrue (is_text LEAST GREATEST bytes.now)) }
     {
         match plain_text(bytes, LEAST, GREATEST) {
@@ -76,9 +78,7 @@ impl<const LEAST: usize, const GREATEST: usize> Text<LEAST, GREATEST> {
         ensures ok { IfOk result (λ text. text ≡ self.now) }
         ensures memory { IfErr result (λ e. e ≡ NoMemory) }
     {
-        Ok(Text {
-            text: self.text.clone()?,
-        })
+        Ok(self.clone()?)
     }
 
     /// The text.
@@ -87,6 +87,16 @@ impl<const LEAST: usize, const GREATEST: usize> Text<LEAST, GREATEST> {
         ensures form { IsTrue (is_text LEAST GREATEST self.now) }
     {
         self.text.as_str()
+    }
+}
+
+impl<const LEAST: usize, const GREATEST: usize> Clone for Text<LEAST, GREATEST> {
+    ghost is_clone = { λ source copy. copy ≡ source };
+
+    fn clone(&self) -> Result<Self, AllocError> {
+        Ok(Text {
+            text: self.text.clone()?,
+        })
     }
 }
 

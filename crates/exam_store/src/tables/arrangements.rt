@@ -4,7 +4,7 @@ ghost use Rattle.sqlite_value.specs.declared.value.Value.TheVariants.{Text};
 ghost use Rattle.exam_store.specs.Rows.{arrangement_row, IsArrangement};
 ghost use Rattle.exam_store.specs.Stored as stored;
 
-use crate::columns::{extra_at, features_at, features_sum, number_at};
+use crate::columns::{extra_at, features_at, number_at};
 use crate::statements::{all_rows, run};
 use crate::table::Table;
 use exam_rules::Arrangement;
@@ -42,7 +42,7 @@ impl Table for Arrangements {
             "INSERT OR REPLACE INTO arrangement (number, needs, extra) VALUES (?1, ?2, ?3)",
             &[
                 ValueRef::Int(i64::from(number.get())),
-                ValueRef::Int(i64::from(features_sum(arrangement.needs))),
+                ValueRef::Int(i64::from(arrangement.needs.sum())),
                 ValueRef::Int(i64::from(arrangement.extra.get())),
             ],
         )

@@ -4,7 +4,7 @@ ghost use Rattle.sqlite_value.specs.declared.value.Value.TheVariants.{Text};
 ghost use Rattle.exam_store.specs.Rows.{hall_row, IsHall};
 ghost use Rattle.exam_store.specs.Stored as stored;
 
-use crate::columns::{features_at, features_sum, hall_code_at, name_at};
+use crate::columns::{features_at, hall_code_at, name_at};
 use crate::statements::{all_rows, run};
 use crate::table::Table;
 use exam_rules::Hall;
@@ -43,7 +43,7 @@ impl Table for Halls {
             &[
                 ValueRef::Text(code.as_bytes()),
                 ValueRef::Text(hall.title.as_str().as_bytes()),
-                ValueRef::Int(i64::from(features_sum(hall.features))),
+                ValueRef::Int(i64::from(hall.features.sum())),
             ],
         )
     }

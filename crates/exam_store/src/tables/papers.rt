@@ -4,9 +4,7 @@ ghost use Rattle.sqlite_value.specs.declared.value.Value.TheVariants.{Text};
 ghost use Rattle.exam_store.specs.Rows.{paper_row, IsPaper};
 ghost use Rattle.exam_store.specs.Stored as stored;
 
-use crate::columns::{
-    exam_minutes_at, features_at, features_sum, name_at, paper_code_at, session_code_at,
-};
+use crate::columns::{exam_minutes_at, features_at, name_at, paper_code_at, session_code_at};
 use crate::statements::{all_rows, run};
 use crate::table::Table;
 use exam_rules::Paper;
@@ -47,7 +45,7 @@ impl Table for Papers {
                 ValueRef::Text(paper.title.as_str().as_bytes()),
                 ValueRef::Text(paper.session.as_bytes()),
                 ValueRef::Int(i64::from(paper.minutes.get())),
-                ValueRef::Int(i64::from(features_sum(paper.required))),
+                ValueRef::Int(i64::from(paper.required.sum())),
             ],
         )
     }

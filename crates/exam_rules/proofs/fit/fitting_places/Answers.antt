@@ -1,7 +1,7 @@
 use Rattle.std.proofs.Common.{◌≡◌, ℕ, List, map, is_some, true, false, IfOk, Option, subst, ap, ◌∙◌, arith}
 use Rattle.exam_rules.specs.declared.fit.Room.{Room}
 use Rattle.exam_rules.specs.Relations.{Code, relations_of}
-use Rattle.exam_rules.specs.Sessions.{is_member, barred_halls}
+use Rattle.exam_rules.specs.Sessions.{has_live_entry, barred_halls}
 use Rattle.exam_rules.specs.Seatings.{positions, is_suiting, sitting_terms}
 use Rattle.exam_rules.proofs.Places.{fits_nowhere, fits_by_rooms}
 use Rattle.exam_rules.proofs.Sitters.{members_sit}
@@ -9,14 +9,14 @@ use Rattle.exam_rules.proofs.fit.fitting_places.Goals as goal
 
 pub returns-then-is_none-clause-ok : goal.returns-then-is_none-clause-ok
 returns-then-is_none-clause-ok c =
-    let inside : is_some c.args.sat ≡ is_member (relations_of c.args.facts.now) c.args.session.now c.args.number = ap is_some c.requires.sat ∙ members_sit (relations_of c.args.facts.now) c.args.session.now c.args.number in
-    let outside : is_member (relations_of c.args.facts.now) c.args.session.now c.args.number ≡ false = grind arith in
+    let inside : is_some c.args.sat ≡ has_live_entry (relations_of c.args.facts.now) c.args.session.now c.args.number = ap is_some c.requires.sat ∙ members_sit (relations_of c.args.facts.now) c.args.session.now c.args.number in
+    let outside : has_live_entry (relations_of c.args.facts.now) c.args.session.now c.args.number ≡ false = grind arith in
     c.new.ensures.items ∙ fits_nowhere (relations_of c.args.facts.now) c.args.session.now c.args.number outside (map (λ (row : Code × Option Room). row.0) c.args.halls.now)
 
 pub returns-clause-ok : goal.returns-clause-ok
 returns-clause-ok c =
-    let sits : is_some c.args.sat ≡ is_member (relations_of c.args.facts.now) c.args.session.now c.args.number = ap is_some c.requires.sat ∙ members_sit (relations_of c.args.facts.now) c.args.session.now c.args.number in
-    let inside : is_member (relations_of c.args.facts.now) c.args.session.now c.args.number ≡ true = grind arith in
+    let sits : is_some c.args.sat ≡ has_live_entry (relations_of c.args.facts.now) c.args.session.now c.args.number = ap is_some c.requires.sat ∙ members_sit (relations_of c.args.facts.now) c.args.session.now c.args.number in
+    let inside : has_live_entry (relations_of c.args.facts.now) c.args.session.now c.args.number ≡ true = grind arith in
     let barred : c.deref.result.now ≡ barred_halls (relations_of c.args.facts.now) c.args.session.now c.args.number = c.deref.ensures.value ∙ c.in_ok-barred.ensures.ok in
     subst (λ (t : List ℕ). IfOk c.suiting_places.result (λ places. places.items ≡ t))
     (ap (λ terms. positions (is_suiting terms c.deref.result.now) 0 c.args.halls.now) c.sitting_terms-terms.ensures

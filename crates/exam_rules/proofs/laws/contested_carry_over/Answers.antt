@@ -1,9 +1,7 @@
-use Rattle.exam_plan.specs.Problems.{seating_of}
-use Rattle.exam_rules.proofs.Carrying.{IsContested-named, IsContested-indexed}
-use Rattle.exam_rules.specs.Seatings.{seating, problem_of}
-use Rattle.exam_rules.specs.Names.{number_at, hall_at, index_of, hall_index}
+use Rattle.exam_plan.proofs.Carrying.{IsContested-named, IsContested-indexed}
+use Rattle.exam_rules.specs.Names.{naming}
 use Rattle.exam_rules.proofs.Naming.{renames}
 use Rattle.exam_rules.proofs.laws.contested_carry_over.Goals as goal
 
 pub returns : goal.returns
-returns c = λ r s d i up at. (IsContested-indexed (seating_of (problem_of r s)) (seating r s) (number_at r s) (hall_at r s) (index_of r s) (hall_index r s) (renames r s up) d i at, IsContested-named (seating_of (problem_of r s)) (seating r s) (number_at r s) (hall_at r s) (index_of r s) (hall_index r s) (renames r s up) d i at)
+returns c = λ r s d i up at. (IsContested-indexed (naming r s) (renames r s up) d i at, IsContested-named (naming r s) (renames r s up) d i at)

@@ -1,10 +1,8 @@
-use Rattle.exam_plan.specs.Problems.{seating_of}
-use Rattle.exam_rules.specs.Seatings.{seating, problem_of}
-use Rattle.exam_rules.specs.Names.{number_at, hall_at, index_of, hall_index}
+use Rattle.exam_rules.specs.Names.{naming}
 use Rattle.exam_rules.proofs.Naming.{renames}
 use Rattle.exam_rules.proofs.Following.{follows, all_known}
-use Rattle.exam_rules.proofs.SweepNames.{IsSweep-indexed}
+use Rattle.exam_plan.proofs.SweepNames.{IsSweep-indexed}
 use Rattle.exam_rules.proofs.laws.sweeps_come_back.Goals as goal
 
 pub returns : goal.returns
-returns c = λ r s first p after up within. IsSweep-indexed (seating_of (problem_of r s)) (seating r s) (number_at r s) (hall_at r s) (index_of r s) (hall_index r s) (renames r s up) (follows r s up) first p after (all_known r s up p within)
+returns c = λ r s first p after up within. IsSweep-indexed (naming r s) (renames r s up) (follows r s up) first p after (all_known r s up p within)

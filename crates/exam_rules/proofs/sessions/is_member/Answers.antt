@@ -1,10 +1,13 @@
-use Rattle.std.proofs.Common.{ap, is_some, sym, ◌∙◌, ℕ}
-use Rattle.exam_rules.specs.declared.rows.Entry.{Entry}
-use Rattle.exam_rules.specs.Relations.{Code, relations_of}
-use Rattle.exam_rules.specs.Sessions.{is_live_entry}
-use Rattle.exam_rules.proofs.Together.{any_is}
+use Rattle.exam_rules.specs.Relations.{relations_of}
+use Rattle.exam_rules.proofs.Sitters.{known_listed, unknown_listed}
 use Rattle.exam_rules.proofs.sessions.is_member.Goals as goal
 
-pub returns : goal.returns
-returns c = c.is_some.ensures ∙ ap is_some c.least_live_paper.ensures
-    ∙ sym (any_is (is_live_entry (relations_of c.args.facts.now) c.args.session.now c.args.number) (λ (e : (ℕ × Code) × Entry). e.0.1) c.args.facts.now.entries.entries)
+pub returns-then-contains_key-clause-listed : goal.returns-then-contains_key-clause-listed
+returns-then-contains_key-clause-listed c =
+    known_listed (relations_of c.args.facts.now) c.args.session.now c.args.number c.contains_key.result c.has_live_entry.result
+    c.contains_key.ensures c.if-contains_key.true c.has_live_entry.ensures
+
+pub returns-else-contains_key-clause-listed : goal.returns-else-contains_key-clause-listed
+returns-else-contains_key-clause-listed c =
+    unknown_listed (relations_of c.args.facts.now) c.args.session.now c.args.number c.contains_key.result
+    c.contains_key.ensures c.if-contains_key.false
