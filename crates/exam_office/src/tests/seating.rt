@@ -113,7 +113,8 @@ fn an_import_repairs_by_the_appeals_that_were_granted(rt: HostRuntime) -> Result
     play(&rt, &facts, &[("S1", 2, "A")], &scenes)
 }
 
-/// The first sits PH-2, which wants a computer, by a granted clash appeal; the third is granted a need of a screen.
+/// The first sits PH-2, which wants a computer, by a granted clash appeal; the third is granted a need of a
+/// screen.
 const GRANTED: [Fact<'static>; 9] = [
     Fact::School,
     Fact::Row(Line::Opening("S1", "A", 1)),

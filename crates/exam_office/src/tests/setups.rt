@@ -22,8 +22,9 @@ pub enum Fact<'a> {
     School,
     /// A row, as an import brings it.
     Row(Line<'a>),
-    /// The rows of a kind with these numbers, from the first up to but not with the second: sessions S0 and on, papers
-    /// P0 and on of S1, halls H0 and on, their openings for S1 with a desk each, candidates, entries for MA-1.
+    /// The rows of a kind with these numbers, from the first up to but not with the second: sessions S0 and
+    /// on, papers P0 and on of S1, halls H0 and on, their openings for S1 with a desk each, candidates,
+    /// entries for MA-1.
     Rows(Kind, u32, u32),
     /// A withdrawn entry.
     Withdrawn(u32, &'a str),
