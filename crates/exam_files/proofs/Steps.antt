@@ -4,11 +4,11 @@ use Rattle.std.specs.Prelude.{Ok, Err, Result, ◌⊎◌, nat_lt}
 use Rattle.std.specs.Result.{IsErrAnd}
 use Rattle.csv.specs.Reading.{default_config, records, strip_bom}
 use Rattle.exam_office.specs.Imports.{ImportRows, conflicts}
-use Rattle.exam_office.specs.declared.row.Kind.{Kind}
-use Rattle.exam_office.specs.declared.row.Row.{Row}
+use Rattle.exam_office.specs.declared.import_row.Kind.{Kind}
+use Rattle.exam_office.specs.declared.import_row.Row.{Row}
 use Rattle.exam_types.specs.declared.refusal.Refusal.{Refusal}
 use Rattle.exam_types.specs.declared.refusal.Refusal.TheVariants.{BadHeader, NoMemory, RowConflict}
-use Rattle.exam_files.specs.Rows.{GivesUnlessMemory, import_of, is_header, row_of, rows_from, rows_of}
+use Rattle.exam_files.specs.ImportFiles.{GivesUnlessMemory, import_of, is_header, row_of, rows_from, rows_of}
 
 pub rows-more : (kind : Kind) (place : ℕ) (rows : List Row) (f : List (List ℕ)) (rest : List (List (List ℕ))) (row : Row) → row_of kind place f ≡ Ok row → conflicts row rows ≡ false
     → rows_from kind place rows (f ∷ rest) ≡ rows_from kind (place + 1) (rows ++ row ∷ []) rest

@@ -26,7 +26,9 @@ is_desk desk None = false
 is_desk desk (Some n) = n == desk
 
 abbrev pub door_line : ℕ → Seat → List ℕ
-door_line desk seat = right_in 4 (decimal desk) ++ codes " " ++ number_text seat.number ++ codes " " ++ left_in 12 seat.paper ++ codes " " ++ seat.name ++ codes "\n"
+door_line desk seat =
+    right_in 4 (decimal desk) ++ codes " " ++ number_text seat.number ++ codes " "
+    ++ left_in 12 seat.paper ++ codes " " ++ seat.name ++ codes "\n"
 
 -- the line of a member who sits at that desk of that hall
 abbrev pub line_at : List ℕ → ℕ → Seat → List ℕ
@@ -37,20 +39,24 @@ abbrev pub door_heading : List ℕ → Session → List ℕ → Opening → List
 door_heading code session hall opening seats =
     codes "DOOR LIST session " ++ code ++ codes " hall " ++ hall
     ++ codes "\ndate " ++ day_text session.day ++ codes " start " ++ minute_text session.start
-    ++ codes " desks " ++ decimal opening.desks ++ codes " seated " ++ decimal (count_by (sits_in hall) seats) ++ codes "\n"
+    ++ codes " desks " ++ decimal opening.desks
+    ++ codes " seated " ++ decimal (count_by (sits_in hall) seats) ++ codes "\n"
 
 -- the heading, and desk by desk who sits there
 abbrev pub door_text : List ℕ → Session → List ℕ → Opening → List Seat → List ℕ
 door_text code session hall opening seats =
-    door_heading code session hall opening seats ++ flat_map (λ desk. flat_map (line_at hall desk) seats) (range_with_len 1 opening.desks)
+    door_heading code session hall opening seats
+    ++ flat_map (λ desk. flat_map (line_at hall desk) seats) (range_with_len 1 opening.desks)
 
 -- the opening of a hall in the session, and its refusals: no such hall in the office, and not opened
 abbrev pub opening_in : View → List ℕ → Result Opening Refusal
-opening_in view hall = if has_hall view hall then ok_or (opening_of view hall) HallNotOpened else Err UnknownHall
+opening_in view hall =
+    if has_hall view hall then ok_or (opening_of view hall) HallNotOpened else Err UnknownHall
 
 abbrev pub sheet_if : {X : Type 0} → (X → List ℕ) → Result X Refusal → Result (List ℕ) Refusal
 sheet_if text (Ok x) = Ok (text x)
 sheet_if text (Err e) = Err e
 
 abbrev pub door_list : View → List ℕ → Result (List ℕ) Refusal
-door_list view hall = sheet_if (λ opening. door_text view.code view.session hall opening (seats_of view)) (opening_in view hall)
+door_list view hall =
+    sheet_if (λ opening. door_text view.code view.session hall opening (seats_of view)) (opening_in view hall)

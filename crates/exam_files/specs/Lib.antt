@@ -1,7 +1,7 @@
 pub mod Doors
+pub mod ImportFiles
 pub mod Left
 pub mod Padding
-pub mod Rows
 pub mod Shortages
 pub mod Values
 pub mod Writing

@@ -14,10 +14,12 @@ candidate_line number = number_text number ++ codes "\n"
 abbrev pub shortage_heading : List ℕ → Report → List ℕ
 shortage_heading session report =
     codes "SHORTAGE session " ++ session ++ codes "\nunseated " ++ decimal report.unseated
-    ++ codes "\nhalls " ++ decimal (length report.halls) ++ codes " desks " ++ decimal (sum_by (λ hall. hall.1) report.halls) ++ codes "\n"
+    ++ codes "\nhalls " ++ decimal (length report.halls)
+    ++ codes " desks " ++ decimal (sum_by (λ hall. hall.1) report.halls) ++ codes "\n"
 
 -- the halls by code, and the candidates by number
 abbrev pub shortage_text : List ℕ → Report → List ℕ
 shortage_text session report =
     shortage_heading session report ++ flat_map hall_line report.halls
-    ++ codes "candidates " ++ decimal (length report.candidates) ++ codes "\n" ++ flat_map candidate_line report.candidates
+    ++ codes "candidates " ++ decimal (length report.candidates) ++ codes "\n"
+    ++ flat_map candidate_line report.candidates

@@ -37,10 +37,13 @@ desks_in = value_in decimal 1 2000
 
 -- the features that its parts name, where they are written so
 unfoldable pub features_in : List ℕ → Option Features
-features_in bytes = if bytes_eq (features_text (named_features bytes)) bytes then Some (named_features bytes) else None
+features_in bytes =
+    if bytes_eq (features_text (named_features bytes)) bytes then Some (named_features bytes) else None
 
 abbrev pub text_in : (List ℕ → Bool) → List ℕ → Option (List ℕ)
 text_in test bytes = if test bytes then Some bytes else None
 
 abbrev pub flag_in : List ℕ → Option Bool
-flag_in bytes = if bytes_eq bytes (codes "yes") then Some true else (if bytes_eq bytes (codes "no") then Some false else None)
+flag_in bytes =
+    if bytes_eq bytes (codes "yes") then Some true
+    else (if bytes_eq bytes (codes "no") then Some false else None)

@@ -8,11 +8,22 @@ use Rattle.exam_files.specs.declared.sheet_fault.SheetFault.TheVariants.{Refused
 
 -- a beginning of the text went out
 abbrev pub AppendsBeginning : Option (List ℕ) → Option (List ℕ) → List ℕ → Type 0
-AppendsBeginning old new text = (front : List ℕ) × (rest : List ℕ) × (text ≡ front ++ rest) × Appends old new front
+AppendsBeginning old new text =
+    (front : List ℕ) × (rest : List ℕ) × (text ≡ front ++ rest) × Appends old new front
 
--- Of a sheet, or its refusal: all of it went out, nothing at all (the writer is as it was), or a beginning. Want of memory
--- hides no refusal.
-abbrev pub Writes : {W : Type 0} → (W → Option (List ℕ)) → Result (Unit {0}) SheetFault → W → W → Result (List ℕ) Refusal → Type 0
-Writes contents (Ok done) old new sheet = (text : List ℕ) × (sheet ≡ Ok text) × Appends (contents old) (contents new) text
-Writes contents (Err (Refused refusal)) old new sheet = (new ≡ old) × (((refusal ≡ NoMemory) × ((text : List ℕ) × (sheet ≡ Ok text))) ⊎ (sheet ≡ Err refusal))
-Writes contents (Err Write) old new sheet = (text : List ℕ) × (sheet ≡ Ok text) × AppendsBeginning (contents old) (contents new) text
+-- the sheet has a text
+abbrev pub HasText : Result (List ℕ) Refusal → Type 0
+HasText sheet = (text : List ℕ) × (sheet ≡ Ok text)
+
+-- want of memory, which hides no refusal of the sheet, or that refusal
+abbrev pub IsRefusal : Refusal → Result (List ℕ) Refusal → Type 0
+IsRefusal refusal sheet = ((refusal ≡ NoMemory) × HasText sheet) ⊎ (sheet ≡ Err refusal)
+
+-- Of a sheet, or its refusal: all of it went out, nothing at all (the writer is as it was), or a beginning.
+abbrev pub Writes : {W : Type 0} → (W → Option (List ℕ)) → Result (Unit {0}) SheetFault
+    → W → W → Result (List ℕ) Refusal → Type 0
+Writes contents (Ok done) old new sheet =
+    (text : List ℕ) × (sheet ≡ Ok text) × Appends (contents old) (contents new) text
+Writes contents (Err (Refused refusal)) old new sheet = (new ≡ old) × IsRefusal refusal sheet
+Writes contents (Err Write) old new sheet =
+    (text : List ℕ) × (sheet ≡ Ok text) × AppendsBeginning (contents old) (contents new) text

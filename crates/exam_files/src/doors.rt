@@ -14,8 +14,8 @@ use exam_types::{HallCode, Refusal, SessionCode};
 use std::alloc::Global;
 use std::io::Write;
 
-/// Writes the door list of a hall: its occupants by desk. Refused as an unknown hall where the office has no such
-/// hall, and as not opened where the session has no such opening.
+/// Writes the door list of a hall: its occupants by desk. Refused as an unknown hall where the office has no
+/// such hall, and as not opened where the session has no such opening.
 pub fn door_list<W: Write>(
     alloc: Global,
     view: &SessionView,
@@ -48,7 +48,8 @@ fn door_list_text(
     opening: &Opening,
     seats: &[Seat],
 ) -> Result<Vec<u8>, Refusal>
-    ensures ok { IfOk result (λ text. text.items ≡ spec.door_text code session hall.now opening.now seats.now) }
+    ensures ok { IfOk result (λ text. text.items
+        ≡ spec.door_text code session hall.now opening.now seats.now) }
     ensures memory { IfErr result (λ e. e ≡ NoMemory) }
 {
     let mut text = Vec::new(alloc);
@@ -67,7 +68,8 @@ fn push_heading(
     opening: &Opening,
     seats: &[Seat],
 ) -> Result<(), Refusal>
-    ensures ok { OnOk result (text.new.items ≡ text.old.items ++ spec.door_heading code session hall.now opening.now seats.now) }
+    ensures ok { OnOk result (text.new.items
+        ≡ text.old.items ++ spec.door_heading code session hall.now opening.now seats.now) }
     ensures memory { IfErr result (λ e. e ≡ NoMemory) }
 {
     push_bytes(text, b"DOOR LIST session ")?;
@@ -95,7 +97,8 @@ fn seated(seats: &[Seat], hall: &HallCode) -> usize
 
 /// The line of each occupant of the hall at a desk.
 fn push_desk(text: &mut Vec<u8>, seats: &[Seat], hall: &HallCode, desk: u32) -> Result<(), Refusal>
-    ensures ok { OnOk result (text.new.items ≡ text.old.items ++ flat_map (spec.line_at hall.now desk) seats.now) }
+    ensures ok { OnOk result (text.new.items
+        ≡ text.old.items ++ flat_map (spec.line_at hall.now desk) seats.now) }
     ensures memory { IfErr result (λ e. e ≡ NoMemory) }
 {
     for seat in seats {

@@ -1,20 +1,25 @@
 //! The headers of import files.
-ghost use Rattle.std.specs.Prelude.{◌≡◌, length, codes, bytes_eq};
+ghost use Rattle.std.specs.Prelude.{◌≡◌, length, map};
 ghost use Rattle.csv.specs.Records.{fields_of};
-ghost use Rattle.exam_files.specs.Rows as spec;
+ghost use Rattle.exam_files.specs.ImportFiles as spec;
 
 use crate::records::field;
 use csv::ByteRecord;
 use exam_office::Kind;
 
-/// How many columns a file of the kind has.
-pub fn column_count(kind: Kind) -> usize
-    ensures { result ≡ length (spec.header_of kind) }
+/// The names of the columns of a file of the kind, from the left.
+pub fn header(kind: Kind) -> &'static [&'static [u8]]
+    ensures names { map (λ name. name.now) result.now ≡ spec.header_of kind }
+    ensures count { length result.now ≡ length (spec.header_of kind) }
 {
     match kind {
-        Kind::Entries => 2,
-        Kind::Sessions | Kind::Halls | Kind::Candidates | Kind::Arrangements => 3,
-        Kind::Papers | Kind::Openings => 5,
+        Kind::Sessions => &[b"session", b"date", b"start"],
+        Kind::Papers => &[b"paper", b"title", b"session", b"minutes", b"requires"],
+        Kind::Halls => &[b"hall", b"title", b"features"],
+        Kind::Openings => &[b"session", b"hall", b"desks", b"until", b"reserved"],
+        Kind::Candidates => &[b"number", b"name", b"code"],
+        Kind::Entries => &[b"number", b"paper"],
+        Kind::Arrangements => &[b"number", b"needs", b"extra"],
     }
 }
 
@@ -22,41 +27,17 @@ pub fn column_count(kind: Kind) -> usize
 pub fn is_header(kind: Kind, fields: &ByteRecord) -> bool
     ensures { result ≡ spec.is_header kind (fields_of fields.now) }
 {
-    fields.len() == column_count(kind) && has_names(kind, fields)
+    let names = header(kind);
+    fields.len() == names.len() && has_names(names, fields)
 }
 
-fn has_names(kind: Kind, fields: &ByteRecord) -> bool
-    ensures { result ≡ spec.has_fields 0 (spec.header_of kind) (fields_of fields.now) }
+fn has_names(names: &[&[u8]], fields: &ByteRecord) -> bool
+    ensures { result ≡ spec.has_fields 0 (map (λ name. name.now) names.now) (fields_of fields.now) }
 {
-    match kind {
-        Kind::Sessions => is_field(fields, 0, b"session")
-            && is_field(fields, 1, b"date")
-            && is_field(fields, 2, b"start"),
-        Kind::Papers => is_field(fields, 0, b"paper")
-            && is_field(fields, 1, b"title")
-            && is_field(fields, 2, b"session")
-            && is_field(fields, 3, b"minutes")
-            && is_field(fields, 4, b"requires"),
-        Kind::Halls => is_field(fields, 0, b"hall")
-            && is_field(fields, 1, b"title")
-            && is_field(fields, 2, b"features"),
-        Kind::Openings => is_field(fields, 0, b"session")
-            && is_field(fields, 1, b"hall")
-            && is_field(fields, 2, b"desks")
-            && is_field(fields, 3, b"until")
-            && is_field(fields, 4, b"reserved"),
-        Kind::Candidates => is_field(fields, 0, b"number")
-            && is_field(fields, 1, b"name")
-            && is_field(fields, 2, b"code"),
-        Kind::Entries => is_field(fields, 0, b"number") && is_field(fields, 1, b"paper"),
-        Kind::Arrangements => is_field(fields, 0, b"number")
-            && is_field(fields, 1, b"needs")
-            && is_field(fields, 2, b"extra"),
+    for (column, name) in names.iter().enumerate() {
+        if field(fields, column) != *name {
+            return false;
+        }
     }
-}
-
-fn is_field(fields: &ByteRecord, column: usize, name: &[u8]) -> bool
-    ensures { result ≡ bytes_eq (spec.field column (fields_of fields.now)) name.now }
-{
-    field(fields, column) == name
+    true
 }

@@ -5,7 +5,7 @@ mod doors;
 mod headers;
 mod imports;
 mod records;
-mod rows;
+mod row_of_record;
 mod sending;
 mod sheet_fault;
 mod sheet_text;

@@ -3,7 +3,7 @@ ghost use Rattle.std.specs.Prelude.{◌≡◌, ℕ, List, Some, IfOk, IfErr};
 ghost use Rattle.csv.specs.Reading.{default_config, records, strip_bom};
 ghost use Rattle.csv.specs.Records.{fields_of};
 ghost use Rattle.exam_files.specs.Left.{Leaves, StepsBy};
-ghost use Rattle.exam_files.specs.Rows as spec;
+ghost use Rattle.exam_files.specs.ImportFiles as spec;
 ghost use Rattle.exam_types.specs.declared.refusal.Refusal.TheVariants.{NoMemory};
 
 use csv::{ByteRecord, Reader, ReaderBuilder};
@@ -23,7 +23,8 @@ pub fn reader_of(alloc: Global, bytes: &[u8]) -> Reader<&[u8]>
 
 /// Takes the next record, where there is one. Over a text in memory only memory can be wanting.
 pub fn take_record<R: Read>(reader: &mut Reader<R>, row: &mut ByteRecord) -> Result<bool, Refusal>
-    ensures steps { IfOk result (λ found. (rs : List (List (List ℕ))) → Leaves R.remaining reader.old rs → StepsBy R.remaining found row.new reader.new rs) }
+    ensures steps { IfOk result (λ found. (rs : List (List (List ℕ))) → Leaves R.remaining reader.old rs
+        → StepsBy R.remaining found row.new reader.new rs) }
     ensures memory { IfErr result (λ e. e ≡ NoMemory) }
 {
     reader.read_byte_record(row).map_err(|_| Refusal::NoMemory)

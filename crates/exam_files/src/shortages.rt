@@ -14,13 +14,15 @@ use exam_types::{HallCode, Number, Refusal, SessionCode};
 use std::alloc::Global;
 use std::io::Write;
 
-/// Writes the shortage sheet of a session: the deficiency certificate, halls by code and candidates by number.
+/// Writes the shortage sheet of a session: the deficiency certificate, halls by code and candidates by
+/// number.
 pub fn shortage_sheet<W: Write>(
     alloc: Global,
     view: &SessionView,
     writer: &mut W,
 ) -> Result<(), SheetFault>
-    ensures { (report : Report) × ShowsShortage view.now report × Writes W.contents result writer.old writer.new (Ok (spec.shortage_text view.now.code report)) }
+    ensures { (report : Report) × ShowsShortage view.now report
+        × Writes W.contents result writer.old writer.new (Ok (spec.shortage_text view.now.code report)) }
 {
     // There is a sheet also where memory does not last for it.
     view.has_shortage();
@@ -52,7 +54,8 @@ fn push_heading(
     session: SessionCode,
     shortage: &SessionShortage,
 ) -> Result<(), Refusal>
-    ensures ok { OnOk result (text.new.items ≡ text.old.items ++ spec.shortage_heading session (report_of shortage.now)) }
+    ensures ok { OnOk result (text.new.items
+        ≡ text.old.items ++ spec.shortage_heading session (report_of shortage.now)) }
     ensures memory { IfErr result (λ e. e ≡ NoMemory) }
 {
     push_bytes(text, b"SHORTAGE session ")?;

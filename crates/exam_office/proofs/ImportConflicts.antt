@@ -3,30 +3,25 @@ use Rattle.std.proofs.Common.{◌≡◌, ◌∙◌, ◌+◌, Bool, true, false, 
 use Rattle.std.specs.Prelude.{not, ◌&&◌, ◌||◌}
 use Rattle.std.specs.Option.{option_or}
 use Rattle.std.specs.List.{find, position_from}
-use Rattle.std.specs.Ordering.{is_eq}
-use Rattle.std.specs.Cmp.{Equal-is, tied_itself}
-use Rattle.std.proofs.lemmas.List.Folds.{list_any-append, list_all-append}
-use Rattle.exam_office.specs.declared.import.Key.{Key}
-use Rattle.exam_office.specs.declared.row.Kind.{Kind}
-use Rattle.exam_office.specs.declared.row.Row.{Row}
-use Rattle.exam_office.specs.contracts.import.KeyOrd.TheImpl as keys
-use Rattle.exam_office.specs.contracts.import.KeyOrd.TheImpl.Laws as key_laws
-use Rattle.exam_office.specs.contracts.row.KindPartialEq.TheImpl as kinds
-use Rattle.exam_office.specs.contracts.row.KindEq.TheImpl.Laws as kind_laws
-use Rattle.exam_office.specs.Imports.{are_of_kind, conflicts, has_key, is_consistent, key_of, kind_of, same_row}
-use Rattle.exam_office.proofs.ImportKeys.{key_exact}
+use Rattle.std.proofs.lemmas.List.Elements.{All-append, All-cons, All-nil}
+use Rattle.std.proofs.lemmas.List.Folds.{list_any-append}
+use Rattle.exam_office.specs.declared.import_row.Key.{Key}
+use Rattle.exam_office.specs.declared.import_row.Kind.{Kind}
+use Rattle.exam_office.specs.declared.import_row.Row.{Row}
+use Rattle.exam_office.specs.Imports.{AreOfKind, conflicts, has_key, is_consistent, key_of, kind_of, same_row}
+use Rattle.exam_office.proofs.ImportKeys.{key_exact, key_itself}
 use Rattle.exam_office.proofs.ImportRowsEqual.{row_exact, row_refl}
 use Rattle.exam_office.proofs.ImportPlaces.{first-none, place-append, place-none}
 
 -- a row with a key has it, and no other
 key_is : (k : Key) (r : Row) → has_key k r ≡ true → key_of r ≡ k
-key_is k r e = key_exact (key_of r) k ((Equal-is (keys.ghosts.cmp (key_of r) k)).0 e)
+key_is k r e = key_exact (key_of r) k e
 
 has_own : (r : Row) → has_key (key_of r) r ≡ true
-has_own r = ap is_eq (tied_itself key_laws.total-law (key_of r))
+has_own r = key_itself (key_of r)
 
-same_key : (r s : Row) → has_key (key_of r) s ≡ true → has_key (key_of s) r ≡ true
-same_key r s e = subst (λ k. has_key k r ≡ true) (sym (key_is (key_of r) s e)) (has_own r)
+has_other : (r s : Row) → has_key (key_of r) s ≡ true → has_key (key_of s) r ≡ true
+has_other r s e = subst (λ k. has_key k r ≡ true) (sym (key_is (key_of r) s e)) (has_own r)
 
 pub conflicts-none : (row : Row) (rows : List Row) → find (has_key (key_of row)) rows ≡ None → conflicts row rows ≡ false
 conflicts-none row [] e = refl
@@ -84,7 +79,7 @@ other_way r row h = step (has_key (key_of r) row) refl
     step : (b : Bool) → has_key (key_of r) row ≡ b → (b && not (same_row row r)) ≡ false
     step false e = refl
     step true e =
-        let back = same_key r row e in
+        let back = has_other r row e in
         let agrees : same_row r row ≡ true = agreed (same_row r row) (rw back at h) in
         let equal = row_exact r row agrees in
         let self : same_row row r ≡ true = subst (λ x. same_row row x ≡ true) (sym equal) (row_refl row) in
@@ -104,10 +99,8 @@ consistent-more row (r ∷ rows) good none =
     let before : conflicts r rows ≡ false = not_true (conflicts r rows) (and_left (not (conflicts r rows)) (is_consistent rows) good) in
     rw (list_any-append (λ s. has_key (key_of r) s && not (same_row s r)) rows (row ∷ []), before, here, rest) refl
 
-pub kind-more : (kind : Kind) (row : Row) (rows : List Row) → kind_of row ≡ kind → are_of_kind kind rows ≡ true → are_of_kind kind (rows ++ row ∷ []) ≡ true
-kind-more kind row rows is good =
-    let self : kinds.ghosts.eq (kind_of row) kind ≡ true = subst (λ k. kinds.ghosts.eq (kind_of row) k ≡ true) is (kind_laws.laws-law.refl (kind_of row)) in
-    rw (list_all-append (λ r. kinds.ghosts.eq (kind_of r) kind) rows (row ∷ []), good, self) refl
+pub kind-more : (kind : Kind) (row : Row) (rows : List Row) → kind_of row ≡ kind → AreOfKind kind rows → AreOfKind kind (rows ++ row ∷ [])
+kind-more kind row rows is good = All-append (λ r. kind_of r ≡ kind) rows (row ∷ []) good (All-cons (λ r. kind_of r ≡ kind) row [] is (All-nil (λ r. kind_of r ≡ kind)))
 
 -- a repeated row is the first with no key
 pub places-repeat : (row : Row) (rows : List Row) → find (has_key (key_of row)) rows ≡ Some row → (k : Key) → position_from (has_key k) 0 rows ≡ position_from (has_key k) 0 (rows ++ row ∷ [])

@@ -1,42 +1,62 @@
--- Keys are equal where they compare equal, and rows where `==` says so.
-use Rattle.std.proofs.Common.{◌≡◌, refl, ap, ℕ, List}
+-- Keys are equal where `same_key` says so, which is where they compare equal.
+use Rattle.std.proofs.Common.{◌≡◌, ◌∙◌, Bool, true, false, refl, sym, ap, ℕ, List}
+use Rattle.std.specs.Prelude.{nat_eq, ◌&&◌}
 use Rattle.std.specs.declared.cmp.Ordering.{Ordering}
 use Rattle.std.specs.declared.cmp.Ordering.TheVariants.{Less, Equal, Greater}
-use Rattle.std.specs.Ordering.{ordering_then, nat_cmp}
-use Rattle.std.specs.Cmp.Lexicographic.{slice_cmp}
-use Rattle.std.proofs.lemmas.Map.Lookups.{exact_bytes, exact_unsigned}
-use Rattle.exam_office.specs.declared.import.Key.{Key}
-use Rattle.exam_office.specs.declared.import.Key.TheVariants as key
-use Rattle.exam_office.specs.contracts.import.KeyOrd.TheImpl as keys
+use Rattle.std.specs.Cmp.{tied_itself, unsigned_ties}
+use Rattle.std.specs.Cmp.Lexicographic.{pointwise, slice_cmp, texts_ties}
+use Rattle.std.specs.Ordering.{is_eq, nat_cmp, ordering_then}
+use Rattle.exam_office.specs.declared.import_row.Key.{Key}
+use Rattle.exam_office.specs.declared.import_row.Key.TheVariants as key
+use Rattle.exam_office.specs.contracts.import_row.KeyOrd.TheImpl as keys
+use Rattle.exam_office.specs.contracts.import_row.KeyOrd.TheImpl.Laws as key_laws
+use Rattle.exam_office.specs.Imports.{same_key}
+use Rattle.exam_office.proofs.Distinct.{flips}
+use Rattle.exam_office.proofs.ImportRowsEqual.{left, never, numbers, right, texts}
 
-first_equal : (o p : Ordering) → ordering_then o p ≡ Equal → o ≡ Equal
-first_equal Less p e = cc
-first_equal Equal p e = refl
-first_equal Greater p e = cc
+two_texts : (a b s t : List ℕ) → (pointwise nat_eq a b && pointwise nat_eq s t) ≡ true → key.OfOpening a s ≡ key.OfOpening b t
+two_texts a b s t e = ap (λ k. key.OfOpening k s) (texts a b (left _ _ e)) ∙ ap (key.OfOpening b) (texts s t (right _ _ e))
 
-second_equal : (o p : Ordering) → ordering_then o p ≡ Equal → p ≡ Equal
-second_equal Less p e = cc
-second_equal Equal p e = e
-second_equal Greater p e = cc
+number_and_text : (a b : ℕ) (s t : List ℕ) → (nat_eq a b && pointwise nat_eq s t) ≡ true → key.OfEntry a s ≡ key.OfEntry b t
+number_and_text a b s t e = ap (λ k. key.OfEntry k s) (numbers a b (left _ _ e)) ∙ ap (key.OfEntry b) (texts s t (right _ _ e))
 
-two_texts : (a b s t : List ℕ) → ordering_then (slice_cmp nat_cmp a b) (slice_cmp nat_cmp s t) ≡ Equal → key.OfOpening a s ≡ key.OfOpening b t
-two_texts a b s t e =
-    let h : a ≡ b = exact_bytes a b (first_equal _ _ e) in
-    let k : s ≡ t = exact_bytes s t (second_equal _ _ e) in
-    cc
-
-number_and_text : (a b : ℕ) (s t : List ℕ) → ordering_then (nat_cmp a b) (slice_cmp nat_cmp s t) ≡ Equal → key.OfEntry a s ≡ key.OfEntry b t
-number_and_text a b s t e =
-    let h : a ≡ b = exact_unsigned a b (first_equal _ _ e) in
-    let k : s ≡ t = exact_bytes s t (second_equal _ _ e) in
-    cc
-
-pub key_exact : (a b : Key) → keys.ghosts.cmp a b ≡ Equal → a ≡ b
-key_exact (key.OfSession a) (key.OfSession b) e = ap key.OfSession (exact_bytes a b e)
-key_exact (key.OfPaper a) (key.OfPaper b) e = ap key.OfPaper (exact_bytes a b e)
-key_exact (key.OfHall a) (key.OfHall b) e = ap key.OfHall (exact_bytes a b e)
+pub key_exact : (a b : Key) → same_key a b ≡ true → a ≡ b
+key_exact (key.OfSession a) (key.OfSession b) e = ap key.OfSession (texts a b e)
+key_exact (key.OfPaper a) (key.OfPaper b) e = ap key.OfPaper (texts a b e)
+key_exact (key.OfHall a) (key.OfHall b) e = ap key.OfHall (texts a b e)
 key_exact (key.OfOpening a s) (key.OfOpening b t) e = two_texts a b s t e
-key_exact (key.OfCandidate a) (key.OfCandidate b) e = ap key.OfCandidate (exact_unsigned a b e)
+key_exact (key.OfCandidate a) (key.OfCandidate b) e = ap key.OfCandidate (numbers a b e)
 key_exact (key.OfEntry a s) (key.OfEntry b t) e = number_and_text a b s t e
-key_exact (key.OfArrangement a) (key.OfArrangement b) e = ap key.OfArrangement (exact_unsigned a b e)
-key_exact a b e = cc
+key_exact (key.OfArrangement a) (key.OfArrangement b) e = ap key.OfArrangement (numbers a b e)
+key_exact a b e = never e
+
+pub both : (o p : Ordering) → is_eq (ordering_then o p) ≡ (is_eq o && is_eq p)
+both Less p = refl
+both Equal p = refl
+both Greater p = refl
+
+pub text_cmp : (a b : List ℕ) → is_eq (slice_cmp nat_cmp a b) ≡ pointwise nat_eq a b
+text_cmp a b = sym (texts_ties a b)
+
+pub number_cmp : (a b : ℕ) → is_eq (nat_cmp a b) ≡ nat_eq a b
+number_cmp a b = sym (unsigned_ties a b)
+
+pub cmp_same : (a b : Key) → is_eq (keys.ghosts.cmp a b) ≡ same_key a b
+cmp_same (key.OfSession a) (key.OfSession b) = text_cmp a b
+cmp_same (key.OfPaper a) (key.OfPaper b) = text_cmp a b
+cmp_same (key.OfHall a) (key.OfHall b) = text_cmp a b
+cmp_same (key.OfOpening a s) (key.OfOpening b t) =
+    both (slice_cmp nat_cmp a b) (slice_cmp nat_cmp s t)
+    ∙ ap (λ x. x && is_eq (slice_cmp nat_cmp s t)) (text_cmp a b) ∙ ap (λ x. pointwise nat_eq a b && x) (text_cmp s t)
+cmp_same (key.OfCandidate a) (key.OfCandidate b) = number_cmp a b
+cmp_same (key.OfEntry a s) (key.OfEntry b t) =
+    both (nat_cmp a b) (slice_cmp nat_cmp s t)
+    ∙ ap (λ x. x && is_eq (slice_cmp nat_cmp s t)) (number_cmp a b) ∙ ap (λ x. nat_eq a b && x) (text_cmp s t)
+cmp_same (key.OfArrangement a) (key.OfArrangement b) = number_cmp a b
+cmp_same a b = refl
+
+pub key_itself : (k : Key) → same_key k k ≡ true
+key_itself k = sym (cmp_same k k) ∙ ap is_eq (tied_itself key_laws.total-law k)
+
+pub key_flips : (a b : Key) → same_key a b ≡ same_key b a
+key_flips a b = sym (cmp_same a b) ∙ flips keys.ghosts.cmp key_laws.total-law a b ∙ cmp_same b a

@@ -1,5 +1,5 @@
--- Rows are equal where `==` says so.
-use Rattle.std.proofs.Common.{◌≡◌, ◌∙◌, Bool, true, false, refl, ap, ℕ, List}
+-- Rows are equal where `same_row` says so, which is where `==` does.
+use Rattle.std.proofs.Common.{◌≡◌, ◌∙◌, Bool, true, false, refl, sym, ap, ℕ, List}
 use Rattle.std.specs.Prelude.{nat_eq, ◌&&◌}
 use Rattle.std.specs.Cmp.{booleans_Decides}
 use Rattle.std.specs.Cmp.Lexicographic.{pointwise}
@@ -12,29 +12,30 @@ use Rattle.exam_rules.specs.declared.rows.Hall.{Hall}
 use Rattle.exam_rules.specs.declared.rows.Opening.{Opening}
 use Rattle.exam_rules.specs.declared.rows.Candidate.{Candidate}
 use Rattle.exam_rules.specs.declared.rows.Arrangement.{Arrangement}
-use Rattle.exam_types.specs.declared.features.Features.{Features}
 use Rattle.exam_types.specs.Features.{same_features}
+use Rattle.exam_types.specs.declared.features.Features.{Features}
 use Rattle.exam_types.proofs.FeatureFacts.{same_features-is}
-use Rattle.exam_office.specs.declared.row.Row.{Row}
-use Rattle.exam_office.specs.declared.row.Row.TheVariants as row
-use Rattle.exam_office.specs.contracts.row.RowPartialEq.TheImpl as rows
-use Rattle.exam_office.specs.contracts.row.RowEq.TheImpl.Laws as laws
+use Rattle.exam_office.specs.declared.import_row.Row.{Row}
+use Rattle.exam_office.specs.declared.import_row.Row.TheVariants as row
+use Rattle.exam_office.specs.contracts.import_row.RowPartialEq.TheImpl as rows
+use Rattle.exam_office.specs.contracts.import_row.RowEq.TheImpl.Laws as laws
+use Rattle.exam_office.specs.Imports.{same_row}
 
-never : {A : Type 0} → false ≡ true → A
+pub never : {A : Type 0} → false ≡ true → A
 never e = cc e
 
-left : (x y : Bool) → (x && y) ≡ true → x ≡ true
+pub left : (x y : Bool) → (x && y) ≡ true → x ≡ true
 left true y e = refl
 left false y e = e
 
-right : (x y : Bool) → (x && y) ≡ true → y ≡ true
+pub right : (x y : Bool) → (x && y) ≡ true → y ≡ true
 right true y e = e
 right false y e = never e
 
-numbers : (a b : ℕ) → nat_eq a b ≡ true → a ≡ b
+pub numbers : (a b : ℕ) → nat_eq a b ≡ true → a ≡ b
 numbers a b = (Decides-eqb a b).0
 
-texts : (a b : List ℕ) → pointwise nat_eq a b ≡ true → a ≡ b
+pub texts : (a b : List ℕ) → pointwise nat_eq a b ≡ true → a ≡ b
 texts a b = (slice_eq-Decides Decides-eqb a b (pointwise nat_eq a b) refl).0
 
 flags : (a b : Bool) → beq a b ≡ true → a ≡ b
@@ -95,7 +96,7 @@ arrangements a b x y e =
     ∙ ap (λ (f : Features). row.OfArrangement b (record { needs = f; extra = x.extra })) (same_features-is _ _ (left _ _ r))
     ∙ ap (λ (p : ℕ). row.OfArrangement b (record { needs = y.needs; extra = p })) (numbers _ _ (right _ _ r))
 
-pub row_exact : (a b : Row) → rows.ghosts.eq a b ≡ true → a ≡ b
+pub row_exact : (a b : Row) → same_row a b ≡ true → a ≡ b
 row_exact (row.OfSession a x) (row.OfSession b y) e = sessions a b x y e
 row_exact (row.OfPaper a x) (row.OfPaper b y) e = papers a b x y e
 row_exact (row.OfHall a x) (row.OfHall b y) e = halls a b x y e
@@ -105,5 +106,16 @@ row_exact (row.OfEntry a s) (row.OfEntry b t) e = entries a b s t e
 row_exact (row.OfArrangement a x) (row.OfArrangement b y) e = arrangements a b x y e
 row_exact a b e = never e
 
-pub row_refl : (a : Row) → rows.ghosts.eq a a ≡ true
-row_refl a = laws.laws-law.refl a
+-- `==` of rows
+pub eq_same : (a b : Row) → rows.ghosts.eq a b ≡ same_row a b
+eq_same (row.OfSession a x) (row.OfSession b y) = refl
+eq_same (row.OfPaper a x) (row.OfPaper b y) = refl
+eq_same (row.OfHall a x) (row.OfHall b y) = refl
+eq_same (row.OfOpening a s x) (row.OfOpening b t y) = refl
+eq_same (row.OfCandidate a x) (row.OfCandidate b y) = refl
+eq_same (row.OfEntry a s) (row.OfEntry b t) = refl
+eq_same (row.OfArrangement a x) (row.OfArrangement b y) = refl
+eq_same a b = refl
+
+pub row_refl : (a : Row) → same_row a a ≡ true
+row_refl a = sym (eq_same a a) ∙ laws.laws-law.refl a

@@ -16,5 +16,6 @@ pub mod Repeating
 pub mod Stored
 pub mod RepeatedImports
 pub mod Seated
+pub mod SingleKeys
 pub mod Members
 pub mod Showing

@@ -14,8 +14,8 @@ use Rattle.exam_types.specs.declared.refusal.Refusal.TheVariants as refusal
 use Rattle.exam_rules.specs.declared.rows.Subject.{Subject}
 use Rattle.exam_rules.specs.declared.rows.Subject.TheVariants as subject
 use Rattle.exam_rules.specs.Relations.{Code, Relations, code_cmp, entry_cmp, opening_cmp, has_row, put_row}
-use Rattle.exam_office.specs.declared.row.Row.{Row}
-use Rattle.exam_office.specs.declared.row.Row.TheVariants as row
+use Rattle.exam_office.specs.declared.import_row.Row.{Row}
+use Rattle.exam_office.specs.declared.import_row.Row.TheVariants as row
 use Rattle.exam_office.specs.Changes.{no_paper, no_hall, first_refusal, row_checks, rows_refusal, with_row, with_rows}
 use Rattle.exam_office.specs.Good as good
 

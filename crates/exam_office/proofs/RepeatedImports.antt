@@ -1,5 +1,5 @@
 -- An accepted import repeated at once is accepted, changes nothing, and finds every row the same.
-use Rattle.std.proofs.Common.{◌≡◌, ℕ, ◌||◌, not, Bool, true, false, cond, List, [], ◌∷◌, length, filter, nat_eq, Option, None, Some, Result, Ok, Err, is_some, is_none, eq-eqb, refl, ap, sym, subst, ◌∙◌}
+use Rattle.std.proofs.Common.{◌≡◌, ℕ, not, Bool, true, false, cond, List, [], ◌∷◌, length, filter, nat_eq, Option, None, Some, Result, Ok, Err, is_some, is_none, eq-eqb, refl, ap, sym, subst, ◌∙◌}
 use Rattle.std.specs.Bool.{beq}
 use Rattle.std.specs.List.{AllByRecursion}
 use Rattle.std.specs.Option.{option_map, option_map_or}
@@ -20,15 +20,15 @@ use Rattle.exam_rules.proofs.Naming.{same_code_itself}
 use Rattle.exam_office.specs.declared.command.Command.TheVariants as command
 use Rattle.exam_office.specs.declared.command.Reply.{Reply}
 use Rattle.exam_office.specs.declared.command.Reply.TheVariants as reply
-use Rattle.exam_office.specs.declared.row.Row.{Row}
-use Rattle.exam_office.specs.declared.row.Row.TheVariants as row
-use Rattle.exam_office.specs.declared.row.RowKey.{RowKey}
+use Rattle.exam_office.specs.declared.import_row.Row.{Row}
+use Rattle.exam_office.specs.declared.import_row.Row.TheVariants as row
 use Rattle.exam_office.specs.Changes.{first_refusal, import_refusal, imported, rows_refusal, too_many, unless, with_rows}
-use Rattle.exam_office.specs.Imports.{ImportRows, is_consistent}
+use Rattle.exam_office.specs.Imports.{ImportRows, distinct_rows, has_key, is_consistent, key_of}
+use Rattle.exam_office.specs.SameRows as contents
 use Rattle.exam_office.specs.Limits.{within_limits}
 use Rattle.exam_office.specs.Orders.{IsInOrder}
 use Rattle.exam_office.specs.Replies as replies
-use Rattle.exam_office.specs.Replies.{distinct_rows, fresh_rows, import_reply, is_changed, is_new, is_same, row_key, same_key}
+use Rattle.exam_office.specs.Replies.{import_reply, is_changed, is_new, is_same}
 use Rattle.exam_office.specs.State.{State}
 use Rattle.exam_office.specs.Steps.{Step, StepTo}
 use Rattle.exam_office.proofs.Repeating.{same_rows}
@@ -46,50 +46,53 @@ flag_itself : (b : Bool) → beq b b ≡ true
 flag_itself true = refl
 flag_itself false = refl
 
-session_itself : (x : Session) → replies.same_session x x ≡ true
+session_itself : (x : Session) → contents.same_session x x ≡ true
 session_itself x = and_from _ _ (number_itself x.day) (number_itself x.start)
 
-paper_itself : (x : Paper) → replies.same_paper x x ≡ true
+paper_itself : (x : Paper) → contents.same_paper x x ≡ true
 paper_itself x = and_from _ _ (same_code_itself x.title) (and_from _ _ (same_code_itself x.session) (and_from _ _ (number_itself x.minutes) (same_features-itself x.required)))
 
-hall_itself : (x : Hall) → replies.same_hall x x ≡ true
+hall_itself : (x : Hall) → contents.same_hall x x ≡ true
 hall_itself x = and_from _ _ (same_code_itself x.title) (same_features-itself x.features)
 
-opening_itself : (x : Opening) → replies.same_opening x x ≡ true
+opening_itself : (x : Opening) → contents.same_opening x x ≡ true
 opening_itself x = and_from _ _ (number_itself x.desks) (and_from _ _ (number_itself x.until) (flag_itself x.reserved))
 
-candidate_itself : (x : Candidate) → replies.same_candidate x x ≡ true
+candidate_itself : (x : Candidate) → contents.same_candidate x x ≡ true
 candidate_itself x = and_from _ _ (same_code_itself x.name) (same_code_itself x.code)
 
-arrangement_itself : (x : Arrangement) → replies.same_arrangement x x ≡ true
+arrangement_itself : (x : Arrangement) → contents.same_arrangement x x ≡ true
 arrangement_itself x = and_from _ _ (same_features-itself x.needs) (number_itself x.extra)
 
-found_same : {X : Type 0} (same : X → X → Bool) (x : X) (o : Option X) → o ≡ Some x → same x x ≡ true → option_map (same x) o ≡ Some true
-found_same same x o at itself = ap (option_map (same x)) at ∙ ap Some itself
+found_same : {X : Type 0} (agree : X → X → Bool) (x : X) (o : Option X) → o ≡ Some x → agree x x ≡ true → option_map (agree x) o ≡ Some true
+found_same agree x o at itself = ap (option_map (agree x)) at ∙ ap Some itself
 
 row_same : (r : Relations) (x : Row) → IsStored r x → replies.is_stored r x ≡ Some true
-row_same r (row.OfSession s x) at = found_same replies.same_session x _ at (session_itself x)
-row_same r (row.OfPaper p x) at = found_same replies.same_paper x _ at (paper_itself x)
-row_same r (row.OfHall h x) at = found_same replies.same_hall x _ at (hall_itself x)
-row_same r (row.OfOpening s h x) at = found_same replies.same_opening x _ at (opening_itself x)
-row_same r (row.OfCandidate c x) at = found_same replies.same_candidate x _ at (candidate_itself x)
+row_same r (row.OfSession s x) at = found_same contents.same_session x _ at (session_itself x)
+row_same r (row.OfPaper p x) at = found_same contents.same_paper x _ at (paper_itself x)
+row_same r (row.OfHall h x) at = found_same contents.same_hall x _ at (hall_itself x)
+row_same r (row.OfOpening s h x) at = found_same contents.same_opening x _ at (opening_itself x)
+row_same r (row.OfCandidate c x) at = found_same contents.same_candidate x _ at (candidate_itself x)
 row_same r (row.OfEntry c p) at = inner (row_at entry_cmp r.entries (c, p)) at
   where
     inner : (o : Option Entry) → is_some o ≡ true → option_map (λ _. true) o ≡ Some true
     inner None has = cc
     inner (Some e) has = refl
-row_same r (row.OfArrangement c x) at = found_same replies.same_arrangement x _ at (arrangement_itself x)
+row_same r (row.OfArrangement c x) at = found_same contents.same_arrangement x _ at (arrangement_itself x)
 
 -- ---- the counts
 
-all_fresh : (P : Row → Type 0) (seen : RowKey → Bool) (rows : List Row) → AllByRecursion P rows → AllByRecursion P (fresh_rows seen rows)
-all_fresh P seen [] every = tt
-all_fresh P seen (x ∷ rows) every = inner (seen (row_key x)) (all_fresh P seen rows every.1) (all_fresh P (λ k. same_key (row_key x) k || seen k) rows every.1)
+all_kept : (P : Row → Type 0) (p : Row → Bool) (rows : List Row) → AllByRecursion P rows → AllByRecursion P (filter p rows)
+all_kept P p [] every = tt
+all_kept P p (x ∷ rows) every = inner (p x) (all_kept P p rows every.1)
   where
-    inner : (b : Bool) → AllByRecursion P (fresh_rows seen rows) → AllByRecursion P (fresh_rows (λ k. same_key (row_key x) k || seen k) rows)
-        → AllByRecursion P (cond b (fresh_rows seen rows) (x ∷ fresh_rows (λ k. same_key (row_key x) k || seen k) rows))
-    inner true old new = old
-    inner false old new = (every.0, new)
+    inner : (b : Bool) → AllByRecursion P (filter p rows) → AllByRecursion P (cond b (x ∷ filter p rows) (filter p rows))
+    inner true rest = (every.0, rest)
+    inner false rest = rest
+
+all_distinct : (P : Row → Type 0) (rows : List Row) → AllByRecursion P rows → AllByRecursion P (distinct_rows rows)
+all_distinct P [] every = tt
+all_distinct P (x ∷ rows) every = (every.0, all_kept P (λ other. not (has_key (key_of x) other)) (distinct_rows rows) (all_distinct P rows every.1))
 
 module _ (r : Relations) where
   none_new : (rows : List Row) → AllByRecursion (IsStored r) rows → filter (is_new r) rows ≡ []
@@ -106,7 +109,7 @@ module _ (r : Relations) where
 
   stored_reply : (rows : List Row) → AllByRecursion (IsStored r) rows → import_reply r rows ≡ reply.Imported 0 0 (length (distinct_rows rows))
   stored_reply rows every =
-      let distinct : AllByRecursion (IsStored r) (distinct_rows rows) = all_fresh (IsStored r) (λ k. false) rows every in
+      let distinct : AllByRecursion (IsStored r) (distinct_rows rows) = all_distinct (IsStored r) rows every in
       ap (λ (xs : List Row). reply.Imported (length xs) (length (filter (is_changed r) (distinct_rows rows))) (length (filter (is_same r) (distinct_rows rows)))) (none_new (distinct_rows rows) distinct)
       ∙ ap (λ (xs : List Row). reply.Imported 0 (length xs) (length (filter (is_same r) (distinct_rows rows)))) (none_changed (distinct_rows rows) distinct)
       ∙ ap (λ (xs : List Row). reply.Imported 0 0 (length xs)) (all_same (distinct_rows rows) distinct)

@@ -10,7 +10,7 @@ use Rattle.std.specs.Ordering.{nat_cmp}
 use Rattle.exam_rules.specs.Sessions.{members}
 use Rattle.exam_rules.specs.Seatings.{seating, plan_of, fits, desks}
 use Rattle.exam_rules.specs.Names.{ListsRise}
-use Rattle.exam_office.specs.declared.row.Row.{Row}
+use Rattle.exam_office.specs.declared.import_row.Row.{Row}
 use Rattle.exam_office.specs.declared.command.Command.{Command}
 use Rattle.exam_office.specs.declared.command.Command.TheVariants as command
 use Rattle.exam_office.specs.Changes.{imported, unless, first_refusal, rows_refusal, with_rows, too_many}

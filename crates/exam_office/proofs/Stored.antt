@@ -1,16 +1,18 @@
 -- After an import each of its rows is stored, and put again they change nothing.
-use Rattle.std.proofs.Common.{◌≡◌, ℕ, ◌&&◌, ◌||◌, not, Bool, true, false, cond, List, [], ◌∷◌, Some, refl, ap, ◌∙◌, is_some}
+use Rattle.std.proofs.Common.{◌≡◌, ℕ, ◌&&◌, ◌||◌, not, Bool, true, false, cond, List, [], ◌∷◌, Some, refl, sym, ap, ◌∙◌, is_some}
 use Rattle.std.specs.Cmp.{IsTotalOrder, nat_cmp_total, then_total, on_total}
 use Rattle.std.specs.Cmp.Lexicographic.{nat_list_cmp_total}
 use Rattle.std.specs.List.{AllByRecursion}
-use Rattle.std.specs.Ordering.{nat_cmp}
+use Rattle.std.specs.Ordering.{is_eq, nat_cmp}
 use Rattle.std.proofs.lemmas.Bool.{and_parts, not-false}
 use Rattle.exam_rules.specs.Orders.{AreInOrder, KeysRise}
 use Rattle.exam_rules.specs.Relations.{Code, Relations, code_cmp, entry_cmp, opening_cmp, appeal_cmp, has_row, put_row, row_at}
-use Rattle.exam_office.specs.declared.row.Row.{Row}
-use Rattle.exam_office.specs.declared.row.Row.TheVariants as row
+use Rattle.exam_office.specs.declared.import_row.Row.{Row}
+use Rattle.exam_office.specs.declared.import_row.Row.TheVariants as row
 use Rattle.exam_office.specs.Changes.{with_row, with_rows}
 use Rattle.exam_office.specs.Imports.{conflicts, has_key, is_consistent, key_of, same_row}
+use Rattle.exam_office.specs.contracts.import_row.KeyOrd.TheImpl as keys
+use Rattle.exam_office.proofs.ImportKeys.{cmp_same}
 use Rattle.exam_office.proofs.ImportRowsEqual.{row_exact}
 use Rattle.exam_office.proofs.Referring.{has_put}
 use Rattle.exam_office.proofs.Repeating.{put_found, put_rises, put_same, put_stays}
@@ -99,7 +101,7 @@ entry_keeps r c p (row.OfEntry d q) at = has_put entry_cmp r.entries (c, p) (d, 
 entry_keeps r c p x at = at
 
 -- so does a row that does not contradict it
-row_keeps : (r : Relations) (y x : Row) → (has_key (key_of x) y ≡ true → y ≡ x) → IsStored r x → IsStored (with_row r y) x
+row_keeps : (r : Relations) (y x : Row) → (is_eq (keys.ghosts.cmp (key_of y) (key_of x)) ≡ true → y ≡ x) → IsStored r x → IsStored (with_row r y) x
 row_keeps r (row.OfEntry c p) x agrees at = inner (has_row entry_cmp r.entries (c, p))
   where
     inner : (b : Bool) → IsStored (cond b r (record r { entries = put_row entry_cmp r.entries (c, p) (record { live = true }) })) x
@@ -125,7 +127,7 @@ rows_keep : (r : Relations) (x : Row) (rows : List Row) → conflicts x rows ≡
 rows_keep r x [] none at = at
 rows_keep r x (y ∷ rows) none at =
     let both = neither (has_key (key_of x) y && not (same_row y x)) (conflicts x rows) none in
-    rows_keep (with_row r y) x rows both.1 (row_keeps r y x (agreed (has_key (key_of x) y) both.0) at)
+    rows_keep (with_row r y) x rows both.1 (row_keeps r y x (λ e. agreed (has_key (key_of x) y) both.0 (sym (cmp_same (key_of y) (key_of x)) ∙ e)) at)
   where
     agreed : (b : Bool) → (b && not (same_row y x)) ≡ false → b ≡ true → y ≡ x
     agreed true agrees e = row_exact y x (not-false (same_row y x) agrees)

@@ -8,8 +8,8 @@ use Rattle.exam_rules.specs.Relations.{Code, Relations, code_cmp, opening_cmp, e
 use Rattle.exam_office.specs.Limits.{within_limits}
 use Rattle.exam_office.specs.declared.command.Command.{Command}
 use Rattle.exam_office.specs.declared.command.Command.TheVariants as command
-use Rattle.exam_office.specs.declared.row.Row.{Row}
-use Rattle.exam_office.specs.declared.row.Row.TheVariants as row
+use Rattle.exam_office.specs.declared.import_row.Row.{Row}
+use Rattle.exam_office.specs.declared.import_row.Row.TheVariants as row
 
 -- ---- checks in order
 
@@ -54,7 +54,9 @@ with_row r (row.OfPaper p x) = record r { papers = put_row code_cmp r.papers p x
 with_row r (row.OfHall h x) = record r { halls = put_row code_cmp r.halls h x }
 with_row r (row.OfOpening s h x) = record r { openings = put_row opening_cmp r.openings (s, h) x }
 with_row r (row.OfCandidate c x) = record r { candidates = put_row nat_cmp r.candidates c x }
-with_row r (row.OfEntry c p) = if has_row entry_cmp r.entries (c, p) then r else record r { entries = put_row entry_cmp r.entries (c, p) (record { live = true }) }
+with_row r (row.OfEntry c p) =
+    if has_row entry_cmp r.entries (c, p) then r
+    else record r { entries = put_row entry_cmp r.entries (c, p) (record { live = true }) }
 with_row r (row.OfArrangement c x) = record r { arrangements = put_row nat_cmp r.arrangements c x }
 
 abbrev pub with_rows : Relations → List Row → Relations

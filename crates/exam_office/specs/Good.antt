@@ -21,10 +21,12 @@ abbrev pub papers_refer : Relations → Bool
 papers_refer r = list_all (λ x. has_row code_cmp r.sessions x.1.session) r.papers
 
 abbrev pub openings_refer : Relations → Bool
-openings_refer r = list_all (λ x. has_row code_cmp r.sessions x.0.0 && has_row code_cmp r.halls x.0.1) r.openings
+openings_refer r =
+    list_all (λ x. has_row code_cmp r.sessions x.0.0 && has_row code_cmp r.halls x.0.1) r.openings
 
 abbrev pub entries_refer : Relations → Bool
-entries_refer r = list_all (λ x. has_row nat_cmp r.candidates x.0.0 && has_row code_cmp r.papers x.0.1) r.entries
+entries_refer r =
+    list_all (λ x. has_row nat_cmp r.candidates x.0.0 && has_row code_cmp r.papers x.0.1) r.entries
 
 abbrev pub arrangements_refer : Relations → Bool
 arrangements_refer r = list_all (λ x. has_row nat_cmp r.candidates x.0) r.arrangements
@@ -42,10 +44,11 @@ abbrev pub appeals_refer : Relations → Bool
 appeals_refer r = list_all (λ x. has_row nat_cmp r.candidates x.0.0 && appeal_refers r x.1) r.appeals
 
 abbrev pub refers : Relations → Bool
-refers r = papers_refer r && (openings_refer r && (entries_refer r && (arrangements_refer r && appeals_refer r)))
+refers r =
+    papers_refer r && (openings_refer r && (entries_refer r && (arrangements_refer r && appeals_refer r)))
 
--- References and limits hold; a candidate has at most one granted clash appeal, one granted arrangement appeal and one
--- open appeal of a kind for a session; every session's plan is best.
+-- References and limits hold; a candidate has at most one granted clash appeal, one granted arrangement
+-- appeal and one open appeal of a kind for a session; every session's plan is best.
 pub record IsGood (office : State) : Type 0 where
   pub refer : IsTrue (refers office.relations)
   pub limits : IsTrue (within_limits office.relations)
@@ -54,29 +57,35 @@ pub record IsGood (office : State) : Type 0 where
 
 -- ---- table by table
 
--- The rows of the table refer to what is there, and the limits that belong to it hold; of appeals those that stand
--- alone do; of seats every session's plan is best.
+-- The rows of the table refer to what is there, and the limits that belong to it hold; of appeals those that
+-- stand alone do; of seats every session's plan is best.
 abbrev pub IsTableGood : State → Table → Type 0
 IsTableGood office table.Sessions = IsTrue (limits.sessions_within office.relations)
-IsTableGood office table.Papers = IsTrue (limits.papers_within office.relations && papers_refer office.relations)
+IsTableGood office table.Papers =
+    IsTrue (limits.papers_within office.relations && papers_refer office.relations)
 IsTableGood office table.Halls = IsTrue (limits.halls_within office.relations)
-IsTableGood office table.Openings = IsTrue (limits.openings_within office.relations && openings_refer office.relations)
+IsTableGood office table.Openings =
+    IsTrue (limits.openings_within office.relations && openings_refer office.relations)
 IsTableGood office table.Candidates = IsTrue (limits.candidates_within office.relations)
-IsTableGood office table.Entries = IsTrue (limits.members_within office.relations && entries_refer office.relations)
+IsTableGood office table.Entries =
+    IsTrue (limits.members_within office.relations && entries_refer office.relations)
 IsTableGood office table.Arrangements = IsTrue (arrangements_refer office.relations)
-IsTableGood office table.Appeals = IsTrue (limits.appeals_within office.relations && appeals_refer office.relations) × AreSingle office.relations
+IsTableGood office table.Appeals =
+    IsTrue (limits.appeals_within office.relations && appeals_refer office.relations)
+    × AreSingle office.relations
 IsTableGood office table.Seats = (s : Code) → IsBest (seating office.relations s) (plan_of office.seats s)
 
 -- in the order in which they are looked at
 abbrev pub tables : List Table
 tables =
-    table.Sessions ∷ table.Papers ∷ table.Halls ∷ table.Openings ∷ table.Candidates ∷ table.Entries ∷ table.Arrangements
-    ∷ table.Appeals ∷ table.Seats ∷ []
+    table.Sessions ∷ table.Papers ∷ table.Halls ∷ table.Openings ∷ table.Candidates ∷ table.Entries
+    ∷ table.Arrangements ∷ table.Appeals ∷ table.Seats ∷ []
 
 -- the first of these tables that is not good, or none
 abbrev pub IsFirstBadOf : State → List Table → Option Table → Type 0
 IsFirstBadOf office [] found = found ≡ None
-IsFirstBadOf office (t ∷ ts) found = ((IsTableGood office t → ⊥) × (found ≡ Some t)) ⊎ (IsTableGood office t × IsFirstBadOf office ts found)
+IsFirstBadOf office (t ∷ ts) found =
+    ((IsTableGood office t → ⊥) × (found ≡ Some t)) ⊎ (IsTableGood office t × IsFirstBadOf office ts found)
 
 abbrev pub IsFirstBad : State → Option Table → Type 0
 IsFirstBad office found = IsFirstBadOf office tables found

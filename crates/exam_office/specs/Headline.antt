@@ -7,11 +7,16 @@ use Rattle.exam_office.specs.State.{State}
 
 -- the number of the candidate's desk, if they are seated
 abbrev pub desk_of : State → Code → ℕ → Option ℕ
-desk_of office s c = desk_number (seating office.relations s) (stands_before office.relations s) (plan_of office.seats s) c
+desk_of office s c =
+    desk_number (seating office.relations s) (stands_before office.relations s) (plan_of office.seats s) c
 
--- Whoever sits, sits in a hall that fits them, at one of its desks and alone there; and no lawful plan seats more.
+-- Whoever sits, sits in a hall that fits them, at one of its desks and alone there; and no lawful plan seats
+-- more.
 pub record IsSeated (office : State) (s : Code) : Type 0 where
   pub fitting : (c : ℕ) (h : Code) → plan_of office.seats s c ≡ Some h → IsTrue (fits office.relations s c h)
-  pub at_desk : (c : ℕ) (h : Code) → plan_of office.seats s c ≡ Some h → (n : ℕ) × (desk_of office s c ≡ Some n) × (1 ≤ n) × (n ≤ desks office.relations s h)
-  pub alone : (c d : ℕ) (h : Code) → plan_of office.seats s c ≡ Some h → plan_of office.seats s d ≡ Some h → desk_of office s c ≡ desk_of office s d → c ≡ d
-  pub greatest : (other : Plan ℕ Code) → IsLawful (seating office.relations s) other → size (seating office.relations s) other ≤ size (seating office.relations s) (plan_of office.seats s)
+  pub at_desk : (c : ℕ) (h : Code) → plan_of office.seats s c ≡ Some h
+      → (n : ℕ) × (desk_of office s c ≡ Some n) × (1 ≤ n) × (n ≤ desks office.relations s h)
+  pub alone : (c d : ℕ) (h : Code) → plan_of office.seats s c ≡ Some h → plan_of office.seats s d ≡ Some h
+      → desk_of office s c ≡ desk_of office s d → c ≡ d
+  pub greatest : (other : Plan ℕ Code) → IsLawful (seating office.relations s) other
+      → size (seating office.relations s) other ≤ size (seating office.relations s) (plan_of office.seats s)

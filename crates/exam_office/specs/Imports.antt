@@ -1,16 +1,14 @@
 -- Imports: their rows, and what rows with one key must agree in.
-use Rattle.std.specs.Prelude.{Bool, true, not, ◌&&◌, List, [], ◌∷◌}
-use Rattle.std.specs.List.{list_any, list_all}
-use Rattle.std.specs.Ordering.{is_eq}
-use Rattle.exam_office.specs.contracts.import.KeyOrd.TheImpl as keys
-use Rattle.exam_office.specs.contracts.row.KindPartialEq.TheImpl as kinds
-use Rattle.exam_office.specs.contracts.row.RowPartialEq.TheImpl as rows
-use Rattle.exam_office.specs.declared.import.Key.{Key}
-use Rattle.exam_office.specs.declared.import.Key.TheVariants as key
-use Rattle.exam_office.specs.declared.row.Kind.{Kind}
-use Rattle.exam_office.specs.declared.row.Kind.TheVariants.{Sessions, Papers, Halls, Openings, Candidates, Entries, Arrangements}
-use Rattle.exam_office.specs.declared.row.Row.{Row}
-use Rattle.exam_office.specs.declared.row.Row.TheVariants.{OfSession, OfPaper, OfHall, OfOpening, OfCandidate, OfEntry, OfArrangement}
+use Rattle.std.specs.Prelude.{◌≡◌, ℕ, Option, Bool, true, false, not, ◌==◌, ◌&&◌, List, [], ◌∷◌, All, filter}
+use Rattle.std.specs.List.{list_any, position_from}
+use Rattle.exam_rules.specs.Relations.{same_code}
+use Rattle.exam_office.specs.SameRows.{same_arrangement, same_candidate, same_hall, same_opening, same_paper, same_session}
+use Rattle.exam_office.specs.declared.import_row.Key.{Key}
+use Rattle.exam_office.specs.declared.import_row.Key.TheVariants as key
+use Rattle.exam_office.specs.declared.import_row.Kind.{Kind}
+use Rattle.exam_office.specs.declared.import_row.Kind.TheVariants.{Sessions, Papers, Halls, Openings, Candidates, Entries, Arrangements}
+use Rattle.exam_office.specs.declared.import_row.Row.{Row}
+use Rattle.exam_office.specs.declared.import_row.Row.TheVariants.{OfSession, OfPaper, OfHall, OfOpening, OfCandidate, OfEntry, OfArrangement}
 
 -- an import: its kind, and its rows in the order of the file
 pub record ImportRows : Type 0 where
@@ -35,12 +33,29 @@ key_of (OfCandidate number candidate) = key.OfCandidate number
 key_of (OfEntry number paper) = key.OfEntry number paper
 key_of (OfArrangement number arrangement) = key.OfArrangement number
 
-abbrev pub has_key : Key → Row → Bool
-has_key k row = is_eq (keys.ghosts.cmp (key_of row) k)
+abbrev pub same_key : Key → Key → Bool
+same_key (key.OfSession s) (key.OfSession t) = same_code s t
+same_key (key.OfPaper p) (key.OfPaper q) = same_code p q
+same_key (key.OfHall h) (key.OfHall k) = same_code h k
+same_key (key.OfOpening s h) (key.OfOpening t k) = same_code s t && same_code h k
+same_key (key.OfCandidate c) (key.OfCandidate d) = c == d
+same_key (key.OfEntry c p) (key.OfEntry d q) = (c == d) && same_code p q
+same_key (key.OfArrangement c) (key.OfArrangement d) = c == d
+same_key k l = false
 
--- `==` of rows
+abbrev pub has_key : Key → Row → Bool
+has_key k row = same_key (key_of row) k
+
+-- the same key and the same content
 abbrev pub same_row : Row → Row → Bool
-same_row = rows.ghosts.eq
+same_row (OfSession s x) (OfSession t y) = same_code s t && same_session x y
+same_row (OfPaper p x) (OfPaper q y) = same_code p q && same_paper x y
+same_row (OfHall h x) (OfHall k y) = same_code h k && same_hall x y
+same_row (OfOpening s h x) (OfOpening t k y) = same_code s t && (same_code h k && same_opening x y)
+same_row (OfCandidate c x) (OfCandidate d y) = (c == d) && same_candidate x y
+same_row (OfEntry c p) (OfEntry d q) = (c == d) && same_code p q
+same_row (OfArrangement c x) (OfArrangement d y) = (c == d) && same_arrangement x y
+same_row x y = false
 
 -- some of the rows has the key of this one, and another content
 abbrev pub conflicts : Row → List Row → Bool
@@ -51,6 +66,15 @@ abbrev pub is_consistent : List Row → Bool
 is_consistent [] = true
 is_consistent (r ∷ rs) = not (conflicts r rs) && is_consistent rs
 
+-- the place of the first row with the key of this one, counted from 0
+abbrev pub place_of : Row → List Row → Option ℕ
+place_of row rows = position_from (has_key (key_of row)) 0 rows
+
 -- all rows are of a kind
-abbrev pub are_of_kind : Kind → List Row → Bool
-are_of_kind kind rows = list_all (λ r. kinds.ghosts.eq (kind_of r) kind) rows
+abbrev pub AreOfKind : Kind → List Row → Type 0
+AreOfKind kind rows = All (λ row. kind_of row ≡ kind) rows
+
+-- the first row of each key
+abbrev pub distinct_rows : List Row → List Row
+distinct_rows [] = []
+distinct_rows (row ∷ rows) = row ∷ filter (λ other. not (has_key (key_of row) other)) (distinct_rows rows)

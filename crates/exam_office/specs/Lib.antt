@@ -2,6 +2,7 @@ pub mod Changes
 pub mod Imports
 pub mod Limits
 pub mod Replies
+pub mod SameRows
 pub mod State
 pub mod Repairs
 pub mod Good

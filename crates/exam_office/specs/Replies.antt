@@ -1,43 +1,16 @@
 -- What a command answers.
-use Rattle.std.specs.Prelude.{◌==◌, ◌&&◌, ◌||◌, not, Bool, true, false, List, [], ◌∷◌, length, filter, Option, is_none, if◌then◌else◌}
+use Rattle.std.specs.Prelude.{not, Bool, true, false, List, length, filter, Option, is_none}
 use Rattle.std.specs.Option.{option_map, option_map_or}
-use Rattle.std.specs.Ordering.{nat_cmp, eq_by_cmp}
-use Rattle.std.specs.Bool.{beq}
-use Rattle.exam_types.specs.Features.{same_features}
-use Rattle.exam_rules.specs.declared.rows.Session.{Session}
-use Rattle.exam_rules.specs.declared.rows.Paper.{Paper}
-use Rattle.exam_rules.specs.declared.rows.Hall.{Hall}
-use Rattle.exam_rules.specs.declared.rows.Opening.{Opening}
-use Rattle.exam_rules.specs.declared.rows.Candidate.{Candidate}
-use Rattle.exam_rules.specs.declared.rows.Arrangement.{Arrangement}
-use Rattle.exam_rules.specs.Relations.{Relations, code_cmp, same_code, opening_cmp, entry_cmp, row_at}
-use Rattle.exam_office.specs.declared.row.Row.{Row}
-use Rattle.exam_office.specs.declared.row.Row.TheVariants as row
-use Rattle.exam_office.specs.declared.row.RowKey.{RowKey}
-use Rattle.exam_office.specs.declared.row.RowKey.TheVariants as key
-use Rattle.exam_office.specs.contracts.row.RowKeyOrd.TheImpl as keys
+use Rattle.std.specs.Ordering.{nat_cmp}
+use Rattle.exam_rules.specs.Relations.{Relations, code_cmp, opening_cmp, entry_cmp, row_at}
+use Rattle.exam_office.specs.declared.import_row.Row.{Row}
+use Rattle.exam_office.specs.declared.import_row.Row.TheVariants as row
 use Rattle.exam_office.specs.declared.command.Command.{Command}
 use Rattle.exam_office.specs.declared.command.Command.TheVariants as command
 use Rattle.exam_office.specs.declared.command.Reply.{Reply}
 use Rattle.exam_office.specs.declared.command.Reply.TheVariants as reply
-
-abbrev pub same_session : Session → Session → Bool
-same_session a b = (a.day == b.day) && (a.start == b.start)
-
-abbrev pub same_paper : Paper → Paper → Bool
-same_paper a b = same_code a.title b.title && (same_code a.session b.session && ((a.minutes == b.minutes) && same_features a.required b.required))
-
-abbrev pub same_hall : Hall → Hall → Bool
-same_hall a b = same_code a.title b.title && same_features a.features b.features
-
-abbrev pub same_opening : Opening → Opening → Bool
-same_opening a b = (a.desks == b.desks) && ((a.until == b.until) && beq a.reserved b.reserved)
-
-abbrev pub same_candidate : Candidate → Candidate → Bool
-same_candidate a b = same_code a.name b.name && same_code a.code b.code
-
-abbrev pub same_arrangement : Arrangement → Arrangement → Bool
-same_arrangement a b = same_features a.needs b.needs && (a.extra == b.extra)
+use Rattle.exam_office.specs.Imports.{distinct_rows}
+use Rattle.exam_office.specs.SameRows.{same_arrangement, same_candidate, same_hall, same_opening, same_paper, same_session}
 
 -- whether the stored row is the same, if there is one
 abbrev pub is_stored : Relations → Row → Option Bool
@@ -48,28 +21,6 @@ is_stored r (row.OfOpening s h x) = option_map (same_opening x) (row_at opening_
 is_stored r (row.OfCandidate c x) = option_map (same_candidate x) (row_at nat_cmp r.candidates c)
 is_stored r (row.OfEntry c p) = option_map (λ _. true) (row_at entry_cmp r.entries (c, p))
 is_stored r (row.OfArrangement c x) = option_map (same_arrangement x) (row_at nat_cmp r.arrangements c)
-
--- the key of a row, by which rows of a file count once
-abbrev pub same_key : RowKey → RowKey → Bool
-same_key = eq_by_cmp keys.ghosts.cmp
-
-abbrev pub row_key : Row → RowKey
-row_key (row.OfSession s x) = key.OfSession s
-row_key (row.OfPaper p x) = key.OfPaper p
-row_key (row.OfHall h x) = key.OfHall h
-row_key (row.OfOpening s h x) = key.OfOpening s h
-row_key (row.OfCandidate c x) = key.OfCandidate c
-row_key (row.OfEntry c p) = key.OfEntry c p
-row_key (row.OfArrangement c x) = key.OfArrangement c
-
--- the rows whose key is neither seen nor that of an earlier one
-abbrev pub fresh_rows : (RowKey → Bool) → List Row → List Row
-fresh_rows seen [] = []
-fresh_rows seen (x ∷ xs) = if seen (row_key x) then fresh_rows seen xs else (x ∷ fresh_rows (λ k. same_key (row_key x) k || seen k) xs)
-
--- the first row of each key
-abbrev pub distinct_rows : List Row → List Row
-distinct_rows rows = fresh_rows (λ k. false) rows
 
 abbrev pub is_new : Relations → Row → Bool
 is_new r x = is_none (is_stored r x)

@@ -1,16 +1,13 @@
 -- Appeals that stand alone.
-use Rattle.std.specs.Prelude.{ℕ, Option, None, Some}
+use Rattle.std.specs.Prelude.{ℕ, Bool, true, false, ◌==◌, ◌&&◌, Option, None, Some}
 use Rattle.std.specs.List.{filter_map, IsDistinct}
 use Rattle.std.specs.Option.{option_map}
-use Rattle.std.specs.Ordering.{eq_by_cmp, nat_cmp, ordering_then}
-use Rattle.std.specs.declared.cmp.Ordering.{Ordering}
 use Rattle.exam_rules.specs.declared.rows.Appeal.{Appeal}
 use Rattle.exam_rules.specs.declared.rows.Status.{Status}
 use Rattle.exam_rules.specs.declared.rows.Status.TheVariants as status
 use Rattle.exam_rules.specs.declared.rows.Subject.{Subject}
 use Rattle.exam_rules.specs.declared.rows.Subject.TheVariants as subject
-use Rattle.exam_rules.specs.Relations.{Code, Relations, code_cmp}
-use Rattle.exam_office.specs.contracts.grants.SingleOrd.TheImpl as singles
+use Rattle.exam_rules.specs.Relations.{Code, Relations, same_code}
 use Rattle.exam_office.specs.declared.grants.Single.{Single}
 use Rattle.exam_office.specs.declared.grants.Single.TheVariants as single
 
@@ -33,9 +30,17 @@ SingleKey = Code × ℕ × Single
 abbrev pub single_key : (ℕ × Code) × Appeal → Option SingleKey
 single_key a = option_map (λ kind. (a.1.session, a.0.0, kind)) (single_as a.1.status a.1.subject)
 
-abbrev pub single_cmp : SingleKey → SingleKey → Ordering
-single_cmp x y = ordering_then (ordering_then (code_cmp x.0 y.0) (nat_cmp x.1 y.1)) (singles.ghosts.cmp x.2 y.2)
+abbrev pub same_single : Single → Single → Bool
+same_single single.GrantedClash single.GrantedClash = true
+same_single single.GrantedArrangement single.GrantedArrangement = true
+same_single single.OpenHall single.OpenHall = true
+same_single single.OpenClash single.OpenClash = true
+same_single single.OpenArrangement single.OpenArrangement = true
+same_single a b = false
+
+abbrev pub same_single_key : SingleKey → SingleKey → Bool
+same_single_key x y = same_code x.0 y.0 && ((x.1 == y.1) && same_single x.2 y.2)
 
 -- no two of them agree in all three
 abbrev pub AreSingle : Relations → Type 0
-AreSingle r = IsDistinct (eq_by_cmp single_cmp) (filter_map single_key r.appeals)
+AreSingle r = IsDistinct same_single_key (filter_map single_key r.appeals)

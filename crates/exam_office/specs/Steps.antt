@@ -38,7 +38,8 @@ abbrev pub StepTo : Command → State → Result Reply Refusal → State → Res
 StepTo done before reply after (Err e) = (reply ≡ Err e) × (after ≡ before)
 StepTo done before reply after (Ok r) =
     (after.relations ≡ r)
-    × ((s : Code) → IsNextPlan done (seating before.relations s) (seating r s) (plan_of before.seats s) (plan_of after.seats s))
+    × ((s : Code) → IsNextPlan done (seating before.relations s) (seating r s)
+    (plan_of before.seats s) (plan_of after.seats s))
     × (reply ≡ Ok (reply_of done before.relations))
 
 -- the command, on that day, leads from one state to the other with that reply
@@ -47,12 +48,14 @@ Step done today before reply after = StepTo done before reply after (change done
 
 -- the same, or want of memory, and then nothing has changed
 abbrev pub MayStep : Command → ℕ → State → Result Reply Refusal → State → Type 0
-MayStep done today before reply after = ((reply ≡ Err NoMemory) × (after ≡ before)) ⊎ Step done today before reply after
+MayStep done today before reply after =
+    ((reply ≡ Err NoMemory) × (after ≡ before)) ⊎ Step done today before reply after
 
 -- ---- lists of commands, each with its day
 
 abbrev pub Run : List (Command × ℕ) → State → List (Result Reply Refusal) → State → Type 0
 Run [] before [] after = after ≡ before
-Run (done ∷ rest) before (reply ∷ replies) after = (mid : State) × MayStep done.0 done.1 before reply mid × Run rest mid replies after
+Run (done ∷ rest) before (reply ∷ replies) after =
+    (mid : State) × MayStep done.0 done.1 before reply mid × Run rest mid replies after
 Run [] before (reply ∷ replies) after = ⊥
 Run (done ∷ rest) before [] after = ⊥

@@ -11,14 +11,16 @@ use Rattle.exam_rules.specs.declared.rows.Opening.{Opening}
 use Rattle.exam_rules.specs.declared.rows.Candidate.{Candidate}
 use Rattle.exam_rules.specs.Relations.{Code, Relations, code_cmp, same_code, row_at}
 use Rattle.exam_rules.specs.Sessions.{members, sitting, finish, clashes}
-use Rattle.exam_rules.specs.Seatings.{seating, plan_of, desks, stands_before}
+use Rattle.exam_rules.specs.Seatings.{seating, plan_of, desks}
+use Rattle.exam_office.specs.Headline.{desk_of}
 use Rattle.exam_office.specs.State.{State}
 use Rattle.exam_office.specs.declared.view.Member.{Member}
 use Rattle.exam_office.specs.declared.view.Seat.{Seat}
 use Rattle.exam_office.specs.declared.view.SessionShortage.{SessionShortage}
 
--- One session as it is shown: its row, all halls of the office, its openings by hall, its members by number, its clashes,
--- and its seating problem with a plan. The i-th member is candidate i of the problem, and the j-th opening hall j.
+-- One session as it is shown: its row, all halls of the office, its openings by hall, its members by number,
+-- its clashes, and its seating problem with a plan. The i-th member is candidate i of the problem, and the
+-- j-th opening hall j.
 pub record View : Type 0 where
   pub code : Code
   pub session : Session
@@ -55,12 +57,20 @@ number_of view i = slice_index (map (λ (member : Member). member.number) view.m
 
 -- a member in a hall, or in none, at a desk
 abbrev pub seat_in : Member → Option Code → Option ℕ → Seat
-seat_in member hall desk = record { number = member.number; name = member.name; paper = member.paper; finish = member.finish; hall = hall; desk = desk }
+seat_in member hall desk = record {
+  number = member.number;
+  name = member.name;
+  paper = member.paper;
+  finish = member.finish;
+  hall = hall;
+  desk = desk;
+}
 
 -- the i-th member in the hall that the plan gives them, with their desk number
 abbrev pub seat_at : View → ℕ → Member → Seat
 seat_at view i member =
-    seat_in member (option_map (hall_of view) (plan_at view.plan i)) (desk_number (seating_of view.problem) (ranks_before view.problem) (plan_at view.plan) i)
+    seat_in member (option_map (hall_of view) (plan_at view.plan i))
+    (desk_number (seating_of view.problem) (ranks_before view.problem) (plan_at view.plan) i)
 
 -- of these members, the first of whom is the i-th
 abbrev pub seats_from : View → ℕ → List Member → List Seat
@@ -78,7 +88,11 @@ pub record Report : Type 0 where
   pub candidates : List ℕ
 
 abbrev pub report_of : SessionShortage → Report
-report_of shortage = record { unseated = shortage.unseated; halls = shortage.halls.items; candidates = shortage.candidates.items }
+report_of shortage = record {
+  unseated = shortage.unseated;
+  halls = shortage.halls.items;
+  candidates = shortage.candidates.items;
+}
 
 -- the hall with its desks
 abbrev pub hall_with_desks : View → ℕ → Code × ℕ
@@ -98,22 +112,30 @@ pub record ShowsShortage (view : View) (report : Report) : Type 0 where
 
 -- the openings of the session by hall
 abbrev pub openings_of : Relations → Code → List (Code × Opening)
-openings_of r s = map (λ (o : (Code × Code) × Opening). (o.0.1, o.1)) (filter (λ (o : (Code × Code) × Opening). same_code o.0.0 s) r.openings)
+openings_of r s =
+    map (λ (o : (Code × Code) × Opening). (o.0.1, o.1))
+    (filter (λ (o : (Code × Code) × Opening). same_code o.0.0 s) r.openings)
 
 -- the candidate, with the sitting paper and the finish in the session
 abbrev pub member_of : Relations → Code → ℕ → Option Member
 member_of r s c =
-    option_and_then (λ (row : Candidate). option_and_then (λ (paper : Code). option_map (λ (end : ℕ). let m : Member = record { number = c; name = row.name; paper = paper; finish = end } in m) (finish r s c)) (sitting r s c)) (row_at nat_cmp r.candidates c)
+    option_and_then (λ (row : Candidate).
+    option_and_then (λ (paper : Code).
+    option_map (λ (end : ℕ).
+    let m : Member = record { number = c; name = row.name; paper = paper; finish = end } in m)
+    (finish r s c)) (sitting r s c)) (row_at nat_cmp r.candidates c)
 
 -- the member with their hall, or none, and their desk number in it
 abbrev pub seat_of : State → Code → ℕ → Option Seat
 seat_of office s c =
-    option_map (λ member. seat_in member (plan_of office.seats s c) (desk_number (seating office.relations s) (stands_before office.relations s) (plan_of office.seats s) c)) (member_of office.relations s c)
+    option_map (λ member. seat_in member (plan_of office.seats s c) (desk_of office s c))
+    (member_of office.relations s c)
 
--- the report is of exactly the contested candidates of the session, who with all halls that fit any of them are a
--- deficiency certificate of its plan
+-- the report is of exactly the contested candidates of the session, who with all halls that fit any of them
+-- are a deficiency certificate of its plan
 pub record IsShortageOf (office : State) (s : Code) (report : Report) : Type 0 where
-  pub certificate : IsCertificate (seating office.relations s) (plan_of office.seats s) report.candidates (keys_of report.halls)
+  pub certificate : IsCertificate (seating office.relations s) (plan_of office.seats s)
+      report.candidates (keys_of report.halls)
   pub contested : (c : ℕ) → Contains report.candidates c ↔ IsContested (seating office.relations s) c
   pub desks : All (λ hall. hall.1 ≡ desks office.relations s hall.0) report.halls
   pub unseated : report.unseated ≡ length (unseated (seating office.relations s) (plan_of office.seats s))
@@ -124,6 +146,7 @@ pub record IsViewOf (office : State) (s : Code) (view : View) : Type 0 where
   pub session : row_at code_cmp office.relations.sessions s ≡ Some view.session
   pub hall_codes : view.hall_codes ≡ keys_of office.relations.halls
   pub openings : view.openings ≡ openings_of office.relations s
-  pub seats : map (λ (seat : Seat). Some seat) (seats_of view) ≡ map (seat_of office s) (members office.relations s)
+  pub seats : map (λ (seat : Seat). Some seat) (seats_of view)
+      ≡ map (seat_of office s) (members office.relations s)
   pub clashes : view.clashes ≡ clashes office.relations s
   pub shortage : (report : Report) → ShowsShortage view report → IsShortageOf office s report

@@ -12,7 +12,8 @@ use exam_types::{Number, Refusal, SessionCode};
 use std::alloc::Global;
 use std::collections::BTreeSet;
 
-/// What a candidate has at most once in a session: a granted clash appeal, a granted arrangement appeal, an open appeal of each kind.
+/// What a candidate has at most once in a session: a granted clash appeal, a granted arrangement appeal, an
+/// open appeal of each kind.
 #[derive(Clone, Copy, PartialEq, Eq, PartialOrd, Ord)]
 enum Single {
     GrantedClash,
@@ -22,8 +23,8 @@ enum Single {
     OpenArrangement,
 }
 
-/// Whether each candidate has at most one granted clash appeal, one granted arrangement appeal and one open appeal of a
-/// kind in each session.
+/// Whether each candidate has at most one granted clash appeal, one granted arrangement appeal and one open
+/// appeal of a kind in each session.
 pub fn are_single(alloc: Global, facts: &Facts) -> Result<bool, Refusal>
     ensures ok { IfOk result (λ b. Decides b (spec.AreSingle (relations_of facts.now))) }
     ensures memory { IfErr result (λ e. e ≡ NoMemory) }

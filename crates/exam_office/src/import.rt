@@ -1,26 +1,15 @@
 //! The rows of an import file.
-ghost use Rattle.std.specs.Prelude.{◌≤◌, ◌≡◌, ◌⊎◌, ◌<◌, ◌+◌, ◌++◌, ◌∷◌, [], length, true, false, Some, None, OnOk, OnErr, IfErr, option_copied};
+ghost use Rattle.std.specs.Prelude.{◌≤◌, ◌≡◌, ◌⊎◌, ◌<◌, ◌+◌, ◌++◌, ◌∷◌, ◌==◌, [], length, true, false, Some, None, OnOk, OnErr, IfErr, option_copied};
 ghost use Rattle.std.specs.List.{find};
+ghost use Rattle.std.specs.Option.{option_map_or};
 ghost use Rattle.exam_office.specs.Imports as spec;
 ghost use Rattle.exam_types.specs.declared.refusal.Refusal.TheVariants as refusals;
 
-use crate::row::{Kind, Row};
-use exam_types::{HallCode, Number, PaperCode, Refusal, SessionCode};
+use crate::import_row::{Key, Kind, Row};
+use exam_types::Refusal;
 use std::alloc::Global;
 use std::collections::BTreeMap;
 use std::marker::Model;
-
-/// The key of a row.
-#[derive(Clone, Copy, PartialEq, Eq, PartialOrd, Ord)]
-enum Key {
-    OfSession(SessionCode),
-    OfPaper(PaperCode),
-    OfHall(HallCode),
-    OfOpening(SessionCode, HallCode),
-    OfCandidate(Number),
-    OfEntry(Number, PaperCode),
-    OfArrangement(Number),
-}
 
 /// The rows of an import file, in the order of the file.
 #[derive(Drop)]
@@ -35,30 +24,17 @@ impl Model for Import {
     ghost use Rattle.std.specs.Prelude.{◌≡◌, ◌≤◌, length, true};
     ghost use Rattle.std.specs.BTreeMap.{get};
     ghost use Rattle.std.specs.List.{position_from};
-    ghost use Rattle.exam_office.specs.contracts.import.KeyOrd.TheImpl as keys;
-    ghost use Rattle.exam_office.specs.declared.import.Key.{Key};
-    ghost use Rattle.exam_office.specs.Imports.{ImportRows, are_of_kind, has_key, is_consistent};
+    ghost use Rattle.exam_office.specs.contracts.import_row.KeyOrd.TheImpl as keys;
+    ghost use Rattle.exam_office.specs.declared.import_row.Key.{Key};
+    ghost use Rattle.exam_office.specs.Imports.{ImportRows, AreOfKind, has_key, is_consistent};
 
     ghost Value = { ImportRows };
 
     ghost view = { λ a. record { kind = a.kind; rows = a.rows.items } };
 
-    ghost invariant = { λ a. (is_consistent a.rows.items ≡ true) × (are_of_kind a.kind a.rows.items ≡ true) × ((k : Key) → get keys.ghosts.cmp a.places k ≡ position_from (has_key k) 0 a.rows.items) × (length a.rows.items ≤ 4194304) };
-}
-
-/// The key of a row.
-fn key_of(row: &Row) -> Key
-    ensures { result ≡ spec.key_of row.now }
-{
-    match row {
-        Row::OfSession(session, _) => Key::OfSession(*session),
-        Row::OfPaper(paper, _) => Key::OfPaper(*paper),
-        Row::OfHall(hall, _) => Key::OfHall(*hall),
-        Row::OfOpening(session, hall, _) => Key::OfOpening(*session, *hall),
-        Row::OfCandidate(number, _) => Key::OfCandidate(*number),
-        Row::OfEntry(number, paper) => Key::OfEntry(*number, *paper),
-        Row::OfArrangement(number, _) => Key::OfArrangement(*number),
-    }
+    ghost invariant = { λ a. (is_consistent a.rows.items ≡ true) × AreOfKind a.kind a.rows.items
+        × ((k : Key) → get keys.ghosts.cmp a.places k ≡ position_from (has_key k) 0 a.rows.items)
+        × (length a.rows.items ≤ 4194304) };
 }
 
 impl Import {
@@ -73,14 +49,16 @@ impl Import {
         }
     }
 
-    /// Appends a row. A row with the key of an earlier one and another content is refused as a conflict at its
-    /// place, which counts from 1. After a refusal the import is as it was.
+    /// Appends a row. A row with the key of an earlier one and another content is refused as a conflict at
+    /// its place, which counts from 1. After a refusal the import is as it was.
     pub fn push(&mut self, row: Row) -> Result<(), Refusal>
         requires kind { spec.kind_of row ≡ self.old.kind }
         requires room { length self.old.rows < 4194304 }
         ensures ok { OnOk result (self.new ≡ record self.old { rows = self.old.rows ++ row ∷ [] }) }
         ensures agrees { OnOk result (spec.conflicts row self.old.rows ≡ false) }
-        ensures refused { IfErr result (λ e. (e ≡ refusals.NoMemory) ⊎ ((e ≡ refusals.RowConflict (length self.old.rows + 1)) × (spec.conflicts row self.old.rows ≡ true))) }
+        ensures refused { IfErr result (λ e. (e ≡ refusals.NoMemory)
+            ⊎ ((e ≡ refusals.RowConflict (length self.old.rows + 1))
+            × (spec.conflicts row self.old.rows ≡ true))) }
         ensures err { OnErr result (self.new ≡ self.old) }
     {
         match self.first_with_key(&row) {
@@ -116,7 +94,7 @@ impl Import {
     {
         // Room for the row first, so that nothing fails once its place is kept.
         self.rows.reserve(1)?;
-        self.places.insert(key_of(&row), self.rows.len())?;
+        self.places.insert(row.key(), self.rows.len())?;
         self.rows.push(row)?;
         Ok(())
     }
@@ -125,8 +103,19 @@ impl Import {
     fn first_with_key(&self, row: &Row) -> Option<&Row>
         ensures { option_copied result ≡ find (spec.has_key (spec.key_of row.now)) self.now.rows }
     {
-        let place = self.places.get(&key_of(row))?;
+        let place = self.places.get(&row.key())?;
         Some(&self.rows[*place])
+    }
+
+    /// Whether the row at the place is the first with its key.
+    pub fn is_first(&self, place: usize, row: &Row) -> bool
+        ensures { result ≡ option_map_or (λ first. first == place)
+            (spec.place_of row.now self.now.rows) false }
+    {
+        match self.places.get(&row.key()) {
+            Some(first) => *first == place,
+            None => false,
+        }
     }
 
     pub fn kind(&self) -> Kind
@@ -140,7 +129,7 @@ impl Import {
         ensures value { result.now ≡ self.now.rows }
         ensures few { length result.now ≤ 4194304 }
         ensures consistent { spec.is_consistent result.now ≡ true }
-        ensures kind { spec.are_of_kind self.now.kind result.now ≡ true }
+        ensures kind { spec.AreOfKind self.now.kind result.now }
     {
         self.rows.as_slice()
     }

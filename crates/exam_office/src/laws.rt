@@ -6,34 +6,39 @@ ghost use Rattle.exam_rules.specs.Relations.{Code, Relations};
 ghost use Rattle.exam_office.specs.declared.command.Command.TheVariants as command;
 ghost use Rattle.exam_office.specs.declared.command.Reply.{Reply};
 ghost use Rattle.exam_office.specs.declared.command.Reply.TheVariants as reply;
-ghost use Rattle.exam_office.specs.declared.row.Row.{Row};
+ghost use Rattle.exam_office.specs.declared.import_row.Row.{Row};
 ghost use Rattle.exam_office.specs.Changes.{imported};
 ghost use Rattle.exam_office.specs.Good.{IsGood};
 ghost use Rattle.exam_office.specs.Headline.{IsSeated};
-ghost use Rattle.exam_office.specs.Imports.{ImportRows, is_consistent};
+ghost use Rattle.exam_office.specs.Imports.{ImportRows, distinct_rows, is_consistent};
 ghost use Rattle.exam_office.specs.Orders.{IsInOrder};
-ghost use Rattle.exam_office.specs.Replies.{distinct_rows, import_reply};
+ghost use Rattle.exam_office.specs.Replies.{import_reply};
 ghost use Rattle.exam_office.specs.State.{State};
 ghost use Rattle.exam_office.specs.Steps.{Step};
 
-/// A good office whose tables are in order seats every session as promised: `Office::is_seated`. Every `Office` is good
-/// (`Office::is_good`) and in order (`Office::is_in_order`).
+/// A good office whose tables are in order seats every session as promised: `Office::is_seated`. Every
+/// `Office` is good (`Office::is_good`) and in order (`Office::is_in_order`).
 pub fn good_office_is_seated()
     ensures { (office : State) (s : Code) → IsGood office → AreInOrder office.relations → IsSeated office s }
 {}
 
-/// An accepted import, repeated at once, is accepted, makes the same facts, and answers that all of its keys have the same
-/// row. Every `Facts` is in order (`Facts::are_in_order`), and the rows of every `Import` agree (`Import::rows`).
+/// An accepted import, repeated at once, is accepted, makes the same facts, and answers that all of its keys
+/// have the same row. Every `Facts` is in order (`Facts::are_in_order`), and the rows of every `Import` agree
+/// (`Import::rows`).
 pub fn repeated_import_makes_the_same_facts()
-    ensures { (r t : Relations) (rows : List Row) → AreInOrder r → is_consistent rows ≡ true → imported r rows ≡ Ok t
-        → (imported t rows ≡ Ok t) × (import_reply t rows ≡ reply.Imported 0 0 (length (distinct_rows rows))) }
+    ensures { (r t : Relations) (rows : List Row) → AreInOrder r → is_consistent rows ≡ true
+        → imported r rows ≡ Ok t
+        → (imported t rows ≡ Ok t)
+        × (import_reply t rows ≡ reply.Imported 0 0 (length (distinct_rows rows))) }
 {}
 
-/// The same of two steps, on whatever days: the office stays as it is. Every `Office` is in order (`Office::is_in_order`),
-/// and the rows of every `Import` agree (`Import::rows`).
+/// The same of two steps, on whatever days: the office stays as it is. Every `Office` is in order
+/// (`Office::is_in_order`), and the rows of every `Import` agree (`Import::rows`).
 pub fn repeated_import_changes_nothing()
-    ensures { (import : ImportRows) (day later : ℕ) (before mid after : State) (first : Reply) (second : Result Reply Refusal)
+    ensures { (import : ImportRows) (day later : ℕ) (before mid after : State) (first : Reply)
+        (second : Result Reply Refusal)
         → IsInOrder before → IsInOrder mid → IsInOrder after → is_consistent import.rows ≡ true
-        → Step (command.Import import) day before (Ok first) mid → Step (command.Import import) later mid second after
+        → Step (command.Import import) day before (Ok first) mid
+        → Step (command.Import import) later mid second after
         → (second ≡ Ok (reply.Imported 0 0 (length (distinct_rows import.rows)))) × (after ≡ mid) }
 {}

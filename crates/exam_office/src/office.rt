@@ -16,7 +16,7 @@ ghost use Rattle.exam_office.specs.Views.{IsViewOf};
 
 use crate::tables::first_bad_table;
 use crate::view::SessionView;
-use crate::viewing;
+use crate::view_source;
 use exam_rules::Facts;
 use exam_types::{HallCode, Number, Refusal, SessionCode};
 use std::alloc::Global;
@@ -56,12 +56,16 @@ impl Office {
         }
     }
 
-    /// The office with these facts and plans. Refused as a bad store exactly where they are not good, and where there is
-    /// not enough memory.
+    /// The office with these facts and plans. Refused as a bad store exactly where they are not good, and
+    /// where there is not enough memory.
     pub fn from_parts(alloc: Global, facts: Facts, seats: Seats) -> Result<Self, Refusal>
-        ensures ok { IfOk result (λ office. office ≡ record { relations = relations_of facts; seats = seats.entries }) }
-        ensures good { OnOk result (IsGood (record { relations = relations_of facts; seats = seats.entries })) }
-        ensures refusal { IfErr result (λ e. (e ≡ NoMemory) ⊎ ((e ≡ BadStore) × (IsGood (record { relations = relations_of facts; seats = seats.entries }) → ⊥))) }
+        ensures ok { IfOk result (λ office. office
+            ≡ record { relations = relations_of facts; seats = seats.entries }) }
+        ensures good { OnOk result
+            (IsGood (record { relations = relations_of facts; seats = seats.entries })) }
+        ensures refusal { IfErr result (λ e. (e ≡ NoMemory)
+            ⊎ ((e ≡ BadStore)
+            × (IsGood (record { relations = relations_of facts; seats = seats.entries }) → ⊥))) }
     {
         match first_bad_table(alloc, &facts, &seats)? {
             None => Ok(Office { facts, seats }),
@@ -89,7 +93,7 @@ impl Office {
         let Some(row) = self.facts.sessions.get(session) else {
             return Err(Refusal::UnknownSession);
         };
-        viewing::view_of(alloc, &self.facts, &self.seats, session, row)
+        view_source::view_of(alloc, &self.facts, &self.seats, session, row)
     }
 
     /// The office with these facts and plans, which are good.
@@ -117,8 +121,8 @@ impl Office {
         let _ = self.seats().len();
     }
 
-    /// In every session whoever sits has a fitting hall and a desk of their own, and no lawful plan seats more. Does
-    /// nothing.
+    /// In every session whoever sits has a fitting hall and a desk of their own, and no lawful plan seats
+    /// more. Does nothing.
     pub fn is_seated(&self)
         ensures { (s : Code) → IsSeated self.now s }
     {

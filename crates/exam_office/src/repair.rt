@@ -29,8 +29,10 @@ pub fn repaired(
     first: Option<Number>,
 ) -> Result<Seats, Refusal>
     requires lists { AreListsOf (relations_of facts.now) lists.now }
-    requires few { (s : Code) → IsTrue (has_row code_cmp facts.now.sessions.entries s) → length (members (relations_of facts.now) s) ≤ 4096 }
-    ensures ok { IfOk result (λ new. (s : Code) → IsRepaired (relations_of facts.now) first seats.now.entries new.entries s) }
+    requires few { (s : Code) → IsTrue (has_row code_cmp facts.now.sessions.entries s)
+        → length (members (relations_of facts.now) s) ≤ 4096 }
+    ensures ok { IfOk result (λ new. (s : Code)
+        → IsRepaired (relations_of facts.now) first seats.now.entries new.entries s) }
     ensures memory { IfErr result (λ e. e ≡ NoMemory) }
 {
     let mut repaired = BTreeMap::new(alloc);
@@ -53,8 +55,10 @@ fn repair_session(
     requires lists { AreListsOf (relations_of facts.now) lists.now }
     requires few { length (members (relations_of facts.now) session.now) ≤ 4096 }
     requires fresh { (c : ℕ) → plan_of repaired.old.entries session.now c ≡ None }
-    ensures ok { OnOk result (IsRepaired (relations_of facts.now) first.now seats.now.entries repaired.new.entries session.now) }
-    ensures others { OnOk result ((s : Code) (c : ℕ) → same_code session.now s ≡ false → plan_of repaired.new.entries s c ≡ plan_of repaired.old.entries s c) }
+    ensures ok { OnOk result (IsRepaired
+        (relations_of facts.now) first.now seats.now.entries repaired.new.entries session.now) }
+    ensures others { OnOk result ((s : Code) (c : ℕ) → same_code session.now s ≡ false
+        → plan_of repaired.new.entries s c ≡ plan_of repaired.old.entries s c) }
     ensures memory { IfErr result (λ e. e ≡ NoMemory) }
 {
     let listed = indexed_problem(alloc, facts, lists, session)?;
@@ -74,7 +78,8 @@ fn repaired_plan(
     requires plan { IsPlan problem.now plan.items }
     requires first { IfSome first (λ c. c < length problem.now.fit) }
     ensures plan { IfOk result (λ new. IsPlan problem.now new.items) }
-    ensures repair { IfOk result (λ new. IsRepair (seating_of problem.now) first (plan_at plan.items) (plan_at new.items)) }
+    ensures repair { IfOk result (λ new.
+        IsRepair (seating_of problem.now) first (plan_at plan.items) (plan_at new.items)) }
     ensures best { IfOk result (λ new. IsBest (seating_of problem.now) (plan_at new.items)) }
     ensures memory { IfErr result (λ e. e ≡ NoMemory) }
 {
@@ -98,7 +103,8 @@ fn place_among(numbers: &[Number], number: &Number) -> Option<usize>
     numbers.iter().position(|other| *number == *other)
 }
 
-/// Of each of these candidates of a session the place of their hall. Who sits in a hall that is not listed has none.
+/// Of each of these candidates of a session the place of their hall. Who sits in a hall that is not listed
+/// has none.
 pub fn stored_plan(
     alloc: Global,
     numbers: &[Number],
@@ -106,7 +112,8 @@ pub fn stored_plan(
     session: &SessionCode,
     seats: &Seats,
 ) -> Result<Plan, Refusal>
-    ensures ok { IfOk result (λ plan. plan.items ≡ repairs.places_of seats.now.entries session.now halls.now numbers.now) }
+    ensures ok { IfOk result (λ plan. plan.items
+        ≡ repairs.places_of seats.now.entries session.now halls.now numbers.now) }
     ensures memory { IfErr result (λ e. e ≡ NoMemory) }
 {
     let plan = numbers
@@ -148,9 +155,11 @@ fn write_plan(
     requires long { length plan.now ≡ length numbers.now }
     requires exist { All (λ place. IfSome place (λ h. h < length halls.now)) plan.now }
     requires fresh { (c : ℕ) → plan_of seats.old.entries session.now c ≡ None }
-    ensures ok { OnOk result ((r : Relations) → ListsRise r session.now → numbers.now ≡ members r session.now → halls.now ≡ open_halls r session.now
+    ensures ok { OnOk result ((r : Relations) → ListsRise r session.now
+        → numbers.now ≡ members r session.now → halls.now ≡ open_halls r session.now
         → SamePlan (plan_of seats.new.entries session.now) (named_plan r session.now (plan_at plan.now))) }
-    ensures others { OnOk result ((s : Code) (c : ℕ) → same_code session.now s ≡ false → plan_of seats.new.entries s c ≡ plan_of seats.old.entries s c) }
+    ensures others { OnOk result ((s : Code) (c : ℕ) → same_code session.now s ≡ false
+        → plan_of seats.new.entries s c ≡ plan_of seats.old.entries s c) }
     ensures memory { IfErr result (λ e. e ≡ NoMemory) }
 {
     for (index, number) in numbers.iter().enumerate() {
@@ -168,7 +177,10 @@ fn add_place(
     place: Option<usize>,
 ) -> Result<(), Refusal>
     requires { IfSome place (λ h. h < length halls.now) }
-    ensures ok { OnOk result ((s : Code) (c : ℕ) → plan_of seats.new.entries s c ≡ (if same_code session.now s && nat_eq number c then option_or (option_map (λ h. slice_index_or halls.now h []) place) (plan_of seats.old.entries s c) else plan_of seats.old.entries s c)) }
+    ensures ok { OnOk result ((s : Code) (c : ℕ) → plan_of seats.new.entries s c
+        ≡ (if same_code session.now s && nat_eq number c
+        then option_or (option_map (λ h. slice_index_or halls.now h []) place) (plan_of seats.old.entries s c)
+        else plan_of seats.old.entries s c)) }
     ensures memory { IfErr result (λ e. e ≡ NoMemory) }
 {
     match place {
@@ -184,7 +196,8 @@ fn add_seat(
     number: Number,
     hall: HallCode,
 ) -> Result<(), Refusal>
-    ensures ok { OnOk result ((s : Code) (c : ℕ) → plan_of seats.new.entries s c ≡ (if same_code session.now s && nat_eq number c then Some hall else plan_of seats.old.entries s c)) }
+    ensures ok { OnOk result ((s : Code) (c : ℕ) → plan_of seats.new.entries s c
+        ≡ (if same_code session.now s && nat_eq number c then Some hall else plan_of seats.old.entries s c)) }
     ensures memory { IfErr result (λ e. e ≡ NoMemory) }
 {
     seats.insert((*session, number), hall)?;

@@ -11,9 +11,9 @@ ghost use Rattle.exam_office.specs.Headline.{IsSeated};
 ghost use Rattle.exam_office.specs.Steps as steps;
 ghost use Rattle.exam_office.specs.declared.command.Command.TheVariants as variant;
 
+use crate::changes::imported;
 use crate::command::{Command, Reply};
 use crate::import::Import;
-use crate::importing::imported;
 use crate::limits::is_within_limits;
 use crate::office::{Office, Seats};
 use crate::repair::repaired;
@@ -36,8 +36,9 @@ pub fn step(
     Ok(reply)
 }
 
-/// Carries out commands in order, each on its day, and gives what each answers. Refused for want of memory before any
-/// command, and then the office is as before. Whatever it answers, every session is seated as promised.
+/// Carries out commands in order, each on its day, and gives what each answers. Refused for want of memory
+/// before any command, and then the office is as before. Whatever it answers, every session is seated as
+/// promised.
 pub fn run(
     alloc: Global,
     office: &mut Office,
@@ -67,7 +68,8 @@ pub fn next_office(
     today: Day,
 ) -> Result<(Office, Reply), Refusal>
     ensures ok { IfOk result (λ next. steps.Step command.now today office.now (Ok next.1) next.0) }
-    ensures refusal { IfErr result (λ e. (e ≡ NoMemory) ⊎ steps.Step command.now today office.now (Err e) office.now) }
+    ensures refusal { IfErr result (λ e. (e ≡ NoMemory)
+        ⊎ steps.Step command.now today office.now (Err e) office.now) }
 {
     match command {
         Command::Import(import) => with_import(alloc, office, import, today),
@@ -81,17 +83,19 @@ fn with_import(
     import: &Import,
     today: Day,
 ) -> Result<(Office, Reply), Refusal>
-    ensures ok { IfOk result (λ next. steps.Step (variant.Import import.now) today office.now (Ok next.1) next.0) }
-    ensures refusal { IfErr result (λ e. (e ≡ NoMemory) ⊎ steps.Step (variant.Import import.now) today office.now (Err e) office.now) }
+    ensures ok { IfOk result (λ next. steps.Step (variant.Import import.now) today office.now
+        (Ok next.1) next.0) }
+    ensures refusal { IfErr result (λ e. (e ≡ NoMemory)
+        ⊎ steps.Step (variant.Import import.now) today office.now (Err e) office.now) }
 {
     let _ = today;
     office.is_good();
-    let (facts, reply) = imported(alloc, office.facts(), import.rows())?;
+    let (facts, reply) = imported(office.facts(), import)?;
     Ok((resettled(alloc, facts, office, None)?, reply))
 }
 
-/// The office with these facts, where each session's plan is repaired, the first candidate first where they are a member.
-/// Refused as too many where a limit is passed.
+/// The office with these facts, where each session's plan is repaired, the first candidate first where they
+/// are a member. Refused as too many where a limit is passed.
 fn resettled(
     alloc: Global,
     facts: Facts,
@@ -102,9 +106,11 @@ fn resettled(
     requires single { AreSingle (relations_of facts) }
     ensures relations { IfOk result (λ next. next.relations ≡ relations_of facts) }
     ensures limits { OnOk result (IsTrue (within_limits (relations_of facts))) }
-    ensures plans { IfOk result (λ next. (s : Code) → IsRepaired (relations_of facts) first office.now.seats next.seats s) }
+    ensures plans { IfOk result (λ next. (s : Code)
+        → IsRepaired (relations_of facts) first office.now.seats next.seats s) }
     ensures rising { OnOk result ((s : Code) → ListsRise (relations_of facts) s) }
-    ensures refusal { IfErr result (λ e. (e ≡ NoMemory) ⊎ ((e ≡ TooMany) × (within_limits (relations_of facts) ≡ false))) }
+    ensures refusal { IfErr result (λ e. (e ≡ NoMemory) ⊎ ((e ≡ TooMany)
+        × (within_limits (relations_of facts) ≡ false))) }
 {
     let lists = session_lists(alloc, &facts)?;
     if !is_within_limits(&facts, &lists) {

@@ -37,7 +37,8 @@ pub fn first_bad_table(
     facts: &Facts,
     seats: &Seats,
 ) -> Result<Option<Table>, Refusal>
-    ensures ok { IfOk result (λ found. good.IsFirstBad (record { relations = relations_of facts.now; seats = seats.now.entries }) found) }
+    ensures ok { IfOk result (λ found. good.IsFirstBad
+        (record { relations = relations_of facts.now; seats = seats.now.entries }) found) }
     ensures memory { IfErr result (λ e. e ≡ NoMemory) }
 {
     let lists = session_lists(alloc, facts)?;
@@ -72,27 +73,31 @@ pub fn first_bad_table(
 }
 
 fn are_papers_good(facts: &Facts) -> bool
-    ensures { result ≡ (spec.papers_within (relations_of facts.now) && good.papers_refer (relations_of facts.now)) }
+    ensures { result ≡ (spec.papers_within (relations_of facts.now)
+        && good.papers_refer (relations_of facts.now)) }
 {
     limits::are_papers_within(facts) && references::papers_refer(facts)
 }
 
 fn are_openings_good(facts: &Facts, lists: &SessionLists) -> bool
     requires { AreListsOf (relations_of facts.now) lists.now }
-    ensures { result ≡ (spec.openings_within (relations_of facts.now) && good.openings_refer (relations_of facts.now)) }
+    ensures { result ≡ (spec.openings_within (relations_of facts.now)
+        && good.openings_refer (relations_of facts.now)) }
 {
     limits::are_openings_within(facts, lists) && references::openings_refer(facts)
 }
 
 fn are_entries_good(facts: &Facts, lists: &SessionLists) -> bool
     requires { AreListsOf (relations_of facts.now) lists.now }
-    ensures { result ≡ (spec.members_within (relations_of facts.now) && good.entries_refer (relations_of facts.now)) }
+    ensures { result ≡ (spec.members_within (relations_of facts.now)
+        && good.entries_refer (relations_of facts.now)) }
 {
     limits::are_members_within(facts, lists) && references::entries_refer(facts)
 }
 
 fn are_appeals_good(alloc: Global, facts: &Facts) -> Result<bool, Refusal>
-    ensures ok { IfOk result (λ b. Decides b (IsTrue (spec.appeals_within (relations_of facts.now) && good.appeals_refer (relations_of facts.now)) × AreSingle (relations_of facts.now))) }
+    ensures ok { IfOk result (λ b. Decides b (IsTrue (spec.appeals_within (relations_of facts.now)
+        && good.appeals_refer (relations_of facts.now)) × AreSingle (relations_of facts.now))) }
     ensures memory { IfErr result (λ e. e ≡ NoMemory) }
 {
     if !limits::are_appeals_within(facts) || !references::appeals_refer(facts) {
@@ -110,7 +115,8 @@ fn are_seats_good(
 ) -> Result<bool, Refusal>
     requires lists { AreListsOf (relations_of facts.now) lists.now }
     requires few { IsTrue (spec.members_within (relations_of facts.now)) }
-    ensures ok { IfOk result (λ b. Decides b ((s : Code) → IsBest (seating (relations_of facts.now) s) (plan_of seats.now.entries s))) }
+    ensures ok { IfOk result (λ b. Decides b ((s : Code)
+        → IsBest (seating (relations_of facts.now) s) (plan_of seats.now.entries s))) }
     ensures memory { IfErr result (λ e. e ≡ NoMemory) }
 {
     let repaired = repair::repaired(alloc, facts, lists, seats, None)?;
@@ -119,7 +125,8 @@ fn are_seats_good(
 
 /// Whether the same candidates sit in the same halls.
 fn same_seats(one: &Seats, other: &Seats) -> bool
-    ensures { Decides result ((s : Code) (c : ℕ) → plan_of one.now.entries s c ≡ plan_of other.now.entries s c) }
+    ensures { Decides result ((s : Code) (c : ℕ) → plan_of one.now.entries s c
+        ≡ plan_of other.now.entries s c) }
 {
     if one.len() != other.len() {
         return false;

@@ -24,8 +24,8 @@ pub struct Seat {
     pub desk: Option<u32>,
 }
 
-/// A deficiency certificate of a session: the candidates outnumber all desks of all halls that fit any of them by the
-/// number unseated.
+/// A deficiency certificate of a session: the candidates outnumber all desks of all halls that fit any of
+/// them by the number unseated.
 #[derive(Drop)]
 pub struct SessionShortage {
     pub unseated: usize,
@@ -66,9 +66,27 @@ impl Model for SessionView {
 
     ghost Value = { View };
 
-    ghost view = { λ a. record { code = a.code; session = a.session; hall_codes = a.hall_codes.items; openings = a.openings.items; members = a.members.items; clashes = a.clashes.items; problem = a.problem; plan = a.plan.items } };
+    ghost view = { λ a. record {
+      code = a.code;
+      session = a.session;
+      hall_codes = a.hall_codes.items;
+      openings = a.openings.items;
+      members = a.members.items;
+      clashes = a.clashes.items;
+      problem = a.problem;
+      plan = a.plan.items;
+    } };
 
-    ghost invariant = { λ a. IsView (record { code = a.code; session = a.session; hall_codes = a.hall_codes.items; openings = a.openings.items; members = a.members.items; clashes = a.clashes.items; problem = a.problem; plan = a.plan.items }) };
+    ghost invariant = { λ a. IsView (record {
+      code = a.code;
+      session = a.session;
+      hall_codes = a.hall_codes.items;
+      openings = a.openings.items;
+      members = a.members.items;
+      clashes = a.clashes.items;
+      problem = a.problem;
+      plan = a.plan.items;
+    }) };
 }
 
 impl SessionView {

@@ -49,7 +49,8 @@ pub fn view_of(alloc: Global, office: &Office) -> Result<SessionView, Fail> {
     Ok(office.session_view(alloc, &session(b"S1")?)?)
 }
 
-/// All three are entered, and 0000002 needs a step-free hall: 0000002 sits in A, 0000001 in B, and 0000003 is unseated.
+/// All three are entered, and 0000002 needs a step-free hall: 0000002 sits in A, 0000001 in B, and 0000003 is
+/// unseated.
 pub fn short_view(alloc: Global) -> Result<SessionView, Fail> {
     let mut office = base_office(alloc)?;
     let file = b"number,needs,extra\n0000002,step-free,0\n";

@@ -26,7 +26,8 @@ pub fn expect_refusal<R: Abort + AllocGlobal>(rt: &R, kind: Kind, file: &[u8], r
     assert_eq!(rt; read_import(rt.alloc(), kind, file).err(), Some(refusal));
 }
 
-/// Reads a file that is refused for a record, at its first bad column or, for its count of fields, at column 0.
+/// Reads a file that is refused for a record, at its first bad column or, for its count of fields, at column
+/// 0.
 pub fn expect_bad_row<R: Abort + AllocGlobal>(
     rt: &R,
     kind: Kind,

@@ -1,174 +1,106 @@
 //! Each limit is reached, and not passed.
-use super::offices::{
-    add_candidate, add_hall, add_paper, add_session, base_facts, candidate, enter, grant, hall,
-    hall_with, hour_paper, morning, no_seats, number, one_row, open, paper, session, until_noon,
-};
-use crate::{Command, Import, Kind, Office, Row, step};
-use exam_rules::{Facts, Subject};
-use exam_types::{Day, Refusal};
-use std::alloc::Global;
+use super::lines::Line;
+use super::scenes::{Scene, play};
+use super::setups::{Fact, refusal_at_opening};
+use crate::Kind;
+use exam_types::Refusal;
 use std::process::Abort;
 use std::test::Fail;
 
 /// One import reaches the limit, and the next would pass it.
-fn expect_last<R: Abort + AllocGlobal>(
+fn expect_last<'a, R: Abort + AllocGlobal>(
     rt: &R,
-    facts: Facts,
-    last: Import,
-    next: Import,
+    facts: &[Fact],
+    kind: Kind,
+    last: Line<'a>,
+    next: Line<'a>,
 ) -> Result<(), Fail> {
-    let alloc = rt.alloc();
-    let today = Day::parse(b"2027-05-01").ok_or("day")?;
-    let mut office = Office::from_parts(alloc, facts, no_seats(alloc))?;
-    let last = step(alloc, &mut office, &Command::Import(last), today);
-    assert!(rt; last.is_ok());
-    let next = step(alloc, &mut office, &Command::Import(next), today);
-    assert_eq!(rt; next, Err(Refusal::TooMany));
-    Ok(())
-}
-
-fn session_row(alloc: Global, code: &str) -> Result<Import, Fail> {
-    one_row(
-        alloc,
-        Kind::Sessions,
-        Row::OfSession(session(code)?, morning()?),
-    )
+    let lines = [last, next];
+    let scenes = [
+        Scene::Import(kind, &lines[..1], [1, 0, 0]),
+        Scene::Refused(kind, &lines[1..], Refusal::TooMany),
+    ];
+    play(rt, facts, &[], &scenes)
 }
 
 #[test]
 fn four_hundred_sessions(rt: HostRuntime) -> Result<(), Fail> {
-    let alloc = rt.alloc();
-    let mut facts = Facts::new(alloc);
-    for value in 0..399 {
-        add_session(&mut facts, &format!(in alloc; "S{value}")?)?;
-    }
     expect_last(
         &rt,
-        facts,
-        session_row(alloc, "T1")?,
-        session_row(alloc, "T2")?,
+        &[Fact::Rows(Kind::Sessions, 0, 399)],
+        Kind::Sessions,
+        Line::Session("T1"),
+        Line::Session("T2"),
     )
-}
-
-fn paper_row(alloc: Global, code: &str) -> Result<Import, Fail> {
-    let row = Row::OfPaper(paper(code)?, hour_paper(alloc, "S1", "-")?);
-    one_row(alloc, Kind::Papers, row)
 }
 
 #[test]
 fn two_thousand_papers(rt: HostRuntime) -> Result<(), Fail> {
-    let alloc = rt.alloc();
-    let mut facts = base_facts(alloc)?;
-    for value in 0..1998 {
-        add_paper(alloc, &mut facts, &format!(in alloc; "P{value}")?, "S1")?;
-    }
-    expect_last(&rt, facts, paper_row(alloc, "T1")?, paper_row(alloc, "T2")?)
-}
-
-fn hall_row(alloc: Global, code: &str) -> Result<Import, Fail> {
-    one_row(
-        alloc,
-        Kind::Halls,
-        Row::OfHall(hall(code)?, hall_with(alloc, "-")?),
+    // One paper is there.
+    expect_last(
+        &rt,
+        &[Fact::School, Fact::Rows(Kind::Papers, 0, 1_998)],
+        Kind::Papers,
+        Line::Paper("T1", "S1", "-"),
+        Line::Paper("T2", "S1", "-"),
     )
 }
 
 #[test]
 fn five_hundred_halls(rt: HostRuntime) -> Result<(), Fail> {
-    let alloc = rt.alloc();
-    let mut facts = base_facts(alloc)?;
-    for value in 0..497 {
-        add_hall(alloc, &mut facts, &format!(in alloc; "H{value}")?, "-")?;
-    }
-    expect_last(&rt, facts, hall_row(alloc, "T1")?, hall_row(alloc, "T2")?)
-}
-
-fn opening_row(alloc: Global, code: &str) -> Result<Import, Fail> {
-    let row = Row::OfOpening(session("S1")?, hall(code)?, until_noon(1)?);
-    one_row(alloc, Kind::Openings, row)
+    // Two halls are there.
+    expect_last(
+        &rt,
+        &[Fact::School, Fact::Rows(Kind::Halls, 0, 497)],
+        Kind::Halls,
+        Line::Hall("T1", "-"),
+        Line::Hall("T2", "-"),
+    )
 }
 
 #[test]
 fn a_hundred_and_twenty_eight_openings(rt: HostRuntime) -> Result<(), Fail> {
-    let alloc = rt.alloc();
-    let mut facts = base_facts(alloc)?;
-    for value in 0..127 {
-        let code = format!(in alloc; "H{value}")?;
-        add_hall(alloc, &mut facts, &code, "-")?;
-        if value < 125 {
-            open(&mut facts, "S1", &code, 1)?;
-        }
-    }
-    expect_last(
-        &rt,
-        facts,
-        opening_row(alloc, "H125")?,
-        opening_row(alloc, "H126")?,
-    )
-}
-
-fn candidate_row(alloc: Global, value: u32) -> Result<Import, Fail> {
-    let row = Row::OfCandidate(number(value)?, candidate(alloc)?);
-    one_row(alloc, Kind::Candidates, row)
+    let facts = [
+        Fact::School,
+        Fact::Row(Line::Opening("S1", "A", 1)),
+        Fact::Row(Line::Opening("S1", "B", 1)),
+        Fact::Rows(Kind::Halls, 0, 127),
+        Fact::Rows(Kind::Openings, 0, 125),
+    ];
+    let last = Line::Opening("S1", "H125", 1);
+    let next = Line::Opening("S1", "H126", 1);
+    expect_last(&rt, &facts, Kind::Openings, last, next)
 }
 
 #[test]
 fn twenty_thousand_candidates(rt: HostRuntime) -> Result<(), Fail> {
-    let alloc = rt.alloc();
-    let mut facts = Facts::new(alloc);
-    for value in 1..20_000 {
-        add_candidate(alloc, &mut facts, value)?;
-    }
     expect_last(
         &rt,
-        facts,
-        candidate_row(alloc, 20_000)?,
-        candidate_row(alloc, 20_001)?,
+        &[Fact::Rows(Kind::Candidates, 1, 20_000)],
+        Kind::Candidates,
+        Line::Candidate(20_000),
+        Line::Candidate(20_001),
     )
-}
-
-fn entry_row(alloc: Global, value: u32) -> Result<Import, Fail> {
-    let row = Row::OfEntry(number(value)?, paper("MA-1")?);
-    one_row(alloc, Kind::Entries, row)
 }
 
 #[test]
 fn four_thousand_and_ninety_six_members(rt: HostRuntime) -> Result<(), Fail> {
-    let alloc = rt.alloc();
-    let mut facts = Facts::new(alloc);
-    add_session(&mut facts, "S1")?;
-    add_paper(alloc, &mut facts, "MA-1", "S1")?;
-    for value in 1..4_098 {
-        add_candidate(alloc, &mut facts, value)?;
-        if value < 4_096 {
-            enter(&mut facts, value, "MA-1")?;
-        }
-    }
-    expect_last(
-        &rt,
-        facts,
-        entry_row(alloc, 4_096)?,
-        entry_row(alloc, 4_097)?,
-    )
-}
-
-/// The base office with so many granted appeals of the first candidate.
-fn appealing(alloc: Global, count: u32) -> Result<Facts, Fail> {
-    let mut facts = base_facts(alloc)?;
-    for value in 0..count {
-        let reference = format!(in alloc; "R{value}")?;
-        let barred = Subject::Hall(hall("A")?);
-        grant(alloc, &mut facts, 1, reference.as_bytes(), barred)?;
-    }
-    Ok(facts)
+    let facts = [
+        Fact::Row(Line::Session("S1")),
+        Fact::Row(Line::Paper("MA-1", "S1", "-")),
+        Fact::Rows(Kind::Candidates, 1, 4_098),
+        Fact::Rows(Kind::Entries, 1, 4_096),
+    ];
+    let last = Line::Entry(4_096, "MA-1");
+    let next = Line::Entry(4_097, "MA-1");
+    expect_last(&rt, &facts, Kind::Entries, last, next)
 }
 
 #[test]
 fn sixty_four_appeals_of_a_candidate(rt: HostRuntime) -> Result<(), Fail> {
-    let alloc = rt.alloc();
-    let office = Office::from_parts(alloc, appealing(alloc, 64)?, no_seats(alloc));
-    assert!(&rt; office.is_ok());
-    let office = Office::from_parts(alloc, appealing(alloc, 65)?, no_seats(alloc));
-    assert_eq!(&rt; office.err(), Some(Refusal::BadStore));
+    for (count, refusal) in [(64, None), (65, Some(Refusal::BadStore))] {
+        let facts = [Fact::School, Fact::GrantedHalls(count)];
+        assert_eq!(&rt; refusal_at_opening(rt.alloc(), &facts, &[])?, refusal);
+    }
     Ok(())
 }

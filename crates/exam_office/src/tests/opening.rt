@@ -1,26 +1,22 @@
 //! Facts and plans that are no good office.
-use super::offices::{
-    add_candidate, add_hall, add_paper, add_session, arrange, base_facts, enter, grant, hall,
-    no_seats, open, session, sit,
-};
-use crate::{Office, Seats, Table, first_bad_table};
-use exam_rules::{Facts, Subject};
+use super::lines::Line;
+use super::setups::{Fact, Grant, Sitting, bad_table, refusal_at_opening};
+use crate::{Kind, Table};
 use exam_types::Refusal;
-use std::alloc::Global;
 use std::process::Abort;
 use std::test::Fail;
 
 /// The table is the first bad one, and there is no such office.
 fn expect_bad<R: Abort + AllocGlobal>(
     rt: &R,
-    facts: Facts,
-    seats: Seats,
+    facts: &[Fact],
+    sittings: &[Sitting],
     table: Table,
 ) -> Result<(), Fail> {
     let alloc = rt.alloc();
-    assert_eq!(rt; first_bad_table(alloc, &facts, &seats)?, Some(table));
+    assert_eq!(rt; bad_table(alloc, facts, sittings)?, Some(table));
     assert_eq!(rt;
-        Office::from_parts(alloc, facts, seats).err(),
+        refusal_at_opening(alloc, facts, sittings)?,
         Some(Refusal::BadStore)
     );
     Ok(())
@@ -29,89 +25,87 @@ fn expect_bad<R: Abort + AllocGlobal>(
 /// Without the session or the candidates that rows refer to.
 #[test]
 fn rows_that_refer_to_what_is_not_there(rt: HostRuntime) -> Result<(), Fail> {
-    let alloc = rt.alloc();
-    let mut facts = base_facts(alloc)?;
-    add_paper(alloc, &mut facts, "PH-2", "S9")?;
-    expect_bad(&rt, facts, no_seats(alloc), Table::Papers)?;
-    let mut facts = base_facts(alloc)?;
-    open(&mut facts, "S1", "Z", 1)?;
-    expect_bad(&rt, facts, no_seats(alloc), Table::Openings)?;
-    let mut facts = base_facts(alloc)?;
-    enter(&mut facts, 9, "MA-1")?;
-    expect_bad(&rt, facts, no_seats(alloc), Table::Entries)?;
-    let mut facts = base_facts(alloc)?;
-    arrange(&mut facts, 9, "-", 10)?;
-    expect_bad(&rt, facts, no_seats(alloc), Table::Arrangements)?;
-    let mut facts = base_facts(alloc)?;
-    grant(alloc, &mut facts, 1, b"R1", Subject::Hall(hall("Z")?))?;
-    expect_bad(&rt, facts, no_seats(alloc), Table::Appeals)
+    let cases = [
+        (Fact::Row(Line::Paper("PH-2", "S9", "-")), Table::Papers),
+        (Fact::Row(Line::Opening("S1", "Z", 1)), Table::Openings),
+        (Fact::Row(Line::Entry(9, "MA-1")), Table::Entries),
+        (
+            Fact::Row(Line::Arrangement(9, "-", 10)),
+            Table::Arrangements,
+        ),
+        (
+            Fact::Granted(1, "R1", Grant::AnotherHallThan("Z")),
+            Table::Appeals,
+        ),
+    ];
+    for (fact, table) in cases {
+        expect_bad(&rt, &[Fact::School, fact], &[], table)?;
+    }
+    Ok(())
 }
 
 #[test]
 fn tables_with_too_many_rows(rt: HostRuntime) -> Result<(), Fail> {
-    let alloc = rt.alloc();
-    let mut facts = Facts::new(alloc);
-    for value in 0..401 {
-        add_session(&mut facts, &format!(in alloc; "S{value}")?)?;
+    let cases = [
+        (Fact::Rows(Kind::Sessions, 0, 401), Table::Sessions),
+        (Fact::Rows(Kind::Halls, 0, 501), Table::Halls),
+        (Fact::Rows(Kind::Candidates, 1, 20_002), Table::Candidates),
+    ];
+    for (fact, table) in cases {
+        expect_bad(&rt, &[fact], &[], table)?;
     }
-    expect_bad(&rt, facts, no_seats(alloc), Table::Sessions)?;
-    let mut facts = Facts::new(alloc);
-    for value in 0..501 {
-        add_hall(alloc, &mut facts, &format!(in alloc; "H{value}")?, "-")?;
-    }
-    expect_bad(&rt, facts, no_seats(alloc), Table::Halls)?;
-    let mut facts = Facts::new(alloc);
-    for value in 1..20_002 {
-        add_candidate(alloc, &mut facts, value)?;
-    }
-    expect_bad(&rt, facts, no_seats(alloc), Table::Candidates)
+    Ok(())
 }
 
 #[test]
 fn two_granted_arrangement_appeals_for_one_session(rt: HostRuntime) -> Result<(), Fail> {
-    let alloc = rt.alloc();
-    let mut facts = base_facts(alloc)?;
-    for reference in [b"R1", b"R2"] {
-        let needs = super::offices::arrangement("screen", 0)?;
-        grant(alloc, &mut facts, 1, reference, Subject::Arrangement(needs))?;
-    }
-    expect_bad(&rt, facts, no_seats(alloc), Table::Appeals)
+    let facts = [
+        Fact::School,
+        Fact::Granted(1, "R1", Grant::Needs("screen")),
+        Fact::Granted(1, "R2", Grant::Needs("screen")),
+    ];
+    expect_bad(&rt, &facts, &[], Table::Appeals)
 }
 
 /// A session in which the first candidate is entered, with two halls that fit.
-fn one_entered(alloc: Global) -> Result<Facts, Fail> {
-    let mut facts = base_facts(alloc)?;
-    enter(&mut facts, 1, "MA-1")?;
-    Ok(facts)
+const ENTERED: [Fact<'static>; 4] = [
+    Fact::School,
+    Fact::Row(Line::Opening("S1", "A", 1)),
+    Fact::Row(Line::Opening("S1", "B", 1)),
+    Fact::Row(Line::Entry(1, "MA-1")),
+];
+
+#[test]
+fn a_plan_that_leaves_the_member_out(rt: HostRuntime) -> Result<(), Fail> {
+    expect_bad(&rt, &ENTERED, &[], Table::Seats)
 }
 
 #[test]
-fn plans_that_are_not_best(rt: HostRuntime) -> Result<(), Fail> {
-    let alloc = rt.alloc();
-    // The member is left out.
-    expect_bad(&rt, one_entered(alloc)?, no_seats(alloc), Table::Seats)?;
-    // Somebody else sits there.
-    let mut seats = no_seats(alloc);
-    sit(&mut seats, "S1", 1, "A")?;
-    sit(&mut seats, "S1", 2, "B")?;
-    expect_bad(&rt, one_entered(alloc)?, seats, Table::Seats)?;
-    // The hall is not opened.
-    let mut facts = one_entered(alloc)?;
-    facts.openings.remove(&(session("S1")?, hall("B")?));
-    let mut seats = no_seats(alloc);
-    sit(&mut seats, "S1", 1, "B")?;
-    expect_bad(&rt, facts, seats, Table::Seats)
+fn a_plan_in_which_somebody_else_sits_too(rt: HostRuntime) -> Result<(), Fail> {
+    expect_bad(
+        &rt,
+        &ENTERED,
+        &[("S1", 1, "A"), ("S1", 2, "B")],
+        Table::Seats,
+    )
+}
+
+#[test]
+fn a_plan_in_a_hall_that_is_not_opened(rt: HostRuntime) -> Result<(), Fail> {
+    let facts = [
+        Fact::School,
+        Fact::Row(Line::Opening("S1", "A", 1)),
+        Fact::Row(Line::Entry(1, "MA-1")),
+    ];
+    expect_bad(&rt, &facts, &[("S1", 1, "B")], Table::Seats)
 }
 
 #[test]
 fn any_best_plan_is_accepted(rt: HostRuntime) -> Result<(), Fail> {
-    let alloc = rt.alloc();
     for code in ["A", "B"] {
-        let mut seats = no_seats(alloc);
-        sit(&mut seats, "S1", 1, code)?;
-        let facts = one_entered(alloc)?;
-        assert!(&rt; first_bad_table(alloc, &facts, &seats)?.is_none());
-        assert!(&rt; Office::from_parts(alloc, facts, seats).is_ok());
+        let sittings = [("S1", 1, code)];
+        assert_eq!(&rt; bad_table(rt.alloc(), &ENTERED, &sittings)?, None);
+        assert_eq!(&rt; refusal_at_opening(rt.alloc(), &ENTERED, &sittings)?, None);
     }
     Ok(())
 }

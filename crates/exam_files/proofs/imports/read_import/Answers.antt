@@ -1,9 +1,9 @@
 use Rattle.std.proofs.Common.{◌≡◌, ◌∙◌, ◌+◌, ◌⊎◌, ℕ, [], ◌∷◌, ◌++◌, length, false, sym, ap, arith, inl, inr, rules, length-append}
 use Rattle.std.specs.Prelude.{nat_lt, Ok, Err}
 use Rattle.exam_office.specs.Imports.{ImportRows}
-use Rattle.exam_office.specs.declared.row.Kind.{Kind}
+use Rattle.exam_office.specs.declared.import_row.Kind.{Kind}
 use Rattle.exam_types.specs.declared.refusal.Refusal.TheVariants.{NoMemory, RowConflict}
-use Rattle.exam_files.specs.Rows.{import_of, rows_from, rows_of}
+use Rattle.exam_files.specs.ImportFiles.{import_of, rows_from, rows_of}
 use Rattle.exam_files.proofs.Counts.{records_few}
 use Rattle.exam_files.proofs.Steps.{header-no, header-yes, passes_on, rows-bad, rows-conflict, rows-end, rows-more, small}
 use Rattle.exam_files.proofs.imports.read_import.Goals as goal

@@ -1,6 +1,6 @@
 use Rattle.std.proofs.Common.{◌≡◌, ◌+◌, ◌<◌, ℕ, List, Some, length}
 use Rattle.exam_files.specs.Left.{Leaves}
-use Rattle.exam_files.specs.Rows.{import_of, rows_from}
+use Rattle.exam_files.specs.ImportFiles.{import_of, rows_from}
 use Rattle.exam_files.proofs.imports.read_import.Given as goal
 
 -- the rows so far and the records left give the import, and there are turns enough for the records

@@ -1,7 +1,7 @@
 use Rattle.std.proofs.Common.{◌≡◌, ◌∙◌, ◌<◌, ◌-◌, ap, sym, arith, rules, Some, None, length}
 use Rattle.std.specs.List.{find}
 use Rattle.std.specs.BTreeMap.{get}
-use Rattle.exam_office.specs.contracts.import.KeyOrd.TheImpl as keys
+use Rattle.exam_office.specs.contracts.import_row.KeyOrd.TheImpl as keys
 use Rattle.exam_office.specs.Imports.{has_key, key_of}
 use Rattle.exam_office.proofs.ImportPlaces.{first-at, first-none}
 use Rattle.exam_office.proofs.import.Import.first_with_key.Goals as goal

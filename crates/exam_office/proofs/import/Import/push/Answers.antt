@@ -1,20 +1,21 @@
-use Rattle.std.proofs.Common.{◌≡◌, ◌∙◌, ap, rules, Some, None, true, false, length, inr, refl}
+use Rattle.std.proofs.Common.{◌≡◌, ◌∙◌, sym, ap, rules, Some, None, true, false, length, inr, refl}
 use Rattle.std.specs.List.{find}
+use Rattle.exam_office.specs.contracts.import_row.RowPartialEq.TheImpl as rows
 use Rattle.exam_office.specs.Imports.{has_key, key_of, same_row, conflicts, is_consistent}
 use Rattle.exam_office.proofs.ImportConflicts.{conflicts-none, conflicts-other, conflicts-same}
-use Rattle.exam_office.proofs.ImportRowsEqual.{row_exact}
+use Rattle.exam_office.proofs.ImportRowsEqual.{eq_same, row_exact}
 use Rattle.exam_office.proofs.import.Import.push.Goals as goal
 
 pub push_repeated-requires-clause-repeated : goal.push_repeated-requires-clause-repeated
 push_repeated-requires-clause-repeated c =
     let found : find (has_key (key_of c.args.row)) c.args.self.now.rows ≡ Some c.in-Some.first.now = search rules in
-    let same : same_row c.in-Some.first.now c.args.row ≡ true = search rules in
+    let same : same_row c.in-Some.first.now c.args.row ≡ true = let eq : rows.ghosts.eq c.in-Some.first.now c.args.row ≡ true = search rules in sym (eq_same c.in-Some.first.now c.args.row) ∙ eq in
     found ∙ ap Some (row_exact _ _ same)
 
 pub returns-in-Some-clause-agrees : goal.returns-in-Some-clause-agrees
 returns-in-Some-clause-agrees c =
     let found : find (has_key (key_of c.args.row)) c.args.self.now.rows ≡ Some c.in-Some.first.now = search rules in
-    let same : same_row c.in-Some.first.now c.args.row ≡ true = search rules in
+    let same : same_row c.in-Some.first.now c.args.row ≡ true = let eq : rows.ghosts.eq c.in-Some.first.now c.args.row ≡ true = search rules in sym (eq_same c.in-Some.first.now c.args.row) ∙ eq in
     let good : is_consistent c.args.self.now.rows ≡ true = search rules in
     let none : conflicts c.args.row c.args.self.now.rows ≡ false = conflicts-same c.args.row c.in-Some.first.now c.args.self.now.rows good found same in
     search (rules, none)
@@ -22,7 +23,7 @@ returns-in-Some-clause-agrees c =
 pub returns-in-Some-2-clause-refused : goal.returns-in-Some-2-clause-refused
 returns-in-Some-2-clause-refused c =
     let found : find (has_key (key_of c.args.row)) c.args.self.now.rows ≡ Some c.in-Some.first.now = search rules in
-    let other : same_row c.in-Some.first.now c.args.row ≡ false = search rules in
+    let other : same_row c.in-Some.first.now c.args.row ≡ false = let eq : rows.ghosts.eq c.in-Some.first.now c.args.row ≡ false = search rules in sym (eq_same c.in-Some.first.now c.args.row) ∙ eq in
     let some : conflicts c.args.row c.args.self.now.rows ≡ true = conflicts-other c.args.row c.in-Some.first.now c.args.self.now.rows found other in
     let place : c.len.result ≡ length c.args.self.now.rows = search rules in
     inr (rw place refl, some)

@@ -1,11 +1,12 @@
-use Rattle.std.proofs.Common.{◌≡◌, ◌∙◌, ◌++◌, ◌∷◌, [], rules, refl, Some, None, cond, length, false, ◌≤◌, ◌<◌, arith, ◌+◌}
+use Rattle.std.proofs.Common.{◌≡◌, ◌∙◌, ◌++◌, ◌∷◌, [], ap, rules, refl, Some, None, cond, length, false, ◌≤◌, ◌<◌, arith, ◌+◌}
 use Rattle.std.specs.List.{find}
 use Rattle.std.proofs.lemmas.List.{length-append}
 use Rattle.std.specs.BTreeMap.{get}
-use Rattle.exam_office.specs.contracts.import.KeyOrd.TheImpl as keys
-use Rattle.exam_office.specs.declared.import.Key.{Key}
+use Rattle.exam_office.specs.contracts.import_row.KeyOrd.TheImpl as keys
+use Rattle.exam_office.specs.declared.import_row.Key.{Key}
 use Rattle.exam_office.specs.Imports.{conflicts, has_key, key_of, kind_of}
 use Rattle.exam_office.proofs.ImportConflicts.{conflicts-none, consistent-more, kind-more, places-new}
+use Rattle.exam_office.proofs.ImportKeys.{cmp_same}
 use Rattle.exam_office.proofs.import.Import.push_new.Goals as goal
 
 pub invariant_of-self-2 : goal.invariant_of-self-2
@@ -14,10 +15,10 @@ invariant_of-self-2 c =
     let found : find (has_key (key_of c.args.row)) c.self.inside.rows.items ≡ None = search rules in
     let kind : kind_of c.args.row ≡ c.self.inside.kind = search rules in
     let none : conflicts c.args.row c.self.inside.rows.items ≡ false = conflicts-none c.args.row c.self.inside.rows.items found in
-    let key : c.key_of.result ≡ key_of c.args.row = c.key_of.ensures in
+    let key : c.key.result ≡ key_of c.args.row = c.key.ensures in
     let len : c.len.result ≡ length c.self.inside.rows.items = search rules in
     let places : (k : Key) → get keys.ghosts.cmp c.insert.new.self k ≡ cond (has_key k c.args.row) (Some (length c.self.inside.rows.items)) (get keys.ghosts.cmp c.self.inside.places k) =
-    λ k. c.in_ok-insert.ensures.updates.0 k ∙ rw (key, len) refl in
+    λ k. c.in_ok-insert.ensures.updates.0 k ∙ rw (key, len) (ap (λ b. cond b (Some (length c.self.inside.rows.items)) (get keys.ghosts.cmp c.self.inside.places k)) (cmp_same (key_of c.args.row) k)) in
     let room : length c.self.inside.rows.items < 4194304 = search rules in
     let one : length (c.self.inside.rows.items ++ c.args.row ∷ []) ≡ length c.self.inside.rows.items + 1 = length-append c.self.inside.rows.items (c.args.row ∷ []) in
     let long : length (c.self.inside.rows.items ++ c.args.row ∷ []) ≤ 4194304 = omega arith in

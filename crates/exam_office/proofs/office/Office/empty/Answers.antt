@@ -1,15 +1,14 @@
 use Rattle.std.proofs.Common.{refl, None, [], sym, subst}
-use Rattle.std.specs.Ordering.{eq_by_cmp}
 use Rattle.exam_rules.specs.Relations.{Relations, no_relations}
 use Rattle.exam_office.specs.Good.{IsGood}
-use Rattle.exam_office.specs.Singles.{single_cmp}
+use Rattle.exam_office.specs.Singles.{same_single_key}
 use Rattle.exam_office.specs.State.{Seats, empty_state}
 use Rattle.exam_office.proofs.Distinct.{distinct_none}
 use Rattle.exam_office.proofs.AllSessions.{unknown_repaired}
 use Rattle.exam_office.proofs.office.Office.empty.Goals as goal
 
 good : IsGood empty_state
-good = record { refer = refl; limits = refl; single = distinct_none (eq_by_cmp single_cmp); best = λ s. (unknown_repaired no_relations None [] [] s refl (λ c. refl)).best }
+good = record { refer = refl; limits = refl; single = distinct_none same_single_key; best = λ s. (unknown_repaired no_relations None [] [] s refl (λ c. refl)).best }
 
 pub invariant_of-result : goal.invariant_of-result
 invariant_of-result c =

@@ -3,7 +3,7 @@ use Rattle.exam_rules.specs.Relations.{relations_of}
 use Rattle.exam_office.specs.Views.{member_of}
 use Rattle.exam_office.proofs.SameSeats.{few_members}
 use Rattle.exam_office.proofs.Showing.{places_listed, is_view, is_view_of}
-use Rattle.exam_office.proofs.viewing.view_of.Goals as goal
+use Rattle.exam_office.proofs.view_source.view_of.Goals as goal
 
 pub returns-clause-ok : goal.returns-clause-ok
 returns-clause-ok c =

@@ -1,7 +1,7 @@
 use Rattle.std.proofs.Common.{◌≡◌, drop}
 use Rattle.exam_rules.specs.Relations.{relations_of}
 use Rattle.exam_office.specs.Changes.{rows_refusal}
-use Rattle.exam_office.proofs.importing.check_rows.Given as goal
+use Rattle.exam_office.proofs.changes.check_rows.Given as goal
 
 -- the rows that are left decide as all do
 abbrev pub invariant-loop-row : goal.invariant-loop-row

@@ -4,30 +4,35 @@ ghost use Rattle.std.specs.Option.{option_map, option_map_or};
 ghost use Rattle.std.specs.Result.{result_err};
 ghost use Rattle.exam_rules.specs.Relations.{opening_cmp, relations_of, row_at};
 ghost use Rattle.exam_types.specs.declared.refusal.Refusal.TheVariants.{NoMemory};
-ghost use Rattle.exam_office.specs.declared.row.Row.TheVariants as variant;
+ghost use Rattle.exam_office.specs.declared.import_row.Row.TheVariants as variant;
 ghost use Rattle.exam_office.specs.Changes as changes;
 ghost use Rattle.exam_office.specs.Replies as replies;
+ghost use Rattle.exam_office.specs.SameRows.{same_opening};
 
 use crate::command::Reply;
 use crate::copies::{copied_facts, put};
+use crate::import::Import;
+use crate::import_row::Row;
 use crate::references;
-use crate::row::{Row, RowKey};
 use exam_rules::{Entry, Facts, Opening};
 use exam_types::{HallCode, Number, PaperCode, Refusal, SessionCode};
 use std::alloc::Global;
-use std::collections::BTreeSet;
 
-/// The facts with these rows, and what the import answers.
-pub fn imported(alloc: Global, facts: &Facts, rows: &[Row]) -> Result<(Facts, Reply), Refusal>
-    requires { length rows.now < 2 ^ 32 }
-    ensures ok { IfOk result (λ answer. relations_of answer.0 ≡ changes.with_rows (relations_of facts.now) rows.now) }
-    ensures reply { IfOk result (λ answer. answer.1 ≡ replies.import_reply (relations_of facts.now) rows.now) }
-    ensures checked { OnOk result (changes.rows_refusal (relations_of facts.now) rows.now ≡ None) }
-    ensures refusal { IfErr result (λ e. (e ≡ NoMemory) ⊎ (changes.rows_refusal (relations_of facts.now) rows.now ≡ Some e)) }
+/// The facts with the rows of an import, and what the import answers.
+pub fn imported(facts: &Facts, import: &Import) -> Result<(Facts, Reply), Refusal>
+    ensures ok { IfOk result (λ answer. relations_of answer.0
+        ≡ changes.with_rows (relations_of facts.now) import.now.rows) }
+    ensures reply { IfOk result (λ answer. answer.1
+        ≡ replies.import_reply (relations_of facts.now) import.now.rows) }
+    ensures checked { OnOk result (changes.rows_refusal (relations_of facts.now) import.now.rows ≡ None) }
+    ensures refusal { IfErr result (λ e. (e ≡ NoMemory)
+        ⊎ (changes.rows_refusal (relations_of facts.now) import.now.rows ≡ Some e)) }
 {
-    check_rows(facts, rows)?;
-    let reply = count_rows(alloc, facts, rows)?;
-    Ok((with_rows(facts, rows)?, reply))
+    check_rows(facts, import.rows())?;
+    Ok((
+        with_rows(facts, import.rows())?,
+        count_rows(facts, import),
+    ))
 }
 
 /// Refuses the first row, in the order of the file, that refers to what is not there.
@@ -42,7 +47,8 @@ fn check_rows(facts: &Facts, rows: &[Row]) -> Result<(), Refusal>
 
 /// Checks the references of a row in the order of its columns.
 fn check_row(facts: &Facts, row: &Row) -> Result<(), Refusal>
-    ensures { result_err result ≡ changes.first_refusal (changes.row_checks (relations_of facts.now) row.now) }
+    ensures { result_err result
+        ≡ changes.first_refusal (changes.row_checks (relations_of facts.now) row.now) }
 {
     match row {
         Row::OfSession(_, _) | Row::OfHall(_, _) | Row::OfCandidate(_, _) => Ok(()),
@@ -61,7 +67,8 @@ fn check_row(facts: &Facts, row: &Row) -> Result<(), Refusal>
 
 /// The facts with each row in turn.
 fn with_rows(facts: &Facts, rows: &[Row]) -> Result<Facts, Refusal>
-    ensures ok { IfOk result (λ changed. relations_of changed ≡ changes.with_rows (relations_of facts.now) rows.now) }
+    ensures ok { IfOk result (λ changed. relations_of changed
+        ≡ changes.with_rows (relations_of facts.now) rows.now) }
     ensures memory { IfErr result (λ e. e ≡ NoMemory) }
 {
     let mut changed = copied_facts(facts)?;
@@ -71,7 +78,8 @@ fn with_rows(facts: &Facts, rows: &[Row]) -> Result<Facts, Refusal>
     Ok(changed)
 }
 
-/// Adds a row with a new key, and sets a present key to the row. An entry that is there is left alone, and a new one is live.
+/// Adds a row with a new key, and sets a present key to the row. An entry that is there is left alone, and a
+/// new one is live.
 pub(crate) fn put_row(facts: &mut Facts, row: &Row) -> Result<(), Refusal>
     ensures ok { OnOk result (relations_of facts.new ≡ changes.with_row (relations_of facts.old) row.now) }
     ensures memory { IfErr result (λ e. e ≡ NoMemory) }
@@ -101,7 +109,8 @@ pub(crate) fn put_row(facts: &mut Facts, row: &Row) -> Result<(), Refusal>
 }
 
 fn put_entry(facts: &mut Facts, number: Number, paper: PaperCode) -> Result<(), Refusal>
-    ensures ok { OnOk result (relations_of facts.new ≡ changes.with_row (relations_of facts.old) (variant.OfEntry number paper)) }
+    ensures ok { OnOk result (relations_of facts.new
+        ≡ changes.with_row (relations_of facts.old) (variant.OfEntry number paper)) }
     ensures memory { IfErr result (λ e. e ≡ NoMemory) }
 {
     if facts.entries.contains_key(&(number, paper)) {
@@ -111,28 +120,24 @@ fn put_entry(facts: &mut Facts, number: Number, paper: PaperCode) -> Result<(), 
 }
 
 /// How the distinct rows stand to the facts.
-fn count_rows(alloc: Global, facts: &Facts, rows: &[Row]) -> Result<Reply, Refusal>
-    requires { length rows.now < 2 ^ 32 }
-    ensures ok { IfOk result (λ reply. reply ≡ replies.import_reply (relations_of facts.now) rows.now) }
-    ensures memory { IfErr result (λ e. e ≡ NoMemory) }
+fn count_rows(facts: &Facts, import: &Import) -> Reply
+    ensures { result ≡ replies.import_reply (relations_of facts.now) import.now.rows }
 {
-    let mut seen: BTreeSet<RowKey> = BTreeSet::new(alloc);
     let mut counts = Counts {
         added: 0,
         changed: 0,
         same: 0,
     };
-    for row in rows {
-        if !seen.insert(row.key())? {
-            continue;
+    for (place, row) in import.rows().iter().enumerate() {
+        if import.is_first(place, row) {
+            counts = counted(counts, is_stored(facts, row));
         }
-        counts = counted(counts, is_stored(facts, row));
     }
-    Ok(Reply::Imported {
+    Reply::Imported {
         added: counts.added,
         changed: counts.changed,
         same: counts.same,
-    })
+    }
 }
 
 /// How many distinct keys were new, had another row, and had the same row.
@@ -166,7 +171,8 @@ fn counted(counts: Counts, stored: Option<bool>) -> Counts
     }
 }
 
-/// Whether the stored row is the same, if there is one. An entry that is there is the same, live or withdrawn.
+/// Whether the stored row is the same, if there is one. An entry that is there is the same, live or
+/// withdrawn.
 fn is_stored(facts: &Facts, row: &Row) -> Option<bool>
     ensures { result ≡ replies.is_stored (relations_of facts.now) row.now }
 {
@@ -195,7 +201,8 @@ fn is_opening_stored(
     hall: &HallCode,
     opening: &Opening,
 ) -> Option<bool>
-    ensures { result ≡ option_map (replies.same_opening opening.now) (row_at opening_cmp facts.now.openings.entries (session.now, hall.now)) }
+    ensures { result ≡ option_map (same_opening opening.now)
+        (row_at opening_cmp facts.now.openings.entries (session.now, hall.now)) }
 {
     let stored = facts.openings.get(&(*session, *hall))?;
     Some(*opening == *stored)

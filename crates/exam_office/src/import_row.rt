@@ -1,6 +1,6 @@
 //! The rows of imports.
 ghost use Rattle.std.specs.Prelude.{◌≡◌};
-ghost use Rattle.exam_office.specs.Replies.{row_key};
+ghost use Rattle.exam_office.specs.Imports.{key_of};
 
 use exam_rules::{Arrangement, Candidate, Hall, Opening, Paper, Session};
 use exam_types::{HallCode, Number, PaperCode, SessionCode};
@@ -31,7 +31,7 @@ pub enum Row {
 
 /// The key of a row among the rows of its kind.
 #[derive(Clone, Copy, PartialEq, Eq, PartialOrd, Ord)]
-pub enum RowKey {
+pub enum Key {
     OfSession(SessionCode),
     OfPaper(PaperCode),
     OfHall(HallCode),
@@ -43,17 +43,17 @@ pub enum RowKey {
 
 impl Row {
     /// The key of the row.
-    pub fn key(&self) -> RowKey
-        ensures { result ≡ row_key self.now }
+    pub fn key(&self) -> Key
+        ensures { result ≡ key_of self.now }
     {
         match self {
-            Row::OfSession(code, _) => RowKey::OfSession(*code),
-            Row::OfPaper(code, _) => RowKey::OfPaper(*code),
-            Row::OfHall(code, _) => RowKey::OfHall(*code),
-            Row::OfOpening(session, hall, _) => RowKey::OfOpening(*session, *hall),
-            Row::OfCandidate(number, _) => RowKey::OfCandidate(*number),
-            Row::OfEntry(number, paper) => RowKey::OfEntry(*number, *paper),
-            Row::OfArrangement(number, _) => RowKey::OfArrangement(*number),
+            Row::OfSession(code, _) => Key::OfSession(*code),
+            Row::OfPaper(code, _) => Key::OfPaper(*code),
+            Row::OfHall(code, _) => Key::OfHall(*code),
+            Row::OfOpening(session, hall, _) => Key::OfOpening(*session, *hall),
+            Row::OfCandidate(number, _) => Key::OfCandidate(*number),
+            Row::OfEntry(number, paper) => Key::OfEntry(*number, *paper),
+            Row::OfArrangement(number, _) => Key::OfArrangement(*number),
         }
     }
 }

@@ -2,10 +2,10 @@
 ghost use Rattle.std.specs.Prelude.{◌≡◌, IfOk};
 ghost use Rattle.csv.specs.Records.{fields_of};
 ghost use Rattle.exam_office.specs.Imports.{kind_of};
-ghost use Rattle.exam_office.specs.declared.row.Kind.TheVariants.{Sessions, Papers, Halls, Openings, Candidates, Entries, Arrangements};
-ghost use Rattle.exam_files.specs.Rows as spec;
+ghost use Rattle.exam_office.specs.declared.import_row.Kind.TheVariants.{Sessions, Papers, Halls, Openings, Candidates, Entries, Arrangements};
+ghost use Rattle.exam_files.specs.ImportFiles as spec;
 
-use crate::headers::column_count;
+use crate::headers::header;
 use crate::records::field;
 use crate::values::{
     desks_in, extra_in, features_in, flag_in, minutes_in, number_in, session_day_in, start_in,
@@ -17,9 +17,9 @@ use exam_rules::{Arrangement, Candidate, Hall, Opening, Paper, Session};
 use exam_types::{AccessCode, HallCode, Name, PaperCode, Refusal, SessionCode};
 use std::alloc::Global;
 
-/// The row that a record denotes. Refused as a bad row where the count of fields is wrong, with column 0, or with the
-/// first column from the left that is no text of its value.
-#[tactic(auto, unfolding(crate::specs::Rows::row_of))]
+/// The row that a record denotes. Refused as a bad row where the count of fields is wrong, with column 0, or
+/// with the first column from the left that is no text of its value.
+#[tactic(auto, unfolding(crate::specs::ImportFiles::row_of))]
 pub fn row_of_record(
     alloc: Global,
     kind: Kind,
@@ -29,7 +29,7 @@ pub fn row_of_record(
     ensures row { spec.GivesUnlessMemory result (spec.row_of kind place (fields_of fields.now)) }
     ensures kind { IfOk result (λ row. kind_of row ≡ kind) }
 {
-    if fields.len() != column_count(kind) {
+    if fields.len() != header(kind).len() {
         return Err(Refusal::BadRow {
             record: place,
             column: 0,

@@ -3,10 +3,11 @@ use Rattle.std.specs.Prelude.{◌≡◌, ◌+◌, ◌⊎◌, ℕ, List, [], ◌�
 use Rattle.csv.specs.Reading.{default_config, records, strip_bom}
 use Rattle.csv.specs.Records.{field_at}
 use Rattle.exam_office.specs.Imports.{ImportRows, conflicts}
-use Rattle.exam_office.specs.declared.row.Kind.{Kind}
-use Rattle.exam_office.specs.declared.row.Kind.TheVariants.{Sessions, Papers, Halls, Openings, Candidates, Entries, Arrangements}
-use Rattle.exam_office.specs.declared.row.Row.{Row}
-use Rattle.exam_office.specs.declared.row.Row.TheVariants.{OfSession, OfPaper, OfHall, OfOpening, OfCandidate, OfEntry, OfArrangement}
+use Rattle.exam_rules.specs.declared.rows.Paper.{Paper}
+use Rattle.exam_office.specs.declared.import_row.Kind.{Kind}
+use Rattle.exam_office.specs.declared.import_row.Kind.TheVariants.{Sessions, Papers, Halls, Openings, Candidates, Entries, Arrangements}
+use Rattle.exam_office.specs.declared.import_row.Row.{Row}
+use Rattle.exam_office.specs.declared.import_row.Row.TheVariants.{OfSession, OfPaper, OfHall, OfOpening, OfCandidate, OfEntry, OfArrangement}
 use Rattle.exam_types.specs.Codes.{is_access_code, is_hall_code, is_paper_code, is_session_code}
 use Rattle.exam_types.specs.Texts.{is_name}
 use Rattle.exam_types.specs.declared.refusal.Refusal.{Refusal}
@@ -62,7 +63,8 @@ paper_row place fields =
     and_then (value_at place 3 (text_in is_session_code (field 2 fields))) (λ session.
     and_then (value_at place 4 (minutes_in (field 3 fields))) (λ minutes.
     and_then (value_at place 5 (features_in (field 4 fields))) (λ required.
-    Ok (OfPaper code (record { title = title; session = session; minutes = minutes; required = required })))))))
+    let paper : Paper = record { title = title; session = session; minutes = minutes; required = required } in
+    Ok (OfPaper code paper))))))
 
 abbrev pub hall_row : ℕ → List (List ℕ) → Result Row Refusal
 hall_row place fields =
@@ -111,13 +113,15 @@ row_of_kind Arrangements = arrangement_row
 
 -- the row that a record denotes: first the count of its fields, then its columns from the left
 unfoldable pub row_of : Kind → ℕ → List (List ℕ) → Result Row Refusal
-row_of kind place fields = if length fields == length (header_of kind) then row_of_kind kind place fields else Err (BadRow place 0)
+row_of kind place fields =
+    if length fields == length (header_of kind) then row_of_kind kind place fields else Err (BadRow place 0)
 
 -- the rows so far, and those of the records that are left, which count on from a place
 unfoldable pub rows_from : Kind → ℕ → List Row → List (List (List ℕ)) → Result ImportRows Refusal
 rows_from kind place rows [] = Ok (record { kind = kind; rows = rows })
 rows_from kind place rows (fields ∷ rest) = and_then (row_of kind place fields) (λ row.
-    if conflicts row rows then Err (RowConflict place) else rows_from kind (place + 1) (rows ++ row ∷ []) rest)
+    if conflicts row rows then Err (RowConflict place)
+    else rows_from kind (place + 1) (rows ++ row ∷ []) rest)
 
 abbrev pub rows_of : Kind → List (List (List ℕ)) → Result ImportRows Refusal
 rows_of kind [] = Err BadHeader
@@ -125,4 +129,6 @@ rows_of kind (header ∷ rest) = if is_header kind header then rows_from kind 1 
 
 -- the import that a file denotes, or its refusal
 abbrev pub import_of : Kind → List ℕ → Result ImportRows Refusal
-import_of kind bytes = if nat_lt 4194304 (length bytes) then Err TooMany else rows_of kind (records default_config (strip_bom bytes))
+import_of kind bytes =
+    if nat_lt 4194304 (length bytes) then Err TooMany
+    else rows_of kind (records default_config (strip_bom bytes))

@@ -1,7 +1,7 @@
 use Rattle.std.proofs.Common.{ap, sym, ◌∙◌, is_some}
 use Rattle.exam_rules.specs.Relations.{relations_of}
 use Rattle.exam_office.proofs.Members.{copied_some, member_known, member_sits, member_ends}
-use Rattle.exam_office.proofs.viewing.member_of.Goals as goal
+use Rattle.exam_office.proofs.view_source.member_of.Goals as goal
 
 pub unwrap-candidate-requires : goal.unwrap-candidate-requires
 unwrap-candidate-requires c = copied_some c.get.result (ap is_some c.get.ensures.value ∙ member_known (relations_of c.args.facts.now) c.args.session.now c.args.number c.requires.member)

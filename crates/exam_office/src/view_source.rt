@@ -29,7 +29,8 @@ pub fn view_of(
 ) -> Result<SessionView, Refusal>
     requires good { IsGood (record { relations = relations_of facts.now; seats = seats.now.entries }) }
     requires known { row_at code_cmp facts.now.sessions.entries session.now ≡ Some row.now }
-    ensures ok { IfOk result (views.IsViewOf (record { relations = relations_of facts.now; seats = seats.now.entries }) session.now) }
+    ensures ok { IfOk result (views.IsViewOf
+        (record { relations = relations_of facts.now; seats = seats.now.entries }) session.now) }
     ensures memory { IfErr result (λ e. e ≡ NoMemory) }
 {
     let listed = listed(alloc, facts, session)?;
@@ -50,9 +51,12 @@ pub fn view_of(
 fn listed(alloc: Global, facts: &Facts, session: &SessionCode) -> Result<ListedProblem, Refusal>
     requires known { IsTrue (has_row code_cmp facts.now.sessions.entries session.now) }
     requires limits { IsTrue (within_limits (relations_of facts.now)) }
-    ensures numbers { IfOk result (λ listed. listed.numbers.items ≡ sessions.members (relations_of facts.now) session.now) }
-    ensures halls { IfOk result (λ listed. listed.halls.items ≡ seatings.open_halls (relations_of facts.now) session.now) }
-    ensures ok { IfOk result (λ listed. listed.problem ≡ seatings.problem_of (relations_of facts.now) session.now) }
+    ensures numbers { IfOk result (λ listed. listed.numbers.items
+        ≡ sessions.members (relations_of facts.now) session.now) }
+    ensures halls { IfOk result (λ listed. listed.halls.items
+        ≡ seatings.open_halls (relations_of facts.now) session.now) }
+    ensures ok { IfOk result (λ listed. listed.problem
+        ≡ seatings.problem_of (relations_of facts.now) session.now) }
     ensures lists { OnOk result (ListsRise (relations_of facts.now) session.now) }
     ensures memory { IfErr result (λ e. e ≡ NoMemory) }
 {
@@ -87,7 +91,8 @@ fn openings_of(
     facts: &Facts,
     session: &SessionCode,
 ) -> Result<Vec<(HallCode, Opening)>, Refusal>
-    ensures ok { IfOk result (λ openings. openings.items ≡ views.openings_of (relations_of facts.now) session.now) }
+    ensures ok { IfOk result (λ openings. openings.items
+        ≡ views.openings_of (relations_of facts.now) session.now) }
     ensures memory { IfErr result (λ e. e ≡ NoMemory) }
 {
     let openings = facts
@@ -108,7 +113,8 @@ fn members_of(
 ) -> Result<Vec<Member>, Refusal>
     requires known { IsTrue (has_row code_cmp facts.now.sessions.entries session.now) }
     requires members { numbers.now ≡ sessions.members (relations_of facts.now) session.now }
-    ensures ok { IfOk result (λ members. map (λ member. Some member) members.items ≡ map (views.member_of (relations_of facts.now) session.now) numbers.now) }
+    ensures ok { IfOk result (λ members. map (λ member. Some member) members.items
+        ≡ map (views.member_of (relations_of facts.now) session.now) numbers.now) }
     ensures memory { IfErr result (λ e. e ≡ NoMemory) }
 {
     let mut members = Vec::with_capacity(alloc, numbers.len())?;
@@ -121,7 +127,8 @@ fn members_of(
 fn member_of(facts: &Facts, session: &SessionCode, number: Number) -> Result<Member, Refusal>
     requires known { IsTrue (has_row code_cmp facts.now.sessions.entries session.now) }
     requires member { Contains (sessions.members (relations_of facts.now) session.now) number }
-    ensures ok { IfOk result (λ member. views.member_of (relations_of facts.now) session.now number ≡ Some member) }
+    ensures ok { IfOk result (λ member. views.member_of (relations_of facts.now) session.now number
+        ≡ Some member) }
     ensures memory { IfErr result (λ e. e ≡ NoMemory) }
 {
     let candidate = facts.candidates.get(&number).unwrap();

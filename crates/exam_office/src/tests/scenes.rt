@@ -1,0 +1,144 @@
+//! What happens to an office, in words.
+use super::lines::{Line, import_of, number, paper, session};
+use super::setups::{Fact, Sitting, office_of};
+use crate::{Command, Kind, Office, Reply, run, step};
+use exam_types::{Day, HallCode, Refusal};
+use std::alloc::Global;
+use std::process::Abort;
+use std::test::Fail;
+
+/// An import or a look at the office.
+#[derive(Clone, Copy)]
+pub enum Scene<'a> {
+    /// An import of a kind, and how many keys it adds, changes and finds the same.
+    Import(Kind, &'a [Line<'a>], [u32; 3]),
+    /// An import that is refused.
+    Refused(Kind, &'a [Line<'a>], Refusal),
+    /// In which halls candidates sit in a session; `-` is nowhere.
+    Seats(&'a str, &'a [(u32, &'a str)]),
+    /// A candidate's entry for a paper is withdrawn.
+    IsWithdrawn(u32, &'a str),
+    /// How many entries there are, live or withdrawn.
+    EntryCount(usize),
+    /// How many sit, over all sessions.
+    SeatCount(usize),
+}
+
+/// What an accepted import answers: how many keys it adds, changes and finds the same.
+pub fn counts(added: u32, changed: u32, same: u32) -> Result<Reply, Refusal> {
+    Ok(Reply::Imported {
+        added,
+        changed,
+        same,
+    })
+}
+
+fn today() -> Result<Day, Fail> {
+    Ok(Day::parse(b"2027-05-01").ok_or("day")?)
+}
+
+/// What the import of these lines answers.
+fn answer_of(
+    alloc: Global,
+    office: &mut Office,
+    kind: Kind,
+    lines: &[Line],
+) -> Result<Result<Reply, Refusal>, Fail> {
+    let today = today()?;
+    let command = Command::Import(import_of(alloc, kind, lines)?);
+    Ok(step(alloc, office, &command, today))
+}
+
+/// Where a candidate sits, if they do.
+fn place_of(office: &Office, of: &str, value: u32) -> Result<Option<HallCode>, Fail> {
+    let key = (session(of)?, number(value)?);
+    Ok(office.seats().get(&key).copied())
+}
+
+/// Compares where candidates sit in a session.
+fn expect_places<R: Abort + AllocGlobal>(
+    rt: &R,
+    office: &Office,
+    of: &str,
+    places: &[(u32, &str)],
+) -> Result<(), Fail> {
+    for (value, code) in places {
+        let wanted = HallCode::parse(code.as_bytes());
+        assert!(rt; place_of(office, of, *value)? == wanted, "{value}");
+    }
+    Ok(())
+}
+
+/// Whether there is such an entry, and it is withdrawn.
+fn is_withdrawn(office: &Office, value: u32, code: &str) -> Result<bool, Fail> {
+    let key = (number(value)?, paper(code)?);
+    let entry = office.facts().entries.get(&key);
+    Ok(entry.map_or(false, |entry| !entry.live))
+}
+
+fn expect_answer<R: Abort + AllocGlobal>(
+    rt: &R,
+    office: &mut Office,
+    kind: Kind,
+    lines: &[Line],
+    wanted: Result<Reply, Refusal>,
+) -> Result<(), Fail> {
+    assert_eq!(rt; answer_of(rt.alloc(), office, kind, lines)?, wanted);
+    Ok(())
+}
+
+fn take<R: Abort + AllocGlobal>(rt: &R, office: &mut Office, scene: &Scene) -> Result<(), Fail> {
+    match scene {
+        Scene::Import(kind, lines, [added, changed, same]) => {
+            expect_answer(rt, office, *kind, lines, counts(*added, *changed, *same))
+        }
+        Scene::Refused(kind, lines, refusal) => {
+            expect_answer(rt, office, *kind, lines, Err(*refusal))
+        }
+        Scene::Seats(of, places) => expect_places(rt, office, of, places),
+        Scene::IsWithdrawn(value, code) => {
+            assert!(rt; is_withdrawn(office, *value, code)?);
+            Ok(())
+        }
+        Scene::EntryCount(count) => {
+            assert_eq!(rt; office.facts().entries.len(), *count);
+            Ok(())
+        }
+        Scene::SeatCount(count) => {
+            assert_eq!(rt; office.seats().len(), *count);
+            Ok(())
+        }
+    }
+}
+
+/// Takes the scenes in order, from an office of these facts and plans.
+pub fn play<R: Abort + AllocGlobal>(
+    rt: &R,
+    facts: &[Fact],
+    sittings: &[Sitting],
+    scenes: &[Scene],
+) -> Result<(), Fail> {
+    let mut office = office_of(rt.alloc(), facts, sittings)?;
+    for scene in scenes {
+        take(rt, &mut office, scene)?;
+    }
+    Ok(())
+}
+
+/// What imports of entries answer, run as one list of commands.
+pub fn answers_of(
+    alloc: Global,
+    facts: &[Fact],
+    imports: &[&[Line]],
+) -> Result<Vec<Result<Reply, Refusal>>, Fail> {
+    let today = today()?;
+    let mut commands = Vec::new(alloc);
+    for lines in imports {
+        commands.push((
+            Command::Import(import_of(alloc, Kind::Entries, lines)?),
+            today,
+        ))?;
+    }
+    let mut office = office_of(alloc, facts, &[])?;
+    Ok(run(alloc, &mut office, &commands)?)
+}
