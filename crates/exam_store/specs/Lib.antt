@@ -1,3 +1,4 @@
+pub mod Differences
 pub mod Faults
 pub mod Held
 pub mod Inside
