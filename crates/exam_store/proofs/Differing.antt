@@ -18,14 +18,14 @@ pub filter_alike : {X : Type 0} (p q : X → Bool) (xs : List X) → AllByRecurs
 filter_alike p q [] h = refl
 filter_alike p q (x ∷ xs) h = ap₂ (λ b l. cond b (x ∷ l) l) h.0 (filter_alike p q xs h.1)
 
+-- a key before all others of a table is none of them
+pub absent_key : {K X : Type 0} (cmp : K → K → Ordering) (k : K) (rows : List (K × X)) → AllByRecursion (λ y. cmp k y ≡ Less) (keys_of rows) → has_key cmp rows k ≡ false
+absent_key cmp k [] below = refl
+absent_key cmp k (r ∷ rows) below = ap₂ (λ o b. is_eq o || b) below.0 (absent_key cmp k rows below.1)
+
 module _ {K X : Type 0} {cmp : K → K → Ordering} (total : IsTotalOrder cmp) (same : X → X → Bool) where
   pub flipped : (j k : K) → cmp j k ≡ Less → cmp k j ≡ Greater
   flipped j k less = total.antisymm k j ∙ ap ordering_reverse less
-
-  -- a key before all others of a table is none of them
-  pub absent_key : (k : K) (rows : List (K × X)) → AllByRecursion (λ y. cmp k y ≡ Less) (keys_of rows) → has_key cmp rows k ≡ false
-  absent_key k [] below = refl
-  absent_key k (r ∷ rows) below = ap₂ (λ o b. is_eq o || b) below.0 (absent_key k rows below.1)
 
   pub absent_entry : (n : K × X) (rows : List (K × X)) → AllByRecursion (λ y. cmp n.0 y ≡ Less) (keys_of rows) → has_entry cmp same rows n ≡ false
   absent_entry n [] below = refl
@@ -78,7 +78,7 @@ module _ {K X : Type 0} {cmp : K → K → Ordering} (total : IsTotalOrder cmp) 
   first_below e more rises = rises.0
 
   pub deleted : (e : K × X) (more new : List (K × X)) → AllByRecursion (λ y. cmp e.0 y ≡ Less) (keys_of new) → to_delete cmp (e ∷ more) new ≡ e.0 ∷ to_delete cmp more new
-  deleted e more new below = ap (λ b. cond (not b) (e.0 ∷ to_delete cmp more new) (to_delete cmp more new)) (absent_key e.0 new below)
+  deleted e more new below = ap (λ b. cond (not b) (e.0 ∷ to_delete cmp more new) (to_delete cmp more new)) (absent_key cmp e.0 new below)
 
   pub added : (n : K × X) (more old : List (K × X)) → AllByRecursion (λ y. cmp n.0 y ≡ Less) (keys_of old) → to_put cmp same old (n ∷ more) ≡ n ∷ to_put cmp same old more
   added n more old below = ap (λ b. cond (not b) (n ∷ to_put cmp same old more) (to_put cmp same old more)) (absent_entry n old below)

@@ -48,7 +48,7 @@ module _ {K X : Type 0} {cmp : K → K → Ordering} (total : IsTotalOrder cmp) 
   }
     where
       gone : (has_key cmp puts e.0 || (is_eq (cmp e.0 e.0) || is_one_of cmp deletes e.0)) ≡ true
-      gone = ap₂ (λ b o. b || (is_eq o || is_one_of cmp deletes e.0)) (absent_key total same e.0 puts above_puts) (tied_itself total e.0)
+      gone = ap₂ (λ b o. b || (is_eq o || is_one_of cmp deletes e.0)) (absent_key cmp e.0 puts above_puts) (tied_itself total e.0)
 
       spare : (rows : List (K × X)) → Below e.0 (keys_of rows) → AllByRecursion (λ n. is_one_of cmp deletes n.0 ≡ false) rows → AllByRecursion (λ n. is_one_of cmp (e.0 ∷ deletes) n.0 ≡ false) rows
       spare [] above h = tt
@@ -94,7 +94,7 @@ module _ {K X : Type 0} {cmp : K → K → Ordering} (total : IsTotalOrder cmp) 
     rises = turns.rises;
     spared = turns.spared;
     made =
-        subst (λ b. IsPermutation (puts ++ cond (not b) (e ∷ filter (stays puts deletes) old) (filter (stays puts deletes) old)) (e ∷ new)) (sym (ap₂ ◌||◌ (absent_key total same e.0 puts above_puts) (absent e.0 deletes above_deletes)))
+        subst (λ b. IsPermutation (puts ++ cond (not b) (e ∷ filter (stays puts deletes) old) (filter (stays puts deletes) old)) (e ∷ new)) (sym (ap₂ ◌||◌ (absent_key cmp e.0 puts above_puts) (absent e.0 deletes above_deletes)))
         (IsPermutation-trans _ _ _ (IsPermutation-middle puts e (filter (stays puts deletes) old)) (IsPermutation-cons e _ _ turns.made));
   }
 
