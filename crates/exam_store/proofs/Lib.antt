@@ -1,3 +1,4 @@
+pub mod Creating
 pub mod Differing
 pub mod Exact
 pub mod FeatureSums
@@ -6,3 +7,4 @@ pub mod Reading
 pub mod SavedRows
 pub mod Steps
 pub mod Turning
+pub mod Versioned

@@ -5,3 +5,4 @@ pub mod Inside
 pub mod Reading
 pub mod Rows
 pub mod Stored
+pub mod Versions
