@@ -16,7 +16,6 @@ use crate::import_row::Row;
 use crate::references;
 use exam_rules::{Entry, Facts, Opening};
 use exam_types::{HallCode, Number, PaperCode, Refusal, SessionCode};
-use std::alloc::Global;
 
 /// The facts with the rows of an import, and what the import answers.
 pub fn imported(facts: &Facts, import: &Import) -> Result<(Facts, Reply), Refusal>

@@ -1,3 +1,9 @@
+pub mod Creating
+pub mod Differing
+pub mod Exact
 pub mod Inserting
 pub mod Reading
+pub mod SavedRows
 pub mod Steps
+pub mod Turning
+pub mod Versioned

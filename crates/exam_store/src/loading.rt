@@ -1,11 +1,12 @@
 //! Reading the whole office.
-ghost use Rattle.std.specs.Prelude.{IsTrue, IfOk, IfErr};
+ghost use Rattle.std.specs.Prelude.{IsTrue, IfOk, IfErr, OnOk};
 ghost use Rattle.sqlite.specs.Held.{state};
 ghost use Rattle.sqlite.specs.State.{HasCleanDisk, IsUnchanged};
 ghost use Rattle.exam_rules.specs.Relations.{relations_of};
 ghost use Rattle.exam_store.specs.Held.{HoldsFacts, HoldsOffice};
 ghost use Rattle.exam_store.specs.Inside.{Contains};
 ghost use Rattle.exam_store.specs.Faults.{is_store_refusal};
+ghost use Rattle.exam_store.specs.Versions.{HasVersion};
 
 use crate::schema::check_version;
 use crate::table::load_rows;
@@ -28,6 +29,7 @@ use std::alloc::Global;
 pub fn load_office<S: Alter>(alloc: Global, conn: &mut Connection<S>) -> Result<Office, Refusal>
     ensures rows { HasCleanDisk (state S.Store conn.new) → IfOk result (λ office. (all : _) → Contains (state S.Store conn.old).now all
         → HoldsOffice all office × IsUnchanged (state S.Store conn.old) (state S.Store conn.new)) }
+    ensures version { HasCleanDisk (state S.Store conn.new) → OnOk result ((all : _) → Contains (state S.Store conn.old).now all → HasVersion all) }
     ensures told { IfErr result (λ e. IsTrue (is_store_refusal e)) }
 {
     check_version(conn)?;

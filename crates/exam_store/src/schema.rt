@@ -1,36 +1,60 @@
 //! The tables of schema 1.
-ghost use Rattle.std.specs.Prelude.{IsTrue, IfErr, OnOk};
+ghost use Rattle.std.specs.Prelude.{◌≡◌, ◌⊎◌, [], ◌∷◌, IsTrue, IfErr, OnOk};
+ghost use Rattle.std.specs.Bool.{Decides};
 ghost use Rattle.sqlite.specs.Held.{state};
 ghost use Rattle.sqlite.specs.State.{HasCleanDisk, IsUnchanged};
+ghost use Rattle.sqlite_value.specs.Order.{column};
+ghost use Rattle.exam_types.specs.declared.refusal.Refusal.TheVariants.{BadStore};
+ghost use Rattle.exam_tables.specs.Grows.{schema_0, schema_5, schema_10};
+ghost use Rattle.exam_tables.specs.Tables.{store_schema};
 ghost use Rattle.exam_store.specs.Inside.{Contains};
 ghost use Rattle.exam_store.specs.Faults.{is_store_refusal};
+ghost use Rattle.exam_store.specs.Stored.{whole};
+ghost use Rattle.exam_store.specs.Versions.{HasVersion, HasNoRows, IsBlank, IsMade, Leads, Told, version_row};
 
 use crate::columns::whole_at;
 use crate::statements::{all_rows, run};
 use exam_types::Refusal;
-use sqlite::{Alter, Connection, Transaction};
+use sqlite::types::ValueRef;
+use sqlite::{Alter, Connection, Row, Transaction};
 
 /// The version of the schema.
 const VERSION: u32 = 1;
 
-/// Whether the database has no table and nothing else.
-pub fn is_blank<S: Alter>(conn: &Connection<S>) -> bool {
+/// Whether the database has no table, no index and no view.
+pub fn is_blank<S: Alter>(conn: &Connection<S>) -> bool
+    ensures { Decides result (IsBlank (state S.Store conn.now).now) }
+{
     let schema = conn.schema();
-    schema.tables.len() == 0 && schema.views.len() == 0
+    schema.tables.len() == 0 && schema.indexes.len() == 0 && schema.views.len() == 0
 }
 
-/// Makes the ten tables, with no rows but the version.
+/// Makes the ten tables, with no rows but the version, in a database with nothing in it.
 pub fn create_tables<S: Alter>(tx: &mut Transaction<'_, S>) -> Result<(), Refusal>
-    ensures { IfErr result (λ e. IsTrue (is_store_refusal e)) }
+    ensures same_reference { tx.new.conn.ghost_name ≡ tx.old.conn.ghost_name }
+    ensures made { Leads IsBlank IsMade (state S.Store tx.old.conn.now) (state S.Store tx.new.conn.now) result }
 {
     create_parents(tx)?;
     create_children(tx)?;
-    run(tx, "INSERT INTO office (one, version) VALUES (1, 1)", &[])
+    put_version(tx)
+}
+
+/// Writes the one row of the table `office`.
+fn put_version<S: Alter>(tx: &mut Transaction<'_, S>) -> Result<(), Refusal>
+    ensures same_reference { tx.new.conn.ghost_name ≡ tx.old.conn.ghost_name }
+    ensures made { Leads (HasNoRows store_schema) IsMade (state S.Store tx.old.conn.now) (state S.Store tx.new.conn.now) result }
+{
+    run(
+        tx,
+        "INSERT INTO office (one, version) VALUES (1, ?1)",
+        &[ValueRef::Int(i64::from(VERSION))],
+    )
 }
 
 /// The tables that refer to none, or to sessions alone.
 fn create_parents<S: Alter>(tx: &mut Transaction<'_, S>) -> Result<(), Refusal>
-    ensures { IfErr result (λ e. IsTrue (is_store_refusal e)) }
+    ensures same_reference { tx.new.conn.ghost_name ≡ tx.old.conn.ghost_name }
+    ensures made { Leads (HasNoRows schema_0) (HasNoRows schema_5) (state S.Store tx.old.conn.now) (state S.Store tx.new.conn.now) result }
 {
     run(
         tx,
@@ -59,8 +83,10 @@ fn create_parents<S: Alter>(tx: &mut Transaction<'_, S>) -> Result<(), Refusal>
     )
 }
 
+/// The tables that refer to those.
 fn create_children<S: Alter>(tx: &mut Transaction<'_, S>) -> Result<(), Refusal>
-    ensures { IfErr result (λ e. IsTrue (is_store_refusal e)) }
+    ensures same_reference { tx.new.conn.ghost_name ≡ tx.old.conn.ghost_name }
+    ensures made { Leads (HasNoRows schema_5) (HasNoRows schema_10) (state S.Store tx.old.conn.now) (state S.Store tx.new.conn.now) result }
 {
     run(
         tx,
@@ -89,20 +115,46 @@ fn create_children<S: Alter>(tx: &mut Transaction<'_, S>) -> Result<(), Refusal>
     )
 }
 
-/// Refused as a bad store where there is no office, or the version is another.
+/// Refused as a bad store where the table `office` does not hold this version, and nothing else.
 pub fn check_version<S: Alter>(conn: &mut Connection<S>) -> Result<(), Refusal>
-    ensures same { HasCleanDisk (state S.Store conn.new) → OnOk result ((all : _) → Contains (state S.Store conn.old).now all → IsUnchanged (state S.Store conn.old) (state S.Store conn.new)) }
+    ensures ok { HasCleanDisk (state S.Store conn.new) → OnOk result ((all : _) → Contains (state S.Store conn.old).now all
+        → HasVersion all × IsUnchanged (state S.Store conn.old) (state S.Store conn.new)) }
+    ensures bad { HasCleanDisk (state S.Store conn.new) → IfErr result (λ e. ((e ≡ BadStore) × ((all : _) → Contains (state S.Store conn.old).now all → HasVersion all → ⊥))
+        ⊎ Told (state S.Store conn.old) (state S.Store conn.new) e) }
     ensures early { HasCleanDisk (state S.Store conn.new) → HasCleanDisk (state S.Store conn.old) }
     ensures told { IfErr result (λ e. IsTrue (is_store_refusal e)) }
 {
     let rows = all_rows(conn, "SELECT one, version FROM office")?;
-    if rows.len() != 1 {
-        return Err(Refusal::BadStore);
-    }
-    let row = &rows[0];
-    if row.column_count() == 2 && whole_at(row, 0)? == 1 && whole_at(row, 1)? == VERSION {
+    if are_version(rows.as_slice()) {
         Ok(())
     } else {
         Err(Refusal::BadStore)
+    }
+}
+
+/// Whether these are the one row of this version.
+fn are_version(rows: &[Row]) -> bool
+    ensures { Decides result (rows.now ≡ version_row ∷ []) }
+{
+    match rows {
+        [row] => is_version(row),
+        _ => false,
+    }
+}
+
+/// Whether the columns are 1 and this version.
+fn is_version(row: &Row) -> bool
+    ensures { Decides result (row.now ≡ version_row) }
+{
+    row.column_count() == 2 && holds_at(row, 0, 1) && holds_at(row, 1, VERSION)
+}
+
+/// Whether this whole number stands there.
+fn holds_at(row: &Row, at: usize, value: u32) -> bool
+    ensures { Decides result (column row.now at ≡ whole value) }
+{
+    match whole_at(row, at) {
+        Ok(found) => found == value,
+        Err(_) => false,
     }
 }

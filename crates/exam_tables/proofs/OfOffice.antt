@@ -38,10 +38,10 @@ fits : (one : ℤ) (version : ℤ) → Fits stored_office (1 ∷ []) (Int one) (
 fits one version = fits_given stored_office (1 ∷ []) one (columns one version) (row one version) refl (simp (cast_null, cast_int)) refl (λ r. refl)
 
 abbrev terms : List Term
-terms = lit (Int (pos 1)) ∷ lit Null ∷ lit (Int (pos 1)) ∷ []
+terms = lit (Int (pos 1)) ∷ lit Null ∷ col 0 0 ∷ []
 
 abbrev pub put_text : List ℕ
-put_text = codes "INSERT INTO office (one, version) VALUES (1, 1)"
+put_text = codes "INSERT INTO office (one, version) VALUES (1, ?1)"
 
 put_is : command_of (understood store_schema put_text) ≡ Insert 0 (Values terms 3)
 unfolding understood everything store_schema
@@ -51,9 +51,10 @@ put_plain : IsPlain (understood store_schema put_text)
 unfolding understood everything store_schema
 put_plain = (refl, refl)
 
-pub puts : (old new : State) (r : Result ℕ Error) → Executes put_text [] old new r
-    → OnOk r ((all : Trees) → ContainsIn store_schema old.now all → ContainsIn store_schema new.now (with_tree all 0 (put (1 ∷ []) (Null ∷ Int (pos 1) ∷ Int (pos 1) ∷ []) (all 0))))
-puts old new r h = insert_by store_schema 0 stored_office (1 ∷ []) (0 ∷ []) office_keyed put_text terms 3 put_is put_plain old new [] r (Int (pos 1)) (columns (pos 1) (pos 1)) (row (pos 1) (pos 1)) (fits (pos 1) (pos 1)) refl h
+pub puts : (old new : State) (version : ℤ) (r : Result ℕ Error) → Executes put_text (Int version ∷ []) old new r
+    → OnOk r ((all : Trees) → ContainsIn store_schema old.now all → ContainsIn store_schema new.now (with_tree all 0 (put (1 ∷ []) (Null ∷ Int (pos 1) ∷ Int version ∷ []) (all 0))))
+puts old new version r h =
+    insert_by store_schema 0 stored_office (1 ∷ []) (0 ∷ []) office_keyed put_text terms 3 put_is put_plain old new (Int version ∷ []) r (Int (pos 1)) (columns (pos 1) version) (row (pos 1) version) (fits (pos 1) version) refl h
 
 abbrev pub delete_text : List ℕ
 delete_text = codes "DELETE FROM office WHERE one = ?1"

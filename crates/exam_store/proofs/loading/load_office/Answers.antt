@@ -15,9 +15,14 @@ returns-in-Ok-clause-rows g c = λ clean all was.
     let at_1 = state g.S.Store c.check_version.new.conn in
     let at_2 = state g.S.Store c.load_facts.new.conn in
     let at_3 = state g.S.Store c.load_rows.new.conn in
-    let first = c.in_ok-check_version.ensures.same clean_1 all was in
+    let first = (c.in_ok-check_version.ensures.ok clean_1 all was).1 in
     let was_1 = subst (λ (db : Database). Contains db all) (sym first.0.now_is) was in
     let facts = c.in_ok-facts.ensures.rows clean_2 all was_1 in
     let was_2 = subst (λ (db : Database). Contains db all) (sym facts.1.0.now_is) was_1 in
     let seats = c.in_ok-seats.ensures.rows clean all was_2 in
     (subst (HoldsOffice all) (sym c.in-Ok.ensures.ok) (record { facts = facts.0; seats = seats.0 }), unchanged_then at_0 at_2 at_3 (unchanged_then at_0 at_1 at_2 first facts.1) seats.1)
+
+pub returns-in-Ok-clause-version : goal.returns-in-Ok-clause-version
+returns-in-Ok-clause-version g c = λ clean all was.
+    let clean_1 = c.load_facts.ensures.early (c.load_rows.ensures.early clean) in
+    (c.in_ok-check_version.ensures.ok clean_1 all was).0

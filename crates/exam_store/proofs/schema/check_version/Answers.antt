@@ -1,6 +1,23 @@
+use Rattle.std.proofs.Common.{◌≡◌, [], ◌∷◌, true, false, inl, refl, sym, subst, ap, ◌∙◌}
 use Rattle.sqlite.specs.Held.{state}
 use Rattle.exam_tables.proofs.OfOffice as office
+use Rattle.exam_store.specs.Versions.{version_row}
+use Rattle.exam_store.proofs.Versioned.{version_held, version_shown}
 use Rattle.exam_store.proofs.schema.check_version.Goals as goal
 
-pub returns-then-branch-eq-VERSION-clause-same : goal.returns-then-branch-eq-VERSION-clause-same
-returns-then-branch-eq-VERSION-clause-same g c = λ clean all was. (office.shows (state g.S.Store c.args.conn.now) (state g.S.Store c.all_rows.new.conn) c.in_ok-rows.rows.items all was (c.in_ok-rows.ensures.shown clean)).2
+pub returns-then-are_version-clause-ok : goal.returns-then-are_version-clause-ok
+returns-then-are_version-clause-ok g c = λ clean all was.
+    let rows = c.in_ok-rows.rows.items in
+    let shown = office.shows (state g.S.Store c.args.conn.now) (state g.S.Store c.all_rows.new.conn) rows all was (c.in_ok-rows.ensures.shown clean) in
+    (version_held (all 0) rows shown.0 (sym c.as_slice.ensures.value ∙ c.are_version.ensures.0 c.if-are_version.true), shown.2)
+
+pub returns-clause-bad : goal.returns-clause-bad
+returns-clause-bad g c = λ clean. inl (
+  refl,
+  λ all was held.
+      let rows = c.in_ok-rows.rows.items in
+      let shown = office.shows (state g.S.Store c.args.conn.now) (state g.S.Store c.all_rows.new.conn) rows all was (c.in_ok-rows.ensures.shown clean) in
+      let yes : c.are_version.result ≡ true = c.are_version.ensures.1 (c.as_slice.ensures.value ∙ version_shown (all 0) rows shown.0 held) in
+      let no : c.are_version.result ≡ false = c.if-are_version.false in
+      absurd cc,
+)
