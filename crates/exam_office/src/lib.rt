@@ -1,8 +1,10 @@
 //! The commands of the office, and what it shows of a session.
 #![tactic(auto)]
 
+mod closing;
 mod command;
 mod copies;
+mod entries;
 mod grants;
 mod import;
 mod importing;
