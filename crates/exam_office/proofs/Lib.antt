@@ -1,10 +1,14 @@
 pub mod Writing
 pub mod Stepping
+pub mod Commanding
 pub mod Referring
 pub mod Running
 pub mod Counting
 pub mod SameSeats
 pub mod Staying
+pub mod Keeping
+pub mod LiveMarks
+pub mod ClosedHalls
 pub mod Distinct
 pub mod AllSessions
 pub mod Repairing

@@ -26,7 +26,7 @@ copied_some None e = e
 copied_some (Some x) e = refl
 
 -- what a filter keeps of a list is in the list
-kept_from : {A : Type 0} (p : A → Bool) (xs : List A) (x : A) → Contains (filter p xs) x → Contains xs x
+pub kept_from : {A : Type 0} (p : A → Bool) (xs : List A) (x : A) → Contains (filter p xs) x → Contains xs x
 kept_from p xs x m = All-contains (Contains xs) (filter p xs) x (All-filter p (Contains xs) xs (All-contains_itself xs)) m
 
 module _ (r : Relations) (s : Code) where

@@ -2,7 +2,7 @@
 use Rattle.std.proofs.Common.{◌≡◌, ℕ, ◌&&◌, not, Bool, true, false, cond, List, [], ◌∷◌, Option, None, Some, is_some, refl, ap, sym, ◌∙◌}
 use Rattle.std.specs.List.{list_all}
 use Rattle.std.specs.Option.{option_or}
-use Rattle.std.specs.Map.{lookup}
+use Rattle.std.specs.Map.{lookup, remove_entry}
 use Rattle.std.specs.BTreeMap.{insert_entry, is_at}
 use Rattle.std.specs.declared.cmp.Ordering.{Ordering}
 use Rattle.std.specs.declared.cmp.Ordering.TheVariants.{Less, Equal, Greater}
@@ -16,7 +16,7 @@ use Rattle.exam_rules.specs.declared.rows.Subject.TheVariants as subject
 use Rattle.exam_rules.specs.Relations.{Code, Relations, code_cmp, entry_cmp, opening_cmp, has_row, put_row}
 use Rattle.exam_office.specs.declared.import_row.Row.{Row}
 use Rattle.exam_office.specs.declared.import_row.Row.TheVariants as row
-use Rattle.exam_office.specs.Changes.{no_paper, no_hall, first_refusal, row_checks, rows_refusal, with_row, with_rows}
+use Rattle.exam_office.specs.Changes.{no_candidate, no_paper, no_hall, first_refusal, row_checks, rows_refusal, with_row, with_rows, with_live, without_opening}
 use Rattle.exam_office.specs.Good as good
 
 -- ---- one row more
@@ -53,7 +53,7 @@ module _ {K X : Type 0} (cmp : K → K → Ordering) where
       inner Equal is rest = and_from (p (e.0, v)) (list_all p es) (ap (λ q. p (q, v)) (sym (exact k e.0 is)) ∙ here) (and_parts (p e) (list_all p es) every).1
       inner Greater is rest = and_from (p e) (list_all p (put_row cmp es k v)) (and_parts (p e) (list_all p es) every).0 rest
 
-all_more : {A : Type 0} (p q : A → Bool) (xs : List A) → ((x : A) → p x ≡ true → q x ≡ true) → list_all p xs ≡ true → list_all q xs ≡ true
+pub all_more : {A : Type 0} (p q : A → Bool) (xs : List A) → ((x : A) → p x ≡ true → q x ≡ true) → list_all p xs ≡ true → list_all q xs ≡ true
 all_more p q [] more every = refl
 all_more p q (x ∷ xs) more every = and_from (q x) (list_all q xs) (more x (and_parts (p x) (list_all p xs) every).0) (all_more p q xs more (and_parts (p x) (list_all p xs) every).1)
 
@@ -202,6 +202,40 @@ refers_rows r0 r (x ∷ rows) grows p ok =
 -- the references of an import are looked up in the facts before it
 pub import_refers : (r : Relations) (rows : List Row) → good.refers r ≡ true → rows_refusal r rows ≡ None → good.refers (with_rows r rows) ≡ true
 import_refers r rows every ok = joined (with_rows r rows) (refers_rows r r rows (grows_none r) (parted r every) ok)
+
+-- those of an entry are known where it gets another live mark
+pub live_refers : (r : Relations) (c : ℕ) (p : Code) (live : Bool) (more : List (Bool × Refusal)) → good.refers r ≡ true → first_refusal (no_candidate r c ∷ no_paper r p ∷ more) ≡ None → good.refers (with_live r c p live) ≡ true
+live_refers r c p live more every ok =
+    let first = passed (not (has_row nat_cmp r.candidates c)) refusal.UnknownCandidate (no_paper r p ∷ more) ok in
+    let candidate : has_row nat_cmp r.candidates c ≡ true = not-false (has_row nat_cmp r.candidates c) first.0 in
+    let paper : has_row code_cmp r.papers p ≡ true = there (has_row code_cmp r.papers p) refusal.UnknownPaper more first.1 in
+    let q = refers_more r (with_live r c p live) r (record { sessions = λ s h. h; papers = λ k h. h; halls = λ h k. k; candidates = λ d h. h }) (parted r every) in
+    joined (with_live r c p live) (record {
+      papers = q.papers;
+      openings = q.openings;
+      entries = all_put entry_cmp (exact_pairs nat_cmp code_cmp exact_unsigned exact_bytes) _ r.entries (c, p) (record { live = live }) q.entries (and_from (has_row nat_cmp r.candidates c) (has_row code_cmp r.papers p) candidate paper);
+      arrangements = q.arrangements;
+      appeals = q.appeals;
+    })
+
+all_removed : {K X : Type 0} (test : K → Bool) (p : K × X → Bool) (rows : List (K × X)) → list_all p rows ≡ true → list_all p (remove_entry test rows) ≡ true
+all_removed test p [] every = refl
+all_removed test p (e ∷ es) every = inner (test e.0) (all_removed test p es (and_parts (p e) (list_all p es) every).1)
+  where
+    inner : (b : Bool) → list_all p (remove_entry test es) ≡ true → list_all p (cond b es (e ∷ remove_entry test es)) ≡ true
+    inner true rest = (and_parts (p e) (list_all p es) every).1
+    inner false rest = and_from (p e) (list_all p (remove_entry test es)) (and_parts (p e) (list_all p es) every).0 rest
+
+pub closing_refers : (r : Relations) (s h : Code) → good.refers r ≡ true → good.refers (without_opening r s h) ≡ true
+closing_refers r s h every =
+    let q = refers_more r (without_opening r s h) r (record { sessions = λ t k. k; papers = λ p k. k; halls = λ j k. k; candidates = λ d k. k }) (parted r every) in
+    joined (without_opening r s h) (record {
+      papers = q.papers;
+      openings = all_removed (is_at (opening_cmp (s, h))) _ r.openings q.openings;
+      entries = q.entries;
+      arrangements = q.arrangements;
+      appeals = q.appeals;
+    })
 
 -- an import has no appeals
 appeals_row : (r : Relations) (x : Row) → (with_row r x).appeals ≡ r.appeals

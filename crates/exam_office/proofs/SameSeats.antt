@@ -48,7 +48,7 @@ pub few_within : (r : Relations) → IsTrue (members_within r) → (s : Code) �
 few_within r within s known =
     leb-true (length (members r s)) 4096 (all_at (λ t. nat_le (length (members r t)) 4096) (keys_of r.sessions) s within (sym (known_among s r.sessions) ∙ known))
 
-within_members : (r : Relations) → IsTrue (within_limits r) → IsTrue (members_within r)
+pub within_members : (r : Relations) → IsTrue (within_limits r) → IsTrue (members_within r)
 within_members r limits =
     let from_members = members_within r && appeals_within r in
     let from_openings = openings_within r && (candidates_within r && from_members) in

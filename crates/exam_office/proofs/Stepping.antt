@@ -1,4 +1,4 @@
--- An accepted import is a step.
+-- An accepted command is a step, and a refused one too.
 use Rattle.std.proofs.Common.{◌≡◌, ℕ, nat_eq, not, Bool, true, false, cond, List, [], ◌∷◌, None, Some, Ok, Err, refl, ap, sym, subst, ◌∙◌}
 use Rattle.std.specs.Option.{option_or}
 use Rattle.std.proofs.Math.Path.{fun_ext}
@@ -13,13 +13,14 @@ use Rattle.exam_rules.specs.Names.{ListsRise}
 use Rattle.exam_office.specs.declared.import_row.Row.{Row}
 use Rattle.exam_office.specs.declared.command.Command.{Command}
 use Rattle.exam_office.specs.declared.command.Command.TheVariants as command
-use Rattle.exam_office.specs.Changes.{imported, unless, first_refusal, rows_refusal, with_rows, too_many}
+use Rattle.exam_office.specs.Changes.{change, imported, unless, first_refusal, rows_refusal, with_rows, too_many}
 use Rattle.exam_office.specs.Limits.{within_limits}
 use Rattle.exam_office.specs.Repairs.{IsRepaired}
 use Rattle.exam_office.specs.State.{State, Seats}
-use Rattle.exam_office.specs.Steps.{SameSeating, IsNextPlan, StepTo, Step}
+use Rattle.exam_office.specs.Imports.{ImportRows}
+use Rattle.exam_office.specs.Steps.{SameSeating, SeatsOn, IsNextPlan, StepTo, Step, first_seated}
 use Rattle.exam_office.specs.Good.{IsGood}
-use Rattle.exam_office.specs.Replies.{import_reply}
+use Rattle.exam_office.specs.Replies.{import_reply, reply_of}
 use Rattle.exam_office.specs.declared.command.Reply.{Reply}
 use Rattle.exam_office.proofs.Staying.{best_stays, kept_stays}
 
@@ -49,35 +50,37 @@ same_seating r t s same =
     with_parts : List ℕ → (ℕ → Code → Bool) → (Code → ℕ) → Seating ℕ Code
     with_parts ms f d = record { members = ms; fits = f; desks = d; same_candidate = nat_eq; same_hall = same_code; candidate_cmp = nat_cmp; hall_cmp = code_cmp }
 
-pub next_plan : (done : Command) (r t : Relations) (s : Code) (before after : Seats) → ListsRise t s → IsBest (seating r s) (plan_of before s) → IsRepaired t None before after s
-    → IsNextPlan done (seating r s) (seating t s) (plan_of before s) (plan_of after s)
-next_plan (command.Import import) r t s before after up best done = record {
-  best = done.best;
-  untouched = λ same. best_stays t s up None (plan_of before s) (plan_of after s) (subst (λ g. IsBest g (plan_of before s)) (same_seating r t s same) best) done.repair;
-  kept = kept_stays (seating t s) None (plan_of before s) (plan_of after s) done.repair;
-  repair = done.repair;
+pub next_plan : (done : Command) (r t : Relations) (s : Code) (before after : Seats) → ListsRise t s → IsBest (seating r s) (plan_of before s) → IsRepaired t (first_seated done) before after s
+    → SeatsOn done (seating t s) (plan_of before s) (plan_of after s) → IsNextPlan done (seating r s) (seating t s) (plan_of before s) (plan_of after s)
+next_plan done r t s before after up best made kept = record {
+  best = made.best;
+  untouched = λ same. best_stays t s up (first_seated done) (plan_of before s) (plan_of after s) (subst (λ g. IsBest g (plan_of before s)) (same_seating r t s same) best) made.repair;
+  kept = kept;
+  repair = made.repair;
 }
 
--- ---- by cases of the command
+-- ---- any command
 
-abbrev pub rows_of : Command → List Row
-rows_of (command.Import import) = import.rows
+pub accepted_step : (done : Command) (today : ℕ) (before after : State) (t : Relations) → change done today before.relations ≡ Ok t → after.relations ≡ t → ((s : Code) → ListsRise t s) → IsGood before
+    → ((s : Code) → IsRepaired t (first_seated done) before.seats after.seats s) → ((s : Code) → SeatsOn done (seating t s) (plan_of before.seats s) (plan_of after.seats s))
+    → Step done today before (Ok (reply_of done before.relations)) after
+accepted_step done today before after t accepted facts up good plans kept =
+    subst (StepTo done before (Ok (reply_of done before.relations)) after) (sym accepted)
+    (facts, λ s. next_plan done before.relations t s before.seats after.seats (up s) (good.best s) (plans s) (kept s), refl)
 
-pub step_accepted : (done : Command) (today : ℕ) (before after : State) (rows : List Row) (t : Relations) (reply : Reply) → rows ≡ rows_of done
+pub refused_step : (done : Command) (today : ℕ) (before : State) (e : Refusal) → change done today before.relations ≡ Err e → Step done today before (Err e) before
+refused_step done today before e refused = subst (StepTo done before (Err e) before) (sym refused) (refl, refl)
+
+-- ---- imports
+
+pub step_accepted : (import : ImportRows) (today : ℕ) (before after : State) (rows : List Row) (t : Relations) (reply : Reply) → rows ≡ import.rows
     → rows_refusal before.relations rows ≡ None → t ≡ with_rows before.relations rows → within_limits t ≡ true → after.relations ≡ t
     → reply ≡ import_reply before.relations rows
-    → ((s : Code) → ListsRise t s) → IsGood before → ((s : Code) → IsRepaired t None before.seats after.seats s) → Step done today before (Ok reply) after
-step_accepted (command.Import import) today before after rows t reply are ok is within facts says up good plans =
+    → ((s : Code) → ListsRise t s) → IsGood before → ((s : Code) → IsRepaired t None before.seats after.seats s) → Step (command.Import import) today before (Ok reply) after
+step_accepted import today before after rows t reply are ok is within facts says up good plans =
     let new : t ≡ with_rows before.relations import.rows = is ∙ ap (with_rows before.relations) are in
     let accepted : imported before.relations import.rows ≡ Ok (with_rows before.relations import.rows) =
     import_accepted before.relations import.rows (ap (rows_refusal before.relations) (sym are) ∙ ok) (ap within_limits (sym new) ∙ within) in
-    subst (StepTo (command.Import import) before (Ok reply) after) (sym accepted) (
-      facts ∙ new,
-      λ s. subst (λ u. IsNextPlan (command.Import import) (seating before.relations s) (seating u s) (plan_of before.seats s) (plan_of after.seats s)) new
-          (next_plan (command.Import import) before.relations t s before.seats after.seats (up s) (good.best s) (plans s)),
-      ap Ok (says ∙ ap (import_reply before.relations) are),
-    )
-
-pub step_refused : (done : Command) (today : ℕ) (before : State) (rows : List Row) (e : Refusal) → rows ≡ rows_of done → imported before.relations rows ≡ Err e → Step done today before (Err e) before
-step_refused (command.Import import) today before rows e are refused =
-    subst (StepTo (command.Import import) before (Err e) before) (sym (ap (imported before.relations) (sym are) ∙ refused)) (refl, refl)
+    let step = accepted_step (command.Import import) today before after t (accepted ∙ ap Ok (sym new)) facts up good plans
+    (λ s. kept_stays (seating t s) None (plan_of before.seats s) (plan_of after.seats s) (plans s).repair) in
+    subst (λ told. Step (command.Import import) today before (Ok told) after) (sym (says ∙ ap (import_reply before.relations) are)) step

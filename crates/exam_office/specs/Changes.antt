@@ -1,10 +1,11 @@
 -- What a command makes of the facts, or why it is refused.
-use Rattle.std.specs.Prelude.{ℕ, not, Bool, true, List, [], ◌∷◌, fold, Option, None, Some, Result, Ok, Err, if◌then◌else◌}
+use Rattle.std.specs.Prelude.{ℕ, not, Bool, true, false, List, [], ◌∷◌, ◌++◌, fold, Option, None, Some, Result, Ok, Err, if◌then◌else◌}
 use Rattle.std.specs.Option.{option_or}
 use Rattle.std.specs.Ordering.{nat_cmp}
 use Rattle.exam_types.specs.declared.refusal.Refusal.{Refusal}
 use Rattle.exam_types.specs.declared.refusal.Refusal.TheVariants as refusal
-use Rattle.exam_rules.specs.Relations.{Code, Relations, code_cmp, opening_cmp, entry_cmp, has_row, put_row}
+use Rattle.exam_rules.specs.Relations.{Code, Relations, code_cmp, opening_cmp, entry_cmp, has_row, put_row, remove_row}
+use Rattle.exam_rules.specs.Sessions.{is_live}
 use Rattle.exam_office.specs.Limits.{within_limits}
 use Rattle.exam_office.specs.declared.command.Command.{Command}
 use Rattle.exam_office.specs.declared.command.Command.TheVariants as command
@@ -77,7 +78,51 @@ import_refusal r rows = option_or (rows_refusal r rows) (first_refusal (too_many
 abbrev pub imported : Relations → List Row → Result Relations Refusal
 imported r rows = unless (import_refusal r rows) (with_rows r rows)
 
+-- ---- entries and openings
+
+abbrev pub no_entry : Relations → ℕ → Code → Bool × Refusal
+no_entry r c p = (not (has_row entry_cmp r.entries (c, p)), refusal.NoEntry)
+
+abbrev pub entry_checks : Relations → ℕ → Code → List (Bool × Refusal)
+entry_checks r c p = no_candidate r c ∷ no_paper r p ∷ no_entry r c p ∷ []
+
+-- with this live mark of the entry
+abbrev pub with_live : Relations → ℕ → Code → Bool → Relations
+with_live r c p live = record r { entries = put_row entry_cmp r.entries (c, p) (record { live = live }) }
+
+abbrev pub withdrawal_refusal : Relations → ℕ → Code → Option Refusal
+withdrawal_refusal r c p = first_refusal (entry_checks r c p ++ (not (is_live r c p), refusal.AlreadyWithdrawn) ∷ [])
+
+abbrev pub withdrawn : Relations → ℕ → Code → Result Relations Refusal
+withdrawn r c p = unless (withdrawal_refusal r c p) (with_live r c p false)
+
+-- of the checks on the facts as they are
+abbrev pub revival_refusal : Relations → ℕ → Code → Option Refusal
+revival_refusal r c p = first_refusal (entry_checks r c p ++ (is_live r c p, refusal.NotWithdrawn) ∷ [])
+
+-- and then of the limits on the new ones
+abbrev pub reinstatement_refusal : Relations → ℕ → Code → Option Refusal
+reinstatement_refusal r c p = option_or (revival_refusal r c p) (first_refusal (too_many (with_live r c p true) ∷ []))
+
+abbrev pub reinstated : Relations → ℕ → Code → Result Relations Refusal
+reinstated r c p = unless (reinstatement_refusal r c p) (with_live r c p true)
+
+abbrev pub not_opened : Relations → Code → Code → Bool × Refusal
+not_opened r s h = (not (has_row opening_cmp r.openings (s, h)), refusal.HallNotOpened)
+
+abbrev pub without_opening : Relations → Code → Code → Relations
+without_opening r s h = record r { openings = remove_row opening_cmp r.openings (s, h) }
+
+abbrev pub closing_refusal : Relations → Code → Code → Option Refusal
+closing_refusal r s h = first_refusal (no_session r s ∷ no_hall r h ∷ not_opened r s h ∷ [])
+
+abbrev pub closed : Relations → Code → Code → Result Relations Refusal
+closed r s h = unless (closing_refusal r s h) (without_opening r s h)
+
 -- ---- the change of a command, on a day: the new facts, or the refusal
 
 abbrev pub change : Command → ℕ → Relations → Result Relations Refusal
 change (command.Import import) today r = imported r import.rows
+change (command.Withdraw c p) today r = withdrawn r c p
+change (command.Reinstate c p) today r = reinstated r c p
+change (command.CloseHall s h) today r = closed r s h

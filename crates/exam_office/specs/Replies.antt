@@ -41,3 +41,6 @@ import_reply r rows = reply.Imported
 -- of an accepted command, from the facts before
 abbrev pub reply_of : Command → Relations → Reply
 reply_of (command.Import import) r = import_reply r import.rows
+reply_of (command.Withdraw c p) r = reply.Withdrawn
+reply_of (command.Reinstate c p) r = reply.Reinstated
+reply_of (command.CloseHall s h) r = reply.Closed

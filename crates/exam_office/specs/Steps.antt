@@ -2,7 +2,7 @@
 use Rattle.std.specs.Prelude.{◌≡◌, ◌⊎◌, ℕ, List, [], ◌∷◌, Option, None, IsSome, Result, Ok, Err}
 use Rattle.exam_types.specs.declared.refusal.Refusal.{Refusal}
 use Rattle.exam_types.specs.declared.refusal.Refusal.TheVariants.{NoMemory}
-use Rattle.exam_plan.specs.Matching.{Seating, Plan, SamePlan, IsBest}
+use Rattle.exam_plan.specs.Matching.{Seating, Plan, SamePlan, IsBest, Keeps}
 use Rattle.exam_plan.specs.Repair.{kept_part, IsRepair}
 use Rattle.exam_rules.specs.Relations.{Code, Relations}
 use Rattle.exam_rules.specs.Seatings.{seating, plan_of}
@@ -13,9 +13,20 @@ use Rattle.exam_office.specs.Changes.{change}
 use Rattle.exam_office.specs.Replies.{reply_of}
 use Rattle.exam_office.specs.State.{State}
 
--- whom the new plan of a session seats for certain: after an import those whom the repair does not put out
+-- the candidate whom a command names
+abbrev pub IsNamed : Command → ℕ → Type 0
+IsNamed (command.Import import) c = ⊥
+IsNamed (command.Withdraw d p) c = d ≡ c
+IsNamed (command.Reinstate d p) c = d ≡ c
+IsNamed (command.CloseHall s h) c = ⊥
+
+-- Whom the new plan of a session seats for certain. After an import or the closing of a hall: those whom the repair does
+-- not put out. After any other command: everybody seated before who is still a member, but for the one it names.
 abbrev pub SeatsOn : Command → Seating ℕ Code → Plan ℕ Code → Plan ℕ Code → Type 0
 SeatsOn (command.Import import) g before after = (c : ℕ) → IsSome (kept_part g before c) → IsSome (after c)
+SeatsOn (command.Withdraw d p) g before after = Keeps (IsNamed (command.Withdraw d p)) g before after
+SeatsOn (command.Reinstate d p) g before after = Keeps (IsNamed (command.Reinstate d p)) g before after
+SeatsOn (command.CloseHall s h) g before after = (c : ℕ) → IsSome (kept_part g before c) → IsSome (after c)
 
 -- the same members, fits and desks
 pub record SameSeating (a b : Seating ℕ Code) : Type 0 where
@@ -26,6 +37,9 @@ pub record SameSeating (a b : Seating ℕ Code) : Type 0 where
 -- who is seated first
 abbrev pub first_seated : Command → Option ℕ
 first_seated (command.Import import) = None
+first_seated (command.Withdraw d p) = None
+first_seated (command.Reinstate d p) = None
+first_seated (command.CloseHall s h) = None
 
 -- the plan of one session after an accepted command
 pub record IsNextPlan (done : Command) (old new : Seating ℕ Code) (before after : Plan ℕ Code) : Type 0 where

@@ -28,10 +28,7 @@ pub fn imported(facts: &Facts, import: &Import) -> Result<(Facts, Reply), Refusa
         ⊎ (changes.rows_refusal (relations_of facts.now) import.now.rows ≡ Some e)) }
 {
     check_rows(facts, import.rows())?;
-    Ok((
-        with_rows(facts, import.rows())?,
-        count_rows(facts, import),
-    ))
+    Ok((with_rows(facts, import.rows())?, count_rows(facts, import)))
 }
 
 /// Refuses the first row, in the order of the file, that refers to what is not there.

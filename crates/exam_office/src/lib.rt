@@ -2,8 +2,10 @@
 #![tactic(auto)]
 
 mod changes;
+mod closing;
 mod command;
 mod copies;
+mod entries;
 mod grants;
 mod import;
 mod import_row;

@@ -12,13 +12,15 @@ ghost use Rattle.exam_office.specs.Steps as steps;
 ghost use Rattle.exam_office.specs.declared.command.Command.TheVariants as variant;
 
 use crate::changes::imported;
+use crate::closing::closed;
 use crate::command::{Command, Reply};
+use crate::entries::{reinstated, withdrawn};
 use crate::import::Import;
 use crate::limits::is_within_limits;
 use crate::office::{Office, Seats};
 use crate::repair::repaired;
 use exam_rules::{Facts, session_lists};
-use exam_types::{Day, Number, Refusal};
+use exam_types::{Day, HallCode, Number, PaperCode, Refusal, SessionCode};
 use std::alloc::Global;
 
 /// Carries out a command on a day, or refuses it; after a refusal the office is as before.
@@ -73,6 +75,15 @@ pub fn next_office(
 {
     match command {
         Command::Import(import) => with_import(alloc, office, import, today),
+        Command::Withdraw(number, paper) => {
+            with_withdrawal(alloc, office, *number, *paper, today)
+        }
+        Command::Reinstate(number, paper) => {
+            with_reinstatement(alloc, office, *number, *paper, today)
+        }
+        Command::CloseHall(session, hall) => {
+            with_closed_hall(alloc, office, *session, *hall, today)
+        }
     }
 }
 
@@ -92,6 +103,57 @@ fn with_import(
     office.is_good();
     let (facts, reply) = imported(office.facts(), import)?;
     Ok((resettled(alloc, facts, office, None)?, reply))
+}
+
+/// The office after the withdrawal of an entry. It passes no limit.
+fn with_withdrawal(
+    alloc: Global,
+    office: &Office,
+    number: Number,
+    paper: PaperCode,
+    today: Day,
+) -> Result<(Office, Reply), Refusal>
+    ensures ok { IfOk result (λ next. steps.Step (variant.Withdraw number paper) today office.now (Ok next.1) next.0) }
+    ensures refusal { IfErr result (λ e. (e ≡ NoMemory) ⊎ steps.Step (variant.Withdraw number paper) today office.now (Err e) office.now) }
+{
+    let _ = today;
+    office.is_good();
+    let facts = withdrawn(office.facts(), number, paper)?;
+    Ok((resettled(alloc, facts, office, None)?, Reply::Withdrawn))
+}
+
+/// The office after the reinstatement of an entry.
+fn with_reinstatement(
+    alloc: Global,
+    office: &Office,
+    number: Number,
+    paper: PaperCode,
+    today: Day,
+) -> Result<(Office, Reply), Refusal>
+    ensures ok { IfOk result (λ next. steps.Step (variant.Reinstate number paper) today office.now (Ok next.1) next.0) }
+    ensures refusal { IfErr result (λ e. (e ≡ NoMemory) ⊎ steps.Step (variant.Reinstate number paper) today office.now (Err e) office.now) }
+{
+    let _ = today;
+    office.is_good();
+    let facts = reinstated(office.facts(), number, paper)?;
+    Ok((resettled(alloc, facts, office, None)?, Reply::Reinstated))
+}
+
+/// The office after the closing of a hall. It passes no limit.
+fn with_closed_hall(
+    alloc: Global,
+    office: &Office,
+    session: SessionCode,
+    hall: HallCode,
+    today: Day,
+) -> Result<(Office, Reply), Refusal>
+    ensures ok { IfOk result (λ next. steps.Step (variant.CloseHall session hall) today office.now (Ok next.1) next.0) }
+    ensures refusal { IfErr result (λ e. (e ≡ NoMemory) ⊎ steps.Step (variant.CloseHall session hall) today office.now (Err e) office.now) }
+{
+    let _ = today;
+    office.is_good();
+    let facts = closed(office.facts(), session, hall)?;
+    Ok((resettled(alloc, facts, office, None)?, Reply::Closed))
 }
 
 /// The office with these facts, where each session's plan is repaired, the first candidate first where they

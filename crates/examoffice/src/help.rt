@@ -18,6 +18,16 @@ pub const KIND: &str =
 pub const FILE: &str =
     "The CSV file, as examples/entries.csv; its first line is the header of its kind";
 
+pub const WITHDRAW: &str = "Withdraws the entry of a candidate for a paper";
+
+pub const REINSTATE: &str = "Makes a withdrawn entry of a candidate for a paper live again";
+
+pub const NUMBER: &str = "The number of a candidate, as 0000001";
+
+pub const PAPER: &str = "The code of a paper, as MATHS-1";
+
+pub const CLOSE_HALL: &str = "Closes a hall for a session, and seats anew who sat in it";
+
 pub const DOOR_LIST: &str = "Prints who sits in a hall, by desk";
 
 pub const SESSION: &str = "The code of a session, as MON-AM";
@@ -33,7 +43,10 @@ A command that is refused changes nothing and prints `refused` with a number:{n}
 4 no such session{n}   \
 5 no such paper{n}   \
 6 no such candidate{n}   \
-7 no such hall{n}  \
+7 no such hall{n}   \
+8 no such entry{n}   \
+9 the entry is withdrawn already{n}  \
+10 the entry is not withdrawn{n}  \
 20 too many: a limit of the office would be passed, or the file is too long{n}  \
 22 not enough memory{n}  \
 23 the database failed{n}  \

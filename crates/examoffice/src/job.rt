@@ -4,7 +4,7 @@ use crate::report::{DONE, JobFault, flush, print, print_fault, reply_line};
 use exam_files::{door_list, read_import};
 use exam_office::Command;
 use exam_store::Store;
-use exam_types::Refusal;
+use exam_types::{Day, Refusal};
 use sqlite::Alter;
 use std::alloc::Global;
 use std::io::{ErrorKind, Read, Write};
@@ -41,8 +41,19 @@ fn carry_out<S: Alter, R: Read, O: Write>(
         Job::Import { kind, .. } => {
             let bytes = read_file(alloc, reader)?;
             let import = read_import(alloc, kind, bytes.as_slice())?;
-            let reply = store.apply(alloc, &Command::Import(import), line.today)?;
-            print(out, reply_line(&reply).as_str())
+            apply(alloc, store, &Command::Import(import), line.today, out)
+        }
+        Job::Withdraw { number, paper } => {
+            let command = Command::Withdraw(number, paper);
+            apply(alloc, store, &command, line.today, out)
+        }
+        Job::Reinstate { number, paper } => {
+            let command = Command::Reinstate(number, paper);
+            apply(alloc, store, &command, line.today, out)
+        }
+        Job::CloseHall { session, hall } => {
+            let command = Command::CloseHall(session, hall);
+            apply(alloc, store, &command, line.today, out)
         }
         Job::DoorList { session, hall } => {
             let view = store.load_session(alloc, &session)?;
@@ -50,6 +61,18 @@ fn carry_out<S: Alter, R: Read, O: Write>(
             flush(out)
         }
     }
+}
+
+/// Carries out a command of the office, and prints what it answers.
+fn apply<S: Alter, O: Write>(
+    alloc: Global,
+    store: &mut Store<S>,
+    command: &Command,
+    today: Day,
+    out: &mut O,
+) -> Result<(), JobFault> {
+    let reply = store.apply(alloc, command, today)?;
+    print(out, reply_line(&reply).as_str())
 }
 
 /// The bytes of the import file, of which no more are read than show that it is too long.

@@ -3,7 +3,7 @@ use crate::help;
 use clap::error::ErrorKind;
 use clap::{Arg, ArgAction, ArgMatches, Command};
 use exam_office::Kind;
-use exam_types::{Day, HallCode, SessionCode};
+use exam_types::{Day, HallCode, Number, PaperCode, SessionCode};
 use std::alloc::{AllocError, Global};
 
 /// A command of the program, with its values.
@@ -14,6 +14,18 @@ pub enum Job<'a> {
     Import {
         kind: Kind,
         file: &'a str,
+    },
+    Withdraw {
+        number: Number,
+        paper: PaperCode,
+    },
+    Reinstate {
+        number: Number,
+        paper: PaperCode,
+    },
+    CloseHall {
+        session: SessionCode,
+        hall: HallCode,
     },
     DoorList {
         session: SessionCode,
@@ -83,13 +95,38 @@ fn read_job<'a>(name: &str, words: &ArgMatches<'a>) -> Option<Job<'a>> {
             let file = words.get_str("file")?;
             Some(Job::Import { kind, file })
         }
+        "withdraw" => {
+            let (number, paper) = entry_of(words)?;
+            Some(Job::Withdraw { number, paper })
+        }
+        "reinstate" => {
+            let (number, paper) = entry_of(words)?;
+            Some(Job::Reinstate { number, paper })
+        }
+        "close-hall" => {
+            let (session, hall) = opening_of(words)?;
+            Some(Job::CloseHall { session, hall })
+        }
         "door-list" => {
-            let session = SessionCode::parse(words.get_str("session")?.as_bytes())?;
-            let hall = HallCode::parse(words.get_str("hall")?.as_bytes())?;
+            let (session, hall) = opening_of(words)?;
             Some(Job::DoorList { session, hall })
         }
         _ => None,
     }
+}
+
+/// The candidate and the paper that the words name.
+fn entry_of(words: &ArgMatches<'_>) -> Option<(Number, PaperCode)> {
+    let number = Number::parse(words.get_str("number")?.as_bytes())?;
+    let paper = PaperCode::parse(words.get_str("paper")?.as_bytes())?;
+    Some((number, paper))
+}
+
+/// The session and the hall that the words name.
+fn opening_of(words: &ArgMatches<'_>) -> Option<(SessionCode, HallCode)> {
+    let session = SessionCode::parse(words.get_str("session")?.as_bytes())?;
+    let hall = HallCode::parse(words.get_str("hall")?.as_bytes())?;
+    Some((session, hall))
 }
 
 /// The kind of imports that the word names.
@@ -117,13 +154,12 @@ fn office_command<'a>(alloc: Global) -> Result<Command<'a>, AllocError> {
         help::IMPORT,
         &[("kind", help::KIND), ("file", help::FILE)],
     )?;
-    with_job(
-        alloc,
-        command,
-        "door-list",
-        help::DOOR_LIST,
-        &[("session", help::SESSION), ("hall", help::HALL)],
-    )
+    let entry = [("number", help::NUMBER), ("paper", help::PAPER)];
+    let opening = [("session", help::SESSION), ("hall", help::HALL)];
+    let command = with_job(alloc, command, "withdraw", help::WITHDRAW, &entry)?;
+    let command = with_job(alloc, command, "reinstate", help::REINSTATE, &entry)?;
+    let command = with_job(alloc, command, "close-hall", help::CLOSE_HALL, &opening)?;
+    with_job(alloc, command, "door-list", help::DOOR_LIST, &opening)
 }
 
 /// The options, which stand before the command.

@@ -82,7 +82,10 @@ fn run_line(rt: &HostRuntime, line: &Line<'_>) -> Result<u8, JobFault> {
             close_office(store);
             Ok(status)
         }
-        Job::DoorList { .. } => {
+        Job::Withdraw { .. }
+        | Job::Reinstate { .. }
+        | Job::CloseHall { .. }
+        | Job::DoorList { .. } => {
             let mut store = open_office(rt, line.db)?;
             let mut nothing: &[u8] = b"";
             let status = run_job(

@@ -57,6 +57,9 @@ fn write_reply(line: &mut ShortLine, reply: &Reply) -> fmt::Result {
             changed,
             same,
         } => writeln!(line, "added {added} changed {changed} same {same}"),
+        Reply::Withdrawn => writeln!(line, "withdrawn"),
+        Reply::Reinstated => writeln!(line, "reinstated"),
+        Reply::Closed => writeln!(line, "closed"),
     }
 }
 

@@ -2,7 +2,6 @@ use Rattle.std.proofs.Common.{refl, sym, ap, subst, ◌∙◌}
 use Rattle.std.specs.List.{filter_map, IsDistinct}
 use Rattle.exam_rules.specs.Relations.{Relations, relations_of}
 use Rattle.exam_office.specs.Changes.{with_rows, rows_refusal}
-use Rattle.exam_office.specs.declared.command.Command.TheVariants as command
 use Rattle.exam_office.specs.Good.{refers}
 use Rattle.exam_office.specs.Singles.{same_single_key, single_key}
 use Rattle.exam_office.specs.Replies.{import_reply}
@@ -23,7 +22,7 @@ resettled-requires-clause-single c =
 
 pub returns-clause-ok : goal.returns-clause-ok
 returns-clause-ok c =
-    step_accepted (command.Import c.args.import.now) c.args.today c.args.office.now c.in_ok-resettled.field-0 c.args.import.now.rows (relations_of c.in_ok-facts.facts) c.in_ok-facts.reply refl
+    step_accepted c.args.import.now c.args.today c.args.office.now c.in_ok-resettled.field-0 c.args.import.now.rows (relations_of c.in_ok-facts.facts) c.in_ok-facts.reply refl
     (ap (λ r. rows_refusal r c.args.import.now.rows) (sym c.facts.ensures) ∙ c.in_ok-facts.ensures.checked)
     (c.in_ok-facts.ensures.ok ∙ ap (λ r. with_rows r c.args.import.now.rows) c.facts.ensures)
     c.in_ok-resettled.ensures.limits c.in_ok-resettled.ensures.relations
