@@ -1,7 +1,7 @@
-use Rattle.std.proofs.Common.{◌≡◌, ◌∙◌, ◌+◌, ◌<◌, ◌≤◌, cond, is_none, not, false, length, sym, ap, subst, arith}
+use Rattle.std.proofs.Common.{◌∙◌, ◌+◌, ◌<◌, ◌≤◌, cond, is_none, not, false, length, sym, ap, arith}
 use Rattle.std.specs.Option.{option_map_or}
 use Rattle.exam_rules.specs.Relations.{relations_of}
-use Rattle.exam_office.proofs.Counting.{AreCounted, counted_all, counted_fresh, counted_none, counted_repeated, first_here}
+use Rattle.exam_office.proofs.Counting.{counted_all, counted_fresh, counted_none, counted_repeated, first_here}
 use Rattle.exam_office.proofs.changes.count_rows.Goals as goal
 use Rattle.exam_office.proofs.changes.count_rows.Goals.{then-is_first, else-is_first}
 
