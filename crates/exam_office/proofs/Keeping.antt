@@ -11,7 +11,7 @@ use Rattle.exam_plan.specs.Matching.{Plan, IsLawful, Keeps, is_hall, occupants}
 use Rattle.exam_plan.specs.Repair.{is_member as is_member_of, where_fitting, fitting_part, lesser_occupants, where_room, kept_part, IsRepair}
 use Rattle.exam_plan.proofs.LawLemmas.{listed_in}
 use Rattle.exam_rules.specs.Relations.{Code, Relations, same_code}
-use Rattle.exam_rules.specs.Sessions.{members, is_member}
+use Rattle.exam_rules.specs.Sessions.{members, has_live_entry}
 use Rattle.exam_rules.specs.Seatings.{seating, fits, desks}
 use Rattle.exam_rules.proofs.Naming.{same_code_itself}
 use Rattle.exam_office.proofs.Members.{kept_from, listed_member}
@@ -79,23 +79,23 @@ module _ (r t : Relations) (s : Code) (d : ℕ) (same_candidates : t.candidates 
     abbrev sits_at : Code → ℕ → Bool
     sits_at h e = is_hall (seating r s) h (plan e)
 
-    lesser_sat : (c : ℕ) (h : Code) (e : ℕ) → (is_member t s e && lesser c h e) ≡ true → (is_member r s e && sits_at h e) ≡ true
+    lesser_sat : (c : ℕ) (h : Code) (e : ℕ) → (has_live_entry t s e && lesser c h e) ≡ true → (has_live_entry r s e && sits_at h e) ≡ true
     lesser_sat c h e both =
-        let at : is_hall (seating r s) h (plan e) ≡ true = sat e h (plan e) (and_parts (is_lt (nat_cmp e c)) (is_hall (seating t s) h (fitting_part (seating t s) plan e)) (and_parts (is_member t s e) (lesser c h e) both).1).1 in
-        and_from (is_member r s e) (sits_at h e) (listed_member r s e (lawful.members e (sits h (plan e) at))) at
+        let at : is_hall (seating r s) h (plan e) ≡ true = sat e h (plan e) (and_parts (is_lt (nat_cmp e c)) (is_hall (seating t s) h (fitting_part (seating t s) plan e)) (and_parts (has_live_entry t s e) (lesser c h e) both).1).1 in
+        and_from (has_live_entry r s e) (sits_at h e) (listed_member r s e (lawful.members e (sits h (plan e) at))) at
 
     lesser_few : (c : ℕ) (h : Code) → plan c ≡ Some h → lesser_occupants (seating t s) (fitting_part (seating t s) plan) c h < length (occupants (seating r s) plan h)
     lesser_few c h is =
         let member : Contains (members r s) c = lawful.members c (ap is_some is) in
         let itself : lesser c h c ≡ false = ap (λ b. b && is_hall (seating t s) h (fitting_part (seating t s) plan c)) (ap is_lt (sym (nat_cmp_is c c Equal refl))) in
         let here : sits_at h c ≡ true = ap (is_hall (seating r s) h) is ∙ same_code_itself h in
-        let less = fewer (λ e. is_member t s e && lesser c h e) (λ e. is_member r s e && sits_at h e) (lesser_sat c h) c
-        (and_right (is_member t s c) (lesser c h c) itself) (and_from (is_member r s c) (sits_at h c) (listed_member r s c member) here)
-        (keys_of r.candidates) (listed_in (keys_of r.candidates) c (kept_from (is_member r s) (keys_of r.candidates) c member)) in
-        let old : length (occupants (seating r s) plan h) ≡ length (filter (λ e. is_member r s e && sits_at h e) (keys_of r.candidates)) = ap length (filtered (is_member r s) (sits_at h) (keys_of r.candidates)) in
-        let new : lesser_occupants (seating t s) (fitting_part (seating t s) plan) c h ≡ length (filter (λ e. is_member t s e && lesser c h e) (keys_of r.candidates)) =
-        sym (length-filter (lesser c h) (members t s)) ∙ ap length (filtered (is_member t s) (lesser c h) (keys_of t.candidates))
-        ∙ ap (λ rows. length (filter (λ e. is_member t s e && lesser c h e) (keys_of rows))) same_candidates in
+        let less = fewer (λ e. has_live_entry t s e && lesser c h e) (λ e. has_live_entry r s e && sits_at h e) (lesser_sat c h) c
+        (and_right (has_live_entry t s c) (lesser c h c) itself) (and_from (has_live_entry r s c) (sits_at h c) (listed_member r s c member) here)
+        (keys_of r.candidates) (listed_in (keys_of r.candidates) c (kept_from (has_live_entry r s) (keys_of r.candidates) c member)) in
+        let old : length (occupants (seating r s) plan h) ≡ length (filter (λ e. has_live_entry r s e && sits_at h e) (keys_of r.candidates)) = ap length (filtered (has_live_entry r s) (sits_at h) (keys_of r.candidates)) in
+        let new : lesser_occupants (seating t s) (fitting_part (seating t s) plan) c h ≡ length (filter (λ e. has_live_entry t s e && lesser c h e) (keys_of r.candidates)) =
+        sym (length-filter (lesser c h) (members t s)) ∙ ap length (filtered (has_live_entry t s) (lesser c h) (keys_of t.candidates))
+        ∙ ap (λ rows. length (filter (λ e. has_live_entry t s e && lesser c h e) (keys_of rows))) same_candidates in
         omega (arith, less, old, new)
 
     kept_at : (c : ℕ) (h : Code) → plan c ≡ Some h → Contains (members t s) c → nat_eq d c ≡ false → kept_part (seating t s) plan c ≡ Some h

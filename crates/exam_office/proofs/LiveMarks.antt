@@ -15,7 +15,7 @@ use Rattle.exam_rules.specs.declared.rows.Entry.{Entry}
 use Rattle.exam_rules.specs.declared.rows.Session.{Session}
 use Rattle.exam_rules.specs.declared.rows.Paper.{Paper}
 use Rattle.exam_rules.specs.Relations.{Code, Relations, code_cmp, same_code, entry_cmp, row_at, put_row}
-use Rattle.exam_rules.specs.Sessions.{members, is_member, is_live, is_live_entry, is_live_paper, is_paper_of, live_papers, granted_paper, head_of, option_filter, sitting, arrangement_in_force, barred_halls}
+use Rattle.exam_rules.specs.Sessions.{members, has_live_entry, is_live, is_live_entry, is_live_paper, is_paper_of, live_papers, granted_paper, head_of, option_filter, sitting, arrangement_in_force, barred_halls}
 use Rattle.exam_rules.specs.Seatings.{fits, suits_opened, terms_of, opened_room}
 use Rattle.exam_rules.proofs.Sitters.{members_sit}
 use Rattle.exam_office.specs.Changes.{with_live}
@@ -100,7 +100,7 @@ module _ (r : Relations) (d : ℕ) (p : Code) (live : Bool) (s : Code) where
         ap (λ f. option_or (option_filter f (granted_paper r s c)) (head_of (live_papers (with_live r d p live) s c))) live_papers_same
         ∙ ap (λ ps. option_or (option_filter (is_live_paper r s c) (granted_paper r s c)) (head_of ps)) papers_same
 
-    member_same : is_member (with_live r d p live) s c ≡ is_member r s c
+    member_same : has_live_entry (with_live r d p live) s c ≡ has_live_entry r s c
     member_same = sym (members_sit (with_live r d p live) s c) ∙ ap is_some sitting_same ∙ members_sit r s c
 
     -- whether a hall fits a member or not who sits this paper
@@ -110,16 +110,16 @@ module _ (r : Relations) (d : ℕ) (p : Code) (live : Bool) (s : Code) where
         && not (list_any (same_code h) (barred_halls r s c)))
 
     pub fits_same : (h : Code) → fits (with_live r d p live) s c h ≡ fits r s c h
-    fits_same h = ap (λ m. fits_with h m (sitting (with_live r d p live) s c)) member_same ∙ ap (fits_with h (is_member r s c)) sitting_same
+    fits_same h = ap (λ m. fits_with h m (sitting (with_live r d p live) s c)) member_same ∙ ap (fits_with h (has_live_entry r s c)) sitting_same
 
 -- ---- a withdrawal
 
 module _ (r : Relations) (d : ℕ) (p : Code) where
-  member_before : (s : Code) (c : ℕ) → is_member (with_live r d p false) s c ≡ true → is_member r s c ≡ true
+  member_before : (s : Code) (c : ℕ) → has_live_entry (with_live r d p false) s c ≡ true → has_live_entry r s c ≡ true
   member_before s c = put_none entry_cmp entries_exact (is_live_entry r s c) r.entries (d, p) (record { live = false }) (λ k. and_right (nat_eq k.0 c) (false && is_paper_of r s k.1) refl)
 
   members_fewer : (s : Code) → length (members (with_live r d p false) s) ≤ length (members r s)
-  members_fewer s = no_more (is_member (with_live r d p false) s) (is_member r s) (member_before s) (keys_of r.candidates)
+  members_fewer s = no_more (has_live_entry (with_live r d p false) s) (has_live_entry r s) (member_before s) (keys_of r.candidates)
 
   members_still_within : members_within r ≡ true → members_within (with_live r d p false) ≡ true
   members_still_within within =
