@@ -1,4 +1,5 @@
 //! The worked rows, through all layers over a database in memory.
+mod closing;
 mod reopening;
 
 use crate::job::run_job;
@@ -152,7 +153,8 @@ const SECOND_NEEDS: &str = "number,needs,extra\n0000002,step-free,0\n";
 
 const ONE_ADDED: &str = "added 1 changed 0 same 0\n";
 
-const FIRST_IN_A: &str = "DOOR LIST session S1 hall A\ndate 2027-06-01 start 09:00 desks 1 seated 1\n   1 0000001 MA-1         Bo Berg\n";
+const FIRST_IN_A: &str =
+    "DOOR LIST session S1 hall A\ndate 2027-06-01 start 09:00 desks 1 seated 1\n   1 0000001 MA-1         Bo Berg\n";
 
 const NOBODY_IN_B: &str =
     "DOOR LIST session S1 hall B\ndate 2027-06-01 start 09:00 desks 1 seated 0\n";
@@ -168,9 +170,11 @@ fn first_candidate_takes_the_least_hall(rt: HostRuntime) -> Result<(), Fail> {
     expect_all(&rt, &mut base_office(&rt)?, FIRST_TAKES_A)
 }
 
-const SECOND_IN_A: &str = "DOOR LIST session S1 hall A\ndate 2027-06-01 start 09:00 desks 1 seated 1\n   1 0000002 MA-1         Ada Lin\n";
+const SECOND_IN_A: &str =
+    "DOOR LIST session S1 hall A\ndate 2027-06-01 start 09:00 desks 1 seated 1\n   1 0000002 MA-1         Ada Lin\n";
 
-const FIRST_IN_B: &str = "DOOR LIST session S1 hall B\ndate 2027-06-01 start 09:00 desks 1 seated 1\n   1 0000001 MA-1         Bo Berg\n";
+const FIRST_IN_B: &str =
+    "DOOR LIST session S1 hall B\ndate 2027-06-01 start 09:00 desks 1 seated 1\n   1 0000001 MA-1         Bo Berg\n";
 
 const SECOND_NEEDS_A: &[Row<'_>] = &[
     ("import entries f", ONE_ENTRY, Ok(ONE_ADDED)),
@@ -199,7 +203,9 @@ const FEWER_DESKS: &[Row<'_>] = &[
     (
         "door-list S1 A",
         "",
-        Ok("DOOR LIST session S1 hall A\ndate 2027-06-01 start 09:00 desks 2 seated 2\n   1 0000001 MA-1         Bo Berg\n   2 0000004 MA-1         Di Roe\n"),
+        Ok(
+            "DOOR LIST session S1 hall A\ndate 2027-06-01 start 09:00 desks 2 seated 2\n   1 0000001 MA-1         Bo Berg\n   2 0000004 MA-1         Di Roe\n",
+        ),
     ),
     (
         "import openings f",

@@ -1,5 +1,5 @@
 //! What happens to an office, in words.
-use super::lines::{Line, import_of, number, paper, session};
+use super::lines::{Line, hall, import_of, number, paper, session};
 use super::setups::{Fact, Sitting, office_of};
 use crate::{Command, Kind, Office, Reply, run, step};
 use exam_types::{Day, HallCode, Refusal};
@@ -7,13 +7,23 @@ use std::alloc::Global;
 use std::process::Abort;
 use std::test::Fail;
 
-/// An import or a look at the office.
+/// A command other than an import.
+#[derive(Clone, Copy)]
+pub enum Order<'a> {
+    Withdraw(u32, &'a str),
+    Reinstate(u32, &'a str),
+    CloseHall(&'a str, &'a str),
+}
+
+/// A command or a look at the office.
 #[derive(Clone, Copy)]
 pub enum Scene<'a> {
     /// An import of a kind, and how many keys it adds, changes and finds the same.
     Import(Kind, &'a [Line<'a>], [u32; 3]),
     /// An import that is refused.
     Refused(Kind, &'a [Line<'a>], Refusal),
+    /// Another command, and what it answers.
+    Order(Order<'a>, Result<Reply, Refusal>),
     /// In which halls candidates sit in a session; `-` is nowhere.
     Seats(&'a str, &'a [(u32, &'a str)]),
     /// A candidate's entry for a paper is withdrawn.
@@ -47,6 +57,25 @@ fn answer_of(
     let today = today()?;
     let command = Command::Import(import_of(alloc, kind, lines)?);
     Ok(step(alloc, office, &command, today))
+}
+
+fn command_of(order: Order) -> Result<Command, Fail> {
+    match order {
+        Order::Withdraw(value, code) => Ok(Command::Withdraw(number(value)?, paper(code)?)),
+        Order::Reinstate(value, code) => Ok(Command::Reinstate(number(value)?, paper(code)?)),
+        Order::CloseHall(of, code) => Ok(Command::CloseHall(session(of)?, hall(code)?)),
+    }
+}
+
+fn expect_order<R: Abort + AllocGlobal>(
+    rt: &R,
+    office: &mut Office,
+    order: Order,
+    wanted: Result<Reply, Refusal>,
+) -> Result<(), Fail> {
+    let command = command_of(order)?;
+    assert_eq!(rt; step(rt.alloc(), office, &command, today()?), wanted);
+    Ok(())
 }
 
 /// Where a candidate sits, if they do.
@@ -95,6 +124,7 @@ fn take<R: Abort + AllocGlobal>(rt: &R, office: &mut Office, scene: &Scene) -> R
         Scene::Refused(kind, lines, refusal) => {
             expect_answer(rt, office, *kind, lines, Err(*refusal))
         }
+        Scene::Order(order, wanted) => expect_order(rt, office, *order, *wanted),
         Scene::Seats(of, places) => expect_places(rt, office, of, places),
         Scene::IsWithdrawn(value, code) => {
             assert!(rt; is_withdrawn(office, *value, code)?);

@@ -1,6 +1,7 @@
 //! What is written is what is read again, and what is no office is refused.
 use super::{
-    ONE_ADDED, ONE_ENTRY, SECOND_NEEDS, SECOND_NEEDS_A, base_office, expect_all, expect_done, import_base,
+    ONE_ADDED, ONE_ENTRY, SECOND_NEEDS, SECOND_NEEDS_A, base_office, expect_all, expect_done,
+    import_base,
 };
 use exam_store::Store;
 use exam_types::Refusal;
