@@ -1,8 +1,12 @@
+pub mod Applying
+pub mod Committing
 pub mod Creating
 pub mod Differing
+pub mod EachTree
 pub mod Exact
 pub mod Inserting
 pub mod Reading
+pub mod Rekeeping
 pub mod SavedRows
 pub mod Steps
 pub mod Turning

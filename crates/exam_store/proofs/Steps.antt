@@ -87,3 +87,7 @@ state_small (Superseded answer) = lit< tt
 pub bound_answer : (answer : Option (List ℕ)) → bound_value (or_null Text answer) ≡ or_null Text answer
 bound_answer None = refl
 bound_answer (Some text) = refl
+
+-- a step that was refused makes nothing
+pub makes_nothing : (old new : State) (e : Refusal) (one other : Trees → Trees) → Makes old new (Err e) one → Makes old new (Err e) other
+makes_nothing old new e one other a = record { made = λ clean going. tt; kept = a.kept; survives = a.survives; told = a.told }

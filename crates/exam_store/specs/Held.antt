@@ -1,5 +1,5 @@
 -- The facts and plans that tables hold.
-use Rattle.std.specs.Prelude.{ℕ, List, ◌∷◌, map, IsPermutation}
+use Rattle.std.specs.Prelude.{List, ◌∷◌, map, IsPermutation}
 use Rattle.sqlite_value.specs.declared.value.Value.TheVariants.{Null}
 use Rattle.sqlite_value.specs.Order.{Row}
 use Rattle.sqlite_trees.specs.Tree.{Trees}

@@ -1,8 +1,12 @@
+pub mod Applied
 pub mod Differences
 pub mod Faults
 pub mod Held
 pub mod Inside
+pub mod Kept
 pub mod Reading
 pub mod Rows
+pub mod Saves
 pub mod Stored
+pub mod Stores
 pub mod Versions

@@ -1,8 +1,18 @@
 //! An office in a database.
-ghost use Rattle.std.specs.Prelude.{◌≡◌, IsTrue, IfOk, IfErr, OnErr};
+ghost use Rattle.std.specs.Prelude.{◌≡◌, false, IsTrue, IfOk, IfErr, OnErr, MatchResult};
+ghost use Rattle.sqlite.specs.Held.{state};
+ghost use Rattle.sqlite.specs.State.{HasCleanDisk, IsUnchanged};
+ghost use Rattle.sqlite.specs.Steps.{over_memory};
+ghost use Rattle.exam_types.specs.declared.refusal.Refusal.TheVariants.{NoMemory};
+ghost use Rattle.exam_rules.specs.Relations.{Code};
 ghost use Rattle.exam_rules.specs.Sessions.{IsSessionRefusal};
+ghost use Rattle.exam_office.specs.Headline.{IsSeated};
+ghost use Rattle.exam_office.specs.State.{empty_state};
 ghost use Rattle.exam_office.specs.Views.{IsViewOf};
+ghost use Rattle.exam_store.specs.Applied.{MayApply, TurnsBy, Applies};
 ghost use Rattle.exam_store.specs.Faults.{is_store_refusal};
+ghost use Rattle.exam_store.specs.Kept.{IsSound, IsKept, IsOurs, Keeps, Rekeeps, Commits};
+ghost use Rattle.exam_store.specs.Versions.{IsBlank};
 
 use crate::loading::load_office;
 use crate::saving::{save, save_empty};
@@ -11,12 +21,27 @@ use exam_office::{Command, Office, Reply, SessionView, next_office};
 use exam_types::{Day, Refusal, SessionCode};
 use sqlite::{Alter, Connection, MemStore};
 use std::alloc::Global;
+use std::marker::Model;
 
 /// An office whose tables lie in a database. Each call refuses as `NoMemory` where there is not enough memory, and as
 /// `Store` where a call of the database failed.
 pub struct Store<S: Alter> {
     conn: Connection<S>,
     office: Office,
+}
+
+impl<S: Alter> Model for Store<S> {
+    ghost use Rattle.std.specs.Prelude.{◌≡◌, false};
+    ghost use Rattle.exam_store.specs.Stores.{OfficeIn, office_code};
+
+    ghost Value = { OfficeIn S };
+
+    ghost coded = { office_code S.code };
+
+    ghost view = { λ s. record { office = s.office; database = s.conn } };
+
+    // No transaction is under way between two calls.
+    ghost invariant = { λ s. s.conn.in_transaction ≡ false };
 }
 
 impl<S: Alter + Drop> Drop for Store<S> {
@@ -28,7 +53,9 @@ impl<S: Alter + Drop> Drop for Store<S> {
 impl Store<MemStore> {
     /// An empty office in memory.
     pub fn in_memory(alloc: Global) -> Result<Store<MemStore>, Refusal>
-        ensures { IfErr result (λ e. IsTrue (is_store_refusal e)) }
+        ensures office { IfOk result (λ store. store.office ≡ empty_state) }
+        ensures kept { IfOk result (λ store. IsKept (state over_memory store.database) store.office × IsTrue (state over_memory store.database).is_open) }
+        ensures told { IfErr result (λ e. IsTrue (is_store_refusal e)) }
     {
         let mut conn = Connection::open_in_memory(alloc)?;
         save_empty(&mut conn)?;
@@ -41,41 +68,85 @@ impl Store<MemStore> {
 
 impl<S: Alter> Store<S> {
     /// Makes an empty office in a database with nothing in it, or opens the good office that is there. The connection
-    /// comes back beside a refusal: `BadStore` where the database holds something else.
+    /// comes back beside a refusal: `BadStore` where the database holds something else, and `Store` also where a
+    /// transaction is under way.
     pub fn create(
         alloc: Global,
         mut conn: Connection<S>,
     ) -> Result<Store<S>, (Refusal, Connection<S>)>
-        ensures { IfErr result (λ e. IsTrue (is_store_refusal e.0)) }
+        ensures empty { IsBlank (state S.Store conn).now → IfOk result (λ store. store.office ≡ empty_state) }
+        ensures made { IsBlank (state S.Store conn).now → MatchResult result
+            (λ store. Commits (state S.Store conn) (state S.Store store.database) result (λ old new. Keeps new empty_state))
+            (λ e. Commits (state S.Store conn) (state S.Store e.1) result (λ old new. Keeps new empty_state)) }
+        ensures found { IfOk result (λ store. HasCleanDisk (state S.Store store.database) → IsOurs (state S.Store conn).now
+            → Keeps (state S.Store conn).now store.office × IsUnchanged (state S.Store conn) (state S.Store store.database)) }
+        ensures told { IfErr result (λ e. IsTrue (is_store_refusal e.0)) }
     {
         match create_office(alloc, &mut conn) {
-            Ok(office) => Ok(Store { conn, office }),
+            Ok(office) => store_of(conn, office),
             Err(refusal) => Err((refusal, conn)),
         }
     }
 
     /// Opens the office that is there. The connection comes back beside a refusal: `BadStore` where the database holds
-    /// no good office of this version.
+    /// no good office of this version, and `Store` also where a transaction is under way.
     pub fn open(
         alloc: Global,
         mut conn: Connection<S>,
     ) -> Result<Store<S>, (Refusal, Connection<S>)>
-        ensures { IfErr result (λ e. IsTrue (is_store_refusal e.0)) }
+        ensures found { IfOk result (λ store. HasCleanDisk (state S.Store store.database) → IsOurs (state S.Store conn).now
+            → Keeps (state S.Store conn).now store.office × IsUnchanged (state S.Store conn) (state S.Store store.database)) }
+        ensures told { IfErr result (λ e. IsTrue (is_store_refusal e.0)) }
     {
-        match load_office(alloc, &mut conn) {
-            Ok(office) => Ok(Store { conn, office }),
+        match load_kept(alloc, &mut conn) {
+            Ok(office) => store_of(conn, office),
             Err(refusal) => Err((refusal, conn)),
         }
     }
 
     /// Carries out a command on a day, in one transaction, or refuses it; after a refusal all is as before.
     pub fn apply(&mut self, alloc: Global, command: &Command, today: Day) -> Result<Reply, Refusal>
-        ensures { OnErr result (self.new.office ≡ self.old.office) }
+        ensures step { MayApply command.now today self.old.office result self.new.office }
+        ensures kept { IsSound (state S.Store self.new.database) → Rekeeps self.old.office self.new.office (state S.Store self.old.database).now (state S.Store self.new.database).now }
+        ensures made { Commits (state S.Store self.old.database) (state S.Store self.new.database) result (TurnsBy command.now today self.old.office) }
     {
         let (next, reply) = next_office(alloc, &self.office, command, today)?;
         save(alloc, &mut self.conn, &self.office, &next)?;
         self.office = next;
         Ok(reply)
+    }
+
+    /// Applies commands in order, each on its day, and gives what each answers. Refused for want of memory before any
+    /// command, and then all is as before. Whatever it answers, every session is seated as promised.
+    pub fn apply_all(
+        &mut self,
+        alloc: Global,
+        commands: &[(Command, Day)],
+    ) -> Result<Vec<Result<Reply, Refusal>>, Refusal>
+        ensures run { IfOk result (λ replies. Applies commands.now self.old.office replies.items self.new.office) }
+        ensures kept { IsSound (state S.Store self.new.database) → Rekeeps self.old.office self.new.office (state S.Store self.old.database).now (state S.Store self.new.database).now }
+        ensures was_open { IsSound (state S.Store self.new.database) → IsSound (state S.Store self.old.database) }
+        ensures headline { (s : Code) → IsSeated self.new.office s }
+        ensures memory { IfErr result (λ e. e ≡ NoMemory) }
+        ensures same { OnErr result (self.new ≡ self.old) }
+    {
+        // What an office promises is shown here for a refusal, and once more after the commands.
+        self.is_seated();
+        // Room for all replies first, so that nothing fails once a command is applied.
+        let mut replies = Vec::with_capacity(alloc, commands.len())?;
+        'commands: for (command, today) in commands {
+            replies.push_reserved(self.apply(alloc, command, *today));
+        }
+        self.is_seated();
+        Ok(replies)
+    }
+
+    /// In every session whoever sits has a fitting hall and a desk of their own, and no lawful plan seats more. Does
+    /// nothing.
+    pub fn is_seated(&self)
+        ensures { (s : Code) → IsSeated self.now.office s }
+    {
+        self.office.is_seated();
     }
 
     /// One session with its plan. Refused as an unknown session where there is no such session.
@@ -92,18 +163,49 @@ impl<S: Alter> Store<S> {
     }
 
     /// Gives the connection back. Takes no memory.
-    pub fn close(self) -> Connection<S> {
+    pub fn close(self) -> Connection<S>
+        ensures { result ≡ self.database }
+    {
         let Store { conn, office: _ } = self;
         conn
     }
 }
 
+/// The store of this office. Refused where a transaction is under way.
+fn store_of<S: Alter>(
+    conn: Connection<S>,
+    office: Office,
+) -> Result<Store<S>, (Refusal, Connection<S>)>
+    ensures ok { IfOk result (λ store. (store.office ≡ office) × (store.database ≡ conn) × (conn.in_transaction ≡ false)) }
+    ensures err { IfErr result (λ e. (e.0 ≡ Refusal.Store) × (e.1 ≡ conn) × IsTrue conn.in_transaction) }
+{
+    if conn.is_autocommit() {
+        Ok(Store { conn, office })
+    } else {
+        Err((Refusal::Store, conn))
+    }
+}
+
+/// The empty office, whose tables are made, or the office that is there.
 fn create_office<S: Alter>(alloc: Global, conn: &mut Connection<S>) -> Result<Office, Refusal>
-    ensures { IfErr result (λ e. IsTrue (is_store_refusal e)) }
+    ensures empty { IsBlank (state S.Store conn.old).now → IfOk result (λ office. (office ≡ empty_state) × (conn.new.in_transaction ≡ false)) }
+    ensures made { IsBlank (state S.Store conn.old).now → Commits (state S.Store conn.old) (state S.Store conn.new) result (λ old new. Keeps new empty_state) }
+    ensures found { HasCleanDisk (state S.Store conn.new) → IfOk result (λ office. IsOurs (state S.Store conn.old).now
+        → Keeps (state S.Store conn.old).now office × IsUnchanged (state S.Store conn.old) (state S.Store conn.new)) }
+    ensures told { IfErr result (λ e. IsTrue (is_store_refusal e)) }
 {
     if !is_blank(conn) {
-        return load_office(alloc, conn);
+        return load_kept(alloc, conn);
     }
     save_empty(conn)?;
     Ok(Office::empty(alloc))
+}
+
+/// The office that is there.
+fn load_kept<S: Alter>(alloc: Global, conn: &mut Connection<S>) -> Result<Office, Refusal>
+    ensures found { HasCleanDisk (state S.Store conn.new) → IfOk result (λ office. IsOurs (state S.Store conn.old).now
+        → Keeps (state S.Store conn.old).now office × IsUnchanged (state S.Store conn.old) (state S.Store conn.new)) }
+    ensures told { IfErr result (λ e. IsTrue (is_store_refusal e)) }
+{
+    load_office(alloc, conn)
 }

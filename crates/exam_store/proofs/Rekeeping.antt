@@ -1,0 +1,68 @@
+-- The database that kept the old office keeps the new one.
+use Rattle.std.proofs.Common.{◌≡◌, [], length, Ok, Err, Result, OnOk, IfOk, refl, sym, ap, subst, ◌∙◌}
+use Rattle.std.proofs.lemmas.List.Sorted.{IsPermutation-refl}
+use Rattle.sqlite_trees.specs.Tree.{Trees}
+use Rattle.sqlite.specs.Effect.{Database}
+use Rattle.sqlite_schema.specs.declared.schema.Schema.{Schema}
+use Rattle.exam_tables.specs.Tables.{no_schema, store_schema}
+use Rattle.sqlite.specs.State.{State as Shown, IsUnchanged}
+use Rattle.exam_types.specs.declared.refusal.Refusal.{Refusal}
+use Rattle.exam_office.specs.State.{State, empty_state}
+use Rattle.exam_store.specs.declared.saving.Changes.{Changes}
+use Rattle.exam_store.specs.Held.{HoldsRows, HoldsOffice}
+use Rattle.exam_store.specs.Inside.{Becomes, Contains}
+use Rattle.exam_store.specs.Kept.{Rekeeps, Keeps, IsOurs}
+use Rattle.exam_store.specs.Rows.{session_row, paper_row, hall_row, candidate_row, opening_row, entry_row, arrangement_row, appeal_row, seat_row}
+use Rattle.exam_store.specs.Saves.{all_saved, TurnsTables}
+use Rattle.exam_store.specs.Versions.{HasVersion, new_tables, IsBlank, IsMade}
+use Rattle.exam_store.proofs.EachTree.{sessions_after, papers_after, halls_after, openings_after, candidates_after, entries_after, arrangements_after, appeals_after, seats_after, version_after}
+use Rattle.exam_store.proofs.SavedRows.{table_saved, sessions_match, papers_match, halls_match, openings_match, candidates_match, entries_match, arrangements_match, appeals_match, seats_match}
+
+-- the rows of each table are those of the new office
+holds_after : (before after : State) (c : Changes) (all : Trees) → TurnsTables before after c → HoldsOffice all before → HoldsOffice (all_saved c all) after
+holds_after before after c all turns was = record {
+  facts = record {
+    sessions = subst (HoldsRows session_row after.relations.sessions) (sym (sessions_after c all)) (table_saved sessions_match 1 all _ _ _ _ turns.sessions was.facts.sessions);
+    papers = subst (HoldsRows paper_row after.relations.papers) (sym (papers_after c all)) (table_saved papers_match 3 all _ _ _ _ turns.papers was.facts.papers);
+    halls = subst (HoldsRows hall_row after.relations.halls) (sym (halls_after c all)) (table_saved halls_match 5 all _ _ _ _ turns.halls was.facts.halls);
+    openings = subst (HoldsRows opening_row after.relations.openings) (sym (openings_after c all)) (table_saved openings_match 8 all _ _ _ _ turns.openings was.facts.openings);
+    candidates = subst (HoldsRows candidate_row after.relations.candidates) (sym (candidates_after c all)) (table_saved candidates_match 7 all _ _ _ _ turns.candidates was.facts.candidates);
+    entries = subst (HoldsRows entry_row after.relations.entries) (sym (entries_after c all)) (table_saved entries_match 10 all _ _ _ _ turns.entries was.facts.entries);
+    arrangements = subst (HoldsRows arrangement_row after.relations.arrangements) (sym (arrangements_after c all)) (table_saved arrangements_match 12 all _ _ _ _ turns.arrangements was.facts.arrangements);
+    appeals = subst (HoldsRows appeal_row after.relations.appeals) (sym (appeals_after c all)) (table_saved appeals_match 13 all _ _ _ _ turns.appeals was.facts.appeals);
+  };
+  seats = subst (HoldsRows seat_row after.seats) (sym (seats_after c all)) (table_saved seats_match 15 all _ _ _ _ turns.seats was.seats);
+}
+
+pub rekeeps : (before after : State) (c : Changes) (old new : Database) → TurnsTables before after c → Becomes (all_saved c) old new → Rekeeps before after old new
+rekeeps before after c old new turns becomes was = record {
+  all = all_saved c was.all;
+  contains = becomes was.all was.contains;
+  version = version_after c was.all ∙ was.version;
+  held = holds_after before after c was.all turns was.held;
+}
+
+-- tables that were just made keep an office with no facts
+pub keeps_empty : (db : Database) → IsMade db → Keeps db empty_state
+keeps_empty db made =
+    let none = IsPermutation-refl [] in
+    record {
+      all = new_tables;
+      contains = made;
+      version = refl;
+      held = record { facts = record { sessions = none; papers = none; halls = none; candidates = none; openings = none; entries = none; arrangements = none; appeals = none }; seats = none };
+    }
+
+has_tables : store_schema ≡ no_schema → ⊥
+unfolding store_schema
+has_tables is = let e = ap (λ (s : Schema). length s.tables) is in absurd cc
+
+-- a database with the ten tables is not blank
+pub not_blank : (db : Database) → IsOurs db → IsBlank db → ⊥
+not_blank db ours blank = has_tables (sym ours.1.schema_is ∙ blank)
+
+-- the office that was loaded is kept by the tables, where they are the ten
+pub loaded : (old new : Shown) (result : Result State Refusal) → IfOk result (λ office. (all : Trees) → Contains old.now all → HoldsOffice all office × IsUnchanged old new) → OnOk result ((all : Trees) → Contains old.now all → HasVersion all)
+    → IfOk result (λ office. IsOurs old.now → Keeps old.now office × IsUnchanged old new)
+loaded old new (Ok office) rows version = λ ours. let it = rows ours.0 ours.1 in (record { all = ours.0; contains = ours.1; version = version ours.0 ours.1; held = it.0 }, it.1)
+loaded old new (Err e) rows version = tt
