@@ -1,14 +1,13 @@
 -- How the rows of a file follow, a record at a time.
-use Rattle.std.proofs.Common.{◌≡◌, ◌∙◌, ◌+◌, ℕ, List, [], ◌∷◌, ◌++◌, length, true, false, refl, sym, ap, inl, inr}
-use Rattle.std.specs.Prelude.{Ok, Err, Result, ◌⊎◌, nat_lt}
+use Rattle.std.proofs.Common.{◌≡◌, ◌∙◌, ◌+◌, ℕ, List, [], ◌∷◌, ◌++◌, true, false, refl, sym, ap, inl, inr}
+use Rattle.std.specs.Prelude.{Ok, Err, Result, ◌⊎◌}
 use Rattle.std.specs.Result.{IsErrAnd}
-use Rattle.csv.specs.Reading.{default_config, records, strip_bom}
 use Rattle.exam_office.specs.Imports.{ImportRows, conflicts}
 use Rattle.exam_office.specs.declared.import_row.Kind.{Kind}
 use Rattle.exam_office.specs.declared.import_row.Row.{Row}
 use Rattle.exam_types.specs.declared.refusal.Refusal.{Refusal}
 use Rattle.exam_types.specs.declared.refusal.Refusal.TheVariants.{BadHeader, NoMemory, RowConflict}
-use Rattle.exam_files.specs.ImportFiles.{GivesUnlessMemory, import_of, is_header, row_of, rows_from, rows_of}
+use Rattle.exam_files.specs.ImportFiles.{GivesUnlessMemory, is_header, row_of, rows_from, rows_of}
 
 pub rows-more : (kind : Kind) (place : ℕ) (rows : List Row) (f : List (List ℕ)) (rest : List (List (List ℕ))) (row : Row) → row_of kind place f ≡ Ok row → conflicts row rows ≡ false
     → rows_from kind place rows (f ∷ rest) ≡ rows_from kind (place + 1) (rows ++ row ∷ []) rest
@@ -34,10 +33,6 @@ header-yes kind h rs e = rw (← e) refl
 
 pub header-no : (kind : Kind) (h : List (List ℕ)) (rs : List (List (List ℕ))) → false ≡ is_header kind h → rows_of kind (h ∷ rs) ≡ Err BadHeader
 header-no kind h rs e = rw (← e) refl
-
--- a file that is no longer than it may be
-pub small : (kind : Kind) (bytes : List ℕ) → nat_lt 4194304 (length bytes) ≡ false → import_of kind bytes ≡ rows_of kind (records default_config (strip_bom bytes))
-small kind bytes h = rw h refl
 
 -- an error that is passed on
 pub passes_on : (r : Result ImportRows Refusal) (e : Refusal) (answer : Result ImportRows Refusal) → IsErrAnd r (λ y. y ≡ e) → (e ≡ NoMemory) ⊎ (answer ≡ Err e) → GivesUnlessMemory r answer

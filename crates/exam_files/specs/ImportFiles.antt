@@ -127,8 +127,13 @@ abbrev pub rows_of : Kind → List (List (List ℕ)) → Result ImportRows Refus
 rows_of kind [] = Err BadHeader
 rows_of kind (header ∷ rest) = if is_header kind header then rows_from kind 1 [] rest else Err BadHeader
 
+abbrev pub is_too_long : List ℕ → Bool
+is_too_long bytes = nat_lt 4194304 (length bytes)
+
+-- the rows of the records of a text, or its refusal
+abbrev pub rows_in : Kind → List ℕ → Result ImportRows Refusal
+rows_in kind bytes = rows_of kind (records default_config (strip_bom bytes))
+
 -- the import that a file denotes, or its refusal
 abbrev pub import_of : Kind → List ℕ → Result ImportRows Refusal
-import_of kind bytes =
-    if nat_lt 4194304 (length bytes) then Err TooMany
-    else rows_of kind (records default_config (strip_bom bytes))
+import_of kind bytes = if is_too_long bytes then Err TooMany else rows_in kind bytes

@@ -1,4 +1,6 @@
 //! An import file, read into its rows.
+ghost use Rattle.std.specs.Prelude.{◌≡◌, IsTrue, false, Err};
+ghost use Rattle.exam_types.specs.declared.refusal.Refusal.TheVariants.{TooMany};
 ghost use Rattle.exam_files.specs.ImportFiles as spec;
 
 use crate::headers::is_header;
@@ -14,13 +16,22 @@ const MOST_BYTES: usize = 4_194_304;
 
 /// The rows that an import file of the kind denotes. Refused as too many for a file above 4,194,304 bytes, as
 /// a bad header, and then for the first record that is bad or contradicts an earlier one; records count from
-/// 1 after the header. Want of memory is the only other refusal.
+/// 1 after the header. Want of memory is the only other refusal, and never that of a file which is too long.
 pub fn read_import(alloc: Global, kind: Kind, bytes: &[u8]) -> Result<Import, Refusal>
-    ensures { spec.GivesUnlessMemory result (spec.import_of kind bytes.now) }
+    ensures denoted { spec.GivesUnlessMemory result (spec.import_of kind bytes.now) }
+    ensures too_long { IsTrue (spec.is_too_long bytes.now) → result ≡ Err TooMany }
 {
     if bytes.len() > MOST_BYTES {
         return Err(Refusal::TooMany);
     }
+    read_records(alloc, kind, bytes)
+}
+
+/// The rows of a text that is not too long.
+fn read_records(alloc: Global, kind: Kind, bytes: &[u8]) -> Result<Import, Refusal>
+    requires { spec.is_too_long bytes.now ≡ false }
+    ensures { spec.GivesUnlessMemory result (spec.rows_in kind bytes.now) }
+{
     let mut reader = reader_of(alloc, bytes);
     let mut fields = ByteRecord::new(alloc);
     if !take_record(&mut reader, &mut fields)? {

@@ -1,40 +1,37 @@
-use Rattle.std.proofs.Common.{◌≡◌, ◌∙◌, ◌+◌, ◌⊎◌, ℕ, [], ◌∷◌, ◌++◌, length, false, sym, ap, arith, inl, inr, rules, length-append}
-use Rattle.std.specs.Prelude.{nat_lt, Ok, Err}
+use Rattle.std.proofs.Common.{◌≡◌, ◌∙◌, ◌+◌, ◌⊎◌, ℕ, [], ◌∷◌, ◌++◌, length, sym, ap, arith, inl, inr, length-append}
+use Rattle.std.specs.Prelude.{Ok, Err}
 use Rattle.exam_office.specs.Imports.{ImportRows}
 use Rattle.exam_office.specs.declared.import_row.Kind.{Kind}
 use Rattle.exam_types.specs.declared.refusal.Refusal.TheVariants.{NoMemory, RowConflict}
-use Rattle.exam_files.specs.ImportFiles.{import_of, rows_from, rows_of}
+use Rattle.exam_files.specs.ImportFiles.{rows_from, rows_in, rows_of}
 use Rattle.exam_files.proofs.Counts.{records_few}
-use Rattle.exam_files.proofs.Steps.{header-no, header-yes, passes_on, rows-bad, rows-conflict, rows-end, rows-more, small}
-use Rattle.exam_files.proofs.imports.read_import.Goals as goal
-use Rattle.exam_files.proofs.imports.read_import.Goals.{else-loop-place-test, then-loop-place-test+in_ok-take_record-2+then-not-branch-2}
+use Rattle.exam_files.proofs.Steps.{header-no, header-yes, passes_on, rows-bad, rows-conflict, rows-end, rows-more}
+use Rattle.exam_files.proofs.imports.read_records.Goals as goal
+use Rattle.exam_files.proofs.imports.read_records.Goals.{else-loop-place-test, then-loop-place-test+in_ok-take_record-2+then-not-branch-2}
 
 pub returns-then-not-branch : goal.returns-then-not-branch
 returns-then-not-branch c =
     let none = rw c.if-not-branch.true at (c.in_ok-take_record.ensures.steps _ c.reader_of-reader.ensures) in
-    let s : nat_lt 4194304 (length c.args.bytes.now) ≡ false = search rules in
-    inr (small c.args.kind _ s ∙ ap (rows_of c.args.kind) none)
+    inr (ap (rows_of c.args.kind) none)
 
 pub returns-then-not-is_header : goal.returns-then-not-is_header
 returns-then-not-is_header c =
     let first = rw c.if-not-branch.false at (c.in_ok-take_record.ensures.steps _ c.reader_of-reader.ensures) in
-    let s : nat_lt 4194304 (length c.args.bytes.now) ≡ false = search rules in
-    inr (small c.args.kind _ s ∙ ap (rows_of c.args.kind) first.1 ∙ header-no c.args.kind _ first.0 c.if-not-is_header.ensures)
+    inr (ap (rows_of c.args.kind) first.1 ∙ header-no c.args.kind _ first.0 c.if-not-is_header.ensures)
 
 pub loop-place-init : goal.loop-place-init
 loop-place-init c =
     let first = rw c.if-not-branch.false at (c.in_ok-take_record.ensures.steps _ c.reader_of-reader.ensures) in
-    let s : nat_lt 4194304 (length c.args.bytes.now) ≡ false = search rules in
     let few = rw first.1 at (records_few c.args.bytes.now) in
     let kind = ap (λ (v : ImportRows). v.kind) c.new-import.ensures in
     let rows = ap (λ (v : ImportRows). v.rows) c.new-import.ensures in
-    (first.0, first.2, rw rows (sym (small c.args.kind _ s ∙ ap (rows_of c.args.kind) first.1 ∙ header-yes c.args.kind _ first.0 c.if-not-is_header.ensures)), omega arith, ap length rows, kind)
+    (first.0, first.2, rw rows (sym (ap (rows_of c.args.kind) first.1 ∙ header-yes c.args.kind _ first.0 c.if-not-is_header.ensures)), omega arith, ap length rows, kind)
 
 pub returns-in_err-row : goal.returns-in_err-row
 returns-in_err-row c =
     let inv = c.loop-place.invariant in
     let first = rw c.if-not-branch-2.false at (c.in_ok-take_record-2.ensures.steps _ inv.1) in
-    let all : (c.in_err-row.field-0.0 ≡ NoMemory) ⊎ (import_of c.args.kind c.args.bytes.now ≡ Err c.in_err-row.field-0.0) =
+    let all : (c.in_err-row.field-0.0 ≡ NoMemory) ⊎ (rows_in c.args.kind c.args.bytes.now ≡ Err c.in_err-row.field-0.0) =
     elim c.in_err-row.ensures.row [
       | inl memory ↦ inl memory
       | inr bad ↦ inr (sym inv.2 ∙ ap (rows_from c.args.kind (c.loop-place.place + 1) c.loop-place.import.rows) first.1 ∙ rows-bad c.args.kind _ _ _ first.0 _ bad)
@@ -45,7 +42,7 @@ pub returns-in_err-push : goal.returns-in_err-push
 returns-in_err-push c =
     let inv = c.loop-place.invariant in
     let first = rw c.if-not-branch-2.false at (c.in_ok-take_record-2.ensures.steps _ inv.1) in
-    let all : (c.in_err-push.field-0.0 ≡ NoMemory) ⊎ (import_of c.args.kind c.args.bytes.now ≡ Err c.in_err-push.field-0.0) =
+    let all : (c.in_err-push.field-0.0 ≡ NoMemory) ⊎ (rows_in c.args.kind c.args.bytes.now ≡ Err c.in_err-push.field-0.0) =
     elim c.in_err-push.ensures.refused [
       | inl memory ↦ inl memory
       | inr p ↦
@@ -75,7 +72,7 @@ loop-place-preserved c =
 pub returns : goal.returns
 returns c =
     let inv = c.loop-place.invariant in
-    let whole : import_of c.args.kind c.args.bytes.now ≡ rows_from c.args.kind (c.loop-place.place + 1) c.loop-place.import.rows inv.0 = sym inv.2 in
+    let whole : rows_in c.args.kind c.args.bytes.now ≡ rows_from c.args.kind (c.loop-place.place + 1) c.loop-place.import.rows inv.0 = sym inv.2 in
     elim c.loop-place-test.branch [
       | else-loop-place-test w ↦ absurd (omega (arith, inv.3))
       | then-loop-place-test+in_ok-take_record-2+then-not-branch-2 w ↦
