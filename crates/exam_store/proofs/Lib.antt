@@ -4,6 +4,7 @@ pub mod Exact
 pub mod FeatureSums
 pub mod Inserting
 pub mod Reading
+pub mod Refusing
 pub mod SavedRows
 pub mod Steps
 pub mod Turning

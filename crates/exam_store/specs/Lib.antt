@@ -2,7 +2,9 @@ pub mod Differences
 pub mod Faults
 pub mod Held
 pub mod Inside
+pub mod Loaded
 pub mod Reading
+pub mod Refused
 pub mod Rows
 pub mod Stored
 pub mod Versions
