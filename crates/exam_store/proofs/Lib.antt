@@ -7,6 +7,7 @@ pub mod Exact
 pub mod FeatureSums
 pub mod Inserting
 pub mod Reading
+pub mod Refusing
 pub mod Rekeeping
 pub mod SavedRows
 pub mod Steps
