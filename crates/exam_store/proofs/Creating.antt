@@ -1,5 +1,5 @@
 -- The tables are made one after another.
-use Rattle.std.proofs.Common.{◌≡◌, ◌==◌, inl, inr, ℕ, List, [], ◌∷◌, Ok, Err, Result, OnOk, IfErr, IsTrue, refl, subst, sym, arith}
+use Rattle.std.proofs.Common.{◌≡◌, ◌==◌, inl, inr, ℕ, List, [], Ok, Err, Result, OnOk, IfErr, IsTrue, refl, subst, sym, arith}
 use Rattle.std.specs.List.Sorted.{IsPermutation}
 use Rattle.std.proofs.lemmas.Bool.{cases_Bool}
 use Rattle.std.proofs.lemmas.List.Sorted.{IsPermutation-refl}

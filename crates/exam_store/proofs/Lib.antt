@@ -6,6 +6,7 @@ pub mod EachTree
 pub mod Exact
 pub mod Inserting
 pub mod Reading
+pub mod Refusing
 pub mod Rekeeping
 pub mod SavedRows
 pub mod Steps

@@ -1,11 +1,10 @@
 -- The rows of a table after what differs was put and deleted.
-use Rattle.std.proofs.Common.{◌≡◌, ◌&&◌, ◌||◌, ◌==◌, ℕ, pos, Bool, true, false, not, cond, List, [], ◌∷◌, ◌++◌, map, filter, Bor, Ordering, Less, Equal, Greater, refl, sym, ap, ap₂, subst, subst₂, ◌∙◌}
+use Rattle.std.proofs.Common.{◌≡◌, ◌&&◌, ◌||◌, ◌==◌, ℕ, pos, Bool, true, false, not, cond, List, [], ◌∷◌, ◌++◌, map, filter, Bor, Ordering, Less, Equal, Greater, refl, sym, ap, ap₂, subst, ◌∙◌}
 use Rattle.std.specs.Bool.{Decides, one_answer}
-use Rattle.std.specs.Cmp.{IsTotalOrder, Equal-is, tied_itself, nat_cmp_total}
+use Rattle.std.specs.Cmp.{Equal-is, tied_itself, nat_cmp_total}
 use Rattle.std.specs.Cmp.Lexicographic.{nat_list_cmp_total}
 use Rattle.std.specs.List.{AllByRecursion}
 use Rattle.std.specs.List.Sorted.{IsPermutation, IsStrictlySortedBy}
-use Rattle.std.specs.Map.{keys_of}
 use Rattle.std.specs.Map.Iter.{deref_pair}
 use Rattle.std.specs.Ordering.{is_eq, ordering_then, nat_cmp}
 use Rattle.std.proofs.lemmas.Bool.{eq-eqb}
@@ -18,14 +17,14 @@ use Rattle.sqlite_value.specs.Keys.{plain, first_key}
 use Rattle.sqlite_schema.specs.Rules.{equal}
 use Rattle.sqlite_trees.specs.Tree.{Trees, with_tree}
 use Rattle.sqlite_trees.proofs.ListLemmas.{IsPermutation-filter, map-map}
-use Rattle.exam_tables.specs.Content.{same_key}
 use Rattle.exam_tables.specs.Changes.{put_all, delete_all, with_puts, with_deletes, is_among, AreApart}
 use Rattle.exam_tables.proofs.Changes.{with_puts_is, with_deletes_is, differs_by}
 use Rattle.exam_tables.proofs.Keys.{equal_itself, int_same, text_itself, text_same}
 use Rattle.exam_rules.specs.Orders.{KeysRise}
-use Rattle.exam_rules.specs.Relations.{Code, code_cmp, pair_cmp, opening_cmp, entry_cmp, appeal_cmp, seat_cmp}
+use Rattle.exam_rules.specs.Relations.{Code, code_cmp, opening_cmp, entry_cmp, appeal_cmp, seat_cmp}
 use Rattle.exam_store.specs.Differences.{has_key, is_one_of, Turns}
 use Rattle.exam_store.specs.Held.{HoldsRows}
+use Rattle.exam_store.specs.Loaded.{KeysMatch}
 use Rattle.exam_store.specs.Inside.{with_row, with_rows, without_row, without_rows}
 use Rattle.exam_store.specs.Rows.{session_row, paper_row, hall_row, candidate_row, opening_row, entry_row, arrangement_row, appeal_row, seat_row}
 use Rattle.exam_store.specs.Stored.{whole}
@@ -55,11 +54,6 @@ without_rows_is tree key rows all u = same rows all ∙ with_deletes_is tree key
     same : (rows : List Row) (all : Trees) → without_rows tree key rows all u ≡ with_deletes tree key (meant rows) all u
     same [] all = refl
     same (row ∷ more) all = same more (without_row tree key row all)
-
--- Two rows of a table have the same key in SQL exactly where their keys compare as equal.
-pub record KeysMatch {K X : Type 0} (cmp : K → K → Ordering) (key : List ℕ) (row : K → X → Row) (key_of : K → Row) : Type 0 where
-  pub rows : (a b : K × X) → same_key key (Null ∷ row a.0 a.1) (Null ∷ row b.0 b.1) ≡ is_eq (cmp a.0 b.0)
-  pub keys : (a : K × X) (k : K) → same_key key (Null ∷ row a.0 a.1) (Null ∷ key_of k) ≡ is_eq (cmp a.0 k)
 
 module _ {K X : Type 0} {cmp : K → K → Ordering} {key : List ℕ} {row : K → X → Row} {key_of : K → Row} (match : KeysMatch cmp key row key_of) where
   abbrev stored : K × X → Row

@@ -4,7 +4,9 @@ pub mod Faults
 pub mod Held
 pub mod Inside
 pub mod Kept
+pub mod Loaded
 pub mod Reading
+pub mod Refused
 pub mod Rows
 pub mod Saves
 pub mod Stored

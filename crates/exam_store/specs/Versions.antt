@@ -1,16 +1,15 @@
 -- The version of the schema, and a database that was just made.
-use Rattle.std.specs.Prelude.{◌≡◌, ℕ, ◌==◌, List, [], ◌∷◌, IsTrue, Result, OnOk, IfErr, if◌then◌else◌}
+use Rattle.std.specs.Prelude.{◌≡◌, ℕ, ◌==◌, [], ◌∷◌, IsTrue, Result, OnOk, IfErr, if◌then◌else◌}
 use Rattle.sqlite_value.specs.declared.value.Value.TheVariants.{Null}
 use Rattle.sqlite_value.specs.Order.{Row}
 use Rattle.sqlite_trees.specs.Tree.{Trees}
 use Rattle.sqlite_schema.specs.declared.schema.Schema.{Schema}
 use Rattle.sqlite.specs.Effect.{Database}
-use Rattle.sqlite.specs.declared.error.Error.{Error}
-use Rattle.sqlite.specs.State.{State, HasCleanDisk, KeepsCommit, Survives, FailsToQuery}
+use Rattle.sqlite.specs.State.{State, HasCleanDisk, KeepsCommit, Survives}
 use Rattle.exam_types.specs.declared.refusal.Refusal.{Refusal}
 use Rattle.exam_tables.specs.Content.{ContainsIn}
 use Rattle.exam_tables.specs.Tables.{no_schema}
-use Rattle.exam_store.specs.Faults.{refusal_of, is_store_refusal}
+use Rattle.exam_store.specs.Faults.{is_store_refusal}
 use Rattle.exam_store.specs.Inside.{Contains}
 use Rattle.exam_store.specs.Stored.{whole}
 
@@ -50,7 +49,3 @@ pub record Leads (before after : Database → Type 0) (old new : State) (result 
   pub kept : HasCleanDisk new → KeepsCommit old new
   pub survives : Survives old new (λ _. ⊥)
   pub told : IfErr result (λ e. IsTrue (is_store_refusal e))
-
--- the refusal tells the error that a query of the database gave
-abbrev pub Told : State → State → Refusal → Type 0
-Told old new e = (sql : List ℕ) × (error : Error) × (e ≡ refusal_of error) × FailsToQuery sql [] old new error

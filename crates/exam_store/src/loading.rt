@@ -6,6 +6,8 @@ ghost use Rattle.exam_rules.specs.Relations.{relations_of};
 ghost use Rattle.exam_store.specs.Held.{HoldsFacts, HoldsOffice};
 ghost use Rattle.exam_store.specs.Inside.{Contains};
 ghost use Rattle.exam_store.specs.Faults.{is_store_refusal};
+ghost use Rattle.exam_store.specs.Loaded.{IsLoadRefusal, Told};
+ghost use Rattle.exam_store.specs.Refused.{HoldsNone, HoldsRelations};
 ghost use Rattle.exam_store.specs.Versions.{HasVersion};
 
 use crate::schema::check_version;
@@ -29,22 +31,23 @@ use std::alloc::Global;
 pub fn load_office<S: Alter>(alloc: Global, conn: &mut Connection<S>) -> Result<Office, Refusal>
     ensures rows { HasCleanDisk (state S.Store conn.new) → IfOk result (λ office. (all : _) → Contains (state S.Store conn.old).now all
         → HoldsOffice all office × IsUnchanged (state S.Store conn.old) (state S.Store conn.new)) }
+    ensures bad { HasCleanDisk (state S.Store conn.new) → IfErr result (IsLoadRefusal (λ e. (mid : _) × Told (state S.Store mid) (state S.Store conn.new) e)
+        ((all : _) → Contains (state S.Store conn.old).now all → HoldsNone all)) }
     ensures version { HasCleanDisk (state S.Store conn.new) → OnOk result ((all : _) → Contains (state S.Store conn.old).now all → HasVersion all) }
     ensures told { IfErr result (λ e. IsTrue (is_store_refusal e)) }
 {
     check_version(conn)?;
     let facts = load_facts(alloc, conn)?;
     let seats = load_rows::<Seats, S>(alloc, conn)?;
-    match Office::from_parts(alloc, facts, seats) {
-        Ok(office) => Ok(office),
-        Err(Refusal::NoMemory) => Err(Refusal::NoMemory),
-        Err(_) => Err(Refusal::BadStore),
-    }
+    Office::from_parts(alloc, facts, seats)
 }
 
+/// The facts that the tables hold.
 fn load_facts<S: Alter>(alloc: Global, conn: &mut Connection<S>) -> Result<Facts, Refusal>
     ensures rows { HasCleanDisk (state S.Store conn.new) → IfOk result (λ facts. (all : _) → Contains (state S.Store conn.old).now all
         → HoldsFacts all (relations_of facts) × IsUnchanged (state S.Store conn.old) (state S.Store conn.new)) }
+    ensures bad { HasCleanDisk (state S.Store conn.new) → IfErr result (IsLoadRefusal (λ e. (mid : _) × Told (state S.Store mid) (state S.Store conn.new) e)
+        ((all : _) → Contains (state S.Store conn.old).now all → (r : _) → HoldsRelations all r → ⊥)) }
     ensures early { HasCleanDisk (state S.Store conn.new) → HasCleanDisk (state S.Store conn.old) }
     ensures told { IfErr result (λ e. IsTrue (is_store_refusal e)) }
 {

@@ -1,16 +1,16 @@
 //! The tables of schema 1.
-ghost use Rattle.std.specs.Prelude.{◌≡◌, ◌⊎◌, [], ◌∷◌, IsTrue, IfErr, OnOk};
+ghost use Rattle.std.specs.Prelude.{◌≡◌, [], ◌∷◌, IsTrue, IfErr, OnOk};
 ghost use Rattle.std.specs.Bool.{Decides};
 ghost use Rattle.sqlite.specs.Held.{state};
 ghost use Rattle.sqlite.specs.State.{HasCleanDisk, IsUnchanged};
 ghost use Rattle.sqlite_value.specs.Order.{column};
-ghost use Rattle.exam_types.specs.declared.refusal.Refusal.TheVariants.{BadStore};
 ghost use Rattle.exam_tables.specs.Grows.{schema_0, schema_5, schema_10};
 ghost use Rattle.exam_tables.specs.Tables.{store_schema};
 ghost use Rattle.exam_store.specs.Inside.{Contains};
 ghost use Rattle.exam_store.specs.Faults.{is_store_refusal};
 ghost use Rattle.exam_store.specs.Stored.{whole};
-ghost use Rattle.exam_store.specs.Versions.{HasVersion, HasNoRows, IsBlank, IsMade, Leads, Told, version_row};
+ghost use Rattle.exam_store.specs.Versions.{HasVersion, HasNoRows, IsBlank, IsMade, Leads, version_row};
+ghost use Rattle.exam_store.specs.Loaded.{IsLoadRefusal, Told};
 
 use crate::columns::whole_at;
 use crate::statements::{all_rows, run};
@@ -119,8 +119,8 @@ fn create_children<S: Alter>(tx: &mut Transaction<'_, S>) -> Result<(), Refusal>
 pub fn check_version<S: Alter>(conn: &mut Connection<S>) -> Result<(), Refusal>
     ensures ok { HasCleanDisk (state S.Store conn.new) → OnOk result ((all : _) → Contains (state S.Store conn.old).now all
         → HasVersion all × IsUnchanged (state S.Store conn.old) (state S.Store conn.new)) }
-    ensures bad { HasCleanDisk (state S.Store conn.new) → IfErr result (λ e. ((e ≡ BadStore) × ((all : _) → Contains (state S.Store conn.old).now all → HasVersion all → ⊥))
-        ⊎ Told (state S.Store conn.old) (state S.Store conn.new) e) }
+    ensures bad { HasCleanDisk (state S.Store conn.new) → IfErr result (IsLoadRefusal (Told (state S.Store conn.old) (state S.Store conn.new)) ((all : _) → Contains (state S.Store conn.old).now all
+        → HasVersion all → ⊥)) }
     ensures early { HasCleanDisk (state S.Store conn.new) → HasCleanDisk (state S.Store conn.old) }
     ensures told { IfErr result (λ e. IsTrue (is_store_refusal e)) }
 {

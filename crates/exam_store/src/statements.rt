@@ -1,8 +1,10 @@
 //! Statements, with their errors told as refusals.
-ghost use Rattle.std.specs.Prelude.{◌≡◌, [], ◌∷◌, IsTrue, OnOk, IfOk, IfErr, Err, IsPermutation};
+ghost use Rattle.std.specs.Prelude.{◌≡◌, ◌⊎◌, [], ◌∷◌, IsTrue, OnOk, IfOk, IfErr, Err, IsPermutation};
 ghost use Rattle.sqlite.specs.Held.{state};
 ghost use Rattle.sqlite.specs.State.{HasCleanDisk, KeepsCommit, Survives, Shown, ExecutesInside, FailsToQuery, CommitsShowing};
 ghost use Rattle.sqlite.specs.Values.{bound};
+ghost use Rattle.std.specs.BTreeMap.{ContainsKey};
+ghost use Rattle.exam_types.specs.declared.refusal.Refusal.TheVariants.{NoMemory, BadStore};
 ghost use Rattle.exam_store.specs.Faults.{refusal_of, is_store_refusal};
 ghost use Rattle.exam_store.specs.Inside.{Ran};
 
@@ -53,6 +55,7 @@ pub fn add_row<K: Ord + Drop, V: Drop>(
     row: V,
 ) -> Result<(), Refusal>
     ensures ok { OnOk result (IsPermutation ((key, row) ∷ table.old.entries) table.new.entries) }
+    ensures bad { IfErr result (λ e. (e ≡ NoMemory) ⊎ ((e ≡ BadStore) × ContainsKey K.cmp table.old key)) }
     ensures told { IfErr result (λ e. IsTrue (is_store_refusal e)) }
 {
     match table.insert(key, row) {

@@ -1,5 +1,5 @@
 //! An office in a database.
-ghost use Rattle.std.specs.Prelude.{◌≡◌, false, IsTrue, IfOk, IfErr, OnErr, MatchResult};
+ghost use Rattle.std.specs.Prelude.{◌≡◌, ◌⊎◌, false, IsTrue, IfOk, IfErr, OnErr, MatchResult};
 ghost use Rattle.sqlite.specs.Held.{state};
 ghost use Rattle.sqlite.specs.State.{HasCleanDisk, IsUnchanged};
 ghost use Rattle.sqlite.specs.Steps.{over_memory};
@@ -11,7 +11,10 @@ ghost use Rattle.exam_office.specs.State.{empty_state};
 ghost use Rattle.exam_office.specs.Views.{IsViewOf};
 ghost use Rattle.exam_store.specs.Applied.{MayApply, TurnsBy, Applies};
 ghost use Rattle.exam_store.specs.Faults.{is_store_refusal};
+ghost use Rattle.exam_store.specs.Inside.{Contains};
 ghost use Rattle.exam_store.specs.Kept.{IsSound, IsKept, IsOurs, Keeps, Rekeeps, Commits};
+ghost use Rattle.exam_store.specs.Loaded.{IsLoadRefusal, Told};
+ghost use Rattle.exam_store.specs.Refused.{HoldsNone};
 ghost use Rattle.exam_store.specs.Versions.{IsBlank};
 
 use crate::loading::load_office;
@@ -80,6 +83,9 @@ impl<S: Alter> Store<S> {
             (λ e. Commits (state S.Store conn) (state S.Store e.1) result (λ old new. Keeps new empty_state)) }
         ensures found { IfOk result (λ store. HasCleanDisk (state S.Store store.database) → IsOurs (state S.Store conn).now
             → Keeps (state S.Store conn).now store.office × IsUnchanged (state S.Store conn) (state S.Store store.database)) }
+        ensures refusal { IfErr result (λ e. HasCleanDisk (state S.Store e.1) → (IsBlank (state S.Store conn).now → ⊥) → ((e.0 ≡ Refusal.Store) × IsTrue e.1.in_transaction)
+            ⊎ IsLoadRefusal (λ r. (mid : _) × Told (state S.Store mid) (state S.Store e.1) r)
+            ((all : _) → Contains (state S.Store conn).now all → HoldsNone all) e.0) }
         ensures told { IfErr result (λ e. IsTrue (is_store_refusal e.0)) }
     {
         match create_office(alloc, &mut conn) {
@@ -96,6 +102,9 @@ impl<S: Alter> Store<S> {
     ) -> Result<Store<S>, (Refusal, Connection<S>)>
         ensures found { IfOk result (λ store. HasCleanDisk (state S.Store store.database) → IsOurs (state S.Store conn).now
             → Keeps (state S.Store conn).now store.office × IsUnchanged (state S.Store conn) (state S.Store store.database)) }
+        ensures refusal { IfErr result (λ e. HasCleanDisk (state S.Store e.1) → ((e.0 ≡ Refusal.Store) × IsTrue e.1.in_transaction)
+            ⊎ IsLoadRefusal (λ r. (mid : _) × Told (state S.Store mid) (state S.Store e.1) r)
+            ((all : _) → Contains (state S.Store conn).now all → HoldsNone all) e.0) }
         ensures told { IfErr result (λ e. IsTrue (is_store_refusal e.0)) }
     {
         match load_kept(alloc, &mut conn) {
@@ -192,6 +201,8 @@ fn create_office<S: Alter>(alloc: Global, conn: &mut Connection<S>) -> Result<Of
     ensures made { IsBlank (state S.Store conn.old).now → Commits (state S.Store conn.old) (state S.Store conn.new) result (λ old new. Keeps new empty_state) }
     ensures found { HasCleanDisk (state S.Store conn.new) → IfOk result (λ office. IsOurs (state S.Store conn.old).now
         → Keeps (state S.Store conn.old).now office × IsUnchanged (state S.Store conn.old) (state S.Store conn.new)) }
+    ensures refusal { HasCleanDisk (state S.Store conn.new) → (IsBlank (state S.Store conn.old).now → ⊥) → IfErr result (IsLoadRefusal (λ r. (mid : _) × Told (state S.Store mid) (state S.Store conn.new) r)
+        ((all : _) → Contains (state S.Store conn.old).now all → HoldsNone all)) }
     ensures told { IfErr result (λ e. IsTrue (is_store_refusal e)) }
 {
     if !is_blank(conn) {
@@ -205,6 +216,8 @@ fn create_office<S: Alter>(alloc: Global, conn: &mut Connection<S>) -> Result<Of
 fn load_kept<S: Alter>(alloc: Global, conn: &mut Connection<S>) -> Result<Office, Refusal>
     ensures found { HasCleanDisk (state S.Store conn.new) → IfOk result (λ office. IsOurs (state S.Store conn.old).now
         → Keeps (state S.Store conn.old).now office × IsUnchanged (state S.Store conn.old) (state S.Store conn.new)) }
+    ensures refusal { HasCleanDisk (state S.Store conn.new) → IfErr result (IsLoadRefusal (λ r. (mid : _) × Told (state S.Store mid) (state S.Store conn.new) r)
+        ((all : _) → Contains (state S.Store conn.old).now all → HoldsNone all)) }
     ensures told { IfErr result (λ e. IsTrue (is_store_refusal e)) }
 {
     load_office(alloc, conn)

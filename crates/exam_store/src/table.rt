@@ -1,11 +1,13 @@
 //! A table of the office.
-ghost use Rattle.std.specs.Prelude.{◌≡◌, ℕ, List, ◌∷◌, IsTrue, IfOk, IfErr, map, IsPermutation};
+ghost use Rattle.std.specs.Prelude.{◌≡◌, ◌⊎◌, ℕ, List, ◌∷◌, IsTrue, IfOk, IfErr, map, IsPermutation};
 ghost use Rattle.sqlite.specs.Held.{state};
 ghost use Rattle.sqlite.specs.State.{HasCleanDisk, IsUnchanged};
 ghost use Rattle.sqlite_value.specs.declared.value.Value.TheVariants.{Null};
 ghost use Rattle.sqlite_value.specs.Order.{Row as Columns};
 ghost use Rattle.exam_store.specs.Faults.{is_store_refusal};
 ghost use Rattle.exam_store.specs.Inside.{Makes, Contains, with_row, without_row, with_rows, without_rows};
+ghost use Rattle.exam_types.specs.declared.refusal.Refusal.TheVariants.{NoMemory, BadStore};
+ghost use Rattle.exam_store.specs.Loaded.{AreRowsOf, HoldsTable, IsLoadRefusal, KeysMatch, Told};
 ghost use Rattle.exam_store.specs.Reading.{MayRead};
 
 use crate::differences::Keyed;
@@ -57,6 +59,7 @@ pub trait Table {
     fn shown<S: Alter>(conn: &mut Connection<S>) -> Result<Vec<Row>, Refusal>
         ensures rows { HasCleanDisk (state S.Store conn.new) → IfOk result (λ rows. (all : _) → Contains (state S.Store conn.old).now all
             → IsPermutation (all Self.tree) (map (λ row. Null ∷ row) rows.items) × IsUnchanged (state S.Store conn.old) (state S.Store conn.new)) }
+        ensures failed { HasCleanDisk (state S.Store conn.new) → IfErr result (λ e. Told (state S.Store conn.old) (state S.Store conn.new) e) }
         ensures early { HasCleanDisk (state S.Store conn.new) → HasCleanDisk (state S.Store conn.old) }
         ensures told { IfErr result (λ e. IsTrue (is_store_refusal e)) };
 
@@ -101,6 +104,9 @@ pub fn load_rows<T: Table, S: Alter>(
 ) -> Result<BTreeMap<T::Key, T::Value>, Refusal>
     ensures rows { HasCleanDisk (state S.Store conn.new) → IfOk result (λ table. (all : _) → Contains (state S.Store conn.old).now all
         → IsPermutation (all T.tree) (map (λ e. Null ∷ T.row_of e.0 e.1) table.entries) × IsUnchanged (state S.Store conn.old) (state S.Store conn.new)) }
+    ensures bad { HasCleanDisk (state S.Store conn.new) → KeysMatch T.Key.cmp T.key_places T.row_of T.key_of
+        → IfErr result (IsLoadRefusal (Told (state S.Store conn.old) (state S.Store conn.new)) ((all : _) → Contains (state S.Store conn.old).now all
+        → (entries : _) → HoldsTable T.Key.cmp T.IsRow T.row_of entries (all T.tree) → ⊥)) }
     ensures early { HasCleanDisk (state S.Store conn.new) → HasCleanDisk (state S.Store conn.old) }
     ensures told { IfErr result (λ e. IsTrue (is_store_refusal e)) }
 {
@@ -111,6 +117,8 @@ pub fn load_rows<T: Table, S: Alter>(
 /// The table with these rows.
 fn read_rows<T: Table>(alloc: Global, rows: &[Row]) -> Result<BTreeMap<T::Key, T::Value>, Refusal>
     ensures rows { IfOk result (λ table. IsPermutation rows.now (map (λ e. T.row_of e.0 e.1) table.entries)) }
+    ensures bad { IfErr result (λ e. (e ≡ NoMemory) ⊎ ((e ≡ BadStore) × (KeysMatch T.Key.cmp T.key_places T.row_of T.key_of
+        → (entries : _) → AreRowsOf T.Key.cmp T.IsRow T.row_of rows.now entries → ⊥))) }
     ensures told { IfErr result (λ e. IsTrue (is_store_refusal e)) }
 {
     let mut table = BTreeMap::new(alloc);

@@ -1,28 +1,72 @@
-use Rattle.std.proofs.Common.{sym, subst}
-use Rattle.sqlite.specs.Effect.{Database}
+use Rattle.std.proofs.Common.{◌≡◌, Err, inl, inr, refl, sym, subst, rules}
+use Rattle.std.proofs.lemmas.Result.{IfOk-weaker, IfErr-weaker}
 use Rattle.sqlite.specs.Held.{state}
 use Rattle.sqlite.proofs.Callers.{unchanged_then}
-use Rattle.exam_office.specs.State.{State}
 use Rattle.exam_store.specs.Held.{HoldsOffice}
-use Rattle.exam_store.specs.Inside.{Contains}
+use Rattle.exam_store.proofs.Refusing.{always_ok, part_failed, still_there}
+use Rattle.exam_store.proofs.SavedRows.{seats_match}
 use Rattle.exam_store.proofs.loading.load_office.Goals as goal
 
-pub returns-in-Ok-clause-rows : goal.returns-in-Ok-clause-rows
-returns-in-Ok-clause-rows g c = λ clean all was.
+pub returns-clause-rows : goal.returns-clause-rows
+returns-clause-rows g c = λ clean.
+    IfOk-weaker c.from_parts.result _ _ (λ office is all was.
     let clean_2 = c.load_rows.ensures.early clean in
     let clean_1 = c.load_facts.ensures.early clean_2 in
     let at_0 = state g.S.Store c.args.conn.now in
     let at_1 = state g.S.Store c.check_version.new.conn in
     let at_2 = state g.S.Store c.load_facts.new.conn in
     let at_3 = state g.S.Store c.load_rows.new.conn in
-    let first = (c.in_ok-check_version.ensures.ok clean_1 all was).1 in
-    let was_1 = subst (λ (db : Database). Contains db all) (sym first.0.now_is) was in
+    let first = c.in_ok-check_version.ensures.ok clean_1 all was in
+    let was_1 = still_there at_0 at_1 all was first in
     let facts = c.in_ok-facts.ensures.rows clean_2 all was_1 in
-    let was_2 = subst (λ (db : Database). Contains db all) (sym facts.1.0.now_is) was_1 in
+    let was_2 = still_there at_1 at_2 all was_1 facts in
     let seats = c.in_ok-seats.ensures.rows clean all was_2 in
-    (subst (HoldsOffice all) (sym c.in-Ok.ensures.ok) (record { facts = facts.0; seats = seats.0 }), unchanged_then at_0 at_2 at_3 (unchanged_then at_0 at_1 at_2 first facts.1) seats.1)
+    (subst (HoldsOffice all) (sym is) (record { facts = facts.0; seats = seats.0 }), unchanged_then at_0 at_2 at_3 (unchanged_then at_0 at_1 at_2 first.1 facts.1) seats.1)) c.from_parts.ensures.ok
 
-pub returns-in-Ok-clause-version : goal.returns-in-Ok-clause-version
-returns-in-Ok-clause-version g c = λ clean all was.
-    let clean_1 = c.load_facts.ensures.early (c.load_rows.ensures.early clean) in
-    (c.in_ok-check_version.ensures.ok clean_1 all was).0
+pub returns-clause-version : goal.returns-clause-version
+returns-clause-version g c = λ clean. always_ok c.from_parts.result (λ all was. (c.in_ok-check_version.ensures.ok (c.load_facts.ensures.early (c.load_rows.ensures.early clean)) all was).0)
+
+pub returns-clause-told : goal.returns-clause-told
+returns-clause-told g c = IfErr-weaker c.from_parts.result _ _ (λ e why. elim why [ inl lacks ↦ rw lacks refl | inr bad ↦ rw bad.0 refl ]) c.from_parts.ensures.refusal
+
+-- why a part is not loaded
+
+pub returns-in_err-check_version-clause-bad : goal.returns-in_err-check_version-clause-bad
+returns-in_err-check_version-clause-bad g c = λ clean.
+    let is : c.from_residual.result ≡ Err c.in_err-check_version.field-0.0 = search rules in
+    rw is (part_failed c.in_err-check_version.field-0.0 (λ told. (c.args.conn.now, told)) (λ none all was. inl (none all was)) (c.in_err-check_version.ensures.bad clean))
+
+pub returns-in_err-facts-clause-bad : goal.returns-in_err-facts-clause-bad
+returns-in_err-facts-clause-bad g c = λ clean.
+    let is : c.from_residual-in_err-facts.result ≡ Err c.in_err-facts.field-0.0 = search rules in
+    let clean_1 = c.load_facts.ensures.early clean in
+    rw is (part_failed c.in_err-facts.field-0.0 (λ told. told) (λ none all was.
+    inr (inl (none all (still_there (state g.S.Store c.args.conn.now) (state g.S.Store c.check_version.new.conn) all was (c.in_ok-check_version.ensures.ok clean_1 all was))))) (c.in_err-facts.ensures.bad clean))
+
+pub returns-in_err-seats-clause-bad : goal.returns-in_err-seats-clause-bad
+returns-in_err-seats-clause-bad g c = λ clean.
+    let is : c.from_residual-in_err-seats.result ≡ Err c.in_err-seats.field-0.0 = search rules in
+    let clean_2 = c.load_rows.ensures.early clean in
+    let clean_1 = c.load_facts.ensures.early clean_2 in
+    rw is (part_failed c.in_err-seats.field-0.0 (λ told. (c.load_facts.new.conn, told)) (λ none all was.
+    let was_1 = still_there (state g.S.Store c.args.conn.now) (state g.S.Store c.check_version.new.conn) all was (c.in_ok-check_version.ensures.ok clean_1 all was) in
+    let was_2 = still_there (state g.S.Store c.check_version.new.conn) (state g.S.Store c.load_facts.new.conn) all was_1 (c.in_ok-facts.ensures.rows clean_2 all was_1) in
+    inr (inr (inl (none all was_2)))) (c.in_err-seats.ensures.bad clean seats_match))
+
+pub returns-clause-bad : goal.returns-clause-bad
+returns-clause-bad g c = λ clean.
+    IfErr-weaker c.from_parts.result _ _ (λ e why.
+    elim why [
+      | inl lacks ↦ inl lacks
+      | inr bad ↦ inr (inr (
+        bad.0,
+        λ all was.
+            let clean_2 = c.load_rows.ensures.early clean in
+            let clean_1 = c.load_facts.ensures.early clean_2 in
+            let was_1 = still_there (state g.S.Store c.args.conn.now) (state g.S.Store c.check_version.new.conn) all was (c.in_ok-check_version.ensures.ok clean_1 all was) in
+            let facts = c.in_ok-facts.ensures.rows clean_2 all was_1 in
+            let was_2 = still_there (state g.S.Store c.check_version.new.conn) (state g.S.Store c.load_facts.new.conn) all was_1 facts in
+            let seats = c.in_ok-seats.ensures.rows clean all was_2 in
+            inr (inr (inr (_, record { facts = facts.0; seats = seats.0 }, bad.1))),
+      ))
+    ]) c.from_parts.ensures.refusal

@@ -1,7 +1,6 @@
-use Rattle.std.proofs.Common.{◌≡◌, [], ◌∷◌, true, false, inl, refl, sym, subst, ap, ◌∙◌}
+use Rattle.std.proofs.Common.{◌≡◌, true, false, inr, refl, sym, ◌∙◌}
 use Rattle.sqlite.specs.Held.{state}
 use Rattle.exam_tables.proofs.OfOffice as office
-use Rattle.exam_store.specs.Versions.{version_row}
 use Rattle.exam_store.proofs.Versioned.{version_held, version_shown}
 use Rattle.exam_store.proofs.schema.check_version.Goals as goal
 
@@ -12,7 +11,7 @@ returns-then-are_version-clause-ok g c = λ clean all was.
     (version_held (all 0) rows shown.0 (sym c.as_slice.ensures.value ∙ c.are_version.ensures.0 c.if-are_version.true), shown.2)
 
 pub returns-clause-bad : goal.returns-clause-bad
-returns-clause-bad g c = λ clean. inl (
+returns-clause-bad g c = λ clean. inr (inr (
   refl,
   λ all was held.
       let rows = c.in_ok-rows.rows.items in
@@ -20,4 +19,4 @@ returns-clause-bad g c = λ clean. inl (
       let yes : c.are_version.result ≡ true = c.are_version.ensures.1 (c.as_slice.ensures.value ∙ version_shown (all 0) rows shown.0 held) in
       let no : c.are_version.result ≡ false = c.if-are_version.false in
       absurd cc,
-)
+))
