@@ -7,7 +7,8 @@ use Rattle.std.specs.Map.{keys_of}
 use Rattle.std.specs.Ordering.{is_eq}
 use Rattle.exam_rules.specs.Orders.{KeysRise}
 
--- How the first key of one table compares with that of another. A table that is over compares as greater.
+-- How the first key of one table compares with that of another. A table that is over compares as
+-- greater.
 abbrev pub first_cmp : {K X : Type 0} → (K → K → Ordering) → List (K × X) → List (K × X) → Ordering
 first_cmp cmp [] new = Greater
 first_cmp cmp (e ∷ old) [] = Less
@@ -35,7 +36,8 @@ module _ {K X : Type 0} (cmp : K → K → Ordering) where
   to_delete old new = filter (λ k. not (has_key new k)) (keys_of old)
 
 -- these are to be put and those to be deleted to make the new table of the old one, and no others
-pub record Differs {K X : Type 0} (cmp : K → K → Ordering) (same : X → X → Bool) (old new puts : List (K × X)) (deletes : List K) : Type 0 where
+pub record Differs {K X : Type 0} (cmp : K → K → Ordering) (same : X → X → Bool)
+    (old new puts : List (K × X)) (deletes : List K) : Type 0 where
   pub puts_are : puts ≡ to_put cmp same old new
   pub deletes_are : deletes ≡ to_delete cmp old new
 
@@ -45,10 +47,12 @@ pub record AreExact {K X : Type 0} (cmp : K → K → Ordering) (same : X → X 
   pub values : (x y : X) → same x y ≡ true → x ≡ y
 
 -- these puts and deletes turn the old table into the new one
-pub record Turns {K X : Type 0} (cmp : K → K → Ordering) (old new puts : List (K × X)) (deletes : List K) : Type 0 where
+pub record Turns {K X : Type 0} (cmp : K → K → Ordering) (old new puts : List (K × X))
+    (deletes : List K) : Type 0 where
   -- no key is put twice
   pub rises : KeysRise cmp puts
   -- none that is put is deleted
   pub spared : AllByRecursion (λ n. is_one_of cmp deletes n.0 ≡ false) puts
   -- what is put and what stays are the new table
-  pub made : IsPermutation (puts ++ filter (λ e. not (has_key cmp puts e.0 || is_one_of cmp deletes e.0)) old) new
+  pub made :
+      IsPermutation (puts ++ filter (λ e. not (has_key cmp puts e.0 || is_one_of cmp deletes e.0)) old) new

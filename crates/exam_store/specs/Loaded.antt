@@ -15,25 +15,29 @@ use Rattle.exam_store.specs.Faults.{refusal_of}
 use Rattle.exam_store.specs.Held.{HoldsRows}
 
 -- Two rows of a table have the same key in SQL exactly where their keys compare as equal.
-pub record KeysMatch {K X : Type 0} (cmp : K → K → Ordering) (key : List ℕ) (row : K → X → Row) (key_of : K → Row) : Type 0 where
+pub record KeysMatch {K X : Type 0} (cmp : K → K → Ordering) (key : List ℕ) (row : K → X → Row)
+    (key_of : K → Row) : Type 0 where
   pub rows : (a b : K × X) → same_key key (Null ∷ row a.0 a.1) (Null ∷ row b.0 b.1) ≡ is_eq (cmp a.0 b.0)
   pub keys : (a : K × X) (k : K) → same_key key (Null ∷ row a.0 a.1) (Null ∷ key_of k) ≡ is_eq (cmp a.0 k)
 
 -- these rows, as they are shown, are those of these entries, which have the forms of the table
-pub record AreRowsOf {K X : Type 0} (cmp : K → K → Ordering) (IsRow : K → X → Type 0) (row : K → X → Row) (rows : List Row) (entries : List (K × X)) : Type 0 where
+pub record AreRowsOf {K X : Type 0} (cmp : K → K → Ordering) (IsRow : K → X → Type 0)
+    (row : K → X → Row) (rows : List Row) (entries : List (K × X)) : Type 0 where
   pub rises : KeysRise cmp entries
   pub forms : AllByRecursion (λ e. IsRow e.0 e.1) entries
   pub same : IsPermutation rows (map (λ e. row e.0 e.1) entries)
 
 -- the rows that are meant are those of these entries, which have the forms of the table
-pub record HoldsTable {K X : Type 0} (cmp : K → K → Ordering) (IsRow : K → X → Type 0) (row : K → X → Row) (entries : List (K × X)) (meant : List Row) : Type 0 where
+pub record HoldsTable {K X : Type 0} (cmp : K → K → Ordering) (IsRow : K → X → Type 0)
+    (row : K → X → Row) (entries : List (K × X)) (meant : List Row) : Type 0 where
   pub rises : KeysRise cmp entries
   pub forms : AllByRecursion (λ e. IsRow e.0 e.1) entries
   pub held : HoldsRows row entries meant
 
 -- the refusal tells the error that a query of the database gave
 abbrev pub Told : State → State → Refusal → Type 0
-Told old new e = (sql : List ℕ) × (error : Error) × (e ≡ refusal_of error) × FailsToQuery sql [] old new error
+Told old new e =
+    (sql : List ℕ) × (error : Error) × (e ≡ refusal_of error) × FailsToQuery sql [] old new error
 
 -- why nothing is loaded: want of memory, a query that failed, or that there is none
 abbrev pub IsLoadRefusal : (Refusal → Type 0) → Type 0 → Refusal → Type 0

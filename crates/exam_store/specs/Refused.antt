@@ -10,7 +10,7 @@ use Rattle.exam_store.specs.Loaded.{HoldsTable}
 use Rattle.exam_store.specs.Rows.{session_row, paper_row, hall_row, candidate_row, opening_row, entry_row, arrangement_row, appeal_row, seat_row, IsSession, IsPaper, IsHall, IsCandidate, IsOpening, IsEntry, IsArrangement, IsAppeal, IsSeat}
 use Rattle.exam_store.specs.Versions.{HasVersion}
 
--- each table has the rows of its relation, whose keys rise and whose values have the forms of the table
+-- each table has the rows of its relation, whose keys rise and whose values have its forms
 pub record HoldsRelations (all : Trees) (r : Relations) : Type 0 where
   pub sessions : HoldsTable code_cmp IsSession session_row r.sessions (all 1)
   pub papers : HoldsTable code_cmp IsPaper paper_row r.papers (all 3)
@@ -26,4 +26,8 @@ HoldsSeats all seats = HoldsTable seat_cmp IsSeat seat_row seats (all 15)
 
 -- the version is not there, the rows of a table are those of none, or what they hold is not good
 abbrev pub HoldsNone : Trees → Type 0
-HoldsNone all = (HasVersion all → ⊥) ⊎ (((r : Relations) → HoldsRelations all r → ⊥) ⊎ (((seats : List ((Code × ℕ) × Code)) → HoldsSeats all seats → ⊥) ⊎ ((office : State) × HoldsOffice all office × (IsGood office → ⊥))))
+HoldsNone all =
+    (HasVersion all → ⊥)
+    ⊎ (((r : Relations) → HoldsRelations all r → ⊥)
+    ⊎ (((seats : List ((Code × ℕ) × Code)) → HoldsSeats all seats → ⊥)
+    ⊎ ((office : State) × HoldsOffice all office × (IsGood office → ⊥))))

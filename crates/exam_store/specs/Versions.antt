@@ -42,9 +42,11 @@ abbrev pub IsMade : Database → Type 0
 IsMade db = Contains db new_tables
 
 -- what a call that makes one kind of database of another does inside a transaction
-pub record Leads (before after : Database → Type 0) (old new : State) (result : Result (Unit {0}) Refusal) : Type 0 where
+pub record Leads (before after : Database → Type 0) (old new : State)
+    (result : Result (Unit {0}) Refusal) : Type 0 where
   -- where it succeeds, the transaction goes on
-  pub made : HasCleanDisk new → IsTrue old.in_transaction → OnOk result ((before old.now → after new.now) × IsTrue new.in_transaction)
+  pub made : HasCleanDisk new → IsTrue old.in_transaction
+      → OnOk result ((before old.now → after new.now) × IsTrue new.in_transaction)
   -- it commits nothing, whether or not it succeeds
   pub kept : HasCleanDisk new → KeepsCommit old new
   pub survives : Survives old new (λ _. ⊥)

@@ -12,7 +12,8 @@ use std::collections::BTreeMap;
 /// A row of a table, by its key.
 pub type Keyed<'a, K, V> = (&'a K, &'a V);
 
-/// The rows that a table lacks or has otherwise, and the keys that it has beyond those of the new one. Keys rise.
+/// The rows that a table lacks or has otherwise, and the keys that it has beyond those of the new one.
+/// Keys rise.
 #[derive(Drop)]
 pub struct Difference<'a, K, V> {
     pub put: Vec<Keyed<'a, K, V>>,
@@ -25,8 +26,10 @@ pub fn difference_of<'a, K: Ord, V: PartialEq>(
     old: &'a BTreeMap<K, V>,
     new: &'a BTreeMap<K, V>,
 ) -> Result<Difference<'a, K, V>, AllocError>
-    ensures differs { IfOk result (λ d. Differs K.cmp V.eq old.now.entries new.now.entries (map deref_pair d.put.items) (map (λ key. key.now) d.delete.items)) }
-    ensures turns { AreExact K.cmp V.eq → IfOk result (λ d. Turns K.cmp old.now.entries new.now.entries (map deref_pair d.put.items) (map (λ key. key.now) d.delete.items)) }
+    ensures differs { IfOk result (λ d. Differs K.cmp V.eq old.now.entries new.now.entries
+        (map deref_pair d.put.items) (map (λ key. key.now) d.delete.items)) }
+    ensures turns { AreExact K.cmp V.eq → IfOk result (λ d. Turns K.cmp old.now.entries new.now.entries
+        (map deref_pair d.put.items) (map (λ key. key.now) d.delete.items)) }
 {
     let old = entries_of(alloc, old)?;
     let new = entries_of(alloc, new)?;
@@ -56,7 +59,8 @@ fn merge<'a, K: Ord, V: PartialEq>(
 ) -> Result<Difference<'a, K, V>, AllocError>
     requires old_rises { KeysRise K.cmp (map deref_pair old.now) }
     requires new_rises { KeysRise K.cmp (map deref_pair new.now) }
-    ensures { IfOk result (λ d. Differs K.cmp V.eq (map deref_pair old.entry.now) (map deref_pair new.entry.now) (map deref_pair d.put.items) (map (λ key. key.now) d.delete.items)) }
+    ensures { IfOk result (λ d. Differs K.cmp V.eq (map deref_pair old.entry.now)
+        (map deref_pair new.entry.now) (map deref_pair d.put.items) (map (λ key. key.now) d.delete.items)) }
 {
     let mut put = Vec::new(alloc);
     let mut delete = Vec::new(alloc);
@@ -82,11 +86,13 @@ fn merge<'a, K: Ord, V: PartialEq>(
     Ok(Difference { put, delete })
 }
 
-/// How the first key of the old table compares with that of the new one. A table that is over compares as greater.
+/// How the first key of the old table compares with that of the new one. A table that is over compares as
+/// greater.
 fn first_of<K: Ord, V>(old: &[Keyed<'_, K, V>], new: &[Keyed<'_, K, V>]) -> Ordering
     requires { 0 < length old.now + length new.now }
     ensures first { result ≡ first_cmp K.cmp (map deref_pair old.now) (map deref_pair new.now) }
-    ensures bounds { MatchOrdering result (0 < length old.now) ((0 < length old.now) × (0 < length new.now)) (0 < length new.now) }
+    ensures bounds { MatchOrdering result (0 < length old.now)
+        ((0 < length old.now) × (0 < length new.now)) (0 < length new.now) }
 {
     if old.is_empty() {
         return Ordering::Greater;

@@ -31,9 +31,11 @@ use std::alloc::Global;
 pub fn load_office<S: Alter>(alloc: Global, conn: &mut Connection<S>) -> Result<Office, Refusal>
     ensures rows { HasCleanDisk (state S.Store conn.new) → IfOk result (λ office. (all : _) → Contains (state S.Store conn.old).now all
         → HoldsOffice all office × IsUnchanged (state S.Store conn.old) (state S.Store conn.new)) }
-    ensures bad { HasCleanDisk (state S.Store conn.new) → IfErr result (IsLoadRefusal (λ e. (mid : _) × Told (state S.Store mid) (state S.Store conn.new) e)
+    ensures bad { HasCleanDisk (state S.Store conn.new) → IfErr result (IsLoadRefusal
+        (λ e. (mid : _) × Told (state S.Store mid) (state S.Store conn.new) e)
         ((all : _) → Contains (state S.Store conn.old).now all → HoldsNone all)) }
-    ensures version { HasCleanDisk (state S.Store conn.new) → OnOk result ((all : _) → Contains (state S.Store conn.old).now all → HasVersion all) }
+    ensures version { HasCleanDisk (state S.Store conn.new) → OnOk result ((all : _)
+        → Contains (state S.Store conn.old).now all → HasVersion all) }
     ensures told { IfErr result (λ e. IsTrue (is_store_refusal e)) }
 {
     check_version(conn)?;
@@ -46,7 +48,8 @@ pub fn load_office<S: Alter>(alloc: Global, conn: &mut Connection<S>) -> Result<
 fn load_facts<S: Alter>(alloc: Global, conn: &mut Connection<S>) -> Result<Facts, Refusal>
     ensures rows { HasCleanDisk (state S.Store conn.new) → IfOk result (λ facts. (all : _) → Contains (state S.Store conn.old).now all
         → HoldsFacts all (relations_of facts) × IsUnchanged (state S.Store conn.old) (state S.Store conn.new)) }
-    ensures bad { HasCleanDisk (state S.Store conn.new) → IfErr result (IsLoadRefusal (λ e. (mid : _) × Told (state S.Store mid) (state S.Store conn.new) e)
+    ensures bad { HasCleanDisk (state S.Store conn.new) → IfErr result (IsLoadRefusal
+        (λ e. (mid : _) × Told (state S.Store mid) (state S.Store conn.new) e)
         ((all : _) → Contains (state S.Store conn.old).now all → (r : _) → HoldsRelations all r → ⊥)) }
     ensures early { HasCleanDisk (state S.Store conn.new) → HasCleanDisk (state S.Store conn.old) }
     ensures told { IfErr result (λ e. IsTrue (is_store_refusal e)) }

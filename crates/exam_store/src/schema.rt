@@ -32,7 +32,8 @@ pub fn is_blank<S: Alter>(conn: &Connection<S>) -> bool
 /// Makes the ten tables, with no rows but the version, in a database with nothing in it.
 pub fn create_tables<S: Alter>(tx: &mut Transaction<'_, S>) -> Result<(), Refusal>
     ensures same_reference { tx.new.conn.ghost_name ≡ tx.old.conn.ghost_name }
-    ensures made { Leads IsBlank IsMade (state S.Store tx.old.conn.now) (state S.Store tx.new.conn.now) result }
+    ensures made { Leads IsBlank IsMade
+        (state S.Store tx.old.conn.now) (state S.Store tx.new.conn.now) result }
 {
     create_parents(tx)?;
     create_children(tx)?;
@@ -42,7 +43,8 @@ pub fn create_tables<S: Alter>(tx: &mut Transaction<'_, S>) -> Result<(), Refusa
 /// Writes the one row of the table `office`.
 fn put_version<S: Alter>(tx: &mut Transaction<'_, S>) -> Result<(), Refusal>
     ensures same_reference { tx.new.conn.ghost_name ≡ tx.old.conn.ghost_name }
-    ensures made { Leads (HasNoRows store_schema) IsMade (state S.Store tx.old.conn.now) (state S.Store tx.new.conn.now) result }
+    ensures made { Leads (HasNoRows store_schema) IsMade
+        (state S.Store tx.old.conn.now) (state S.Store tx.new.conn.now) result }
 {
     run(
         tx,
@@ -54,7 +56,8 @@ fn put_version<S: Alter>(tx: &mut Transaction<'_, S>) -> Result<(), Refusal>
 /// The tables that refer to none, or to sessions alone.
 fn create_parents<S: Alter>(tx: &mut Transaction<'_, S>) -> Result<(), Refusal>
     ensures same_reference { tx.new.conn.ghost_name ≡ tx.old.conn.ghost_name }
-    ensures made { Leads (HasNoRows schema_0) (HasNoRows schema_5) (state S.Store tx.old.conn.now) (state S.Store tx.new.conn.now) result }
+    ensures made { Leads (HasNoRows schema_0) (HasNoRows schema_5)
+        (state S.Store tx.old.conn.now) (state S.Store tx.new.conn.now) result }
 {
     run(
         tx,
@@ -86,7 +89,8 @@ fn create_parents<S: Alter>(tx: &mut Transaction<'_, S>) -> Result<(), Refusal>
 /// The tables that refer to those.
 fn create_children<S: Alter>(tx: &mut Transaction<'_, S>) -> Result<(), Refusal>
     ensures same_reference { tx.new.conn.ghost_name ≡ tx.old.conn.ghost_name }
-    ensures made { Leads (HasNoRows schema_5) (HasNoRows schema_10) (state S.Store tx.old.conn.now) (state S.Store tx.new.conn.now) result }
+    ensures made { Leads (HasNoRows schema_5) (HasNoRows schema_10)
+        (state S.Store tx.old.conn.now) (state S.Store tx.new.conn.now) result }
 {
     run(
         tx,
@@ -117,10 +121,12 @@ fn create_children<S: Alter>(tx: &mut Transaction<'_, S>) -> Result<(), Refusal>
 
 /// Refused as a bad store where the table `office` does not hold this version, and nothing else.
 pub fn check_version<S: Alter>(conn: &mut Connection<S>) -> Result<(), Refusal>
-    ensures ok { HasCleanDisk (state S.Store conn.new) → OnOk result ((all : _) → Contains (state S.Store conn.old).now all
+    ensures ok { HasCleanDisk (state S.Store conn.new) → OnOk result ((all : _)
+        → Contains (state S.Store conn.old).now all
         → HasVersion all × IsUnchanged (state S.Store conn.old) (state S.Store conn.new)) }
-    ensures bad { HasCleanDisk (state S.Store conn.new) → IfErr result (IsLoadRefusal (Told (state S.Store conn.old) (state S.Store conn.new)) ((all : _) → Contains (state S.Store conn.old).now all
-        → HasVersion all → ⊥)) }
+    ensures bad { HasCleanDisk (state S.Store conn.new) → IfErr result (IsLoadRefusal
+        (Told (state S.Store conn.old) (state S.Store conn.new))
+        ((all : _) → Contains (state S.Store conn.old).now all → HasVersion all → ⊥)) }
     ensures early { HasCleanDisk (state S.Store conn.new) → HasCleanDisk (state S.Store conn.old) }
     ensures told { IfErr result (λ e. IsTrue (is_store_refusal e)) }
 {

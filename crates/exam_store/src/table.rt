@@ -59,7 +59,8 @@ pub trait Table {
     fn shown<S: Alter>(conn: &mut Connection<S>) -> Result<Vec<Row>, Refusal>
         ensures rows { HasCleanDisk (state S.Store conn.new) → IfOk result (λ rows. (all : _) → Contains (state S.Store conn.old).now all
             → IsPermutation (all Self.tree) (map (λ row. Null ∷ row) rows.items) × IsUnchanged (state S.Store conn.old) (state S.Store conn.new)) }
-        ensures failed { HasCleanDisk (state S.Store conn.new) → IfErr result (λ e. Told (state S.Store conn.old) (state S.Store conn.new) e) }
+        ensures failed { HasCleanDisk (state S.Store conn.new)
+            → IfErr result (λ e. Told (state S.Store conn.old) (state S.Store conn.new) e) }
         ensures early { HasCleanDisk (state S.Store conn.new) → HasCleanDisk (state S.Store conn.old) }
         ensures told { IfErr result (λ e. IsTrue (is_store_refusal e)) };
 
@@ -104,8 +105,10 @@ pub fn load_rows<T: Table, S: Alter>(
 ) -> Result<BTreeMap<T::Key, T::Value>, Refusal>
     ensures rows { HasCleanDisk (state S.Store conn.new) → IfOk result (λ table. (all : _) → Contains (state S.Store conn.old).now all
         → IsPermutation (all T.tree) (map (λ e. Null ∷ T.row_of e.0 e.1) table.entries) × IsUnchanged (state S.Store conn.old) (state S.Store conn.new)) }
-    ensures bad { HasCleanDisk (state S.Store conn.new) → KeysMatch T.Key.cmp T.key_places T.row_of T.key_of
-        → IfErr result (IsLoadRefusal (Told (state S.Store conn.old) (state S.Store conn.new)) ((all : _) → Contains (state S.Store conn.old).now all
+    ensures bad { HasCleanDisk (state S.Store conn.new)
+        → KeysMatch T.Key.cmp T.key_places T.row_of T.key_of
+        → IfErr result (IsLoadRefusal (Told (state S.Store conn.old) (state S.Store conn.new))
+        ((all : _) → Contains (state S.Store conn.old).now all
         → (entries : _) → HoldsTable T.Key.cmp T.IsRow T.row_of entries (all T.tree) → ⊥)) }
     ensures early { HasCleanDisk (state S.Store conn.new) → HasCleanDisk (state S.Store conn.old) }
     ensures told { IfErr result (λ e. IsTrue (is_store_refusal e)) }
@@ -117,7 +120,8 @@ pub fn load_rows<T: Table, S: Alter>(
 /// The table with these rows.
 fn read_rows<T: Table>(alloc: Global, rows: &[Row]) -> Result<BTreeMap<T::Key, T::Value>, Refusal>
     ensures rows { IfOk result (λ table. IsPermutation rows.now (map (λ e. T.row_of e.0 e.1) table.entries)) }
-    ensures bad { IfErr result (λ e. (e ≡ NoMemory) ⊎ ((e ≡ BadStore) × (KeysMatch T.Key.cmp T.key_places T.row_of T.key_of
+    ensures bad { IfErr result (λ e. (e ≡ NoMemory) ⊎ ((e ≡ BadStore)
+        × (KeysMatch T.Key.cmp T.key_places T.row_of T.key_of
         → (entries : _) → AreRowsOf T.Key.cmp T.IsRow T.row_of rows.now entries → ⊥))) }
     ensures told { IfErr result (λ e. IsTrue (is_store_refusal e)) }
 {
