@@ -5,13 +5,14 @@ use Rattle.sqlite_trees.specs.Tree.{Trees}
 use Rattle.sqlite.specs.Effect.{Database}
 use Rattle.sqlite_schema.specs.declared.schema.Schema.{Schema}
 use Rattle.exam_tables.specs.Tables.{no_schema, store_schema}
-use Rattle.sqlite.specs.State.{State as Shown, IsUnchanged}
+use Rattle.sqlite.specs.State.{State as Shown, HasCleanDisk, IsUnchanged}
 use Rattle.exam_types.specs.declared.refusal.Refusal.{Refusal}
 use Rattle.exam_office.specs.State.{State, empty_state}
 use Rattle.exam_store.specs.declared.saving.Changes.{Changes}
 use Rattle.exam_store.specs.Held.{HoldsRows, HoldsOffice}
 use Rattle.exam_store.specs.Inside.{Becomes, Contains}
-use Rattle.exam_store.specs.Kept.{Rekeeps, Keeps, IsOurs}
+use Rattle.exam_store.specs.Found.{IsOurs, Finds}
+use Rattle.exam_store.specs.Kept.{Rekeeps, Keeps}
 use Rattle.exam_store.specs.Rows.{session_row, paper_row, hall_row, candidate_row, opening_row, entry_row, arrangement_row, appeal_row, seat_row}
 use Rattle.exam_store.specs.Saves.{all_saved, TurnsTables}
 use Rattle.exam_store.specs.Versions.{HasVersion, new_tables, IsBlank, IsMade}
@@ -62,7 +63,7 @@ pub not_blank : (db : Database) → IsOurs db → IsBlank db → ⊥
 not_blank db ours blank = has_tables (sym ours.1.schema_is ∙ blank)
 
 -- the office that was loaded is kept by the tables, where they are the ten
-pub loaded : (old new : Shown) (result : Result State Refusal) → IfOk result (λ office. (all : Trees) → Contains old.now all → HoldsOffice all office × IsUnchanged old new) → OnOk result ((all : Trees) → Contains old.now all → HasVersion all)
-    → IfOk result (λ office. IsOurs old.now → Keeps old.now office × IsUnchanged old new)
-loaded old new (Ok office) rows version = λ ours. let it = rows ours.0 ours.1 in (record { all = ours.0; contains = ours.1; version = version ours.0 ours.1; held = it.0 }, it.1)
+pub loaded : (old new : Shown) (result : Result State Refusal) → (HasCleanDisk new → IfOk result (λ office. (all : Trees) → Contains old.now all → HoldsOffice all office × IsUnchanged old new))
+    → (HasCleanDisk new → OnOk result ((all : Trees) → Contains old.now all → HasVersion all)) → IfOk result (Finds old new)
+loaded old new (Ok office) rows version = λ clean ours. let it = rows clean ours.0 ours.1 in (record { all = ours.0; contains = ours.1; version = version clean ours.0 ours.1; held = it.0 }, it.1)
 loaded old new (Err e) rows version = tt

@@ -35,10 +35,6 @@ pub record Commits {A E : Type 0} (old new : State) (result : Result A E) (Turns
 abbrev pub Rekeeps : Office → Office → Database → Database → Type 0
 Rekeeps before after old new = Keeps old before → Keeps new after
 
--- the ten tables are there, with whatever rows
-abbrev pub IsOurs : Database → Type 0
-IsOurs db = (all : Trees) × Contains db all
-
 -- the tables that are seen keep the office, and are committed
 abbrev pub IsKept : State → Office → Type 0
 IsKept s office = Keeps s.now office × (s.committed ≡ s.now)

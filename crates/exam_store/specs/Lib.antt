@@ -1,6 +1,7 @@
 pub mod Applied
 pub mod Differences
 pub mod Faults
+pub mod Found
 pub mod Held
 pub mod Inside
 pub mod Kept

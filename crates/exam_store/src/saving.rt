@@ -8,7 +8,8 @@ ghost use Rattle.exam_store.specs.Faults.{refusal_of, is_store_refusal};
 ghost use Rattle.exam_store.specs.Inside.{Becomes, Makes};
 ghost use Rattle.exam_store.specs.Kept.{Rekeeps, Commits};
 ghost use Rattle.exam_store.specs.Saves.{timetable_put, halls_put, candidates_put, plans_put, all_put};
-ghost use Rattle.exam_store.specs.Saves.{timetable_deleted, halls_deleted, candidates_deleted, plans_deleted, all_deleted, all_saved, TurnsTables};
+ghost use Rattle.exam_store.specs.Saves.{timetable_deleted, halls_deleted, candidates_deleted, plans_deleted};
+ghost use Rattle.exam_store.specs.Saves.{all_deleted, all_saved, TurnsTables};
 ghost use Rattle.exam_store.specs.Versions.{IsBlank, IsMade};
 
 use crate::differences::{Difference, difference_of};
@@ -75,7 +76,8 @@ fn put_all<S: Alter>(
     changes: &Changes<'_>,
 ) -> Result<(), Refusal>
     ensures same_reference { tx.new.conn.ghost_name ≡ tx.old.conn.ghost_name }
-    ensures made { Makes (state S.Store tx.old.conn.now) (state S.Store tx.new.conn.now) result (all_put changes.now) }
+    ensures made { Makes (state S.Store tx.old.conn.now) (state S.Store tx.new.conn.now) result
+        (all_put changes.now) }
 {
     put_timetable(alloc, tx, changes)?;
     put_halls(alloc, tx, changes)?;
@@ -89,7 +91,8 @@ fn put_timetable<S: Alter>(
     changes: &Changes<'_>,
 ) -> Result<(), Refusal>
     ensures same_reference { tx.new.conn.ghost_name ≡ tx.old.conn.ghost_name }
-    ensures made { Makes (state S.Store tx.old.conn.now) (state S.Store tx.new.conn.now) result (timetable_put changes.now) }
+    ensures made { Makes (state S.Store tx.old.conn.now) (state S.Store tx.new.conn.now) result
+        (timetable_put changes.now) }
 {
     put_rows::<Sessions, S>(alloc, tx, changes.sessions.put.as_slice())?;
     put_rows::<Papers, S>(alloc, tx, changes.papers.put.as_slice())
@@ -101,7 +104,8 @@ fn put_halls<S: Alter>(
     changes: &Changes<'_>,
 ) -> Result<(), Refusal>
     ensures same_reference { tx.new.conn.ghost_name ≡ tx.old.conn.ghost_name }
-    ensures made { Makes (state S.Store tx.old.conn.now) (state S.Store tx.new.conn.now) result (halls_put changes.now) }
+    ensures made { Makes (state S.Store tx.old.conn.now) (state S.Store tx.new.conn.now) result
+        (halls_put changes.now) }
 {
     put_rows::<Halls, S>(alloc, tx, changes.halls.put.as_slice())?;
     put_rows::<Openings, S>(alloc, tx, changes.openings.put.as_slice())
@@ -113,7 +117,8 @@ fn put_candidates<S: Alter>(
     changes: &Changes<'_>,
 ) -> Result<(), Refusal>
     ensures same_reference { tx.new.conn.ghost_name ≡ tx.old.conn.ghost_name }
-    ensures made { Makes (state S.Store tx.old.conn.now) (state S.Store tx.new.conn.now) result (candidates_put changes.now) }
+    ensures made { Makes (state S.Store tx.old.conn.now) (state S.Store tx.new.conn.now) result
+        (candidates_put changes.now) }
 {
     put_rows::<Candidates, S>(alloc, tx, changes.candidates.put.as_slice())?;
     put_rows::<Entries, S>(alloc, tx, changes.entries.put.as_slice())?;
@@ -126,7 +131,8 @@ fn put_plans<S: Alter>(
     changes: &Changes<'_>,
 ) -> Result<(), Refusal>
     ensures same_reference { tx.new.conn.ghost_name ≡ tx.old.conn.ghost_name }
-    ensures made { Makes (state S.Store tx.old.conn.now) (state S.Store tx.new.conn.now) result (plans_put changes.now) }
+    ensures made { Makes (state S.Store tx.old.conn.now) (state S.Store tx.new.conn.now) result
+        (plans_put changes.now) }
 {
     put_rows::<Appeals, S>(alloc, tx, changes.appeals.put.as_slice())?;
     put_rows::<Seats, S>(alloc, tx, changes.seats.put.as_slice())
@@ -135,7 +141,8 @@ fn put_plans<S: Alter>(
 /// Takes away the rows that are gone, children first. Seats that have moved out of a hall are set by then.
 fn delete_all<S: Alter>(tx: &mut Transaction<'_, S>, changes: &Changes<'_>) -> Result<(), Refusal>
     ensures same_reference { tx.new.conn.ghost_name ≡ tx.old.conn.ghost_name }
-    ensures made { Makes (state S.Store tx.old.conn.now) (state S.Store tx.new.conn.now) result (all_deleted changes.now) }
+    ensures made { Makes (state S.Store tx.old.conn.now) (state S.Store tx.new.conn.now) result
+        (all_deleted changes.now) }
 {
     delete_plans(tx, changes)?;
     delete_candidates(tx, changes)?;
@@ -145,7 +152,8 @@ fn delete_all<S: Alter>(tx: &mut Transaction<'_, S>, changes: &Changes<'_>) -> R
 
 fn delete_plans<S: Alter>(tx: &mut Transaction<'_, S>, changes: &Changes<'_>) -> Result<(), Refusal>
     ensures same_reference { tx.new.conn.ghost_name ≡ tx.old.conn.ghost_name }
-    ensures made { Makes (state S.Store tx.old.conn.now) (state S.Store tx.new.conn.now) result (plans_deleted changes.now) }
+    ensures made { Makes (state S.Store tx.old.conn.now) (state S.Store tx.new.conn.now) result
+        (plans_deleted changes.now) }
 {
     delete_rows::<Seats, S>(tx, changes.seats.delete.as_slice())?;
     delete_rows::<Appeals, S>(tx, changes.appeals.delete.as_slice())
@@ -156,7 +164,8 @@ fn delete_candidates<S: Alter>(
     changes: &Changes<'_>,
 ) -> Result<(), Refusal>
     ensures same_reference { tx.new.conn.ghost_name ≡ tx.old.conn.ghost_name }
-    ensures made { Makes (state S.Store tx.old.conn.now) (state S.Store tx.new.conn.now) result (candidates_deleted changes.now) }
+    ensures made { Makes (state S.Store tx.old.conn.now) (state S.Store tx.new.conn.now) result
+        (candidates_deleted changes.now) }
 {
     delete_rows::<Arrangements, S>(tx, changes.arrangements.delete.as_slice())?;
     delete_rows::<Entries, S>(tx, changes.entries.delete.as_slice())?;
@@ -165,7 +174,8 @@ fn delete_candidates<S: Alter>(
 
 fn delete_halls<S: Alter>(tx: &mut Transaction<'_, S>, changes: &Changes<'_>) -> Result<(), Refusal>
     ensures same_reference { tx.new.conn.ghost_name ≡ tx.old.conn.ghost_name }
-    ensures made { Makes (state S.Store tx.old.conn.now) (state S.Store tx.new.conn.now) result (halls_deleted changes.now) }
+    ensures made { Makes (state S.Store tx.old.conn.now) (state S.Store tx.new.conn.now) result
+        (halls_deleted changes.now) }
 {
     delete_rows::<Openings, S>(tx, changes.openings.delete.as_slice())?;
     delete_rows::<Halls, S>(tx, changes.halls.delete.as_slice())
@@ -176,7 +186,8 @@ fn delete_timetable<S: Alter>(
     changes: &Changes<'_>,
 ) -> Result<(), Refusal>
     ensures same_reference { tx.new.conn.ghost_name ≡ tx.old.conn.ghost_name }
-    ensures made { Makes (state S.Store tx.old.conn.now) (state S.Store tx.new.conn.now) result (timetable_deleted changes.now) }
+    ensures made { Makes (state S.Store tx.old.conn.now) (state S.Store tx.new.conn.now) result
+        (timetable_deleted changes.now) }
 {
     delete_rows::<Papers, S>(tx, changes.papers.delete.as_slice())?;
     delete_rows::<Sessions, S>(tx, changes.sessions.delete.as_slice())
@@ -189,7 +200,8 @@ pub fn save<S: Alter>(
     old: &Office,
     new: &Office,
 ) -> Result<(), Refusal>
-    ensures made { Commits (state S.Store conn.old) (state S.Store conn.new) result (Rekeeps old.now new.now) }
+    ensures made { Commits (state S.Store conn.old) (state S.Store conn.new) result
+        (Rekeeps old.now new.now) }
     ensures ended { conn.old.in_transaction ≡ false → conn.new.in_transaction ≡ false }
     ensures told { IfErr result (λ e. IsTrue (is_store_refusal e)) }
 {
@@ -203,7 +215,8 @@ fn save_changes<S: Alter>(
     conn: &mut Connection<S>,
     changes: &Changes<'_>,
 ) -> Result<(), Refusal>
-    ensures made { Commits (state S.Store conn.old) (state S.Store conn.new) result (Becomes (all_saved changes.now)) }
+    ensures made { Commits (state S.Store conn.old) (state S.Store conn.new) result
+        (Becomes (all_saved changes.now)) }
     ensures ended { conn.old.in_transaction ≡ false → conn.new.in_transaction ≡ false }
     ensures told { IfErr result (λ e. IsTrue (is_store_refusal e)) }
 {
@@ -221,15 +234,18 @@ fn write_changes<S: Alter>(
     changes: &Changes<'_>,
 ) -> Result<(), Refusal>
     ensures same_reference { tx.new.conn.ghost_name ≡ tx.old.conn.ghost_name }
-    ensures made { Makes (state S.Store tx.old.conn.now) (state S.Store tx.new.conn.now) result (all_saved changes.now) }
+    ensures made { Makes (state S.Store tx.old.conn.now) (state S.Store tx.new.conn.now) result
+        (all_saved changes.now) }
 {
     put_all(alloc, tx, changes)?;
     delete_all(tx, changes)
 }
 
-/// Makes the tables of an office with no facts in a database with nothing in it, in one transaction or not at all.
+/// Makes the tables of an office with no facts in a database with nothing in it, in one transaction or not
+/// at all.
 pub fn save_empty<S: Alter>(conn: &mut Connection<S>) -> Result<(), Refusal>
-    ensures made { Commits (state S.Store conn.old) (state S.Store conn.new) result (λ old new. IsBlank old → IsMade new) }
+    ensures made { Commits (state S.Store conn.old) (state S.Store conn.new) result
+        (λ old new. IsBlank old → IsMade new) }
     ensures autocommit { OnOk result (conn.new.in_transaction ≡ false) }
     ensures ended { conn.old.in_transaction ≡ false → conn.new.in_transaction ≡ false }
     ensures told { IfErr result (λ e. IsTrue (is_store_refusal e)) }
@@ -245,11 +261,15 @@ pub fn save_empty<S: Alter>(conn: &mut Connection<S>) -> Result<(), Refusal>
 /// Commits what was written. A refusal tells the error that the database gave.
 fn commit<S: Alter>(tx: Transaction<'_, S>) -> Result<(), Refusal>
     ensures ended { tx.exit.0.now.in_transaction ≡ false }
-    ensures ok { HasCleanDisk (state S.Store tx.exit.0.now) → OnOk result (IsTrue (state S.Store tx.entry.conn.now).in_transaction
-        × Shows (state S.Store tx.entry.conn.now) (state S.Store tx.exit.0.now) (state S.Store tx.entry.conn.now).now (state S.Store tx.entry.conn.now).now false) }
-    ensures failed { HasCleanDisk (state S.Store tx.exit.0.now) → IfErr result (λ e. (error : _) × (e ≡ refusal_of error)
+    ensures ok { HasCleanDisk (state S.Store tx.exit.0.now)
+        → OnOk result (IsTrue (state S.Store tx.entry.conn.now).in_transaction
+        × Shows (state S.Store tx.entry.conn.now) (state S.Store tx.exit.0.now)
+        (state S.Store tx.entry.conn.now).now (state S.Store tx.entry.conn.now).now false) }
+    ensures failed { HasCleanDisk (state S.Store tx.exit.0.now)
+        → IfErr result (λ e. (error : _) × (e ≡ refusal_of error)
         × FailsToCommit (state S.Store tx.entry.conn.now) (state S.Store tx.exit.0.now) error) }
-    ensures survives { Survives (state S.Store tx.entry.conn.now) (state S.Store tx.exit.0.now) (λ db. db ≡ (state S.Store tx.entry.conn.now).now.trees) }
+    ensures survives { Survives (state S.Store tx.entry.conn.now) (state S.Store tx.exit.0.now)
+        (λ db. db ≡ (state S.Store tx.entry.conn.now).now.trees) }
     ensures told { IfErr result (λ e. IsTrue (is_store_refusal e)) }
 {
     match tx.commit() {

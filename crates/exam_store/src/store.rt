@@ -1,7 +1,7 @@
 //! An office in a database.
 ghost use Rattle.std.specs.Prelude.{◌≡◌, ◌⊎◌, false, IsTrue, IfOk, IfErr, OnErr, MatchResult};
 ghost use Rattle.sqlite.specs.Held.{state};
-ghost use Rattle.sqlite.specs.State.{HasCleanDisk, IsUnchanged};
+ghost use Rattle.sqlite.specs.State.{HasCleanDisk};
 ghost use Rattle.sqlite.specs.Steps.{over_memory};
 ghost use Rattle.exam_types.specs.declared.refusal.Refusal.TheVariants.{NoMemory};
 ghost use Rattle.exam_rules.specs.Relations.{Code};
@@ -11,10 +11,8 @@ ghost use Rattle.exam_office.specs.State.{empty_state};
 ghost use Rattle.exam_office.specs.Views.{IsViewOf};
 ghost use Rattle.exam_store.specs.Applied.{MayApply, TurnsBy, Applies};
 ghost use Rattle.exam_store.specs.Faults.{is_store_refusal};
-ghost use Rattle.exam_store.specs.Inside.{Contains};
-ghost use Rattle.exam_store.specs.Kept.{IsSound, IsKept, IsOurs, Keeps, Rekeeps, Commits};
-ghost use Rattle.exam_store.specs.Loaded.{IsLoadRefusal, Told};
-ghost use Rattle.exam_store.specs.Refused.{HoldsNone};
+ghost use Rattle.exam_store.specs.Found.{Finds, FindsNone, MakesEmpty};
+ghost use Rattle.exam_store.specs.Kept.{IsSound, IsKept, Rekeeps, Commits};
 ghost use Rattle.exam_store.specs.Versions.{IsBlank};
 
 use crate::loading::load_office;
@@ -26,8 +24,8 @@ use sqlite::{Alter, Connection, MemStore};
 use std::alloc::Global;
 use std::marker::Model;
 
-/// An office whose tables lie in a database. Each call refuses as `NoMemory` where there is not enough memory, and as
-/// `Store` where a call of the database failed.
+/// An office whose tables lie in a database. Each call refuses as `NoMemory` where there is not enough
+/// memory, and as `Store` where a call of the database failed.
 pub struct Store<S: Alter> {
     conn: Connection<S>,
     office: Office,
@@ -57,7 +55,8 @@ impl Store<MemStore> {
     /// An empty office in memory.
     pub fn in_memory(alloc: Global) -> Result<Store<MemStore>, Refusal>
         ensures office { IfOk result (λ store. store.office ≡ empty_state) }
-        ensures kept { IfOk result (λ store. IsKept (state over_memory store.database) store.office × IsTrue (state over_memory store.database).is_open) }
+        ensures kept { IfOk result (λ store. IsKept (state over_memory store.database) store.office
+            × IsTrue (state over_memory store.database).is_open) }
         ensures told { IfErr result (λ e. IsTrue (is_store_refusal e)) }
     {
         let mut conn = Connection::open_in_memory(alloc)?;
@@ -70,22 +69,22 @@ impl Store<MemStore> {
 }
 
 impl<S: Alter> Store<S> {
-    /// Makes an empty office in a database with nothing in it, or opens the good office that is there. The connection
-    /// comes back beside a refusal: `BadStore` where the database holds something else, and `Store` also where a
-    /// transaction is under way.
+    /// Makes an empty office in a database with nothing in it, or opens the good office that is there.
+    /// The connection comes back beside a refusal: `BadStore` where the database holds something else, and
+    /// `Store` also where a transaction is under way.
     pub fn create(
         alloc: Global,
         mut conn: Connection<S>,
     ) -> Result<Store<S>, (Refusal, Connection<S>)>
         ensures empty { IsBlank (state S.Store conn).now → IfOk result (λ store. store.office ≡ empty_state) }
         ensures made { IsBlank (state S.Store conn).now → MatchResult result
-            (λ store. Commits (state S.Store conn) (state S.Store store.database) result (λ old new. Keeps new empty_state))
-            (λ e. Commits (state S.Store conn) (state S.Store e.1) result (λ old new. Keeps new empty_state)) }
-        ensures found { IfOk result (λ store. HasCleanDisk (state S.Store store.database) → IsOurs (state S.Store conn).now
-            → Keeps (state S.Store conn).now store.office × IsUnchanged (state S.Store conn) (state S.Store store.database)) }
-        ensures refusal { IfErr result (λ e. HasCleanDisk (state S.Store e.1) → (IsBlank (state S.Store conn).now → ⊥) → ((e.0 ≡ Refusal.Store) × IsTrue e.1.in_transaction)
-            ⊎ IsLoadRefusal (λ r. (mid : _) × Told (state S.Store mid) (state S.Store e.1) r)
-            ((all : _) → Contains (state S.Store conn).now all → HoldsNone all) e.0) }
+            (λ store. Commits (state S.Store conn) (state S.Store store.database) result MakesEmpty)
+            (λ e. Commits (state S.Store conn) (state S.Store e.1) result MakesEmpty) }
+        ensures found { IfOk result (λ store.
+            Finds (state S.Store conn) (state S.Store store.database) store.office) }
+        ensures refusal { IfErr result (λ e. HasCleanDisk (state S.Store e.1)
+            → (IsBlank (state S.Store conn).now → ⊥) → ((e.0 ≡ Refusal.Store) × IsTrue e.1.in_transaction)
+            ⊎ FindsNone S.Store (state S.Store conn) e.1 e.0) }
         ensures told { IfErr result (λ e. IsTrue (is_store_refusal e.0)) }
     {
         match create_office(alloc, &mut conn) {
@@ -94,17 +93,17 @@ impl<S: Alter> Store<S> {
         }
     }
 
-    /// Opens the office that is there. The connection comes back beside a refusal: `BadStore` where the database holds
-    /// no good office of this version, and `Store` also where a transaction is under way.
+    /// Opens the office that is there. The connection comes back beside a refusal: `BadStore` where the
+    /// database holds no good office of this version, and `Store` also where a transaction is under way.
     pub fn open(
         alloc: Global,
         mut conn: Connection<S>,
     ) -> Result<Store<S>, (Refusal, Connection<S>)>
-        ensures found { IfOk result (λ store. HasCleanDisk (state S.Store store.database) → IsOurs (state S.Store conn).now
-            → Keeps (state S.Store conn).now store.office × IsUnchanged (state S.Store conn) (state S.Store store.database)) }
-        ensures refusal { IfErr result (λ e. HasCleanDisk (state S.Store e.1) → ((e.0 ≡ Refusal.Store) × IsTrue e.1.in_transaction)
-            ⊎ IsLoadRefusal (λ r. (mid : _) × Told (state S.Store mid) (state S.Store e.1) r)
-            ((all : _) → Contains (state S.Store conn).now all → HoldsNone all) e.0) }
+        ensures found { IfOk result (λ store.
+            Finds (state S.Store conn) (state S.Store store.database) store.office) }
+        ensures refusal { IfErr result (λ e. HasCleanDisk (state S.Store e.1)
+            → ((e.0 ≡ Refusal.Store) × IsTrue e.1.in_transaction)
+            ⊎ FindsNone S.Store (state S.Store conn) e.1 e.0) }
         ensures told { IfErr result (λ e. IsTrue (is_store_refusal e.0)) }
     {
         match load_kept(alloc, &mut conn) {
@@ -116,8 +115,10 @@ impl<S: Alter> Store<S> {
     /// Carries out a command on a day, in one transaction, or refuses it; after a refusal all is as before.
     pub fn apply(&mut self, alloc: Global, command: &Command, today: Day) -> Result<Reply, Refusal>
         ensures step { MayApply command.now today self.old.office result self.new.office }
-        ensures kept { IsSound (state S.Store self.new.database) → Rekeeps self.old.office self.new.office (state S.Store self.old.database).now (state S.Store self.new.database).now }
-        ensures made { Commits (state S.Store self.old.database) (state S.Store self.new.database) result (TurnsBy command.now today self.old.office) }
+        ensures kept { IsSound (state S.Store self.new.database) → Rekeeps self.old.office self.new.office
+            (state S.Store self.old.database).now (state S.Store self.new.database).now }
+        ensures made { Commits (state S.Store self.old.database) (state S.Store self.new.database) result
+            (TurnsBy command.now today self.old.office) }
     {
         let (next, reply) = next_office(alloc, &self.office, command, today)?;
         save(alloc, &mut self.conn, &self.office, &next)?;
@@ -125,16 +126,20 @@ impl<S: Alter> Store<S> {
         Ok(reply)
     }
 
-    /// Applies commands in order, each on its day, and gives what each answers. Refused for want of memory before any
-    /// command, and then all is as before. Whatever it answers, every session is seated as promised.
+    /// Applies commands in order, each on its day, and gives what each answers. Refused for want of memory
+    /// before any command, and then all is as before. Whatever it answers, every session is seated as
+    /// promised.
     pub fn apply_all(
         &mut self,
         alloc: Global,
         commands: &[(Command, Day)],
     ) -> Result<Vec<Result<Reply, Refusal>>, Refusal>
-        ensures run { IfOk result (λ replies. Applies commands.now self.old.office replies.items self.new.office) }
-        ensures kept { IsSound (state S.Store self.new.database) → Rekeeps self.old.office self.new.office (state S.Store self.old.database).now (state S.Store self.new.database).now }
-        ensures was_open { IsSound (state S.Store self.new.database) → IsSound (state S.Store self.old.database) }
+        ensures run { IfOk result (λ replies.
+            Applies commands.now self.old.office replies.items self.new.office) }
+        ensures kept { IsSound (state S.Store self.new.database) → Rekeeps self.old.office self.new.office
+            (state S.Store self.old.database).now (state S.Store self.new.database).now }
+        ensures was_open { IsSound (state S.Store self.new.database)
+            → IsSound (state S.Store self.old.database) }
         ensures headline { (s : Code) → IsSeated self.new.office s }
         ensures memory { IfErr result (λ e. e ≡ NoMemory) }
         ensures same { OnErr result (self.new ≡ self.old) }
@@ -150,8 +155,8 @@ impl<S: Alter> Store<S> {
         Ok(replies)
     }
 
-    /// In every session whoever sits has a fitting hall and a desk of their own, and no lawful plan seats more. Does
-    /// nothing.
+    /// In every session whoever sits has a fitting hall and a desk of their own, and no lawful plan seats
+    /// more. Does nothing.
     pub fn is_seated(&self)
         ensures { (s : Code) → IsSeated self.now.office s }
     {
@@ -185,7 +190,8 @@ fn store_of<S: Alter>(
     conn: Connection<S>,
     office: Office,
 ) -> Result<Store<S>, (Refusal, Connection<S>)>
-    ensures ok { IfOk result (λ store. (store.office ≡ office) × (store.database ≡ conn) × (conn.in_transaction ≡ false)) }
+    ensures ok { IfOk result (λ store. (store.office ≡ office) × (store.database ≡ conn)
+        × (conn.in_transaction ≡ false)) }
     ensures err { IfErr result (λ e. (e.0 ≡ Refusal.Store) × (e.1 ≡ conn) × IsTrue conn.in_transaction) }
 {
     if conn.is_autocommit() {
@@ -197,12 +203,13 @@ fn store_of<S: Alter>(
 
 /// The empty office, whose tables are made, or the office that is there.
 fn create_office<S: Alter>(alloc: Global, conn: &mut Connection<S>) -> Result<Office, Refusal>
-    ensures empty { IsBlank (state S.Store conn.old).now → IfOk result (λ office. (office ≡ empty_state) × (conn.new.in_transaction ≡ false)) }
-    ensures made { IsBlank (state S.Store conn.old).now → Commits (state S.Store conn.old) (state S.Store conn.new) result (λ old new. Keeps new empty_state) }
-    ensures found { HasCleanDisk (state S.Store conn.new) → IfOk result (λ office. IsOurs (state S.Store conn.old).now
-        → Keeps (state S.Store conn.old).now office × IsUnchanged (state S.Store conn.old) (state S.Store conn.new)) }
-    ensures refusal { HasCleanDisk (state S.Store conn.new) → (IsBlank (state S.Store conn.old).now → ⊥) → IfErr result (IsLoadRefusal (λ r. (mid : _) × Told (state S.Store mid) (state S.Store conn.new) r)
-        ((all : _) → Contains (state S.Store conn.old).now all → HoldsNone all)) }
+    ensures empty { IsBlank (state S.Store conn.old).now
+        → IfOk result (λ office. (office ≡ empty_state) × (conn.new.in_transaction ≡ false)) }
+    ensures made { IsBlank (state S.Store conn.old).now
+        → Commits (state S.Store conn.old) (state S.Store conn.new) result MakesEmpty }
+    ensures found { IfOk result (Finds (state S.Store conn.old) (state S.Store conn.new)) }
+    ensures refusal { HasCleanDisk (state S.Store conn.new) → (IsBlank (state S.Store conn.old).now → ⊥)
+        → IfErr result (FindsNone S.Store (state S.Store conn.old) conn.new) }
     ensures told { IfErr result (λ e. IsTrue (is_store_refusal e)) }
 {
     if !is_blank(conn) {
@@ -214,10 +221,9 @@ fn create_office<S: Alter>(alloc: Global, conn: &mut Connection<S>) -> Result<Of
 
 /// The office that is there.
 fn load_kept<S: Alter>(alloc: Global, conn: &mut Connection<S>) -> Result<Office, Refusal>
-    ensures found { HasCleanDisk (state S.Store conn.new) → IfOk result (λ office. IsOurs (state S.Store conn.old).now
-        → Keeps (state S.Store conn.old).now office × IsUnchanged (state S.Store conn.old) (state S.Store conn.new)) }
-    ensures refusal { HasCleanDisk (state S.Store conn.new) → IfErr result (IsLoadRefusal (λ r. (mid : _) × Told (state S.Store mid) (state S.Store conn.new) r)
-        ((all : _) → Contains (state S.Store conn.old).now all → HoldsNone all)) }
+    ensures found { IfOk result (Finds (state S.Store conn.old) (state S.Store conn.new)) }
+    ensures refusal { HasCleanDisk (state S.Store conn.new)
+        → IfErr result (FindsNone S.Store (state S.Store conn.old) conn.new) }
     ensures told { IfErr result (λ e. IsTrue (is_store_refusal e)) }
 {
     load_office(alloc, conn)

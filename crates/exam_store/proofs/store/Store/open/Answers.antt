@@ -2,7 +2,8 @@ use Rattle.std.proofs.Common.{sym, subst₂}
 use Rattle.std.proofs.lemmas.Result.{IfOk-weaker}
 use Rattle.sqlite.specs.State.{HasCleanDisk, IsUnchanged}
 use Rattle.sqlite.specs.Held.{state}
-use Rattle.exam_store.specs.Kept.{IsOurs, Keeps}
+use Rattle.exam_store.specs.Found.{IsOurs}
+use Rattle.exam_store.specs.Kept.{Keeps}
 use Rattle.exam_store.proofs.store.Store.open.Goals as goal
 
 pub returns-in-Ok-clause-found : goal.returns-in-Ok-clause-found

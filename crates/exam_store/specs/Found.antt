@@ -1,0 +1,29 @@
+-- What opening finds in a database.
+use Rattle.sqlite_trees.specs.declared.store.Store.{Ghosts}
+use Rattle.sqlite_trees.specs.Tree.{Trees}
+use Rattle.sqlite.specs.Effect.{Database}
+use Rattle.sqlite.specs.State.{State, HasCleanDisk, IsUnchanged}
+use Rattle.sqlite.specs.Held.{Held, state}
+use Rattle.exam_types.specs.declared.refusal.Refusal.{Refusal}
+use Rattle.exam_office.specs.State.{State as Office, empty_state}
+use Rattle.exam_store.specs.Inside.{Contains}
+use Rattle.exam_store.specs.Kept.{Keeps}
+use Rattle.exam_store.specs.Loaded.{IsLoadRefusal, Told}
+use Rattle.exam_store.specs.Refused.{HoldsNone}
+
+-- the ten tables are there, with whatever rows
+abbrev pub IsOurs : Database → Type 0
+IsOurs db = (all : Trees) × Contains db all
+
+-- it is the office that the tables keep, where they are ours, and nothing changes
+abbrev pub Finds : State → State → Office → Type 0
+Finds old new office = HasCleanDisk new → IsOurs old.now → Keeps old.now office × IsUnchanged old new
+
+-- there is no memory, a query fails and its error is told, or the tables hold no good office
+abbrev pub FindsNone : {S : Type 0} → Ghosts S → State → Held S → Refusal → Type 0
+FindsNone {S} g old new =
+    IsLoadRefusal (λ e. (mid : Held S) × Told (state g mid) (state g new) e) ((all : Trees) → Contains old.now all → HoldsNone all)
+
+-- the new database keeps an office with no facts
+abbrev pub MakesEmpty : Database → Database → Type 0
+MakesEmpty old new = Keeps new empty_state
