@@ -1,6 +1,9 @@
 //! The worked rows, through all layers over a database in memory.
 mod closing;
+mod doctored;
+mod kept_rows;
 mod reopening;
+mod stopping;
 
 use crate::job::run_job;
 use crate::line::{LineFault, parse_line};
