@@ -20,8 +20,9 @@ IsNamed (command.Withdraw d p) c = d ≡ c
 IsNamed (command.Reinstate d p) c = d ≡ c
 IsNamed (command.CloseHall s h) c = ⊥
 
--- Whom the new plan of a session seats for certain. After an import or the closing of a hall: those whom the repair does
--- not put out. After any other command: everybody seated before who is still a member, but for the one it names.
+-- Whom the new plan of a session seats for certain. After an import or the closing of a hall: those whom the
+-- repair does not put out. After any other command: everybody seated before who is still a member, but for the
+-- one it names.
 abbrev pub SeatsOn : Command → Seating ℕ Code → Plan ℕ Code → Plan ℕ Code → Type 0
 SeatsOn (command.Import import) g before after = (c : ℕ) → IsSome (kept_part g before c) → IsSome (after c)
 SeatsOn (command.Withdraw d p) g before after = Keeps (IsNamed (command.Withdraw d p)) g before after

@@ -9,12 +9,14 @@ use crate::references::{check_hall, check_session};
 use exam_rules::Facts;
 use exam_types::{HallCode, Refusal, SessionCode};
 
-/// The facts without the opening of the hall for the session. Refused, in this order, as an unknown session, an unknown
-/// hall, or a hall not opened; and where there is not enough memory.
+/// The facts without the opening of the hall for the session. Refused, in this order, as an unknown session,
+/// an unknown hall, or a hall not opened; and where there is not enough memory.
 pub fn closed(facts: &Facts, session: SessionCode, hall: HallCode) -> Result<Facts, Refusal>
-    ensures ok { IfOk result (λ changed. relations_of changed ≡ changes.without_opening (relations_of facts.now) session hall) }
+    ensures ok { IfOk result (λ changed. relations_of changed
+        ≡ changes.without_opening (relations_of facts.now) session hall) }
     ensures checked { OnOk result (changes.closing_refusal (relations_of facts.now) session hall ≡ None) }
-    ensures refusal { IfErr result (λ e. (e ≡ NoMemory) ⊎ (changes.closing_refusal (relations_of facts.now) session hall ≡ Some e)) }
+    ensures refusal { IfErr result (λ e. (e ≡ NoMemory)
+        ⊎ (changes.closing_refusal (relations_of facts.now) session hall ≡ Some e)) }
 {
     check_session(facts, &session)?;
     check_hall(facts, &hall)?;

@@ -11,12 +11,14 @@ use crate::references::{check_candidate, check_paper};
 use exam_rules::{Entry, Facts};
 use exam_types::{Number, PaperCode, Refusal};
 
-/// The facts with the entry withdrawn. Refused, in this order, as an unknown candidate, an unknown paper, no entry, or
-/// withdrawn already; and where there is not enough memory.
+/// The facts with the entry withdrawn. Refused, in this order, as an unknown candidate, an unknown paper, no
+/// entry, or withdrawn already; and where there is not enough memory.
 pub fn withdrawn(facts: &Facts, number: Number, paper: PaperCode) -> Result<Facts, Refusal>
-    ensures ok { IfOk result (λ changed. relations_of changed ≡ changes.with_live (relations_of facts.now) number paper false) }
+    ensures ok { IfOk result (λ changed. relations_of changed
+        ≡ changes.with_live (relations_of facts.now) number paper false) }
     ensures checked { OnOk result (changes.withdrawal_refusal (relations_of facts.now) number paper ≡ None) }
-    ensures refusal { IfErr result (λ e. (e ≡ NoMemory) ⊎ (changes.withdrawal_refusal (relations_of facts.now) number paper ≡ Some e)) }
+    ensures refusal { IfErr result (λ e. (e ≡ NoMemory)
+        ⊎ (changes.withdrawal_refusal (relations_of facts.now) number paper ≡ Some e)) }
 {
     if !is_live(facts, number, paper)? {
         return Err(Refusal::AlreadyWithdrawn);
@@ -24,12 +26,14 @@ pub fn withdrawn(facts: &Facts, number: Number, paper: PaperCode) -> Result<Fact
     with_live(facts, number, paper, false)
 }
 
-/// The facts with the entry live again. Refused, in this order, as an unknown candidate, an unknown paper, no entry, or
-/// not withdrawn; and where there is not enough memory. No limit is tested.
+/// The facts with the entry live again. Refused, in this order, as an unknown candidate, an unknown paper, no
+/// entry, or not withdrawn; and where there is not enough memory. No limit is tested.
 pub fn reinstated(facts: &Facts, number: Number, paper: PaperCode) -> Result<Facts, Refusal>
-    ensures ok { IfOk result (λ changed. relations_of changed ≡ changes.with_live (relations_of facts.now) number paper true) }
+    ensures ok { IfOk result (λ changed. relations_of changed
+        ≡ changes.with_live (relations_of facts.now) number paper true) }
     ensures checked { OnOk result (changes.revival_refusal (relations_of facts.now) number paper ≡ None) }
-    ensures refusal { IfErr result (λ e. (e ≡ NoMemory) ⊎ (changes.revival_refusal (relations_of facts.now) number paper ≡ Some e)) }
+    ensures refusal { IfErr result (λ e. (e ≡ NoMemory)
+        ⊎ (changes.revival_refusal (relations_of facts.now) number paper ≡ Some e)) }
 {
     if is_live(facts, number, paper)? {
         return Err(Refusal::NotWithdrawn);
@@ -40,7 +44,8 @@ pub fn reinstated(facts: &Facts, number: Number, paper: PaperCode) -> Result<Fac
 /// Whether the entry is live. Refused, in this order, as an unknown candidate, an unknown paper, or no entry.
 fn is_live(facts: &Facts, number: Number, paper: PaperCode) -> Result<bool, Refusal>
     ensures ok { IfOk result (λ live. live ≡ sessions.is_live (relations_of facts.now) number paper) }
-    ensures refusal { result_err result ≡ changes.first_refusal (changes.entry_checks (relations_of facts.now) number paper) }
+    ensures refusal { result_err result
+        ≡ changes.first_refusal (changes.entry_checks (relations_of facts.now) number paper) }
 {
     check_candidate(facts, &number)?;
     check_paper(facts, &paper)?;
@@ -52,7 +57,8 @@ fn is_live(facts: &Facts, number: Number, paper: PaperCode) -> Result<bool, Refu
 
 /// The facts with this live mark of the entry.
 fn with_live(facts: &Facts, number: Number, paper: PaperCode, live: bool) -> Result<Facts, Refusal>
-    ensures ok { IfOk result (λ changed. relations_of changed ≡ changes.with_live (relations_of facts.now) number paper live) }
+    ensures ok { IfOk result (λ changed. relations_of changed
+        ≡ changes.with_live (relations_of facts.now) number paper live) }
     ensures memory { IfErr result (λ e. e ≡ NoMemory) }
 {
     let mut changed = copied_facts(facts)?;

@@ -113,8 +113,10 @@ fn with_withdrawal(
     paper: PaperCode,
     today: Day,
 ) -> Result<(Office, Reply), Refusal>
-    ensures ok { IfOk result (λ next. steps.Step (variant.Withdraw number paper) today office.now (Ok next.1) next.0) }
-    ensures refusal { IfErr result (λ e. (e ≡ NoMemory) ⊎ steps.Step (variant.Withdraw number paper) today office.now (Err e) office.now) }
+    ensures ok { IfOk result (λ next.
+        steps.Step (variant.Withdraw number paper) today office.now (Ok next.1) next.0) }
+    ensures refusal { IfErr result (λ e. (e ≡ NoMemory)
+        ⊎ steps.Step (variant.Withdraw number paper) today office.now (Err e) office.now) }
 {
     let _ = today;
     office.is_good();
@@ -130,8 +132,10 @@ fn with_reinstatement(
     paper: PaperCode,
     today: Day,
 ) -> Result<(Office, Reply), Refusal>
-    ensures ok { IfOk result (λ next. steps.Step (variant.Reinstate number paper) today office.now (Ok next.1) next.0) }
-    ensures refusal { IfErr result (λ e. (e ≡ NoMemory) ⊎ steps.Step (variant.Reinstate number paper) today office.now (Err e) office.now) }
+    ensures ok { IfOk result (λ next.
+        steps.Step (variant.Reinstate number paper) today office.now (Ok next.1) next.0) }
+    ensures refusal { IfErr result (λ e. (e ≡ NoMemory)
+        ⊎ steps.Step (variant.Reinstate number paper) today office.now (Err e) office.now) }
 {
     let _ = today;
     office.is_good();
@@ -147,8 +151,10 @@ fn with_closed_hall(
     hall: HallCode,
     today: Day,
 ) -> Result<(Office, Reply), Refusal>
-    ensures ok { IfOk result (λ next. steps.Step (variant.CloseHall session hall) today office.now (Ok next.1) next.0) }
-    ensures refusal { IfErr result (λ e. (e ≡ NoMemory) ⊎ steps.Step (variant.CloseHall session hall) today office.now (Err e) office.now) }
+    ensures ok { IfOk result (λ next.
+        steps.Step (variant.CloseHall session hall) today office.now (Ok next.1) next.0) }
+    ensures refusal { IfErr result (λ e. (e ≡ NoMemory)
+        ⊎ steps.Step (variant.CloseHall session hall) today office.now (Err e) office.now) }
 {
     let _ = today;
     office.is_good();

@@ -9,14 +9,15 @@ mod report;
 #[cfg(test)]
 mod tests;
 
+use exam_store::Store;
 use exam_types::Refusal;
-use files::{close_office, create_office, open_office};
+use files::{OfficeFile, close_office, create_office, open_office};
 use job::run_job;
 use line::{Job, Line, LineFault, parse_line};
 use report::{DONE, JobFault, NOT_UNDERSTOOD, print, print_error, print_fault};
 use std::env;
 use std::fs::File;
-use std::io::ErrorKind;
+use std::io::{ErrorKind, Read};
 use std::process::ExitCode;
 
 fn main(rt: HostRuntime) -> ExitCode {
@@ -57,49 +58,46 @@ fn words_of(rt: &HostRuntime) -> Result<Vec<String>, JobFault> {
     }
 }
 
-/// Opens what the line names, and carries it out.
+/// Opens what the line names, or makes it, and carries the line out.
 fn run_line(rt: &HostRuntime, line: &Line<'_>) -> Result<u8, JobFault> {
-    match line.job {
-        Job::Init => {
-            let store = create_office(rt, line.db)?;
-            close_office(store);
-            print(&mut rt.stdout(), "ready\n")?;
-            Ok(DONE)
-        }
-        Job::Import { file, .. } => {
-            let mut store = open_office(rt, line.db)?;
-            let status = match File::open(rt, file) {
-                Ok(mut file) => run_job(
-                    rt.alloc(),
-                    line,
-                    &mut store,
-                    &mut file,
-                    &mut rt.stdout(),
-                    &mut rt.stderr(),
-                ),
-                Err(error) => print_fault(rt.alloc(), &open_fault(error.kind()), &mut rt.stderr()),
-            };
-            close_office(store);
-            Ok(status)
-        }
-        Job::Withdraw { .. }
-        | Job::Reinstate { .. }
-        | Job::CloseHall { .. }
-        | Job::DoorList { .. } => {
-            let mut store = open_office(rt, line.db)?;
+    let mut store = match line.job {
+        Job::Init => create_office(rt, line.db)?,
+        _ => open_office(rt, line.db)?,
+    };
+    let status = match line.job {
+        Job::Import { file, .. } => run_import(rt, line, &mut store, file),
+        _ => {
             let mut nothing: &[u8] = b"";
-            let status = run_job(
-                rt.alloc(),
-                line,
-                &mut store,
-                &mut nothing,
-                &mut rt.stdout(),
-                &mut rt.stderr(),
-            );
-            close_office(store);
-            Ok(status)
+            run_over(rt, line, &mut store, &mut nothing)
         }
+    };
+    close_office(store);
+    Ok(status)
+}
+
+/// Carries out an import of the file at the path.
+fn run_import(rt: &HostRuntime, line: &Line<'_>, store: &mut Store<OfficeFile>, path: &str) -> u8 {
+    match File::open(rt, path) {
+        Ok(mut file) => run_over(rt, line, store, &mut file),
+        Err(error) => print_fault(rt.alloc(), &open_fault(error.kind()), &mut rt.stderr()),
     }
+}
+
+/// Carries out the line over the store, and writes to the program's own outputs.
+fn run_over<R: Read>(
+    rt: &HostRuntime,
+    line: &Line<'_>,
+    store: &mut Store<OfficeFile>,
+    reader: &mut R,
+) -> u8 {
+    run_job(
+        rt.alloc(),
+        line,
+        store,
+        reader,
+        &mut rt.stdout(),
+        &mut rt.stderr(),
+    )
 }
 
 /// Why a file could not be opened.
