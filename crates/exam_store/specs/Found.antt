@@ -22,7 +22,8 @@ Finds old new office = HasCleanDisk new → IsOurs old.now → Keeps old.now off
 -- there is no memory, a query fails and its error is told, or the tables hold no good office
 abbrev pub FindsNone : {S : Type 0} → Ghosts S → State → Held S → Refusal → Type 0
 FindsNone {S} g old new =
-    IsLoadRefusal (λ e. (mid : Held S) × Told (state g mid) (state g new) e) ((all : Trees) → Contains old.now all → HoldsNone all)
+    IsLoadRefusal (λ e. (mid : Held S) × Told (state g mid) (state g new) e)
+    ((all : Trees) → Contains old.now all → HoldsNone all)
 
 -- the new database keeps an office with no facts
 abbrev pub MakesEmpty : Database → Database → Type 0

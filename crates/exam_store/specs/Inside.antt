@@ -41,7 +41,8 @@ Becomes change old new = (all : Trees) → Contains old all → Contains new (ch
 
 pub record Makes (old new : State) (result : Result (Unit {0}) Refusal) (change : Trees → Trees) : Type 0 where
   -- where it succeeds, the rows are changed and the transaction goes on
-  pub made : HasCleanDisk new → IsTrue old.in_transaction → OnOk result (Becomes change old.now new.now × IsTrue new.in_transaction)
+  pub made : HasCleanDisk new → IsTrue old.in_transaction
+      → OnOk result (Becomes change old.now new.now × IsTrue new.in_transaction)
   -- it commits nothing, whether or not it succeeds
   pub kept : HasCleanDisk new → KeepsCommit old new
   pub survives : Survives old new (λ _. ⊥)

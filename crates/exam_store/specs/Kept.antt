@@ -20,7 +20,8 @@ abbrev pub IsSound : State → Type 0
 IsSound s = HasCleanDisk s × IsTrue s.is_open
 
 -- A call turns the database into another in one transaction, or not at all.
-pub record Commits {A E : Type 0} (old new : State) (result : Result A E) (Turns : Database → Database → Type 0) : Type 0 where
+pub record Commits {A E : Type 0} (old new : State) (result : Result A E)
+    (Turns : Database → Database → Type 0) : Type 0 where
   -- where it succeeds, the database is turned, that is committed, and the connection is open
   pub turned : HasCleanDisk new → OnOk result (Turns old.now new.now × (new.committed ≡ new.now) × IsTrue new.is_open)
   -- otherwise it is as it was

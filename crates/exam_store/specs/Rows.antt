@@ -27,7 +27,8 @@ abbrev pub paper_row : Code → Paper → Row
 paper_row code p = Text code ∷ Text p.title ∷ Text p.session ∷ whole p.minutes ∷ features p.required ∷ []
 
 abbrev pub IsPaper : Code → Paper → Type 0
-IsPaper code p = IsTrue (is_paper_code code) × IsTrue (is_name p.title) × IsTrue (is_session_code p.session) × IsExamMinutes p.minutes
+IsPaper code p =
+    IsTrue (is_paper_code code) × IsTrue (is_name p.title) × IsTrue (is_session_code p.session) × IsExamMinutes p.minutes
 
 abbrev pub hall_row : Code → Hall → Row
 hall_row code h = Text code ∷ Text h.title ∷ features h.features ∷ []
@@ -39,7 +40,8 @@ abbrev pub opening_row : Code × Code → Opening → Row
 opening_row key o = Text key.0 ∷ Text key.1 ∷ whole o.desks ∷ whole o.until ∷ flag o.reserved ∷ []
 
 abbrev pub IsOpening : Code × Code → Opening → Type 0
-IsOpening key o = IsTrue (is_session_code key.0) × IsTrue (is_hall_code key.1) × IsDeskCount o.desks × IsClosingTime o.until
+IsOpening key o =
+    IsTrue (is_session_code key.0) × IsTrue (is_hall_code key.1) × IsDeskCount o.desks × IsClosingTime o.until
 
 abbrev pub candidate_row : ℕ → Candidate → Row
 candidate_row number c = whole number ∷ Text c.name ∷ Text c.code ∷ []
@@ -60,10 +62,14 @@ abbrev pub IsArrangement : ℕ → Arrangement → Type 0
 IsArrangement number a = IsNumber number × IsExtra a.extra
 
 abbrev pub appeal_row : ℕ × Code → Appeal → Row
-appeal_row key a = whole key.0 ∷ Text key.1 ∷ Text a.session ∷ [] ++ subject a.subject ++ Text a.reason ∷ [] ++ status a.status ++ day a.lodged ∷ []
+appeal_row key a =
+    whole key.0 ∷ Text key.1 ∷ Text a.session ∷ [] ++ subject a.subject
+    ++ Text a.reason ∷ [] ++ status a.status ++ day a.lodged ∷ []
 
 abbrev pub IsAppeal : ℕ × Code → Appeal → Type 0
-IsAppeal key a = IsNumber key.0 × IsTrue (is_reference key.1) × IsTrue (is_session_code a.session) × IsSubject a.subject × IsTrue (is_reason a.reason) × IsStatus a.status × IsDay a.lodged
+IsAppeal key a =
+    IsNumber key.0 × IsTrue (is_reference key.1) × IsTrue (is_session_code a.session)
+    × IsSubject a.subject × IsTrue (is_reason a.reason) × IsStatus a.status × IsDay a.lodged
 
 abbrev pub seat_row : Code × ℕ → Code → Row
 seat_row key hall = Text key.0 ∷ whole key.1 ∷ Text hall ∷ []

@@ -73,7 +73,8 @@ abbrev pub halls_put : Changes → Trees → Trees
 halls_put c all = with_put openings c.openings (with_put halls c.halls all)
 
 abbrev pub candidates_put : Changes → Trees → Trees
-candidates_put c all = with_put arrangements c.arrangements (with_put entries c.entries (with_put candidates c.candidates all))
+candidates_put c all =
+    with_put arrangements c.arrangements (with_put entries c.entries (with_put candidates c.candidates all))
 
 abbrev pub plans_put : Changes → Trees → Trees
 plans_put c all = with_put seats c.seats (with_put appeals c.appeals all)
@@ -86,7 +87,9 @@ abbrev pub plans_deleted : Changes → Trees → Trees
 plans_deleted c all = with_deleted appeals c.appeals (with_deleted seats c.seats all)
 
 abbrev pub candidates_deleted : Changes → Trees → Trees
-candidates_deleted c all = with_deleted candidates c.candidates (with_deleted entries c.entries (with_deleted arrangements c.arrangements all))
+candidates_deleted c all =
+    with_deleted candidates c.candidates
+    (with_deleted entries c.entries (with_deleted arrangements c.arrangements all))
 
 abbrev pub halls_deleted : Changes → Trees → Trees
 halls_deleted c all = with_deleted halls c.halls (with_deleted openings c.openings all)

@@ -11,4 +11,6 @@ pub record OfficeIn (S : Type 0) : Type 0 where
 
 -- it is stored as the pair of its fields
 abbrev pub office_code : {S : Type 0} → Coded S → Coded (OfficeIn S)
-office_code {S} store = code_by (State × Held S) (coded× office.the_row.coded (held_code store)) (λ s. (s.office, s.database)) (λ p. record { office = p.0; database = p.1 }) (λ _. refl)
+office_code {S} store =
+    code_by (State × Held S) (coded× office.the_row.coded (held_code store))
+    (λ s. (s.office, s.database)) (λ p. record { office = p.0; database = p.1 }) (λ _. refl)

@@ -29,7 +29,8 @@ use std::alloc::Global;
 
 /// The office that the tables hold. Refused as a bad store where they hold none.
 pub fn load_office<S: Alter>(alloc: Global, conn: &mut Connection<S>) -> Result<Office, Refusal>
-    ensures rows { HasCleanDisk (state S.Store conn.new) → IfOk result (λ office. (all : _) → Contains (state S.Store conn.old).now all
+    ensures rows { HasCleanDisk (state S.Store conn.new) → IfOk result (λ office. (all : _)
+        → Contains (state S.Store conn.old).now all
         → HoldsOffice all office × IsUnchanged (state S.Store conn.old) (state S.Store conn.new)) }
     ensures bad { HasCleanDisk (state S.Store conn.new) → IfErr result (IsLoadRefusal
         (λ e. (mid : _) × Told (state S.Store mid) (state S.Store conn.new) e)
@@ -46,7 +47,8 @@ pub fn load_office<S: Alter>(alloc: Global, conn: &mut Connection<S>) -> Result<
 
 /// The facts that the tables hold.
 fn load_facts<S: Alter>(alloc: Global, conn: &mut Connection<S>) -> Result<Facts, Refusal>
-    ensures rows { HasCleanDisk (state S.Store conn.new) → IfOk result (λ facts. (all : _) → Contains (state S.Store conn.old).now all
+    ensures rows { HasCleanDisk (state S.Store conn.new) → IfOk result (λ facts. (all : _)
+        → Contains (state S.Store conn.old).now all
         → HoldsFacts all (relations_of facts) × IsUnchanged (state S.Store conn.old) (state S.Store conn.new)) }
     ensures bad { HasCleanDisk (state S.Store conn.new) → IfErr result (IsLoadRefusal
         (λ e. (mid : _) × Told (state S.Store mid) (state S.Store conn.new) e)

@@ -21,11 +21,17 @@ pub fn run<S: Alter>(
     params: &[ValueRef<'_>],
 ) -> Result<(), Refusal>
     ensures same_reference { tx.new.conn.ghost_name ≡ tx.old.conn.ghost_name }
-    ensures ran { HasCleanDisk (state S.Store tx.new.conn.now) → IsTrue (state S.Store tx.old.conn.now).in_transaction
-        → OnOk result (Ran sql.now (bound params.now) (state S.Store tx.old.conn.now) (state S.Store tx.new.conn.now) × IsTrue (state S.Store tx.new.conn.now).in_transaction) }
-    ensures failed { HasCleanDisk (state S.Store tx.new.conn.now) → IsTrue (state S.Store tx.old.conn.now).in_transaction
-        → IfErr result (λ e. (error : _) × (e ≡ refusal_of error) × ExecutesInside 0 sql.now (bound params.now) (state S.Store tx.old.conn.now) (state S.Store tx.new.conn.now) (Err error)) }
-    ensures kept { HasCleanDisk (state S.Store tx.new.conn.now) → KeepsCommit (state S.Store tx.old.conn.now) (state S.Store tx.new.conn.now) }
+    ensures ran { HasCleanDisk (state S.Store tx.new.conn.now)
+        → IsTrue (state S.Store tx.old.conn.now).in_transaction
+        → OnOk result (Ran sql.now (bound params.now)
+        (state S.Store tx.old.conn.now) (state S.Store tx.new.conn.now)
+        × IsTrue (state S.Store tx.new.conn.now).in_transaction) }
+    ensures failed { HasCleanDisk (state S.Store tx.new.conn.now)
+        → IsTrue (state S.Store tx.old.conn.now).in_transaction
+        → IfErr result (λ e. (error : _) × (e ≡ refusal_of error) × ExecutesInside 0 sql.now (bound params.now)
+        (state S.Store tx.old.conn.now) (state S.Store tx.new.conn.now) (Err error)) }
+    ensures kept { HasCleanDisk (state S.Store tx.new.conn.now)
+        → KeepsCommit (state S.Store tx.old.conn.now) (state S.Store tx.new.conn.now) }
     ensures survives { Survives (state S.Store tx.old.conn.now) (state S.Store tx.new.conn.now) (λ _. ⊥) }
     ensures told { IfErr result (λ e. IsTrue (is_store_refusal e)) }
 {
@@ -37,9 +43,13 @@ pub fn run<S: Alter>(
 
 /// All rows of a query. A refusal tells the error that the database gave.
 pub fn all_rows<S: Alter>(conn: &mut Connection<S>, sql: &str) -> Result<Vec<Row>, Refusal>
-    ensures shown { HasCleanDisk (state S.Store conn.new) → IfOk result (λ rows. Shown sql.now [] (state S.Store conn.old) (state S.Store conn.new) rows.items) }
-    ensures failed { HasCleanDisk (state S.Store conn.new) → IfErr result (λ e. (error : _) × (e ≡ refusal_of error) × FailsToQuery sql.now [] (state S.Store conn.old) (state S.Store conn.new) error) }
-    ensures survives { Survives (state S.Store conn.old) (state S.Store conn.new) (CommitsShowing sql.now [] (state S.Store conn.old)) }
+    ensures shown { HasCleanDisk (state S.Store conn.new)
+        → IfOk result (λ rows. Shown sql.now [] (state S.Store conn.old) (state S.Store conn.new) rows.items) }
+    ensures failed { HasCleanDisk (state S.Store conn.new)
+        → IfErr result (λ e. (error : _) × (e ≡ refusal_of error)
+        × FailsToQuery sql.now [] (state S.Store conn.old) (state S.Store conn.new) error) }
+    ensures survives { Survives (state S.Store conn.old) (state S.Store conn.new)
+        (CommitsShowing sql.now [] (state S.Store conn.old)) }
     ensures told { IfErr result (λ e. IsTrue (is_store_refusal e)) }
 {
     match conn.query_all(sql, &[]) {

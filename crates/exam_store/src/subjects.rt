@@ -67,7 +67,8 @@ pub fn extra_of(subject: &Subject) -> u16
 /// Reads the kind, the target, the needs and the extra time, from that column on.
 pub fn subject_at(row: &Row, at: usize) -> Result<Subject, Refusal>
     requires { at < 900 }
-    ensures { Reads IsSubject stored.subject (column row.now at ∷ column row.now (at + 1) ∷ column row.now (at + 2) ∷ column row.now (at + 3) ∷ []) result }
+    ensures { Reads IsSubject stored.subject
+        (column row.now at ∷ column row.now (at + 1) ∷ column row.now (at + 2) ∷ column row.now (at + 3) ∷ []) result }
 {
     match whole_at(row, at)? {
         1 => Ok(Subject::Hall(hall_at(row, at + 1)?)),
@@ -80,7 +81,9 @@ pub fn subject_at(row: &Row, at: usize) -> Result<Subject, Refusal>
 /// The code of a hall, with no needs and no extra time.
 fn hall_at(row: &Row, at: usize) -> Result<HallCode, Refusal>
     requires { at < 1000 }
-    ensures { Reads (λ hall. IsTrue (is_hall_code hall)) (λ hall. Text hall ∷ stored.whole 0 ∷ stored.whole 0 ∷ []) (column row.now at ∷ column row.now (at + 1) ∷ column row.now (at + 2) ∷ []) result }
+    ensures { Reads (λ hall. IsTrue (is_hall_code hall))
+        (λ hall. Text hall ∷ stored.whole 0 ∷ stored.whole 0 ∷ [])
+        (column row.now at ∷ column row.now (at + 1) ∷ column row.now (at + 2) ∷ []) result }
 {
     let hall = hall_code_at(row, at)?;
     zero_at(row, at + 1)?;
@@ -91,7 +94,9 @@ fn hall_at(row: &Row, at: usize) -> Result<HallCode, Refusal>
 /// The code of a paper, with no needs and no extra time.
 fn paper_at(row: &Row, at: usize) -> Result<PaperCode, Refusal>
     requires { at < 1000 }
-    ensures { Reads (λ paper. IsTrue (is_paper_code paper)) (λ paper. Text paper ∷ stored.whole 0 ∷ stored.whole 0 ∷ []) (column row.now at ∷ column row.now (at + 1) ∷ column row.now (at + 2) ∷ []) result }
+    ensures { Reads (λ paper. IsTrue (is_paper_code paper))
+        (λ paper. Text paper ∷ stored.whole 0 ∷ stored.whole 0 ∷ [])
+        (column row.now at ∷ column row.now (at + 1) ∷ column row.now (at + 2) ∷ []) result }
 {
     let paper = paper_code_at(row, at)?;
     zero_at(row, at + 1)?;
@@ -102,7 +107,9 @@ fn paper_at(row: &Row, at: usize) -> Result<PaperCode, Refusal>
 /// Needs and extra time, after an empty text.
 fn arrangement_at(row: &Row, at: usize) -> Result<Arrangement, Refusal>
     requires { at < 1000 }
-    ensures { Reads (λ wanted. IsExtra wanted.extra) (λ wanted. Text [] ∷ stored.features wanted.needs ∷ stored.whole wanted.extra ∷ []) (column row.now at ∷ column row.now (at + 1) ∷ column row.now (at + 2) ∷ []) result }
+    ensures { Reads (λ wanted. IsExtra wanted.extra)
+        (λ wanted. Text [] ∷ stored.features wanted.needs ∷ stored.whole wanted.extra ∷ [])
+        (column row.now at ∷ column row.now (at + 1) ∷ column row.now (at + 2) ∷ []) result }
 {
     nothing_at(row, at)?;
     let needs = features_at(row, at + 1)?;

@@ -19,9 +19,9 @@ use std::collections::BTreeMap;
 
 /// How the rows of a table are put, deleted and read.
 ///
-/// A row is put by its whole key, whether it is there or not, and deleted by its whole key. A row that others may refer to is
-/// changed in place: one that is replaced is deleted first, and is then looked for in the tables that refer to it, which
-/// have no index for that.
+/// A row is put by its whole key, whether it is there or not, and deleted by its whole key. A row that others may
+/// refer to is changed in place: one that is replaced is deleted first, and is then looked for in the tables that
+/// refer to it, which have no index for that.
 pub trait Table {
     type Key: Ord + Drop;
 
@@ -48,17 +48,21 @@ pub trait Table {
         value: &'a Self::Value,
     ) -> Result<(), Refusal>
         ensures same_reference { tx.new.conn.ghost_name ≡ tx.old.conn.ghost_name }
-        ensures made { Makes (state S.Store tx.old.conn.now) (state S.Store tx.new.conn.now) result (with_row Self.tree Self.key_places (Self.row_of key.now value.now)) };
+        ensures made { Makes (state S.Store tx.old.conn.now) (state S.Store tx.new.conn.now) result
+            (with_row Self.tree Self.key_places (Self.row_of key.now value.now)) };
 
     /// Takes away the row with this key, if there is one.
     fn delete<S: Alter>(tx: &mut Transaction<'_, S>, key: &Self::Key) -> Result<(), Refusal>
         ensures same_reference { tx.new.conn.ghost_name ≡ tx.old.conn.ghost_name }
-        ensures made { Makes (state S.Store tx.old.conn.now) (state S.Store tx.new.conn.now) result (without_row Self.tree Self.key_places (Self.key_of key.now)) };
+        ensures made { Makes (state S.Store tx.old.conn.now) (state S.Store tx.new.conn.now) result
+            (without_row Self.tree Self.key_places (Self.key_of key.now)) };
 
     /// All rows, as they are shown.
     fn shown<S: Alter>(conn: &mut Connection<S>) -> Result<Vec<Row>, Refusal>
-        ensures rows { HasCleanDisk (state S.Store conn.new) → IfOk result (λ rows. (all : _) → Contains (state S.Store conn.old).now all
-            → IsPermutation (all Self.tree) (map (λ row. Null ∷ row) rows.items) × IsUnchanged (state S.Store conn.old) (state S.Store conn.new)) }
+        ensures rows { HasCleanDisk (state S.Store conn.new) → IfOk result (λ rows. (all : _)
+            → Contains (state S.Store conn.old).now all
+            → IsPermutation (all Self.tree) (map (λ row. Null ∷ row) rows.items)
+            × IsUnchanged (state S.Store conn.old) (state S.Store conn.new)) }
         ensures failed { HasCleanDisk (state S.Store conn.new)
             → IfErr result (λ e. Told (state S.Store conn.old) (state S.Store conn.new) e) }
         ensures early { HasCleanDisk (state S.Store conn.new) → HasCleanDisk (state S.Store conn.old) }
@@ -76,7 +80,8 @@ pub fn put_rows<T: Table, S: Alter>(
     rows: &[Keyed<'_, T::Key, T::Value>],
 ) -> Result<(), Refusal>
     ensures same_reference { tx.new.conn.ghost_name ≡ tx.old.conn.ghost_name }
-    ensures made { Makes (state S.Store tx.old.conn.now) (state S.Store tx.new.conn.now) result (with_rows T.tree T.key_places (map (λ r. T.row_of r.0.now r.1.now) rows.now)) }
+    ensures made { Makes (state S.Store tx.old.conn.now) (state S.Store tx.new.conn.now) result
+        (with_rows T.tree T.key_places (map (λ r. T.row_of r.0.now r.1.now) rows.now)) }
 {
     'rows: for row in rows {
         T::put(alloc, tx, row.0, row.1)?;
@@ -90,7 +95,8 @@ pub fn delete_rows<T: Table, S: Alter>(
     keys: &[&T::Key],
 ) -> Result<(), Refusal>
     ensures same_reference { tx.new.conn.ghost_name ≡ tx.old.conn.ghost_name }
-    ensures made { Makes (state S.Store tx.old.conn.now) (state S.Store tx.new.conn.now) result (without_rows T.tree T.key_places (map (λ key. T.key_of key.now) keys.now)) }
+    ensures made { Makes (state S.Store tx.old.conn.now) (state S.Store tx.new.conn.now) result
+        (without_rows T.tree T.key_places (map (λ key. T.key_of key.now) keys.now)) }
 {
     'keys: for key in keys {
         T::delete(tx, key)?;
@@ -103,8 +109,10 @@ pub fn load_rows<T: Table, S: Alter>(
     alloc: Global,
     conn: &mut Connection<S>,
 ) -> Result<BTreeMap<T::Key, T::Value>, Refusal>
-    ensures rows { HasCleanDisk (state S.Store conn.new) → IfOk result (λ table. (all : _) → Contains (state S.Store conn.old).now all
-        → IsPermutation (all T.tree) (map (λ e. Null ∷ T.row_of e.0 e.1) table.entries) × IsUnchanged (state S.Store conn.old) (state S.Store conn.new)) }
+    ensures rows { HasCleanDisk (state S.Store conn.new) → IfOk result (λ table. (all : _)
+        → Contains (state S.Store conn.old).now all
+        → IsPermutation (all T.tree) (map (λ e. Null ∷ T.row_of e.0 e.1) table.entries)
+        × IsUnchanged (state S.Store conn.old) (state S.Store conn.new)) }
     ensures bad { HasCleanDisk (state S.Store conn.new)
         → KeysMatch T.Key.cmp T.key_places T.row_of T.key_of
         → IfErr result (IsLoadRefusal (Told (state S.Store conn.old) (state S.Store conn.new))

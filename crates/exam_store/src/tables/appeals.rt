@@ -100,7 +100,9 @@ fn put_appeal<'a, S: Alter>(
     lodged: &'a [u8],
 ) -> Result<(), Refusal>
     ensures same_reference { tx.new.conn.ghost_name ≡ tx.old.conn.ghost_name }
-    ensures made { lodged.now ≡ day_text appeal.now.lodged → Makes (state S.Store tx.old.conn.now) (state S.Store tx.new.conn.now) result (with_row 13 (1 ∷ 2 ∷ []) (appeal_row key.now appeal.now)) }
+    ensures made { lodged.now ≡ day_text appeal.now.lodged
+        → Makes (state S.Store tx.old.conn.now) (state S.Store tx.new.conn.now) result
+        (with_row 13 (1 ∷ 2 ∷ []) (appeal_row key.now appeal.now)) }
 {
     run(
         tx,

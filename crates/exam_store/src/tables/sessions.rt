@@ -74,7 +74,8 @@ fn put_session<'a, S: Alter>(
     start: StartTime,
 ) -> Result<(), Refusal>
     ensures same_reference { tx.new.conn.ghost_name ≡ tx.old.conn.ghost_name }
-    ensures made { Makes (state S.Store tx.old.conn.now) (state S.Store tx.new.conn.now) result (with_row 1 (1 ∷ []) (Text code.now ∷ Text day.now ∷ stored.whole start ∷ [])) }
+    ensures made { Makes (state S.Store tx.old.conn.now) (state S.Store tx.new.conn.now) result
+        (with_row 1 (1 ∷ []) (Text code.now ∷ Text day.now ∷ stored.whole start ∷ [])) }
 {
     run(
         tx,
