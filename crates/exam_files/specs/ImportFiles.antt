@@ -1,18 +1,25 @@
 -- What an import file denotes: its rows, or its refusal.
-use Rattle.std.specs.Prelude.{◌≡◌, ◌+◌, ◌⊎◌, ℕ, List, [], ◌∷◌, ◌++◌, length, Bool, true, Option, Some, None, Result, Ok, Err, nat_lt, codes, unwrap_or, bytes_eq, ◌==◌, ◌&&◌, if◌then◌else◌}
+use Rattle.std.specs.Prelude.{◌≡◌, ◌+◌, ◌⊎◌, ℕ, List, [], ◌∷◌, ◌++◌, length, Bool, true, false, Option, Some}
+use Rattle.std.specs.Prelude.{None, Result, Ok, Err, nat_lt, codes, unwrap_or, bytes_eq, ◌==◌, ◌&&◌}
+use Rattle.std.specs.Prelude.{if◌then◌else◌}
 use Rattle.csv.specs.Reading.{default_config, records, strip_bom}
 use Rattle.csv.specs.Records.{field_at}
 use Rattle.exam_office.specs.Imports.{ImportRows, conflicts}
 use Rattle.exam_rules.specs.declared.rows.Paper.{Paper}
 use Rattle.exam_office.specs.declared.import_row.Kind.{Kind}
-use Rattle.exam_office.specs.declared.import_row.Kind.TheVariants.{Sessions, Papers, Halls, Openings, Candidates, Entries, Arrangements}
+use Rattle.exam_office.specs.declared.import_row.Kind.TheVariants.{Sessions, Papers, Halls, Openings}
+use Rattle.exam_office.specs.declared.import_row.Kind.TheVariants.{Candidates, Entries, Arrangements}
 use Rattle.exam_office.specs.declared.import_row.Row.{Row}
-use Rattle.exam_office.specs.declared.import_row.Row.TheVariants.{OfSession, OfPaper, OfHall, OfOpening, OfCandidate, OfEntry, OfArrangement}
+use Rattle.exam_office.specs.declared.import_row.Row.TheVariants.{OfSession, OfPaper, OfHall, OfOpening}
+use Rattle.exam_office.specs.declared.import_row.Row.TheVariants.{OfCandidate, OfEntry, OfArrangement}
 use Rattle.exam_types.specs.Codes.{is_access_code, is_hall_code, is_paper_code, is_session_code}
+use Rattle.exam_types.specs.Days.{session_day_in}
+use Rattle.exam_types.specs.Features.{features_in}
+use Rattle.exam_types.specs.Numbers.{desks_in, extra_in, minutes_in, number_in, start_in, until_in}
 use Rattle.exam_types.specs.Texts.{is_name}
 use Rattle.exam_types.specs.declared.refusal.Refusal.{Refusal}
-use Rattle.exam_types.specs.declared.refusal.Refusal.TheVariants.{BadHeader, BadRow, NoMemory, RowConflict, TooMany}
-use Rattle.exam_files.specs.Values.{desks_in, extra_in, features_in, flag_in, minutes_in, number_in, session_day_in, start_in, text_in, until_in}
+use Rattle.exam_types.specs.declared.refusal.Refusal.TheVariants.{BadHeader, BadRow, NoMemory, RowConflict}
+use Rattle.exam_types.specs.declared.refusal.Refusal.TheVariants.{TooMany}
 
 -- what a call answers is the value or the refusal, unless memory ran out
 abbrev pub GivesUnlessMemory : {X : Type 0} → Result X Refusal → Result X Refusal → Type 0
@@ -27,6 +34,15 @@ and_then (Err e) f = Err e
 abbrev pub value_at : {X : Type 0} → ℕ → ℕ → Option X → Result X Refusal
 value_at place column None = Err (BadRow place column)
 value_at place column (Some x) = Ok x
+
+-- a code or a name is the text itself, where it is one
+abbrev pub text_in : (List ℕ → Bool) → List ℕ → Option (List ℕ)
+text_in test bytes = if test bytes then Some bytes else None
+
+abbrev pub flag_in : List ℕ → Option Bool
+flag_in bytes =
+    if bytes_eq bytes (codes "yes") then Some true
+    else (if bytes_eq bytes (codes "no") then Some false else None)
 
 -- the field in a column, empty where there is none
 abbrev pub field : ℕ → List (List ℕ) → List ℕ
@@ -127,8 +143,12 @@ abbrev pub rows_of : Kind → List (List (List ℕ)) → Result ImportRows Refus
 rows_of kind [] = Err BadHeader
 rows_of kind (header ∷ rest) = if is_header kind header then rows_from kind 1 [] rest else Err BadHeader
 
+-- the most bytes of an import file
+abbrev pub most_bytes : ℕ
+most_bytes = 4194304
+
 abbrev pub is_too_long : List ℕ → Bool
-is_too_long bytes = nat_lt 4194304 (length bytes)
+is_too_long bytes = nat_lt most_bytes (length bytes)
 
 -- the rows of the records of a text, or its refusal
 abbrev pub rows_in : Kind → List ℕ → Result ImportRows Refusal

@@ -3,5 +3,4 @@ pub mod ImportFiles
 pub mod Left
 pub mod Padding
 pub mod Shortages
-pub mod Values
 pub mod Writing

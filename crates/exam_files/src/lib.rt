@@ -12,7 +12,6 @@ mod sheet_text;
 mod shortages;
 #[cfg(test)]
 mod tests;
-mod values;
 
 pub use doors::door_list;
 pub use imports::read_import;

@@ -1,6 +1,6 @@
 //! The records of a file, as the reader of CSV gives them.
-ghost use Rattle.std.specs.Prelude.{◌≡◌, ℕ, List, Some, IfOk, IfErr};
-ghost use Rattle.csv.specs.Reading.{default_config, records, strip_bom};
+ghost use Rattle.std.specs.Prelude.{◌≡◌, ℕ, List, Some, IsTrue, IfOk, IfErr};
+ghost use Rattle.csv.specs.Reading.{default_config, is_flexible, records, strip_bom};
 ghost use Rattle.csv.specs.Records.{fields_of};
 ghost use Rattle.exam_files.specs.Left.{Leaves, StepsBy};
 ghost use Rattle.exam_files.specs.ImportFiles as spec;
@@ -13,7 +13,9 @@ use std::io::Read;
 
 /// A reader at the start of a text. The first record is one like the others, and lengths may differ.
 pub fn reader_of(alloc: Global, bytes: &[u8]) -> Reader<&[u8]>
-    ensures { Leaves (λ s. Some s.now) result (records default_config (strip_bom bytes.now)) }
+    ensures records { Leaves (λ s. Some s.now) result (records default_config (strip_bom bytes.now)) }
+    // So a record of another length is no error of the reader, which would be told as want of memory.
+    ensures lengths { IsTrue (is_flexible result) }
 {
     ReaderBuilder::new()
         .has_headers(false)

@@ -2,19 +2,19 @@
 ghost use Rattle.std.specs.Prelude.{◌≡◌, IfOk};
 ghost use Rattle.csv.specs.Records.{fields_of};
 ghost use Rattle.exam_office.specs.Imports.{kind_of};
-ghost use Rattle.exam_office.specs.declared.import_row.Kind.TheVariants.{Sessions, Papers, Halls, Openings, Candidates, Entries, Arrangements};
+ghost use Rattle.exam_office.specs.declared.import_row.Kind.TheVariants.{Sessions, Papers, Halls, Openings};
+ghost use Rattle.exam_office.specs.declared.import_row.Kind.TheVariants.{Candidates, Entries, Arrangements};
 ghost use Rattle.exam_files.specs.ImportFiles as spec;
 
 use crate::headers::header;
 use crate::records::field;
-use crate::values::{
-    desks_in, extra_in, features_in, flag_in, minutes_in, number_in, session_day_in, start_in,
-    until_in,
-};
 use csv::ByteRecord;
 use exam_office::{Kind, Row};
 use exam_rules::{Arrangement, Candidate, Hall, Opening, Paper, Session};
-use exam_types::{AccessCode, HallCode, Name, PaperCode, Refusal, SessionCode};
+use exam_types::{
+    AccessCode, ClosingTime, DeskCount, ExamMinutes, Extra, Features, HallCode, Name, Number,
+    PaperCode, Refusal, SessionCode, SessionDay, StartTime,
+};
 use std::alloc::Global;
 
 /// The row that a record denotes. Refused as a bad row where the count of fields is wrong, with column 0, or
@@ -51,8 +51,8 @@ fn session_row(place: u32, fields: &ByteRecord) -> Result<Row, Refusal>
     ensures kind { IfOk result (λ row. kind_of row ≡ Sessions) }
 {
     let code = value_at(place, 1, SessionCode::parse(field(fields, 0)))?;
-    let day = value_at(place, 2, session_day_in(field(fields, 1)))?;
-    let start = value_at(place, 3, start_in(field(fields, 2)))?;
+    let day = value_at(place, 2, SessionDay::parse(field(fields, 1)))?;
+    let start = value_at(place, 3, StartTime::parse(field(fields, 2)))?;
     Ok(Row::OfSession(code, Session { day, start }))
 }
 
@@ -63,8 +63,8 @@ fn paper_row(alloc: Global, place: u32, fields: &ByteRecord) -> Result<Row, Refu
     let code = value_at(place, 1, PaperCode::parse(field(fields, 0)))?;
     let title = value_at(place, 2, Name::parse(alloc, field(fields, 1))?)?;
     let session = value_at(place, 3, SessionCode::parse(field(fields, 2)))?;
-    let minutes = value_at(place, 4, minutes_in(field(fields, 3)))?;
-    let required = value_at(place, 5, features_in(field(fields, 4)))?;
+    let minutes = value_at(place, 4, ExamMinutes::parse(field(fields, 3)))?;
+    let required = value_at(place, 5, Features::parse(field(fields, 4)))?;
     Ok(Row::OfPaper(
         code,
         Paper {
@@ -82,7 +82,7 @@ fn hall_row(alloc: Global, place: u32, fields: &ByteRecord) -> Result<Row, Refus
 {
     let code = value_at(place, 1, HallCode::parse(field(fields, 0)))?;
     let title = value_at(place, 2, Name::parse(alloc, field(fields, 1))?)?;
-    let features = value_at(place, 3, features_in(field(fields, 2)))?;
+    let features = value_at(place, 3, Features::parse(field(fields, 2)))?;
     Ok(Row::OfHall(code, Hall { title, features }))
 }
 
@@ -92,8 +92,8 @@ fn opening_row(place: u32, fields: &ByteRecord) -> Result<Row, Refusal>
 {
     let session = value_at(place, 1, SessionCode::parse(field(fields, 0)))?;
     let hall = value_at(place, 2, HallCode::parse(field(fields, 1)))?;
-    let desks = value_at(place, 3, desks_in(field(fields, 2)))?;
-    let until = value_at(place, 4, until_in(field(fields, 3)))?;
+    let desks = value_at(place, 3, DeskCount::parse(field(fields, 2)))?;
+    let until = value_at(place, 4, ClosingTime::parse(field(fields, 3)))?;
     let reserved = value_at(place, 5, flag_in(field(fields, 4)))?;
     Ok(Row::OfOpening(
         session,
@@ -110,7 +110,7 @@ fn candidate_row(alloc: Global, place: u32, fields: &ByteRecord) -> Result<Row, 
     ensures row { spec.GivesUnlessMemory result (spec.candidate_row place (fields_of fields.now)) }
     ensures kind { IfOk result (λ row. kind_of row ≡ Candidates) }
 {
-    let number = value_at(place, 1, number_in(field(fields, 0)))?;
+    let number = value_at(place, 1, Number::parse(field(fields, 0)))?;
     let name = value_at(place, 2, Name::parse(alloc, field(fields, 1))?)?;
     let code = value_at(place, 3, AccessCode::parse(field(fields, 2)))?;
     Ok(Row::OfCandidate(number, Candidate { name, code }))
@@ -120,7 +120,7 @@ fn entry_row(place: u32, fields: &ByteRecord) -> Result<Row, Refusal>
     ensures row { spec.GivesUnlessMemory result (spec.entry_row place (fields_of fields.now)) }
     ensures kind { IfOk result (λ row. kind_of row ≡ Entries) }
 {
-    let number = value_at(place, 1, number_in(field(fields, 0)))?;
+    let number = value_at(place, 1, Number::parse(field(fields, 0)))?;
     let paper = value_at(place, 2, PaperCode::parse(field(fields, 1)))?;
     Ok(Row::OfEntry(number, paper))
 }
@@ -129,9 +129,9 @@ fn arrangement_row(place: u32, fields: &ByteRecord) -> Result<Row, Refusal>
     ensures row { spec.GivesUnlessMemory result (spec.arrangement_row place (fields_of fields.now)) }
     ensures kind { IfOk result (λ row. kind_of row ≡ Arrangements) }
 {
-    let number = value_at(place, 1, number_in(field(fields, 0)))?;
-    let needs = value_at(place, 2, features_in(field(fields, 1)))?;
-    let extra = value_at(place, 3, extra_in(field(fields, 2)))?;
+    let number = value_at(place, 1, Number::parse(field(fields, 0)))?;
+    let needs = value_at(place, 2, Features::parse(field(fields, 1)))?;
+    let extra = value_at(place, 3, Extra::parse(field(fields, 2)))?;
     Ok(Row::OfArrangement(number, Arrangement { needs, extra }))
 }
 
@@ -145,5 +145,18 @@ fn value_at<T>(place: u32, column: u32, value: Option<T>) -> Result<T, Refusal>
             record: place,
             column,
         }),
+    }
+}
+
+/// `yes` or `no`.
+fn flag_in(bytes: &[u8]) -> Option<bool>
+    ensures { result ≡ spec.flag_in bytes.now }
+{
+    if bytes == b"yes".as_slice() {
+        Some(true)
+    } else if bytes == b"no".as_slice() {
+        Some(false)
+    } else {
+        None
     }
 }

@@ -11,17 +11,17 @@ use Rattle.exam_files.proofs.imports.read_records.Goals.{else-loop-place-test, t
 
 pub returns-then-not-branch : goal.returns-then-not-branch
 returns-then-not-branch c =
-    let none = rw c.if-not-branch.true at (c.in_ok-take_record.ensures.steps _ c.reader_of-reader.ensures) in
+    let none = rw c.if-not-branch.true at (c.in_ok-take_record.ensures.steps _ c.reader_of-reader.ensures.records) in
     inr (ap (rows_of c.args.kind) none)
 
 pub returns-then-not-is_header : goal.returns-then-not-is_header
 returns-then-not-is_header c =
-    let first = rw c.if-not-branch.false at (c.in_ok-take_record.ensures.steps _ c.reader_of-reader.ensures) in
+    let first = rw c.if-not-branch.false at (c.in_ok-take_record.ensures.steps _ c.reader_of-reader.ensures.records) in
     inr (ap (rows_of c.args.kind) first.1 ∙ header-no c.args.kind _ first.0 c.if-not-is_header.ensures)
 
 pub loop-place-init : goal.loop-place-init
 loop-place-init c =
-    let first = rw c.if-not-branch.false at (c.in_ok-take_record.ensures.steps _ c.reader_of-reader.ensures) in
+    let first = rw c.if-not-branch.false at (c.in_ok-take_record.ensures.steps _ c.reader_of-reader.ensures.records) in
     let few = rw first.1 at (records_few c.args.bytes.now) in
     let kind = ap (λ (v : ImportRows). v.kind) c.new-import.ensures in
     let rows = ap (λ (v : ImportRows). v.rows) c.new-import.ensures in

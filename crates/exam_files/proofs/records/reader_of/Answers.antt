@@ -3,8 +3,8 @@ use Rattle.csv.specs.Reading.{strip_bom}
 use Rattle.exam_files.proofs.Counts.{all_left}
 use Rattle.exam_files.proofs.records.reader_of.Goals as goal
 
-pub returns : goal.returns
-returns c =
+pub returns-clause-records : goal.returns-clause-records
+returns-clause-records c =
     let fr = c.from_reader.ensures in
     let b = c.flexible.ensures in
     let h = c.has_headers.ensures in
