@@ -1,10 +1,14 @@
 -- Small offices, and what the definitions say of them, by computation.
-use Rattle.std.specs.Prelude.{◌≡◌, ℕ, true, false, List, [], ◌∷◌, None, Some, refl, codes}
+use Rattle.std.specs.Prelude.{◌≡◌, ℕ, true, false, List, [], ◌∷◌, Option, None, Some, refl, codes}
 use Rattle.exam_types.specs.declared.features.Features.{Features}
 use Rattle.exam_types.specs.Features.{no_features}
 use Rattle.exam_rules.specs.declared.rows.Paper.{Paper}
-use Rattle.exam_rules.specs.declared.rows.Opening.{Opening}
+use Rattle.exam_rules.specs.declared.rows.Appeal.{Appeal}
+use Rattle.exam_rules.specs.declared.rows.Candidate.{Candidate}
 use Rattle.exam_rules.specs.declared.rows.Entry.{Entry}
+use Rattle.exam_rules.specs.declared.rows.Hall.{Hall}
+use Rattle.exam_rules.specs.declared.rows.Opening.{Opening}
+use Rattle.exam_rules.specs.declared.rows.Subject.{Subject}
 use Rattle.exam_rules.specs.declared.rows.Status.TheVariants as status
 use Rattle.exam_rules.specs.declared.rows.Subject.TheVariants as subject
 use Rattle.exam_plan.specs.Matching.{desk_number}
@@ -15,22 +19,40 @@ use Rattle.exam_rules.specs.Seatings.{fits, seating, plan_of, stands_before, pro
 use Rattle.exam_plan.specs.Problems.{Problem}
 
 abbrev pub paper_of : ℕ → Features → Paper
-paper_of minutes required = record { title = codes "Maths"; session = codes "S1"; minutes = minutes; required = required }
+paper_of minutes required =
+    record { title = codes "Maths"; session = codes "S1"; minutes = minutes; required = required }
 
 abbrev pub opening_until : ℕ → Opening
 opening_until until = record { desks = 1; until = until; reserved = false }
 
+abbrev pub hall_with : Code → Features → Code × Hall
+hall_with h features = (h, record { title = h; features = features })
+
+abbrev pub opening_of : Code → Opening → (Code × Code) × Opening
+opening_of h opening = ((codes "S1", h), opening)
+
+abbrev pub named : ℕ → Code → Code → ℕ × Candidate
+named c name code = (c, record { name = name; code = code })
+
+abbrev pub step_free : Features
+step_free = record no_features { step_free = true }
+
+-- of the paper MA-1
 abbrev pub entered : ℕ → (ℕ × Code) × Entry
 entered c = ((c, codes "MA-1"), record { live = true })
 
--- session S1 at 09:00 with the paper MA-1 of 60 minutes, halls A (step-free) and B, both with one desk until 12:00
+-- session S1 at 09:00 with the paper MA-1 of 60 minutes, halls A (step-free) and B, both with one desk until
+-- 12:00
 abbrev pub base : Relations
 base = record {
   sessions = (codes "S1", record { day = 20970; start = 540 }) ∷ [];
   papers = (codes "MA-1", paper_of 60 no_features) ∷ [];
-  halls = (codes "A", record { title = codes "A"; features = record no_features { step_free = true } }) ∷ (codes "B", record { title = codes "B"; features = no_features }) ∷ [];
-  openings = ((codes "S1", codes "A"), opening_until 720) ∷ ((codes "S1", codes "B"), opening_until 720) ∷ [];
-  candidates = (1, record { name = codes "Bo Berg"; code = codes "CODE0001" }) ∷ (2, record { name = codes "Ada Lin"; code = codes "CODE0002" }) ∷ (3, record { name = codes "Cy Dahl"; code = codes "CODE0003" }) ∷ [];
+  halls = hall_with (codes "A") step_free ∷ hall_with (codes "B") no_features ∷ [];
+  openings = opening_of (codes "A") (opening_until 720) ∷ opening_of (codes "B") (opening_until 720) ∷ [];
+  candidates = named 1 (codes "Bo Berg") (codes "CODE0001")
+      ∷ named 2 (codes "Ada Lin") (codes "CODE0002")
+      ∷ named 3 (codes "Cy Dahl") (codes "CODE0003")
+      ∷ [];
   entries = [];
   arrangements = [];
   appeals = [];
@@ -47,17 +69,21 @@ quarter_more = record base {
 finish_rounds_up : finish quarter_more (codes "S1") 1 ≡ Some 653
 finish_rounds_up = refl
 
-fits_until_then : fits (record quarter_more { openings = ((codes "S1", codes "A"), opening_until 653) ∷ [] }) (codes "S1") 1 (codes "A") ≡ true
+-- and with the hall A alone, open until a time
+abbrev until : ℕ → Relations
+until end = record quarter_more { openings = opening_of (codes "A") (opening_until end) ∷ [] }
+
+fits_until_then : fits (until 653) (codes "S1") 1 (codes "A") ≡ true
 fits_until_then = refl
 
-fits_not_sooner : fits (record quarter_more { openings = ((codes "S1", codes "A"), opening_until 652) ∷ [] }) (codes "S1") 1 (codes "A") ≡ false
+fits_not_sooner : fits (until 652) (codes "S1") 1 (codes "A") ≡ false
 fits_not_sooner = refl
 
 -- 1 and 3 without needs, 2 with the need step-free
 abbrev pub three : Relations
 three = record base {
   entries = entered 1 ∷ entered 2 ∷ entered 3 ∷ [];
-  arrangements = (2, record { needs = record no_features { step_free = true }; extra = 0 }) ∷ [];
+  arrangements = (2, record { needs = step_free; extra = 0 }) ∷ [];
 }
 
 three_members : members three (codes "S1") ≡ 1 ∷ 2 ∷ 3 ∷ []
@@ -72,10 +98,20 @@ two_not_B = refl
 one_fits_B : fits three (codes "S1") 1 (codes "B") ≡ true
 one_fits_B = refl
 
--- a granted appeal of 1 against B
+-- a granted appeal for a session
+abbrev pub granted : Code → Subject → Appeal
+granted s wanted = record {
+  session = s;
+  subject = wanted;
+  reason = [];
+  status = status.Granted (codes "ok");
+  lodged = 20965;
+}
+
+-- of 1 against B
 abbrev barred : Relations
 barred = record three {
-  appeals = ((1, codes "HA1"), record { session = codes "S1"; subject = subject.Hall (codes "B"); reason = []; status = status.Granted (codes "ok"); lodged = 20968 }) ∷ [];
+  appeals = ((1, codes "HA1"), granted (codes "S1") (subject.Hall (codes "B"))) ∷ [];
 }
 
 one_not_B : fits barred (codes "S1") 1 (codes "B") ≡ false
@@ -84,17 +120,25 @@ one_not_B = refl
 one_still_A : fits barred (codes "S1") 1 (codes "A") ≡ true
 one_still_A = refl
 
--- who is put out when B no longer fits 1: 2 keeps A
-put_out : kept_part (seating barred (codes "S1")) (plan_of (((codes "S1", 1), codes "B") ∷ ((codes "S1", 2), codes "A") ∷ []) (codes "S1")) 1 ≡ None
+abbrev one_in_B : List ((Code × ℕ) × Code)
+one_in_B = ((codes "S1", 1), codes "B") ∷ ((codes "S1", 2), codes "A") ∷ []
+
+-- what stays when B no longer fits 1
+abbrev kept : ℕ → Option Code
+kept = kept_part (seating barred (codes "S1")) (plan_of one_in_B (codes "S1"))
+
+put_out : kept 1 ≡ None
 put_out = refl
 
-stays_in : kept_part (seating barred (codes "S1")) (plan_of (((codes "S1", 1), codes "B") ∷ ((codes "S1", 2), codes "A") ∷ []) (codes "S1")) 2 ≡ Some (codes "A")
+stays_in : kept 2 ≡ Some (codes "A")
 stays_in = refl
 
 -- 3 entered for MA-1 and PH-2, which wants a computer
 abbrev pub two_papers : Relations
 two_papers = record base {
-  papers = (codes "MA-1", paper_of 60 no_features) ∷ (codes "PH-2", paper_of 60 (record no_features { computer = true })) ∷ [];
+  papers = (codes "MA-1", paper_of 60 no_features)
+      ∷ (codes "PH-2", paper_of 60 (record no_features { computer = true }))
+      ∷ [];
   entries = entered 3 ∷ ((3, codes "PH-2"), record { live = true }) ∷ [];
 }
 
@@ -106,7 +150,7 @@ clash_named = refl
 
 abbrev clash_granted : Relations
 clash_granted = record two_papers {
-  appeals = ((3, codes "C1"), record { session = codes "S1"; subject = subject.Clash (codes "PH-2"); reason = []; status = status.Granted (codes "ok"); lodged = 20965 }) ∷ [];
+  appeals = ((3, codes "C1"), granted (codes "S1") (subject.Clash (codes "PH-2"))) ∷ [];
 }
 
 sits_granted : sitting clash_granted (codes "S1") 3 ≡ Some (codes "PH-2")
@@ -128,13 +172,16 @@ latest_finish : finish longest (codes "S1") 1 ≡ Some 2639
 latest_finish = refl
 
 -- a withdrawn entry makes no member
-withdrawn_is_no_member : members (record base { entries = ((1, codes "MA-1"), record { live = false }) ∷ entered 2 ∷ [] }) (codes "S1") ≡ 2 ∷ []
+abbrev one_withdrawn : Relations
+one_withdrawn = record base { entries = ((1, codes "MA-1"), record { live = false }) ∷ entered 2 ∷ [] }
+
+withdrawn_is_no_member : members one_withdrawn (codes "S1") ≡ 2 ∷ []
 withdrawn_is_no_member = refl
 
 -- a granted appeal of another session counts for nothing
 abbrev granted_elsewhere : Relations
 granted_elsewhere = record two_papers {
-  appeals = ((3, codes "C1"), record { session = codes "S2"; subject = subject.Clash (codes "PH-2"); reason = []; status = status.Granted (codes "ok"); lodged = 20965 }) ∷ [];
+  appeals = ((3, codes "C1"), granted (codes "S2") (subject.Clash (codes "PH-2"))) ∷ [];
 }
 
 sits_least_still : sitting granted_elsewhere (codes "S1") 3 ≡ Some (codes "MA-1")
@@ -142,7 +189,9 @@ sits_least_still = refl
 
 -- a reserved hall is for those with needs or extra time
 abbrev reserved : Relations
-reserved = record three { openings = ((codes "S1", codes "A"), record { desks = 1; until = 720; reserved = true }) ∷ [] }
+reserved = record three {
+  openings = opening_of (codes "A") (record { desks = 1; until = 720; reserved = true }) ∷ [];
+}
 
 reserved_for_needs : fits reserved (codes "S1") 2 (codes "A") ≡ true
 reserved_for_needs = refl
@@ -151,21 +200,34 @@ reserved_not_for_others : fits reserved (codes "S1") 1 (codes "A") ≡ false
 reserved_not_for_others = refl
 
 -- by indices: all three fit A, of which 2 stands second; B fits the first and the third
-three_by_indices : problem_of three (codes "S1") ≡ (let p : Problem = record { desk_counts = 1 ∷ 1 ∷ []; fit = (0 ∷ 1 ∷ []) ∷ (0 ∷ []) ∷ (0 ∷ 1 ∷ []) ∷ []; rank = 0 ∷ 1 ∷ 2 ∷ [] } in p)
+abbrev by_indices : Problem
+by_indices = record {
+  desk_counts = 1 ∷ 1 ∷ [];
+  fit = (0 ∷ 1 ∷ []) ∷ (0 ∷ []) ∷ (0 ∷ 1 ∷ []) ∷ [];
+  rank = 0 ∷ 1 ∷ 2 ∷ [];
+}
+
+three_by_indices : problem_of three (codes "S1") ≡ by_indices
 three_by_indices = refl
 
 -- one hall with 5 sitting MA-1 and 2 sitting PH-2: by the paper first
 abbrev two_sittings : Relations
 two_sittings = record two_papers {
-  candidates = (2, record { name = codes "Ada Lin"; code = codes "CODE0002" }) ∷ (5, record { name = codes "Ed Poe"; code = codes "CODE0005" }) ∷ [];
+  candidates = named 2 (codes "Ada Lin") (codes "CODE0002")
+      ∷ named 5 (codes "Ed Poe") (codes "CODE0005")
+      ∷ [];
   entries = ((2, codes "PH-2"), record { live = true }) ∷ entered 5 ∷ [];
 }
 
 abbrev both_in_A : List ((Code × ℕ) × Code)
 both_in_A = ((codes "S1", 2), codes "A") ∷ ((codes "S1", 5), codes "A") ∷ []
 
-first_desk : desk_number (seating two_sittings (codes "S1")) (stands_before two_sittings (codes "S1")) (plan_of both_in_A (codes "S1")) 5 ≡ Some 1
+abbrev desk_in_A : ℕ → Option ℕ
+desk_in_A = desk_number (seating two_sittings (codes "S1")) (stands_before two_sittings (codes "S1"))
+    (plan_of both_in_A (codes "S1"))
+
+first_desk : desk_in_A 5 ≡ Some 1
 first_desk = refl
 
-second_desk : desk_number (seating two_sittings (codes "S1")) (stands_before two_sittings (codes "S1")) (plan_of both_in_A (codes "S1")) 2 ≡ Some 2
+second_desk : desk_in_A 2 ≡ Some 2
 second_desk = refl
