@@ -11,6 +11,7 @@ use Rattle.std.specs.Ordering.{nat_cmp, match_ordering}
 use Rattle.std.proofs.Math.Path.{fun_ext}
 use Rattle.std.proofs.lemmas.Bool.{and_right, eq-eqb, le-leb, leb-true, or_right}
 use Rattle.std.proofs.lemmas.Map.Lookups.{CmpEqualImpliesEq, exact_pairs, exact_bytes, exact_unsigned}
+use Rattle.exam_plan.specs.Problems.{most_members}
 use Rattle.exam_rules.specs.declared.rows.Entry.{Entry}
 use Rattle.exam_rules.specs.declared.rows.Session.{Session}
 use Rattle.exam_rules.specs.declared.rows.Paper.{Paper}
@@ -123,8 +124,8 @@ module _ (r : Relations) (d : ℕ) (p : Code) where
 
   members_still_within : members_within r ≡ true → members_within (with_live r d p false) ≡ true
   members_still_within within =
-      all_more (λ s. nat_le (length (members r s)) 4096) (λ s. nat_le (length (members (with_live r d p false) s)) 4096) (keys_of r.sessions)
-      (λ s most. let few = leb-true (length (members r s)) 4096 most in let fewer = members_fewer s in le-leb (length (members (with_live r d p false) s)) 4096 (omega (arith, few, fewer)))
+      all_more (λ s. nat_le (length (members r s)) most_members) (λ s. nat_le (length (members (with_live r d p false) s)) most_members) (keys_of r.sessions)
+      (λ s most. let few = leb-true (length (members r s)) most_members most in let fewer = members_fewer s in le-leb (length (members (with_live r d p false) s)) most_members (omega (arith, few, fewer)))
       within
 
   -- it passes no limit

@@ -1,5 +1,5 @@
 -- A member has a row, a sitting paper and a finish.
-use Rattle.std.proofs.Common.{◌≡◌, ℕ, ◌==◌, ◌&&◌, ◌||◌, Bool, true, false, cond, List, [], ◌∷◌, filter, map, Contains, Option, None, Some, IsSome, is_some, IsTrue, Bor, refl, ap, sym, ◌∙◌}
+use Rattle.std.proofs.Common.{◌≡◌, ℕ, ◌==◌, ◌&&◌, Bool, true, false, cond, List, [], ◌∷◌, filter, map, Contains, Option, None, Some, IsSome, IsTrue, Bor, refl, ap, sym, ◌∙◌}
 use Rattle.std.specs.Map.{keys_of}
 use Rattle.std.specs.Option.{option_map, option_map_or, option_and_then, option_or, option_copied}
 use Rattle.std.specs.Ordering.{nat_cmp}

@@ -11,6 +11,7 @@ use Rattle.std.specs.Ordering.{nat_cmp}
 use Rattle.std.proofs.lemmas.Bool.{and_parts, leb-true}
 use Rattle.std.proofs.lemmas.Bool.Decides.{Decides-and, Decides-eqb}
 use Rattle.std.proofs.lemmas.Map.Lookups.{CmpEqualImpliesEq, exact_pairs, exact_bytes, exact_unsigned, btree_map_from_get}
+use Rattle.exam_plan.specs.Problems.{most_members}
 use Rattle.exam_rules.specs.Relations.{Code, Relations, same_code, code_cmp, seat_cmp, has_row}
 use Rattle.exam_rules.specs.Sessions.{members}
 use Rattle.exam_rules.specs.Seatings.{plan_of}
@@ -44,9 +45,9 @@ all_at p (k ∷ keys) s every among = inner (same_code s k) refl among (all_at p
     inner false e among rest = rest among
 
 -- within its limit no session has too many members
-pub few_within : (r : Relations) → IsTrue (members_within r) → (s : Code) → IsTrue (has_row code_cmp r.sessions s) → length (members r s) ≤ 4096
+pub few_within : (r : Relations) → IsTrue (members_within r) → (s : Code) → IsTrue (has_row code_cmp r.sessions s) → length (members r s) ≤ most_members
 few_within r within s known =
-    leb-true (length (members r s)) 4096 (all_at (λ t. nat_le (length (members r t)) 4096) (keys_of r.sessions) s within (sym (known_among s r.sessions) ∙ known))
+    leb-true (length (members r s)) most_members (all_at (λ t. nat_le (length (members r t)) most_members) (keys_of r.sessions) s within (sym (known_among s r.sessions) ∙ known))
 
 pub within_members : (r : Relations) → IsTrue (within_limits r) → IsTrue (members_within r)
 within_members r limits =
@@ -58,5 +59,5 @@ within_members r limits =
     (and_parts (members_within r) (appeals_within r) (and_parts (candidates_within r) from_members past_openings.1).1).0
 
 -- within all limits too
-pub few_members : (r : Relations) → IsTrue (within_limits r) → (s : Code) → IsTrue (has_row code_cmp r.sessions s) → length (members r s) ≤ 4096
+pub few_members : (r : Relations) → IsTrue (within_limits r) → (s : Code) → IsTrue (has_row code_cmp r.sessions s) → length (members r s) ≤ most_members
 few_members r limits = few_within r (within_members r limits)

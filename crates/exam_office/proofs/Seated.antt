@@ -1,6 +1,7 @@
 -- A good office whose tables are in order seats every session as promised.
 use Rattle.std.proofs.Common.{◌≡◌, ℕ, ◌+◌, ◌≤◌, Bool, true, false, IsTrue, count_by, length, Option, Some, IfSome, ap, sym, subst, refl, ◌∙◌, arith}
 use Rattle.std.specs.Option.{option_map}
+use Rattle.exam_plan.specs.Problems.{most_members}
 use Rattle.exam_plan.specs.Matching.{IsLawful, occupants}
 use Rattle.exam_rules.specs.Orders.{AreInOrder}
 use Rattle.exam_rules.specs.Relations.{Code, code_cmp, has_row}
@@ -30,10 +31,10 @@ module _ (office : State) (s : Code) (good : IsGood office) (up : AreInOrder off
   desk c h e = ap (option_map (λ k. count_by (λ d. stands_before office.relations s d c) (occupants (seating office.relations s) (plan_of office.seats s) k) + 1)) e
 
   -- nobody sits in a session that is not there
-  few : (c : ℕ) (h : Code) → plan_of office.seats s c ≡ Some h → length (members office.relations s) ≤ 4096
+  few : (c : ℕ) (h : Code) → plan_of office.seats s c ≡ Some h → length (members office.relations s) ≤ most_members
   few c h e = inner (has_row code_cmp office.relations.sessions s) refl
     where
-      inner : (b : Bool) → has_row code_cmp office.relations.sessions s ≡ b → length (members office.relations s) ≤ 4096
+      inner : (b : Bool) → has_row code_cmp office.relations.sessions s ≡ b → length (members office.relations s) ≤ most_members
       inner true there = few_members office.relations good.limits s there
       inner false unknown = absurd (let both : true ≡ false = sym (fit c h e) ∙ unknown_fits office.relations s unknown c h in cc)
 

@@ -11,7 +11,7 @@ use Rattle.std.proofs.lemmas.List.FromFn.{length-range_with_len, get_or-range_wi
 use Rattle.exam_types.specs.declared.refusal.Refusal.{Refusal}
 use Rattle.exam_types.specs.declared.refusal.Refusal.TheVariants.{NoMemory}
 use Rattle.exam_plan.specs.Matching.{IsBest, IsCertificate, IsContested, desk_number, unseated}
-use Rattle.exam_plan.specs.Problems.{Problem, IsProblem, IsPlan, seating_of, plan_at, ranks_before, desk_numbers}
+use Rattle.exam_plan.specs.Problems.{most_members, Problem, IsProblem, IsPlan, seating_of, plan_at, ranks_before, desk_numbers}
 use Rattle.exam_plan.proofs.Contested.{some_certificate}
 use Rattle.exam_plan.proofs.Steps.{plan_at-get_or}
 use Rattle.exam_plan.proofs.Seatings.{fits_below}
@@ -40,7 +40,7 @@ on_err (Ok x) P Q f h = tt
 on_err (Err e) P Q f h = f e h
 
 -- the refusals of a problem, where there is the session and it has few members
-pub memory_alone : (r : Relations) (s : Code) → IsTrue (has_row code_cmp r.sessions s) → length (members r s) ≤ 4096 → (e : Refusal) → IsProblemRefusal r s e → e ≡ NoMemory
+pub memory_alone : (r : Relations) (s : Code) → IsTrue (has_row code_cmp r.sessions s) → length (members r s) ≤ most_members → (e : Refusal) → IsProblemRefusal r s e → e ≡ NoMemory
 memory_alone r s known few e (inl (inl unknown)) = absurd (let f : false ≡ true = sym unknown.1 ∙ known in cc)
 memory_alone r s known few e (inl (inr memory)) = memory.0
 memory_alone r s known few e (inr many) = absurd (omega (arith, many.1))
@@ -164,7 +164,7 @@ pub places_listed : (r : Relations) (seats : Seats) (s : Code) (numbers : List �
     → stored ≡ places_of seats s halls numbers → stored ≡ places_of seats s (open_halls r s) (members r s)
 places_listed r seats s numbers halls stored numbers_are halls_are is = is ∙ ap (λ (hs : List Code). places_of seats s hs numbers) halls_are ∙ ap (places_of seats s (open_halls r s)) numbers_are
 
-module _ (r : Relations) (seats : Seats) (s : Code) (up : ListsRise r s) (few : length (members r s) ≤ 4096) (best : IsBest (seating r s) (plan_of seats s)) (view : View) (made : IsMadeOf r seats s view) where
+module _ (r : Relations) (seats : Seats) (s : Code) (up : ListsRise r s) (few : length (members r s) ≤ most_members) (best : IsBest (seating r s) (plan_of seats s)) (view : View) (made : IsMadeOf r seats s view) where
   plan_is : plan_at view.plan ≡ indexed_plan r s (plan_of seats s)
   plan_is = ap plan_at made.plan ∙ fun_ext (stored_is_indexed r s seats up)
 

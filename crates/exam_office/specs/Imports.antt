@@ -15,6 +15,10 @@ pub record ImportRows : Type 0 where
   pub kind : Kind
   pub rows : List Row
 
+-- the most rows of an import
+abbrev pub most_rows : ℕ
+most_rows = 4194304
+
 abbrev pub kind_of : Row → Kind
 kind_of (OfSession code session) = Sessions
 kind_of (OfPaper code paper) = Papers

@@ -1,7 +1,8 @@
 -- The limits on the facts, by the table to which each belongs.
-use Rattle.std.specs.Prelude.{ℕ, ◌&&◌, nat_le, Bool, length}
+use Rattle.std.specs.Prelude.{◌&&◌, nat_le, Bool, length}
 use Rattle.std.specs.List.{list_all}
 use Rattle.std.specs.Map.{keys_of}
+use Rattle.exam_plan.specs.Problems.{most_members}
 use Rattle.exam_rules.specs.Relations.{Relations}
 use Rattle.exam_rules.specs.Sessions.{members, appeal_count}
 use Rattle.exam_rules.specs.Seatings.{open_halls}
@@ -24,7 +25,7 @@ candidates_within r = nat_le (length r.candidates) 20000
 
 -- of each session
 abbrev pub members_within : Relations → Bool
-members_within r = list_all (λ s. nat_le (length (members r s)) 4096) (keys_of r.sessions)
+members_within r = list_all (λ s. nat_le (length (members r s)) most_members) (keys_of r.sessions)
 
 -- of each candidate
 abbrev pub appeals_within : Relations → Bool

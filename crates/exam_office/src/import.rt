@@ -26,7 +26,7 @@ impl Model for Import {
     ghost use Rattle.std.specs.List.{position_from};
     ghost use Rattle.exam_office.specs.contracts.import_row.KeyOrd.TheImpl as keys;
     ghost use Rattle.exam_office.specs.declared.import_row.Key.{Key};
-    ghost use Rattle.exam_office.specs.Imports.{ImportRows, AreOfKind, has_key, is_consistent};
+    ghost use Rattle.exam_office.specs.Imports.{ImportRows, AreOfKind, has_key, is_consistent, most_rows};
 
     ghost Value = { ImportRows };
 
@@ -34,7 +34,7 @@ impl Model for Import {
 
     ghost invariant = { λ a. (is_consistent a.rows.items ≡ true) × AreOfKind a.kind a.rows.items
         × ((k : Key) → get keys.ghosts.cmp a.places k ≡ position_from (has_key k) 0 a.rows.items)
-        × (length a.rows.items ≤ 4194304) };
+        × (length a.rows.items ≤ most_rows) };
 }
 
 impl Import {
@@ -53,12 +53,14 @@ impl Import {
     /// its place, which counts from 1. After a refusal the import is as it was.
     pub fn push(&mut self, row: Row) -> Result<(), Refusal>
         requires kind { spec.kind_of row ≡ self.old.kind }
-        requires room { length self.old.rows < 4194304 }
+        requires room { length self.old.rows < spec.most_rows }
         ensures ok { OnOk result (self.new ≡ record self.old { rows = self.old.rows ++ row ∷ [] }) }
         ensures agrees { OnOk result (spec.conflicts row self.old.rows ≡ false) }
         ensures refused { IfErr result (λ e. (e ≡ refusals.NoMemory)
             ⊎ ((e ≡ refusals.RowConflict (length self.old.rows + 1))
             × (spec.conflicts row self.old.rows ≡ true))) }
+        ensures memory { IfErr result
+            (λ e. e ≡ refusals.NoMemory → spec.conflicts row self.old.rows ≡ false) }
         ensures err { OnErr result (self.new ≡ self.old) }
     {
         match self.first_with_key(&row) {
@@ -73,7 +75,7 @@ impl Import {
     /// Appends a row that is an earlier one again.
     fn push_repeated(&mut self, row: Row) -> Result<(), Refusal>
         requires kind { spec.kind_of row ≡ self.old.kind }
-        requires room { length self.old.rows < 4194304 }
+        requires room { length self.old.rows < spec.most_rows }
         requires repeated { find (spec.has_key (spec.key_of row)) self.old.rows ≡ Some row }
         ensures ok { OnOk result (self.new ≡ record self.old { rows = self.old.rows ++ row ∷ [] }) }
         ensures memory { IfErr result (λ e. e ≡ refusals.NoMemory) }
@@ -86,7 +88,7 @@ impl Import {
     /// Appends a row with a new key.
     fn push_new(&mut self, row: Row) -> Result<(), Refusal>
         requires kind { spec.kind_of row ≡ self.old.kind }
-        requires room { length self.old.rows < 4194304 }
+        requires room { length self.old.rows < spec.most_rows }
         requires new { find (spec.has_key (spec.key_of row)) self.old.rows ≡ None }
         ensures ok { OnOk result (self.new ≡ record self.old { rows = self.old.rows ++ row ∷ [] }) }
         ensures memory { IfErr result (λ e. e ≡ refusals.NoMemory) }
@@ -127,7 +129,7 @@ impl Import {
     /// The rows, in the order of the file.
     pub fn rows(&self) -> &[Row]
         ensures value { result.now ≡ self.now.rows }
-        ensures few { length result.now ≤ 4194304 }
+        ensures few { length result.now ≤ spec.most_rows }
         ensures consistent { spec.is_consistent result.now ≡ true }
         ensures kind { spec.AreOfKind self.now.kind result.now }
     {

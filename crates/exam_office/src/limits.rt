@@ -4,6 +4,7 @@ ghost use Rattle.exam_rules.specs.Relations.{relations_of};
 ghost use Rattle.exam_rules.specs.Lists.{AreListsOf};
 ghost use Rattle.exam_office.specs.Limits as spec;
 
+use exam_plan::MOST_MEMBERS;
 use exam_rules::{Facts, SessionLists, has_at_most};
 
 const MOST_SESSIONS: usize = 400;
@@ -15,8 +16,6 @@ const MOST_HALLS: usize = 500;
 const MOST_OPENINGS: usize = 128;
 
 const MOST_CANDIDATES: usize = 20_000;
-/// In a session.
-const MOST_MEMBERS: usize = 4_096;
 /// Of a candidate.
 const MOST_APPEALS: usize = 64;
 

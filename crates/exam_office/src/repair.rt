@@ -3,7 +3,7 @@ ghost use Rattle.std.specs.Prelude.{◌≡◌, ◌<◌, ◌≤◌, ◌&&◌, nat
 ghost use Rattle.std.specs.Option.{option_map, option_and_then, option_or};
 ghost use Rattle.exam_types.specs.declared.refusal.Refusal.TheVariants.{NoMemory};
 ghost use Rattle.exam_plan.specs.Matching.{Plan, SamePlan, IsBest};
-ghost use Rattle.exam_plan.specs.Problems.{IsPlan, seating_of, plan_at};
+ghost use Rattle.exam_plan.specs.Problems.{IsPlan, most_members, seating_of, plan_at};
 ghost use Rattle.exam_plan.specs.Repair.{IsRepair};
 ghost use Rattle.exam_rules.specs.Relations.{Code, Relations, relations_of, code_cmp, has_row, same_code};
 ghost use Rattle.exam_rules.specs.Sessions.{members};
@@ -30,7 +30,7 @@ pub fn repaired(
 ) -> Result<Seats, Refusal>
     requires lists { AreListsOf (relations_of facts.now) lists.now }
     requires few { (s : Code) → IsTrue (has_row code_cmp facts.now.sessions.entries s)
-        → length (members (relations_of facts.now) s) ≤ 4096 }
+        → length (members (relations_of facts.now) s) ≤ most_members }
     ensures ok { IfOk result (λ new. (s : Code)
         → IsRepaired (relations_of facts.now) first seats.now.entries new.entries s) }
     ensures memory { IfErr result (λ e. e ≡ NoMemory) }
@@ -53,7 +53,7 @@ fn repair_session(
     repaired: &mut Seats,
 ) -> Result<(), Refusal>
     requires lists { AreListsOf (relations_of facts.now) lists.now }
-    requires few { length (members (relations_of facts.now) session.now) ≤ 4096 }
+    requires few { length (members (relations_of facts.now) session.now) ≤ most_members }
     requires fresh { (c : ℕ) → plan_of repaired.old.entries session.now c ≡ None }
     ensures ok { OnOk result (IsRepaired
         (relations_of facts.now) first.now seats.now.entries repaired.new.entries session.now) }

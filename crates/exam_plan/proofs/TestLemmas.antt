@@ -8,7 +8,7 @@ use Rattle.std.proofs.lemmas.Bool.{ne_eqb}
 use Rattle.std.proofs.lemmas.List.{length-map}
 use Rattle.std.proofs.lemmas.List.Elements.{All-filter, All-from_get_or, All-map}
 use Rattle.std.proofs.lemmas.List.FromFn.{length-range_with_len, get_or-range_with_len}
-use Rattle.exam_plan.specs.Problems.{IsProblem}
+use Rattle.exam_plan.specs.Problems.{IsProblem, most_members}
 use Rattle.exam_plan.proofs.Counting.{range_next}
 use Rattle.exam_plan.proofs.ShortOfDesks.{filter_sorted}
 
@@ -33,7 +33,7 @@ row_exists row P n m e same =
     subst R (sym e) (All-filter P (λ h. h < m) (range_with_len 0 n) (All-from_get_or (λ h. h < m) (range_with_len 0 n) 0
     (λ i l. let long = length-range_with_len 0 n in let at = get_or-range_with_len 0 n i 0 (omega (arith, l, long)) in omega (arith, at, l, long, same))))
 
-pub tiny_problem : (desks : List ℕ) (rows : List (Vec ℕ Global)) (ranks : List ℕ) (n : ℕ) → length desks ≡ 3 → length rows ≡ n → n ≤ 4096 → ranks ≡ range_with_len 0 n
+pub tiny_problem : (desks : List ℕ) (rows : List (Vec ℕ Global)) (ranks : List ℕ) (n : ℕ) → length desks ≡ 3 → length rows ≡ n → n ≤ most_members → ranks ≡ range_with_len 0 n
     → All (λ row. IsStrictlySortedBy nat_cmp row.items) rows → All (λ row. All (λ h. h < 3) row.items) rows
     → IsProblem (record { desk_counts = desks; fit = map (λ (row : Vec ℕ Global). row.items) rows; rank = ranks })
 tiny_problem desks rows ranks n three count few ranked rising exist =

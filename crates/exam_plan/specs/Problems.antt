@@ -14,9 +14,13 @@ pub record Problem : Type 0 where
   pub fit : List (List ℕ)
   pub rank : List ℕ
 
--- at most 4,096 candidates, as many ranks, which are distinct; the halls of a row rise and exist
+-- the most candidates that a problem may have, which are the members of a session
+abbrev pub most_members : ℕ
+most_members = 4096
+
+-- not too many candidates, as many ranks, which are distinct; the halls of a row rise and exist
 pub record IsProblem (p : Problem) : Type 0 where
-  pub few : length p.fit ≤ 4096
+  pub few : length p.fit ≤ most_members
   pub ranked : length p.rank ≡ length p.fit
   pub distinct : IsDistinct nat_eq p.rank
   pub rising : All (IsStrictlySortedBy nat_cmp) p.fit

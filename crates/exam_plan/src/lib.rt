@@ -18,7 +18,7 @@ pub use laws::{
     desk_number_is_within_the_hall, desk_numbers_are_distinct, least_chain_is_one,
     repair_has_one_result, some_plan_is_best, what_stays_is_lawful,
 };
-pub use problem::{Plan, Problem};
+pub use problem::{MOST_MEMBERS, Plan, Problem};
 pub use report::Shortage;
 
 #[cfg(test)]

@@ -2,7 +2,7 @@
 ghost use Rattle.std.specs.Prelude.{◌≡◌, ◌<◌, ◌≤◌, ℕ, length, map, nat_lt, count_by, IfOk, IfErr};
 ghost use Rattle.std.specs.Prelude.{slice_index};
 ghost use Rattle.exam_plan.specs.Matching.{occupants};
-ghost use Rattle.exam_plan.specs.Problems.{seating_of, plan_at, desk_numbers as numbers_of};
+ghost use Rattle.exam_plan.specs.Problems.{most_members, seating_of, plan_at, desk_numbers as numbers_of};
 
 use crate::problem::Problem;
 use exam_types::Refusal;
@@ -11,7 +11,7 @@ use std::alloc::Global;
 /// How many in the hall have a rank below this one.
 fn ranked_below(problem: &Problem, plan: &[Option<usize>], hall: usize, rank: u32) -> u32
     requires whole { length plan.now ≡ length problem.now.fit }
-    requires few { length plan.now ≤ 4096 }
+    requires few { length plan.now ≤ most_members }
     ensures few { result ≤ length plan.now }
     ensures count { result ≡ count_by (λ d. nat_lt (slice_index problem.now.rank d) rank)
         (occupants (seating_of problem.now) (plan_at plan.now) hall) }

@@ -8,6 +8,9 @@ ghost use Rattle.exam_plan.specs.Problems.{IsProblem};
 use exam_types::Refusal;
 use std::marker::Model;
 
+/// The most candidates that a problem may have, and so the most members of a session.
+pub const MOST_MEMBERS: usize = 4_096;
+
 /// Where each candidate sits, by index: a hall or none.
 pub type Plan = Vec<Option<usize>>;
 

@@ -4,7 +4,7 @@ ghost use Rattle.std.specs.List.{range_with_len};
 ghost use Rattle.std.specs.List.Sorted.{IsStrictlySortedBy};
 ghost use Rattle.std.specs.Ordering.{nat_cmp};
 ghost use Rattle.exam_plan.specs.Matching.{IsBest};
-ghost use Rattle.exam_plan.specs.Problems.{IsPlan, seating_of, plan_at};
+ghost use Rattle.exam_plan.specs.Problems.{IsPlan, most_members, seating_of, plan_at};
 
 use crate::contest::marked_indices;
 use crate::{Plan, Problem, desks, keep_lawful, shortage, sweep};
@@ -27,7 +27,7 @@ fn rows_of(alloc: Global, fits: &[[bool; 3]]) -> Result<Vec<Vec<usize>>, Refusal
 
 /// The ranks of candidates whose order of desks is that of their numbers.
 fn ranks_of(alloc: Global, count: usize) -> Result<Vec<u32>, Refusal>
-    requires { count ≤ 4096 }
+    requires { count ≤ most_members }
     ensures { IfOk result (λ ranks. ranks.items ≡ range_with_len 0 count) }
 {
     let mut ranks = Vec::new(alloc);
@@ -39,7 +39,7 @@ fn ranks_of(alloc: Global, count: usize) -> Result<Vec<u32>, Refusal>
 
 /// A problem with three halls.
 fn problem_of(alloc: Global, desks: [u32; 3], fits: &[[bool; 3]]) -> Result<Problem, Refusal>
-    requires { length fits.now ≤ 4096 }
+    requires { length fits.now ≤ most_members }
     ensures count { IfOk result (λ p. length p.fit ≡ length fits.now) }
     ensures halls { IfOk result (λ p. length p.desk_counts ≡ 3) }
 {

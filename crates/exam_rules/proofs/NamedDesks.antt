@@ -4,7 +4,7 @@ use Rattle.std.specs.Option.{option_and_then}
 use Rattle.std.proofs.Math.Path.{fun_ext}
 use Rattle.std.proofs.lemmas.List.{length-map}
 use Rattle.exam_plan.specs.Matching.{Plan, IsLawful, desk_number}
-use Rattle.exam_plan.specs.Problems.{ranks_before}
+use Rattle.exam_plan.specs.Problems.{most_members, ranks_before}
 use Rattle.exam_plan.proofs.NumberLaws.{number_fits, numbers_differ}
 use Rattle.exam_plan.proofs.Renaming.{IsLawful-indexed}
 use Rattle.exam_rules.specs.Relations.{Code, Relations}
@@ -69,7 +69,7 @@ module _ (r : Relations) (s : Code) (up : ListsRise r s) (q : Plan ℕ Code) (la
   below c h p = rw (length-map (members r s) (λ d. fitting_places r s d (open_halls r s))) (index_below r s c p.index p.is)
 
   -- and nobody else of the hall has it
-  pub desk_apart : length (members r s) ≤ 4096 → (c d : ℕ) (h : Code) → q c ≡ Some h → q d ≡ Some h
+  pub desk_apart : length (members r s) ≤ most_members → (c d : ℕ) (h : Code) → q c ≡ Some h → q d ≡ Some h
       → desk_number (seating r s) (stands_before r s) q c ≡ desk_number (seating r s) (stands_before r s) q d → c ≡ d
   desk_apart few c d h ec ed same =
       let pc = place c h ec in

@@ -18,7 +18,7 @@ use Rattle.std.proofs.lemmas.Bool.Decides.{nat_tests}
 use Rattle.std.proofs.lemmas.Cmp.{tied_itself, ranked}
 use Rattle.std.proofs.lemmas.List.{length-map, drop_all}
 use Rattle.std.proofs.lemmas.List.Elements.{All-map}
-use Rattle.exam_plan.specs.Problems.{Problem, IsProblem}
+use Rattle.exam_plan.specs.Problems.{Problem, IsProblem, most_members}
 use Rattle.exam_rules.proofs.Places.{positions_rise, positions_exist}
 use Rattle.exam_rules.specs.Relations.{Code, Relations, code_cmp}
 use Rattle.exam_rules.specs.Sessions.{members, sitting}
@@ -200,7 +200,7 @@ module _ (r : Relations) (s : Code) where
   pub ranks_distinct : IsStrictlySortedBy nat_cmp (members r s) → IsDistinct nat_eq (map (rank r s) (members r s))
   ranks_distinct up = ranks_differ (members r s) (all_there (members r s)) up
 
-  pub is_problem : IsStrictlySortedBy nat_cmp (members r s) → length (members r s) ≤ 4096 → IsProblem (problem_of r s)
+  pub is_problem : IsStrictlySortedBy nat_cmp (members r s) → length (members r s) ≤ most_members → IsProblem (problem_of r s)
   is_problem up few = record {
     few = rw (length-map (members r s) (λ c. fitting_places r s c (open_halls r s))) few;
     ranked = length-map (members r s) (rank r s) ∙ sym (length-map (members r s) (λ c. fitting_places r s c (open_halls r s)));

@@ -16,7 +16,7 @@ use Rattle.exam_rules.specs.declared.rows.Arrangement.{Arrangement}
 use Rattle.exam_rules.specs.declared.fit.Terms.{Terms}
 use Rattle.exam_rules.specs.declared.fit.Room.{Room}
 use Rattle.exam_plan.specs.Matching.{Seating, Plan}
-use Rattle.exam_plan.specs.Problems.{Problem, seating_of}
+use Rattle.exam_plan.specs.Problems.{Problem, most_members, seating_of}
 use Rattle.exam_rules.specs.Relations.{Code, Relations, pair_cmp, code_cmp, same_code, opening_cmp, seat_cmp}
 use Rattle.exam_rules.specs.Relations.{row_at}
 use Rattle.exam_rules.specs.Sessions.{members, has_live_entry, sitting, sitting_row, arrangement_in_force}
@@ -134,7 +134,7 @@ indexed_seating r s = seating_of (problem_of r s)
 
 -- refused as every call on a session, or for more members than any session may have
 abbrev pub IsProblemRefusal : Relations → Code → Refusal → Type 0
-IsProblemRefusal r s e = IsSessionRefusal r s e ⊎ ((e ≡ TooMany) × (4096 < length (members r s)))
+IsProblemRefusal r s e = IsSessionRefusal r s e ⊎ ((e ≡ TooMany) × (most_members < length (members r s)))
 
 -- ---- of the code
 

@@ -7,7 +7,7 @@ ghost use Rattle.exam_plan.specs.Matching.{Plan, SamePlan, IsLawful, IsBest, IsC
 ghost use Rattle.exam_plan.specs.Matching.{desk_number, size, unseated};
 ghost use Rattle.exam_plan.specs.Chains.{Chain, IsChain, IsLeastChain, augmented};
 ghost use Rattle.exam_plan.specs.Repair.{kept_part, IsSweep, IsRepair};
-ghost use Rattle.exam_plan.specs.Problems.{plan_at, ranks_before};
+ghost use Rattle.exam_plan.specs.Problems.{most_members, plan_at, ranks_before};
 ghost use Rattle.exam_rules.specs.Relations.{Code, Relations};
 ghost use Rattle.exam_rules.specs.Sessions.{members};
 ghost use Rattle.exam_rules.specs.Seatings.{indexed_seating, seating, problem_of, desks, stands_before};
@@ -93,7 +93,7 @@ pub fn desks_are_of_their_own()
         → IsLawful (seating r s) q → q c ≡ Some h → desk_number (seating r s) (stands_before r s) q c ≡ Some n
         → n ≤ desks r s h }
     ensures apart { (r : Relations) (s : Code) (q : Plan ℕ Code) (c d : ℕ) (h : Code) → ListsRise r s
-        → IsLawful (seating r s) q → length (members r s) ≤ 4096 → q c ≡ Some h → q d ≡ Some h
+        → IsLawful (seating r s) q → length (members r s) ≤ most_members → q c ≡ Some h → q d ≡ Some h
         → desk_number (seating r s) (stands_before r s) q c
         ≡ desk_number (seating r s) (stands_before r s) q d
         → c ≡ d }

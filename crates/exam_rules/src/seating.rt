@@ -3,6 +3,7 @@ ghost use Rattle.std.specs.Prelude.{◌≡◌, ◌⊎◌, ◌<◌, ◌≤◌, le
 ghost use Rattle.std.specs.Prelude.{IsSorted};
 ghost use Rattle.std.specs.Ordering.{is_lt, nat_cmp};
 ghost use Rattle.std.specs.List.Sorted.{IsStrictlySortedBy};
+ghost use Rattle.exam_plan.specs.Problems.{most_members};
 ghost use Rattle.exam_rules.specs.Names.{ListsRise};
 ghost use Rattle.exam_rules.specs.Lists.{AreListsOf};
 ghost use Rattle.exam_types.specs.declared.refusal.Refusal.TheVariants.{NoMemory, TooMany};
@@ -14,15 +15,12 @@ use crate::facts::Facts;
 use crate::fit::{Room, fitting_places, opened_room};
 use crate::lists::SessionLists;
 use crate::sessions::{members, sitting};
-use exam_plan::Problem;
+use exam_plan::{MOST_MEMBERS, Problem};
 use exam_types::{HallCode, Number, PaperCode, Refusal, SessionCode};
 use std::alloc::Global;
 
 /// What desks are ordered by: the sitting paper, and then the number.
 type DeskKey = (Option<PaperCode>, Number);
-
-/// The most members that a session may have.
-const MOST_MEMBERS: usize = 4096;
 
 /// The halls opened for the session, codes rising. Refused where there is no such session, or not enough
 /// memory.
@@ -124,7 +122,7 @@ fn fit_rows(
 
 /// Of each key how many keys are less.
 fn ranks(alloc: Global, keys: &[DeskKey]) -> Result<Vec<u32>, Refusal>
-    requires { length keys.now ≤ 4096 }
+    requires { length keys.now ≤ most_members }
     ensures ok { IfOk result (λ ranks. ranks.items ≡ seatings.ranks_of keys.now) }
     ensures memory { IfErr result (λ e. e ≡ NoMemory) }
 {
@@ -139,7 +137,7 @@ fn ranks(alloc: Global, keys: &[DeskKey]) -> Result<Vec<u32>, Refusal>
 
 /// How many keys of a sorted list are less than a key.
 fn place_in(sorted: &[DeskKey], key: &DeskKey) -> u32
-    requires few { length sorted.now ≤ 4096 }
+    requires few { length sorted.now ≤ most_members }
     requires sorted { IsSorted seatings.desk_cmp sorted.now }
     ensures { result ≡ count_by (λ other. is_lt (seatings.desk_cmp other key.now)) sorted.now }
 {
@@ -215,7 +213,8 @@ pub fn indexed_problem(
     ensures ok { IfOk result (λ listed. listed.problem
         ≡ seatings.problem_of (relations_of facts.now) session.now) }
     ensures refusal { IfErr result (λ e. (e ≡ NoMemory)
-        ⊎ ((e ≡ TooMany) × (4096 < length (spec.members (relations_of facts.now) session.now)))) }
+        ⊎ ((e ≡ TooMany)
+        × (most_members < length (spec.members (relations_of facts.now) session.now)))) }
 {
     let members = lists.members_of(session);
     if members.len() > MOST_MEMBERS {
@@ -234,7 +233,7 @@ fn problem_over(
     numbers: Vec<Number>,
     halls: Vec<HallCode>,
 ) -> Result<ListedProblem, Refusal>
-    requires few { length numbers.items ≤ 4096 }
+    requires few { length numbers.items ≤ most_members }
     requires numbers { numbers.items ≡ spec.members (relations_of facts.now) session.now }
     requires halls { halls.items ≡ seatings.open_halls (relations_of facts.now) session.now }
     requires rising { IsStrictlySortedBy nat_cmp (spec.members (relations_of facts.now) session.now) }

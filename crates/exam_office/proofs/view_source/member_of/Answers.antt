@@ -1,4 +1,4 @@
-use Rattle.std.proofs.Common.{ap, sym, ◌∙◌, is_some}
+use Rattle.std.proofs.Common.{ap, ◌∙◌, is_some}
 use Rattle.exam_rules.specs.Relations.{relations_of}
 use Rattle.exam_office.proofs.Members.{copied_some, member_known, member_sits, member_ends}
 use Rattle.exam_office.proofs.view_source.member_of.Goals as goal

@@ -1,6 +1,6 @@
 use Rattle.std.proofs.Common.{◌≡◌, ◌≤◌, ℕ, List, Option, length, map, ap, sym, subst, ◌∙◌, arith}
 use Rattle.std.proofs.lemmas.List.{length-map}
-use Rattle.exam_plan.specs.Problems.{IsProblem}
+use Rattle.exam_plan.specs.Problems.{IsProblem, most_members}
 use Rattle.exam_rules.specs.Relations.{Code, Relations, relations_of}
 use Rattle.exam_rules.specs.Sessions.{members}
 use Rattle.exam_rules.specs.Seatings.{desks, open_halls, fitting_places, desk_key, rank, ranks_of}
@@ -28,7 +28,7 @@ new-requires c =
     let numbers : c.deref-2.result.now ≡ members (relations_of c.args.facts.now) c.args.session.now = c.deref-2.ensures.value ∙ c.requires.numbers in
     let long : length c.deref-2.result.now ≡ length (members (relations_of c.args.facts.now) c.args.session.now) = ap length numbers in
     let same : length c.deref-2.result.now ≡ length c.args.numbers.items = ap length c.deref-2.ensures.value in
-    let few : length (members (relations_of c.args.facts.now) c.args.session.now) ≤ 4096 = omega arith in
+    let few : length (members (relations_of c.args.facts.now) c.args.session.now) ≤ most_members = omega arith in
     subst IsProblem (sym (parts_are (relations_of c.args.facts.now) c.args.session.now c.in_ok-desks.desks.items (map (λ row. row.items) c.in_ok-fit.fit.items) c.in_ok-rank.rank.items
     (c.in_ok-desks.ensures.ok ∙ ap (map (desks (relations_of c.args.facts.now) c.args.session.now)) (c.deref.ensures.value ∙ c.requires.halls))
     (c.in_ok-fit.ensures.rows ∙ fit_of_members (relations_of c.args.facts.now) c.args.session.now c.deref-2.result.now c.deref-3.result.now numbers (c.deref-3.ensures.value ∙ c.requires.halls))

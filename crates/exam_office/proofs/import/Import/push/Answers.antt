@@ -1,10 +1,20 @@
 use Rattle.std.proofs.Common.{◌≡◌, ◌∙◌, sym, ap, rules, Some, None, true, false, length, inr, refl}
 use Rattle.std.specs.List.{find}
+use Rattle.std.specs.Prelude.{List, Result, Ok, Err, IfErr}
 use Rattle.exam_office.specs.contracts.import_row.RowPartialEq.TheImpl as rows
 use Rattle.exam_office.specs.Imports.{has_key, key_of, same_row, conflicts, is_consistent}
+use Rattle.exam_office.specs.declared.import_row.Row.{Row}
+use Rattle.exam_types.specs.declared.refusal.Refusal.{Refusal}
+use Rattle.exam_types.specs.declared.refusal.Refusal.TheVariants.{NoMemory}
 use Rattle.exam_office.proofs.ImportConflicts.{conflicts-none, conflicts-other, conflicts-same}
 use Rattle.exam_office.proofs.ImportRowsEqual.{eq_same, row_exact}
 use Rattle.exam_office.proofs.import.Import.push.Goals as goal
+
+-- where nothing conflicts, want of memory says so
+nothing_conflicts : {X : Type 0} (r : Result X Refusal) (row : Row) (rows : List Row) → conflicts row rows ≡ false
+    → IfErr r (λ e. e ≡ NoMemory → conflicts row rows ≡ false)
+nothing_conflicts (Ok x) row rows none = tt
+nothing_conflicts (Err e) row rows none = λ memory. none
 
 pub push_repeated-requires-clause-repeated : goal.push_repeated-requires-clause-repeated
 push_repeated-requires-clause-repeated c =
@@ -33,3 +43,15 @@ returns-in-None-clause-agrees c =
     let none : find (has_key (key_of c.args.row)) c.args.self.now.rows ≡ None = search rules in
     let agrees : conflicts c.args.row c.args.self.now.rows ≡ false = conflicts-none c.args.row c.args.self.now.rows none in
     search (rules, agrees)
+
+pub returns-in-Some-clause-memory : goal.returns-in-Some-clause-memory
+returns-in-Some-clause-memory c =
+    let found : find (has_key (key_of c.args.row)) c.args.self.now.rows ≡ Some c.in-Some.first.now = search rules in
+    let same : same_row c.in-Some.first.now c.args.row ≡ true = let eq : rows.ghosts.eq c.in-Some.first.now c.args.row ≡ true = search rules in sym (eq_same c.in-Some.first.now c.args.row) ∙ eq in
+    let good : is_consistent c.args.self.now.rows ≡ true = search rules in
+    nothing_conflicts _ c.args.row c.args.self.now.rows (conflicts-same c.args.row c.in-Some.first.now c.args.self.now.rows good found same)
+
+pub returns-in-None-clause-memory : goal.returns-in-None-clause-memory
+returns-in-None-clause-memory c =
+    let none : find (has_key (key_of c.args.row)) c.args.self.now.rows ≡ None = search rules in
+    nothing_conflicts _ c.args.row c.args.self.now.rows (conflicts-none c.args.row c.args.self.now.rows none)

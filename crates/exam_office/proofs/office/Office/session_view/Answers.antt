@@ -1,4 +1,4 @@
-use Rattle.std.proofs.Common.{◌≡◌, ap, is_some, inl, inr, refl, sym, ◌∙◌}
+use Rattle.std.proofs.Common.{ap, is_some, inl, inr, refl, sym, ◌∙◌}
 use Rattle.std.specs.Option.{option_copied}
 use Rattle.exam_rules.specs.Relations.{code_cmp, has_row}
 use Rattle.exam_office.specs.State.{State}

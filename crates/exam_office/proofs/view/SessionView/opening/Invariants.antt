@@ -2,7 +2,6 @@ use Rattle.std.proofs.Common.{◌≡◌, drop}
 use Rattle.std.specs.Prelude.{find}
 use Rattle.std.specs.Option.{option_map}
 use Rattle.exam_rules.specs.Relations.{same_code}
-use Rattle.exam_office.specs.Views.{opening_of}
 use Rattle.exam_office.proofs.view.SessionView.opening.Given as goal
 
 abbrev pub invariant-loop-opened : goal.invariant-loop-opened

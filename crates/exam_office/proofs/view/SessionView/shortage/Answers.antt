@@ -1,4 +1,4 @@
-use Rattle.std.proofs.Common.{◌≡◌, ◌↔◌, ◌∙◌, ℕ, ◌<◌, List, length, map, Contains, ap, sym, subst}
+use Rattle.std.proofs.Common.{◌↔◌, ◌∙◌, ℕ, ◌<◌, List, length, map, Contains, ap, sym, subst}
 use Rattle.std.specs.List.{All}
 use Rattle.exam_plan.specs.Matching.{IsCertificate, IsContested, unseated}
 use Rattle.exam_plan.specs.Problems.{seating_of, plan_at}
