@@ -4,3 +4,4 @@ pub mod DayTexts
 pub mod DigitFacts
 pub mod FeatureFacts
 pub mod NumeralFacts
+pub mod ValueFacts

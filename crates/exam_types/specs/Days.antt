@@ -3,6 +3,7 @@ use Rattle.std.specs.Prelude.{◌≡◌, ℕ, zero, suc, ◌+◌, ◌-◌, ◌%�
 use Rattle.std.specs.Prelude.{List, ◌∷◌, ◌++◌, find, unwrap_or, if◌then◌else◌, refl, codes, nat_le, take}
 use Rattle.std.specs.Prelude.{drop, slice_range, bytes_eq, Option, Some, None}
 use Rattle.std.specs.List.{range_with_len}
+use Rattle.std.specs.Option.{option_and_then}
 use Rattle.exam_types.specs.Digits.{digits, digits_value}
 use Rattle.exam_types.specs.declared.day.TheConstants.{FIRST_DAY, LAST_DAY}
 use Rattle.exam_types.specs.declared.session_day.TheConstants.{FIRST_SESSION_DAY}
@@ -80,6 +81,11 @@ unfoldable pub day_of : List ℕ → Option ℕ
 day_of bytes =
     let n = spelled_day bytes in if is_day n && bytes_eq (day_text n) bytes then Some n else None
 
+-- the day of a session that a text names
+abbrev pub session_day_in : List ℕ → Option ℕ
+session_day_in bytes =
+    option_and_then (λ n. if nat_le FIRST_SESSION_DAY n then Some n else None) (day_of bytes)
+
 june_2027 : day_text 20970 ≡ codes "2027-06-01"
 unfolding day_text year_of month_of month_day_of days_of_years days_of_months
 june_2027 = refl
@@ -115,3 +121,19 @@ no_leap_day_in_2100 = refl
 two_digits_each : day_of (codes "2027-6-1") ≡ None
 unfolding day_of day_text year_of month_of month_day_of days_of_years days_of_months
 two_digits_each = refl
+
+last_day_read : day_of (codes "2199-12-31") ≡ Some 84005
+unfolding day_of day_text year_of month_of month_day_of days_of_years days_of_months
+last_day_read = refl
+
+no_day_before_2000 : day_of (codes "1999-12-31") ≡ None
+unfolding day_of day_text year_of month_of month_day_of days_of_years days_of_months
+no_day_before_2000 = refl
+
+first_session_day : session_day_in (codes "2000-01-11") ≡ Some 10967
+unfolding day_of day_text year_of month_of month_day_of days_of_years days_of_months
+first_session_day = refl
+
+no_session_before : session_day_in (codes "2000-01-10") ≡ None
+unfolding day_of day_text year_of month_of month_day_of days_of_years days_of_months
+no_session_before = refl

@@ -1,6 +1,6 @@
 -- Feature sets: what they hold, their texts and their sums.
 use Rattle.std.specs.Prelude.{ℕ, ◌+◌, ◌/◌, ◌%◌, ◌==◌, nat_eq, Bool, false, not, ◌&&◌, ◌||◌}
-use Rattle.std.specs.Prelude.{List, [], ◌∷◌, ◌++◌, if◌then◌else◌, codes}
+use Rattle.std.specs.Prelude.{List, [], ◌∷◌, ◌++◌, if◌then◌else◌, codes, bytes_eq, Option, Some, None}
 use Rattle.std.proofs.Math.Bool.{beq}
 use Rattle.std.specs.List.{list_any, slice_split}
 use Rattle.std.specs.Cmp.Lexicographic.{pointwise}
@@ -39,6 +39,11 @@ named_features bytes = record {
   small_room = has_part bytes (codes "small-room");
   computer = has_part bytes (codes "computer");
 }
+
+-- the set that a text is: that which its parts name, where it is written so
+unfoldable pub features_in : List ℕ → Option Features
+features_in bytes =
+    if bytes_eq (features_text (named_features bytes)) bytes then Some (named_features bytes) else None
 
 -- the empty set
 abbrev pub no_features : Features

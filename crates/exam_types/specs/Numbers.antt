@@ -1,5 +1,7 @@
 -- The numbered values: their ranges, and their texts.
-use Rattle.std.specs.Prelude.{ℕ, ◌≤◌, ◌/◌, ◌%◌, List, ◌∷◌, ◌++◌}
+use Rattle.std.specs.Prelude.{ℕ, ◌≤◌, ◌+◌, ◌-◌, ◌/◌, ◌%◌, List, ◌∷◌, ◌++◌, Option, find, bytes_eq}
+use Rattle.std.specs.Fmt.{decimal}
+use Rattle.std.specs.List.{range_with_len}
 use Rattle.exam_types.specs.Digits.{digits}
 use Rattle.exam_types.specs.declared.numbers.TheConstants.{LEAST_NUMBER, GREATEST_NUMBER, GREATEST_MINUTE}
 use Rattle.exam_types.specs.declared.numbers.TheConstants.{GREATEST_START, GREATEST_CLOSING}
@@ -41,3 +43,28 @@ number_text n = digits 7 n
 -- HH:MM
 unfoldable pub minute_text : ℕ → List ℕ
 minute_text m = digits 2 (m / 60) ++ 58 ∷ digits 2 (m % 60)
+
+-- of the numbers from a least to a greatest one, that which is written so
+unfoldable pub value_in : (ℕ → List ℕ) → ℕ → ℕ → List ℕ → Option ℕ
+value_in text least greatest bytes =
+    find (λ n. bytes_eq (text n) bytes) (range_with_len least (greatest + 1 - least))
+
+-- The value that a text is, if it is one. The ranges stand here as numbers, not as the constants of the code.
+
+abbrev pub number_in : List ℕ → Option ℕ
+number_in = value_in number_text 1 9999999
+
+abbrev pub start_in : List ℕ → Option ℕ
+start_in = value_in minute_text 0 1439
+
+abbrev pub until_in : List ℕ → Option ℕ
+until_in = value_in minute_text 0 1440
+
+abbrev pub minutes_in : List ℕ → Option ℕ
+minutes_in = value_in decimal 1 600
+
+abbrev pub extra_in : List ℕ → Option ℕ
+extra_in = value_in decimal 0 100
+
+abbrev pub desks_in : List ℕ → Option ℕ
+desks_in = value_in decimal 1 2000

@@ -79,8 +79,10 @@ impl Features {
     }
 
     /// The set that these bytes spell, or none.
+    #[tactic(auto, unfolding(crate::specs::Features::features_in))]
     pub fn parse(bytes: &[u8]) -> Option<Features>
         ensures exact { (f : spec.Features) → (result ≡ Some f) ↔ (spec.features_text f ≡ bytes.now) }
+        ensures value { result ≡ spec.features_in bytes.now }
     {
         let features = named_features(bytes);
         if features.text().as_slice() == bytes {

@@ -20,6 +20,10 @@ pub struct NumberForm;
 impl Form for NumberForm {
     type Spelling = SevenDigits;
 
+    ghost least = { 1 };
+
+    ghost greatest = { 9999999 };
+
     ghost in_range = { spec.IsNumber };
 
     fn is_in_range(number: u32) -> bool {
@@ -27,6 +31,8 @@ impl Form for NumberForm {
     }
 
     ghost is_spelled = { λ n h. Prim.omega arith };
+
+    ghost is_between = { λ n. (λ h. h, λ h. h) };
 }
 
 /// The greatest time.
@@ -41,6 +47,10 @@ pub struct MinuteForm;
 impl Form for MinuteForm {
     type Spelling = HourAndMinute;
 
+    ghost least = { 0 };
+
+    ghost greatest = { 2639 };
+
     ghost in_range = { spec.IsMinute };
 
     fn is_in_range(number: u32) -> bool {
@@ -48,6 +58,8 @@ impl Form for MinuteForm {
     }
 
     ghost is_spelled = { λ n h. Prim.omega arith };
+
+    ghost is_between = { λ n. (λ h. (Prim.omega arith, h), λ h. h.1) };
 }
 
 /// The greatest start of a session.
@@ -62,6 +74,10 @@ pub struct StartTimeForm;
 impl Form for StartTimeForm {
     type Spelling = HourAndMinute;
 
+    ghost least = { 0 };
+
+    ghost greatest = { 1439 };
+
     ghost in_range = { spec.IsStartTime };
 
     fn is_in_range(number: u32) -> bool {
@@ -69,6 +85,8 @@ impl Form for StartTimeForm {
     }
 
     ghost is_spelled = { λ n h. Prim.omega arith };
+
+    ghost is_between = { λ n. (λ h. (Prim.omega arith, h), λ h. h.1) };
 }
 
 /// The greatest closing time.
@@ -83,6 +101,10 @@ pub struct ClosingTimeForm;
 impl Form for ClosingTimeForm {
     type Spelling = HourAndMinute;
 
+    ghost least = { 0 };
+
+    ghost greatest = { 1440 };
+
     ghost in_range = { spec.IsClosingTime };
 
     fn is_in_range(number: u32) -> bool {
@@ -90,6 +112,8 @@ impl Form for ClosingTimeForm {
     }
 
     ghost is_spelled = { λ n h. Prim.omega arith };
+
+    ghost is_between = { λ n. (λ h. (Prim.omega arith, h), λ h. h.1) };
 }
 
 /// The least length of a paper, in minutes.
@@ -107,6 +131,10 @@ pub struct ExamMinutesForm;
 impl Form for ExamMinutesForm {
     type Spelling = Decimal;
 
+    ghost least = { 1 };
+
+    ghost greatest = { 600 };
+
     ghost in_range = { spec.IsExamMinutes };
 
     fn is_in_range(number: u32) -> bool {
@@ -114,6 +142,8 @@ impl Form for ExamMinutesForm {
     }
 
     ghost is_spelled = { λ n h. Prim.omega arith };
+
+    ghost is_between = { λ n. (λ h. h, λ h. h) };
 }
 
 /// The greatest extra time, in percent.
@@ -128,6 +158,10 @@ pub struct ExtraForm;
 impl Form for ExtraForm {
     type Spelling = Decimal;
 
+    ghost least = { 0 };
+
+    ghost greatest = { 100 };
+
     ghost in_range = { spec.IsExtra };
 
     fn is_in_range(number: u32) -> bool {
@@ -135,6 +169,8 @@ impl Form for ExtraForm {
     }
 
     ghost is_spelled = { λ n h. Prim.omega arith };
+
+    ghost is_between = { λ n. (λ h. (Prim.omega arith, h), λ h. h.1) };
 }
 
 /// The least desk count of an opening.
@@ -152,6 +188,10 @@ pub struct DeskCountForm;
 impl Form for DeskCountForm {
     type Spelling = Decimal;
 
+    ghost least = { 1 };
+
+    ghost greatest = { 2000 };
+
     ghost in_range = { spec.IsDeskCount };
 
     fn is_in_range(number: u32) -> bool {
@@ -159,4 +199,6 @@ impl Form for DeskCountForm {
     }
 
     ghost is_spelled = { λ n h. Prim.omega arith };
+
+    ghost is_between = { λ n. (λ h. h, λ h. h) };
 }

@@ -1,5 +1,6 @@
 //! A number in a range, with a text of its own.
-ghost use Rattle.std.specs.Prelude.{◌≡◌, ◌↔◌, ◌++◌, ◌<◌, ℕ, List, IsTrue, OnOk, OnErr, IfErr, Some};
+ghost use Rattle.std.specs.Prelude.{◌≡◌, ◌↔◌, ◌++◌, ◌<◌, ◌≤◌, ℕ, List, IsTrue, OnOk, OnErr, IfErr, Some};
+ghost use Rattle.exam_types.specs.Numbers.{value_in};
 ghost use Rattle.exam_types.specs.declared.refusal.Refusal.TheVariants.{NoMemory};
 
 use crate::numerals::{ShortSpelling, Spelling};
@@ -11,6 +12,10 @@ use std::marker::{Model, PhantomData};
 pub trait Form {
     type Spelling: Spelling;
 
+    ghost least: { ℕ };
+
+    ghost greatest: { ℕ };
+
     ghost in_range: { ℕ → Type 0 };
 
     /// Whether a value may have this number.
@@ -18,6 +23,8 @@ pub trait Form {
         ensures { IsTrue result ↔ in_range number };
 
     ghost is_spelled: { (n : ℕ) → in_range n → n < Self.Spelling.limit };
+
+    ghost is_between: { (n : ℕ) → in_range n ↔ ((least ≤ n) × (n ≤ greatest)) };
 }
 
 /// A number in the range of its form, made and given as a `W`. Contracts see the number.
@@ -43,7 +50,8 @@ impl<W, F: Form> Model for Ranged<W, F> {
 impl<W, F: Form> Ranged<W, F> {
     /// The value that these bytes spell, or none.
     pub fn parse(bytes: &[u8]) -> Option<Self>
-        ensures { (n : ℕ) → (result ≡ Some n) ↔ (F.in_range n × (F.Spelling.text n ≡ bytes.now)) }
+        ensures exact { (n : ℕ) → (result ≡ Some n) ↔ (F.in_range n × (F.Spelling.text n ≡ bytes.now)) }
+        ensures value { result ≡ value_in F.Spelling.text F.least F.greatest bytes.now }
     {
         Ranged::of(F::Spelling::read(bytes)?)
     }

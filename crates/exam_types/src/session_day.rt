@@ -45,6 +45,7 @@ impl SessionDay {
     /// The day that a text `YYYY-MM-DD` names, or none where no session can have a day written so.
     pub fn parse(bytes: &[u8]) -> Option<SessionDay>
         ensures exact { (n : ℕ) → (result ≡ Some n) ↔ (IsSessionDay n × (spec.day_text n ≡ bytes.now)) }
+        ensures value { result ≡ spec.session_day_in bytes.now }
     {
         SessionDay::new(Day::parse(bytes)?)
     }
