@@ -1,12 +1,13 @@
 -- Lists by session: what appending to one of them makes of all.
-use Rattle.std.proofs.Common.{◌≡◌, ℕ, ◌<◌, ◌-◌, ◌&&◌, ◌||◌, Bool, true, false, cond, List, [], ◌∷◌, ◌++◌, length, filter, nat_eq, Option, None, Some, Vec, refl, ap, sym, subst, ◌∙◌, arith, append-nil, get_or, eq-eqb, ◌+◌, is_some}
+use Rattle.std.proofs.Common.{◌≡◌, ℕ, ◌<◌, ◌-◌, ◌&&◌, Bool, true, false, cond, List, [], ◌∷◌, ◌++◌, length, filter, map, nat_eq, Option, None, Some, Vec, refl, ap, sym, subst, ◌∙◌, arith, append-nil, get_or, eq-eqb, ◌+◌, is_some}
 use Rattle.std.specs.Global.{Global}
 use Rattle.std.specs.Prelude.{slice_get}
-use Rattle.std.specs.Option.{option_map, option_map_or, option_eq}
-use Rattle.std.specs.List.{list_any}
+use Rattle.std.specs.Option.{option_map, option_map_or, option_or}
+use Rattle.std.specs.List.{All, filter_map, cons_option}
 use Rattle.std.specs.BTreeMap.{is_at}
+use Rattle.std.specs.Map.{keys_of}
 use Rattle.std.specs.Cmp.Lexicographic.{texts_ties}
-use Rattle.std.proofs.lemmas.List.{length-append}
+use Rattle.std.proofs.lemmas.List.{length-append, length-map, get_or-map}
 use Rattle.std.proofs.lemmas.Option.{slice_get_read, slice_get-get_or}
 use Rattle.std.proofs.Math.Seq.{get_or-append_seam}
 use Rattle.std.specs.declared.cmp.Ordering.TheVariants.{Less, Equal}
@@ -15,16 +16,17 @@ use Rattle.std.specs.Cmp.{nat_cmp_total}
 use Rattle.std.specs.List.Sorted.{IsStrictlySortedBy}
 use Rattle.std.proofs.lemmas.Cmp.{tied_itself}
 use Rattle.std.proofs.lemmas.List.{get_or_append_left}
-use Rattle.std.proofs.lemmas.List.Elements.{filter-append}
+use Rattle.std.proofs.lemmas.List.Elements.{All-cons, filter-append, filter_map-append}
 use Rattle.std.proofs.lemmas.List.Kept.{IsStrictlySortedBy-filter}
 use Rattle.std.proofs.lemmas.Map.Keys.{Less-from_sorted}
 use Rattle.std.proofs.lemmas.Map.Views.{exact_unsigned_eq}
 use Rattle.exam_rules.specs.declared.rows.Entry.{Entry}
 use Rattle.exam_rules.specs.declared.rows.Paper.{Paper}
 use Rattle.exam_rules.specs.Relations.{Code, Relations, code_cmp, same_code, row_at, is_row_of, leading}
-use Rattle.exam_rules.specs.Sessions.{head_of, is_live_entry, has_live_entry, is_paper_of, live_papers, live_papers_in}
+use Rattle.exam_rules.specs.Sessions.{head_of, is_live_entry, has_live_entry, is_paper_of, live_papers_in, least_live_paper, members}
 use Rattle.exam_rules.proofs.Together.{any_is}
-use Rattle.exam_rules.specs.Lists.{listed, ends_with, with_last, entered_session}
+use Rattle.exam_rules.specs.declared.lists.Entrant.{Entrant}
+use Rattle.exam_rules.specs.Lists.{listed, ends_with, with_last, with_member, entrant, entrants, entered_session}
 use Rattle.exam_rules.proofs.Naming.{same_code_exact}
 
 -- after one list has been set to the old one with one more value
@@ -37,34 +39,34 @@ appended {A} old new list value s t at items = inner (same_code s t) refl (ap (�
     inner true e same = ap (λ (o : Option (Vec A Global)). option_map_or (λ (v : Vec A Global). v.items) o []) (at ∙ same) ∙ items ∙ ap (λ u. listed old u ++ value ∷ []) (same_code_exact s t e)
     inner false e same = ap (λ (o : Option (Vec A Global)). option_map_or (λ (v : Vec A Global). v.items) o []) (at ∙ same)
 
--- a number that is the last is not appended again
-pub with_last-again : (n : ℕ) (numbers : List ℕ) → with_last n (with_last n numbers) ≡ with_last n numbers
-with_last-again n numbers = inner (ends_with numbers n) refl
+-- a candidate who is the last is not appended again
+pub with_last-again : (n : ℕ) (p q : Code) (list : List Entrant) → with_last (entrant n q) (with_last (entrant n p) list) ≡ with_last (entrant n p) list
+with_last-again n p q list = inner (ends_with list n) refl
   where
-    inner : (b : Bool) → ends_with numbers n ≡ b → with_last n (cond b numbers (numbers ++ n ∷ [])) ≡ cond b numbers (numbers ++ n ∷ [])
-    inner true e = ap (λ t. cond t numbers (numbers ++ n ∷ [])) e
-    inner false e = ap (λ t. cond t (numbers ++ n ∷ []) ((numbers ++ n ∷ []) ++ n ∷ [])) (ends_pushed numbers)
+    inner : (b : Bool) → ends_with list n ≡ b → with_last (entrant n q) (cond b list (list ++ entrant n p ∷ [])) ≡ cond b list (list ++ entrant n p ∷ [])
+    inner true e = ap (λ t. cond t list (list ++ entrant n q ∷ [])) e
+    inner false e = ap (λ t. cond t (list ++ entrant n p ∷ []) ((list ++ entrant n p ∷ []) ++ entrant n q ∷ [])) (ends_pushed list)
       where
-        at_end : (numbers : List ℕ) → slice_get (numbers ++ n ∷ []) (length (numbers ++ n ∷ []) - 1) ≡ Some n
-        at_end numbers =
-            let long : length (numbers ++ n ∷ []) ≡ length numbers + 1 = length-append numbers (n ∷ []) in
-            let last : length (numbers ++ n ∷ []) - 1 ≡ length numbers = omega arith in
-            rw last (slice_get_read (numbers ++ n ∷ []) (length (numbers ++ n ∷ [])) (length numbers) n refl (omega arith) (sym (get_or-append_seam numbers n [] n)))
+        at_end : (list : List Entrant) → slice_get (list ++ entrant n p ∷ []) (length (list ++ entrant n p ∷ []) - 1) ≡ Some (entrant n p)
+        at_end list =
+            let long : length (list ++ entrant n p ∷ []) ≡ length list + 1 = length-append list (entrant n p ∷ []) in
+            let last : length (list ++ entrant n p ∷ []) - 1 ≡ length list = omega arith in
+            rw last (slice_get_read (list ++ entrant n p ∷ []) (length (list ++ entrant n p ∷ [])) (length list) (entrant n p) refl (omega arith) (sym (get_or-append_seam list (entrant n p) [] (entrant n p))))
 
-        ends_pushed : (numbers : List ℕ) → ends_with (numbers ++ n ∷ []) n ≡ true
-        ends_pushed numbers = ap (λ o. option_eq nat_eq o (Some n)) (at_end numbers) ∙ eq-eqb n n refl
+        ends_pushed : (list : List Entrant) → ends_with (list ++ entrant n p ∷ []) n ≡ true
+        ends_pushed list = ap (λ o. option_map_or (λ (e : Entrant). nat_eq e.number n) o false) (at_end list) ∙ eq-eqb n n refl
 
--- a value that is appended now, or later, is appended
-pub marked_once : (n : ℕ) (now later : Bool) (old new : List ℕ) → new ≡ cond now (with_last n old) old → cond later (with_last n new) new ≡ cond (now || later) (with_last n old) old
-marked_once n true true old new e = ap (with_last n) e ∙ with_last-again n old
-marked_once n true false old new e = e
-marked_once n false true old new e = ap (with_last n) e
-marked_once n false false old new e = e
+-- who is appended now, or later, is appended with the first paper
+pub marked_once : (n : ℕ) (now later : Option Code) (old new : List Entrant) → new ≡ with_member n now old → with_member n later new ≡ with_member n (option_or now later) old
+marked_once n (Some p) (Some q) old new e = ap (with_last (entrant n q)) e ∙ with_last-again n p q old
+marked_once n (Some p) None old new e = e
+marked_once n None (Some q) old new e = ap (with_last (entrant n q)) e
+marked_once n None None old new e = e
 
 module _ (r : Relations) (n : ℕ) where
-  -- whether some of the candidate's rows at the beginning counts for the session
-  abbrev pub enters : Code → List ((ℕ × Code) × Entry) → Bool
-  enters s rows = list_any (is_live_entry r s n) (leading (is_row_of n) rows)
+  -- the first paper for which one of the candidate's rows at the beginning counts for the session
+  abbrev pub first_in : Code → List ((ℕ × Code) × Entry) → Option Code
+  first_in s rows = head_of (live_papers_in r (leading (is_row_of n) rows) s n)
 
   -- which session a row counts for
   counts_for : (s p : Code) (e : Entry) (o : Option Code) → entered_session r p e ≡ o → (e.live && is_paper_of r s p) ≡ option_map_or (λ t. same_code t s) o false
@@ -78,15 +80,22 @@ module _ (r : Relations) (n : ℕ) where
       outer true row = inner row
       outer false row = refl
 
-  -- one more row of the candidate, which counts for a session or for none
-  pub enters_row : (s : Code) (k : ℕ × Code) (e : Entry) (rest : List ((ℕ × Code) × Entry)) (o : Option Code) → nat_eq k.0 n ≡ true → entered_session r k.1 e ≡ o → enters s ((k, e) ∷ rest) ≡ (option_map_or (λ t. same_code t s) o false || enters s rest)
-  enters_row s k e rest o own is = rw (own, own) (ap (λ b. b || enters s rest) (counts_for s k.1 e o is))
+  -- the paper of a row that counts for this session, where it is the one
+  abbrev pub paper_for : Code → Option Code → Code → Option Code
+  paper_for s o p = option_map_or (λ t. cond (same_code t s) (Some p) None) o None
 
-  -- the rows from the candidate's first on decide as all
-  pub enters_all : (s : Code) (rows : List ((ℕ × Code) × Entry)) → live_papers_in r (leading (is_row_of n) rows) s n ≡ live_papers r s n → enters s rows ≡ has_live_entry r s n
-  enters_all s rows same =
-      any_is (is_live_entry r s n) (λ (e : (ℕ × Code) × Entry). e.0.1) (leading (is_row_of n) rows)
-      ∙ ap (λ t. is_some (head_of t)) same ∙ sym (any_is (is_live_entry r s n) (λ (e : (ℕ × Code) × Entry). e.0.1) r.entries)
+  -- one more row of the candidate, which counts for a session or for none
+  pub first_in_row : (s : Code) (k : ℕ × Code) (e : Entry) (rest : List ((ℕ × Code) × Entry)) (o : Option Code) → nat_eq k.0 n ≡ true → entered_session r k.1 e ≡ o
+      → first_in s ((k, e) ∷ rest) ≡ option_or (paper_for s o k.1) (first_in s rest)
+  first_in_row s k e rest o own is = rw (own, own) (ap (λ b. head_of (map (λ (e : (ℕ × Code) × Entry). e.0.1) (cond b ((k, e) ∷ filter (is_live_entry r s n) (leading (is_row_of n) rest)) (filter (is_live_entry r s n) (leading (is_row_of n) rest))))) (counts_for s k.1 e o is) ∙ split o)
+    where
+      inner : (b : Bool) → head_of (map (λ (e : (ℕ × Code) × Entry). e.0.1) (cond b ((k, e) ∷ filter (is_live_entry r s n) (leading (is_row_of n) rest)) (filter (is_live_entry r s n) (leading (is_row_of n) rest)))) ≡ option_or (cond b (Some k.1) None) (first_in s rest)
+      inner true = refl
+      inner false = refl
+
+      split : (o : Option Code) → head_of (map (λ (e : (ℕ × Code) × Entry). e.0.1) (cond (option_map_or (λ t. same_code t s) o false) ((k, e) ∷ filter (is_live_entry r s n) (leading (is_row_of n) rest)) (filter (is_live_entry r s n) (leading (is_row_of n) rest)))) ≡ option_or (paper_for s o k.1) (first_in s rest)
+      split None = refl
+      split (Some t) = inner (same_code t s)
 
 below_is_other : (m n : ℕ) → nat_cmp m n ≡ Less → nat_eq m n ≡ false
 below_is_other m n less = inner (nat_eq m n) refl
@@ -96,25 +105,68 @@ below_is_other m n less = inner (nat_eq m n) refl
     inner false e = refl
 
 -- where numbers rise, one that comes later is not the last so far
-ends_before : (xs rest : List ℕ) (n : ℕ) → IsStrictlySortedBy nat_cmp (xs ++ n ∷ rest) → ends_with xs n ≡ false
+ends_before : (xs : List Entrant) (rest : List ℕ) (n : ℕ) → IsStrictlySortedBy nat_cmp (map (λ (e : Entrant). e.number) xs ++ n ∷ rest) → ends_with xs n ≡ false
 ends_before [] rest n up = refl
 ends_before (x ∷ ys) rest n up =
+    let numbers : List ℕ = map (λ (e : Entrant). e.number) (x ∷ ys) in
     let last : ℕ = length (x ∷ ys) - 1 in
     let within : last < length (x ∷ ys) = omega arith in
-    let long : length ((x ∷ ys) ++ n ∷ rest) ≡ length (x ∷ ys) + length (n ∷ rest) = length-append (x ∷ ys) (n ∷ rest) in
-    let less : nat_cmp (get_or ((x ∷ ys) ++ n ∷ rest) last n) (get_or ((x ∷ ys) ++ n ∷ rest) (length (x ∷ ys)) n) ≡ Less = Less-from_sorted nat_cmp ((x ∷ ys) ++ n ∷ rest) last (length (x ∷ ys)) n up within (omega arith) in
-    ap (λ o. option_eq nat_eq o (Some n)) (slice_get-get_or (x ∷ ys) last n within)
-    ∙ below_is_other (get_or (x ∷ ys) last n) n (ap (λ k. nat_cmp k n) (sym (get_or_append_left (x ∷ ys) (n ∷ rest) n last within)) ∙ ap (nat_cmp (get_or ((x ∷ ys) ++ n ∷ rest) last n)) (sym (get_or-append_seam (x ∷ ys) n rest n)) ∙ less)
+    let same : length numbers ≡ length (x ∷ ys) = length-map (x ∷ ys) (λ (e : Entrant). e.number) in
+    let inside : last < length numbers = omega arith in
+    let long : length (numbers ++ n ∷ rest) ≡ length numbers + length (n ∷ rest) = length-append numbers (n ∷ rest) in
+    let less : nat_cmp (get_or (numbers ++ n ∷ rest) last n) (get_or (numbers ++ n ∷ rest) (length numbers) n) ≡ Less = Less-from_sorted nat_cmp (numbers ++ n ∷ rest) last (length numbers) n up inside (omega arith) in
+    ap (λ o. option_map_or (λ (e : Entrant). nat_eq e.number n) o false) (slice_get-get_or (x ∷ ys) last x within)
+    ∙ below_is_other (get_or (x ∷ ys) last x).number n
+    (ap (λ k. nat_cmp k n) (sym (get_or-map (λ (e : Entrant). e.number) (x ∷ ys) last x n within) ∙ sym (get_or_append_left numbers (n ∷ rest) n last inside))
+    ∙ ap (nat_cmp (get_or (numbers ++ n ∷ rest) last n)) (sym (get_or-append_seam numbers n rest n)) ∙ less)
 
--- one more candidate, who is appended where they are a member
-pub members_more : (p : ℕ → Bool) (done rest old new : List ℕ) (n : ℕ) → IsStrictlySortedBy nat_cmp (done ++ n ∷ rest) → old ≡ filter p done → new ≡ cond (p n) (with_last n old) old → new ≡ filter p (done ++ n ∷ [])
-members_more p done rest old new n up is step = inner (p n) refl step ∙ sym (filter-append p done (n ∷ []))
-  where
-    parted : (b : Bool) → p n ≡ b → filter p (done ++ n ∷ rest) ≡ filter p done ++ cond b (n ∷ filter p rest) (filter p rest)
-    parted b e = filter-append p done (n ∷ rest) ∙ ap (λ t. filter p done ++ cond t (n ∷ filter p rest) (filter p rest)) e
+-- of candidates, those of whom there is a paper, each with it
+module _ (least : ℕ → Option Code) where
+  abbrev pub listed_with : List ℕ → List Entrant
+  listed_with numbers = filter_map (λ c. option_map (entrant c) (least c)) numbers
 
-    inner : (b : Bool) → p n ≡ b → new ≡ cond b (with_last n old) old → new ≡ filter p done ++ cond (p n) (n ∷ []) []
-    inner true e step =
-        let other : ends_with (filter p done) n ≡ false = ends_before (filter p done) (filter p rest) n (subst (IsStrictlySortedBy nat_cmp) (parted true e) (IsStrictlySortedBy-filter nat_cmp p (done ++ n ∷ rest) up)) in
-        step ∙ ap (with_last n) is ∙ ap (λ t. cond t (filter p done) (filter p done ++ n ∷ [])) other ∙ ap (λ t. filter p done ++ cond t (n ∷ []) []) (sym e)
-    inner false e step = step ∙ is ∙ sym (append-nil (filter p done)) ∙ ap (λ t. filter p done ++ cond t (n ∷ []) []) (sym e)
+  pub listed_numbers : (cs : List ℕ) → map (λ (e : Entrant). e.number) (listed_with cs) ≡ filter (λ c. is_some (least c)) cs
+  listed_numbers [] = refl
+  listed_numbers (c ∷ cs) = inner (least c) (listed_numbers cs)
+    where
+      inner : (o : Option Code) → map (λ (e : Entrant). e.number) (listed_with cs) ≡ filter (λ c. is_some (least c)) cs → map (λ (e : Entrant). e.number) (cons_option (option_map (entrant c) o) (listed_with cs)) ≡ cond (is_some o) (c ∷ filter (λ c. is_some (least c)) cs) (filter (λ c. is_some (least c)) cs)
+      inner (Some p) rest = ap (λ t. c ∷ t) rest
+      inner None rest = rest
+
+  pub listed_papers : (cs : List ℕ) → All (λ (e : Entrant). least e.number ≡ Some e.paper) (listed_with cs)
+  listed_papers [] = λ k d h. absurd (omega arith)
+  listed_papers (c ∷ cs) = inner (least c) refl (listed_papers cs)
+    where
+      inner : (o : Option Code) → least c ≡ o → All (λ (e : Entrant). least e.number ≡ Some e.paper) (listed_with cs) → All (λ (e : Entrant). least e.number ≡ Some e.paper) (cons_option (option_map (entrant c) o) (listed_with cs))
+      inner None is rest = rest
+      inner (Some p) is rest = All-cons (λ (e : Entrant). least e.number ≡ Some e.paper) (entrant c p) (listed_with cs) is rest
+
+  -- one more candidate, who is appended where there is a paper
+  pub members_more : (done rest : List ℕ) (old new : List Entrant) (n : ℕ) → IsStrictlySortedBy nat_cmp (done ++ n ∷ rest) → old ≡ listed_with done → new ≡ with_member n (least n) old → new ≡ listed_with (done ++ n ∷ [])
+  members_more done rest old new n up is step = inner (least n) refl step ∙ sym (filter_map-append (λ c. option_map (entrant c) (least c)) done (n ∷ []))
+    where
+      parted : (b : Bool) → is_some (least n) ≡ b → filter (λ c. is_some (least c)) (done ++ n ∷ rest) ≡ filter (λ c. is_some (least c)) done ++ cond b (n ∷ filter (λ c. is_some (least c)) rest) (filter (λ c. is_some (least c)) rest)
+      parted b e = filter-append (λ c. is_some (least c)) done (n ∷ rest) ∙ ap (λ t. filter (λ c. is_some (least c)) done ++ cond t (n ∷ filter (λ c. is_some (least c)) rest) (filter (λ c. is_some (least c)) rest)) e
+
+      inner : (o : Option Code) → least n ≡ o → new ≡ with_member n o old → new ≡ listed_with done ++ cons_option (option_map (entrant n) (least n)) []
+      inner (Some p) e step =
+          let other : ends_with (listed_with done) n ≡ false = ends_before (listed_with done) (filter (λ c. is_some (least c)) rest) n
+          (subst (λ t. IsStrictlySortedBy nat_cmp (t ++ n ∷ filter (λ c. is_some (least c)) rest)) (sym (listed_numbers done))
+          (subst (IsStrictlySortedBy nat_cmp) (parted true (ap is_some e)) (IsStrictlySortedBy-filter nat_cmp (λ c. is_some (least c)) (done ++ n ∷ rest) up))) in
+          step ∙ ap (with_last (entrant n p)) is ∙ ap (λ t. cond t (listed_with done) (listed_with done ++ entrant n p ∷ [])) other ∙ ap (λ o. listed_with done ++ cons_option (option_map (entrant n) o) []) (sym e)
+      inner None e step = step ∙ is ∙ sym (append-nil (listed_with done)) ∙ ap (λ o. listed_with done ++ cons_option (option_map (entrant n) o) []) (sym e)
+
+-- a test that is the same of each lets the same pass
+filter_same : (p q : ℕ → Bool) → ((c : ℕ) → p c ≡ q c) → (cs : List ℕ) → filter p cs ≡ filter q cs
+filter_same p q same [] = refl
+filter_same p q same (c ∷ cs) = rw (same c) (ap (λ t. cond (q c) (c ∷ t) t) (filter_same p q same cs))
+
+-- the numbers of whom is listed are the members
+pub entrants_are_members : (r : Relations) (s : Code) → map (λ (e : Entrant). e.number) (entrants r s) ≡ members r s
+entrants_are_members r s =
+    listed_numbers (least_live_paper r s) (keys_of r.candidates)
+    ∙ filter_same (λ c. is_some (least_live_paper r s c)) (has_live_entry r s) (λ c. sym (any_is (is_live_entry r s c) (λ (e : (ℕ × Code) × Entry). e.0.1) r.entries)) (keys_of r.candidates)
+
+-- and each is listed with the least of their live papers
+pub entrants_sit : (r : Relations) (s : Code) → All (λ (e : Entrant). least_live_paper r s e.number ≡ Some e.paper) (entrants r s)
+entrants_sit r s = listed_papers (least_live_paper r s) (keys_of r.candidates)

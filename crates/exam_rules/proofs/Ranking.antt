@@ -114,7 +114,7 @@ map_step f xs i d before after whole below pushed so_far =
 pub map_end : {A Y : Type 0} (f : A → Y) (xs : List A) (i : ℕ) (before : List Y) → length xs ≤ i → before ++ map f (drop i xs) ≡ map f xs → before ≡ map f xs
 map_end f xs i before over so_far = sym (append-nil before) ∙ ap (λ t. before ++ map f t) (sym (drop_all i xs over)) ∙ so_far
 
-map-map : {A B C : Type 0} (f : A → B) (g : B → C) (xs : List A) → map g (map f xs) ≡ map (λ x. g (f x)) xs
+pub map-map : {A B C : Type 0} (f : A → B) (g : B → C) (xs : List A) → map g (map f xs) ≡ map (λ x. g (f x)) xs
 map-map f g [] = refl
 map-map f g (x ∷ xs) = ap (λ t. g (f x) ∷ t) (map-map f g xs)
 

@@ -18,10 +18,17 @@ use std::collections::BTreeMap;
 /// Of each session a list, which is empty where the map has none.
 pub type BySession<T> = BTreeMap<SessionCode, Vec<T>>;
 
+/// A member of a session, with the least of their live papers for it.
+#[derive(Clone, Copy)]
+pub struct Entrant {
+    pub number: Number,
+    pub paper: PaperCode,
+}
+
 /// The members and the open halls of each session.
 #[derive(Drop)]
 pub struct SessionLists {
-    pub members: BySession<Number>,
+    pub members: BySession<Entrant>,
     pub halls: BySession<HallCode>,
 }
 
@@ -69,32 +76,32 @@ fn listed<'a, T: Copy>(lists: &'a BySession<T>, session: &SessionCode) -> &'a [T
     }
 }
 
-/// Whether the number is the last of the list.
-fn ends_with(numbers: &[Number], number: Number) -> bool
-    ensures { result ≡ listing.ends_with numbers.now number }
+/// Whether the number is that of the last of the list.
+fn ends_with(entrants: &[Entrant], number: Number) -> bool
+    ensures { result ≡ listing.ends_with entrants.now number }
 {
-    match numbers.last() {
-        Some(last) => *last == number,
+    match entrants.last() {
+        Some(last) => last.number == number,
         None => false,
     }
 }
 
-/// Appends the number to the session's list, where it is not its last.
+/// Appends the entrant to the session's list, where its last is not the same candidate.
 fn append_last(
     alloc: Global,
-    members: &mut BySession<Number>,
+    members: &mut BySession<Entrant>,
     session: SessionCode,
-    number: Number,
+    entrant: Entrant,
 ) -> Result<(), Refusal>
     ensures ok { OnOk result ((s : Code) → listing.listed members.new.entries s
-        ≡ (if same_code session s then listing.with_last number (listing.listed members.old.entries s)
+        ≡ (if same_code session s then listing.with_last entrant (listing.listed members.old.entries s)
         else listing.listed members.old.entries s)) }
     ensures memory { IfErr result (λ e. e ≡ NoMemory) }
 {
-    if ends_with(listed(members, &session), number) {
+    if ends_with(listed(members, &session), entrant.number) {
         return Ok(());
     }
-    append(alloc, members, session, number)
+    append(alloc, members, session, entrant)
 }
 
 /// The session for which a live entry counts.
@@ -113,12 +120,11 @@ fn append_member(
     alloc: Global,
     facts: &Facts,
     number: Number,
-    members: &mut BySession<Number>,
+    members: &mut BySession<Entrant>,
 ) -> Result<(), Refusal>
     ensures ok { OnOk result ((s : Code) → listing.listed members.new.entries s
-        ≡ (if spec.has_live_entry (relations_of facts.now) s number
-        then listing.with_last number (listing.listed members.old.entries s)
-        else listing.listed members.old.entries s)) }
+        ≡ listing.with_member number (spec.least_live_paper (relations_of facts.now) s number)
+        (listing.listed members.old.entries s)) }
     ensures memory { IfErr result (λ e. e ≡ NoMemory) }
 {
     for (key, entry) in entries_from(facts, number) {
@@ -126,16 +132,17 @@ fn append_member(
             break;
         }
         if let Some(session) = entered_session(facts, &key.1, entry) {
-            append_last(alloc, members, session, number)?;
+            let paper = key.1;
+            append_last(alloc, members, session, Entrant { number, paper })?;
         }
     }
     Ok(())
 }
 
-/// Of each session its members, numbers rising.
-fn members_by_session(alloc: Global, facts: &Facts) -> Result<BySession<Number>, Refusal>
+/// Of each session its members, numbers rising, each with the least of their live papers.
+fn members_by_session(alloc: Global, facts: &Facts) -> Result<BySession<Entrant>, Refusal>
     ensures ok { IfOk result (λ members. (s : Code) → listing.listed members.entries s
-        ≡ spec.members (relations_of facts.now) s) }
+        ≡ listing.entrants (relations_of facts.now) s) }
     ensures rising { OnOk result ((s : Code)
         → IsStrictlySortedBy nat_cmp (spec.members (relations_of facts.now) s)) }
     ensures memory { IfErr result (λ e. e ≡ NoMemory) }
@@ -174,8 +181,8 @@ pub fn session_lists(alloc: Global, facts: &Facts) -> Result<SessionLists, Refus
 }
 
 impl SessionLists {
-    /// The members of the session.
-    pub fn members_of(&self, session: &SessionCode) -> &[Number]
+    /// The members of the session, by number.
+    pub fn members_of(&self, session: &SessionCode) -> &[Entrant]
         ensures { result.now ≡ listing.listed self.now.members.entries session.now }
     {
         listed(&self.members, session)

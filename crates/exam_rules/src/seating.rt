@@ -1,11 +1,13 @@
 //! The seating problem of a session.
-ghost use Rattle.std.specs.Prelude.{◌≡◌, ◌⊎◌, ◌<◌, ◌≤◌, length, map, count_by, IsTrue, IfOk, IfErr, OnOk};
+ghost use Rattle.std.specs.Prelude.{◌≡◌, ◌⊎◌, ◌<◌, ◌≤◌, ℕ, All, length, map, count_by, IsTrue, IfOk, IfErr, OnOk};
 ghost use Rattle.std.specs.Prelude.{IsSorted};
 ghost use Rattle.std.specs.Ordering.{is_lt, nat_cmp};
 ghost use Rattle.std.specs.List.Sorted.{IsStrictlySortedBy};
 ghost use Rattle.exam_plan.specs.Problems.{most_members};
 ghost use Rattle.exam_rules.specs.Names.{ListsRise};
+ghost use Rattle.exam_rules.specs.Lists as listing;
 ghost use Rattle.exam_rules.specs.Lists.{AreListsOf};
+ghost use Rattle.exam_rules.specs.declared.lists.Entrant.{Entrant};
 ghost use Rattle.exam_types.specs.declared.refusal.Refusal.TheVariants.{NoMemory, TooMany};
 ghost use Rattle.exam_rules.specs.Relations.{relations_of, code_cmp, has_row};
 ghost use Rattle.exam_rules.specs.Sessions as spec;
@@ -13,8 +15,8 @@ ghost use Rattle.exam_rules.specs.Seatings as seatings;
 
 use crate::facts::Facts;
 use crate::fit::{Room, fitting_places, opened_room};
-use crate::lists::SessionLists;
-use crate::sessions::{members, sitting};
+use crate::lists::{Entrant, SessionLists};
+use crate::sessions::{members, sitting, sitting_beside};
 use exam_plan::{MOST_MEMBERS, Problem};
 use exam_types::{HallCode, Number, PaperCode, Refusal, SessionCode};
 use std::alloc::Global;
@@ -92,32 +94,67 @@ fn rooms(
     Ok(rooms)
 }
 
-/// Of each candidate the places of the halls that fit, and what desks are ordered by: the sitting paper and
-/// the number.
+/// Of each candidate, by number and sitting paper, the places of the halls that fit.
 fn fit_rows(
     alloc: Global,
     facts: &Facts,
     session: &SessionCode,
-    numbers: &[Number],
+    keys: &[DeskKey],
     halls: &[(HallCode, Option<Room>)],
-) -> Result<(Vec<Vec<usize>>, Vec<DeskKey>), Refusal>
-    requires { halls.now
+) -> Result<Vec<Vec<usize>>, Refusal>
+    requires keys { All (λ (key : _ × ℕ).
+        key.0 ≡ spec.sitting (relations_of facts.now) session.now key.1) keys.now }
+    requires halls { halls.now
         ≡ seatings.with_rooms (relations_of facts.now) session.now (map (λ hall. hall.0) halls.now) }
-    ensures rows { IfOk result (λ both. map (λ row. row.items) both.0.items
-        ≡ map (λ c. seatings.fitting_places (relations_of facts.now) session.now c
-        (map (λ hall. hall.0) halls.now)) numbers.now) }
-    ensures keys { IfOk result (λ both. both.1.items
+    ensures ok { IfOk result (λ rows. map (λ row. row.items) rows.items
+        ≡ map (λ key. seatings.fitting_places (relations_of facts.now) session.now key.1
+        (map (λ hall. hall.0) halls.now)) keys.now) }
+    ensures memory { IfErr result (λ e. e ≡ NoMemory) }
+{
+    let mut rows = Vec::with_capacity(alloc, keys.len())?;
+    for key in keys {
+        rows.push(fitting_places(alloc, facts, session, key.1, key.0, halls)?)?;
+    }
+    Ok(rows)
+}
+
+/// What desks are ordered by, of each of these numbers.
+fn desk_keys(
+    alloc: Global,
+    facts: &Facts,
+    session: &SessionCode,
+    numbers: &[Number],
+) -> Result<Vec<DeskKey>, Refusal>
+    ensures ok { IfOk result (λ keys. keys.items
         ≡ map (seatings.desk_key (relations_of facts.now) session.now) numbers.now) }
     ensures memory { IfErr result (λ e. e ≡ NoMemory) }
 {
-    let mut rows = Vec::new(alloc);
-    let mut keys = Vec::new(alloc);
-    for number in numbers {
-        let sat = sitting(facts, session, *number);
-        rows.push(fitting_places(alloc, facts, session, *number, sat, halls)?)?;
-        keys.push((sat, *number))?;
+    let keys = numbers
+        .iter()
+        .map(|number| (sitting(facts, session, *number), *number))
+        .collect(alloc)?;
+    Ok(keys)
+}
+
+/// The same of members whose least live papers are known.
+fn entrant_keys(
+    alloc: Global,
+    facts: &Facts,
+    session: &SessionCode,
+    entrants: &[Entrant],
+) -> Result<Vec<DeskKey>, Refusal>
+    requires { entrants.now ≡ listing.entrants (relations_of facts.now) session.now }
+    ensures ok { IfOk result (λ keys. keys.items
+        ≡ map (seatings.desk_key (relations_of facts.now) session.now)
+        (map (λ (entrant : Entrant). entrant.number) entrants.now)) }
+    ensures memory { IfErr result (λ e. e ≡ NoMemory) }
+{
+    let mut keys = Vec::with_capacity(alloc, entrants.len())?;
+    for entrant in entrants {
+        let sat = sitting_beside(facts, session, entrant.number, entrant.paper);
+        keys.push((sat, entrant.number))?;
     }
-    Ok((rows, keys))
+    Ok(keys)
 }
 
 /// Of each key how many keys are less.
@@ -144,22 +181,24 @@ fn place_in(sorted: &[DeskKey], key: &DeskKey) -> u32
     sorted.partition_point(|other| *other < *key) as u32
 }
 
-/// Of each candidate the places of the halls that fit, and what desks are ordered by.
+/// Of each member the places of the halls that fit.
 fn fit_table(
     alloc: Global,
     facts: &Facts,
     session: &SessionCode,
-    numbers: &[Number],
+    keys: &[DeskKey],
     halls: &[HallCode],
-) -> Result<(Vec<Vec<usize>>, Vec<DeskKey>), Refusal>
-    ensures rows { IfOk result (λ both. map (λ row. row.items) both.0.items
-        ≡ map (λ c. seatings.fitting_places (relations_of facts.now) session.now c halls.now) numbers.now) }
-    ensures keys { IfOk result (λ both. both.1.items
-        ≡ map (seatings.desk_key (relations_of facts.now) session.now) numbers.now) }
+) -> Result<Vec<Vec<usize>>, Refusal>
+    requires { keys.now
+        ≡ map (seatings.desk_key (relations_of facts.now) session.now)
+        (spec.members (relations_of facts.now) session.now) }
+    ensures ok { IfOk result (λ rows. map (λ row. row.items) rows.items
+        ≡ map (λ c. seatings.fitting_places (relations_of facts.now) session.now c halls.now)
+        (spec.members (relations_of facts.now) session.now)) }
     ensures memory { IfErr result (λ e. e ≡ NoMemory) }
 {
     let rooms = rooms(alloc, facts, session, halls)?;
-    fit_rows(alloc, facts, session, numbers, &rooms)
+    fit_rows(alloc, facts, session, keys, &rooms)
 }
 
 /// A session's seating problem, with the members and halls for which its indices stand.
@@ -194,8 +233,9 @@ pub fn listed_problem(
     if numbers.len() > MOST_MEMBERS {
         return Err(Refusal::TooMany);
     }
+    let keys = desk_keys(alloc, facts, session, &numbers)?;
     let halls = open_halls(alloc, facts, session)?;
-    problem_over(alloc, facts, session, numbers, halls)
+    problem_over(alloc, facts, session, numbers, &keys, halls)
 }
 
 /// The same where the members and the open halls of all sessions are listed.
@@ -216,13 +256,26 @@ pub fn indexed_problem(
         ⊎ ((e ≡ TooMany)
         × (most_members < length (spec.members (relations_of facts.now) session.now)))) }
 {
-    let members = lists.members_of(session);
-    if members.len() > MOST_MEMBERS {
+    let entrants = lists.members_of(session);
+    if entrants.len() > MOST_MEMBERS {
         return Err(Refusal::TooMany);
     }
-    let numbers = Vec::from_slice(alloc, members)?;
+    let keys = entrant_keys(alloc, facts, session, entrants)?;
+    let numbers = numbers_of(alloc, entrants)?;
     let halls = Vec::from_slice(alloc, lists.halls_of(session))?;
-    problem_over(alloc, facts, session, numbers, halls)
+    problem_over(alloc, facts, session, numbers, &keys, halls)
+}
+
+fn numbers_of(alloc: Global, entrants: &[Entrant]) -> Result<Vec<Number>, Refusal>
+    ensures ok { IfOk result (λ numbers. numbers.items
+        ≡ map (λ (entrant : Entrant). entrant.number) entrants.now) }
+    ensures memory { IfErr result (λ e. e ≡ NoMemory) }
+{
+    let numbers = entrants
+        .iter()
+        .map(|entrant| entrant.number)
+        .collect(alloc)?;
+    Ok(numbers)
 }
 
 /// The seating problem over the members and the open halls of the session.
@@ -231,10 +284,13 @@ fn problem_over(
     facts: &Facts,
     session: &SessionCode,
     numbers: Vec<Number>,
+    keys: &[DeskKey],
     halls: Vec<HallCode>,
 ) -> Result<ListedProblem, Refusal>
     requires few { length numbers.items ≤ most_members }
     requires numbers { numbers.items ≡ spec.members (relations_of facts.now) session.now }
+    requires keys { keys.now ≡ map (seatings.desk_key (relations_of facts.now) session.now)
+        (spec.members (relations_of facts.now) session.now) }
     requires halls { halls.items ≡ seatings.open_halls (relations_of facts.now) session.now }
     requires rising { IsStrictlySortedBy nat_cmp (spec.members (relations_of facts.now) session.now) }
     ensures numbers { IfOk result (λ listed. listed.numbers.items
@@ -246,8 +302,8 @@ fn problem_over(
     ensures memory { IfErr result (λ e. e ≡ NoMemory) }
 {
     let desks = desk_counts(alloc, facts, session, &halls)?;
-    let (fit, keys) = fit_table(alloc, facts, session, &numbers, &halls)?;
-    let rank = ranks(alloc, &keys)?;
+    let fit = fit_table(alloc, facts, session, keys, &halls)?;
+    let rank = ranks(alloc, keys)?;
     let problem = Problem::new(desks, fit, rank)?;
     Ok(ListedProblem {
         numbers,

@@ -1,5 +1,5 @@
 //! Who belongs to a session, which paper each sits, and under which arrangement.
-ghost use Rattle.std.specs.Prelude.{◌≡◌, ◌↔◌, ◌++◌, [], filter, codes, Contains, IsTrue, IfOk, IfErr, OnOk};
+ghost use Rattle.std.specs.Prelude.{◌≡◌, ◌↔◌, ◌++◌, [], Some, filter, codes, Contains, IsTrue, IfOk, IfErr, OnOk};
 ghost use Rattle.exam_types.specs.declared.refusal.Refusal.TheVariants.{NoMemory};
 ghost use Rattle.std.specs.List.Sorted.{IsStrictlySortedBy};
 ghost use Rattle.std.specs.Ordering.{nat_cmp};
@@ -120,18 +120,45 @@ pub fn members(alloc: Global, facts: &Facts, session: &SessionCode) -> Result<Ve
     Ok(numbers)
 }
 
+/// The paper of the candidate's granted clash appeal, where it is live and of this session.
+fn granted_sitting(facts: &Facts, session: &SessionCode, number: Number) -> Option<PaperCode>
+    ensures { result ≡ spec.option_filter (spec.is_live_paper (relations_of facts.now) session.now number)
+        (spec.granted_paper (relations_of facts.now) session.now number) }
+{
+    let paper = granted_paper(facts, session, number)?;
+    if is_live_paper(facts, session, number, &paper) {
+        Some(paper)
+    } else {
+        None
+    }
+}
+
 /// The paper that the member sits: that of the granted clash appeal where it is live and of this session,
 /// otherwise the least live one; none for a number without a live entry there. A number of entries that is no
 /// candidate's, which no office has, counts as if it were.
 pub fn sitting(facts: &Facts, session: &SessionCode, number: Number) -> Option<PaperCode>
     ensures { result ≡ spec.sitting (relations_of facts.now) session.now number }
 {
-    if let Some(paper) = granted_paper(facts, session, number) {
-        if is_live_paper(facts, session, number, &paper) {
-            return Some(paper);
-        }
+    match granted_sitting(facts, session, number) {
+        Some(paper) => Some(paper),
+        None => least_live_paper(facts, session, number),
     }
-    least_live_paper(facts, session, number)
+}
+
+/// The same of whom this is the least live paper there.
+pub fn sitting_beside(
+    facts: &Facts,
+    session: &SessionCode,
+    number: Number,
+    least: PaperCode,
+) -> Option<PaperCode>
+    ensures { spec.least_live_paper (relations_of facts.now) session.now number ≡ Some least
+        → result ≡ spec.sitting (relations_of facts.now) session.now number }
+{
+    match granted_sitting(facts, session, number) {
+        Some(paper) => Some(paper),
+        None => Some(least),
+    }
 }
 
 /// The arrangement in force: the granted one, otherwise the imported one, otherwise no needs and no extra

@@ -6,7 +6,7 @@ use Rattle.std.specs.Map.Iter.{deref_pair}
 use Rattle.std.proofs.lemmas.List.Kept.{IsStrictlySortedBy-filter}
 use Rattle.std.proofs.lemmas.Map.Iter.{rest_more}
 use Rattle.exam_rules.specs.Relations.{relations_of}
-use Rattle.exam_rules.specs.Sessions.{has_live_entry}
+use Rattle.exam_rules.specs.Sessions.{has_live_entry, least_live_paper}
 use Rattle.exam_rules.specs.Lists.{listed}
 use Rattle.exam_rules.proofs.Listing.{members_more}
 use Rattle.exam_rules.proofs.lists.members_by_session.Goals as goal
@@ -21,7 +21,7 @@ loop-number-preserved c =
     let up : IsStrictlySortedBy nat_cmp (done ++ n ∷ keys_of rest) = subst (IsStrictlySortedBy nat_cmp) (sym split) c.into_iter-number-iterator.ensures.into_iter_gives.5 in (
       done ++ n ∷ [],
       append_assoc done (n ∷ []) (keys_of rest) ∙ split,
-      λ s. members_more (has_live_entry (relations_of c.args.facts.now) s) done (keys_of rest) (listed c.loop-number.members.entries s) (listed c.append_member.new.members.entries s) n up (c.loop-number.invariant.2 s) (c.in_ok-append_member.ensures.ok s),
+      λ s. members_more (least_live_paper (relations_of c.args.facts.now) s) done (keys_of rest) (listed c.loop-number.members.entries s) (listed c.append_member.new.members.entries s) n up (c.loop-number.invariant.2 s) (c.in_ok-append_member.ensures.ok s),
     )
 
 pub returns-clause-rising : goal.returns-clause-rising

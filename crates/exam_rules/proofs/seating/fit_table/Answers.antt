@@ -1,17 +1,25 @@
-use Rattle.std.proofs.Common.{◌≡◌, List, map, IfOk, ap, sym, subst, ◌∙◌}
+use Rattle.std.proofs.Common.{◌≡◌, ℕ, List, Option, map, All, IfOk, refl, ap, sym, subst, ◌∙◌}
+use Rattle.std.proofs.lemmas.List.Elements.{All-map}
 use Rattle.exam_rules.specs.Relations.{Code, relations_of}
-use Rattle.exam_rules.specs.Seatings.{with_rooms, fitting_places}
+use Rattle.exam_rules.specs.Sessions.{members, sitting}
+use Rattle.exam_rules.specs.Seatings.{with_rooms, fitting_places, desk_key}
 use Rattle.exam_rules.proofs.Places.{rooms_named}
+use Rattle.exam_rules.proofs.Ranking.{map-map}
 use Rattle.exam_rules.proofs.seating.fit_table.Goals as goal
 
 pub fit_rows-requires : goal.fit_rows-requires
 fit_rows-requires c =
-    let rooms : c.deref.result.now ≡ with_rooms (relations_of c.args.facts.now) c.args.session.now c.args.halls.now = c.deref.ensures.value ∙ c.in_ok-rooms.ensures.ok in
-    rooms ∙ ap (with_rooms (relations_of c.args.facts.now) c.args.session.now) (sym (rooms_named (relations_of c.args.facts.now) c.args.session.now c.args.halls.now c.deref.result.now rooms))
+    let rooms : c.deref.result.now ≡ with_rooms (relations_of c.args.facts.now) c.args.session.now c.args.halls.now = c.deref.ensures.value ∙ c.in_ok-rooms.ensures.ok in record {
+      keys = subst (All (λ (key : Option Code × ℕ). key.0 ≡ sitting (relations_of c.args.facts.now) c.args.session.now key.1)) (sym c.requires)
+          (All-map (λ (key : Option Code × ℕ). key.0 ≡ sitting (relations_of c.args.facts.now) c.args.session.now key.1) (desk_key (relations_of c.args.facts.now) c.args.session.now) (members (relations_of c.args.facts.now) c.args.session.now) (λ k d h. refl));
+      halls = rooms ∙ ap (with_rooms (relations_of c.args.facts.now) c.args.session.now) (sym (rooms_named (relations_of c.args.facts.now) c.args.session.now c.args.halls.now c.deref.result.now rooms));
+    }
 
-pub returns-clause-rows : goal.returns-clause-rows
-returns-clause-rows c =
+pub returns-clause-ok : goal.returns-clause-ok
+returns-clause-ok c =
     let rooms : c.deref.result.now ≡ with_rooms (relations_of c.args.facts.now) c.args.session.now c.args.halls.now = c.deref.ensures.value ∙ c.in_ok-rooms.ensures.ok in
-    subst (λ (halls : List Code). IfOk c.fit_rows.result (λ both. map (λ row. row.items) both.0.items ≡ map (λ n. fitting_places (relations_of c.args.facts.now) c.args.session.now n halls) c.args.numbers.now))
-    (rooms_named (relations_of c.args.facts.now) c.args.session.now c.args.halls.now c.deref.result.now rooms)
-    c.fit_rows.ensures.rows
+    subst (λ (places : List (List ℕ)). IfOk c.fit_rows.result (λ rows. map (λ row. row.items) rows.items ≡ places))
+    (ap (map (λ (key : Option Code × ℕ). fitting_places (relations_of c.args.facts.now) c.args.session.now key.1 (map (λ hall. hall.0) c.deref.result.now))) c.requires
+    ∙ map-map (desk_key (relations_of c.args.facts.now) c.args.session.now) (λ (key : Option Code × ℕ). fitting_places (relations_of c.args.facts.now) c.args.session.now key.1 (map (λ hall. hall.0) c.deref.result.now)) (members (relations_of c.args.facts.now) c.args.session.now)
+    ∙ ap (λ (halls : List Code). map (λ n. fitting_places (relations_of c.args.facts.now) c.args.session.now n halls) (members (relations_of c.args.facts.now) c.args.session.now)) (rooms_named (relations_of c.args.facts.now) c.args.session.now c.args.halls.now c.deref.result.now rooms))
+    c.fit_rows.ensures.ok
