@@ -12,6 +12,7 @@ mod import;
 mod import_row;
 mod laws;
 mod limits;
+mod lodging;
 mod office;
 mod references;
 mod repair;
