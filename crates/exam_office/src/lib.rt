@@ -1,6 +1,7 @@
 //! The commands of the office, and what it shows of a session.
 #![tactic(auto)]
 
+mod appeals;
 mod changes;
 mod closing;
 mod command;
@@ -11,9 +12,11 @@ mod import;
 mod import_row;
 mod laws;
 mod limits;
+mod lodging;
 mod office;
 mod references;
 mod repair;
+mod retracting;
 mod steps;
 mod tables;
 #[cfg(test)]
@@ -21,11 +24,13 @@ mod tests;
 mod view;
 mod view_source;
 
-pub use command::{Command, Reply};
+pub use command::{AppealState, Command, Decision, Lodging, Outcome, Reply};
 pub use import::Import;
 pub use import_row::{Kind, Row};
 pub use laws::{
-    good_office_is_seated, repeated_import_changes_nothing, repeated_import_makes_the_same_facts,
+    good_office_is_seated, lodging_and_retracting_move_nobody, repeated_import_changes_nothing,
+    repeated_import_makes_the_same_facts, repeated_lodging_changes_nothing,
+    repeated_retraction_changes_nothing,
 };
 pub use office::{Office, Seats};
 pub use steps::{next_office, run, step};
