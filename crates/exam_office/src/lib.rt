@@ -11,6 +11,7 @@ mod import;
 mod import_row;
 mod laws;
 mod limits;
+mod moves;
 mod office;
 mod references;
 mod repair;

@@ -6,6 +6,7 @@
 mod commands;
 mod limits;
 mod lines;
+mod moves;
 mod opening;
 mod replies;
 mod scenes;
