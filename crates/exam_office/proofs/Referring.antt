@@ -44,7 +44,7 @@ module _ {K X : Type 0} (cmp : K → K → Ordering) where
       inner Equal b c h rest = kept (is_at (cmp q) e.0) has
       inner Greater b c h rest = later (is_at (cmp q) e.0) has rest
 
-  all_put : CmpEqualImpliesEq cmp → (p : K × X → Bool) (rows : List (K × X)) (k : K) (v : X) → list_all p rows ≡ true → p (k, v) ≡ true → list_all p (put_row cmp rows k v) ≡ true
+  pub all_put : CmpEqualImpliesEq cmp → (p : K × X → Bool) (rows : List (K × X)) (k : K) (v : X) → list_all p rows ≡ true → p (k, v) ≡ true → list_all p (put_row cmp rows k v) ≡ true
   all_put exact p [] k v every here = and_from (p (k, v)) true here refl
   all_put exact p (e ∷ es) k v every here = inner (cmp k e.0) refl (all_put exact p es k v (and_parts (p e) (list_all p es) every).1 here)
     where

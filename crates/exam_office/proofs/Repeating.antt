@@ -23,7 +23,7 @@ all_below cmp o k e [] less above = tt
 all_below cmp o k e (y ∷ ks) less above = (o.trans k e y less above.0, all_below cmp o k e ks less above.1)
 
 module _ {K X : Type 0} (cmp : K → K → Ordering) (o : IsTotalOrder cmp) where
-  none_above : (k e : K) (es : List (K × X)) → cmp k e ≡ Less → AllByRecursion (λ y. cmp e y ≡ Less) (keys_of es) → row_at cmp es k ≡ None
+  pub none_above : (k e : K) (es : List (K × X)) → cmp k e ≡ Less → AllByRecursion (λ y. cmp e y ≡ Less) (keys_of es) → row_at cmp es k ≡ None
   none_above k e [] less above = refl
   none_above k e (f ∷ es) less above =
       ap (λ r. cond (is_eq r) (Some f.1) (row_at cmp es k)) (o.trans k e f.0 less above.0) ∙ none_above k e es less above.1

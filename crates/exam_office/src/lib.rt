@@ -6,6 +6,7 @@ mod changes;
 mod closing;
 mod command;
 mod copies;
+mod deciding;
 mod entries;
 mod grants;
 mod import;
