@@ -1,6 +1,9 @@
 pub mod Writing
 pub mod Stepping
 pub mod Commanding
+pub mod LodgingChecks
+pub mod PutAppeals
+pub mod Appealing
 pub mod Referring
 pub mod Running
 pub mod Counting

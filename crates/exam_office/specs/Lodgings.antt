@@ -5,12 +5,13 @@ use Rattle.exam_types.specs.declared.refusal.Refusal.{Refusal}
 use Rattle.exam_types.specs.declared.refusal.Refusal.TheVariants as refusal
 use Rattle.exam_rules.specs.declared.rows.Appeal.{Appeal}
 use Rattle.exam_rules.specs.declared.rows.Arrangement.{Arrangement}
+use Rattle.exam_rules.specs.declared.rows.Entry.{Entry}
 use Rattle.exam_rules.specs.declared.rows.Session.{Session}
 use Rattle.exam_rules.specs.declared.rows.Status.TheVariants as status
 use Rattle.exam_rules.specs.declared.rows.Subject.{Subject}
 use Rattle.exam_rules.specs.declared.rows.Subject.TheVariants as subject
 use Rattle.exam_rules.specs.Relations.{Code, Relations, appeal_cmp, code_cmp, put_row, row_at, same_code}
-use Rattle.exam_rules.specs.Sessions.{arrangement_in_force, clash_papers, is_live_paper, is_member, sitting}
+use Rattle.exam_rules.specs.Sessions.{arrangement_in_force, clash_papers, is_clash, is_live_paper, is_member, is_paper_of, sitting}
 use Rattle.exam_rules.specs.Seatings.{plan_of}
 use Rattle.exam_office.specs.declared.command.Lodging.{Lodging}
 use Rattle.exam_office.specs.Appeals.{appeal_at, has_open_appeal, is_open, is_retracted, notice_days, same_subject}
@@ -28,13 +29,13 @@ last_day x asked = x.day - notice_days asked
 abbrev pub not_member : Relations → Code → ℕ → Bool × Refusal
 not_member r s c = (not (is_member r s c), refusal.NotInSession)
 
--- the session is there, and the last day to lodge is not over
+-- of the row of the session, where it is there: the last day to lodge is not over
+abbrev pub closing_check : Subject → ℕ → Option Session → Bool × Refusal
+closing_check asked today None = (true, refusal.NotInSession)
+closing_check asked today (Some x) = (nat_lt (last_day x asked) today, refusal.PastClosing (last_day x asked))
+
 abbrev pub past_closing : Relations → Code → Subject → ℕ → Bool × Refusal
-past_closing r s asked today = over (row_at code_cmp r.sessions s)
-  where
-    over : Option Session → Bool × Refusal
-    over None = (true, refusal.NotInSession)
-    over (Some x) = (nat_lt (last_day x asked) today, refusal.PastClosing (last_day x asked))
+past_closing r s asked today = closing_check asked today (row_at code_cmp r.sessions s)
 
 -- the hall is not the candidate's own
 abbrev pub not_seated_there : Seats → Code → ℕ → Code → Bool × Refusal
@@ -68,6 +69,10 @@ is_same_lodging l a =
 abbrev pub other_appeal : Lodging → Appeal → Bool × Refusal
 other_appeal l a = (not (is_same_lodging l a), refusal.RefTaken)
 
+-- an open appeal of its kind
+abbrev pub appeal_stands : Relations → Lodging → Bool × Refusal
+appeal_stands r l = (has_open_appeal r l.number l.session l.subject, refusal.AppealStands)
+
 -- of an appeal beside the one that is stored under its reference, if one is
 abbrev pub lodging_checks : Relations → Seats → ℕ → Lodging → Option Appeal → List (Bool × Refusal)
 lodging_checks r seats today l (Some a) = other_appeal l a ∷ []
@@ -75,7 +80,7 @@ lodging_checks r seats today l None =
     not_member r l.session l.number
     ∷ past_closing r l.session l.subject today
     ∷ subject_checks r seats l.session l.number l.subject
-    ++ (has_open_appeal r l.number l.session l.subject, refusal.AppealStands)
+    ++ appeal_stands r l
     ∷ []
 
 -- with the open appeal, lodged on the day
@@ -143,3 +148,9 @@ with_retraction r c reference = with_retracted r c reference (appeal_at r c refe
 
 abbrev pub retracted : Relations → ℕ → Code → Result Relations Refusal
 retracted r c reference = unless (retraction_refusal r c reference) (with_retraction r c reference)
+
+-- ---- of the code
+
+-- a live entry of the candidate for a paper of the session other than the one that is sat
+abbrev pub is_unsat : Relations → Code → ℕ → Option Code → (ℕ × Code) × Entry → Bool
+is_unsat r s c sat e = (e.0.0 == c) && (e.1.live && (is_paper_of r s e.0.1 && is_clash sat e.0.1))

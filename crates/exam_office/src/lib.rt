@@ -13,6 +13,7 @@ mod import;
 mod import_row;
 mod laws;
 mod limits;
+mod lodging;
 mod moves;
 mod office;
 mod references;

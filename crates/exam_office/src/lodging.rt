@@ -1,0 +1,283 @@
+//! Lodging an appeal.
+ghost use Rattle.std.specs.Prelude.{◌≡◌, ◌⊎◌, ◌==◌, length, not, [], ◌∷◌, ◌++◌, None, Some, IfOk, IfErr, OnOk};
+ghost use Rattle.std.specs.List.{list_any};
+ghost use Rattle.std.specs.Result.{result_err};
+ghost use Rattle.exam_types.specs.declared.refusal.Refusal.TheVariants.{NoMemory};
+ghost use Rattle.exam_rules.specs.Relations.{relations_of};
+ghost use Rattle.exam_rules.specs.Sessions as sessions;
+ghost use Rattle.exam_office.specs.Changes.{first_refusal};
+ghost use Rattle.exam_office.specs.Lodgings as spec;
+
+use crate::appeals::{has_open_appeal, is_same_subject, notice_days};
+use crate::command::Lodging;
+use crate::copies::{copied_facts, put};
+use crate::office::Seats;
+use crate::references::check_candidate;
+use exam_rules::{
+    Appeal, Arrangement, Facts, Session, Status, Subject, arrangement_in_force, is_member, sitting,
+};
+use exam_types::{Day, HallCode, Number, PaperCode, Refusal, SessionCode};
+
+/// The facts with the appeal, open and lodged on the day, unless an equal one is stored under its reference.
+/// Refused, in this order, as an unknown candidate; as a reference that is taken; where the candidate is no
+/// member of the session; after the last day to lodge; as a hall in which they do not sit, or as no clash, no
+/// live entry, or nothing to change; where an open appeal of the kind stands; and where there is not enough
+/// memory. No limit is tested.
+pub fn lodged(facts: &Facts, seats: &Seats, today: Day, lodging: &Lodging) -> Result<Facts, Refusal>
+    ensures ok { IfOk result (λ changed. relations_of changed
+        ≡ spec.with_lodging (relations_of facts.now) today lodging.now) }
+    ensures checked { OnOk result
+        (spec.standing_refusal (relations_of facts.now) seats.now.entries today lodging.now ≡ None) }
+    ensures refusal { IfErr result (λ e. (e ≡ NoMemory)
+        ⊎ (spec.standing_refusal (relations_of facts.now) seats.now.entries today lodging.now ≡ Some e)) }
+{
+    check_lodging(facts, seats, today, lodging)?;
+    with_lodging(facts, today, lodging)
+}
+
+/// The facts with the appeal, unless one is stored under its reference.
+fn with_lodging(facts: &Facts, today: Day, lodging: &Lodging) -> Result<Facts, Refusal>
+    ensures ok { IfOk result (λ changed. relations_of changed
+        ≡ spec.with_lodging (relations_of facts.now) today lodging.now) }
+    ensures memory { IfErr result (λ e. e ≡ NoMemory) }
+{
+    match facts.appeals.get(&(lodging.number, lodging.reference)) {
+        Some(_) => copied_facts(facts),
+        None => with_appeal(facts, today, lodging),
+    }
+}
+
+fn with_appeal(facts: &Facts, today: Day, lodging: &Lodging) -> Result<Facts, Refusal>
+    ensures ok { IfOk result (λ changed. relations_of changed
+        ≡ spec.with_appeal (relations_of facts.now) today lodging.now) }
+    ensures memory { IfErr result (λ e. e ≡ NoMemory) }
+{
+    let appeal = Appeal {
+        session: lodging.session,
+        subject: lodging.subject,
+        reason: lodging.reason.copy()?,
+        status: Status::Pending,
+        lodged: today,
+    };
+    let mut changed = copied_facts(facts)?;
+    put(
+        &mut changed.appeals,
+        (lodging.number, lodging.reference),
+        appeal,
+    )?;
+    Ok(changed)
+}
+
+fn check_lodging(facts: &Facts, seats: &Seats, today: Day, lodging: &Lodging) -> Result<(), Refusal>
+    ensures { result_err result
+        ≡ spec.standing_refusal (relations_of facts.now) seats.now.entries today lodging.now }
+{
+    check_candidate(facts, &lodging.number)?;
+    match facts.appeals.get(&(lodging.number, lodging.reference)) {
+        Some(appeal) => check_same(lodging, appeal),
+        None => check_new(facts, seats, today, lodging),
+    }
+}
+
+/// Refused as a taken reference where the stored appeal is another one.
+fn check_same(lodging: &Lodging, appeal: &Appeal) -> Result<(), Refusal>
+    ensures { result_err result ≡ first_refusal (spec.other_appeal lodging.now appeal.now ∷ []) }
+{
+    if lodging.session == appeal.session
+        && is_same_subject(&lodging.subject, &appeal.subject)
+        && lodging.reason == appeal.reason
+    {
+        Ok(())
+    } else {
+        Err(Refusal::RefTaken)
+    }
+}
+
+fn check_new(facts: &Facts, seats: &Seats, today: Day, lodging: &Lodging) -> Result<(), Refusal>
+    ensures { result_err result ≡ first_refusal
+        (spec.lodging_checks (relations_of facts.now) seats.now.entries today lodging.now None) }
+{
+    if !is_member(facts, &lodging.session, lodging.number) {
+        return Err(Refusal::NotInSession);
+    }
+    check_closing(facts, &lodging.session, &lodging.subject, today)?;
+    check_asked(facts, seats, lodging)
+}
+
+/// Refused by the kind of the appeal, and then where an open appeal of the kind stands.
+#[tactic(auto, using(crate::proofs::LodgingChecks::first_passed))]
+fn check_asked(facts: &Facts, seats: &Seats, lodging: &Lodging) -> Result<(), Refusal>
+    ensures { result_err result ≡ first_refusal (spec.subject_checks (relations_of facts.now)
+        seats.now.entries lodging.now.session lodging.now.number lodging.now.subject
+        ++ spec.appeal_stands (relations_of facts.now) lodging.now ∷ []) }
+{
+    check_subject(facts, seats, lodging)?;
+    check_open(facts, lodging)
+}
+
+/// Refused where an open appeal of the kind stands.
+fn check_open(facts: &Facts, lodging: &Lodging) -> Result<(), Refusal>
+    ensures { result_err result
+        ≡ first_refusal (spec.appeal_stands (relations_of facts.now) lodging.now ∷ []) }
+{
+    if has_open_appeal(facts, lodging.number, &lodging.session, &lodging.subject) {
+        return Err(Refusal::AppealStands);
+    }
+    Ok(())
+}
+
+fn check_closing(
+    facts: &Facts,
+    session: &SessionCode,
+    subject: &Subject,
+    today: Day,
+) -> Result<(), Refusal>
+    ensures { result_err result ≡ first_refusal
+        (spec.past_closing (relations_of facts.now) session.now subject.now today ∷ []) }
+{
+    let Some(row) = facts.sessions.get(session) else {
+        return Err(Refusal::NotInSession);
+    };
+    let day = last_day(row, subject);
+    if day < today {
+        return Err(Refusal::PastClosing { day });
+    }
+    Ok(())
+}
+
+/// The last day to lodge an appeal on this subject. No session is held earlier than ten days after the first
+/// day.
+fn last_day(session: &Session, subject: &Subject) -> Day
+    ensures { result ≡ spec.last_day session.now subject.now }
+{
+    session.day.day().minus(notice_days(subject)).unwrap()
+}
+
+/// Refused by the kind of the appeal.
+fn check_subject(facts: &Facts, seats: &Seats, lodging: &Lodging) -> Result<(), Refusal>
+    ensures { result_err result ≡ first_refusal (spec.subject_checks (relations_of facts.now)
+        seats.now.entries lodging.now.session lodging.now.number lodging.now.subject) }
+{
+    match &lodging.subject {
+        Subject::Hall(hall) => check_own_hall(seats, &lodging.session, lodging.number, hall),
+        Subject::Clash(paper) => check_clash(facts, &lodging.session, lodging.number, paper),
+        Subject::Arrangement(arrangement) => {
+            check_arrangement(facts, &lodging.session, lodging.number, arrangement)
+        }
+    }
+}
+
+/// Refused where the candidate does not sit in the hall.
+fn check_own_hall(
+    seats: &Seats,
+    session: &SessionCode,
+    number: Number,
+    hall: &HallCode,
+) -> Result<(), Refusal>
+    ensures { result_err result
+        ≡ first_refusal (spec.not_seated_there seats.now.entries session.now number hall.now ∷ []) }
+{
+    match seats.get(&(*session, number)) {
+        Some(own) if *hall == *own => Ok(()),
+        _ => Err(Refusal::NotSeatedThere),
+    }
+}
+
+/// Refused where the candidate has no clash in the session, where the paper is no live one of theirs in it,
+/// or where they sit it.
+fn check_clash(
+    facts: &Facts,
+    session: &SessionCode,
+    number: Number,
+    paper: &PaperCode,
+) -> Result<(), Refusal>
+    ensures { result_err result
+        ≡ first_refusal (spec.clash_checks (relations_of facts.now) session.now number paper.now) }
+{
+    if !has_clash(facts, session, number) {
+        return Err(Refusal::NoClash);
+    }
+    if !is_live_paper(facts, session, number, paper) {
+        return Err(Refusal::NoEntry);
+    }
+    match sitting(facts, session, number) {
+        Some(sat) if *paper == sat => Err(Refusal::NothingToChange),
+        _ => Ok(()),
+    }
+}
+
+/// Refused where the arrangement is the one in force.
+fn check_arrangement(
+    facts: &Facts,
+    session: &SessionCode,
+    number: Number,
+    arrangement: &Arrangement,
+) -> Result<(), Refusal>
+    ensures { result_err result ≡ first_refusal
+        (spec.in_force (relations_of facts.now) session.now number arrangement.now ∷ []) }
+{
+    if *arrangement == arrangement_in_force(facts, session, number) {
+        return Err(Refusal::NothingToChange);
+    }
+    Ok(())
+}
+
+/// Whether the candidate has a clash in the session: a live paper that they do not sit.
+fn has_clash(facts: &Facts, session: &SessionCode, number: Number) -> bool
+    ensures { result ≡ not (length (sessions.clash_papers (relations_of facts.now) session.now number) == 0) }
+{
+    let sat = sitting(facts, session, number);
+    has_unsat_paper(facts, session, number, &sat)
+}
+
+/// Whether the candidate has a live paper in the session other than this one.
+fn has_unsat_paper(
+    facts: &Facts,
+    session: &SessionCode,
+    number: Number,
+    sat: &Option<PaperCode>,
+) -> bool
+    ensures { result ≡ list_any (spec.is_unsat (relations_of facts.now) session.now number sat.now)
+        facts.now.entries.entries }
+{
+    facts.entries.iter().any(|(key, entry)| {
+        key.0 == number
+            && entry.live
+            && is_paper_of(facts, session, &key.1)
+            && is_clash(sat, &key.1)
+    })
+}
+
+/// Whether a live paper is another than the one that is sat.
+fn is_clash(sat: &Option<PaperCode>, paper: &PaperCode) -> bool
+    ensures { result ≡ sessions.is_clash sat.now paper.now }
+{
+    match sat {
+        Some(other) => *other != *paper,
+        None => true,
+    }
+}
+
+fn is_paper_of(facts: &Facts, session: &SessionCode, paper: &PaperCode) -> bool
+    ensures { result ≡ sessions.is_paper_of (relations_of facts.now) session.now paper.now }
+{
+    match facts.papers.get(paper) {
+        Some(row) => row.session == *session,
+        None => false,
+    }
+}
+
+/// Whether the candidate has a live entry for the paper, which is of the session.
+pub fn is_live_paper(
+    facts: &Facts,
+    session: &SessionCode,
+    number: Number,
+    paper: &PaperCode,
+) -> bool
+    ensures { result ≡ sessions.is_live_paper (relations_of facts.now) session.now number paper.now }
+{
+    match facts.entries.get(&(number, *paper)) {
+        Some(entry) => entry.live && is_paper_of(facts, session, paper),
+        None => false,
+    }
+}
