@@ -33,7 +33,7 @@ DoListsRise t = (s : Code) → ListsRise t s
 abbrev pub IsLimitRefusal : Relations → Refusal → Type 0
 IsLimitRefusal t e = (e ≡ refusal.NoMemory) ⊎ ((e ≡ refusal.TooMany) × (within_limits t ≡ false))
 
-within_memory : (t : Relations) → within_limits t ≡ true → (e : Refusal) → IsLimitRefusal t e → e ≡ refusal.NoMemory
+pub within_memory : (t : Relations) → within_limits t ≡ true → (e : Refusal) → IsLimitRefusal t e → e ≡ refusal.NoMemory
 within_memory t within e (inl memory) = memory
 within_memory t within e (inr past) = absurd (let differ : true ≡ false = sym within ∙ past.1 in cc)
 

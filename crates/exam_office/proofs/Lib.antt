@@ -4,6 +4,8 @@ pub mod Commanding
 pub mod LodgingChecks
 pub mod PutAppeals
 pub mod Appealing
+pub mod AppealSteps
+pub mod Lasting
 pub mod Referring
 pub mod Running
 pub mod Counting

@@ -27,6 +27,15 @@ first_failed (x ∷ xs) ys e failed = inner x.0 failed (first_failed xs ys e)
     inner true here rest = here
     inner false later rest = rest later
 
+pub both_passed : (xs ys : List (Bool × Refusal)) → first_refusal (xs ++ ys) ≡ None → (first_refusal xs ≡ None) × (first_refusal ys ≡ None)
+both_passed [] ys ok = (refl, ok)
+both_passed (x ∷ xs) ys ok = inner x.0 ok (both_passed xs ys)
+  where
+    inner : (b : Bool) → cond b (Some x.1) (first_refusal (xs ++ ys)) ≡ None → (first_refusal (xs ++ ys) ≡ None → (first_refusal xs ≡ None) × (first_refusal ys ≡ None))
+        → (cond b (Some x.1) (first_refusal xs) ≡ None) × (first_refusal ys ≡ None)
+    inner true failed rest = absurd (let differ : Some x.1 ≡ None = failed in cc)
+    inner false passed rest = rest passed
+
 -- ---- a clash
 
 module _ (r : Relations) (s : Code) (c : ℕ) (sat : Option Code) where

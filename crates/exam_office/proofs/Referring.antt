@@ -11,6 +11,7 @@ use Rattle.std.proofs.lemmas.Bool.{and_parts, and_from, not-false}
 use Rattle.std.proofs.lemmas.Map.Lookups.{CmpEqualImpliesEq, exact_pairs, exact_bytes, exact_unsigned}
 use Rattle.exam_types.specs.declared.refusal.Refusal.{Refusal}
 use Rattle.exam_types.specs.declared.refusal.Refusal.TheVariants as refusal
+use Rattle.exam_rules.specs.declared.rows.Appeal.{Appeal}
 use Rattle.exam_rules.specs.declared.rows.Subject.{Subject}
 use Rattle.exam_rules.specs.declared.rows.Subject.TheVariants as subject
 use Rattle.exam_rules.specs.Relations.{Code, Relations, code_cmp, entry_cmp, opening_cmp, has_row, put_row}
@@ -133,7 +134,7 @@ refers_more t u r grows p = record {
 
 -- ---- a checked row
 
-passed : (b : Bool) (e : Refusal) (checks : List (Bool × Refusal)) → first_refusal ((b, e) ∷ checks) ≡ None → (b ≡ false) × (first_refusal checks ≡ None)
+pub passed : (b : Bool) (e : Refusal) (checks : List (Bool × Refusal)) → first_refusal ((b, e) ∷ checks) ≡ None → (b ≡ false) × (first_refusal checks ≡ None)
 passed true e checks h = absurd (let k : Some e ≡ None = h in cc)
 passed false e checks h = (refl, h)
 
@@ -236,6 +237,21 @@ closing_refers r s h every =
       arrangements = q.arrangements;
       appeals = q.appeals;
     })
+
+-- appeals that refer to what is there
+pub appeals_refer_so : (r : Relations) (appeals : List ((ℕ × Code) × Appeal)) → good.refers r ≡ true → list_all (λ x. has_row nat_cmp r.candidates x.0.0 && good.appeal_refers r x.1) appeals ≡ true
+    → good.refers (record r { appeals = appeals }) ≡ true
+appeals_refer_so r appeals every all =
+    let p = parted r every in
+    joined (record r { appeals = appeals }) (record { papers = p.papers; openings = p.openings; entries = p.entries; arrangements = p.arrangements; appeals = all })
+
+pub stored_refer : (r : Relations) → good.refers r ≡ true → list_all (λ x. has_row nat_cmp r.candidates x.0.0 && good.appeal_refers r x.1) r.appeals ≡ true
+stored_refer r every = (parted r every).appeals
+
+-- an import keeps all candidates
+pub import_candidates : (r : Relations) (rows : List Row) (c : ℕ) → has_row nat_cmp r.candidates c ≡ true → has_row nat_cmp (with_rows r rows).candidates c ≡ true
+import_candidates r [] c has = has
+import_candidates r (x ∷ rows) c has = import_candidates (with_row r x) rows c ((grows_row r x).candidates c has)
 
 -- an import has no appeals
 appeals_row : (r : Relations) (x : Row) → (with_row r x).appeals ≡ r.appeals

@@ -13,12 +13,12 @@ use Rattle.exam_rules.specs.Names.{ListsRise}
 use Rattle.exam_office.specs.declared.import_row.Row.{Row}
 use Rattle.exam_office.specs.declared.command.Command.{Command}
 use Rattle.exam_office.specs.declared.command.Command.TheVariants as command
-use Rattle.exam_office.specs.Changes.{change, imported, unless, first_refusal, rows_refusal, with_rows, too_many}
+use Rattle.exam_office.specs.Changes.{imported, unless, first_refusal, rows_refusal, with_rows, too_many}
 use Rattle.exam_office.specs.Limits.{within_limits}
 use Rattle.exam_office.specs.Repairs.{IsRepaired}
 use Rattle.exam_office.specs.State.{State, Seats}
 use Rattle.exam_office.specs.Imports.{ImportRows}
-use Rattle.exam_office.specs.Steps.{SameSeating, SeatsOn, IsNextPlan, StepTo, Step, first_seated}
+use Rattle.exam_office.specs.Steps.{change, SameSeating, SeatsOn, IsNextPlan, StepTo, Step, first_seated}
 use Rattle.exam_office.specs.Good.{IsGood}
 use Rattle.exam_office.specs.Replies.{import_reply, reply_of}
 use Rattle.exam_office.specs.declared.command.Reply.{Reply}
@@ -61,14 +61,14 @@ next_plan done r t s before after up best made kept = record {
 
 -- ---- any command
 
-pub accepted_step : (done : Command) (today : ℕ) (before after : State) (t : Relations) → change done today before.relations ≡ Ok t → after.relations ≡ t → ((s : Code) → ListsRise t s) → IsGood before
+pub accepted_step : (done : Command) (today : ℕ) (before after : State) (t : Relations) → change done today before ≡ Ok t → after.relations ≡ t → ((s : Code) → ListsRise t s) → IsGood before
     → ((s : Code) → IsRepaired t (first_seated done) before.seats after.seats s) → ((s : Code) → SeatsOn done (seating t s) (plan_of before.seats s) (plan_of after.seats s))
-    → Step done today before (Ok (reply_of done before.relations)) after
+    → Step done today before (Ok (reply_of done before after)) after
 accepted_step done today before after t accepted facts up good plans kept =
-    subst (StepTo done before (Ok (reply_of done before.relations)) after) (sym accepted)
+    subst (StepTo done before (Ok (reply_of done before after)) after) (sym accepted)
     (facts, λ s. next_plan done before.relations t s before.seats after.seats (up s) (good.best s) (plans s) (kept s), refl)
 
-pub refused_step : (done : Command) (today : ℕ) (before : State) (e : Refusal) → change done today before.relations ≡ Err e → Step done today before (Err e) before
+pub refused_step : (done : Command) (today : ℕ) (before : State) (e : Refusal) → change done today before ≡ Err e → Step done today before (Err e) before
 refused_step done today before e refused = subst (StepTo done before (Err e) before) (sym refused) (refl, refl)
 
 -- ---- imports

@@ -7,8 +7,6 @@ use Rattle.exam_types.specs.declared.refusal.Refusal.TheVariants as refusal
 use Rattle.exam_rules.specs.Relations.{Code, Relations, code_cmp, opening_cmp, entry_cmp, has_row, put_row, remove_row}
 use Rattle.exam_rules.specs.Sessions.{is_live}
 use Rattle.exam_office.specs.Limits.{within_limits}
-use Rattle.exam_office.specs.declared.command.Command.{Command}
-use Rattle.exam_office.specs.declared.command.Command.TheVariants as command
 use Rattle.exam_office.specs.declared.import_row.Row.{Row}
 use Rattle.exam_office.specs.declared.import_row.Row.TheVariants as row
 
@@ -118,11 +116,3 @@ closing_refusal r s h = first_refusal (no_session r s ∷ no_hall r h ∷ not_op
 
 abbrev pub closed : Relations → Code → Code → Result Relations Refusal
 closed r s h = unless (closing_refusal r s h) (without_opening r s h)
-
--- ---- the change of a command, on a day: the new facts, or the refusal
-
-abbrev pub change : Command → ℕ → Relations → Result Relations Refusal
-change (command.Import import) today r = imported r import.rows
-change (command.Withdraw c p) today r = withdrawn r c p
-change (command.Reinstate c p) today r = reinstated r c p
-change (command.CloseHall s h) today r = closed r s h

@@ -9,7 +9,9 @@ use Rattle.exam_office.specs.declared.command.Command.{Command}
 use Rattle.exam_office.specs.declared.command.Command.TheVariants as command
 use Rattle.exam_office.specs.declared.command.Reply.{Reply}
 use Rattle.exam_office.specs.declared.command.Reply.TheVariants as reply
+use Rattle.exam_office.specs.Appeals.{stored_state}
 use Rattle.exam_office.specs.Imports.{distinct_rows}
+use Rattle.exam_office.specs.State.{State}
 use Rattle.exam_office.specs.SameRows.{same_arrangement, same_candidate, same_hall, same_opening, same_paper, same_session}
 
 -- whether the stored row is the same, if there is one
@@ -38,9 +40,11 @@ import_reply r rows = reply.Imported
     (length (filter (is_changed r) (distinct_rows rows)))
     (length (filter (is_same r) (distinct_rows rows)))
 
--- of an accepted command, from the facts before
-abbrev pub reply_of : Command → Relations → Reply
-reply_of (command.Import import) r = import_reply r import.rows
-reply_of (command.Withdraw c p) r = reply.Withdrawn
-reply_of (command.Reinstate c p) r = reply.Reinstated
-reply_of (command.CloseHall s h) r = reply.Closed
+-- of an accepted command, from the office before and after
+abbrev pub reply_of : Command → State → State → Reply
+reply_of (command.Import import) before after = import_reply before.relations import.rows
+reply_of (command.Withdraw c p) before after = reply.Withdrawn
+reply_of (command.Reinstate c p) before after = reply.Reinstated
+reply_of (command.CloseHall s h) before after = reply.Closed
+reply_of (command.Lodge l) before after = reply.Lodged (stored_state after.relations l.number l.reference)
+reply_of (command.Retract c reference) before after = reply.Retracted

@@ -9,9 +9,19 @@ use Rattle.exam_rules.specs.Seatings.{seating, plan_of}
 use Rattle.exam_office.specs.declared.command.Command.{Command}
 use Rattle.exam_office.specs.declared.command.Command.TheVariants as command
 use Rattle.exam_office.specs.declared.command.Reply.{Reply}
-use Rattle.exam_office.specs.Changes.{change}
+use Rattle.exam_office.specs.Changes.{closed, imported, reinstated, withdrawn}
+use Rattle.exam_office.specs.Lodgings.{lodged, retracted}
 use Rattle.exam_office.specs.Replies.{reply_of}
 use Rattle.exam_office.specs.State.{State}
+
+-- the change of a command, on a day: the new facts, or the refusal
+abbrev pub change : Command → ℕ → State → Result Relations Refusal
+change (command.Import import) today before = imported before.relations import.rows
+change (command.Withdraw c p) today before = withdrawn before.relations c p
+change (command.Reinstate c p) today before = reinstated before.relations c p
+change (command.CloseHall s h) today before = closed before.relations s h
+change (command.Lodge l) today before = lodged before.relations before.seats today l
+change (command.Retract c reference) today before = retracted before.relations c reference
 
 -- the candidate whom a command names
 abbrev pub IsNamed : Command → ℕ → Type 0
@@ -19,6 +29,8 @@ IsNamed (command.Import import) c = ⊥
 IsNamed (command.Withdraw d p) c = d ≡ c
 IsNamed (command.Reinstate d p) c = d ≡ c
 IsNamed (command.CloseHall s h) c = ⊥
+IsNamed (command.Lodge l) c = l.number ≡ c
+IsNamed (command.Retract d reference) c = d ≡ c
 
 -- Whom the new plan of a session seats for certain. After an import or the closing of a hall: those whom the
 -- repair does not put out. After any other command: everybody seated before who is still a member, but for the
@@ -28,6 +40,9 @@ SeatsOn (command.Import import) g before after = (c : ℕ) → IsSome (kept_part
 SeatsOn (command.Withdraw d p) g before after = Keeps (IsNamed (command.Withdraw d p)) g before after
 SeatsOn (command.Reinstate d p) g before after = Keeps (IsNamed (command.Reinstate d p)) g before after
 SeatsOn (command.CloseHall s h) g before after = (c : ℕ) → IsSome (kept_part g before c) → IsSome (after c)
+SeatsOn (command.Lodge l) g before after = Keeps (IsNamed (command.Lodge l)) g before after
+SeatsOn (command.Retract d reference) g before after =
+    Keeps (IsNamed (command.Retract d reference)) g before after
 
 -- the same members, fits and desks
 pub record SameSeating (a b : Seating ℕ Code) : Type 0 where
@@ -41,6 +56,8 @@ first_seated (command.Import import) = None
 first_seated (command.Withdraw d p) = None
 first_seated (command.Reinstate d p) = None
 first_seated (command.CloseHall s h) = None
+first_seated (command.Lodge l) = None
+first_seated (command.Retract d reference) = None
 
 -- the plan of one session after an accepted command
 pub record IsNextPlan (done : Command) (old new : Seating ℕ Code) (before after : Plan ℕ Code) : Type 0 where
@@ -55,11 +72,11 @@ StepTo done before reply after (Ok r) =
     (after.relations ≡ r)
     × ((s : Code) → IsNextPlan done (seating before.relations s) (seating r s)
     (plan_of before.seats s) (plan_of after.seats s))
-    × (reply ≡ Ok (reply_of done before.relations))
+    × (reply ≡ Ok (reply_of done before after))
 
 -- the command, on that day, leads from one state to the other with that reply
 abbrev pub Step : Command → ℕ → State → Result Reply Refusal → State → Type 0
-Step done today before reply after = StepTo done before reply after (change done today before.relations)
+Step done today before reply after = StepTo done before reply after (change done today before)
 
 -- the same, or want of memory, and then nothing has changed
 abbrev pub MayStep : Command → ℕ → State → Result Reply Refusal → State → Type 0

@@ -13,6 +13,10 @@ pub enum Command {
     Reinstate(Number, PaperCode),
     /// Closes the hall for the session.
     CloseHall(SessionCode, HallCode),
+    /// Lodges an appeal.
+    Lodge(Lodging),
+    /// Takes back the candidate's open appeal with the reference.
+    Retract(Number, Reference),
 }
 
 /// An appeal that a candidate lodges for a session, under a reference of their own.
@@ -58,4 +62,7 @@ pub enum Reply {
     Withdrawn,
     Reinstated,
     Closed,
+    /// Where the appeal stands: pending where it is a new one.
+    Lodged(AppealState),
+    Retracted,
 }

@@ -1,12 +1,15 @@
-//! Laws of offices and of imports.
+//! Laws of offices, of imports and of appeals.
 ghost use Rattle.std.specs.Prelude.{◌≡◌, ℕ, true, List, Result, Ok, length};
 ghost use Rattle.exam_types.specs.declared.refusal.Refusal.{Refusal};
 ghost use Rattle.exam_rules.specs.Orders.{AreInOrder};
 ghost use Rattle.exam_rules.specs.Relations.{Code, Relations};
+ghost use Rattle.exam_office.specs.declared.command.Command.{Command};
 ghost use Rattle.exam_office.specs.declared.command.Command.TheVariants as command;
+ghost use Rattle.exam_office.specs.declared.command.Lodging.{Lodging};
 ghost use Rattle.exam_office.specs.declared.command.Reply.{Reply};
 ghost use Rattle.exam_office.specs.declared.command.Reply.TheVariants as reply;
 ghost use Rattle.exam_office.specs.declared.import_row.Row.{Row};
+ghost use Rattle.exam_office.specs.Appeals.{stored_state};
 ghost use Rattle.exam_office.specs.Changes.{imported};
 ghost use Rattle.exam_office.specs.Good.{IsGood};
 ghost use Rattle.exam_office.specs.Headline.{IsSeated};
@@ -14,7 +17,7 @@ ghost use Rattle.exam_office.specs.Imports.{ImportRows, distinct_rows, is_consis
 ghost use Rattle.exam_office.specs.Orders.{IsInOrder};
 ghost use Rattle.exam_office.specs.Replies.{import_reply};
 ghost use Rattle.exam_office.specs.State.{State};
-ghost use Rattle.exam_office.specs.Steps.{Step};
+ghost use Rattle.exam_office.specs.Steps.{Run, Step};
 
 /// A good office whose tables are in order seats every session as promised: `Office::is_seated`. Every
 /// `Office` is good (`Office::is_good`) and in order (`Office::is_in_order`).
@@ -41,4 +44,40 @@ pub fn repeated_import_changes_nothing()
         → Step (command.Import import) day before (Ok first) mid
         → Step (command.Import import) later mid second after
         → (second ≡ Ok (reply.Imported 0 0 (length (distinct_rows import.rows)))) × (after ≡ mid) }
+{}
+
+/// After an accepted lodging the same lodging, at any later moment, on any day and after any commands
+/// between, changes nothing and answers where the appeal stands by then. Every `Office` is in order
+/// (`Office::is_in_order`).
+pub fn repeated_lodging_changes_nothing()
+    ensures { (lodging : Lodging) (day later : ℕ) (before mid late after : State) (first : Reply)
+        (done : List (Command × ℕ)) (replies : List (Result Reply Refusal)) (second : Result Reply Refusal)
+        → IsInOrder late → IsInOrder after
+        → Step (command.Lodge lodging) day before (Ok first) mid
+        → Run done mid replies late
+        → Step (command.Lodge lodging) later late second after
+        → (second ≡ Ok (reply.Lodged (stored_state late.relations lodging.number lodging.reference)))
+        × (after ≡ late) }
+{}
+
+/// The same of a retraction, which answers once more that the appeal is retracted.
+pub fn repeated_retraction_changes_nothing()
+    ensures { (number : ℕ) (reference : Code) (day later : ℕ) (before mid late after : State) (first : Reply)
+        (done : List (Command × ℕ)) (replies : List (Result Reply Refusal)) (second : Result Reply Refusal)
+        → IsInOrder late → IsInOrder after
+        → Step (command.Retract number reference) day before (Ok first) mid
+        → Run done mid replies late
+        → Step (command.Retract number reference) later late second after
+        → (second ≡ Ok reply.Retracted) × (after ≡ late) }
+{}
+
+/// A lodging and a retraction leave every plan as it is. Every `Office` is good (`Office::is_good`) and in
+/// order (`Office::is_in_order`).
+pub fn lodging_and_retracting_move_nobody()
+    ensures lodging { (lodging : Lodging) (day : ℕ) (before after : State) (first : Reply)
+        → IsGood before → IsInOrder before → IsInOrder after
+        → Step (command.Lodge lodging) day before (Ok first) after → after.seats ≡ before.seats }
+    ensures retracting { (number : ℕ) (reference : Code) (day : ℕ) (before after : State) (first : Reply)
+        → IsGood before → IsInOrder before → IsInOrder after
+        → Step (command.Retract number reference) day before (Ok first) after → after.seats ≡ before.seats }
 {}

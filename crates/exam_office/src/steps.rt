@@ -11,16 +11,19 @@ ghost use Rattle.exam_office.specs.Headline.{IsSeated};
 ghost use Rattle.exam_office.specs.Steps as steps;
 ghost use Rattle.exam_office.specs.declared.command.Command.TheVariants as variant;
 
+use crate::appeals::stored_state;
 use crate::changes::imported;
 use crate::closing::closed;
-use crate::command::{Command, Reply};
+use crate::command::{Command, Lodging, Reply};
 use crate::entries::{reinstated, withdrawn};
 use crate::import::Import;
 use crate::limits::is_within_limits;
+use crate::lodging::lodged;
 use crate::office::{Office, Seats};
 use crate::repair::repaired;
+use crate::retracting::retracted;
 use exam_rules::{Facts, session_lists};
-use exam_types::{Day, HallCode, Number, PaperCode, Refusal, SessionCode};
+use exam_types::{Day, HallCode, Number, PaperCode, Reference, Refusal, SessionCode};
 use std::alloc::Global;
 
 /// Carries out a command on a day, or refuses it; after a refusal the office is as before.
@@ -83,6 +86,10 @@ pub fn next_office(
         }
         Command::CloseHall(session, hall) => {
             with_closed_hall(alloc, office, *session, *hall, today)
+        }
+        Command::Lodge(lodging) => with_lodging(alloc, office, lodging, today),
+        Command::Retract(number, reference) => {
+            with_retraction(alloc, office, *number, *reference, today)
         }
     }
 }
@@ -160,6 +167,44 @@ fn with_closed_hall(
     office.is_good();
     let facts = closed(office.facts(), session, hall)?;
     Ok((resettled(alloc, facts, office, None)?, Reply::Closed))
+}
+
+/// The office after the lodging of an appeal. Everybody keeps their place.
+fn with_lodging(
+    alloc: Global,
+    office: &Office,
+    lodging: &Lodging,
+    today: Day,
+) -> Result<(Office, Reply), Refusal>
+    ensures ok { IfOk result (λ next. steps.Step (variant.Lodge lodging.now) today office.now
+        (Ok next.1) next.0) }
+    ensures refusal { IfErr result (λ e. (e ≡ NoMemory)
+        ⊎ steps.Step (variant.Lodge lodging.now) today office.now (Err e) office.now) }
+{
+    office.is_good();
+    let facts = lodged(office.facts(), office.seats(), today, lodging)?;
+    let state = stored_state(&facts, lodging.number, lodging.reference);
+    Ok((resettled(alloc, facts, office, None)?, Reply::Lodged(state)))
+}
+
+/// The office after the retraction of an appeal. It passes no limit, and everybody keeps their place.
+fn with_retraction(
+    alloc: Global,
+    office: &Office,
+    number: Number,
+    reference: Reference,
+    today: Day,
+) -> Result<(Office, Reply), Refusal>
+    ensures ok { IfOk result (λ next.
+        steps.Step (variant.Retract number reference) today office.now (Ok next.1) next.0) }
+    ensures refusal { IfErr result (λ e. (e ≡ NoMemory)
+        ⊎ steps.Step (variant.Retract number reference) today office.now (Err e) office.now) }
+{
+    let _ = today;
+    office.is_good();
+    office.is_in_order();
+    let facts = retracted(office.facts(), number, reference)?;
+    Ok((resettled(alloc, facts, office, None)?, Reply::Retracted))
 }
 
 /// The office with these facts, where each session's plan is repaired, the first candidate first where they

@@ -3,6 +3,7 @@
 //!
 //! A test is data: it names the facts of an office, the imports and what is so after each. So the functions
 //! that own an office, its facts or an import are few, and each is proved once.
+mod appeals;
 mod commands;
 mod limits;
 mod lines;

@@ -1,7 +1,7 @@
 //! What happens to an office, in words.
 use super::lines::{Line, hall, import_of, number, paper, session};
-use super::setups::{Fact, Sitting, office_of};
-use crate::{Command, Kind, Office, Reply, run, step};
+use super::setups::{Fact, Grant, Sitting, office_of, reason, reference, subject_of};
+use crate::{Command, Kind, Lodging, Office, Reply, run, step};
 use exam_types::{Day, HallCode, Refusal};
 use std::alloc::Global;
 use std::process::Abort;
@@ -13,6 +13,19 @@ pub enum Order<'a> {
     Withdraw(u32, &'a str),
     Reinstate(u32, &'a str),
     CloseHall(&'a str, &'a str),
+    Lodge(Plea<'a>),
+    Retract(u32, &'a str),
+}
+
+/// An appeal as it is lodged on a day.
+#[derive(Clone, Copy)]
+pub struct Plea<'a> {
+    pub on: &'a str,
+    pub number: u32,
+    pub reference: &'a str,
+    pub session: &'a str,
+    pub subject: Grant<'a>,
+    pub reason: &'a str,
 }
 
 /// A command or a look at the office.
@@ -32,6 +45,8 @@ pub enum Scene<'a> {
     EntryCount(usize),
     /// How many sit, over all sessions.
     SeatCount(usize),
+    /// How many appeals there are, whatever became of them.
+    AppealCount(usize),
 }
 
 /// What an accepted import answers: how many keys it adds, changes and finds the same.
@@ -59,11 +74,38 @@ fn answer_of(
     Ok(step(alloc, office, &command, today))
 }
 
-fn command_of(order: Order) -> Result<Command, Fail> {
+fn day(text: &str) -> Result<Day, Fail> {
+    Ok(Day::parse(text.as_bytes()).ok_or("day")?)
+}
+
+fn day_of(order: Order) -> Result<Day, Fail> {
+    match order {
+        Order::Lodge(plea) => day(plea.on),
+        _ => today(),
+    }
+}
+
+fn lodging_of(alloc: Global, plea: Plea) -> Result<Lodging, Fail> {
+    let number = number(plea.number)?;
+    let reference = reference(plea.reference)?;
+    let session = session(plea.session)?;
+    let subject = subject_of(plea.subject)?;
+    Ok(Lodging {
+        number,
+        reference,
+        session,
+        subject,
+        reason: reason(alloc, plea.reason)?,
+    })
+}
+
+fn command_of(alloc: Global, order: Order) -> Result<Command, Fail> {
     match order {
         Order::Withdraw(value, code) => Ok(Command::Withdraw(number(value)?, paper(code)?)),
         Order::Reinstate(value, code) => Ok(Command::Reinstate(number(value)?, paper(code)?)),
         Order::CloseHall(of, code) => Ok(Command::CloseHall(session(of)?, hall(code)?)),
+        Order::Lodge(plea) => Ok(Command::Lodge(lodging_of(alloc, plea)?)),
+        Order::Retract(value, code) => Ok(Command::Retract(number(value)?, reference(code)?)),
     }
 }
 
@@ -73,8 +115,9 @@ fn expect_order<R: Abort + AllocGlobal>(
     order: Order,
     wanted: Result<Reply, Refusal>,
 ) -> Result<(), Fail> {
-    let command = command_of(order)?;
-    assert_eq!(rt; step(rt.alloc(), office, &command, today()?), wanted);
+    let command = command_of(rt.alloc(), order)?;
+    let today = day_of(order)?;
+    assert_eq!(rt; step(rt.alloc(), office, &command, today), wanted);
     Ok(())
 }
 
@@ -132,6 +175,10 @@ fn take<R: Abort + AllocGlobal>(rt: &R, office: &mut Office, scene: &Scene) -> R
         }
         Scene::EntryCount(count) => {
             assert_eq!(rt; office.facts().entries.len(), *count);
+            Ok(())
+        }
+        Scene::AppealCount(count) => {
+            assert_eq!(rt; office.facts().appeals.len(), *count);
             Ok(())
         }
         Scene::SeatCount(count) => {

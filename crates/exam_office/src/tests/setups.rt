@@ -7,7 +7,7 @@ use std::alloc::Global;
 use std::collections::BTreeMap;
 use std::test::Fail;
 
-/// What an appeal was granted.
+/// What an appeal asks for, or was granted.
 #[derive(Clone, Copy)]
 pub enum Grant<'a> {
     AnotherHallThan(&'a str),
@@ -117,7 +117,7 @@ fn add_range(
     Ok(())
 }
 
-fn subject_of(grant: Grant) -> Result<Subject, Fail> {
+pub fn subject_of(grant: Grant) -> Result<Subject, Fail> {
     match grant {
         Grant::AnotherHallThan(code) => Ok(Subject::Hall(hall(code)?)),
         Grant::Paper(code) => Ok(Subject::Clash(paper(code)?)),
@@ -125,8 +125,12 @@ fn subject_of(grant: Grant) -> Result<Subject, Fail> {
     }
 }
 
-fn reason(alloc: Global, text: &str) -> Result<Reason, Fail> {
+pub fn reason(alloc: Global, text: &str) -> Result<Reason, Fail> {
     Ok(Reason::parse(alloc, text.as_bytes())?.ok_or("reason")?)
+}
+
+pub fn reference(code: &str) -> Result<Reference, Fail> {
+    Ok(Reference::parse(code.as_bytes()).ok_or("reference")?)
 }
 
 fn granted(alloc: Global, subject: Subject) -> Result<Appeal, Fail> {
@@ -149,8 +153,7 @@ fn add_grant(
     code: &str,
     grant: Grant,
 ) -> Result<(), Fail> {
-    let reference = Reference::parse(code.as_bytes()).ok_or("reference")?;
-    let key = (number(value)?, reference);
+    let key = (number(value)?, reference(code)?);
     let appeal = granted(alloc, subject_of(grant)?)?;
     facts.appeals.insert(key, appeal)?;
     Ok(())

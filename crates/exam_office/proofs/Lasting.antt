@@ -1,0 +1,343 @@
+-- An appeal once stored stays stored, with what it asks, and once retracted it stays so: whatever comes after, the same lodging
+-- and the same retraction change nothing. And neither moves anybody.
+use Rattle.std.proofs.Common.{◌≡◌, ℕ, ◌&&◌, not, Bool, true, false, cond, List, [], ◌∷◌, ◌++◌, Option, None, Some, Result, Ok, Err, is_none, is_some, eq-eqb, nat_eq, refl, ap, sym, subst, ◌∙◌, ◌⊎◌, inl, inr}
+use Rattle.std.specs.BTreeMap.{is_at}
+use Rattle.std.specs.Cmp.{Equal-is}
+use Rattle.std.specs.Option.{option_or}
+use Rattle.std.specs.Ordering.{nat_cmp}
+use Rattle.std.proofs.lemmas.Bool.{and_from, not-false}
+use Rattle.exam_types.proofs.FeatureFacts.{same_features-itself}
+use Rattle.exam_types.specs.declared.refusal.Refusal.{Refusal}
+use Rattle.exam_types.specs.declared.refusal.Refusal.TheVariants as refusal
+use Rattle.exam_rules.specs.declared.rows.Appeal.{Appeal}
+use Rattle.exam_rules.specs.declared.rows.Status.{Status}
+use Rattle.exam_rules.specs.declared.rows.Status.TheVariants as status
+use Rattle.exam_rules.specs.declared.rows.Subject.{Subject}
+use Rattle.exam_rules.specs.declared.rows.Subject.TheVariants as subject
+use Rattle.exam_rules.specs.Relations.{Code, Relations, appeal_cmp, has_row, put_row, row_at, same_code, seat_cmp}
+use Rattle.exam_rules.specs.Seatings.{seating}
+use Rattle.exam_rules.proofs.Naming.{same_code_itself}
+use Rattle.exam_office.specs.declared.command.Command.{Command}
+use Rattle.exam_office.specs.declared.command.Command.TheVariants as command
+use Rattle.exam_office.specs.declared.command.Lodging.{Lodging}
+use Rattle.exam_office.specs.declared.command.Reply.{Reply}
+use Rattle.exam_office.specs.declared.command.Reply.TheVariants as reply
+use Rattle.exam_office.specs.Appeals.{appeal_at, is_open, is_retracted, same_subject, stored_state}
+use Rattle.exam_office.specs.Changes.{closing_refusal, first_refusal, import_refusal, reinstatement_refusal, unless, with_live, with_rows, without_opening, withdrawal_refusal}
+use Rattle.exam_office.specs.Good.{IsGood}
+use Rattle.exam_office.specs.Limits.{within_limits}
+use Rattle.exam_office.specs.Lodgings as spec
+use Rattle.exam_office.specs.Orders.{IsInOrder}
+use Rattle.exam_office.specs.State.{State}
+use Rattle.exam_office.specs.Steps.{MayStep, Run, SameSeating, Step, StepTo, change}
+use Rattle.exam_office.proofs.Appealing.{appeals_exact}
+use Rattle.exam_office.proofs.AppealSteps.{appeals_total, lodging_settled, retraction_settled}
+use Rattle.exam_office.proofs.Referring.{import_appeals, import_candidates, neither, passed}
+use Rattle.exam_office.proofs.Repeating.{put_found, put_stays, same_rows}
+use Rattle.exam_office.proofs.SameSeats.{seats_exact, seats_total}
+
+-- ---- an appeal and what becomes of it
+
+-- it asks the same, and a retracted one stays so
+record Continues (a b : Appeal) : Type 0 where
+  session : b.session ≡ a.session
+  subject : b.subject ≡ a.subject
+  reason : b.reason ≡ a.reason
+  retracted : a.status ≡ status.Retracted → b.status ≡ status.Retracted
+
+continues_itself : (a : Appeal) → Continues a a
+continues_itself a = record { session = refl; subject = refl; reason = refl; retracted = λ is. is }
+
+-- an appeal at the key, which continues this one
+record GoesOn (r : Relations) (k : ℕ × Code) (a : Appeal) : Type 0 where
+  then : Appeal
+  stored : row_at appeal_cmp r.appeals k ≡ Some then
+  continues : Continues a then
+
+-- every candidate and every appeal is there still
+record Carries (r t : Relations) : Type 0 where
+  candidates : (c : ℕ) → has_row nat_cmp r.candidates c ≡ true → has_row nat_cmp t.candidates c ≡ true
+  appeals : (k : ℕ × Code) (a : Appeal) → row_at appeal_cmp r.appeals k ≡ Some a → GoesOn t k a
+
+carries_itself : (r : Relations) → Carries r r
+carries_itself r = record { candidates = λ c has. has; appeals = λ k a at. record { then = a; stored = at; continues = continues_itself a } }
+
+carries_both : (r t u : Relations) → Carries r t → Carries t u → Carries r u
+carries_both r t u one two = record {
+  candidates = λ c has. two.candidates c (one.candidates c has);
+  appeals = λ k a at.
+      let first = one.appeals k a at in
+      let second = two.appeals k first.then first.stored in
+      record {
+        then = second.then;
+        stored = second.stored;
+        continues = record {
+          session = second.continues.session ∙ first.continues.session;
+          subject = second.continues.subject ∙ first.continues.subject;
+          reason = second.continues.reason ∙ first.continues.reason;
+          retracted = λ is. second.continues.retracted (first.continues.retracted is);
+        };
+      };
+}
+
+carries_put : (r : Relations) (k : ℕ × Code) (new : Appeal) → ((a : Appeal) → row_at appeal_cmp r.appeals k ≡ Some a → Continues a new) → Carries r (record r { appeals = put_row appeal_cmp r.appeals k new })
+carries_put r k new continues = record { candidates = λ c has. has; appeals = λ q a at. inner q a at (is_at (appeal_cmp k) q) refl }
+  where
+    inner : (q : ℕ × Code) (a : Appeal) → row_at appeal_cmp r.appeals q ≡ Some a → (b : Bool) → is_at (appeal_cmp k) q ≡ b → GoesOn (record r { appeals = put_row appeal_cmp r.appeals k new }) q a
+    inner q a at true here =
+        let same : k ≡ q = appeals_exact k q ((Equal-is (appeal_cmp k q)).0 here) in
+        record {
+          then = new;
+          stored = ap (λ z. row_at appeal_cmp (put_row appeal_cmp r.appeals k new) z) (sym same) ∙ put_found appeal_cmp appeals_total r.appeals k new;
+          continues = continues a (ap (λ z. row_at appeal_cmp r.appeals z) same ∙ at);
+        }
+    inner q a at false away = record {
+      then = a;
+      stored = put_stays appeal_cmp appeals_total r.appeals k q new a (λ here. absurd (let differ : true ≡ false = sym here ∙ away in cc)) at;
+      continues = continues_itself a;
+    }
+
+-- ---- by a command
+
+made : (o : Option Refusal) (r t : Relations) → unless o r ≡ Ok t → r ≡ t
+made None r t is = cc
+made (Some e) r t is = absurd (let differ : unless (Some e) r ≡ Ok t = is in cc)
+
+unrefused : (o : Option Refusal) (r t : Relations) → unless o r ≡ Ok t → o ≡ None
+unrefused None r t is = refl
+unrefused (Some e) r t is = absurd (let differ : unless (Some e) r ≡ Ok t = is in cc)
+
+carries_import : (r t : Relations) → ((c : ℕ) → has_row nat_cmp r.candidates c ≡ true → has_row nat_cmp t.candidates c ≡ true) → t.appeals ≡ r.appeals → Carries r t
+carries_import r t grows same = record {
+  candidates = grows;
+  appeals = λ k a at. record { then = a; stored = ap (λ rows. row_at appeal_cmp rows k) same ∙ at; continues = continues_itself a };
+}
+
+lodging_carries : (r : Relations) (day : ℕ) (l : Lodging) → Carries r (spec.with_lodging r day l)
+lodging_carries r day l = inner (appeal_at r l.number l.reference) refl
+  where
+    inner : (o : Option Appeal) → appeal_at r l.number l.reference ≡ o → Carries r (cond (is_none o) (spec.with_appeal r day l) r)
+    inner None none = carries_put r (l.number, l.reference) _ (λ a at. absurd (let differ : None ≡ Some a = sym none ∙ at in cc))
+    inner (Some a) at = carries_itself r
+
+retraction_carries : (r : Relations) (c : ℕ) (reference : Code) → Carries r (spec.with_retraction r c reference)
+retraction_carries r c reference = inner (appeal_at r c reference) refl
+  where
+    by_status : (a : Appeal) → appeal_at r c reference ≡ Some a → (b : Bool) → Carries r (cond b r (spec.with_retracted_appeal r c reference a))
+    by_status a at true = carries_itself r
+    by_status a at false = carries_put r (c, reference) (record a { status = status.Retracted }) (λ b is.
+        let both : Some a ≡ Some b = sym at ∙ is in
+        let same : a ≡ b = cc in
+        record {
+          session = ap (λ (x : Appeal). x.session) same;
+          subject = ap (λ (x : Appeal). x.subject) same;
+          reason = ap (λ (x : Appeal). x.reason) same;
+          retracted = λ was. refl;
+        })
+
+    inner : (o : Option Appeal) → appeal_at r c reference ≡ o → Carries r (spec.with_retracted r c reference o)
+    inner None none = carries_itself r
+    inner (Some a) at = by_status a at (is_retracted a.status)
+
+change_carries : (done : Command) (day : ℕ) (before : State) (t : Relations) → change done day before ≡ Ok t → Carries before.relations t
+change_carries (command.Import import) day before t is =
+    let new = made (import_refusal before.relations import.rows) (with_rows before.relations import.rows) t is in
+    subst (Carries before.relations) new (carries_import before.relations (with_rows before.relations import.rows) (import_candidates before.relations import.rows) (import_appeals before.relations import.rows))
+change_carries (command.Withdraw c p) day before t is =
+    subst (Carries before.relations) (made (withdrawal_refusal before.relations c p) (with_live before.relations c p false) t is) (carries_import before.relations (with_live before.relations c p false) (λ d has. has) refl)
+change_carries (command.Reinstate c p) day before t is =
+    subst (Carries before.relations) (made (reinstatement_refusal before.relations c p) (with_live before.relations c p true) t is) (carries_import before.relations (with_live before.relations c p true) (λ d has. has) refl)
+change_carries (command.CloseHall s h) day before t is =
+    subst (Carries before.relations) (made (closing_refusal before.relations s h) (without_opening before.relations s h) t is) (carries_import before.relations (without_opening before.relations s h) (λ d has. has) refl)
+change_carries (command.Lodge l) day before t is =
+    subst (Carries before.relations) (made (spec.lodging_refusal before.relations before.seats day l) (spec.with_lodging before.relations day l) t is) (lodging_carries before.relations day l)
+change_carries (command.Retract c reference) day before t is =
+    subst (Carries before.relations) (made (spec.retraction_refusal before.relations c reference) (spec.with_retraction before.relations c reference) t is) (retraction_carries before.relations c reference)
+
+step_carries : (done : Command) (day : ℕ) (before : State) (answer : Result Reply Refusal) (after : State) → Step done day before answer after → Carries before.relations after.relations
+step_carries done day before answer after step = inner (change done day before) refl step
+  where
+    inner : (o : Result Relations Refusal) → change done day before ≡ o → StepTo done before answer after o → Carries before.relations after.relations
+    inner (Ok t) is to = subst (Carries before.relations) (sym to.0) (change_carries done day before t is)
+    inner (Err e) is to = subst (λ (x : State). Carries before.relations x.relations) (sym to.1) (carries_itself before.relations)
+
+run_carries : (done : List (Command × ℕ)) (before : State) (replies : List (Result Reply Refusal)) (after : State) → Run done before replies after → Carries before.relations after.relations
+run_carries [] before [] after same = subst (λ (x : State). Carries before.relations x.relations) (sym same) (carries_itself before.relations)
+run_carries [] before (q ∷ replies) after never = absurd never
+run_carries (x ∷ done) before [] after never = absurd never
+run_carries (x ∷ done) before (q ∷ replies) after run =
+    carries_both before.relations run.0.relations after.relations (first run.1) (run_carries done run.0 replies after run.2)
+  where
+    first : {mid : State} → MayStep x.0 x.1 before q mid → Carries before.relations mid.relations
+    first {mid} (inl memory) = subst (λ (y : State). Carries before.relations y.relations) (sym memory.1) (carries_itself before.relations)
+    first {mid} (inr step) = step_carries x.0 x.1 before q mid step
+
+-- ---- steps that change nothing
+
+new_facts : (done : Command) (day : ℕ) (before : State) (answer : Reply) (after : State) → Step done day before (Ok answer) after → change done day before ≡ Ok after.relations
+new_facts done day before answer after step = inner (change done day before) refl step
+  where
+    inner : (o : Result Relations Refusal) → change done day before ≡ o → StepTo done before (Ok answer) after o → o ≡ Ok after.relations
+    inner (Ok t) is to = ap Ok (sym to.0)
+    inner (Err e) is to = absurd (let differ : Ok answer ≡ Err e = to.0 in cc)
+
+same_office : (done : Command) (before : State) (answer : Result Reply Refusal) (after : State) → IsInOrder before → IsInOrder after → StepTo done before answer after (Ok before.relations) → after ≡ before
+same_office done before answer after up up_after to =
+    let same : after.seats ≡ before.seats = same_rows seat_cmp seats_total seats_exact after.seats before.seats up_after.seats up.seats
+    (λ q. (to.1 q.0).untouched (record { members = refl; fits = λ c h. refl; desks = λ h. refl }) q.1) in
+    λ i. record { relations = to.0 i; seats = same i }
+
+-- ---- lodging once more
+
+subject_itself : (asked : Subject) → same_subject asked asked ≡ true
+subject_itself (subject.Hall h) = same_code_itself h
+subject_itself (subject.Clash p) = same_code_itself p
+subject_itself (subject.Arrangement a) = and_from _ _ (same_features-itself a.needs) (eq-eqb a.extra a.extra refl)
+
+record IsLodged (r : Relations) (l : Lodging) : Type 0 where
+  candidate : has_row nat_cmp r.candidates l.number ≡ true
+  appeal : Appeal
+  stored : appeal_at r l.number l.reference ≡ Some appeal
+  same : spec.is_same_lodging l appeal ≡ true
+
+module _ (l : Lodging) where
+  lodged_still : (r t : Relations) → Carries r t → IsLodged r l → IsLodged t l
+  lodged_still r t carries is =
+      let on = carries.appeals (l.number, l.reference) is.appeal is.stored in
+      record {
+        candidate = carries.candidates l.number is.candidate;
+        appeal = on.then;
+        stored = on.stored;
+        same = ap (λ s. same_code l.session s && (same_subject l.subject on.then.subject && same_code l.reason on.then.reason)) on.continues.session
+            ∙ ap (λ s. same_code l.session is.appeal.session && (same_subject l.subject s && same_code l.reason on.then.reason)) on.continues.subject
+            ∙ ap (λ s. same_code l.session is.appeal.session && (same_subject l.subject is.appeal.subject && same_code l.reason s)) on.continues.reason
+            ∙ is.same;
+      }
+
+  lodged_then : (day : ℕ) (before : State) → spec.standing_refusal before.relations before.seats day l ≡ None → IsLodged (spec.with_lodging before.relations day l) l
+  lodged_then day before ok = inner (appeal_at before.relations l.number l.reference) refl
+    where
+      inner : (o : Option Appeal) → appeal_at before.relations l.number l.reference ≡ o → IsLodged (spec.with_lodging before.relations day l) l
+      inner None none =
+          let first = passed (not (has_row nat_cmp before.relations.candidates l.number)) refusal.UnknownCandidate (spec.lodging_checks before.relations before.seats day l (appeal_at before.relations l.number l.reference)) ok in
+          let new : Appeal = record { session = l.session; subject = l.subject; reason = l.reason; status = status.Pending; lodged = day } in
+          subst (λ t. IsLodged t l) (sym (ap (λ o. cond (is_none o) (spec.with_appeal before.relations day l) before.relations) none))
+          (record {
+            candidate = not-false (has_row nat_cmp before.relations.candidates l.number) first.0;
+            appeal = new;
+            stored = put_found appeal_cmp appeals_total before.relations.appeals (l.number, l.reference) new;
+            same = and_from _ _ (same_code_itself l.session) (and_from _ _ (subject_itself l.subject) (same_code_itself l.reason));
+          })
+      inner (Some a) at =
+          let first = passed (not (has_row nat_cmp before.relations.candidates l.number)) refusal.UnknownCandidate (spec.lodging_checks before.relations before.seats day l (appeal_at before.relations l.number l.reference)) ok in
+          let checks : first_refusal (spec.lodging_checks before.relations before.seats day l (Some a)) ≡ None = ap (λ o. first_refusal (spec.lodging_checks before.relations before.seats day l o)) (sym at) ∙ first.1 in
+          subst (λ t. IsLodged t l) (sym (ap (λ o. cond (is_none o) (spec.with_appeal before.relations day l) before.relations) at))
+          (record {
+            candidate = not-false (has_row nat_cmp before.relations.candidates l.number) first.0;
+            appeal = a;
+            stored = at;
+            same = not-false (spec.is_same_lodging l a) (passed (not (spec.is_same_lodging l a)) refusal.RefTaken [] checks).0;
+          })
+
+  lodged_again : (day : ℕ) (late : State) → IsLodged late.relations l → change (command.Lodge l) day late ≡ Ok late.relations
+  lodged_again day late is =
+      let r = late.relations in
+      let limit = first_refusal (spec.one_too_many r day l ∷ []) in
+      ap (λ b. unless (option_or (cond (not b) (Some refusal.UnknownCandidate) (first_refusal (spec.lodging_checks r late.seats day l (appeal_at r l.number l.reference)))) limit) (spec.with_lodging r day l)) is.candidate
+      ∙ ap (λ o. unless (option_or (first_refusal (spec.lodging_checks r late.seats day l o)) limit) (spec.with_lodging r day l)) is.stored
+      ∙ ap (λ b. unless (option_or (cond (not b) (Some refusal.RefTaken) None) limit) (spec.with_lodging r day l)) is.same
+      ∙ by_stored r (appeal_at r l.number l.reference) is.stored
+    where
+      by_stored : (r : Relations) (o : Option Appeal) → o ≡ Some is.appeal
+          → unless (cond (is_none o && not (within_limits (spec.with_appeal r day l))) (Some refusal.TooMany) None) (cond (is_none o) (spec.with_appeal r day l) r) ≡ Ok r
+      by_stored r o at = ap (λ o. unless (cond (is_none o && not (within_limits (spec.with_appeal r day l))) (Some refusal.TooMany) None) (cond (is_none o) (spec.with_appeal r day l) r)) at
+
+pub repeated_lodging : (l : Lodging) (day later : ℕ) (before mid late after : State) (first : Reply) (done : List (Command × ℕ)) (replies : List (Result Reply Refusal)) (second : Result Reply Refusal)
+    → IsInOrder late → IsInOrder after → Step (command.Lodge l) day before (Ok first) mid → Run done mid replies late → Step (command.Lodge l) later late second after
+    → (second ≡ Ok (reply.Lodged (stored_state late.relations l.number l.reference))) × (after ≡ late)
+repeated_lodging l day later before mid late after first done replies second up up_after one run two =
+    let changed = new_facts (command.Lodge l) day before first mid one in
+    let refused = spec.lodging_refusal before.relations before.seats day l in
+    let none = unrefused refused (spec.with_lodging before.relations day l) mid.relations changed in
+    let standing = neither (spec.standing_refusal before.relations before.seats day l) (first_refusal (spec.one_too_many before.relations day l ∷ [])) none in
+    let there : IsLodged mid.relations l = subst (λ t. IsLodged t l) (made refused (spec.with_lodging before.relations day l) mid.relations changed) (lodged_then l day before standing.0) in
+    let still = lodged_still l mid.relations late.relations (run_carries done mid replies late run) there in
+    let to : StepTo (command.Lodge l) late second after (Ok late.relations) = subst (StepTo (command.Lodge l) late second after) (lodged_again l later late still) two in
+    (to.2 ∙ ap (λ (r : Relations). Ok (reply.Lodged (stored_state r l.number l.reference))) to.0, same_office (command.Lodge l) late second after up up_after to)
+
+-- ---- retracting once more
+
+record IsRetractedAt (r : Relations) (c : ℕ) (reference : Code) : Type 0 where
+  appeal : Appeal
+  stored : appeal_at r c reference ≡ Some appeal
+  retracted : appeal.status ≡ status.Retracted
+
+retracted_is : (st : Status) → is_retracted st ≡ true → st ≡ status.Retracted
+retracted_is status.Pending is = absurd (let differ : false ≡ true = is in cc)
+retracted_is (status.Granted answer) is = absurd (let differ : false ≡ true = is in cc)
+retracted_is (status.Refused answer) is = absurd (let differ : false ≡ true = is in cc)
+retracted_is status.Retracted is = refl
+retracted_is (status.Superseded answer) is = absurd (let differ : false ≡ true = is in cc)
+
+module _ (c : ℕ) (reference : Code) where
+  retracted_still : (r t : Relations) → Carries r t → IsRetractedAt r c reference → IsRetractedAt t c reference
+  retracted_still r t carries is =
+      let on = carries.appeals (c, reference) is.appeal is.stored in
+      record { appeal = on.then; stored = on.stored; retracted = on.continues.retracted is.retracted }
+
+  retracted_then : (r : Relations) → spec.retraction_refusal r c reference ≡ None → IsRetractedAt (spec.with_retraction r c reference) c reference
+  retracted_then r ok = inner (appeal_at r c reference) refl
+    where
+      by_status : (a : Appeal) → appeal_at r c reference ≡ Some a → (b : Bool) → is_retracted a.status ≡ b → IsRetractedAt (cond b r (spec.with_retracted_appeal r c reference a)) c reference
+      by_status a at true is = record { appeal = a; stored = at; retracted = retracted_is a.status is }
+      by_status a at false is = record {
+        appeal = record a { status = status.Retracted };
+        stored = put_found appeal_cmp appeals_total r.appeals (c, reference) (record a { status = status.Retracted });
+        retracted = refl;
+      }
+
+      inner : (o : Option Appeal) → appeal_at r c reference ≡ o → IsRetractedAt (spec.with_retraction r c reference) c reference
+      inner None none = absurd (let differ : Some refusal.UnknownAppeal ≡ None = ap (λ o. first_refusal (spec.retraction_checks o)) (sym none) ∙ ok in cc)
+      inner (Some a) at = subst (λ t. IsRetractedAt t c reference) (sym (ap (spec.with_retracted r c reference) at)) (by_status a at (is_retracted a.status) refl)
+
+  retracted_again : (day : ℕ) (late : State) → IsRetractedAt late.relations c reference → change (command.Retract c reference) day late ≡ Ok late.relations
+  retracted_again day late is =
+      let r = late.relations in
+      ap (λ o. unless (first_refusal (spec.retraction_checks o)) (spec.with_retracted r c reference o)) is.stored
+      ∙ ap (λ st. unless (cond (not (is_open st) && not (is_retracted st)) (Some refusal.NotOpenAppeal) None) (cond (is_retracted st) r (spec.with_retracted_appeal r c reference is.appeal))) is.retracted
+
+pub repeated_retraction : (c : ℕ) (reference : Code) (day later : ℕ) (before mid late after : State) (first : Reply) (done : List (Command × ℕ)) (replies : List (Result Reply Refusal)) (second : Result Reply Refusal)
+    → IsInOrder late → IsInOrder after → Step (command.Retract c reference) day before (Ok first) mid → Run done mid replies late → Step (command.Retract c reference) later late second after
+    → (second ≡ Ok reply.Retracted) × (after ≡ late)
+repeated_retraction c reference day later before mid late after first done replies second up up_after one run two =
+    let changed = new_facts (command.Retract c reference) day before first mid one in
+    let refused = spec.retraction_refusal before.relations c reference in
+    let none = unrefused refused (spec.with_retraction before.relations c reference) mid.relations changed in
+    let there : IsRetractedAt mid.relations c reference = subst (λ t. IsRetractedAt t c reference) (made refused (spec.with_retraction before.relations c reference) mid.relations changed) (retracted_then c reference before.relations none) in
+    let still = retracted_still c reference mid.relations late.relations (run_carries done mid replies late run) there in
+    let to : StepTo (command.Retract c reference) late second after (Ok late.relations) = subst (StepTo (command.Retract c reference) late second after) (retracted_again c reference later late still) two in
+    (to.2, same_office (command.Retract c reference) late second after up up_after to)
+
+-- ---- nobody moves
+
+same_seats : (done : Command) (before : State) (answer : Result Reply Refusal) (after : State) (t : Relations) → ((s : Code) → SameSeating (seating before.relations s) (seating t s))
+    → IsInOrder before → IsInOrder after → StepTo done before answer after (Ok t) → after.seats ≡ before.seats
+same_seats done before answer after t same up up_after to =
+    same_rows seat_cmp seats_total seats_exact after.seats before.seats up_after.seats up.seats (λ q. (to.1 q.0).untouched (same q.0) q.1)
+
+pub lodging_moves_nobody : (l : Lodging) (day : ℕ) (before after : State) (first : Reply) → IsGood before → IsInOrder before → IsInOrder after → Step (command.Lodge l) day before (Ok first) after → after.seats ≡ before.seats
+lodging_moves_nobody l day before after first good up up_after step =
+    let changed = new_facts (command.Lodge l) day before first after step in
+    let refused = spec.lodging_refusal before.relations before.seats day l in
+    let none = unrefused refused (spec.with_lodging before.relations day l) after.relations changed in
+    let standing = neither (spec.standing_refusal before.relations before.seats day l) (first_refusal (spec.one_too_many before.relations day l ∷ [])) none in
+    let settled = lodging_settled before good day l after.relations standing.0 (sym (made refused (spec.with_lodging before.relations day l) after.relations changed)) in
+    same_seats (command.Lodge l) before (Ok first) after after.relations settled.seated up up_after (subst (StepTo (command.Lodge l) before (Ok first) after) changed step)
+
+pub retraction_moves_nobody : (c : ℕ) (reference : Code) (day : ℕ) (before after : State) (first : Reply) → IsGood before → IsInOrder before → IsInOrder after → Step (command.Retract c reference) day before (Ok first) after → after.seats ≡ before.seats
+retraction_moves_nobody c reference day before after first good up up_after step =
+    let changed = new_facts (command.Retract c reference) day before first after step in
+    let refused = spec.retraction_refusal before.relations c reference in
+    let none = unrefused refused (spec.with_retraction before.relations c reference) after.relations changed in
+    let settled = retraction_settled before good c reference after.relations up.tables none (sym (made refused (spec.with_retraction before.relations c reference) after.relations changed)) in
+    same_seats (command.Retract c reference) before (Ok first) after after.relations settled.seated up up_after (subst (StepTo (command.Retract c reference) before (Ok first) after) changed step)
