@@ -22,6 +22,9 @@ pub mod ImportKeys
 pub mod ImportPlaces
 pub mod ImportRowsEqual
 pub mod Repeating
+pub mod PutRows
+pub mod Superseding
+pub mod DecidedFacts
 pub mod Stored
 pub mod RepeatedImports
 pub mod Seated

@@ -42,7 +42,7 @@ module _ {K X : Type 0} (cmp : K → K → Ordering) (exact : CmpEqualImpliesEq 
       inner Greater is rest = ap (λ o. cond (is_at (cmp q) e.0) (Some e.1) o) rest
 
   -- rows among which none has the key are the same
-  put_filtered : (p : K × X → Bool) (rows : List (K × X)) (k : K) (v : X) → ((w : X) → p (k, w) ≡ false) → filter p (put_row cmp rows k v) ≡ filter p rows
+  pub put_filtered : (p : K × X → Bool) (rows : List (K × X)) (k : K) (v : X) → ((w : X) → p (k, w) ≡ false) → filter p (put_row cmp rows k v) ≡ filter p rows
   put_filtered p [] k v none = ap (λ b. cond b ((k, v) ∷ []) []) (none v)
   put_filtered p (e ∷ es) k v none = inner (cmp k e.0) refl (put_filtered p es k v none)
     where

@@ -1,23 +1,20 @@
 -- What the decision of an appeal makes of the facts, or why it is refused.
-use Rattle.std.specs.Prelude.{ℕ, ◌==◌, ◌&&◌, nat_le, not, Bool, true, false, List, [], ◌∷◌, map, count_by, sum_by, Option, None, Some, Result, if◌then◌else◌}
+use Rattle.std.specs.Prelude.{ℕ, ◌==◌, ◌&&◌, nat_le, not, Bool, true, List, [], ◌∷◌, map, Option, None, Some, Result, if◌then◌else◌}
 use Rattle.std.specs.Option.{option_map_or}
 use Rattle.exam_types.specs.declared.refusal.Refusal.{Refusal}
 use Rattle.exam_types.specs.declared.refusal.Refusal.TheVariants as refusal
 use Rattle.exam_rules.specs.declared.rows.Appeal.{Appeal}
-use Rattle.exam_rules.specs.declared.rows.Candidate.{Candidate}
 use Rattle.exam_rules.specs.declared.rows.Session.{Session}
 use Rattle.exam_rules.specs.declared.rows.Subject.{Subject}
 use Rattle.exam_rules.specs.declared.rows.Subject.TheVariants as subject
 use Rattle.exam_rules.specs.Relations.{Code, Relations, appeal_cmp, code_cmp, put_row, row_at, same_code}
-use Rattle.exam_rules.specs.Sessions.{is_live_paper}
-use Rattle.exam_rules.specs.Seatings.{plan_of}
+use Rattle.exam_rules.specs.Sessions.{is_granted, is_live_paper}
 use Rattle.exam_office.specs.declared.command.Decision.{Decision}
 use Rattle.exam_office.specs.declared.command.Outcome.{Outcome}
 use Rattle.exam_office.specs.declared.command.Outcome.TheVariants as outcome
 use Rattle.exam_office.specs.Appeals.{appeal_at, decided, is_decided, is_open, superseded, supersedes}
 use Rattle.exam_office.specs.Changes.{first_refusal, unless}
 use Rattle.exam_office.specs.Lodgings.{not_member}
-use Rattle.exam_office.specs.State.{Seats}
 
 -- ---- the checks
 
@@ -62,6 +59,10 @@ abbrev pub giving_way : ℕ → Code → Subject → (ℕ × Code) × Appeal →
 giving_way c s asked a =
     if gives_way c s asked a then (a.0, record a.1 { status = superseded a.1.status }) else a
 
+-- a granted one of them
+abbrev pub is_earlier : ℕ → Code → Subject → (ℕ × Code) × Appeal → Bool
+is_earlier c s asked a = gives_way c s asked a && is_granted a.1.status
+
 -- a grant supersedes the earlier grants of the same candidate, session and kind
 abbrev pub with_superseded : ℕ → Appeal → Outcome → List ((ℕ × Code) × Appeal) → List ((ℕ × Code) × Appeal)
 with_superseded c a outcome.Grant appeals = map (giving_way c a.session a.subject) appeals
@@ -91,18 +92,3 @@ decision_made r today d = unless (decision_refusal r today d) (with_decision r d
 abbrev pub granted_number : Decision → Outcome → Option ℕ
 granted_number d outcome.Grant = Some d.number
 granted_number d outcome.Refuse = None
-
-abbrev pub is_moved : Option Code → Option Code → Bool
-is_moved (Some h) (Some k) = not (same_code h k)
-is_moved (Some h) None = false
-is_moved None after = false
-
--- how many others sat in the session before and after, and now sit in another hall
-abbrev pub moved_in : Relations → Seats → Seats → ℕ → Code → ℕ
-moved_in r before after c s =
-    count_by (λ (d : ℕ × Candidate). not (d.0 == c) && is_moved (plan_of before s d.0) (plan_of after s d.0))
-    r.candidates
-
--- over all sessions
-abbrev pub moved : Relations → Seats → Seats → ℕ → ℕ
-moved r before after c = sum_by (λ (s : Code × Session). moved_in r before after c s.0) r.sessions

@@ -14,3 +14,4 @@ pub mod Steps
 pub mod Orders
 pub mod Headline
 pub mod Views
+pub mod Moves

@@ -7,6 +7,7 @@ mod appeals;
 mod commands;
 mod limits;
 mod lines;
+mod moves;
 mod opening;
 mod replies;
 mod scenes;

@@ -1,0 +1,238 @@
+-- What a decision leaves: references, limits and appeals that stand alone, and the halls that fit everybody else.
+use Rattle.std.proofs.Common.{◌≡◌, ℕ, ◌==◌, ◌&&◌, not, arith, Bool, true, false, cond, List, [], ◌∷◌, map, filter, length, nat_eq, nat_le, Option, None, Some, refl, ap, sym, subst, ◌∙◌}
+use Rattle.std.proofs.Math.Path.{fun_ext}
+use Rattle.std.specs.List.{IsDistinct, filter_map, list_all, list_any}
+use Rattle.std.specs.List.Sorted.{IsStrictlySortedBy}
+use Rattle.std.specs.Map.{keys_of}
+use Rattle.std.specs.BTreeMap.{is_at}
+use Rattle.std.specs.Cmp.{Equal-is}
+use Rattle.std.specs.Option.{option_map, option_and_then, option_or, unwrap_or}
+use Rattle.std.specs.declared.cmp.Ordering.{Ordering}
+use Rattle.std.specs.Ordering.{nat_cmp}
+use Rattle.std.proofs.lemmas.Bool.{and_parts, eqb-true}
+use Rattle.std.proofs.lemmas.Map.Lookups.{CmpEqualImpliesEq}
+use Rattle.exam_rules.specs.declared.rows.Appeal.{Appeal}
+use Rattle.exam_rules.specs.declared.rows.Paper.{Paper}
+use Rattle.exam_rules.specs.declared.rows.Session.{Session}
+use Rattle.exam_rules.specs.declared.rows.Status.TheVariants as status
+use Rattle.exam_rules.specs.declared.rows.Subject.{Subject}
+use Rattle.exam_rules.specs.Orders.{KeysRise}
+use Rattle.exam_rules.specs.Relations.{Code, Relations, appeal_cmp, code_cmp, has_row, is_row_of, put_row, row_at, same_code}
+use Rattle.exam_rules.specs.Sessions.{appeal_count, asked_arrangement, asked_hall, asked_paper, granted_subjects, has_live_entry, head_of, is_granted, is_granted_appeal, is_live_paper, least_live_paper, no_arrangement, option_filter}
+use Rattle.exam_rules.specs.Seatings.{desks, fits, opened_room, suits_opened, terms_of}
+use Rattle.exam_office.specs.declared.command.Decision.{Decision}
+use Rattle.exam_office.specs.declared.command.Outcome.{Outcome}
+use Rattle.exam_office.specs.declared.command.Outcome.TheVariants as outcome
+use Rattle.exam_office.specs.declared.grants.Single.{Single}
+use Rattle.exam_office.specs.Appeals.{appeal_at, decided, is_decided, superseded, supersedes}
+use Rattle.exam_office.specs.Decisions.{gives_way, giving_way, with_decision, with_decided, with_outcome, with_superseded}
+use Rattle.exam_office.specs.Good as good
+use Rattle.exam_office.specs.Limits.{within_limits, sessions_within, papers_within, halls_within, openings_within, candidates_within, members_within}
+use Rattle.exam_office.specs.Singles.{AreSingle, SingleKey, same_single_key, single_as, single_key}
+use Rattle.exam_office.proofs.LiveMarks.{put_filtered}
+use Rattle.exam_office.proofs.PutRows.{IsApartFrom, IsFresh, mapped_filtered, mapped_keys, put_distinct, put_keys}
+use Rattle.exam_office.proofs.Referring.{all_put}
+use Rattle.exam_office.proofs.Superseding.{appeals_exact, appeals_total, given_distinct, keys_flip, places_apart}
+
+-- ---- rows
+
+-- what holds of all rows holds of the one at a key
+at_key : {K X : Type 0} (cmp : K → K → Ordering) → CmpEqualImpliesEq cmp → (p : K × X → Bool) (rows : List (K × X)) (k : K) (x : X) → list_all p rows ≡ true → row_at cmp rows k ≡ Some x → p (k, x) ≡ true
+at_key cmp exact p [] k x every at = absurd (let differ : None ≡ Some x = at in cc)
+at_key cmp exact p (e ∷ es) k x every at = inner (is_at (cmp k) e.0) refl at (at_key cmp exact p es k x (and_parts (p e) (list_all p es) every).1)
+  where
+    inner : (b : Bool) → is_at (cmp k) e.0 ≡ b → cond b (Some e.1) (row_at cmp es k) ≡ Some x → (row_at cmp es k ≡ Some x → p (k, x) ≡ true) → p (k, x) ≡ true
+    inner true here is rest =
+        let one : e.1 ≡ x = cc in
+        ap (λ y. p (k, y)) (sym one) ∙ ap (λ q. p (q, e.1)) (exact k e.0 ((Equal-is (cmp k e.0)).0 here)) ∙ (and_parts (p e) (list_all p es) every).0
+    inner false away is rest = rest is
+
+all_mapped : {R : Type 0} (p : R → Bool) (g : R → R) → ((row : R) → p (g row) ≡ p row) → (rows : List R) → list_all p (map g rows) ≡ list_all p rows
+all_mapped p g same [] = refl
+all_mapped p g same (d ∷ ds) = ap (λ b. b && list_all p (map g ds)) (same d) ∙ ap (λ b. p d && b) (all_mapped p g same ds)
+
+-- a key that was there is there
+mapped_there : {K X : Type 0} (cmp : K → K → Ordering) (g : K × X → K × X) → ((row : K × X) → (g row).0 ≡ row.0) → (rows : List (K × X)) (k : K) (x : X) → row_at cmp rows k ≡ Some x → (y : X) × (row_at cmp (map g rows) k ≡ Some y)
+mapped_there cmp g keyed [] k x at = absurd (let differ : None ≡ Some x = at in cc)
+mapped_there {K} {X} cmp g keyed (d ∷ ds) k x at = inner (is_at (cmp k) d.0) refl at (mapped_there cmp g keyed ds k x)
+  where
+    head : (b : Bool) → is_at (cmp k) d.0 ≡ b → row_at cmp (g d ∷ map g ds) k ≡ cond b (Some (g d).1) (row_at cmp (map g ds) k)
+    head b is = ap (λ q. cond (is_at (cmp k) q) (Some (g d).1) (row_at cmp (map g ds) k)) (keyed d) ∙ ap (λ t. cond t (Some (g d).1) (row_at cmp (map g ds) k)) is
+
+    inner : (b : Bool) → is_at (cmp k) d.0 ≡ b → cond b (Some d.1) (row_at cmp ds k) ≡ Some x → (row_at cmp ds k ≡ Some x → (y : X) × (row_at cmp (map g ds) k ≡ Some y)) → (y : X) × (row_at cmp (g d ∷ map g ds) k ≡ Some y)
+    inner true here is rest = ((g d).1, head true here)
+    inner false away is rest = let later = rest is in (later.0, head false away ∙ later.1)
+
+-- how many rows a candidate has, by the keys alone
+count_keys : {B X : Type 0} (c : ℕ) (rows : List ((ℕ × B) × X)) → length (filter (is_row_of c) rows) ≡ length (filter (λ (k : ℕ × B). k.0 == c) (keys_of rows))
+count_keys c [] = refl
+count_keys {B} {X} c (d ∷ ds) = inner (d.0.0 == c) (count_keys c ds)
+  where
+    inner : (b : Bool) → length (filter (is_row_of c) ds) ≡ length (filter (λ (k : ℕ × B). k.0 == c) (keys_of ds))
+        → length (cond b (d ∷ filter (is_row_of c) ds) (filter (is_row_of c) ds)) ≡ length (cond b (d.0 ∷ filter (λ (k : ℕ × B). k.0 == c) (keys_of ds)) (filter (λ (k : ℕ × B). k.0 == c) (keys_of ds)))
+    inner true rest = omega (arith, rest)
+    inner false rest = rest
+
+-- ---- the appeals that gave way
+
+module _ (r : Relations) (c : ℕ) (a : Appeal) where
+  abbrev given : (ℕ × Code) × Appeal → (ℕ × Code) × Appeal
+  given row = giving_way c a.session a.subject row
+
+  abbrev refers_at : (ℕ × Code) × Appeal → Bool
+  refers_at x = has_row nat_cmp r.candidates x.0.0 && good.appeal_refers r x.1
+
+  given_keyed : (row : (ℕ × Code) × Appeal) → (given row).0 ≡ row.0
+  given_keyed row = inner (gives_way c a.session a.subject row)
+    where
+      inner : (b : Bool) → (cond b (row.0, record row.1 { status = superseded row.1.status }) row).0 ≡ row.0
+      inner true = refl
+      inner false = refl
+
+  given_refers : (row : (ℕ × Code) × Appeal) → refers_at (given row) ≡ refers_at row
+  given_refers row = inner (gives_way c a.session a.subject row)
+    where
+      inner : (b : Bool) → refers_at (cond b (row.0, record row.1 { status = superseded row.1.status }) row) ≡ refers_at row
+      inner true = refl
+      inner false = refl
+
+  rows_refer : (o : Outcome) → list_all refers_at r.appeals ≡ true → list_all refers_at (with_superseded c a o r.appeals) ≡ true
+  rows_refer outcome.Grant every = all_mapped refers_at given given_refers r.appeals ∙ every
+  rows_refer outcome.Refuse every = every
+
+  rows_keyed : (o : Outcome) → keys_of (with_superseded c a o r.appeals) ≡ keys_of r.appeals
+  rows_keyed outcome.Grant = mapped_keys given given_keyed r.appeals
+  rows_keyed outcome.Refuse = refl
+
+  rows_there : (o : Outcome) (k : ℕ × Code) (x : Appeal) → row_at appeal_cmp r.appeals k ≡ Some x → (y : Appeal) × (row_at appeal_cmp (with_superseded c a o r.appeals) k ≡ Some y)
+  rows_there outcome.Grant k x at = mapped_there appeal_cmp given given_keyed r.appeals k x at
+  rows_there outcome.Refuse k x at = (x, at)
+
+  rows_distinct : (o : Outcome) → AreSingle r → IsDistinct same_single_key (filter_map single_key (with_superseded c a o r.appeals))
+  rows_distinct outcome.Grant distinct = given_distinct c a.session a.subject r.appeals distinct
+  rows_distinct outcome.Refuse distinct = distinct
+
+  -- what the decided appeal stands for
+  abbrev stands_as : Outcome → Code → Option SingleKey
+  stands_as o answer = option_map {U = SingleKey} (λ kind. (a.session, c, kind)) (single_as (decided o answer) a.subject)
+
+  rows_fresh : (o : Outcome) (answer : Code) → IsFresh same_single_key (stands_as o answer) (filter_map single_key (with_superseded c a o r.appeals))
+  rows_fresh outcome.Refuse answer x is = absurd (let none : Option SingleKey = None in let differ : none ≡ Some x = is in cc)
+  rows_fresh outcome.Grant answer x is = inner (single_as (status.Granted answer) a.subject) refl is
+    where
+      inner : (o : Option Single) → single_as (status.Granted answer) a.subject ≡ o → option_map {U = SingleKey} (λ kind. (a.session, c, kind)) o ≡ Some x
+          → IsApartFrom same_single_key x (filter_map single_key (map given r.appeals))
+      inner None e at = absurd (let none : Option SingleKey = None in let differ : none ≡ Some x = at in cc)
+      inner (Some kind) e at =
+          let whole : SingleKey = (a.session, c, kind) in
+          let one : whole ≡ x = cc in
+          subst (λ z. IsApartFrom same_single_key z (filter_map single_key (map given r.appeals))) one (places_apart c a.session a.subject answer kind e r.appeals)
+
+  -- appeals of another candidate stay
+  module _ (s : Code) (n : ℕ) (other : nat_eq c n ≡ false) where
+    apart : (row : (ℕ × Code) × Appeal) → (row.0.0 == n) ≡ true → given row ≡ row
+    apart row own = ap (λ b. cond (b && (same_code row.1.session a.session && supersedes a.subject row.1.subject)) (row.0, record row.1 { status = superseded row.1.status }) row) (away (row.0.0 == c) refl)
+      where
+        away : (b : Bool) → (row.0.0 == c) ≡ b → b ≡ false
+        away true here = absurd (let is : c ≡ n = sym (eqb-true row.0.0 c here) ∙ eqb-true row.0.0 n own in let differ : true ≡ false = sym (subst (λ m. nat_eq m n ≡ true) (eqb-true row.0.0 c here) own) ∙ other in cc)
+        away false e = refl
+
+    rows_filtered : (o : Outcome) → filter (is_granted_appeal s n) (with_superseded c a o r.appeals) ≡ filter (is_granted_appeal s n) r.appeals
+    rows_filtered outcome.Refuse = refl
+    rows_filtered outcome.Grant = mapped_filtered (is_granted_appeal s n) given kept out r.appeals
+      where
+        kept : (row : (ℕ × Code) × Appeal) → is_granted_appeal s n row ≡ true → given row ≡ row
+        kept row is = apart row (and_parts (row.0.0 == n) (same_code row.1.session s && is_granted row.1.status) is).0
+
+        out : (row : (ℕ × Code) × Appeal) → is_granted_appeal s n row ≡ false → is_granted_appeal s n (given row) ≡ false
+        out row is = inner (row.0.0 == n) refl
+          where
+            inner : (b : Bool) → (row.0.0 == n) ≡ b → is_granted_appeal s n (given row) ≡ false
+            inner true own = ap (is_granted_appeal s n) (apart row own) ∙ is
+            inner false away = ap (λ (k : ℕ × Code). (k.0 == n) && (same_code (given row).1.session s && is_granted (given row).1.status)) (given_keyed row)
+                ∙ ap (λ b. b && (same_code (given row).1.session s && is_granted (given row).1.status)) away
+
+-- ---- which halls fit
+
+-- that only other appeals than the candidate's granted ones have changed
+fits_by_grants : (r : Relations) (rows : List ((ℕ × Code) × Appeal)) (s : Code) (c : ℕ) → granted_subjects rows s c ≡ granted_subjects r.appeals s c → (h : Code) → fits (record r { appeals = rows }) s c h ≡ fits r s c h
+fits_by_grants r rows s c same h = ap by_grants same
+  where
+    by_grants : List Subject → Bool
+    by_grants granted = has_live_entry r s c
+        && (suits_opened (option_and_then (λ (session : Session). option_map (λ (paper : Paper). terms_of session paper (unwrap_or (option_or (head_of (filter_map asked_arrangement granted)) (row_at nat_cmp r.arrangements c)) no_arrangement))
+        (option_and_then (row_at code_cmp r.papers) (option_or (option_filter (is_live_paper r s c) (head_of (filter_map asked_paper granted))) (least_live_paper r s c)))) (row_at code_cmp r.sessions s)) (opened_room r s h)
+        && not (list_any (same_code h) (filter_map asked_hall granted)))
+
+-- ---- a decision
+
+module _ (r : Relations) (d : Decision) where
+  -- what holds before, and of each appeal that is decided anew, holds after
+  either : (P : Relations → Type 0) → P r → ((a : Appeal) → appeal_at r d.number d.reference ≡ Some a → P (with_outcome r d a)) → P (with_decision r d)
+  either P before anew = inner (appeal_at r d.number d.reference) refl
+    where
+      inner : (o : Option Appeal) → appeal_at r d.number d.reference ≡ o → P (with_decided r d o)
+      inner None is = before
+      inner (Some a) is = by_case (is_decided d.outcome d.answer a.status)
+        where
+          by_case : (b : Bool) → P (cond b r (with_outcome r d a))
+          by_case true = before
+          by_case false = anew a is
+
+  pub decision_refers : good.refers r ≡ true → good.refers (with_decision r d) ≡ true
+  decision_refers every = either (λ t. good.refers t ≡ true) every anew
+    where
+      old : good.appeals_refer r ≡ true
+      old =
+          let past_papers = (and_parts (good.papers_refer r) (good.openings_refer r && (good.entries_refer r && (good.arrangements_refer r && good.appeals_refer r))) every).1 in
+          let past_openings = (and_parts (good.openings_refer r) (good.entries_refer r && (good.arrangements_refer r && good.appeals_refer r)) past_papers).1 in
+          (and_parts (good.arrangements_refer r) (good.appeals_refer r) (and_parts (good.entries_refer r) (good.arrangements_refer r && good.appeals_refer r) past_openings).1).1
+
+      anew : (a : Appeal) → appeal_at r d.number d.reference ≡ Some a → good.refers (with_outcome r d a) ≡ true
+      anew a stored =
+          let now : good.appeals_refer (with_outcome r d a) ≡ true =
+          all_put appeal_cmp appeals_exact (refers_at r d.number a) (with_superseded d.number a d.outcome r.appeals) (d.number, d.reference) (record a { status = decided d.outcome d.answer })
+          (rows_refer r d.number a d.outcome old) (at_key appeal_cmp appeals_exact (refers_at r d.number a) r.appeals (d.number, d.reference) a old stored) in
+          ap (λ b. good.papers_refer r && (good.openings_refer r && (good.entries_refer r && (good.arrangements_refer r && b)))) (now ∙ sym old) ∙ every
+
+  -- as many appeals of each candidate, and no other table changes
+  pub decision_within : KeysRise appeal_cmp r.appeals → within_limits (with_decision r d) ≡ within_limits r
+  decision_within up = either (λ t. within_limits t ≡ within_limits r) refl anew
+    where
+      anew : (a : Appeal) → appeal_at r d.number d.reference ≡ Some a → within_limits (with_outcome r d a) ≡ within_limits r
+      anew a stored =
+          let rows : List ((ℕ × Code) × Appeal) = with_superseded d.number a d.outcome r.appeals in
+          let v : Appeal = record a { status = decided d.outcome d.answer } in
+          let there = rows_there r d.number a d.outcome (d.number, d.reference) a stored in
+          let keyed : keys_of rows ≡ keys_of r.appeals = rows_keyed r d.number a d.outcome in
+          let keys : keys_of (put_row appeal_cmp rows (d.number, d.reference) v) ≡ keys_of r.appeals =
+          put_keys appeal_cmp appeals_total rows (d.number, d.reference) v there.0 (subst (λ ks. IsStrictlySortedBy appeal_cmp ks) (sym keyed) up) there.1 ∙ keyed in
+          let counts : (c : ℕ) → appeal_count (with_outcome r d a) c ≡ appeal_count r c =
+          λ c. count_keys c (put_row appeal_cmp rows (d.number, d.reference) v) ∙ ap (λ ks. length (filter (λ (k : ℕ × Code). k.0 == c) ks)) keys ∙ sym (count_keys c r.appeals) in
+          ap (λ (n : ℕ → ℕ). sessions_within r && (papers_within r && (halls_within r && (openings_within r && (candidates_within r && (members_within r && list_all (λ c. nat_le (n c) 64) (keys_of r.candidates)))))))
+          (fun_ext counts)
+
+  pub decision_single : AreSingle r → AreSingle (with_decision r d)
+  decision_single distinct = either AreSingle distinct anew
+    where
+      anew : (a : Appeal) → appeal_at r d.number d.reference ≡ Some a → AreSingle (with_outcome r d a)
+      anew a stored =
+          put_distinct appeal_cmp appeals_exact single_key same_single_key keys_flip (with_superseded d.number a d.outcome r.appeals) (d.number, d.reference) (record a { status = decided d.outcome d.answer })
+          (rows_fresh r d.number a d.outcome d.answer) (rows_distinct r d.number a d.outcome distinct)
+
+  pub decision_fits : (s : Code) (c : ℕ) → nat_eq d.number c ≡ false → (h : Code) → fits (with_decision r d) s c h ≡ fits r s c h
+  decision_fits s c other h = either (λ t. fits t s c h ≡ fits r s c h) refl anew
+    where
+      anew : (a : Appeal) → appeal_at r d.number d.reference ≡ Some a → fits (with_outcome r d a) s c h ≡ fits r s c h
+      anew a stored =
+          let rows : List ((ℕ × Code) × Appeal) = with_superseded d.number a d.outcome r.appeals in
+          let v : Appeal = record a { status = decided d.outcome d.answer } in
+          fits_by_grants r (put_row appeal_cmp rows (d.number, d.reference) v) s c
+          (ap (map (λ (x : (ℕ × Code) × Appeal). x.1.subject))
+          (put_filtered appeal_cmp appeals_exact (is_granted_appeal s c) rows (d.number, d.reference) v (λ w. ap (λ b. b && (same_code w.session s && is_granted w.status)) other) ∙ rows_filtered r d.number a s c other d.outcome)) h
+
+  pub decision_desks : (s h : Code) → desks (with_decision r d) s h ≡ desks r s h
+  decision_desks s h = either (λ t. desks t s h ≡ desks r s h) refl (λ a stored. refl)
+
+  pub decision_candidates : (with_decision r d).candidates ≡ r.candidates
+  decision_candidates = either (λ t. t.candidates ≡ r.candidates) refl (λ a stored. refl)
