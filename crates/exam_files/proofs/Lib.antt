@@ -1,6 +1,7 @@
 pub mod Appending
 pub mod Counts
 pub mod FeatureFacts
+pub mod OfficeSheets
 pub mod Sent
 pub mod Steps
 pub mod Taking

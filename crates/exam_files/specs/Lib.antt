@@ -1,7 +1,12 @@
+pub mod Attendances
+pub mod Clashes
 pub mod Doors
+pub mod Exports
 pub mod ImportFiles
 pub mod Left
+pub mod OfficeSheets
 pub mod Padding
+pub mod Places
 pub mod Shortages
 pub mod Values
 pub mod Writing

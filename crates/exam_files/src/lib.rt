@@ -1,9 +1,13 @@
 //! Import files and sheets, byte for byte.
 #![tactic(auto)]
 
+mod attendances;
+mod clashes;
 mod doors;
+mod exports;
 mod headers;
 mod imports;
+mod laws;
 mod records;
 mod row_of_record;
 mod sending;
@@ -14,7 +18,14 @@ mod shortages;
 mod tests;
 mod values;
 
+pub use attendances::attendance;
+pub use clashes::clash_list;
 pub use doors::door_list;
+pub use exports::export_seats;
 pub use imports::read_import;
+pub use laws::{
+    attendances_are_of_the_office, clash_lists_are_of_the_office, door_lists_are_of_the_office,
+    exports_are_of_the_office, shortage_sheets_are_of_the_facts,
+};
 pub use sheet_fault::SheetFault;
 pub use shortages::shortage_sheet;

@@ -35,6 +35,15 @@ pub struct SessionShortage {
     pub candidates: Vec<Number>,
 }
 
+/// A live paper of a member that they do not sit.
+#[derive(Clone, Copy)]
+pub struct Clash {
+    pub number: Number,
+    /// The paper that they sit.
+    pub sitting: PaperCode,
+    pub paper: PaperCode,
+}
+
 /// A member of a session, without their seat.
 #[derive(Drop)]
 pub struct Member {
@@ -56,7 +65,10 @@ pub struct SessionView {
     pub(crate) openings: Vec<(HallCode, Opening)>,
     /// By number.
     pub(crate) members: Vec<Member>,
-    pub(crate) clashes: Vec<(Number, PaperCode)>,
+    /// The codes of the papers of the session, rising.
+    pub(crate) papers: Vec<PaperCode>,
+    /// By number and paper.
+    pub(crate) clashes: Vec<Clash>,
     pub(crate) problem: Problem,
     pub(crate) plan: Plan,
 }
@@ -72,6 +84,7 @@ impl Model for SessionView {
       hall_codes = a.hall_codes.items;
       openings = a.openings.items;
       members = a.members.items;
+      papers = a.papers.items;
       clashes = a.clashes.items;
       problem = a.problem;
       plan = a.plan.items;
@@ -83,6 +96,7 @@ impl Model for SessionView {
       hall_codes = a.hall_codes.items;
       openings = a.openings.items;
       members = a.members.items;
+      papers = a.papers.items;
       clashes = a.clashes.items;
       problem = a.problem;
       plan = a.plan.items;
@@ -135,8 +149,15 @@ impl SessionView {
         Ok(seats)
     }
 
-    /// The members with their live papers that they do not sit, by number and code.
-    pub fn clashes(&self) -> &[(Number, PaperCode)]
+    /// Whether the paper is one of the session.
+    pub fn has_paper(&self, paper: &PaperCode) -> bool
+        ensures { result ≡ views.has_paper self.now paper.now }
+    {
+        self.papers.contains(paper)
+    }
+
+    /// The live papers that members do not sit, by number and code.
+    pub fn clashes(&self) -> &[Clash]
         ensures { result.now ≡ self.now.clashes }
     {
         self.clashes.as_slice()

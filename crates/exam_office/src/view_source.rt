@@ -12,7 +12,7 @@ ghost use Rattle.exam_office.specs.Views as views;
 
 use crate::office::Seats;
 use crate::repair::stored_plan;
-use crate::view::{Member, SessionView};
+use crate::view::{Clash, Member, SessionView};
 use exam_rules::{
     Facts, ListedProblem, Opening, Session, clashes, finish, listed_problem, sitting,
 };
@@ -41,6 +41,7 @@ pub fn view_of(
         hall_codes: hall_codes(alloc, facts)?,
         openings: openings_of(alloc, facts, session)?,
         members: members_of(alloc, facts, session, &listed.numbers)?,
+        papers: papers_of(alloc, facts, session)?,
         clashes: clashes_of(alloc, facts, session)?,
         problem: listed.problem,
         plan,
@@ -63,17 +64,60 @@ fn listed(alloc: Global, facts: &Facts, session: &SessionCode) -> Result<ListedP
     listed_problem(alloc, facts, session)
 }
 
-/// The clashes of a session that there is.
-fn clashes_of(
+/// The papers of the session, codes rising.
+fn papers_of(alloc: Global, facts: &Facts, session: &SessionCode) -> Result<Vec<PaperCode>, Refusal>
+    ensures ok { IfOk result (λ papers. papers.items ≡ views.papers_of (relations_of facts.now) session.now) }
+    ensures memory { IfErr result (λ e. e ≡ NoMemory) }
+{
+    let papers = facts
+        .papers
+        .iter()
+        .filter(|(_, paper)| paper.session == *session)
+        .map(|(code, _)| *code)
+        .collect(alloc)?;
+    Ok(papers)
+}
+
+/// The clashes of a session that there is, each with the paper that is sat.
+fn clashes_of(alloc: Global, facts: &Facts, session: &SessionCode) -> Result<Vec<Clash>, Refusal>
+    requires { IsTrue (has_row code_cmp facts.now.sessions.entries session.now) }
+    ensures ok { IfOk result (λ list. map (λ clash. Some clash) list.items
+        ≡ map (views.clash_of (relations_of facts.now) session.now)
+        (sessions.clashes (relations_of facts.now) session.now)) }
+    ensures memory { IfErr result (λ e. e ≡ NoMemory) }
+{
+    let pairs = clashes(alloc, facts, session)?;
+    with_sitting(alloc, facts, session, &pairs)
+}
+
+/// The clashes, each with the paper that is sat.
+fn with_sitting(
     alloc: Global,
     facts: &Facts,
     session: &SessionCode,
-) -> Result<Vec<(Number, PaperCode)>, Refusal>
-    requires { IsTrue (has_row code_cmp facts.now.sessions.entries session.now) }
-    ensures ok { IfOk result (λ list. list.items ≡ sessions.clashes (relations_of facts.now) session.now) }
+    pairs: &[(Number, PaperCode)],
+) -> Result<Vec<Clash>, Refusal>
+    requires { pairs.now ≡ sessions.clashes (relations_of facts.now) session.now }
+    ensures ok { IfOk result (λ list. map (λ clash. Some clash) list.items
+        ≡ map (views.clash_of (relations_of facts.now) session.now) pairs.now) }
     ensures memory { IfErr result (λ e. e ≡ NoMemory) }
 {
-    clashes(alloc, facts, session)
+    let mut list = Vec::with_capacity(alloc, pairs.len())?;
+    for pair in pairs {
+        list.push(clash_of(facts, session, *pair))?;
+    }
+    Ok(list)
+}
+
+fn clash_of(facts: &Facts, session: &SessionCode, pair: (Number, PaperCode)) -> Clash
+    requires { Contains (sessions.clashes (relations_of facts.now) session.now) pair }
+    ensures { views.clash_of (relations_of facts.now) session.now pair ≡ Some result }
+{
+    Clash {
+        number: pair.0,
+        sitting: sitting(facts, session, pair.0).unwrap(),
+        paper: pair.1,
+    }
 }
 
 /// The codes of all halls, rising.

@@ -49,23 +49,25 @@ pub fn view_of(alloc: Global, office: &Office) -> Result<SessionView, Fail> {
     Ok(office.session_view(alloc, &session(b"S1")?)?)
 }
 
-/// All three are entered, and 0000002 needs a step-free hall: 0000002 sits in A, 0000001 in B, and 0000003 is
-/// unseated.
-pub fn short_view(alloc: Global) -> Result<SessionView, Fail> {
+/// 0000001 and 0000002 are entered, of whom 0000002 needs a step-free hall: 0000002 sits in A, 0000001 in B.
+fn pair_office(alloc: Global) -> Result<Office, Fail> {
     let mut office = base_office(alloc)?;
     let file = b"number,needs,extra\n0000002,step-free,0\n";
     import(alloc, &mut office, Kind::Arrangements, file)?;
-    import(
-        alloc,
-        &mut office,
-        Kind::Entries,
-        b"number,paper\n0000001,MA-1\n0000002,MA-1\n",
-    )?;
-    import(
-        alloc,
-        &mut office,
-        Kind::Entries,
-        b"number,paper\n0000003,MA-1\n",
-    )?;
+    let file = b"number,paper\n0000001,MA-1\n0000002,MA-1\n";
+    import(alloc, &mut office, Kind::Entries, file)?;
+    Ok(office)
+}
+
+/// The session of these two.
+pub fn pair_view(alloc: Global) -> Result<SessionView, Fail> {
+    view_of(alloc, &pair_office(alloc)?)
+}
+
+/// The same with 0000003, who is unseated.
+pub fn short_view(alloc: Global) -> Result<SessionView, Fail> {
+    let mut office = pair_office(alloc)?;
+    let file = b"number,paper\n0000003,MA-1\n";
+    import(alloc, &mut office, Kind::Entries, file)?;
     view_of(alloc, &office)
 }
