@@ -1,3 +1,6 @@
+pub mod Appeals
+pub mod Lodgings
+pub mod Decisions
 pub mod Changes
 pub mod Imports
 pub mod Limits

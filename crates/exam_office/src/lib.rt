@@ -1,6 +1,7 @@
 //! The commands of the office, and what it shows of a session.
 #![tactic(auto)]
 
+mod appeals;
 mod changes;
 mod closing;
 mod command;
@@ -14,6 +15,7 @@ mod limits;
 mod office;
 mod references;
 mod repair;
+mod retracting;
 mod steps;
 mod tables;
 #[cfg(test)]
@@ -21,7 +23,7 @@ mod tests;
 mod view;
 mod view_source;
 
-pub use command::{Command, Reply};
+pub use command::{AppealState, Command, Decision, Lodging, Outcome, Reply};
 pub use import::Import;
 pub use import_row::{Kind, Row};
 pub use laws::{

@@ -1,0 +1,108 @@
+-- What the decision of an appeal makes of the facts, or why it is refused.
+use Rattle.std.specs.Prelude.{ℕ, ◌==◌, ◌&&◌, nat_le, not, Bool, true, false, List, [], ◌∷◌, map, count_by, sum_by, Option, None, Some, Result, if◌then◌else◌}
+use Rattle.std.specs.Option.{option_map_or}
+use Rattle.exam_types.specs.declared.refusal.Refusal.{Refusal}
+use Rattle.exam_types.specs.declared.refusal.Refusal.TheVariants as refusal
+use Rattle.exam_rules.specs.declared.rows.Appeal.{Appeal}
+use Rattle.exam_rules.specs.declared.rows.Candidate.{Candidate}
+use Rattle.exam_rules.specs.declared.rows.Session.{Session}
+use Rattle.exam_rules.specs.declared.rows.Subject.{Subject}
+use Rattle.exam_rules.specs.declared.rows.Subject.TheVariants as subject
+use Rattle.exam_rules.specs.Relations.{Code, Relations, appeal_cmp, code_cmp, put_row, row_at, same_code}
+use Rattle.exam_rules.specs.Sessions.{is_live_paper}
+use Rattle.exam_rules.specs.Seatings.{plan_of}
+use Rattle.exam_office.specs.declared.command.Decision.{Decision}
+use Rattle.exam_office.specs.declared.command.Outcome.{Outcome}
+use Rattle.exam_office.specs.declared.command.Outcome.TheVariants as outcome
+use Rattle.exam_office.specs.Appeals.{appeal_at, decided, is_decided, is_open, superseded, supersedes}
+use Rattle.exam_office.specs.Changes.{first_refusal, unless}
+use Rattle.exam_office.specs.Lodgings.{not_member}
+use Rattle.exam_office.specs.State.{Seats}
+
+-- ---- the checks
+
+-- the day is the session's date or a later one
+abbrev pub is_too_late : Relations → Code → ℕ → Bool
+is_too_late r s today =
+    option_map_or (λ (x : Session). nat_le x.day today) (row_at code_cmp r.sessions s) true
+
+-- of a granted clash: the paper is still a live one of the candidate in the session
+abbrev pub paper_checks : Relations → Code → ℕ → Subject → List (Bool × Refusal)
+paper_checks r s c (subject.Hall h) = []
+paper_checks r s c (subject.Clash p) = (not (is_live_paper r s c p), refusal.NoEntry) ∷ []
+paper_checks r s c (subject.Arrangement a) = []
+
+-- of a grant: the candidate is still a member
+abbrev pub grant_checks : Relations → ℕ → Appeal → Outcome → List (Bool × Refusal)
+grant_checks r c a outcome.Grant = not_member r a.session c ∷ paper_checks r a.session c a.subject
+grant_checks r c a outcome.Refuse = []
+
+-- of an appeal that is not decided so already
+abbrev pub open_checks : Relations → ℕ → Decision → Appeal → List (Bool × Refusal)
+open_checks r today d a =
+    (not (is_open a.status), refusal.NotOpenAppeal)
+    ∷ (is_too_late r a.session today, refusal.TooLate)
+    ∷ grant_checks r d.number a d.outcome
+
+abbrev pub decision_checks : Relations → ℕ → Decision → Option Appeal → List (Bool × Refusal)
+decision_checks r today d None = (true, refusal.UnknownAppeal) ∷ []
+decision_checks r today d (Some a) =
+    if is_decided d.outcome d.answer a.status then [] else open_checks r today d a
+
+abbrev pub decision_refusal : Relations → ℕ → Decision → Option Refusal
+decision_refusal r today d = first_refusal (decision_checks r today d (appeal_at r d.number d.reference))
+
+-- ---- the facts
+
+-- an appeal of the candidate for the session, whose place a grant on the subject takes
+abbrev pub gives_way : ℕ → Code → Subject → (ℕ × Code) × Appeal → Bool
+gives_way c s asked a = (a.0.0 == c) && (same_code a.1.session s && supersedes asked a.1.subject)
+
+abbrev pub giving_way : ℕ → Code → Subject → (ℕ × Code) × Appeal → (ℕ × Code) × Appeal
+giving_way c s asked a =
+    if gives_way c s asked a then (a.0, record a.1 { status = superseded a.1.status }) else a
+
+-- a grant supersedes the earlier grants of the same candidate, session and kind
+abbrev pub with_superseded : ℕ → Appeal → Outcome → List ((ℕ × Code) × Appeal) → List ((ℕ × Code) × Appeal)
+with_superseded c a outcome.Grant appeals = map (giving_way c a.session a.subject) appeals
+with_superseded c a outcome.Refuse appeals = appeals
+
+-- with the outcome and the answer at this appeal
+abbrev pub with_outcome : Relations → Decision → Appeal → Relations
+with_outcome r d a = record r {
+  appeals = put_row appeal_cmp (with_superseded d.number a d.outcome r.appeals) (d.number, d.reference)
+      (record a { status = decided d.outcome d.answer });
+}
+
+-- with the stored appeal decided, if there is one and it is not decided so already
+abbrev pub with_decided : Relations → Decision → Option Appeal → Relations
+with_decided r d None = r
+with_decided r d (Some a) = if is_decided d.outcome d.answer a.status then r else with_outcome r d a
+
+abbrev pub with_decision : Relations → Decision → Relations
+with_decision r d = with_decided r d (appeal_at r d.number d.reference)
+
+abbrev pub decision_made : Relations → ℕ → Decision → Result Relations Refusal
+decision_made r today d = unless (decision_refusal r today d) (with_decision r d)
+
+-- ---- the plans
+
+-- the appellant of a grant
+abbrev pub granted_number : Decision → Outcome → Option ℕ
+granted_number d outcome.Grant = Some d.number
+granted_number d outcome.Refuse = None
+
+abbrev pub is_moved : Option Code → Option Code → Bool
+is_moved (Some h) (Some k) = not (same_code h k)
+is_moved (Some h) None = false
+is_moved None after = false
+
+-- how many others sat in the session before and after, and now sit in another hall
+abbrev pub moved_in : Relations → Seats → Seats → ℕ → Code → ℕ
+moved_in r before after c s =
+    count_by (λ (d : ℕ × Candidate). not (d.0 == c) && is_moved (plan_of before s d.0) (plan_of after s d.0))
+    r.candidates
+
+-- over all sessions
+abbrev pub moved : Relations → Seats → Seats → ℕ → ℕ
+moved r before after c = sum_by (λ (s : Code × Session). moved_in r before after c s.0) r.sessions
