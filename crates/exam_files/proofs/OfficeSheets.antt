@@ -1,9 +1,8 @@
 -- A view's sheets are the office's.
-use Rattle.std.proofs.Common.{◌≡◌, ◌↔◌, ◌∙◌, ℕ, ◌+◌, ◌&&◌, ◌||◌, Bool, true, false, IsTrue, cond, List, [], ◌∷◌, length, map, filter, Contains, Option, None, Some, Result, Ok, Err, refl, ap, sym, subst, arith}
-use Rattle.std.specs.Prelude.{find, filter_map, sum_by, codes}
+use Rattle.std.proofs.Common.{◌≡◌, ◌↔◌, ◌∙◌, ℕ, ◌+◌, ◌&&◌, ◌||◌, Bool, true, false, cond, List, [], ◌∷◌, length, map, filter, Contains, Option, Some, Ok, Err, refl, ap, sym, subst, arith}
+use Rattle.std.specs.Prelude.{find, filter_map, sum_by}
 use Rattle.std.specs.declared.cmp.Ordering.{Ordering}
 use Rattle.std.specs.declared.cmp.Ordering.TheVariants.{Less, Equal, Greater}
-use Rattle.std.specs.BTreeMap.{is_at}
 use Rattle.std.specs.BTreeSet as sorted
 use Rattle.std.specs.BTreeSet.{BTreeSet}
 use Rattle.std.specs.Cmp.{IsTotalOrder, nat_cmp_total}
@@ -12,7 +11,7 @@ use Rattle.std.specs.List.{All, list_any, cons_option}
 use Rattle.std.specs.List.Sorted.{IsStrictlySortedBy}
 use Rattle.std.specs.Map.{keys_of}
 use Rattle.std.specs.Option.{option_map, ok_or}
-use Rattle.std.specs.Ordering.{is_eq, nat_cmp, ordering_then}
+use Rattle.std.specs.Ordering.{is_eq, ordering_then}
 use Rattle.std.proofs.lemmas.List.Elements.{All-head, All-tail}
 use Rattle.std.proofs.lemmas.Map.Lookups.{CmpEqualImpliesEq, btree_set_from_contains, exact_bytes, exact_unsigned}
 use Rattle.std.proofs.lemmas.Map.Views.{btree_set_contains_iff}
@@ -20,19 +19,21 @@ use Rattle.exam_types.specs.declared.refusal.Refusal.TheVariants.{HallNotOpened,
 use Rattle.exam_rules.specs.declared.rows.Opening.{Opening}
 use Rattle.exam_rules.specs.declared.rows.Session.{Session}
 use Rattle.exam_rules.specs.Relations.{Code, Relations, code_cmp, has_row, opening_cmp, row_at, same_code}
-use Rattle.exam_rules.specs.Seatings.{desks, plan_of, seating}
+use Rattle.exam_rules.specs.Seatings.{desks}
 use Rattle.exam_rules.specs.Sessions.{clashes, members}
 use Rattle.exam_rules.proofs.Naming.{same_code_exact, same_code_itself}
+use Rattle.exam_office.specs.declared.view.AppealRow.{AppealRow}
 use Rattle.exam_office.specs.declared.view.Clash.{Clash}
 use Rattle.exam_office.specs.declared.view.Seat.{Seat}
 use Rattle.exam_office.specs.State.{State, Seats}
-use Rattle.exam_office.specs.Views.{View, Report, IsShortageOf, IsViewOf, ShowsShortage, clash_of, has_hall, opening_of, openings_of, papers_of, seat_of, seats_of}
+use Rattle.exam_office.specs.Views.{View, Report, IsShortageOf, IsViewOf, ShowsShortage, appeals_of, clash_of, has_hall, opening_of, seat_of, seats_of}
 use Rattle.exam_office.proofs.AllSessions.{known_among}
 use Rattle.exam_files.specs.Attendances.{attendance, attendance_text, paper_in}
 use Rattle.exam_files.specs.Clashes.{clash_list, clash_text}
 use Rattle.exam_files.specs.Doors.{door_list, door_text, opening_in}
 use Rattle.exam_files.specs.Exports.{export_text, seat_export}
-use Rattle.exam_files.specs.OfficeSheets.{attendance_of, clash_list_of, clashes_in, door_list_of, export_of, of_known, opening_for, paper_for, seats_in}
+use Rattle.exam_files.specs.OfficeSheets.{attendance_of, clash_list_of, clashes_in, door_list_of, export_of, of_known, opening_for, paper_for, register_of, seats_in}
+use Rattle.exam_files.specs.Registers.{appeal_register, register_text}
 use Rattle.exam_files.specs.Shortages.{shortage_text}
 use Rattle.exam_files.specs.Writing.{sheet_if}
 
@@ -170,6 +171,12 @@ module _ (office : State) (s : Code) (view : View) (is : IsViewOf office s view)
       ap (λ (code : Code). Ok (export_text code (seats_of view))) is.code
       ∙ ap (λ (seats : List Seat). Ok (export_text s seats)) seats_are
       ∙ sym (ap (of_known (λ (session : Session). Ok (export_text s (seats_in office s)))) is.session)
+
+  pub register_is : Ok (appeal_register view) ≡ register_of office s
+  register_is =
+      ap (λ (code : Code). Ok (register_text code view.appeals)) is.code
+      ∙ ap (λ (list : List AppealRow). Ok (register_text s list)) is.appeals
+      ∙ sym (ap (of_known (λ (session : Session). Ok (register_text s (appeals_of office.relations s)))) is.session)
 
 -- ---- the shortage
 

@@ -7,6 +7,7 @@ pub mod Left
 pub mod OfficeSheets
 pub mod Padding
 pub mod Places
+pub mod Registers
 pub mod Shortages
 pub mod Values
 pub mod Writing

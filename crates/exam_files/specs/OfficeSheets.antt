@@ -1,5 +1,5 @@
 -- What each sheet prints of a session of an office, in the office's own words.
-use Rattle.std.specs.Prelude.{ℕ, Bool, List, Option, None, Some, Result, Ok, Err, filter_map, if◌then◌else◌}
+use Rattle.std.specs.Prelude.{ℕ, List, Option, None, Some, Result, Ok, Err, filter_map, if◌then◌else◌}
 use Rattle.std.specs.List.{list_any}
 use Rattle.std.specs.Option.{ok_or}
 use Rattle.exam_types.specs.declared.refusal.Refusal.{Refusal}
@@ -11,11 +11,12 @@ use Rattle.exam_rules.specs.Sessions.{clashes, members}
 use Rattle.exam_office.specs.declared.view.Clash.{Clash}
 use Rattle.exam_office.specs.declared.view.Seat.{Seat}
 use Rattle.exam_office.specs.State.{State}
-use Rattle.exam_office.specs.Views.{clash_of, papers_of, seat_of}
+use Rattle.exam_office.specs.Views.{appeals_of, clash_of, papers_of, seat_of}
 use Rattle.exam_files.specs.Attendances.{attendance_text}
 use Rattle.exam_files.specs.Clashes.{clash_text}
 use Rattle.exam_files.specs.Doors.{door_text}
 use Rattle.exam_files.specs.Exports.{export_text}
+use Rattle.exam_files.specs.Registers.{register_text}
 use Rattle.exam_files.specs.Writing.{sheet_if}
 
 -- of a session that there is; refused otherwise
@@ -59,3 +60,6 @@ clash_list_of office s = for_session office s (λ session. Ok (clash_text s sess
 
 abbrev pub export_of : State → Code → Result (List ℕ) Refusal
 export_of office s = for_session office s (λ session. Ok (export_text s (seats_in office s)))
+
+abbrev pub register_of : State → Code → Result (List ℕ) Refusal
+register_of office s = for_session office s (λ session. Ok (register_text s (appeals_of office.relations s)))

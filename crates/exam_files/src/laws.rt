@@ -8,6 +8,8 @@ ghost use Rattle.exam_files.specs.Clashes.{clash_list};
 ghost use Rattle.exam_files.specs.Doors.{door_list};
 ghost use Rattle.exam_files.specs.Exports.{seat_export};
 ghost use Rattle.exam_files.specs.OfficeSheets.{attendance_of, clash_list_of, door_list_of, export_of};
+ghost use Rattle.exam_files.specs.OfficeSheets.{register_of};
+ghost use Rattle.exam_files.specs.Registers.{appeal_register};
 ghost use Rattle.exam_files.specs.Shortages.{shortage_text};
 
 /// A door list is that of the office, its refusals too.
@@ -32,6 +34,12 @@ pub fn clash_lists_are_of_the_office()
 pub fn exports_are_of_the_office()
     ensures { (office : State) (s : Code) (view : View) → IsViewOf office s view
         → Ok (seat_export view) ≡ export_of office s }
+{}
+
+/// An appeal register is that of the office.
+pub fn appeal_registers_are_of_the_office()
+    ensures { (office : State) (s : Code) (view : View) → IsViewOf office s view
+        → Ok (appeal_register view) ≡ register_of office s }
 {}
 
 /// A shortage sheet hangs on the facts alone, whichever best plan is stored.

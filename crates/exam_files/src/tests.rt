@@ -8,6 +8,7 @@ mod forms;
 mod kinds;
 mod offices;
 mod reading;
+mod registers;
 mod sheets;
 mod shortage_sheets;
 mod slow;

@@ -8,21 +8,24 @@ use Rattle.exam_plan.specs.Matching.{IsBest, IsCertificate, IsContested, desk_nu
 use Rattle.exam_plan.specs.Problems.{Problem, IsProblem, IsPlan, seating_of, plan_at, ranks_before}
 use Rattle.exam_rules.specs.declared.rows.Session.{Session}
 use Rattle.exam_rules.specs.declared.rows.Opening.{Opening}
+use Rattle.exam_rules.specs.declared.rows.Appeal.{Appeal}
 use Rattle.exam_rules.specs.declared.rows.Candidate.{Candidate}
 use Rattle.exam_rules.specs.declared.rows.Paper.{Paper}
 use Rattle.exam_rules.specs.Relations.{Code, Relations, code_cmp, same_code, row_at}
 use Rattle.exam_rules.specs.Sessions.{members, sitting, finish, clashes}
 use Rattle.exam_rules.specs.Seatings.{seating, plan_of, desks}
+use Rattle.exam_office.specs.Appeals.{state_of}
 use Rattle.exam_office.specs.Headline.{desk_of}
 use Rattle.exam_office.specs.State.{State}
+use Rattle.exam_office.specs.declared.view.AppealRow.{AppealRow}
 use Rattle.exam_office.specs.declared.view.Clash.{Clash}
 use Rattle.exam_office.specs.declared.view.Member.{Member}
 use Rattle.exam_office.specs.declared.view.Seat.{Seat}
 use Rattle.exam_office.specs.declared.view.SessionShortage.{SessionShortage}
 
 -- One session as it is shown: its row, all halls of the office, its openings by hall, its members by number,
--- its papers by code, its clashes, and its seating problem with a plan. The i-th member is candidate i of the
--- problem, and the j-th opening hall j.
+-- its papers by code, its clashes, its appeals by number and reference, and its seating problem with a plan.
+-- The i-th member is candidate i of the problem, and the j-th opening hall j.
 pub record View : Type 0 where
   pub code : Code
   pub session : Session
@@ -31,6 +34,7 @@ pub record View : Type 0 where
   pub members : List Member
   pub papers : List Code
   pub clashes : List Clash
+  pub appeals : List AppealRow
   pub problem : Problem
   pub plan : List (Option ℕ)
 
@@ -134,6 +138,20 @@ clash_of r s pair =
     let clash : Clash = record { number = pair.0; sitting = sat; paper = pair.1 } in clash)
     (sitting r s pair.0)
 
+-- an appeal with its key, as it is listed
+abbrev pub appeal_row : (ℕ × Code) × Appeal → AppealRow
+appeal_row a = record {
+  number = a.0.0;
+  reference = a.0.1;
+  subject = a.1.subject;
+  state = state_of a.1.status;
+  lodged = a.1.lodged;
+}
+
+-- the appeals for the session, whoever lodged them
+abbrev pub appeals_of : Relations → Code → List AppealRow
+appeals_of r s = map appeal_row (filter (λ (a : (ℕ × Code) × Appeal). same_code a.1.session s) r.appeals)
+
 -- the candidate, with the sitting paper and the finish in the session
 abbrev pub member_of : Relations → Code → ℕ → Option Member
 member_of r s c =
@@ -169,4 +187,5 @@ pub record IsViewOf (office : State) (s : Code) (view : View) : Type 0 where
   pub papers : view.papers ≡ papers_of office.relations s
   pub clashes : map (λ (clash : Clash). Some clash) view.clashes
       ≡ map (clash_of office.relations s) (clashes office.relations s)
+  pub appeals : view.appeals ≡ appeals_of office.relations s
   pub shortage : (report : Report) → ShowsShortage view report → IsShortageOf office s report

@@ -4,9 +4,10 @@ ghost use Rattle.std.specs.Option.{option_map};
 ghost use Rattle.exam_types.specs.declared.refusal.Refusal.TheVariants.{NoMemory};
 ghost use Rattle.exam_office.specs.Views as views;
 
+use crate::command::AppealState;
 use exam_plan::{Plan, Problem, desks, shortage};
-use exam_rules::{Opening, Session};
-use exam_types::{HallCode, Minute, Name, Number, PaperCode, Refusal, SessionCode};
+use exam_rules::{Opening, Session, Subject};
+use exam_types::{Day, HallCode, Minute, Name, Number, PaperCode, Reference, Refusal, SessionCode};
 use std::alloc::Global;
 use std::marker::Model;
 
@@ -44,6 +45,17 @@ pub struct Clash {
     pub paper: PaperCode,
 }
 
+/// An appeal as the register of its session lists it.
+#[derive(Clone, Copy)]
+pub struct AppealRow {
+    pub number: Number,
+    pub reference: Reference,
+    pub subject: Subject,
+    pub state: AppealState,
+    /// The day of its lodging.
+    pub lodged: Day,
+}
+
 /// A member of a session, without their seat.
 #[derive(Drop)]
 pub struct Member {
@@ -69,6 +81,8 @@ pub struct SessionView {
     pub(crate) papers: Vec<PaperCode>,
     /// By number and paper.
     pub(crate) clashes: Vec<Clash>,
+    /// By number and reference.
+    pub(crate) appeals: Vec<AppealRow>,
     pub(crate) problem: Problem,
     pub(crate) plan: Plan,
 }
@@ -86,6 +100,7 @@ impl Model for SessionView {
       members = a.members.items;
       papers = a.papers.items;
       clashes = a.clashes.items;
+      appeals = a.appeals.items;
       problem = a.problem;
       plan = a.plan.items;
     } };
@@ -98,6 +113,7 @@ impl Model for SessionView {
       members = a.members.items;
       papers = a.papers.items;
       clashes = a.clashes.items;
+      appeals = a.appeals.items;
       problem = a.problem;
       plan = a.plan.items;
     }) };
@@ -161,6 +177,13 @@ impl SessionView {
         ensures { result.now ≡ self.now.clashes }
     {
         self.clashes.as_slice()
+    }
+
+    /// The appeals for the session, by number and reference.
+    pub fn appeals(&self) -> &[AppealRow]
+        ensures { result.now ≡ self.now.appeals }
+    {
+        self.appeals.as_slice()
     }
 
     /// Who is contested, with all halls that fit any of them.

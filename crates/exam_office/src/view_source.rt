@@ -10,13 +10,14 @@ ghost use Rattle.exam_office.specs.Good.{IsGood};
 ghost use Rattle.exam_office.specs.Limits.{within_limits};
 ghost use Rattle.exam_office.specs.Views as views;
 
+use crate::appeals::state_of;
 use crate::office::Seats;
 use crate::repair::stored_plan;
-use crate::view::{Clash, Member, SessionView};
+use crate::view::{AppealRow, Clash, Member, SessionView};
 use exam_rules::{
-    Facts, ListedProblem, Opening, Session, clashes, finish, listed_problem, sitting,
+    Appeal, Facts, ListedProblem, Opening, Session, clashes, finish, listed_problem, sitting,
 };
-use exam_types::{HallCode, Number, PaperCode, Refusal, SessionCode};
+use exam_types::{HallCode, Number, PaperCode, Reference, Refusal, SessionCode};
 use std::alloc::Global;
 
 /// The view of a session of a good office.
@@ -43,6 +44,7 @@ pub fn view_of(
         members: members_of(alloc, facts, session, &listed.numbers)?,
         papers: papers_of(alloc, facts, session)?,
         clashes: clashes_of(alloc, facts, session)?,
+        appeals: appeals_of(alloc, facts, session)?,
         problem: listed.problem,
         plan,
     })
@@ -117,6 +119,37 @@ fn clash_of(facts: &Facts, session: &SessionCode, pair: (Number, PaperCode)) -> 
         number: pair.0,
         sitting: sitting(facts, session, pair.0).unwrap(),
         paper: pair.1,
+    }
+}
+
+/// The appeals for the session, by number and reference.
+fn appeals_of(
+    alloc: Global,
+    facts: &Facts,
+    session: &SessionCode,
+) -> Result<Vec<AppealRow>, Refusal>
+    ensures ok { IfOk result (λ appeals. appeals.items
+        ≡ views.appeals_of (relations_of facts.now) session.now) }
+    ensures memory { IfErr result (λ e. e ≡ NoMemory) }
+{
+    let appeals = facts
+        .appeals
+        .iter()
+        .filter(|(_, appeal)| appeal.session == *session)
+        .map(|(key, appeal)| appeal_row(*key, appeal))
+        .collect(alloc)?;
+    Ok(appeals)
+}
+
+fn appeal_row(key: (Number, Reference), appeal: &Appeal) -> AppealRow
+    ensures { result ≡ views.appeal_row (key, appeal.now) }
+{
+    AppealRow {
+        number: key.0,
+        reference: key.1,
+        subject: appeal.subject,
+        state: state_of(&appeal.status),
+        lodged: appeal.lodged,
     }
 }
 

@@ -1,5 +1,5 @@
 //! Attendance sheets, clash lists and seat exports.
-use super::offices::{base_office, import, office_with, pair_view, short_view, view_of};
+use super::offices::{base_office, import, pair_office, short_view, two_paper_office, view_of};
 use super::sheets::{Sheet, expect_sheet, write_sheet};
 use crate::SheetFault;
 use exam_office::Kind;
@@ -8,7 +8,7 @@ use std::test::Fail;
 
 #[test]
 fn two_members_attend(rt: HostRuntime) -> Result<(), Fail> {
-    let view = pair_view(rt.alloc())?;
+    let view = view_of(rt.alloc(), &pair_office(rt.alloc())?)?;
     let text =
         b"ATTENDANCE session S1 paper MA-1\ndate 2027-06-01 start 09:00 candidates 2\n0000001 B           1 10:00 Bo Berg\n0000002 A           1 10:00 Ada Lin\n";
     expect_sheet(&rt, &view, Sheet::Attendance(b"MA-1"), text)
@@ -25,19 +25,10 @@ fn the_unseated_attend_and_are_exported(rt: HostRuntime) -> Result<(), Fail> {
     expect_sheet(&rt, &view, Sheet::Export, text)
 }
 
-/// 0000003 is entered for two papers, and sits the first.
+/// 0000003 sits the first of two papers.
 #[test]
 fn a_second_paper_is_a_clash(rt: HostRuntime) -> Result<(), Fail> {
-    let mut office = office_with(
-        rt.alloc(),
-        b"session,hall,desks,until,reserved\nS1,A,1,12:00,no\n",
-    )?;
-    let file =
-        b"paper,title,session,minutes,requires\nPH-2,Physics,S1,60,computer\nEMPTY,Latin,S1,60,-\n";
-    import(rt.alloc(), &mut office, Kind::Papers, file)?;
-    let file = b"number,paper\n0000003,PH-2\n0000003,MA-1\n";
-    import(rt.alloc(), &mut office, Kind::Entries, file)?;
-    let view = view_of(rt.alloc(), &office)?;
+    let view = view_of(rt.alloc(), &two_paper_office(rt.alloc())?)?;
     let text =
         b"CLASHES session S1\ndate 2027-06-01 clashes 1\n0000003 sits MA-1         clash PH-2\n";
     expect_sheet(&rt, &view, Sheet::Clashes, text)?;

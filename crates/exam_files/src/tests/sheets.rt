@@ -1,7 +1,7 @@
 //! Sheets of a session, to writers that take little at a time, or fail.
 use super::reading::paper;
 use super::slow::Slow;
-use crate::{SheetFault, attendance, clash_list, export_seats};
+use crate::{SheetFault, appeal_register, attendance, clash_list, export_seats};
 use exam_office::SessionView;
 use std::alloc::Global;
 use std::io::Write;
@@ -14,6 +14,7 @@ pub enum Sheet<'a> {
     /// Of the paper with this code.
     Attendance(&'a [u8]),
     Clashes,
+    Appeals,
     Export,
 }
 
@@ -27,6 +28,7 @@ pub fn write_sheet<W: Write>(
     match sheet {
         Sheet::Attendance(code) => Ok(attendance(alloc, view, &paper(code)?, out)),
         Sheet::Clashes => Ok(clash_list(alloc, view, out)),
+        Sheet::Appeals => Ok(appeal_register(alloc, view, out)),
         Sheet::Export => Ok(export_seats(alloc, view, out)),
     }
 }
