@@ -1,5 +1,5 @@
 -- The text of a door list.
-use Rattle.std.specs.Prelude.{ℕ, Bool, false, List, [], ◌++◌, Option, Some, None, Result, Ok, Err, ◌==◌, ◌&&◌, nat_eq, codes, count_by, if◌then◌else◌}
+use Rattle.std.specs.Prelude.{ℕ, Bool, false, List, [], ◌++◌, Option, Some, None, Result, Err, ◌==◌, ◌&&◌, nat_eq, codes, count_by, if◌then◌else◌}
 use Rattle.std.specs.Cmp.Lexicographic.{pointwise}
 use Rattle.std.specs.Fmt.{decimal}
 use Rattle.std.specs.Option.{ok_or}
@@ -13,6 +13,7 @@ use Rattle.exam_types.specs.Numbers.{minute_text, number_text}
 use Rattle.exam_types.specs.declared.refusal.Refusal.{Refusal}
 use Rattle.exam_types.specs.declared.refusal.Refusal.TheVariants.{HallNotOpened, UnknownHall}
 use Rattle.exam_files.specs.Padding.{left_in, right_in}
+use Rattle.exam_files.specs.Writing.{sheet_if}
 
 abbrev pub is_in : List ℕ → Option (List ℕ) → Bool
 is_in hall None = false
@@ -52,10 +53,6 @@ door_text code session hall opening seats =
 abbrev pub opening_in : View → List ℕ → Result Opening Refusal
 opening_in view hall =
     if has_hall view hall then ok_or (opening_of view hall) HallNotOpened else Err UnknownHall
-
-abbrev pub sheet_if : {X : Type 0} → (X → List ℕ) → Result X Refusal → Result (List ℕ) Refusal
-sheet_if text (Ok x) = Ok (text x)
-sheet_if text (Err e) = Err e
 
 abbrev pub door_list : View → List ℕ → Result (List ℕ) Refusal
 door_list view hall =

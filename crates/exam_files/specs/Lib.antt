@@ -1,6 +1,12 @@
+pub mod Attendances
+pub mod Clashes
 pub mod Doors
+pub mod Exports
 pub mod ImportFiles
 pub mod Left
+pub mod OfficeSheets
 pub mod Padding
+pub mod Places
+pub mod Registers
 pub mod Shortages
 pub mod Writing

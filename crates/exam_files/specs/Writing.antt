@@ -6,6 +6,11 @@ use Rattle.exam_types.specs.declared.refusal.Refusal.TheVariants.{NoMemory}
 use Rattle.exam_files.specs.declared.sheet_fault.SheetFault.{SheetFault}
 use Rattle.exam_files.specs.declared.sheet_fault.SheetFault.TheVariants.{Refused, Write}
 
+-- the text, unless what it is of is refused
+abbrev pub sheet_if : {X : Type 0} → (X → List ℕ) → Result X Refusal → Result (List ℕ) Refusal
+sheet_if text (Ok x) = Ok (text x)
+sheet_if text (Err e) = Err e
+
 -- a beginning of the text went out
 abbrev pub AppendsBeginning : Option (List ℕ) → Option (List ℕ) → List ℕ → Type 0
 AppendsBeginning old new text =

@@ -1,10 +1,15 @@
 //! Import files and sheets, byte for byte.
 #![tactic(auto)]
 
+mod attendances;
+mod clashes;
 mod doors;
+mod exports;
 mod headers;
 mod imports;
+mod laws;
 mod records;
+mod registers;
 mod row_of_record;
 mod sending;
 mod sheet_fault;
@@ -13,7 +18,16 @@ mod shortages;
 #[cfg(test)]
 mod tests;
 
+pub use attendances::attendance;
+pub use clashes::clash_list;
 pub use doors::door_list;
+pub use exports::export_seats;
 pub use imports::read_import;
+pub use laws::{
+    appeal_registers_are_of_the_office, attendances_are_of_the_office,
+    clash_lists_are_of_the_office, door_lists_are_of_the_office, exports_are_of_the_office,
+    shortage_sheets_are_of_the_facts,
+};
+pub use registers::appeal_register;
 pub use sheet_fault::SheetFault;
 pub use shortages::shortage_sheet;

@@ -2,9 +2,10 @@
 ghost use Rattle.std.specs.Prelude.{◌≡◌, ◌++◌, OnOk, IfErr, replicate};
 ghost use Rattle.std.specs.Fmt.{decimal};
 ghost use Rattle.exam_files.specs.Padding.{left_in, right_in};
+ghost use Rattle.exam_files.specs.Places.{hall_word, desk_word};
 ghost use Rattle.exam_types.specs.declared.refusal.Refusal.TheVariants.{NoMemory};
 
-use exam_types::Refusal;
+use exam_types::{HallCode, Refusal};
 use itoa::{Buffer, Integer};
 
 /// Appends the bytes.
@@ -30,10 +31,38 @@ pub fn push_right(text: &mut Vec<u8>, width: usize, number: u32) -> Result<(), R
     ensures memory { IfErr result (λ e. e ≡ NoMemory) }
 {
     let mut buffer = Buffer::new();
-    let digits = buffer.format(number).as_bytes();
-    push_spaces(text, width.saturating_sub(digits.len()))?;
-    push_bytes(text, digits)?;
+    push_word_right(text, width, buffer.format(number).as_bytes())
+}
+
+/// Appends a word, with spaces on the left up to the width.
+fn push_word_right(text: &mut Vec<u8>, width: usize, word: &[u8]) -> Result<(), Refusal>
+    ensures ok { OnOk result (text.new.items ≡ text.old.items ++ right_in width word.now) }
+    ensures memory { IfErr result (λ e. e ≡ NoMemory) }
+{
+    push_spaces(text, width.saturating_sub(word.len()))?;
+    push_bytes(text, word)?;
     Ok(())
+}
+
+/// Appends the desk number, or a dash where there is none, with spaces on the left up to the width.
+pub fn push_desk(text: &mut Vec<u8>, width: usize, desk: Option<u32>) -> Result<(), Refusal>
+    ensures ok { OnOk result (text.new.items ≡ text.old.items ++ right_in width (desk_word desk)) }
+    ensures memory { IfErr result (λ e. e ≡ NoMemory) }
+{
+    match desk {
+        Some(number) => push_right(text, width, number),
+        None => push_word_right(text, width, b"-"),
+    }
+}
+
+/// The bytes of the hall's code, or a dash where there is none.
+pub fn hall_bytes(hall: &Option<HallCode>) -> &[u8]
+    ensures { result.now ≡ hall_word hall.now }
+{
+    match hall {
+        Some(code) => code.as_bytes(),
+        None => b"-",
+    }
 }
 
 /// Appends the bytes, with spaces on the right up to the width.

@@ -5,14 +5,15 @@ use Rattle.std.specs.Option.{option_map, option_map_or, option_and_then, option_
 use Rattle.std.specs.Ordering.{nat_cmp}
 use Rattle.std.proofs.lemmas.Bool.{and_parts}
 use Rattle.std.proofs.lemmas.Cmp.{eq_by_cmp_equiv, nat_cmp_total}
-use Rattle.std.proofs.lemmas.List.Elements.{All-contains, All-contains_itself, All-filter, filter_passes}
+use Rattle.std.specs.List.{All, flat_map}
+use Rattle.std.proofs.lemmas.List.Elements.{All-nil, All-append, All-map, All-head, All-tail, All-weaker, All-contains, All-contains_itself, All-filter, filter_passes}
 use Rattle.std.proofs.lemmas.Map.Views.{IsSome-lookup_from_Contains}
 use Rattle.exam_rules.specs.declared.rows.Candidate.{Candidate}
 use Rattle.exam_rules.specs.declared.rows.Entry.{Entry}
 use Rattle.exam_rules.specs.declared.rows.Paper.{Paper}
 use Rattle.exam_rules.specs.declared.rows.Session.{Session}
 use Rattle.exam_rules.specs.Relations.{Code, Relations, code_cmp, same_code, row_at, has_row}
-use Rattle.exam_rules.specs.Sessions.{members, has_live_entry, sitting, finish, sitting_row, end_of, arrangement_in_force, is_paper_of, is_live, is_live_paper, is_live_entry, live_papers_in, granted_paper, least_live_paper, head_of, option_filter}
+use Rattle.exam_rules.specs.Sessions.{members, has_live_entry, sitting, finish, sitting_row, end_of, arrangement_in_force, is_paper_of, is_live, is_live_paper, is_live_entry, live_papers_in, granted_paper, least_live_paper, head_of, option_filter, clashes, clashes_of, clash_papers}
 use Rattle.exam_rules.proofs.Sitters.{members_sit}
 
 none_some : {A : Type 0} (x : A) → None ≡ Some x → ⊥
@@ -67,6 +68,19 @@ module _ (r : Relations) (s : Code) where
 
   pub member_sits : (c : ℕ) → Contains (members r s) c → IsSome (sitting r s c)
   member_sits c m = members_sit r s c ∙ listed_member c m
+
+  -- every clash is of somebody who sits a paper
+  sitters : (ms : List ℕ) → All (λ (c : ℕ). IsSome (sitting r s c)) ms → All (λ (x : ℕ × Code). IsSome (sitting r s x.0)) (flat_map (clashes_of r s) ms)
+  sitters [] all = All-nil (λ (x : ℕ × Code). IsSome (sitting r s x.0))
+  sitters (c ∷ ms) all =
+      All-append (λ (x : ℕ × Code). IsSome (sitting r s x.0)) (clashes_of r s c) (flat_map (clashes_of r s) ms)
+      (All-map (λ (x : ℕ × Code). IsSome (sitting r s x.0)) (λ (p : Code). (c, p)) (clash_papers r s c) (λ k d below. All-head (λ (n : ℕ). IsSome (sitting r s n)) c ms all))
+      (sitters ms (All-tail (λ (n : ℕ). IsSome (sitting r s n)) c ms all))
+
+  pub clash_sits : (x : ℕ × Code) → Contains (clashes r s) x → IsSome (sitting r s x.0)
+  clash_sits x m =
+      All-contains (λ (y : ℕ × Code). IsSome (sitting r s y.0)) (clashes r s) x
+      (sitters (members r s) (All-weaker (Contains (members r s)) (λ (n : ℕ). IsSome (sitting r s n)) member_sits (members r s) (All-contains_itself (members r s)))) m
 
   pub member_ends : (c : ℕ) → IsTrue (has_row code_cmp r.sessions s) → Contains (members r s) c → IsSome (finish r s c)
   member_ends c known m = with_session (row_at code_cmp r.sessions s) known

@@ -30,7 +30,8 @@ use Rattle.exam_rules.proofs.PlanLists.{named_at_index}
 use Rattle.exam_plan.proofs.Carrying.{IsBest-indexed, IsCertificate-named, IsContested-named, IsContested-indexed, desk_number-named, unseated-named, member_index, contains_map, from_map}
 use Rattle.exam_office.specs.State.{State, Seats}
 use Rattle.exam_office.specs.Repairs.{places_of}
-use Rattle.exam_office.specs.Views.{View, IsView, IsViewOf, Report, ShowsShortage, IsShortageOf, seats_from, seat_at, seats_of, seat_of, seat_in, member_of, hall_of, number_of, hall_with_desks, openings_of}
+use Rattle.exam_office.specs.Views.{View, IsView, IsViewOf, Report, ShowsShortage, IsShortageOf, seats_from, seat_at, seats_of, seat_of, seat_in, member_of, hall_of, number_of, hall_with_desks, openings_of, papers_of, clash_of, appeals_of}
+use Rattle.exam_office.specs.declared.view.Clash.{Clash}
 use Rattle.exam_office.specs.declared.view.Member.{Member}
 use Rattle.exam_office.specs.declared.view.Seat.{Seat}
 use Rattle.exam_office.proofs.Repairing.{stored_is_plan, stored_is_indexed}
@@ -156,7 +157,9 @@ pub record IsMadeOf (r : Relations) (seats : Seats) (s : Code) (view : View) : T
   pub openings : view.openings ≡ openings_of r s
   pub problem : view.problem ≡ problem_of r s
   pub plan : view.plan ≡ places_of seats s (open_halls r s) (members r s)
-  pub clashes : view.clashes ≡ clashes r s
+  pub papers : view.papers ≡ papers_of r s
+  pub clashes : map (λ (clash : Clash). Some clash) view.clashes ≡ map (clash_of r s) (clashes r s)
+  pub appeals : view.appeals ≡ appeals_of r s
   pub members : map (λ (m : Member). Some m) view.members ≡ map (member_of r s) (members r s)
 
 -- the stored plan of the listed members and halls
@@ -299,6 +302,8 @@ module _ (r : Relations) (seats : Seats) (s : Code) (up : ListsRise r s) (few : 
     hall_codes = made.hall_codes;
     openings = made.openings;
     seats = seats_so;
+    papers = made.papers;
     clashes = made.clashes;
+    appeals = made.appeals;
     shortage = is_shortage;
   }

@@ -8,26 +8,33 @@ use Rattle.exam_plan.specs.Matching.{IsBest, IsCertificate, IsContested, desk_nu
 use Rattle.exam_plan.specs.Problems.{Problem, IsProblem, IsPlan, seating_of, plan_at, ranks_before}
 use Rattle.exam_rules.specs.declared.rows.Session.{Session}
 use Rattle.exam_rules.specs.declared.rows.Opening.{Opening}
+use Rattle.exam_rules.specs.declared.rows.Appeal.{Appeal}
 use Rattle.exam_rules.specs.declared.rows.Candidate.{Candidate}
+use Rattle.exam_rules.specs.declared.rows.Paper.{Paper}
 use Rattle.exam_rules.specs.Relations.{Code, Relations, code_cmp, same_code, row_at}
 use Rattle.exam_rules.specs.Sessions.{members, sitting, finish, clashes}
 use Rattle.exam_rules.specs.Seatings.{seating, plan_of, desks}
+use Rattle.exam_office.specs.Appeals.{state_of}
 use Rattle.exam_office.specs.Headline.{desk_of}
 use Rattle.exam_office.specs.State.{State}
+use Rattle.exam_office.specs.declared.view.AppealRow.{AppealRow}
+use Rattle.exam_office.specs.declared.view.Clash.{Clash}
 use Rattle.exam_office.specs.declared.view.Member.{Member}
 use Rattle.exam_office.specs.declared.view.Seat.{Seat}
 use Rattle.exam_office.specs.declared.view.SessionShortage.{SessionShortage}
 
 -- One session as it is shown: its row, all halls of the office, its openings by hall, its members by number,
--- its clashes, and its seating problem with a plan. The i-th member is candidate i of the problem, and the
--- j-th opening hall j.
+-- its papers by code, its clashes, its appeals by number and reference, and its seating problem with a plan.
+-- The i-th member is candidate i of the problem, and the j-th opening hall j.
 pub record View : Type 0 where
   pub code : Code
   pub session : Session
   pub hall_codes : List Code
   pub openings : List (Code × Opening)
   pub members : List Member
-  pub clashes : List (ℕ × Code)
+  pub papers : List Code
+  pub clashes : List Clash
+  pub appeals : List AppealRow
   pub problem : Problem
   pub plan : List (Option ℕ)
 
@@ -44,6 +51,10 @@ pub record IsView (view : View) : Type 0 where
 -- the office has the hall
 abbrev pub has_hall : View → Code → Bool
 has_hall view h = list_any (λ code. same_code code h) view.hall_codes
+
+-- the paper is one of the session
+abbrev pub has_paper : View → Code → Bool
+has_paper view p = list_any (λ code. same_code code p) view.papers
 
 -- as the hall is opened for the session
 abbrev pub opening_of : View → Code → Option Opening
@@ -116,6 +127,31 @@ openings_of r s =
     map (λ (o : (Code × Code) × Opening). (o.0.1, o.1))
     (filter (λ (o : (Code × Code) × Opening). same_code o.0.0 s) r.openings)
 
+-- the papers of the session
+abbrev pub papers_of : Relations → Code → List Code
+papers_of r s = keys_of (filter (λ (p : Code × Paper). same_code p.1.session s) r.papers)
+
+-- a candidate's paper that they do not sit, with the one that they sit
+abbrev pub clash_of : Relations → Code → ℕ × Code → Option Clash
+clash_of r s pair =
+    option_map (λ (sat : Code).
+    let clash : Clash = record { number = pair.0; sitting = sat; paper = pair.1 } in clash)
+    (sitting r s pair.0)
+
+-- an appeal with its key, as it is listed
+abbrev pub appeal_row : (ℕ × Code) × Appeal → AppealRow
+appeal_row a = record {
+  number = a.0.0;
+  reference = a.0.1;
+  subject = a.1.subject;
+  state = state_of a.1.status;
+  lodged = a.1.lodged;
+}
+
+-- the appeals for the session, whoever lodged them
+abbrev pub appeals_of : Relations → Code → List AppealRow
+appeals_of r s = map appeal_row (filter (λ (a : (ℕ × Code) × Appeal). same_code a.1.session s) r.appeals)
+
 -- the candidate, with the sitting paper and the finish in the session
 abbrev pub member_of : Relations → Code → ℕ → Option Member
 member_of r s c =
@@ -148,5 +184,8 @@ pub record IsViewOf (office : State) (s : Code) (view : View) : Type 0 where
   pub openings : view.openings ≡ openings_of office.relations s
   pub seats : map (λ (seat : Seat). Some seat) (seats_of view)
       ≡ map (seat_of office s) (members office.relations s)
-  pub clashes : view.clashes ≡ clashes office.relations s
+  pub papers : view.papers ≡ papers_of office.relations s
+  pub clashes : map (λ (clash : Clash). Some clash) view.clashes
+      ≡ map (clash_of office.relations s) (clashes office.relations s)
+  pub appeals : view.appeals ≡ appeals_of office.relations s
   pub shortage : (report : Report) → ShowsShortage view report → IsShortageOf office s report

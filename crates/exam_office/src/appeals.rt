@@ -55,7 +55,7 @@ pub fn is_retracted(status: &Status) -> bool
     matches!(status, Status::Retracted)
 }
 
-fn state_of(status: &Status) -> AppealState
+pub fn state_of(status: &Status) -> AppealState
     ensures { result ≡ spec.state_of status.now }
 {
     match status {

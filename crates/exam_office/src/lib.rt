@@ -37,4 +37,4 @@ pub use laws::{
 pub use office::{Office, Seats};
 pub use steps::{next_office, run, step};
 pub use tables::{Table, first_bad_table};
-pub use view::{Seat, SessionShortage, SessionView};
+pub use view::{AppealRow, Clash, Seat, SessionShortage, SessionView};

@@ -4,9 +4,10 @@ ghost use Rattle.std.specs.Option.{option_map};
 ghost use Rattle.exam_types.specs.declared.refusal.Refusal.TheVariants.{NoMemory};
 ghost use Rattle.exam_office.specs.Views as views;
 
+use crate::command::AppealState;
 use exam_plan::{Plan, Problem, desks, shortage};
-use exam_rules::{Opening, Session};
-use exam_types::{HallCode, Minute, Name, Number, PaperCode, Refusal, SessionCode};
+use exam_rules::{Opening, Session, Subject};
+use exam_types::{Day, HallCode, Minute, Name, Number, PaperCode, Reference, Refusal, SessionCode};
 use std::alloc::Global;
 use std::marker::Model;
 
@@ -35,6 +36,26 @@ pub struct SessionShortage {
     pub candidates: Vec<Number>,
 }
 
+/// A live paper of a member that they do not sit.
+#[derive(Clone, Copy)]
+pub struct Clash {
+    pub number: Number,
+    /// The paper that they sit.
+    pub sitting: PaperCode,
+    pub paper: PaperCode,
+}
+
+/// An appeal as the register of its session lists it.
+#[derive(Clone, Copy)]
+pub struct AppealRow {
+    pub number: Number,
+    pub reference: Reference,
+    pub subject: Subject,
+    pub state: AppealState,
+    /// The day of its lodging.
+    pub lodged: Day,
+}
+
 /// A member of a session, without their seat.
 #[derive(Drop)]
 pub struct Member {
@@ -56,7 +77,12 @@ pub struct SessionView {
     pub(crate) openings: Vec<(HallCode, Opening)>,
     /// By number.
     pub(crate) members: Vec<Member>,
-    pub(crate) clashes: Vec<(Number, PaperCode)>,
+    /// The codes of the papers of the session, rising.
+    pub(crate) papers: Vec<PaperCode>,
+    /// By number and paper.
+    pub(crate) clashes: Vec<Clash>,
+    /// By number and reference.
+    pub(crate) appeals: Vec<AppealRow>,
     pub(crate) problem: Problem,
     pub(crate) plan: Plan,
 }
@@ -72,7 +98,9 @@ impl Model for SessionView {
       hall_codes = a.hall_codes.items;
       openings = a.openings.items;
       members = a.members.items;
+      papers = a.papers.items;
       clashes = a.clashes.items;
+      appeals = a.appeals.items;
       problem = a.problem;
       plan = a.plan.items;
     } };
@@ -83,7 +111,9 @@ impl Model for SessionView {
       hall_codes = a.hall_codes.items;
       openings = a.openings.items;
       members = a.members.items;
+      papers = a.papers.items;
       clashes = a.clashes.items;
+      appeals = a.appeals.items;
       problem = a.problem;
       plan = a.plan.items;
     }) };
@@ -135,11 +165,25 @@ impl SessionView {
         Ok(seats)
     }
 
-    /// The members with their live papers that they do not sit, by number and code.
-    pub fn clashes(&self) -> &[(Number, PaperCode)]
+    /// Whether the paper is one of the session.
+    pub fn has_paper(&self, paper: &PaperCode) -> bool
+        ensures { result ≡ views.has_paper self.now paper.now }
+    {
+        self.papers.contains(paper)
+    }
+
+    /// The live papers that members do not sit, by number and code.
+    pub fn clashes(&self) -> &[Clash]
         ensures { result.now ≡ self.now.clashes }
     {
         self.clashes.as_slice()
+    }
+
+    /// The appeals for the session, by number and reference.
+    pub fn appeals(&self) -> &[AppealRow]
+        ensures { result.now ≡ self.now.appeals }
+    {
+        self.appeals.as_slice()
     }
 
     /// Who is contested, with all halls that fit any of them.

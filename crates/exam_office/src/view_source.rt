@@ -10,13 +10,14 @@ ghost use Rattle.exam_office.specs.Good.{IsGood};
 ghost use Rattle.exam_office.specs.Limits.{within_limits};
 ghost use Rattle.exam_office.specs.Views as views;
 
+use crate::appeals::state_of;
 use crate::office::Seats;
 use crate::repair::stored_plan;
-use crate::view::{Member, SessionView};
+use crate::view::{AppealRow, Clash, Member, SessionView};
 use exam_rules::{
-    Facts, ListedProblem, Opening, Session, clashes, finish, listed_problem, sitting,
+    Appeal, Facts, ListedProblem, Opening, Session, clashes, finish, listed_problem, sitting,
 };
-use exam_types::{HallCode, Number, PaperCode, Refusal, SessionCode};
+use exam_types::{HallCode, Number, PaperCode, Reference, Refusal, SessionCode};
 use std::alloc::Global;
 
 /// The view of a session of a good office.
@@ -41,7 +42,9 @@ pub fn view_of(
         hall_codes: hall_codes(alloc, facts)?,
         openings: openings_of(alloc, facts, session)?,
         members: members_of(alloc, facts, session, &listed.numbers)?,
+        papers: papers_of(alloc, facts, session)?,
         clashes: clashes_of(alloc, facts, session)?,
+        appeals: appeals_of(alloc, facts, session)?,
         problem: listed.problem,
         plan,
     })
@@ -63,17 +66,91 @@ fn listed(alloc: Global, facts: &Facts, session: &SessionCode) -> Result<ListedP
     listed_problem(alloc, facts, session)
 }
 
-/// The clashes of a session that there is.
-fn clashes_of(
+/// The papers of the session, codes rising.
+fn papers_of(alloc: Global, facts: &Facts, session: &SessionCode) -> Result<Vec<PaperCode>, Refusal>
+    ensures ok { IfOk result (λ papers. papers.items ≡ views.papers_of (relations_of facts.now) session.now) }
+    ensures memory { IfErr result (λ e. e ≡ NoMemory) }
+{
+    let papers = facts
+        .papers
+        .iter()
+        .filter(|(_, paper)| paper.session == *session)
+        .map(|(code, _)| *code)
+        .collect(alloc)?;
+    Ok(papers)
+}
+
+/// The clashes of a session that there is, each with the paper that is sat.
+fn clashes_of(alloc: Global, facts: &Facts, session: &SessionCode) -> Result<Vec<Clash>, Refusal>
+    requires { IsTrue (has_row code_cmp facts.now.sessions.entries session.now) }
+    ensures ok { IfOk result (λ list. map (λ clash. Some clash) list.items
+        ≡ map (views.clash_of (relations_of facts.now) session.now)
+        (sessions.clashes (relations_of facts.now) session.now)) }
+    ensures memory { IfErr result (λ e. e ≡ NoMemory) }
+{
+    let pairs = clashes(alloc, facts, session)?;
+    with_sitting(alloc, facts, session, &pairs)
+}
+
+/// The clashes, each with the paper that is sat.
+fn with_sitting(
     alloc: Global,
     facts: &Facts,
     session: &SessionCode,
-) -> Result<Vec<(Number, PaperCode)>, Refusal>
-    requires { IsTrue (has_row code_cmp facts.now.sessions.entries session.now) }
-    ensures ok { IfOk result (λ list. list.items ≡ sessions.clashes (relations_of facts.now) session.now) }
+    pairs: &[(Number, PaperCode)],
+) -> Result<Vec<Clash>, Refusal>
+    requires { pairs.now ≡ sessions.clashes (relations_of facts.now) session.now }
+    ensures ok { IfOk result (λ list. map (λ clash. Some clash) list.items
+        ≡ map (views.clash_of (relations_of facts.now) session.now) pairs.now) }
     ensures memory { IfErr result (λ e. e ≡ NoMemory) }
 {
-    clashes(alloc, facts, session)
+    let mut list = Vec::with_capacity(alloc, pairs.len())?;
+    for pair in pairs {
+        list.push(clash_of(facts, session, *pair))?;
+    }
+    Ok(list)
+}
+
+fn clash_of(facts: &Facts, session: &SessionCode, pair: (Number, PaperCode)) -> Clash
+    requires { Contains (sessions.clashes (relations_of facts.now) session.now) pair }
+    ensures { views.clash_of (relations_of facts.now) session.now pair ≡ Some result }
+{
+    Clash {
+        number: pair.0,
+        sitting: sitting(facts, session, pair.0).unwrap(),
+        paper: pair.1,
+    }
+}
+
+/// The appeals for the session, by number and reference.
+fn appeals_of(
+    alloc: Global,
+    facts: &Facts,
+    session: &SessionCode,
+) -> Result<Vec<AppealRow>, Refusal>
+    ensures ok { IfOk result (λ appeals. appeals.items
+        ≡ views.appeals_of (relations_of facts.now) session.now) }
+    ensures memory { IfErr result (λ e. e ≡ NoMemory) }
+{
+    let appeals = facts
+        .appeals
+        .iter()
+        .filter(|(_, appeal)| appeal.session == *session)
+        .map(|(key, appeal)| appeal_row(*key, appeal))
+        .collect(alloc)?;
+    Ok(appeals)
+}
+
+fn appeal_row(key: (Number, Reference), appeal: &Appeal) -> AppealRow
+    ensures { result ≡ views.appeal_row (key, appeal.now) }
+{
+    AppealRow {
+        number: key.0,
+        reference: key.1,
+        subject: appeal.subject,
+        state: state_of(&appeal.status),
+        lodged: appeal.lodged,
+    }
 }
 
 /// The codes of all halls, rising.

@@ -1,9 +1,11 @@
 //! Offices with one session, for the sheets.
-use super::reading::session;
+use super::reading::{hall, number, session};
 use crate::read_import;
-use exam_office::{Command, Kind, Office, SessionView, step};
-use exam_types::Day;
+use exam_office::{AppealState, Command, Kind, Office, SessionView, step};
+use exam_rules::{Appeal, Status, Subject};
+use exam_types::{Day, Reason, Reference};
 use std::alloc::Global;
+use std::collections::BTreeMap;
 use std::test::Fail;
 
 /// Imports a file.
@@ -49,23 +51,103 @@ pub fn view_of(alloc: Global, office: &Office) -> Result<SessionView, Fail> {
     Ok(office.session_view(alloc, &session(b"S1")?)?)
 }
 
-/// All three are entered, and 0000002 needs a step-free hall: 0000002 sits in A, 0000001 in B, and 0000003 is
-/// unseated.
-pub fn short_view(alloc: Global) -> Result<SessionView, Fail> {
+/// 0000001 and 0000002 are entered, of whom 0000002 needs a step-free hall: 0000002 sits in A, 0000001 in B.
+pub fn pair_office(alloc: Global) -> Result<Office, Fail> {
     let mut office = base_office(alloc)?;
     let file = b"number,needs,extra\n0000002,step-free,0\n";
     import(alloc, &mut office, Kind::Arrangements, file)?;
-    import(
-        alloc,
-        &mut office,
-        Kind::Entries,
-        b"number,paper\n0000001,MA-1\n0000002,MA-1\n",
-    )?;
-    import(
-        alloc,
-        &mut office,
-        Kind::Entries,
-        b"number,paper\n0000003,MA-1\n",
-    )?;
+    let file = b"number,paper\n0000001,MA-1\n0000002,MA-1\n";
+    import(alloc, &mut office, Kind::Entries, file)?;
+    Ok(office)
+}
+
+/// The same with 0000003, who is unseated.
+pub fn short_view(alloc: Global) -> Result<SessionView, Fail> {
+    let mut office = pair_office(alloc)?;
+    let file = b"number,paper\n0000003,MA-1\n";
+    import(alloc, &mut office, Kind::Entries, file)?;
     view_of(alloc, &office)
+}
+
+/// A step-free hall is open, and 0000003 is entered for two papers, of which they sit MA-1.
+pub fn two_paper_office(alloc: Global) -> Result<Office, Fail> {
+    let openings = b"session,hall,desks,until,reserved\nS1,A,1,12:00,no\n";
+    let mut office = office_with(alloc, openings)?;
+    let file = b"paper,title,session,minutes,requires\nPH-2,Physics,S1,60,-\n";
+    import(alloc, &mut office, Kind::Papers, file)?;
+    let file = b"number,paper\n0000003,PH-2\n0000003,MA-1\n";
+    import(alloc, &mut office, Kind::Entries, file)?;
+    Ok(office)
+}
+
+/// An appeal for S1.
+#[derive(Clone, Copy)]
+pub struct LodgedAppeal<'a> {
+    number: u32,
+    reference: &'a [u8],
+    subject: Subject,
+    state: AppealState,
+}
+
+/// An appeal of a candidate.
+pub fn lodged<'a>(
+    number: u32,
+    reference: &'a [u8],
+    subject: Subject,
+    state: AppealState,
+) -> LodgedAppeal<'a> {
+    LodgedAppeal {
+        number,
+        reference,
+        subject,
+        state,
+    }
+}
+
+fn reason(alloc: Global) -> Result<Reason, Fail> {
+    Ok(Reason::parse(alloc, b"why")?.ok_or("reason")?)
+}
+
+fn status_of(alloc: Global, state: AppealState) -> Result<Status, Fail> {
+    match state {
+        AppealState::Pending => Ok(Status::Pending),
+        AppealState::Granted => Ok(Status::Granted(reason(alloc)?)),
+        AppealState::Refused => Ok(Status::Refused(reason(alloc)?)),
+        AppealState::Retracted => Ok(Status::Retracted),
+        AppealState::Superseded => Ok(Status::Superseded(reason(alloc)?)),
+    }
+}
+
+/// The appeal, lodged on 2027-05-30.
+fn appeal_of(alloc: Global, appeal: LodgedAppeal) -> Result<Appeal, Fail> {
+    let lodged = Day::parse(b"2027-05-30").ok_or("day")?;
+    let session = session(b"S1")?;
+    let reason = reason(alloc)?;
+    Ok(Appeal {
+        session,
+        subject: appeal.subject,
+        reason,
+        status: status_of(alloc, appeal.state)?,
+        lodged,
+    })
+}
+
+/// The session of the office once it has these appeals, with these candidates in these halls.
+pub fn view_with(
+    alloc: Global,
+    office: &Office,
+    appeals: &[LodgedAppeal],
+    seated: &[(u32, &[u8])],
+) -> Result<SessionView, Fail> {
+    let mut facts = office.facts().clone()?;
+    for appeal in appeals {
+        let reference = Reference::parse(appeal.reference).ok_or("reference")?;
+        let key = (number(appeal.number)?, reference);
+        facts.appeals.insert(key, appeal_of(alloc, *appeal)?)?;
+    }
+    let mut seats = BTreeMap::new(alloc);
+    for seat in seated {
+        seats.insert((session(b"S1")?, number(seat.0)?), hall(seat.1)?)?;
+    }
+    view_of(alloc, &Office::from_parts(alloc, facts, seats)?)
 }

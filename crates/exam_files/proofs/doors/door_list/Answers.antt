@@ -3,7 +3,8 @@ use Rattle.std.specs.Prelude.{Ok}
 use Rattle.exam_rules.specs.declared.rows.Opening.{Opening}
 use Rattle.exam_rules.specs.declared.rows.Session.{Session}
 use Rattle.exam_office.specs.Views.{seats_of}
-use Rattle.exam_files.specs.Doors.{door_text, sheet_if}
+use Rattle.exam_files.specs.Doors.{door_text}
+use Rattle.exam_files.specs.Writing.{sheet_if}
 use Rattle.exam_files.proofs.Written.{written, unsent}
 use Rattle.exam_files.proofs.doors.door_list.Goals as goal
 

@@ -14,7 +14,9 @@ returns-clause-ok c =
       openings = c.in_ok-openings_of.ensures.ok;
       problem = c.in_ok-listed.ensures.ok;
       plan = places_listed (relations_of c.args.facts.now) c.args.seats.now.entries c.args.session.now c.deref.result.now c.deref-2.result.now c.in_ok-plan.plan.items (c.deref.ensures.value ∙ c.in_ok-listed.ensures.numbers) (c.deref-2.ensures.value ∙ c.in_ok-listed.ensures.halls) c.in_ok-plan.ensures.ok;
+      papers = c.in_ok-papers_of.ensures.ok;
       clashes = c.in_ok-clashes_of.ensures.ok;
+      appeals = c.in_ok-appeals_of.ensures.ok;
       members = c.in_ok-members_of.ensures.ok ∙ ap (map (member_of (relations_of c.args.facts.now) c.args.session.now)) (c.deref-3.ensures.value ∙ c.in_ok-listed.ensures.numbers);
     })
 
@@ -27,6 +29,8 @@ invariant_of-result c =
       openings = c.in_ok-openings_of.ensures.ok;
       problem = c.in_ok-listed.ensures.ok;
       plan = places_listed (relations_of c.args.facts.now) c.args.seats.now.entries c.args.session.now c.deref.result.now c.deref-2.result.now c.in_ok-plan.plan.items (c.deref.ensures.value ∙ c.in_ok-listed.ensures.numbers) (c.deref-2.ensures.value ∙ c.in_ok-listed.ensures.halls) c.in_ok-plan.ensures.ok;
+      papers = c.in_ok-papers_of.ensures.ok;
       clashes = c.in_ok-clashes_of.ensures.ok;
+      appeals = c.in_ok-appeals_of.ensures.ok;
       members = c.in_ok-members_of.ensures.ok ∙ ap (map (member_of (relations_of c.args.facts.now) c.args.session.now)) (c.deref-3.ensures.value ∙ c.in_ok-listed.ensures.numbers);
     })

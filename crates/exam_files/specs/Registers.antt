@@ -1,0 +1,52 @@
+-- The text of an appeal register.
+use Rattle.std.specs.Prelude.{ℕ, List, ◌++◌, length, codes}
+use Rattle.std.specs.Fmt.{decimal}
+use Rattle.std.specs.List.{flat_map}
+use Rattle.exam_office.specs.declared.command.AppealState.{AppealState}
+use Rattle.exam_office.specs.declared.command.AppealState.TheVariants as state
+use Rattle.exam_office.specs.declared.view.AppealRow.{AppealRow}
+use Rattle.exam_office.specs.Views.{View}
+use Rattle.exam_rules.specs.declared.rows.Arrangement.{Arrangement}
+use Rattle.exam_rules.specs.declared.rows.Subject.{Subject}
+use Rattle.exam_rules.specs.declared.rows.Subject.TheVariants as subject
+use Rattle.exam_types.specs.Days.{day_text}
+use Rattle.exam_types.specs.Features.{features_text}
+use Rattle.exam_types.specs.Numbers.{number_text}
+use Rattle.exam_files.specs.Padding.{left_in}
+
+abbrev pub kind_word : Subject → List ℕ
+kind_word (subject.Hall hall) = codes "hall"
+kind_word (subject.Clash paper) = codes "clash"
+kind_word (subject.Arrangement asked) = codes "arrangement"
+
+abbrev pub state_word : AppealState → List ℕ
+state_word state.Pending = codes "open"
+state_word state.Granted = codes "granted"
+state_word state.Refused = codes "refused"
+state_word state.Retracted = codes "retracted"
+state_word state.Superseded = codes "superseded"
+
+-- the needs and the extra time
+abbrev pub arrangement_text : Arrangement → List ℕ
+arrangement_text asked = features_text asked.needs ++ codes " " ++ decimal asked.extra
+
+abbrev pub subject_text : Subject → List ℕ
+subject_text (subject.Hall hall) = hall
+subject_text (subject.Clash paper) = paper
+subject_text (subject.Arrangement asked) = arrangement_text asked
+
+abbrev pub appeal_line : AppealRow → List ℕ
+appeal_line row =
+    number_text row.number ++ codes " " ++ left_in 16 row.reference
+    ++ codes " " ++ left_in 11 (kind_word row.subject) ++ codes " " ++ left_in 10 (state_word row.state)
+    ++ codes " " ++ day_text row.lodged ++ codes " " ++ subject_text row.subject ++ codes "\n"
+
+abbrev pub register_heading : List ℕ → ℕ → List ℕ
+register_heading code count = codes "APPEALS session " ++ code ++ codes "\nappeals " ++ decimal count ++ codes "\n"
+
+-- the heading, and a line for each appeal
+abbrev pub register_text : List ℕ → List AppealRow → List ℕ
+register_text code appeals = register_heading code (length appeals) ++ flat_map appeal_line appeals
+
+abbrev pub appeal_register : View → List ℕ
+appeal_register view = register_text view.code view.appeals

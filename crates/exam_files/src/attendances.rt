@@ -1,0 +1,122 @@
+//! The attendance sheet of a paper.
+ghost use Rattle.std.specs.Prelude.{◌≡◌, ◌++◌, OnOk, IfOk, IfErr, count_by};
+ghost use Rattle.std.specs.List.{flat_map};
+ghost use Rattle.exam_files.specs.Attendances as spec;
+ghost use Rattle.exam_files.specs.Writing.{Writes};
+ghost use Rattle.exam_types.specs.declared.refusal.Refusal.TheVariants.{NoMemory};
+
+use crate::sending::send;
+use crate::sheet_fault::SheetFault;
+use crate::sheet_text::{hall_bytes, push_bytes, push_decimal, push_desk, push_left};
+use exam_office::{Seat, SessionView};
+use exam_rules::Session;
+use exam_types::{PaperCode, Refusal, SessionCode};
+use std::alloc::Global;
+use std::io::Write;
+
+/// Writes the attendance sheet of a paper: the members who sit it, by number, the unseated with `-` as hall
+/// and as desk. Refused as an unknown paper where it is none of the session's.
+pub fn attendance<W: Write>(
+    alloc: Global,
+    view: &SessionView,
+    paper: &PaperCode,
+    writer: &mut W,
+) -> Result<(), SheetFault>
+    ensures { Writes W.contents result writer.old writer.new (spec.attendance view.now paper.now) }
+{
+    check_paper(view, paper)?;
+    let seats = view.seats(alloc)?;
+    let text = attendance_text(alloc, view.code(), view.session(), paper, &seats)?;
+    send(writer, text.as_slice())
+}
+
+/// Refused where the paper is none of the session's.
+fn check_paper(view: &SessionView, paper: &PaperCode) -> Result<(), Refusal>
+    ensures { result ≡ spec.paper_in view.now paper.now }
+{
+    if view.has_paper(paper) {
+        Ok(())
+    } else {
+        Err(Refusal::UnknownPaper)
+    }
+}
+
+fn attendance_text(
+    alloc: Global,
+    code: SessionCode,
+    session: Session,
+    paper: &PaperCode,
+    seats: &[Seat],
+) -> Result<Vec<u8>, Refusal>
+    ensures ok { IfOk result (λ text. text.items
+        ≡ spec.attendance_text code session paper.now seats.now) }
+    ensures memory { IfErr result (λ e. e ≡ NoMemory) }
+{
+    let mut text = Vec::new(alloc);
+    push_heading(&mut text, code, session, paper, sitters(seats, paper))?;
+    push_lines(&mut text, seats, paper)?;
+    Ok(text)
+}
+
+/// How many sit the paper.
+fn sitters(seats: &[Seat], paper: &PaperCode) -> usize
+    ensures { result ≡ count_by (spec.sits paper.now) seats.now }
+{
+    seats.iter().filter(|seat| seat.paper == *paper).count()
+}
+
+fn push_heading(
+    text: &mut Vec<u8>,
+    code: SessionCode,
+    session: Session,
+    paper: &PaperCode,
+    count: usize,
+) -> Result<(), Refusal>
+    ensures ok { OnOk result (text.new.items
+        ≡ text.old.items ++ spec.attendance_heading code session paper.now count) }
+    ensures memory { IfErr result (λ e. e ≡ NoMemory) }
+{
+    push_bytes(text, b"ATTENDANCE session ")?;
+    code.write_to(text)?;
+    push_bytes(text, b" paper ")?;
+    paper.write_to(text)?;
+    push_bytes(text, b"\ndate ")?;
+    session.day.write_to(text)?;
+    push_bytes(text, b" start ")?;
+    session.start.write_to(text)?;
+    push_bytes(text, b" candidates ")?;
+    push_decimal(text, count)?;
+    push_bytes(text, b"\n")?;
+    Ok(())
+}
+
+/// The line of each member who sits the paper.
+fn push_lines(text: &mut Vec<u8>, seats: &[Seat], paper: &PaperCode) -> Result<(), Refusal>
+    ensures ok { OnOk result (text.new.items
+        ≡ text.old.items ++ flat_map (spec.line_for paper.now) seats.now) }
+    ensures memory { IfErr result (λ e. e ≡ NoMemory) }
+{
+    for seat in seats {
+        if seat.paper == *paper {
+            push_line(text, seat)?;
+        }
+    }
+    Ok(())
+}
+
+fn push_line(text: &mut Vec<u8>, seat: &Seat) -> Result<(), Refusal>
+    ensures ok { OnOk result (text.new.items ≡ text.old.items ++ spec.attendance_line seat.now) }
+    ensures memory { IfErr result (λ e. e ≡ NoMemory) }
+{
+    seat.number.write_to(text)?;
+    push_bytes(text, b" ")?;
+    push_left(text, 8, hall_bytes(&seat.hall))?;
+    push_bytes(text, b" ")?;
+    push_desk(text, 4, seat.desk)?;
+    push_bytes(text, b" ")?;
+    seat.finish.write_to(text)?;
+    push_bytes(text, b" ")?;
+    seat.name.write_to(text)?;
+    push_bytes(text, b"\n")?;
+    Ok(())
+}

@@ -1,0 +1,85 @@
+//! The clash list of a session.
+ghost use Rattle.std.specs.Prelude.{◌≡◌, ◌++◌, Ok, OnOk, IfOk, IfErr};
+ghost use Rattle.std.specs.List.{flat_map};
+ghost use Rattle.exam_files.specs.Clashes as spec;
+ghost use Rattle.exam_files.specs.Writing.{Writes};
+ghost use Rattle.exam_types.specs.declared.refusal.Refusal.TheVariants.{NoMemory};
+
+use crate::sending::send;
+use crate::sheet_fault::SheetFault;
+use crate::sheet_text::{push_bytes, push_decimal, push_left};
+use exam_office::{Clash, SessionView};
+use exam_rules::Session;
+use exam_types::{Refusal, SessionCode};
+use std::alloc::Global;
+use std::io::Write;
+
+/// Writes the clash list of a session: the live papers that members do not sit, by number and paper, each
+/// beside the paper that they sit.
+pub fn clash_list<W: Write>(
+    alloc: Global,
+    view: &SessionView,
+    writer: &mut W,
+) -> Result<(), SheetFault>
+    ensures { Writes W.contents result writer.old writer.new (Ok (spec.clash_list view.now)) }
+{
+    let text = clash_text(alloc, view.code(), view.session(), view.clashes())?;
+    send(writer, text.as_slice())
+}
+
+fn clash_text(
+    alloc: Global,
+    code: SessionCode,
+    session: Session,
+    clashes: &[Clash],
+) -> Result<Vec<u8>, Refusal>
+    ensures ok { IfOk result (λ text. text.items ≡ spec.clash_text code session clashes.now) }
+    ensures memory { IfErr result (λ e. e ≡ NoMemory) }
+{
+    let mut text = Vec::new(alloc);
+    push_heading(&mut text, code, session, clashes.len())?;
+    push_clashes(&mut text, clashes)?;
+    Ok(text)
+}
+
+fn push_heading(
+    text: &mut Vec<u8>,
+    code: SessionCode,
+    session: Session,
+    count: usize,
+) -> Result<(), Refusal>
+    ensures ok { OnOk result (text.new.items ≡ text.old.items ++ spec.clash_heading code session count) }
+    ensures memory { IfErr result (λ e. e ≡ NoMemory) }
+{
+    push_bytes(text, b"CLASHES session ")?;
+    code.write_to(text)?;
+    push_bytes(text, b"\ndate ")?;
+    session.day.write_to(text)?;
+    push_bytes(text, b" clashes ")?;
+    push_decimal(text, count)?;
+    push_bytes(text, b"\n")?;
+    Ok(())
+}
+
+fn push_clashes(text: &mut Vec<u8>, clashes: &[Clash]) -> Result<(), Refusal>
+    ensures ok { OnOk result (text.new.items ≡ text.old.items ++ flat_map spec.clash_line clashes.now) }
+    ensures memory { IfErr result (λ e. e ≡ NoMemory) }
+{
+    for clash in clashes {
+        push_line(text, clash)?;
+    }
+    Ok(())
+}
+
+fn push_line(text: &mut Vec<u8>, clash: &Clash) -> Result<(), Refusal>
+    ensures ok { OnOk result (text.new.items ≡ text.old.items ++ spec.clash_line clash.now) }
+    ensures memory { IfErr result (λ e. e ≡ NoMemory) }
+{
+    clash.number.write_to(text)?;
+    push_bytes(text, b" sits ")?;
+    push_left(text, 12, clash.sitting.as_bytes())?;
+    push_bytes(text, b" clash ")?;
+    clash.paper.write_to(text)?;
+    push_bytes(text, b"\n")?;
+    Ok(())
+}

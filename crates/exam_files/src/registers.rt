@@ -1,0 +1,128 @@
+//! The appeal register of a session.
+ghost use Rattle.std.specs.Prelude.{◌≡◌, ◌++◌, Ok, OnOk, IfOk, IfErr};
+ghost use Rattle.std.specs.List.{flat_map};
+ghost use Rattle.exam_files.specs.Registers as spec;
+ghost use Rattle.exam_files.specs.Writing.{Writes};
+ghost use Rattle.exam_types.specs.declared.refusal.Refusal.TheVariants.{NoMemory};
+
+use crate::sending::send;
+use crate::sheet_fault::SheetFault;
+use crate::sheet_text::{push_bytes, push_decimal, push_left};
+use exam_office::{AppealRow, AppealState, SessionView};
+use exam_rules::{Arrangement, Subject};
+use exam_types::{Refusal, SessionCode};
+use std::alloc::Global;
+use std::io::Write;
+
+/// Writes the appeal register of a session: its appeals by number and reference, also of candidates who have
+/// left it.
+pub fn appeal_register<W: Write>(
+    alloc: Global,
+    view: &SessionView,
+    writer: &mut W,
+) -> Result<(), SheetFault>
+    ensures { Writes W.contents result writer.old writer.new (Ok (spec.appeal_register view.now)) }
+{
+    let text = register_text(alloc, view.code(), view.appeals())?;
+    send(writer, text.as_slice())
+}
+
+fn register_text(
+    alloc: Global,
+    code: SessionCode,
+    appeals: &[AppealRow],
+) -> Result<Vec<u8>, Refusal>
+    ensures ok { IfOk result (λ text. text.items ≡ spec.register_text code appeals.now) }
+    ensures memory { IfErr result (λ e. e ≡ NoMemory) }
+{
+    let mut text = Vec::new(alloc);
+    push_heading(&mut text, code, appeals.len())?;
+    push_appeals(&mut text, appeals)?;
+    Ok(text)
+}
+
+fn push_heading(text: &mut Vec<u8>, code: SessionCode, count: usize) -> Result<(), Refusal>
+    ensures ok { OnOk result (text.new.items ≡ text.old.items ++ spec.register_heading code count) }
+    ensures memory { IfErr result (λ e. e ≡ NoMemory) }
+{
+    push_bytes(text, b"APPEALS session ")?;
+    code.write_to(text)?;
+    push_bytes(text, b"\nappeals ")?;
+    push_decimal(text, count)?;
+    push_bytes(text, b"\n")?;
+    Ok(())
+}
+
+fn push_appeals(text: &mut Vec<u8>, appeals: &[AppealRow]) -> Result<(), Refusal>
+    ensures ok { OnOk result (text.new.items ≡ text.old.items ++ flat_map spec.appeal_line appeals.now) }
+    ensures memory { IfErr result (λ e. e ≡ NoMemory) }
+{
+    for appeal in appeals {
+        push_line(text, appeal)?;
+    }
+    Ok(())
+}
+
+fn push_line(text: &mut Vec<u8>, appeal: &AppealRow) -> Result<(), Refusal>
+    ensures ok { OnOk result (text.new.items ≡ text.old.items ++ spec.appeal_line appeal.now) }
+    ensures memory { IfErr result (λ e. e ≡ NoMemory) }
+{
+    appeal.number.write_to(text)?;
+    push_bytes(text, b" ")?;
+    push_left(text, 16, appeal.reference.as_bytes())?;
+    push_bytes(text, b" ")?;
+    push_left(text, 11, kind_word(&appeal.subject))?;
+    push_bytes(text, b" ")?;
+    push_left(text, 10, state_word(appeal.state))?;
+    push_bytes(text, b" ")?;
+    appeal.lodged.write_to(text)?;
+    push_bytes(text, b" ")?;
+    push_subject(text, &appeal.subject)?;
+    push_bytes(text, b"\n")?;
+    Ok(())
+}
+
+fn kind_word(subject: &Subject) -> &[u8]
+    ensures { result.now ≡ spec.kind_word subject.now }
+{
+    match subject {
+        Subject::Hall(_) => b"hall",
+        Subject::Clash(_) => b"clash",
+        Subject::Arrangement(_) => b"arrangement",
+    }
+}
+
+fn state_word(state: AppealState) -> &'static [u8]
+    ensures { result.now ≡ spec.state_word state }
+{
+    match state {
+        AppealState::Pending => b"open",
+        AppealState::Granted => b"granted",
+        AppealState::Refused => b"refused",
+        AppealState::Retracted => b"retracted",
+        AppealState::Superseded => b"superseded",
+    }
+}
+
+/// Appends the hall, the paper, or the needs and the extra time.
+fn push_subject(text: &mut Vec<u8>, subject: &Subject) -> Result<(), Refusal>
+    ensures ok { OnOk result (text.new.items ≡ text.old.items ++ spec.subject_text subject.now) }
+    ensures memory { IfErr result (λ e. e ≡ NoMemory) }
+{
+    match subject {
+        Subject::Hall(hall) => hall.write_to(text),
+        Subject::Clash(paper) => paper.write_to(text),
+        Subject::Arrangement(asked) => push_arrangement(text, *asked),
+    }
+}
+
+fn push_arrangement(text: &mut Vec<u8>, asked: Arrangement) -> Result<(), Refusal>
+    ensures ok { OnOk result (text.new.items
+        ≡ text.old.items ++ spec.arrangement_text asked) }
+    ensures memory { IfErr result (λ e. e ≡ NoMemory) }
+{
+    asked.needs.write_to(text)?;
+    push_bytes(text, b" ")?;
+    asked.extra.write_to(text)?;
+    Ok(())
+}
