@@ -6,7 +6,8 @@ use Rattle.sqlite_trees.specs.Tree.{Trees, with_tree}
 use Rattle.exam_tables.specs.Changes.{put_all, delete_all}
 use Rattle.exam_store.specs.declared.differences.Difference.{Difference}
 use Rattle.exam_store.specs.declared.saving.Changes.{Changes}
-use Rattle.exam_store.specs.Saves.{Form, sessions, papers, halls, candidates, openings, entries, arrangements, appeals, seats, with_put, with_deleted, all_saved}
+use Rattle.exam_store.specs.Saves.{Form, sessions, papers, halls, candidates, openings, entries, arrangements, appeals, seats}
+use Rattle.exam_store.proofs.SavedTrees.{with_put, with_deleted, all_saved}
 use Rattle.exam_store.proofs.SavedRows.{meant, with_rows_is, without_rows_is}
 
 -- what the change makes of a tree is told by the rows of that tree

@@ -4,11 +4,13 @@ pub mod Creating
 pub mod Differing
 pub mod EachTree
 pub mod Exact
+pub mod Failing
 pub mod Inserting
 pub mod Reading
 pub mod Refusing
 pub mod Rekeeping
 pub mod SavedRows
+pub mod SavedTrees
 pub mod Steps
 pub mod Turning
 pub mod Versioned

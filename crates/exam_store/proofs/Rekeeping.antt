@@ -10,11 +10,13 @@ use Rattle.exam_types.specs.declared.refusal.Refusal.{Refusal}
 use Rattle.exam_office.specs.State.{State, empty_state}
 use Rattle.exam_store.specs.declared.saving.Changes.{Changes}
 use Rattle.exam_store.specs.Held.{HoldsRows, HoldsOffice}
-use Rattle.exam_store.specs.Inside.{Becomes, Contains}
-use Rattle.exam_store.specs.Found.{IsOurs, Finds}
+use Rattle.exam_store.specs.Inside.{Becomes, Contains, IsOurs}
+use Rattle.exam_store.specs.Found.{Finds}
 use Rattle.exam_store.specs.Kept.{Rekeeps, Keeps}
 use Rattle.exam_store.specs.Rows.{session_row, paper_row, hall_row, candidate_row, opening_row, entry_row, arrangement_row, appeal_row, seat_row}
-use Rattle.exam_store.specs.Saves.{all_saved, TurnsTables}
+use Rattle.exam_store.specs.Saves as writes
+use Rattle.exam_store.specs.Saves.{TurnsTables}
+use Rattle.exam_store.proofs.SavedTrees.{all_saved, saved_are}
 use Rattle.exam_store.specs.Versions.{HasVersion, new_tables, IsBlank, IsMade}
 use Rattle.exam_store.proofs.EachTree.{sessions_after, papers_after, halls_after, openings_after, candidates_after, entries_after, arrangements_after, appeals_after, seats_after, version_after}
 use Rattle.exam_store.proofs.SavedRows.{table_saved, sessions_match, papers_match, halls_match, openings_match, candidates_match, entries_match, arrangements_match, appeals_match, seats_match}
@@ -35,10 +37,10 @@ holds_after before after c all turns was = record {
   seats = subst (HoldsRows seat_row after.seats) (sym (seats_after c all)) (table_saved seats_match 15 all _ _ _ _ turns.seats was.seats);
 }
 
-pub rekeeps : (before after : State) (c : Changes) (old new : Database) → TurnsTables before after c → Becomes (all_saved c) old new → Rekeeps before after old new
+pub rekeeps : (before after : State) (c : Changes) (old new : Database) → TurnsTables before after c → Becomes (writes.all_saved c) old new → Rekeeps before after old new
 rekeeps before after c old new turns becomes was = record {
   all = all_saved c was.all;
-  contains = becomes was.all was.contains;
+  contains = subst (Contains new) (saved_are c was.all) (becomes was.all was.contains);
   version = version_after c was.all ∙ was.version;
   held = holds_after before after c was.all turns was.held;
 }

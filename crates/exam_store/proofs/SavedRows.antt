@@ -25,7 +25,8 @@ use Rattle.exam_rules.specs.Relations.{Code, code_cmp, opening_cmp, entry_cmp, a
 use Rattle.exam_store.specs.Differences.{has_key, is_one_of, Turns}
 use Rattle.exam_store.specs.Held.{HoldsRows}
 use Rattle.exam_store.specs.Loaded.{KeysMatch}
-use Rattle.exam_store.specs.Inside.{with_row, with_rows, without_row, without_rows}
+use Rattle.exam_store.specs.Inside.{with_row, without_row}
+use Rattle.exam_store.proofs.SavedTrees.{with_rows, without_rows}
 use Rattle.exam_store.specs.Rows.{session_row, paper_row, hall_row, candidate_row, opening_row, entry_row, arrangement_row, appeal_row, seat_row}
 use Rattle.exam_store.specs.Stored.{whole}
 use Rattle.exam_store.proofs.Differing.{absent_key}

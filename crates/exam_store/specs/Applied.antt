@@ -1,19 +1,34 @@
 -- A command that is applied to an office in a database.
-use Rattle.std.specs.Prelude.{◌≡◌, ◌⊎◌, ℕ, IsTrue, List, [], ◌∷◌, Result, Ok, Err}
+use Rattle.std.specs.Prelude.{◌≡◌, ◌⊎◌, ℕ, IsTrue, List, [], ◌∷◌, Result, Ok, Err, IfErr}
 use Rattle.sqlite.specs.Effect.{Database}
+use Rattle.sqlite_trees.specs.declared.store.Store.{Ghosts}
+use Rattle.sqlite.specs.Held.{state}
+use Rattle.sqlite.specs.State.{State as Shown, HasCleanDisk}
 use Rattle.exam_types.specs.declared.refusal.Refusal.{Refusal}
+use Rattle.exam_types.specs.declared.refusal.Refusal.TheVariants.{NoMemory}
 use Rattle.exam_office.specs.declared.command.Command.{Command}
 use Rattle.exam_office.specs.declared.command.Reply.{Reply}
 use Rattle.exam_office.specs.State.{State}
 use Rattle.exam_office.specs.Steps.{Step}
 use Rattle.exam_store.specs.Faults.{is_store_refusal}
-use Rattle.exam_store.specs.Kept.{Rekeeps}
+use Rattle.exam_store.specs.Saves.{FailsToSave}
+use Rattle.exam_store.specs.Inside.{IsOurs}
+use Rattle.exam_store.specs.Kept.{Commits, Rekeeps}
+use Rattle.exam_store.specs.Stores.{OfficeIn}
 
 -- the command's step, or a failure of the store, which leaves the office as it was
 abbrev pub MayApply : Command → ℕ → State → Result Reply Refusal → State → Type 0
 MayApply done today before reply after =
     ((e : Refusal) × IsTrue (is_store_refusal e) × (reply ≡ Err e) × (after ≡ before))
     ⊎ Step done today before reply after
+
+-- Why a command is refused: as its step is, for want of memory, or since the office after it is not saved.
+abbrev pub FailsToApply : Command → ℕ → State → Shown → Shown → Refusal → Type 0
+FailsToApply done today before old new e =
+    Step done today before (Err e) before
+    ⊎ ((e ≡ NoMemory)
+    ⊎ ((reply : Reply) × (after : State) × Step done today before (Ok reply) after
+    × FailsToSave before after old new e))
 
 -- what kept the office keeps that after the command
 abbrev pub TurnsBy : Command → ℕ → State → Database → Database → Type 0
@@ -28,3 +43,22 @@ Applies (done ∷ rest) before (reply ∷ replies) after =
     (mid : State) × MayApply done.0 done.1 before reply mid × Applies rest mid replies after
 Applies [] before (reply ∷ replies) after = ⊥
 Applies (done ∷ rest) before [] after = ⊥
+
+-- ---- over an office in a database
+
+-- what `apply` makes of an office in a database, and when it refuses
+pub record IsApplied {S : Type 0} (g : Ghosts S) (done : Command) (today : ℕ) (old : OfficeIn S)
+    (reply : Result Reply Refusal) (new : OfficeIn S) : Type 0 where
+  pub step : MayApply done today old.office reply new.office
+  pub made : Commits (state g old.database) (state g new.database) reply (TurnsBy done today old.office)
+  pub refusal : HasCleanDisk (state g new.database) → IsOurs (state g old.database).now
+      → IfErr reply (FailsToApply done today old.office (state g old.database) (state g new.database))
+
+-- each command of a list is applied to what the one before it left
+abbrev pub AreApplied : {S : Type 0} → Ghosts S → List (Command × ℕ) → OfficeIn S
+    → List (Result Reply Refusal) → OfficeIn S → Type 0
+AreApplied g [] old [] new = new ≡ old
+AreApplied {S} g (done ∷ rest) old (reply ∷ replies) new =
+    (mid : OfficeIn S) × IsApplied g done.0 done.1 old reply mid × AreApplied g rest mid replies new
+AreApplied g [] old (reply ∷ replies) new = ⊥
+AreApplied g (done ∷ rest) old [] new = ⊥

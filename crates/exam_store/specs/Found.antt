@@ -6,14 +6,10 @@ use Rattle.sqlite.specs.State.{State, HasCleanDisk, IsUnchanged}
 use Rattle.sqlite.specs.Held.{Held, state}
 use Rattle.exam_types.specs.declared.refusal.Refusal.{Refusal}
 use Rattle.exam_office.specs.State.{State as Office, empty_state}
-use Rattle.exam_store.specs.Inside.{Contains}
+use Rattle.exam_store.specs.Inside.{Contains, IsOurs}
 use Rattle.exam_store.specs.Kept.{Keeps}
 use Rattle.exam_store.specs.Loaded.{IsLoadRefusal, Told}
 use Rattle.exam_store.specs.Refused.{HoldsNone}
-
--- the ten tables are there, with whatever rows
-abbrev pub IsOurs : Database → Type 0
-IsOurs db = (all : Trees) × Contains db all
 
 -- it is the office that the tables keep, where they are ours, and nothing changes
 abbrev pub Finds : State → State → Office → Type 0

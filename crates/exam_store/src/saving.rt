@@ -5,11 +5,11 @@ ghost use Rattle.sqlite.specs.State.{HasCleanDisk, Shows, Survives};
 ghost use Rattle.sqlite.specs.Steps.{FailsToCommit};
 ghost use Rattle.exam_types.specs.declared.refusal.Refusal.TheVariants.{NoMemory};
 ghost use Rattle.exam_store.specs.Faults.{refusal_of, is_store_refusal};
-ghost use Rattle.exam_store.specs.Inside.{Becomes, Makes};
+ghost use Rattle.exam_store.specs.Inside.{Becomes, FailsToWrite, IsOurs, Makes};
 ghost use Rattle.exam_store.specs.Kept.{Rekeeps, Commits};
 ghost use Rattle.exam_store.specs.Saves.{timetable_put, halls_put, candidates_put, plans_put, all_put};
 ghost use Rattle.exam_store.specs.Saves.{timetable_deleted, halls_deleted, candidates_deleted, plans_deleted};
-ghost use Rattle.exam_store.specs.Saves.{all_deleted, all_saved, TurnsTables};
+ghost use Rattle.exam_store.specs.Saves.{all_deleted, all_saved, FailsToSave, TurnsTables};
 ghost use Rattle.exam_store.specs.Versions.{IsBlank, IsMade};
 
 use crate::differences::{Difference, difference_of};
@@ -202,6 +202,9 @@ pub fn save<S: Alter>(
 ) -> Result<(), Refusal>
     ensures made { Commits (state S.Store conn.old) (state S.Store conn.new) result
         (Rekeeps old.now new.now) }
+    ensures failed { conn.old.in_transaction ≡ false → HasCleanDisk (state S.Store conn.new)
+        → IsOurs (state S.Store conn.old).now
+        → IfErr result (FailsToSave old.now new.now (state S.Store conn.old) (state S.Store conn.new)) }
     ensures ended { conn.old.in_transaction ≡ false → conn.new.in_transaction ≡ false }
     ensures told { IfErr result (λ e. IsTrue (is_store_refusal e)) }
 {
@@ -217,6 +220,9 @@ fn save_changes<S: Alter>(
 ) -> Result<(), Refusal>
     ensures made { Commits (state S.Store conn.old) (state S.Store conn.new) result
         (Becomes (all_saved changes.now)) }
+    ensures failed { conn.old.in_transaction ≡ false → HasCleanDisk (state S.Store conn.new)
+        → IsOurs (state S.Store conn.old).now → IfErr result
+        (FailsToWrite (all_saved changes.now) (state S.Store conn.old) (state S.Store conn.new)) }
     ensures ended { conn.old.in_transaction ≡ false → conn.new.in_transaction ≡ false }
     ensures told { IfErr result (λ e. IsTrue (is_store_refusal e)) }
 {

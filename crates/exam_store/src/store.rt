@@ -9,9 +9,10 @@ ghost use Rattle.exam_rules.specs.Sessions.{IsSessionRefusal};
 ghost use Rattle.exam_office.specs.Headline.{IsSeated};
 ghost use Rattle.exam_office.specs.State.{empty_state};
 ghost use Rattle.exam_office.specs.Views.{IsViewOf};
-ghost use Rattle.exam_store.specs.Applied.{MayApply, TurnsBy, Applies};
+ghost use Rattle.exam_store.specs.Applied.{MayApply, FailsToApply, TurnsBy, Applies, AreApplied};
 ghost use Rattle.exam_store.specs.Faults.{is_store_refusal};
 ghost use Rattle.exam_store.specs.Found.{Finds, FindsNone, MakesEmpty};
+ghost use Rattle.exam_store.specs.Inside.{IsOurs};
 ghost use Rattle.exam_store.specs.Kept.{IsSound, IsKept, Rekeeps, Commits};
 ghost use Rattle.exam_store.specs.Versions.{IsBlank};
 
@@ -119,6 +120,10 @@ impl<S: Alter> Store<S> {
             (state S.Store self.old.database).now (state S.Store self.new.database).now }
         ensures made { Commits (state S.Store self.old.database) (state S.Store self.new.database) result
             (TurnsBy command.now today self.old.office) }
+        ensures refusal { HasCleanDisk (state S.Store self.new.database)
+            → IsOurs (state S.Store self.old.database).now
+            → IfErr result (FailsToApply command.now today self.old.office
+            (state S.Store self.old.database) (state S.Store self.new.database)) }
     {
         let (next, reply) = next_office(alloc, &self.office, command, today)?;
         save(alloc, &mut self.conn, &self.office, &next)?;
@@ -136,6 +141,8 @@ impl<S: Alter> Store<S> {
     ) -> Result<Vec<Result<Reply, Refusal>>, Refusal>
         ensures run { IfOk result (λ replies.
             Applies commands.now self.old.office replies.items self.new.office) }
+        ensures each { IfOk result (λ replies.
+            AreApplied S.Store commands.now self.old replies.items self.new) }
         ensures kept { IsSound (state S.Store self.new.database) → Rekeeps self.old.office self.new.office
             (state S.Store self.old.database).now (state S.Store self.new.database).now }
         ensures was_open { IsSound (state S.Store self.new.database)

@@ -1,11 +1,11 @@
 //! A table of the office.
-ghost use Rattle.std.specs.Prelude.{◌≡◌, ◌⊎◌, ℕ, List, ◌∷◌, IsTrue, IfOk, IfErr, map, IsPermutation};
+ghost use Rattle.std.specs.Prelude.{◌≡◌, ◌⊎◌, ℕ, List, [], ◌∷◌, IsTrue, IfOk, IfErr, map, IsPermutation};
 ghost use Rattle.sqlite.specs.Held.{state};
 ghost use Rattle.sqlite.specs.State.{HasCleanDisk, IsUnchanged};
 ghost use Rattle.sqlite_value.specs.declared.value.Value.TheVariants.{Null};
 ghost use Rattle.sqlite_value.specs.Order.{Row as Columns};
 ghost use Rattle.exam_store.specs.Faults.{is_store_refusal};
-ghost use Rattle.exam_store.specs.Inside.{Makes, Contains, with_row, without_row, with_rows, without_rows};
+ghost use Rattle.exam_store.specs.Inside.{Makes, Contains, put_of, delete_of};
 ghost use Rattle.exam_types.specs.declared.refusal.Refusal.TheVariants.{NoMemory, BadStore};
 ghost use Rattle.exam_store.specs.Loaded.{AreRowsOf, HoldsTable, IsLoadRefusal, KeysMatch, Told};
 ghost use Rattle.exam_store.specs.Reading.{MayRead};
@@ -32,6 +32,11 @@ pub trait Table {
 
     ghost key_places: { List ℕ };
 
+    /// The statements that put a row, and that delete one.
+    ghost put_text: { List ℕ };
+
+    ghost delete_text: { List ℕ };
+
     /// The columns of a row, and those of its key.
     ghost row_of: { Self.Key → Self.Value → Columns };
 
@@ -49,13 +54,13 @@ pub trait Table {
     ) -> Result<(), Refusal>
         ensures same_reference { tx.new.conn.ghost_name ≡ tx.old.conn.ghost_name }
         ensures made { Makes (state S.Store tx.old.conn.now) (state S.Store tx.new.conn.now) result
-            (with_row Self.tree Self.key_places (Self.row_of key.now value.now)) };
+            (put_of Self.put_text Self.tree Self.key_places (Self.row_of key.now value.now) ∷ []) };
 
     /// Takes away the row with this key, if there is one.
     fn delete<S: Alter>(tx: &mut Transaction<'_, S>, key: &Self::Key) -> Result<(), Refusal>
         ensures same_reference { tx.new.conn.ghost_name ≡ tx.old.conn.ghost_name }
         ensures made { Makes (state S.Store tx.old.conn.now) (state S.Store tx.new.conn.now) result
-            (without_row Self.tree Self.key_places (Self.key_of key.now)) };
+            (delete_of Self.delete_text Self.tree Self.key_places (Self.key_of key.now) ∷ []) };
 
     /// All rows, as they are shown.
     fn shown<S: Alter>(conn: &mut Connection<S>) -> Result<Vec<Row>, Refusal>
@@ -81,7 +86,7 @@ pub fn put_rows<T: Table, S: Alter>(
 ) -> Result<(), Refusal>
     ensures same_reference { tx.new.conn.ghost_name ≡ tx.old.conn.ghost_name }
     ensures made { Makes (state S.Store tx.old.conn.now) (state S.Store tx.new.conn.now) result
-        (with_rows T.tree T.key_places (map (λ r. T.row_of r.0.now r.1.now) rows.now)) }
+        (map (λ r. put_of T.put_text T.tree T.key_places (T.row_of r.0.now r.1.now)) rows.now) }
 {
     'rows: for row in rows {
         T::put(alloc, tx, row.0, row.1)?;
@@ -96,7 +101,7 @@ pub fn delete_rows<T: Table, S: Alter>(
 ) -> Result<(), Refusal>
     ensures same_reference { tx.new.conn.ghost_name ≡ tx.old.conn.ghost_name }
     ensures made { Makes (state S.Store tx.old.conn.now) (state S.Store tx.new.conn.now) result
-        (without_rows T.tree T.key_places (map (λ key. T.key_of key.now) keys.now)) }
+        (map (λ key. delete_of T.delete_text T.tree T.key_places (T.key_of key.now)) keys.now) }
 {
     'keys: for key in keys {
         T::delete(tx, key)?;

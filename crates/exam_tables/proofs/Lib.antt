@@ -1,6 +1,7 @@
 pub mod Changes
 pub mod Creates
 pub mod Deletes
+pub mod Failing
 pub mod Fits
 pub mod Inserts
 pub mod Keys

@@ -1,5 +1,5 @@
 -- The table appeal: what its texts mean, and what they do.
-use Rattle.std.proofs.Common.{◌≡◌, ℕ, ℤ, List, [], ◌∷◌, codes, map, length, false, Some, None, Option, Result, OnOk, refl}
+use Rattle.std.proofs.Common.{◌≡◌, Err, lit≤, ℕ, ℤ, List, [], ◌∷◌, codes, map, length, false, Some, None, Option, Result, OnOk, refl}
 use Rattle.std.specs.List.{AllByRecursion, list_all}
 use Rattle.std.specs.List.Sorted.{IsPermutation}
 use Rattle.sqlite.specs.Kind.TheVariants.{Text as KindText}
@@ -19,11 +19,14 @@ use Rattle.sqlite_tied.specs.Compute.{everything}
 use Rattle.sqlite.specs.declared.error.Error.{Error}
 use Rattle.sqlite.specs.Values.{or_null}
 use Rattle.sqlite.specs.Listing.{understood, reads_listing}
-use Rattle.sqlite.specs.State.{State, Executes, Shown, IsUnchanged}
+use Rattle.sqlite.specs.State.{State, Executes, ExecutesInside, Shown, IsUnchanged}
 use Rattle.sqlite.proofs.Callers.{IsPlain, command_of}
 use Rattle.exam_tables.specs.Content.{ContainsIn, places, bare, put, delete, same_key}
 use Rattle.exam_tables.specs.Plain.{one_table}
+use Rattle.exam_tables.specs.Refusals.{Fails, Refuses}
 use Rattle.exam_tables.specs.Tables.{store_schema, stored_appeal}
+use Rattle.exam_tables.specs.Texts.{put_appeal, delete_appeal}
+use Rattle.exam_tables.proofs.Failing.{IsWhole, fails_inside}
 use Rattle.exam_tables.proofs.Fits.{Fits, fits_chosen}
 use Rattle.exam_tables.proofs.Keys.{cast_int}
 use Rattle.exam_tables.proofs.Statements.{put_by}
@@ -49,7 +52,7 @@ abbrev terms : List Term
 terms = lit Null ∷ col 0 0 ∷ col 0 1 ∷ col 0 2 ∷ col 0 3 ∷ col 0 4 ∷ col 0 5 ∷ col 0 6 ∷ col 0 7 ∷ col 0 8 ∷ col 0 9 ∷ col 0 10 ∷ []
 
 abbrev pub put_text : List ℕ
-put_text = codes "INSERT OR REPLACE INTO appeal (number, ref, session, kind, target, needs, extra, reason, state, answer, lodged) VALUES (?1, ?2, ?3, ?4, ?5, ?6, ?7, ?8, ?9, ?10, ?11)"
+put_text = put_appeal
 
 put_is : command_of (understood store_schema put_text) ≡ InsertOr 8 Replace (Values terms 12) []
 unfolding understood everything store_schema
@@ -63,8 +66,15 @@ pub puts : (old new : State) (number : ℤ) (reference : List ℕ) (session : Li
     → OnOk r ((all : Trees) → ContainsIn store_schema old.now all → ContainsIn store_schema new.now (with_tree all 13 (put (1 ∷ 2 ∷ []) (Null ∷ row number reference session kind target needs extra reason state answer lodged) (all 13))))
 puts old new number reference session kind target needs extra reason state answer lodged r h = put_by store_schema 8 stored_appeal (1 ∷ 2 ∷ []) (1 ∷ 2 ∷ []) appeal_keyed put_text terms 12 put_is put_plain old new (row number reference session kind target needs extra reason state answer lodged) r (Null) (columns number reference session kind target needs extra reason state answer lodged) (row number reference session kind target needs extra reason state answer lodged) (fits number reference session kind target needs extra reason state answer lodged) refl h
 
+put_whole : IsWhole put_text 11 (understood store_schema put_text)
+unfolding understood everything store_schema
+put_whole = (lit≤ tt, refl)
+
+pub put_fails : (old new : State) (number : ℤ) (reference : List ℕ) (session : List ℕ) (kind : ℤ) (target : List ℕ) (needs : ℤ) (extra : ℤ) (reason : List ℕ) (state : ℤ) (answer : Option (List ℕ)) (lodged : List ℕ) → old.now.schema ≡ store_schema → (e : Error) → ExecutesInside 0 put_text (row number reference session kind target needs extra reason state answer lodged) old new (Err e) → Fails old new (Refuses old.now put_text (row number reference session kind target needs extra reason state answer lodged)) e
+put_fails old new number reference session kind target needs extra reason state answer lodged has e h = fails_inside put_text (row number reference session kind target needs extra reason state answer lodged) old new store_schema has _ put_is tt put_plain put_whole e h
+
 abbrev pub delete_text : List ℕ
-delete_text = codes "DELETE FROM appeal WHERE number = ?1 AND ref = ?2"
+delete_text = delete_appeal
 
 abbrev key_terms : List Term
 key_terms = op2 (Compare Eq Binary) (col 1 1) (col 0 0) ∷ op2 (Compare Eq Binary) (col 1 2) (col 0 1) ∷ []
@@ -84,6 +94,13 @@ key_means params r = refl
 pub deletes : (old new : State) (number : ℤ) (reference : List ℕ) (r : Result ℕ Error) → Executes delete_text (Int number ∷ Text reference ∷ []) old new r
     → OnOk r ((all : Trees) → ContainsIn store_schema old.now all → ContainsIn store_schema new.now (with_tree all 13 (delete (1 ∷ 2 ∷ []) (Null ∷ Int number ∷ Text reference ∷ []) (all 13))))
 deletes old new number reference r h = delete_by store_schema 8 stored_appeal (1 ∷ 2 ∷ []) (1 ∷ 2 ∷ []) appeal_keyed key_terms delete_text delete_is delete_plain (λ db. refl) old new (Int number ∷ Text reference ∷ []) r (key_means (Int number ∷ Text reference ∷ [])) h
+
+delete_whole : IsWhole delete_text 2 (understood store_schema delete_text)
+unfolding understood everything store_schema
+delete_whole = (lit≤ tt, refl)
+
+pub delete_fails : (old new : State) (number : ℤ) (reference : List ℕ) → old.now.schema ≡ store_schema → (e : Error) → ExecutesInside 0 delete_text (Int number ∷ Text reference ∷ []) old new (Err e) → Fails old new (Refuses old.now delete_text (Int number ∷ Text reference ∷ [])) e
+delete_fails old new number reference has e h = fails_inside delete_text (Int number ∷ Text reference ∷ []) old new store_schema has _ delete_is tt delete_plain delete_whole e h
 
 abbrev pub load_text : List ℕ
 load_text = codes "SELECT number, ref, session, kind, target, needs, extra, reason, state, answer, lodged FROM appeal"

@@ -1,5 +1,5 @@
 -- The table arrangement: what its texts mean, and what they do.
-use Rattle.std.proofs.Common.{◌≡◌, ℕ, ℤ, List, [], ◌∷◌, codes, map, length, false, Result, OnOk, refl}
+use Rattle.std.proofs.Common.{◌≡◌, Err, lit≤, ℕ, ℤ, List, [], ◌∷◌, codes, map, length, false, Result, OnOk, refl}
 use Rattle.std.specs.List.{AllByRecursion, list_all}
 use Rattle.std.specs.List.Sorted.{IsPermutation}
 use Rattle.sqlite_value.specs.declared.value.Value.TheVariants.{Null, Int}
@@ -16,11 +16,14 @@ use Rattle.sqlite_schema.specs.declared.command.Source.TheVariants.{Values}
 use Rattle.sqlite_tied.specs.Compute.{everything}
 use Rattle.sqlite.specs.declared.error.Error.{Error}
 use Rattle.sqlite.specs.Listing.{understood, reads_listing}
-use Rattle.sqlite.specs.State.{State, Executes, Shown, IsUnchanged}
+use Rattle.sqlite.specs.State.{State, Executes, ExecutesInside, Shown, IsUnchanged}
 use Rattle.sqlite.proofs.Callers.{IsPlain, command_of}
 use Rattle.exam_tables.specs.Content.{ContainsIn, places, bare, put, delete, same_key}
 use Rattle.exam_tables.specs.Plain.{one_table}
+use Rattle.exam_tables.specs.Refusals.{Fails, Refuses}
 use Rattle.exam_tables.specs.Tables.{store_schema, stored_arrangement}
+use Rattle.exam_tables.specs.Texts.{put_arrangement, delete_arrangement}
+use Rattle.exam_tables.proofs.Failing.{IsWhole, fails_inside}
 use Rattle.exam_tables.proofs.Fits.{Fits, fits_given}
 use Rattle.exam_tables.proofs.Keys.{cast_int, cast_null}
 use Rattle.exam_tables.proofs.Statements.{put_by}
@@ -42,7 +45,7 @@ abbrev terms : List Term
 terms = col 0 0 ∷ lit Null ∷ col 0 1 ∷ col 0 2 ∷ []
 
 abbrev pub put_text : List ℕ
-put_text = codes "INSERT OR REPLACE INTO arrangement (number, needs, extra) VALUES (?1, ?2, ?3)"
+put_text = put_arrangement
 
 put_is : command_of (understood store_schema put_text) ≡ InsertOr 7 Replace (Values terms 4) []
 unfolding understood everything store_schema
@@ -56,8 +59,15 @@ pub puts : (old new : State) (number : ℤ) (needs : ℤ) (extra : ℤ) (r : Res
     → OnOk r ((all : Trees) → ContainsIn store_schema old.now all → ContainsIn store_schema new.now (with_tree all 12 (put (1 ∷ []) (Null ∷ row number needs extra) (all 12))))
 puts old new number needs extra r h = put_by store_schema 7 stored_arrangement (1 ∷ []) (0 ∷ []) arrangement_keyed put_text terms 4 put_is put_plain old new (row number needs extra) r (Int number) (columns number needs extra) (row number needs extra) (fits number needs extra) refl h
 
+put_whole : IsWhole put_text 3 (understood store_schema put_text)
+unfolding understood everything store_schema
+put_whole = (lit≤ tt, refl)
+
+pub put_fails : (old new : State) (number : ℤ) (needs : ℤ) (extra : ℤ) → old.now.schema ≡ store_schema → (e : Error) → ExecutesInside 0 put_text (row number needs extra) old new (Err e) → Fails old new (Refuses old.now put_text (row number needs extra)) e
+put_fails old new number needs extra has e h = fails_inside put_text (row number needs extra) old new store_schema has _ put_is tt put_plain put_whole e h
+
 abbrev pub delete_text : List ℕ
-delete_text = codes "DELETE FROM arrangement WHERE number = ?1"
+delete_text = delete_arrangement
 
 abbrev key_terms : List Term
 key_terms = op2 (Compare Eq Binary) (col 1 0) (col 0 0) ∷ []
@@ -77,6 +87,13 @@ key_means params r = refl
 pub deletes : (old new : State) (number : ℤ) (r : Result ℕ Error) → Executes delete_text (Int number ∷ []) old new r
     → OnOk r ((all : Trees) → ContainsIn store_schema old.now all → ContainsIn store_schema new.now (with_tree all 12 (delete (1 ∷ []) (Null ∷ Int number ∷ []) (all 12))))
 deletes old new number r h = delete_by store_schema 7 stored_arrangement (1 ∷ []) (0 ∷ []) arrangement_keyed key_terms delete_text delete_is delete_plain (λ db. refl) old new (Int number ∷ []) r (key_means (Int number ∷ [])) h
+
+delete_whole : IsWhole delete_text 1 (understood store_schema delete_text)
+unfolding understood everything store_schema
+delete_whole = (lit≤ tt, refl)
+
+pub delete_fails : (old new : State) (number : ℤ) → old.now.schema ≡ store_schema → (e : Error) → ExecutesInside 0 delete_text (Int number ∷ []) old new (Err e) → Fails old new (Refuses old.now delete_text (Int number ∷ [])) e
+delete_fails old new number has e h = fails_inside delete_text (Int number ∷ []) old new store_schema has _ delete_is tt delete_plain delete_whole e h
 
 abbrev pub load_text : List ℕ
 load_text = codes "SELECT number, needs, extra FROM arrangement"

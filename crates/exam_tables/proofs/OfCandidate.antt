@@ -1,5 +1,5 @@
 -- The table candidate: what its texts mean, and what they do.
-use Rattle.std.proofs.Common.{◌≡◌, ℕ, ℤ, List, [], ◌∷◌, ◌++◌, codes, map, length, true, false, Result, OnOk, refl}
+use Rattle.std.proofs.Common.{◌≡◌, Err, lit≤, ℕ, ℤ, List, [], ◌∷◌, ◌++◌, codes, map, length, true, false, Result, OnOk, refl}
 use Rattle.std.specs.List.{AllByRecursion, list_all}
 use Rattle.std.specs.List.Sorted.{IsPermutation}
 use Rattle.sqlite_value.specs.declared.value.Value.TheVariants.{Null, Int, Text}
@@ -17,11 +17,14 @@ use Rattle.sqlite_tied.specs.Compute.{everything}
 use Rattle.sqlite.specs.declared.error.Error.{Error}
 use Rattle.sqlite.specs.Rows.{shown}
 use Rattle.sqlite.specs.Listing.{understood, reads_listing}
-use Rattle.sqlite.specs.State.{State, Executes, Shown, IsUnchanged}
+use Rattle.sqlite.specs.State.{State, Executes, ExecutesInside, Shown, IsUnchanged}
 use Rattle.sqlite.proofs.Callers.{IsPlain, command_of}
 use Rattle.exam_tables.specs.Content.{ContainsIn, places, bare, put, delete, same_key, same_rowid}
 use Rattle.exam_tables.specs.Plain.{one_table, on_conflict}
+use Rattle.exam_tables.specs.Refusals.{Fails, Refuses}
 use Rattle.exam_tables.specs.Tables.{store_schema, stored_candidate}
+use Rattle.exam_tables.specs.Texts.{put_candidate, delete_candidate}
+use Rattle.exam_tables.proofs.Failing.{IsWhole, fails_inside}
 use Rattle.exam_tables.proofs.Fits.{Fits, fits_given}
 use Rattle.exam_tables.proofs.Keys.{cast_null}
 use Rattle.exam_tables.proofs.Statements.{upsert_by}
@@ -43,7 +46,7 @@ abbrev terms : List Term
 terms = col 0 0 ∷ lit Null ∷ col 0 1 ∷ col 0 2 ∷ []
 
 abbrev pub put_text : List ℕ
-put_text = codes "INSERT INTO candidate (number, name, code) VALUES (?1, ?2, ?3) ON CONFLICT (number) DO UPDATE SET name = excluded.name, code = excluded.code"
+put_text = put_candidate
 
 -- the row that is there
 abbrev there : List Term
@@ -74,8 +77,15 @@ pub puts : (old new : State) (number : ℤ) (name : List ℕ) (code : List ℕ) 
 puts old new number name code r h = upsert_by store_schema 4 stored_candidate (1 ∷ []) (0 ∷ []) candidate_keyed put_text terms 4 there project put_is put_plain (λ db. refl) old new (row number name code) r (Int number) (columns number name code) (row number name code) (fits number name code) refl
     (picked number name code) (written number name code) h
 
+put_whole : IsWhole put_text 3 (understood store_schema put_text)
+unfolding understood everything store_schema
+put_whole = (lit≤ tt, refl)
+
+pub put_fails : (old new : State) (number : ℤ) (name : List ℕ) (code : List ℕ) → old.now.schema ≡ store_schema → (e : Error) → ExecutesInside 0 put_text (row number name code) old new (Err e) → Fails old new (Refuses old.now put_text (row number name code)) e
+put_fails old new number name code has e h = fails_inside put_text (row number name code) old new store_schema has _ put_is tt put_plain put_whole e h
+
 abbrev pub delete_text : List ℕ
-delete_text = codes "DELETE FROM candidate WHERE number = ?1"
+delete_text = delete_candidate
 
 abbrev key_terms : List Term
 key_terms = op2 (Compare Eq Binary) (col 1 0) (col 0 0) ∷ []
@@ -95,6 +105,13 @@ key_means params r = refl
 pub deletes : (old new : State) (number : ℤ) (r : Result ℕ Error) → Executes delete_text (Int number ∷ []) old new r
     → OnOk r ((all : Trees) → ContainsIn store_schema old.now all → ContainsIn store_schema new.now (with_tree all 7 (delete (1 ∷ []) (Null ∷ Int number ∷ []) (all 7))))
 deletes old new number r h = delete_by store_schema 4 stored_candidate (1 ∷ []) (0 ∷ []) candidate_keyed key_terms delete_text delete_is delete_plain (λ db. refl) old new (Int number ∷ []) r (key_means (Int number ∷ [])) h
+
+delete_whole : IsWhole delete_text 1 (understood store_schema delete_text)
+unfolding understood everything store_schema
+delete_whole = (lit≤ tt, refl)
+
+pub delete_fails : (old new : State) (number : ℤ) → old.now.schema ≡ store_schema → (e : Error) → ExecutesInside 0 delete_text (Int number ∷ []) old new (Err e) → Fails old new (Refuses old.now delete_text (Int number ∷ [])) e
+delete_fails old new number has e h = fails_inside delete_text (Int number ∷ []) old new store_schema has _ delete_is tt delete_plain delete_whole e h
 
 abbrev pub load_text : List ℕ
 load_text = codes "SELECT number, name, code FROM candidate"

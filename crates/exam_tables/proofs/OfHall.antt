@@ -1,5 +1,5 @@
 -- The table hall: what its texts mean, and what they do.
-use Rattle.std.proofs.Common.{◌≡◌, ℕ, ℤ, List, [], ◌∷◌, ◌++◌, codes, map, length, true, false, Result, OnOk, refl, ap}
+use Rattle.std.proofs.Common.{◌≡◌, Err, lit≤, ℕ, ℤ, List, [], ◌∷◌, ◌++◌, codes, map, length, true, false, Result, OnOk, refl, ap}
 use Rattle.std.specs.List.{AllByRecursion, list_all}
 use Rattle.std.specs.List.Sorted.{IsPermutation}
 use Rattle.std.proofs.lemmas.Bool.{and_parts}
@@ -18,11 +18,14 @@ use Rattle.sqlite_tied.specs.Compute.{everything}
 use Rattle.sqlite.specs.declared.error.Error.{Error}
 use Rattle.sqlite.specs.Rows.{shown}
 use Rattle.sqlite.specs.Listing.{understood, reads_listing}
-use Rattle.sqlite.specs.State.{State, Executes, Shown, IsUnchanged}
+use Rattle.sqlite.specs.State.{State, Executes, ExecutesInside, Shown, IsUnchanged}
 use Rattle.sqlite.proofs.Callers.{IsPlain, command_of}
 use Rattle.exam_tables.specs.Content.{ContainsIn, places, bare, put, delete, same_key, same_rowid}
 use Rattle.exam_tables.specs.Plain.{one_table, on_conflict}
+use Rattle.exam_tables.specs.Refusals.{Fails, Refuses}
 use Rattle.exam_tables.specs.Tables.{store_schema, stored_hall}
+use Rattle.exam_tables.specs.Texts.{put_hall, delete_hall}
+use Rattle.exam_tables.proofs.Failing.{IsWhole, fails_inside}
 use Rattle.exam_tables.proofs.Fits.{Fits, fits_chosen}
 use Rattle.exam_tables.proofs.Keys.{cast_int, text_same}
 use Rattle.exam_tables.proofs.Statements.{upsert_by}
@@ -44,7 +47,7 @@ abbrev terms : List Term
 terms = lit Null ∷ col 0 0 ∷ col 0 1 ∷ col 0 2 ∷ []
 
 abbrev pub put_text : List ℕ
-put_text = codes "INSERT INTO hall (code, title, features) VALUES (?1, ?2, ?3) ON CONFLICT (code) DO UPDATE SET title = excluded.title, features = excluded.features"
+put_text = put_hall
 
 -- the row that is there
 abbrev there : List Term
@@ -75,8 +78,15 @@ pub puts : (old new : State) (code : List ℕ) (title : List ℕ) (features : �
 puts old new code title features r h = upsert_by store_schema 3 stored_hall (1 ∷ []) (1 ∷ []) hall_keyed put_text terms 4 there project put_is put_plain (λ db. refl) old new (row code title features) r (Null) (columns code title features) (row code title features) (fits code title features) refl
     (picked code title features) (written code title features) h
 
+put_whole : IsWhole put_text 3 (understood store_schema put_text)
+unfolding understood everything store_schema
+put_whole = (lit≤ tt, refl)
+
+pub put_fails : (old new : State) (code : List ℕ) (title : List ℕ) (features : ℤ) → old.now.schema ≡ store_schema → (e : Error) → ExecutesInside 0 put_text (row code title features) old new (Err e) → Fails old new (Refuses old.now put_text (row code title features)) e
+put_fails old new code title features has e h = fails_inside put_text (row code title features) old new store_schema has _ put_is tt put_plain put_whole e h
+
 abbrev pub delete_text : List ℕ
-delete_text = codes "DELETE FROM hall WHERE code = ?1"
+delete_text = delete_hall
 
 abbrev key_terms : List Term
 key_terms = op2 (Compare Eq Binary) (col 1 1) (col 0 0) ∷ []
@@ -96,6 +106,13 @@ key_means params r = refl
 pub deletes : (old new : State) (code : List ℕ) (r : Result ℕ Error) → Executes delete_text (Text code ∷ []) old new r
     → OnOk r ((all : Trees) → ContainsIn store_schema old.now all → ContainsIn store_schema new.now (with_tree all 5 (delete (1 ∷ []) (Null ∷ Text code ∷ []) (all 5))))
 deletes old new code r h = delete_by store_schema 3 stored_hall (1 ∷ []) (1 ∷ []) hall_keyed key_terms delete_text delete_is delete_plain (λ db. refl) old new (Text code ∷ []) r (key_means (Text code ∷ [])) h
+
+delete_whole : IsWhole delete_text 1 (understood store_schema delete_text)
+unfolding understood everything store_schema
+delete_whole = (lit≤ tt, refl)
+
+pub delete_fails : (old new : State) (code : List ℕ) → old.now.schema ≡ store_schema → (e : Error) → ExecutesInside 0 delete_text (Text code ∷ []) old new (Err e) → Fails old new (Refuses old.now delete_text (Text code ∷ [])) e
+delete_fails old new code has e h = fails_inside delete_text (Text code ∷ []) old new store_schema has _ delete_is tt delete_plain delete_whole e h
 
 abbrev pub load_text : List ℕ
 load_text = codes "SELECT code, title, features FROM hall"

@@ -1,5 +1,5 @@
 -- The table opening: what its texts mean, and what they do.
-use Rattle.std.proofs.Common.{◌≡◌, ℕ, ℤ, List, [], ◌∷◌, ◌++◌, codes, map, length, true, false, Result, OnOk, refl, ap₂}
+use Rattle.std.proofs.Common.{◌≡◌, Err, lit≤, ℕ, ℤ, List, [], ◌∷◌, ◌++◌, codes, map, length, true, false, Result, OnOk, refl, ap₂}
 use Rattle.std.specs.List.{AllByRecursion, list_all}
 use Rattle.std.specs.List.Sorted.{IsPermutation}
 use Rattle.std.proofs.lemmas.Bool.{and_parts}
@@ -18,11 +18,14 @@ use Rattle.sqlite_tied.specs.Compute.{everything}
 use Rattle.sqlite.specs.declared.error.Error.{Error}
 use Rattle.sqlite.specs.Rows.{shown}
 use Rattle.sqlite.specs.Listing.{understood, reads_listing}
-use Rattle.sqlite.specs.State.{State, Executes, Shown, IsUnchanged}
+use Rattle.sqlite.specs.State.{State, Executes, ExecutesInside, Shown, IsUnchanged}
 use Rattle.sqlite.proofs.Callers.{IsPlain, command_of}
 use Rattle.exam_tables.specs.Content.{ContainsIn, places, bare, put, delete, same_key, same_rowid}
 use Rattle.exam_tables.specs.Plain.{one_table, on_conflict}
+use Rattle.exam_tables.specs.Refusals.{Fails, Refuses}
 use Rattle.exam_tables.specs.Tables.{store_schema, stored_opening}
+use Rattle.exam_tables.specs.Texts.{put_opening, delete_opening}
+use Rattle.exam_tables.proofs.Failing.{IsWhole, fails_inside}
 use Rattle.exam_tables.proofs.Fits.{Fits, fits_chosen}
 use Rattle.exam_tables.proofs.Keys.{cast_int, text_same}
 use Rattle.exam_tables.proofs.Statements.{upsert_by}
@@ -44,7 +47,7 @@ abbrev terms : List Term
 terms = lit Null ∷ col 0 0 ∷ col 0 1 ∷ col 0 2 ∷ col 0 3 ∷ col 0 4 ∷ []
 
 abbrev pub put_text : List ℕ
-put_text = codes "INSERT INTO opening (session, hall, desks, until, reserved) VALUES (?1, ?2, ?3, ?4, ?5) ON CONFLICT (session, hall) DO UPDATE SET desks = excluded.desks, until = excluded.until, reserved = excluded.reserved"
+put_text = put_opening
 
 -- the row that is there
 abbrev there : List Term
@@ -77,8 +80,15 @@ pub puts : (old new : State) (session : List ℕ) (hall : List ℕ) (desks : ℤ
 puts old new session hall desks until reserved r h = upsert_by store_schema 5 stored_opening (1 ∷ 2 ∷ []) (1 ∷ 2 ∷ []) opening_keyed put_text terms 6 there project put_is put_plain (λ db. refl) old new (row session hall desks until reserved) r (Null) (columns session hall desks until reserved) (row session hall desks until reserved) (fits session hall desks until reserved) refl
     (picked session hall desks until reserved) (written session hall desks until reserved) h
 
+put_whole : IsWhole put_text 5 (understood store_schema put_text)
+unfolding understood everything store_schema
+put_whole = (lit≤ tt, refl)
+
+pub put_fails : (old new : State) (session : List ℕ) (hall : List ℕ) (desks : ℤ) (until : ℤ) (reserved : ℤ) → old.now.schema ≡ store_schema → (e : Error) → ExecutesInside 0 put_text (row session hall desks until reserved) old new (Err e) → Fails old new (Refuses old.now put_text (row session hall desks until reserved)) e
+put_fails old new session hall desks until reserved has e h = fails_inside put_text (row session hall desks until reserved) old new store_schema has _ put_is tt put_plain put_whole e h
+
 abbrev pub delete_text : List ℕ
-delete_text = codes "DELETE FROM opening WHERE session = ?1 AND hall = ?2"
+delete_text = delete_opening
 
 abbrev key_terms : List Term
 key_terms = op2 (Compare Eq Binary) (col 1 1) (col 0 0) ∷ op2 (Compare Eq Binary) (col 1 2) (col 0 1) ∷ []
@@ -98,6 +108,13 @@ key_means params r = refl
 pub deletes : (old new : State) (session : List ℕ) (hall : List ℕ) (r : Result ℕ Error) → Executes delete_text (Text session ∷ Text hall ∷ []) old new r
     → OnOk r ((all : Trees) → ContainsIn store_schema old.now all → ContainsIn store_schema new.now (with_tree all 8 (delete (1 ∷ 2 ∷ []) (Null ∷ Text session ∷ Text hall ∷ []) (all 8))))
 deletes old new session hall r h = delete_by store_schema 5 stored_opening (1 ∷ 2 ∷ []) (1 ∷ 2 ∷ []) opening_keyed key_terms delete_text delete_is delete_plain (λ db. refl) old new (Text session ∷ Text hall ∷ []) r (key_means (Text session ∷ Text hall ∷ [])) h
+
+delete_whole : IsWhole delete_text 2 (understood store_schema delete_text)
+unfolding understood everything store_schema
+delete_whole = (lit≤ tt, refl)
+
+pub delete_fails : (old new : State) (session : List ℕ) (hall : List ℕ) → old.now.schema ≡ store_schema → (e : Error) → ExecutesInside 0 delete_text (Text session ∷ Text hall ∷ []) old new (Err e) → Fails old new (Refuses old.now delete_text (Text session ∷ Text hall ∷ [])) e
+delete_fails old new session hall has e h = fails_inside delete_text (Text session ∷ Text hall ∷ []) old new store_schema has _ delete_is tt delete_plain delete_whole e h
 
 abbrev pub load_text : List ℕ
 load_text = codes "SELECT session, hall, desks, until, reserved FROM opening"

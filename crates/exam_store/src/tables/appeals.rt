@@ -1,11 +1,12 @@
 //! The table of appeals.
 ghost use Rattle.std.specs.Prelude.{ℕ, List, [], ◌∷◌};
 ghost use Rattle.sqlite_value.specs.declared.value.Value.TheVariants.{Text};
+ghost use Rattle.exam_tables.specs.Texts.{put_appeal, delete_appeal};
 ghost use Rattle.exam_store.specs.Rows.{appeal_row, IsAppeal};
 ghost use Rattle.exam_store.specs.Stored as stored;
 ghost use Rattle.sqlite.specs.Held.{state};
 ghost use Rattle.std.specs.Prelude.{◌≡◌};
-ghost use Rattle.exam_store.specs.Inside.{Makes, with_row};
+ghost use Rattle.exam_store.specs.Inside.{Makes, put_of};
 ghost use Rattle.exam_types.specs.Days.{day_text};
 
 use crate::columns::{day_at, day_text, number_at, reason_at, reference_at, session_code_at};
@@ -31,6 +32,10 @@ impl Table for Appeals {
     ghost tree = { 13 };
 
     ghost key_places = { 1 ∷ 2 ∷ [] };
+
+    ghost put_text = { put_appeal };
+
+    ghost delete_text = { delete_appeal };
 
     ghost row_of = { appeal_row };
 
@@ -102,7 +107,7 @@ fn put_appeal<'a, S: Alter>(
     ensures same_reference { tx.new.conn.ghost_name ≡ tx.old.conn.ghost_name }
     ensures made { lodged.now ≡ day_text appeal.now.lodged
         → Makes (state S.Store tx.old.conn.now) (state S.Store tx.new.conn.now) result
-        (with_row 13 (1 ∷ 2 ∷ []) (appeal_row key.now appeal.now)) }
+        (put_of put_appeal 13 (1 ∷ 2 ∷ []) (appeal_row key.now appeal.now) ∷ []) }
 {
     run(
         tx,

@@ -1,6 +1,7 @@
 //! The table of arrangements.
 ghost use Rattle.std.specs.Prelude.{ℕ, List, [], ◌∷◌};
 ghost use Rattle.sqlite_value.specs.declared.value.Value.TheVariants.{Text};
+ghost use Rattle.exam_tables.specs.Texts.{put_arrangement, delete_arrangement};
 ghost use Rattle.exam_store.specs.Rows.{arrangement_row, IsArrangement};
 ghost use Rattle.exam_store.specs.Stored as stored;
 
@@ -24,6 +25,10 @@ impl Table for Arrangements {
     ghost tree = { 12 };
 
     ghost key_places = { 1 ∷ [] };
+
+    ghost put_text = { put_arrangement };
+
+    ghost delete_text = { delete_arrangement };
 
     ghost row_of = { arrangement_row };
 

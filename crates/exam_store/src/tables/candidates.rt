@@ -1,6 +1,7 @@
 //! The table of candidates.
 ghost use Rattle.std.specs.Prelude.{ℕ, List, [], ◌∷◌};
 ghost use Rattle.sqlite_value.specs.declared.value.Value.TheVariants.{Text};
+ghost use Rattle.exam_tables.specs.Texts.{put_candidate, delete_candidate};
 ghost use Rattle.exam_store.specs.Rows.{candidate_row, IsCandidate};
 ghost use Rattle.exam_store.specs.Stored as stored;
 
@@ -24,6 +25,10 @@ impl Table for Candidates {
     ghost tree = { 7 };
 
     ghost key_places = { 1 ∷ [] };
+
+    ghost put_text = { put_candidate };
+
+    ghost delete_text = { delete_candidate };
 
     ghost row_of = { candidate_row };
 

@@ -1,6 +1,7 @@
 //! The table of entries.
 ghost use Rattle.std.specs.Prelude.{ℕ, List, [], ◌∷◌};
 ghost use Rattle.sqlite_value.specs.declared.value.Value.TheVariants.{Text};
+ghost use Rattle.exam_tables.specs.Texts.{put_entry, delete_entry};
 ghost use Rattle.exam_store.specs.Rows.{entry_row, IsEntry};
 ghost use Rattle.exam_store.specs.Stored as stored;
 
@@ -24,6 +25,10 @@ impl Table for Entries {
     ghost tree = { 10 };
 
     ghost key_places = { 1 ∷ 2 ∷ [] };
+
+    ghost put_text = { put_entry };
+
+    ghost delete_text = { delete_entry };
 
     ghost row_of = { entry_row };
 

@@ -1,6 +1,7 @@
 //! The table of halls.
 ghost use Rattle.std.specs.Prelude.{ℕ, List, [], ◌∷◌};
 ghost use Rattle.sqlite_value.specs.declared.value.Value.TheVariants.{Text};
+ghost use Rattle.exam_tables.specs.Texts.{put_hall, delete_hall};
 ghost use Rattle.exam_store.specs.Rows.{hall_row, IsHall};
 ghost use Rattle.exam_store.specs.Stored as stored;
 
@@ -24,6 +25,10 @@ impl Table for Halls {
     ghost tree = { 5 };
 
     ghost key_places = { 1 ∷ [] };
+
+    ghost put_text = { put_hall };
+
+    ghost delete_text = { delete_hall };
 
     ghost row_of = { hall_row };
 

@@ -1,6 +1,7 @@
 //! The table of halls opened for sessions.
 ghost use Rattle.std.specs.Prelude.{ℕ, List, [], ◌∷◌};
 ghost use Rattle.sqlite_value.specs.declared.value.Value.TheVariants.{Text};
+ghost use Rattle.exam_tables.specs.Texts.{put_opening, delete_opening};
 ghost use Rattle.exam_store.specs.Rows.{opening_row, IsOpening};
 ghost use Rattle.exam_store.specs.Stored as stored;
 
@@ -26,6 +27,10 @@ impl Table for Openings {
     ghost tree = { 8 };
 
     ghost key_places = { 1 ∷ 2 ∷ [] };
+
+    ghost put_text = { put_opening };
+
+    ghost delete_text = { delete_opening };
 
     ghost row_of = { opening_row };
 

@@ -1,6 +1,7 @@
 //! The table of papers.
 ghost use Rattle.std.specs.Prelude.{ℕ, List, [], ◌∷◌};
 ghost use Rattle.sqlite_value.specs.declared.value.Value.TheVariants.{Text};
+ghost use Rattle.exam_tables.specs.Texts.{put_paper, delete_paper};
 ghost use Rattle.exam_store.specs.Rows.{paper_row, IsPaper};
 ghost use Rattle.exam_store.specs.Stored as stored;
 
@@ -24,6 +25,10 @@ impl Table for Papers {
     ghost tree = { 3 };
 
     ghost key_places = { 1 ∷ [] };
+
+    ghost put_text = { put_paper };
+
+    ghost delete_text = { delete_paper };
 
     ghost row_of = { paper_row };
 

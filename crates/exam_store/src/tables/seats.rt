@@ -1,6 +1,7 @@
 //! The table of seats.
 ghost use Rattle.std.specs.Prelude.{ℕ, List, [], ◌∷◌};
 ghost use Rattle.sqlite_value.specs.declared.value.Value.TheVariants.{Text};
+ghost use Rattle.exam_tables.specs.Texts.{put_seat, delete_seat};
 ghost use Rattle.exam_store.specs.Rows.{seat_row, IsSeat};
 ghost use Rattle.exam_store.specs.Stored as stored;
 
@@ -23,6 +24,10 @@ impl Table for Seats {
     ghost tree = { 15 };
 
     ghost key_places = { 1 ∷ 2 ∷ [] };
+
+    ghost put_text = { put_seat };
+
+    ghost delete_text = { delete_seat };
 
     ghost row_of = { seat_row };
 

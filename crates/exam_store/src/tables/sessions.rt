@@ -1,7 +1,8 @@
 //! The table of sessions.
 ghost use Rattle.std.specs.Prelude.{◌≡◌, ℕ, pos, List, [], ◌∷◌, IsTrue, IfOk, IfErr};
 ghost use Rattle.sqlite.specs.Held.{state};
-ghost use Rattle.exam_store.specs.Inside.{Makes, with_row, without_row};
+ghost use Rattle.exam_store.specs.Inside.{Makes, put_of};
+ghost use Rattle.exam_tables.specs.Texts.{put_session, delete_session};
 ghost use Rattle.exam_store.specs.Rows.{session_row, IsSession};
 ghost use Rattle.exam_store.specs.Reading.{MayRead};
 ghost use Rattle.exam_store.specs.Stored as stored;
@@ -27,6 +28,10 @@ impl Table for Sessions {
     ghost tree = { 1 };
 
     ghost key_places = { 1 ∷ [] };
+
+    ghost put_text = { put_session };
+
+    ghost delete_text = { delete_session };
 
     ghost row_of = { session_row };
 
@@ -75,7 +80,7 @@ fn put_session<'a, S: Alter>(
 ) -> Result<(), Refusal>
     ensures same_reference { tx.new.conn.ghost_name ≡ tx.old.conn.ghost_name }
     ensures made { Makes (state S.Store tx.old.conn.now) (state S.Store tx.new.conn.now) result
-        (with_row 1 (1 ∷ []) (Text code.now ∷ Text day.now ∷ stored.whole start ∷ [])) }
+        (put_of put_session 1 (1 ∷ []) (Text code.now ∷ Text day.now ∷ stored.whole start ∷ []) ∷ []) }
 {
     run(
         tx,

@@ -164,3 +164,77 @@ fn another_schema_is_refused(rt: HostRuntime) -> Result<(), Fail> {
         }
     }
 }
+
+/// Appeals of which a candidate may have one for a session: kind, target, needs, extra time, reason, state and
+/// answer.
+const TWICE: [&str; 5] = [
+    "1, 'A', 0, 0, '', 1, NULL",
+    "2, 'MA-1', 0, 0, '', 1, NULL",
+    "3, '', 1, 0, '', 1, NULL",
+    "2, 'MA-1', 0, 0, '', 2, 'Yes'",
+    "3, '', 1, 0, '', 2, 'Yes'",
+];
+
+/// The statements that add an appeal twice, with another reference.
+fn insert_twice(alloc: Global, columns: &str) -> Result<String, Fail> {
+    let one = format!(in alloc;
+        "INSERT INTO appeal VALUES (1, 'R1', 'S1', {columns}, '2027-05-01')"
+    )?;
+    let two = format!(in alloc;
+        "INSERT INTO appeal VALUES (1, 'R2', 'S1', {columns}, '2027-05-02')"
+    )?;
+    Ok(format!(in alloc; "{one}; {two}")?)
+}
+
+#[test]
+fn an_appeal_that_may_stand_once_is_refused_twice(rt: HostRuntime) -> Result<(), Fail> {
+    let alloc = rt.alloc();
+    for columns in TWICE {
+        let sql = insert_twice(alloc, columns)?;
+        assert_eq!(rt;
+            refusal_after(&rt, sql.as_str())?,
+            Some(Refusal::BadStore),
+            "{sql}"
+        );
+    }
+    // Of granted hall appeals, and of those that are refused or retracted, there may be several.
+    for columns in [
+        "1, 'A', 0, 0, '', 2, 'Yes'",
+        "2, 'MA-1', 0, 0, '', 3, 'No'",
+        "3, '', 1, 0, '', 4, NULL",
+        "2, 'MA-1', 0, 0, '', 5, 'Yes'",
+    ] {
+        let sql = insert_twice(alloc, columns)?;
+        assert_eq!(rt; refusal_after(&rt, sql.as_str())?, None, "{sql}");
+    }
+    Ok(())
+}
+
+/// The base office with that many more halls, and appeals of one candidate.
+fn refusal_of_many<R: Abort + AllocGlobal>(
+    rt: &R,
+    halls: u32,
+    appeals: u32,
+) -> Result<Option<Refusal>, Fail> {
+    let alloc = rt.alloc();
+    let mut conn = base_office(rt)?.close();
+    for number in 0..halls {
+        let sql = format!(in alloc; "INSERT INTO hall VALUES ('H{number}', 'Hall', 0)")?;
+        conn.execute_batch(sql.as_str())?;
+    }
+    for number in 0..appeals {
+        let columns = "'S1', 1, 'A', 0, 0, '', 3, 'No', '2027-05-01'";
+        let sql = format!(in alloc; "INSERT INTO appeal VALUES (1, 'R{number}', {columns})")?;
+        conn.execute_batch(sql.as_str())?;
+    }
+    Ok(refusal_of_opening(alloc, conn))
+}
+
+/// There may be 500 halls, of which the base has two, and 64 appeals of a candidate.
+#[test]
+fn more_than_the_limits_is_refused(rt: HostRuntime) -> Result<(), Fail> {
+    assert_eq!(rt; refusal_of_many(&rt, 498, 64)?, None);
+    assert_eq!(rt; refusal_of_many(&rt, 499, 64)?, Some(Refusal::BadStore));
+    assert_eq!(rt; refusal_of_many(&rt, 498, 65)?, Some(Refusal::BadStore));
+    Ok(())
+}

@@ -1,21 +1,21 @@
-use Rattle.std.proofs.Common.{◌≡◌, ◌∷◌, [], ◌++◌, ◌+◌, Ok, Err, take, map, subst, ap, ◌∙◌, rules}
-use Rattle.std.proofs.lemmas.List.{take_more, map-append, take_all}
+use Rattle.std.proofs.Common.{◌≡◌, ◌∷◌, [], ◌++◌, ◌+◌, Ok, Err, take, drop, map, sym, subst, ap, ◌∙◌, rules}
+use Rattle.std.proofs.lemmas.List.{take_more, take-append-drop, map-append, take_all}
 use Rattle.sqlite.specs.Held.{state}
-use Rattle.exam_store.specs.Inside.{Makes, without_row, without_rows}
-use Rattle.exam_store.proofs.Steps.{makes_then, makes_failed, one_less_row}
+use Rattle.exam_store.specs.Inside.{Makes, delete_of}
+use Rattle.exam_store.proofs.Steps.{makes_then, makes_part}
 use Rattle.exam_store.proofs.table.delete_rows.Goals as goal
 
 pub keys-preserved : goal.keys-preserved
 keys-preserved g c =
-    let tree = g.T.Table.tree in
-    let places = g.T.Table.key_places in
+    let old = state g.S.Store c.args.tx.now.conn.now in
+    let mid = state g.S.Store c.keys.tx.conn.now in
+    let new = state g.S.Store c.delete.new.tx.conn.now in
     let done = take c.keys.key-index c.args.keys.now in
     let next = c.key-item.result in
     let more : take (c.keys.key-index + 1) c.args.keys.now ≡ done ++ next ∷ [] = search (rules, take_more) in
     record {
       same = c.in_ok-delete.ensures.same_reference ∙ c.keys.invariant.same;
-      made = makes_then (state g.S.Store c.args.tx.now.conn.now) (state g.S.Store c.keys.tx.conn.now) (state g.S.Store c.delete.new.tx.conn.now) _ (without_rows tree places (map (λ key. g.T.Table.key_of key.now) done)) (without_row tree places (g.T.Table.key_of next.now)) _
-          (λ all. ap (λ l. without_rows tree places (map (λ key. g.T.Table.key_of key.now) l) all) more ∙ ap (λ l. without_rows tree places l all) (map-append (λ key. g.T.Table.key_of key.now) done (next ∷ [])) ∙ one_less_row tree places (map (λ key. g.T.Table.key_of key.now) done) _ all) c.keys.invariant.made c.in_ok-delete.ensures.made;
+      made = subst (Makes old new (Ok tt)) (sym (ap (map (λ r. delete_of g.T.Table.delete_text g.T.Table.tree g.T.Table.key_places (g.T.Table.key_of r.now))) more ∙ map-append (λ r. delete_of g.T.Table.delete_text g.T.Table.tree g.T.Table.key_places (g.T.Table.key_of r.now)) done (next ∷ []))) (makes_then old mid new (Ok tt) (map (λ r. delete_of g.T.Table.delete_text g.T.Table.tree g.T.Table.key_places (g.T.Table.key_of r.now)) done) (delete_of g.T.Table.delete_text g.T.Table.tree g.T.Table.key_places (g.T.Table.key_of next.now) ∷ []) c.keys.invariant.made c.in_ok-delete.ensures.made);
     }
 
 pub returns-in_err-delete-clause-same_reference : goal.returns-in_err-delete-clause-same_reference
@@ -23,10 +23,22 @@ returns-in_err-delete-clause-same_reference g c = c.in_err-delete.ensures.same_r
 
 pub returns-in_err-delete-clause-made : goal.returns-in_err-delete-clause-made
 returns-in_err-delete-clause-made g c =
-    let is : c.from_residual.result ≡ Err c.in_err-delete.field-0.0 = search rules in
-    rw is (makes_failed (state g.S.Store c.args.tx.now.conn.now) (state g.S.Store c.keys.tx.conn.now) (state g.S.Store c.delete.new.tx.conn.now) _ _ _ _ c.keys.invariant.made c.in_err-delete.ensures.made)
+    let old = state g.S.Store c.args.tx.now.conn.now in
+    let mid = state g.S.Store c.keys.tx.conn.now in
+    let new = state g.S.Store c.delete.new.tx.conn.now in
+    let all = c.args.keys.now in
+    let at = c.keys.key-index in
+    let next = c.key-item.result in
+    let more : take (at + 1) all ≡ take at all ++ next ∷ [] = search (rules, take_more) in
+    let e = c.in_err-delete.field-0.0 in
+    let is : c.from_residual.result ≡ Err e = search rules in
+    let so_far = makes_then old mid new (Err e) (map (λ r. delete_of g.T.Table.delete_text g.T.Table.tree g.T.Table.key_places (g.T.Table.key_of r.now)) (take at all)) (delete_of g.T.Table.delete_text g.T.Table.tree g.T.Table.key_places (g.T.Table.key_of next.now) ∷ []) c.keys.invariant.made c.in_err-delete.ensures.made in
+    let whole : (map (λ r. delete_of g.T.Table.delete_text g.T.Table.tree g.T.Table.key_places (g.T.Table.key_of r.now)) (take at all) ++ delete_of g.T.Table.delete_text g.T.Table.tree g.T.Table.key_places (g.T.Table.key_of next.now) ∷ []) ++ map (λ r. delete_of g.T.Table.delete_text g.T.Table.tree g.T.Table.key_places (g.T.Table.key_of r.now)) (drop (at + 1) all) ≡ map (λ r. delete_of g.T.Table.delete_text g.T.Table.tree g.T.Table.key_places (g.T.Table.key_of r.now)) all =
+    ap (λ l. l ++ map (λ r. delete_of g.T.Table.delete_text g.T.Table.tree g.T.Table.key_places (g.T.Table.key_of r.now)) (drop (at + 1) all)) (sym (map-append (λ r. delete_of g.T.Table.delete_text g.T.Table.tree g.T.Table.key_places (g.T.Table.key_of r.now)) (take at all) (next ∷ []))) ∙ sym (map-append (λ r. delete_of g.T.Table.delete_text g.T.Table.tree g.T.Table.key_places (g.T.Table.key_of r.now)) (take at all ++ next ∷ []) (drop (at + 1) all))
+    ∙ ap (λ l. map (λ r. delete_of g.T.Table.delete_text g.T.Table.tree g.T.Table.key_places (g.T.Table.key_of r.now)) (l ++ drop (at + 1) all)) (sym more) ∙ ap (map (λ r. delete_of g.T.Table.delete_text g.T.Table.tree g.T.Table.key_places (g.T.Table.key_of r.now))) (take-append-drop (at + 1) all) in
+    rw is (subst (Makes old new (Err e)) whole (makes_part old new e _ (map (λ r. delete_of g.T.Table.delete_text g.T.Table.tree g.T.Table.key_places (g.T.Table.key_of r.now)) (drop (at + 1) all)) so_far))
 
 pub returns-clause-made : goal.returns-clause-made
 returns-clause-made g c =
     let whole : take c.keys.key-index c.args.keys.now ≡ c.args.keys.now = take_all _ _ c.keys-test.false in
-    subst (λ l. Makes (state g.S.Store c.args.tx.now.conn.now) (state g.S.Store c.keys.tx.conn.now) (Ok tt) (without_rows g.T.Table.tree g.T.Table.key_places (map (λ key. g.T.Table.key_of key.now) l))) whole c.keys.invariant.made
+    subst (λ l. Makes (state g.S.Store c.args.tx.now.conn.now) (state g.S.Store c.keys.tx.conn.now) (Ok tt) (map (λ r. delete_of g.T.Table.delete_text g.T.Table.tree g.T.Table.key_places (g.T.Table.key_of r.now)) l)) whole c.keys.invariant.made

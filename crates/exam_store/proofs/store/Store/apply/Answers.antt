@@ -1,4 +1,4 @@
-use Rattle.std.proofs.Common.{◌≡◌, Err, rules}
+use Rattle.std.proofs.Common.{◌≡◌, Err, false, inl, inr, rules}
 use Rattle.sqlite.specs.Held.{state}
 use Rattle.exam_store.specs.Kept.{Rekeeps}
 use Rattle.exam_store.specs.Applied.{TurnsBy}
@@ -21,3 +21,14 @@ returns-clause-made g c =
     let before = c.self.inside.office in
     let by = TurnsBy c.args.command.now c.args.today before in
     rw (← c.self.view_is) (commits_weaker old new _ (Rekeeps before c.in_ok-next.next) by (λ _ _ keeps. (c.in_ok-next.reply, c.in_ok-next.next, c.in_ok-next.ensures.ok, keeps)) (commits_ok old new tt c.in_ok-next.reply _ c.in_ok-save.ensures.made))
+
+pub returns-in_err-next-clause-refusal : goal.returns-in_err-next-clause-refusal
+returns-in_err-next-clause-refusal g c =
+    let is : c.from_residual.result ≡ Err c.in_err-next.field-0.0 = search rules in
+    rw (is, ← c.self.view_is) (λ clean ours. elim c.in_err-next.ensures.refusal [ inl lacks ↦ inr (inl lacks) | inr step ↦ inl step ])
+
+pub returns-in_err-save-clause-refusal : goal.returns-in_err-save-clause-refusal
+returns-in_err-save-clause-refusal g c =
+    let is : c.from_residual-in_err-save.result ≡ Err c.in_err-save.field-0.0 = search rules in
+    let ended : c.self.inside.conn.in_transaction ≡ false = search rules in
+    rw (is, ← c.self.view_is) (λ clean ours. inr (inr (c.in_ok-next.reply, c.in_ok-next.next, c.in_ok-next.ensures.ok, c.in_err-save.ensures.failed ended clean ours)))

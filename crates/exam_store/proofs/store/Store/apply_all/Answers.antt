@@ -2,9 +2,9 @@ use Rattle.std.proofs.Common.{◌≡◌, ◌+◌, ◌∷◌, ◌++◌, [], take,
 use Rattle.std.proofs.lemmas.List.{take_more}
 use Rattle.sqlite.specs.Held.{state}
 use Rattle.sqlite.specs.State.{HasCleanDisk}
-use Rattle.exam_store.specs.Applied.{Applies}
+use Rattle.exam_store.specs.Applied.{Applies, AreApplied}
 use Rattle.exam_store.specs.Kept.{IsSound}
-use Rattle.exam_store.proofs.Applying.{applies_more}
+use Rattle.exam_store.proofs.Applying.{applies_more, applied_more}
 use Rattle.exam_store.proofs.store.Store.apply_all.Goals as goal
 
 pub commands-preserved : goal.commands-preserved
@@ -22,6 +22,9 @@ commands-preserved g c =
       so_far = subst (λ xs. Applies xs before c.push_reserved.new.self.items after) (sym more)
           (subst (λ rs. Applies (take i done ++ x ∷ []) before rs after) (sym c.push_reserved.ensures.items)
           (applies_more (take i done) x c.commands.replies.items c.apply.result before c.commands.self.office after c.commands.invariant.so_far c.apply.ensures.step));
+      each = subst (λ xs. AreApplied g.S.Store xs c.args.self.now c.push_reserved.new.self.items c.apply.new.self) (sym more)
+          (subst (λ rs. AreApplied g.S.Store (take i done ++ x ∷ []) c.args.self.now rs c.apply.new.self) (sym c.push_reserved.ensures.items)
+          (applied_more g.S.Store (take i done) x c.commands.replies.items c.apply.result c.args.self.now c.commands.self c.apply.new.self c.commands.invariant.each (record { step = c.apply.ensures.step; made = made; refusal = c.apply.ensures.refusal })));
       kept = λ sound was. c.apply.ensures.kept sound (c.commands.invariant.kept (back sound) was);
       was_open = λ sound. c.commands.invariant.was_open (back sound);
       answered = omega (arith, c.push_reserved.ensures.len, c.commands.invariant.answered);

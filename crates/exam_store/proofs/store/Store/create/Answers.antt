@@ -2,7 +2,7 @@ use Rattle.std.proofs.Common.{sym, subst₂}
 use Rattle.std.proofs.lemmas.Result.{IfOk-weaker}
 use Rattle.sqlite.specs.State.{HasCleanDisk, IsUnchanged}
 use Rattle.sqlite.specs.Held.{state}
-use Rattle.exam_store.specs.Found.{IsOurs}
+use Rattle.exam_store.specs.Inside.{IsOurs}
 use Rattle.exam_store.specs.Kept.{Keeps}
 use Rattle.exam_store.proofs.store.Store.create.Goals as goal
 
