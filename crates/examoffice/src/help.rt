@@ -30,6 +30,9 @@ pub const CLOSE_HALL: &str = "Closes a hall for a session, and seats anew who sa
 
 pub const DOOR_LIST: &str = "Prints who sits in a hall, by desk";
 
+pub const SHORTAGE: &str =
+    "Prints who cannot all be seated, with all halls that fit any of them: candidates = desks + unseated";
+
 pub const SESSION: &str = "The code of a session, as MON-AM";
 
 pub const HALL: &str = "The code of a hall, as GYM";

@@ -1,7 +1,7 @@
 //! The commands of the program, over any store, reader and writers.
 use crate::line::{Job, Line};
 use crate::report::{DONE, JobFault, flush, print, print_fault, reply_line};
-use exam_files::{door_list, read_import};
+use exam_files::{door_list, read_import, shortage_sheet};
 use exam_office::Command;
 use exam_store::Store;
 use exam_types::{Day, Refusal};
@@ -58,6 +58,11 @@ fn carry_out<S: Alter, R: Read, O: Write>(
         Job::DoorList { session, hall } => {
             let view = store.load_session(alloc, &session)?;
             door_list(alloc, &view, &hall, out)?;
+            flush(out)
+        }
+        Job::Shortage { session } => {
+            let view = store.load_session(alloc, &session)?;
+            shortage_sheet(alloc, &view, out)?;
             flush(out)
         }
     }

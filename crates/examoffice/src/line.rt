@@ -31,6 +31,9 @@ pub enum Job<'a> {
         session: SessionCode,
         hall: HallCode,
     },
+    Shortage {
+        session: SessionCode,
+    },
 }
 
 /// A command line that was understood.
@@ -111,6 +114,10 @@ fn read_job<'a>(name: &str, words: &ArgMatches<'a>) -> Option<Job<'a>> {
             let (session, hall) = opening_of(words)?;
             Some(Job::DoorList { session, hall })
         }
+        "shortage" => {
+            let session = session_of(words)?;
+            Some(Job::Shortage { session })
+        }
         _ => None,
     }
 }
@@ -124,9 +131,14 @@ fn entry_of(words: &ArgMatches<'_>) -> Option<(Number, PaperCode)> {
 
 /// The session and the hall that the words name.
 fn opening_of(words: &ArgMatches<'_>) -> Option<(SessionCode, HallCode)> {
-    let session = SessionCode::parse(words.get_str("session")?.as_bytes())?;
+    let session = session_of(words)?;
     let hall = HallCode::parse(words.get_str("hall")?.as_bytes())?;
     Some((session, hall))
+}
+
+/// The session that the word names.
+fn session_of(words: &ArgMatches<'_>) -> Option<SessionCode> {
+    SessionCode::parse(words.get_str("session")?.as_bytes())
 }
 
 /// The kind of imports that the word names.
@@ -159,7 +171,9 @@ fn office_command<'a>(alloc: Global) -> Result<Command<'a>, AllocError> {
     let command = with_job(alloc, command, "withdraw", help::WITHDRAW, &entry)?;
     let command = with_job(alloc, command, "reinstate", help::REINSTATE, &entry)?;
     let command = with_job(alloc, command, "close-hall", help::CLOSE_HALL, &opening)?;
-    with_job(alloc, command, "door-list", help::DOOR_LIST, &opening)
+    let command = with_job(alloc, command, "door-list", help::DOOR_LIST, &opening)?;
+    let session = [("session", help::SESSION)];
+    with_job(alloc, command, "shortage", help::SHORTAGE, &session)
 }
 
 /// The options, which stand before the command.

@@ -192,6 +192,33 @@ fn need_moves_another_by_a_chain(rt: HostRuntime) -> Result<(), Fail> {
     expect_all(&rt, &mut base_office(&rt)?, SECOND_NEEDS_A)
 }
 
+const DESKS_ARE_SHORT: &[Row<'_>] = &[
+    (
+        "shortage S1",
+        "",
+        Ok("SHORTAGE session S1\nunseated 0\nhalls 0 desks 0\ncandidates 0\n"),
+    ),
+    ("import arrangements f", SECOND_NEEDS, Ok(ONE_ADDED)),
+    (
+        "import entries f",
+        "number,paper\n0000001,MA-1\n0000002,MA-1\n0000003,MA-1\n",
+        Ok("added 3 changed 0 same 0\n"),
+    ),
+    (
+        "shortage S1",
+        "",
+        Ok(
+            "SHORTAGE session S1\nunseated 1\nhalls 2 desks 2\nhall A desks 1\nhall B desks 1\ncandidates 3\n0000001\n0000002\n0000003\n",
+        ),
+    ),
+    ("shortage S9", "", Err("refused 4\n")),
+];
+
+#[test]
+fn shortage_names_seated_and_unseated(rt: HostRuntime) -> Result<(), Fail> {
+    expect_all(&rt, &mut base_office(&rt)?, DESKS_ARE_SHORT)
+}
+
 const FEWER_DESKS: &[Row<'_>] = &[
     (
         "import openings f",
