@@ -76,7 +76,7 @@ pub fn are_members_within(facts: &Facts, lists: &SessionLists) -> bool
     facts
         .sessions
         .keys()
-        .all(|session| lists.members_of(session).len() <= MOST_MEMBERS)
+        .all(|session| lists.member_count(session) <= MOST_MEMBERS)
 }
 
 /// Whether no candidate has too many appeals.

@@ -1,9 +1,9 @@
 //! The members and the open halls of all sessions, listed in one walk over the facts.
-ghost use Rattle.std.specs.Prelude.{◌≡◌, ◌++◌, ◌∷◌, [], IfOk, IfErr, OnOk, if◌then◌else◌};
+ghost use Rattle.std.specs.Prelude.{◌≡◌, ◌++◌, ◌∷◌, [], length, IfOk, IfErr, OnOk, if◌then◌else◌};
 ghost use Rattle.std.specs.List.Sorted.{IsStrictlySortedBy};
 ghost use Rattle.std.specs.Ordering.{nat_cmp};
 ghost use Rattle.exam_types.specs.declared.refusal.Refusal.TheVariants.{NoMemory};
-ghost use Rattle.exam_rules.specs.Relations.{Code, relations_of, code_cmp, same_code};
+ghost use Rattle.exam_rules.specs.Relations.{Code, Relations, relations_of, code_cmp, same_code};
 ghost use Rattle.exam_rules.specs.Sessions as spec;
 ghost use Rattle.exam_rules.specs.Seatings as seatings;
 ghost use Rattle.exam_rules.specs.Lists as listing;
@@ -186,6 +186,13 @@ impl SessionLists {
         ensures { result.now ≡ listing.listed self.now.members.entries session.now }
     {
         listed(&self.members, session)
+    }
+
+    /// How many members the session has.
+    pub fn member_count(&self, session: &SessionCode) -> usize
+        ensures { (r : Relations) → listing.AreListsOf r self.now → result ≡ length (spec.members r session.now) }
+    {
+        self.members_of(session).len()
     }
 
     /// The halls opened for the session.
