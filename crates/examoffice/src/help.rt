@@ -30,6 +30,15 @@ pub const CLOSE_HALL: &str = "Closes a hall for a session, and seats anew who sa
 
 pub const DOOR_LIST: &str = "Prints who sits in a hall, by desk";
 
+pub const ATTENDANCE: &str = "Prints who sits a paper in a session, with hall, desk and finish";
+
+pub const CLASHES: &str =
+    "Prints who has two live papers in a session, the one they sit and the one they miss";
+
+pub const APPEALS: &str = "Prints all appeals for a session";
+
+pub const EXPORT: &str = "Prints the seats of a session as CSV";
+
 pub const SHORTAGE: &str =
     "Prints who cannot all be seated, with all halls that fit any of them: candidates = desks + unseated";
 
@@ -50,6 +59,10 @@ A command that is refused changes nothing and prints `refused` with a number:{n}
 8 no such entry{n}   \
 9 the entry is withdrawn already{n}  \
 10 the entry is not withdrawn{n}  \
+12 the appellant is no longer a member of the session{n}  \
+15 no such appeal{n}  \
+16 the appeal is not open{n}  \
+17 too late to decide{n}  \
 20 too many: a limit of the office would be passed, or the file is too long{n}  \
 22 not enough memory{n}  \
 23 the database failed{n}  \

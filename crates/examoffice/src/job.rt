@@ -1,7 +1,9 @@
 //! The commands of the program, over any store, reader and writers.
 use crate::line::{Job, Line};
 use crate::report::{DONE, JobFault, flush, print, print_fault, reply_line};
-use exam_files::{door_list, read_import, shortage_sheet};
+use exam_files::{
+    appeal_register, attendance, clash_list, door_list, export_seats, read_import, shortage_sheet,
+};
 use exam_office::Command;
 use exam_store::Store;
 use exam_types::{Day, Refusal};
@@ -60,9 +62,29 @@ fn carry_out<S: Alter, R: Read, O: Write>(
             door_list(alloc, &view, &hall, out)?;
             flush(out)
         }
+        Job::Attendance { session, paper } => {
+            let view = store.load_session(alloc, &session)?;
+            attendance(alloc, &view, &paper, out)?;
+            flush(out)
+        }
+        Job::Clashes { session } => {
+            let view = store.load_session(alloc, &session)?;
+            clash_list(alloc, &view, out)?;
+            flush(out)
+        }
         Job::Shortage { session } => {
             let view = store.load_session(alloc, &session)?;
             shortage_sheet(alloc, &view, out)?;
+            flush(out)
+        }
+        Job::Appeals { session } => {
+            let view = store.load_session(alloc, &session)?;
+            appeal_register(alloc, &view, out)?;
+            flush(out)
+        }
+        Job::Export { session } => {
+            let view = store.load_session(alloc, &session)?;
+            export_seats(alloc, &view, out)?;
             flush(out)
         }
     }

@@ -31,7 +31,20 @@ pub enum Job<'a> {
         session: SessionCode,
         hall: HallCode,
     },
+    Attendance {
+        session: SessionCode,
+        paper: PaperCode,
+    },
+    Clashes {
+        session: SessionCode,
+    },
     Shortage {
+        session: SessionCode,
+    },
+    Appeals {
+        session: SessionCode,
+    },
+    Export {
         session: SessionCode,
     },
 }
@@ -114,10 +127,23 @@ fn read_job<'a>(name: &str, words: &ArgMatches<'a>) -> Option<Job<'a>> {
             let (session, hall) = opening_of(words)?;
             Some(Job::DoorList { session, hall })
         }
-        "shortage" => {
+        "attendance" => {
             let session = session_of(words)?;
-            Some(Job::Shortage { session })
+            let paper = paper_of(words)?;
+            Some(Job::Attendance { session, paper })
         }
+        "clashes" => Some(Job::Clashes {
+            session: session_of(words)?,
+        }),
+        "shortage" => Some(Job::Shortage {
+            session: session_of(words)?,
+        }),
+        "appeals" => Some(Job::Appeals {
+            session: session_of(words)?,
+        }),
+        "export" => Some(Job::Export {
+            session: session_of(words)?,
+        }),
         _ => None,
     }
 }
@@ -125,8 +151,13 @@ fn read_job<'a>(name: &str, words: &ArgMatches<'a>) -> Option<Job<'a>> {
 /// The candidate and the paper that the words name.
 fn entry_of(words: &ArgMatches<'_>) -> Option<(Number, PaperCode)> {
     let number = Number::parse(words.get_str("number")?.as_bytes())?;
-    let paper = PaperCode::parse(words.get_str("paper")?.as_bytes())?;
+    let paper = paper_of(words)?;
     Some((number, paper))
+}
+
+/// The paper that the word names.
+fn paper_of(words: &ArgMatches<'_>) -> Option<PaperCode> {
+    PaperCode::parse(words.get_str("paper")?.as_bytes())
 }
 
 /// The session and the hall that the words name.
@@ -173,7 +204,12 @@ fn office_command<'a>(alloc: Global) -> Result<Command<'a>, AllocError> {
     let command = with_job(alloc, command, "close-hall", help::CLOSE_HALL, &opening)?;
     let command = with_job(alloc, command, "door-list", help::DOOR_LIST, &opening)?;
     let session = [("session", help::SESSION)];
-    with_job(alloc, command, "shortage", help::SHORTAGE, &session)
+    let sitting = [("session", help::SESSION), ("paper", help::PAPER)];
+    let command = with_job(alloc, command, "attendance", help::ATTENDANCE, &sitting)?;
+    let command = with_job(alloc, command, "clashes", help::CLASHES, &session)?;
+    let command = with_job(alloc, command, "shortage", help::SHORTAGE, &session)?;
+    let command = with_job(alloc, command, "appeals", help::APPEALS, &session)?;
+    with_job(alloc, command, "export", help::EXPORT, &session)
 }
 
 /// The options, which stand before the command.

@@ -1,7 +1,7 @@
 //! The lines that the program prints, and its exit statuses.
 use arrayvec::ArrayString;
 use exam_files::SheetFault;
-use exam_office::Reply;
+use exam_office::{AppealState, Reply};
 use exam_types::{Day, Refusal};
 use std::alloc::Global;
 use std::fmt::{self, Write as _};
@@ -60,6 +60,22 @@ fn write_reply(line: &mut ShortLine, reply: &Reply) -> fmt::Result {
         Reply::Withdrawn => writeln!(line, "withdrawn"),
         Reply::Reinstated => writeln!(line, "reinstated"),
         Reply::Closed => writeln!(line, "closed"),
+        Reply::Lodged(state) => {
+            let word = state_word(*state);
+            writeln!(line, "lodged {word}")
+        }
+        Reply::Retracted => writeln!(line, "retracted"),
+    }
+}
+
+/// The word for where an appeal stands.
+fn state_word(state: AppealState) -> &'static str {
+    match state {
+        AppealState::Pending => "open",
+        AppealState::Granted => "granted",
+        AppealState::Refused => "refused",
+        AppealState::Retracted => "retracted",
+        AppealState::Superseded => "superseded",
     }
 }
 

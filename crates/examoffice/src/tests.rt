@@ -192,6 +192,43 @@ fn need_moves_another_by_a_chain(rt: HostRuntime) -> Result<(), Fail> {
     expect_all(&rt, &mut base_office(&rt)?, SECOND_NEEDS_A)
 }
 
+const SHEETS: &[Row<'_>] = &[
+    ("import arrangements f", SECOND_NEEDS, Ok(ONE_ADDED)),
+    (
+        "import entries f",
+        "number,paper\n0000001,MA-1\n0000002,MA-1\n",
+        Ok("added 2 changed 0 same 0\n"),
+    ),
+    (
+        "attendance S1 MA-1",
+        "",
+        Ok(
+            "ATTENDANCE session S1 paper MA-1\ndate 2027-06-01 start 09:00 candidates 2\n0000001 B           1 10:00 Bo Berg\n0000002 A           1 10:00 Ada Lin\n",
+        ),
+    ),
+    (
+        "export S1",
+        "",
+        Ok("session,number,paper,hall,desk\nS1,0000001,MA-1,B,1\nS1,0000002,MA-1,A,1\n"),
+    ),
+    (
+        "clashes S1",
+        "",
+        Ok("CLASHES session S1\ndate 2027-06-01 clashes 0\n"),
+    ),
+    ("appeals S1", "", Ok("APPEALS session S1\nappeals 0\n")),
+    ("attendance S9 MA-1", "", Err("refused 4\n")),
+    ("attendance S1 PH-2", "", Err("refused 5\n")),
+    ("clashes S9", "", Err("refused 4\n")),
+    ("appeals S9", "", Err("refused 4\n")),
+    ("export S9", "", Err("refused 4\n")),
+];
+
+#[test]
+fn each_sheet_of_a_session_is_printed(rt: HostRuntime) -> Result<(), Fail> {
+    expect_all(&rt, &mut base_office(&rt)?, SHEETS)
+}
+
 const DESKS_ARE_SHORT: &[Row<'_>] = &[
     (
         "shortage S1",
@@ -320,7 +357,9 @@ fn other_words_are_not_understood(rt: HostRuntime) -> Result<(), Fail> {
         "door-list S1 A B",
         "door-list s1 A",
         "import rooms f",
-        "attendance S1 MA-1",
+        "attendance S1",
+        "clashes",
+        "export s1",
         "",
     ] {
         let words = words_of(alloc, line)?;
