@@ -1,3 +1,4 @@
+pub mod Barring
 pub mod Following
 pub mod Naming
 pub mod Places

@@ -1,10 +1,11 @@
 //! What granted appeals give a candidate in a session.
-ghost use Rattle.std.specs.Prelude.{◌≡◌, ◌&&◌, nat_le, [], filter, codes, IfOk, IfErr};
+ghost use Rattle.std.specs.Prelude.{◌≡◌, ◌&&◌, nat_le, [], filter, codes, IfOk, IfErr, Option};
 ghost use Rattle.exam_types.specs.declared.refusal.Refusal.TheVariants.{NoMemory};
 ghost use Rattle.std.specs.List.{list_any};
 ghost use Rattle.std.specs.BTreeMap.Range.{entries_between};
 ghost use Rattle.std.specs.declared.ops.Bound.TheVariants.{Unbounded, Excluded};
 ghost use Rattle.exam_rules.specs.Relations.{Code, relations_of, appeal_cmp, is_row_of, leading, same_code};
+ghost use Rattle.exam_rules.specs.Granted as granted;
 ghost use Rattle.exam_rules.specs.Sessions as spec;
 
 use crate::facts::Facts;
@@ -77,21 +78,39 @@ fn is_granted_for(appeal: &Appeal, session: &SessionCode) -> bool
     appeal.session == *session && is_granted(&appeal.status)
 }
 
-/// The paper of the granted clash appeal.
-pub fn granted_paper(facts: &Facts, session: &SessionCode, number: Number) -> Option<PaperCode>
-    ensures { result ≡ spec.granted_paper (relations_of facts.now) session.now number }
+/// What `wanted` makes of the first granted appeal of which it makes something.
+fn first_granted<T, F: Fn(Subject) -> Option<T>>(
+    facts: &Facts,
+    session: &SessionCode,
+    number: Number,
+    wanted: F,
+) -> Option<T>
+    requires { F.IsAlwaysCallable wanted }
+    ensures { (made : granted.Subject → Option T)
+        → ((s : granted.Subject) (r : Option T) → F.post wanted s r → r ≡ made s)
+        → result ≡ granted.first_made made facts.now.appeals.entries session.now number }
 {
     for (key, appeal) in appeals_from(facts, number) {
         if key.0 != number {
             break;
         }
         if is_granted_for(appeal, session) {
-            if let Subject::Clash(paper) = appeal.subject {
-                return Some(paper);
+            if let Some(made) = wanted(appeal.subject) {
+                return Some(made);
             }
         }
     }
     None
+}
+
+/// The paper of the granted clash appeal.
+pub fn granted_paper(facts: &Facts, session: &SessionCode, number: Number) -> Option<PaperCode>
+    ensures { result ≡ spec.granted_paper (relations_of facts.now) session.now number }
+{
+    first_granted(facts, session, number, |subject| match subject {
+        Subject::Clash(paper) => Some(paper),
+        _ => None,
+    })
 }
 
 /// The arrangement of the granted arrangement appeal.
@@ -102,37 +121,32 @@ pub fn granted_arrangement(
 ) -> Option<Arrangement>
     ensures { result ≡ spec.granted_arrangement (relations_of facts.now) session.now number }
 {
-    for (key, appeal) in appeals_from(facts, number) {
-        if key.0 != number {
-            break;
-        }
-        if is_granted_for(appeal, session) {
-            if let Subject::Arrangement(arrangement) = appeal.subject {
-                return Some(arrangement);
-            }
-        }
+    first_granted(facts, session, number, |subject| match subject {
+        Subject::Arrangement(arrangement) => Some(arrangement),
+        _ => None,
+    })
+}
+
+/// The hall, where an appeal asks for another than it.
+fn barred_by(hall: &HallCode, subject: Subject) -> Option<HallCode>
+    ensures { result ≡ granted.barred_by hall.now subject }
+{
+    match subject {
+        Subject::Hall(barred) => { if *hall == barred { Some(barred) } else { None } }
+        _ => None,
     }
-    None
 }
 
 /// Whether a granted appeal of the candidate bars the hall.
+#[tactic(auto, using(crate::proofs::Barring::any_barred))]
 pub fn is_barred(facts: &Facts, session: &SessionCode, number: Number, hall: &HallCode) -> bool
     ensures { result
         ≡ list_any (same_code hall.now) (spec.barred_halls (relations_of facts.now) session.now number) }
 {
-    for (key, appeal) in appeals_from(facts, number) {
-        if key.0 != number {
-            break;
-        }
-        if is_granted_for(appeal, session) {
-            if let Subject::Hall(barred) = appeal.subject {
-                if *hall == barred {
-                    return true;
-                }
-            }
-        }
-    }
-    false
+    first_granted(facts, session, number, |subject| {
+        barred_by(hall, subject)
+    })
+    .is_some()
 }
 
 /// The halls that granted appeals of the candidate bar.
