@@ -48,7 +48,8 @@ paper_for r s p = if list_any (λ code. same_code code p) (papers_of r s) then O
 abbrev pub door_list_of : State → Code → Code → Result (List ℕ) Refusal
 door_list_of office s h =
     for_session office s (λ session.
-    sheet_if (λ opening. door_text s session h opening (seats_in office s)) (opening_for office.relations s h))
+    sheet_if (λ opening. door_text s session h opening (seats_in office s))
+    (opening_for office.relations s h))
 
 abbrev pub attendance_of : State → Code → Code → Result (List ℕ) Refusal
 attendance_of office s p =

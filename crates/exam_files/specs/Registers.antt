@@ -42,7 +42,8 @@ appeal_line row =
     ++ codes " " ++ day_text row.lodged ++ codes " " ++ subject_text row.subject ++ codes "\n"
 
 abbrev pub register_heading : List ℕ → ℕ → List ℕ
-register_heading code count = codes "APPEALS session " ++ code ++ codes "\nappeals " ++ decimal count ++ codes "\n"
+register_heading code count =
+    codes "APPEALS session " ++ code ++ codes "\nappeals " ++ decimal count ++ codes "\n"
 
 -- the heading, and a line for each appeal
 abbrev pub register_text : List ℕ → List AppealRow → List ℕ

@@ -15,7 +15,7 @@ use crate::office::Seats;
 use crate::repair::stored_plan;
 use crate::view::{AppealRow, Clash, Member, SessionView};
 use exam_rules::{
-    Appeal, Facts, ListedProblem, Opening, Session, clashes, finish, listed_problem, sitting,
+    Appeal, Facts, ListedProblem, Opening, Session, clashes_among, finish, listed_problem, sitting,
 };
 use exam_types::{HallCode, Number, PaperCode, Reference, Refusal, SessionCode};
 use std::alloc::Global;
@@ -43,7 +43,7 @@ pub fn view_of(
         openings: openings_of(alloc, facts, session)?,
         members: members_of(alloc, facts, session, &listed.numbers)?,
         papers: papers_of(alloc, facts, session)?,
-        clashes: clashes_of(alloc, facts, session)?,
+        clashes: clashes_of(alloc, facts, session, &listed.numbers)?,
         appeals: appeals_of(alloc, facts, session)?,
         problem: listed.problem,
         plan,
@@ -80,15 +80,20 @@ fn papers_of(alloc: Global, facts: &Facts, session: &SessionCode) -> Result<Vec<
     Ok(papers)
 }
 
-/// The clashes of a session that there is, each with the paper that is sat.
-fn clashes_of(alloc: Global, facts: &Facts, session: &SessionCode) -> Result<Vec<Clash>, Refusal>
-    requires { IsTrue (has_row code_cmp facts.now.sessions.entries session.now) }
+/// The clashes of the members, each with the paper that is sat.
+fn clashes_of(
+    alloc: Global,
+    facts: &Facts,
+    session: &SessionCode,
+    numbers: &[Number],
+) -> Result<Vec<Clash>, Refusal>
+    requires { numbers.now ≡ sessions.members (relations_of facts.now) session.now }
     ensures ok { IfOk result (λ list. map (λ clash. Some clash) list.items
         ≡ map (views.clash_of (relations_of facts.now) session.now)
         (sessions.clashes (relations_of facts.now) session.now)) }
     ensures memory { IfErr result (λ e. e ≡ NoMemory) }
 {
-    let pairs = clashes(alloc, facts, session)?;
+    let pairs = clashes_among(alloc, facts, session, numbers)?;
     with_sitting(alloc, facts, session, &pairs)
 }
 

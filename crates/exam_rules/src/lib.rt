@@ -2,6 +2,7 @@
 #![tactic(auto)]
 
 mod appeals;
+mod clashing;
 mod facts;
 mod fit;
 mod laws;
@@ -13,6 +14,7 @@ mod sessions;
 mod tests;
 
 pub use appeals::has_at_most;
+pub use clashing::clashes_among;
 pub use facts::Facts;
 pub use fit::{finish, fits};
 pub use laws::{

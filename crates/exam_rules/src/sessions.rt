@@ -205,7 +205,7 @@ pub fn clashes(
 }
 
 /// Appends the candidate's live papers that they do not sit.
-fn push_clashes(
+pub fn push_clashes(
     list: &mut Vec<(Number, PaperCode)>,
     facts: &Facts,
     session: &SessionCode,

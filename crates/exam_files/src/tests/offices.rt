@@ -1,8 +1,8 @@
 //! Offices with one session, for the sheets.
 use super::reading::{hall, number, session};
 use crate::read_import;
-use exam_office::{AppealState, Command, Kind, Office, SessionView, step};
-use exam_rules::{Appeal, Status, Subject};
+use exam_office::{AppealState, Command, Kind, Office, Seats, SessionView, step};
+use exam_rules::{Appeal, Facts, Status, Subject};
 use exam_types::{Day, Reason, Reference};
 use std::alloc::Global;
 use std::collections::BTreeMap;
@@ -119,17 +119,49 @@ fn status_of(alloc: Global, state: AppealState) -> Result<Status, Fail> {
 }
 
 /// The appeal, lodged on 2027-05-30.
-fn appeal_of(alloc: Global, appeal: LodgedAppeal) -> Result<Appeal, Fail> {
+fn appeal_of(alloc: Global, subject: Subject, state: AppealState) -> Result<Appeal, Fail> {
     let lodged = Day::parse(b"2027-05-30").ok_or("day")?;
     let session = session(b"S1")?;
     let reason = reason(alloc)?;
     Ok(Appeal {
         session,
-        subject: appeal.subject,
+        subject,
         reason,
-        status: status_of(alloc, appeal.state)?,
+        status: status_of(alloc, state)?,
         lodged,
     })
+}
+
+fn add_appeal(alloc: Global, facts: &mut Facts, appeal: &LodgedAppeal) -> Result<(), Fail> {
+    let reference = Reference::parse(appeal.reference).ok_or("reference")?;
+    let key = (number(appeal.number)?, reference);
+    let row = appeal_of(alloc, appeal.subject, appeal.state)?;
+    facts.appeals.insert(key, row)?;
+    Ok(())
+}
+
+/// The facts of the office, and these appeals.
+fn facts_with(alloc: Global, office: &Office, appeals: &[LodgedAppeal]) -> Result<Facts, Fail> {
+    let mut facts = office.facts().clone()?;
+    for appeal in appeals {
+        add_appeal(alloc, &mut facts, appeal)?;
+    }
+    Ok(facts)
+}
+
+fn add_seat(seats: &mut Seats, seat: &(u32, &[u8])) -> Result<(), Fail> {
+    let key = (session(b"S1")?, number(seat.0)?);
+    seats.insert(key, hall(seat.1)?)?;
+    Ok(())
+}
+
+/// These candidates in these halls.
+fn seats_of(alloc: Global, seated: &[(u32, &[u8])]) -> Result<Seats, Fail> {
+    let mut seats = BTreeMap::new(alloc);
+    for seat in seated {
+        add_seat(&mut seats, seat)?;
+    }
+    Ok(seats)
 }
 
 /// The session of the office once it has these appeals, with these candidates in these halls.
@@ -139,15 +171,7 @@ pub fn view_with(
     appeals: &[LodgedAppeal],
     seated: &[(u32, &[u8])],
 ) -> Result<SessionView, Fail> {
-    let mut facts = office.facts().clone()?;
-    for appeal in appeals {
-        let reference = Reference::parse(appeal.reference).ok_or("reference")?;
-        let key = (number(appeal.number)?, reference);
-        facts.appeals.insert(key, appeal_of(alloc, *appeal)?)?;
-    }
-    let mut seats = BTreeMap::new(alloc);
-    for seat in seated {
-        seats.insert((session(b"S1")?, number(seat.0)?), hall(seat.1)?)?;
-    }
+    let seats = seats_of(alloc, seated)?;
+    let facts = facts_with(alloc, office, appeals)?;
     view_of(alloc, &Office::from_parts(alloc, facts, seats)?)
 }

@@ -53,8 +53,8 @@ fn expect_taken<R: Abort + AllocGlobal>(
     Ok(())
 }
 
-/// The sheet has this text: whole to writers that take much or a byte at a time, cut where a writer fails, and
-/// nothing to one that takes nothing.
+/// The sheet has this text: whole to writers that take much or a byte at a time, cut where a writer fails,
+/// and nothing to one that takes nothing.
 pub fn expect_sheet<R: Abort + AllocGlobal>(
     rt: &R,
     view: &SessionView,
