@@ -94,7 +94,7 @@ rows_shown {K} {X} {cmp} {IsRow} {row} rows meant entries shown holds = record {
   forms = holds.forms;
   same = subst (λ l. IsPermutation l (map (λ e. row e.0 e.1) entries)) (bare rows)
       (subst (IsPermutation (map (drop 1) (map (λ r. Null ∷ r) rows))) (map-map (drop 1) (λ (e : K × X). Null ∷ row e.0 e.1) entries)
-      (IsPermutation-map (drop 1) _ _ (IsPermutation-trans _ meant _ (IsPermutation-sym _ _ shown) holds.held)));
+      (IsPermutation-map (drop 1) _ _ (IsPermutation-trans _ meant _ (IsPermutation-sym _ _ shown) holds.same)));
 }
   where
     bare : (rows : List Row) → map (drop 1) (map (λ r. Null ∷ r) rows) ≡ rows

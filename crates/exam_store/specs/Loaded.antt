@@ -12,7 +12,6 @@ use Rattle.exam_types.specs.declared.refusal.Refusal.TheVariants.{NoMemory, BadS
 use Rattle.exam_tables.specs.Content.{same_key}
 use Rattle.exam_rules.specs.Orders.{KeysRise}
 use Rattle.exam_store.specs.Faults.{refusal_of}
-use Rattle.exam_store.specs.Held.{HoldsRows}
 
 -- Two rows of a table have the same key in SQL exactly where their keys compare as equal.
 pub record KeysMatch {K X : Type 0} (cmp : K → K → Ordering) (key : List ℕ) (row : K → X → Row)
@@ -27,12 +26,10 @@ pub record AreRowsOf {K X : Type 0} (cmp : K → K → Ordering) (IsRow : K → 
   pub forms : AllByRecursion (λ e. IsRow e.0 e.1) entries
   pub same : IsPermutation rows (map (λ e. row e.0 e.1) entries)
 
--- the rows that are meant are those of these entries, which have the forms of the table
-pub record HoldsTable {K X : Type 0} (cmp : K → K → Ordering) (IsRow : K → X → Type 0)
-    (row : K → X → Row) (entries : List (K × X)) (meant : List Row) : Type 0 where
-  pub rises : KeysRise cmp entries
-  pub forms : AllByRecursion (λ e. IsRow e.0 e.1) entries
-  pub held : HoldsRows row entries meant
+-- the same of the rows that are meant
+abbrev pub HoldsTable : {K X : Type 0} → (K → K → Ordering) → (K → X → Type 0) → (K → X → Row) → List (K × X)
+    → List Row → Type 0
+HoldsTable cmp IsRow row entries meant = AreRowsOf cmp IsRow (λ k x. Null ∷ row k x) meant entries
 
 -- the refusal tells the error that a query of the database gave
 abbrev pub Told : State → State → Refusal → Type 0
