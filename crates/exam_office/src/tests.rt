@@ -5,6 +5,7 @@
 //! that own an office, its facts or an import are few, and each is proved once.
 mod appeals;
 mod commands;
+mod decisions;
 mod limits;
 mod lines;
 mod moves;

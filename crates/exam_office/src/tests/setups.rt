@@ -30,6 +30,8 @@ pub enum Fact<'a> {
     Withdrawn(u32, &'a str),
     /// An appeal of a candidate for S1 with a reference, granted.
     Granted(u32, &'a str, Grant<'a>),
+    /// An open appeal of a candidate for S1 with a reference.
+    Lodged(u32, &'a str, Grant<'a>),
     /// So many granted appeals of the first candidate for S1.
     GrantedHalls(u32),
 }
@@ -133,17 +135,30 @@ pub fn reference(code: &str) -> Result<Reference, Fail> {
     Ok(Reference::parse(code.as_bytes()).ok_or("reference")?)
 }
 
-fn granted(alloc: Global, subject: Subject) -> Result<Appeal, Fail> {
+fn appeal(alloc: Global, subject: Subject, status: Status) -> Result<Appeal, Fail> {
     let session = session("S1")?;
     let lodged = Day::parse(b"2027-05-20").ok_or("day")?;
-    let why = reason(alloc, "")?;
     Ok(Appeal {
         session,
         subject,
-        reason: why,
-        status: Status::Granted(reason(alloc, "ok")?),
+        reason: reason(alloc, "")?,
+        status,
         lodged,
     })
+}
+
+fn add_appeal(
+    alloc: Global,
+    facts: &mut Facts,
+    value: u32,
+    code: &str,
+    grant: Grant,
+    status: Status,
+) -> Result<(), Fail> {
+    let key = (number(value)?, reference(code)?);
+    let appeal = appeal(alloc, subject_of(grant)?, status)?;
+    facts.appeals.insert(key, appeal)?;
+    Ok(())
 }
 
 fn add_grant(
@@ -153,10 +168,8 @@ fn add_grant(
     code: &str,
     grant: Grant,
 ) -> Result<(), Fail> {
-    let key = (number(value)?, reference(code)?);
-    let appeal = granted(alloc, subject_of(grant)?)?;
-    facts.appeals.insert(key, appeal)?;
-    Ok(())
+    let status = Status::Granted(reason(alloc, "ok")?);
+    add_appeal(alloc, facts, value, code, grant, status)
 }
 
 fn add_hall_grants(alloc: Global, facts: &mut Facts, count: u32) -> Result<(), Fail> {
@@ -180,6 +193,9 @@ fn add_fact(alloc: Global, facts: &mut Facts, fact: Fact) -> Result<(), Fail> {
         Fact::Rows(kind, first, end) => add_range(alloc, facts, kind, first, end),
         Fact::Withdrawn(value, code) => add_withdrawn(facts, value, code),
         Fact::Granted(value, code, grant) => add_grant(alloc, facts, value, code, grant),
+        Fact::Lodged(value, code, grant) => {
+            add_appeal(alloc, facts, value, code, grant, Status::Pending)
+        }
         Fact::GrantedHalls(count) => add_hall_grants(alloc, facts, count),
     }
 }
