@@ -1,6 +1,6 @@
 -- An appeal once stored stays stored, with what it asks, and once retracted it stays so: whatever comes after, the same lodging
 -- and the same retraction change nothing. And neither moves anybody.
-use Rattle.std.proofs.Common.{◌≡◌, ℕ, ◌&&◌, not, Bool, true, false, cond, List, [], ◌∷◌, ◌++◌, Option, None, Some, Result, Ok, Err, is_none, is_some, eq-eqb, nat_eq, refl, ap, sym, subst, ◌∙◌, ◌⊎◌, inl, inr}
+use Rattle.std.proofs.Common.{◌≡◌, ℕ, ◌&&◌, not, Bool, true, false, cond, List, [], ◌∷◌, ◌++◌, map, Option, None, Some, Result, Ok, Err, is_none, is_some, eq-eqb, nat_eq, refl, ap, sym, subst, ◌∙◌, ◌⊎◌, inl, inr}
 use Rattle.std.specs.BTreeMap.{is_at}
 use Rattle.std.specs.Cmp.{Equal-is}
 use Rattle.std.specs.Option.{option_or}
@@ -19,10 +19,14 @@ use Rattle.exam_rules.specs.Seatings.{seating}
 use Rattle.exam_rules.proofs.Naming.{same_code_itself}
 use Rattle.exam_office.specs.declared.command.Command.{Command}
 use Rattle.exam_office.specs.declared.command.Command.TheVariants as command
+use Rattle.exam_office.specs.declared.command.Decision.{Decision}
 use Rattle.exam_office.specs.declared.command.Lodging.{Lodging}
+use Rattle.exam_office.specs.declared.command.Outcome.{Outcome}
+use Rattle.exam_office.specs.declared.command.Outcome.TheVariants as outcome
 use Rattle.exam_office.specs.declared.command.Reply.{Reply}
 use Rattle.exam_office.specs.declared.command.Reply.TheVariants as reply
-use Rattle.exam_office.specs.Appeals.{appeal_at, is_open, is_retracted, same_subject, stored_state}
+use Rattle.exam_office.specs.Appeals.{appeal_at, decided, is_decided, is_open, is_retracted, same_subject, stored_state, superseded}
+use Rattle.exam_office.specs.Decisions.{decision_checks, decision_refusal, gives_way, giving_way, grant_checks, is_too_late, open_checks, with_decided, with_decision, with_outcome, with_superseded}
 use Rattle.exam_office.specs.Changes.{closing_refusal, first_refusal, import_refusal, reinstatement_refusal, unless, with_live, with_rows, without_opening, withdrawal_refusal}
 use Rattle.exam_office.specs.Good.{IsGood}
 use Rattle.exam_office.specs.Limits.{within_limits}
@@ -139,6 +143,85 @@ retraction_carries r c reference = inner (appeal_at r c reference) refl
     inner None none = carries_itself r
     inner (Some a) at = by_status a at (is_retracted a.status)
 
+-- who gives way to a grant asks the same, and is not open by it
+superseded_goes_on : (c : ℕ) (s : Code) (asked : Subject) (row : (ℕ × Code) × Appeal) → Continues row.1 (giving_way c s asked row).1
+superseded_goes_on c s asked row = inner (gives_way c s asked row)
+  where
+    inner : (b : Bool) → Continues row.1 (cond b (row.0, record row.1 { status = superseded row.1.status }) row).1
+    inner true = record { session = refl; subject = refl; reason = refl; retracted = λ is. ap superseded is }
+    inner false = continues_itself row.1
+
+giving_way_keyed : (c : ℕ) (s : Code) (asked : Subject) (row : (ℕ × Code) × Appeal) → (giving_way c s asked row).0 ≡ row.0
+giving_way_keyed c s asked row = inner (gives_way c s asked row)
+  where
+    inner : (b : Bool) → (cond b (row.0, record row.1 { status = superseded row.1.status }) row).0 ≡ row.0
+    inner true = refl
+    inner false = refl
+
+-- what an appeal at the key has become, among these
+record GoesOnAmong (rows : List ((ℕ × Code) × Appeal)) (k : ℕ × Code) (a : Appeal) : Type 0 where
+  then : Appeal
+  stored : row_at appeal_cmp rows k ≡ Some then
+  continues : Continues a then
+
+mapped_goes_on : (c : ℕ) (s : Code) (asked : Subject) (rows : List ((ℕ × Code) × Appeal)) (k : ℕ × Code) (a : Appeal) → row_at appeal_cmp rows k ≡ Some a → GoesOnAmong (map (giving_way c s asked) rows) k a
+mapped_goes_on c s asked [] k a at = absurd (let differ : None ≡ Some a = at in cc)
+mapped_goes_on c s asked (d ∷ ds) k a at = inner (is_at (appeal_cmp k) d.0) refl at (mapped_goes_on c s asked ds k a)
+  where
+    head : (b : Bool) → is_at (appeal_cmp k) d.0 ≡ b → row_at appeal_cmp (map (giving_way c s asked) (d ∷ ds)) k ≡ cond b (Some (giving_way c s asked d).1) (row_at appeal_cmp (map (giving_way c s asked) ds) k)
+    head b is = ap (λ q. cond (is_at (appeal_cmp k) q) (Some (giving_way c s asked d).1) (row_at appeal_cmp (map (giving_way c s asked) ds) k)) (giving_way_keyed c s asked d)
+        ∙ ap (λ t. cond t (Some (giving_way c s asked d).1) (row_at appeal_cmp (map (giving_way c s asked) ds) k)) is
+
+    inner : (b : Bool) → is_at (appeal_cmp k) d.0 ≡ b → cond b (Some d.1) (row_at appeal_cmp ds k) ≡ Some a → (row_at appeal_cmp ds k ≡ Some a → GoesOnAmong (map (giving_way c s asked) ds) k a)
+        → GoesOnAmong (map (giving_way c s asked) (d ∷ ds)) k a
+    inner true here is rest =
+        let one : d.1 ≡ a = cc in
+        record { then = (giving_way c s asked d).1; stored = head true here; continues = subst (λ x. Continues x (giving_way c s asked d).1) one (superseded_goes_on c s asked d) }
+    inner false away is rest = let later = rest is in record { then = later.then; stored = head false away ∙ later.stored; continues = later.continues }
+
+rows_go_on : (c : ℕ) (a : Appeal) (o : Outcome) (rows : List ((ℕ × Code) × Appeal)) (k : ℕ × Code) (x : Appeal) → row_at appeal_cmp rows k ≡ Some x → GoesOnAmong (with_superseded c a o rows) k x
+rows_go_on c a outcome.Grant rows k x at = mapped_goes_on c a.session a.subject rows k x at
+rows_go_on c a outcome.Refuse rows k x at = record { then = x; stored = at; continues = continues_itself x }
+
+outcome_carries : (r : Relations) (d : Decision) (a : Appeal) → appeal_at r d.number d.reference ≡ Some a → is_open a.status ≡ true → Carries r (with_outcome r d a)
+outcome_carries r d a stored open_yet = record { candidates = λ c has. has; appeals = λ q x at. inner q x at (is_at (appeal_cmp (d.number, d.reference)) q) refl }
+  where
+    inner : (q : ℕ × Code) (x : Appeal) → row_at appeal_cmp r.appeals q ≡ Some x → (b : Bool) → is_at (appeal_cmp (d.number, d.reference)) q ≡ b → GoesOn (with_outcome r d a) q x
+    inner q x at true here =
+        let same : (d.number, d.reference) ≡ q = appeals_exact (d.number, d.reference) q ((Equal-is (appeal_cmp (d.number, d.reference) q)).0 here) in
+        let both : Some a ≡ Some x = sym stored ∙ ap (λ z. row_at appeal_cmp r.appeals z) same ∙ at in
+        let one : a ≡ x = cc in
+        let new : Appeal = record a { status = decided d.outcome d.answer } in
+        record {
+          then = new;
+          stored = ap (λ z. row_at appeal_cmp (put_row appeal_cmp (with_superseded d.number a d.outcome r.appeals) (d.number, d.reference) new) z) (sym same)
+              ∙ put_found appeal_cmp appeals_total (with_superseded d.number a d.outcome r.appeals) (d.number, d.reference) new;
+          continues = subst (λ z. Continues z new) one
+              (record { session = refl; subject = refl; reason = refl; retracted = λ is. absurd (let differ : true ≡ false = sym open_yet ∙ ap is_open is in cc) });
+        }
+    inner q x at false away =
+        let on = rows_go_on d.number a d.outcome r.appeals q x at in
+        record {
+          then = on.then;
+          stored = put_stays appeal_cmp appeals_total (with_superseded d.number a d.outcome r.appeals) (d.number, d.reference) q (record a { status = decided d.outcome d.answer }) on.then
+              (λ here. absurd (let differ : true ≡ false = sym here ∙ away in cc)) on.stored;
+          continues = on.continues;
+        }
+
+decision_carries : (r : Relations) (day : ℕ) (d : Decision) → decision_refusal r day d ≡ None → Carries r (with_decision r d)
+decision_carries r day d ok = inner (appeal_at r d.number d.reference) refl
+  where
+    was_open : (a : Appeal) → first_refusal (open_checks r day d a) ≡ None → is_open a.status ≡ true
+    was_open a none = not-false (is_open a.status) (passed (not (is_open a.status)) refusal.NotOpenAppeal ((is_too_late r a.session day, refusal.TooLate) ∷ grant_checks r d.number a d.outcome) none).0
+
+    by_case : (a : Appeal) → appeal_at r d.number d.reference ≡ Some a → (b : Bool) → first_refusal (cond b [] (open_checks r day d a)) ≡ None → Carries r (cond b r (with_outcome r d a))
+    by_case a at true none = carries_itself r
+    by_case a at false none = outcome_carries r d a at (was_open a none)
+
+    inner : (o : Option Appeal) → appeal_at r d.number d.reference ≡ o → Carries r (with_decided r d o)
+    inner None at = carries_itself r
+    inner (Some a) at = by_case a at (is_decided d.outcome d.answer a.status) (ap (λ o. first_refusal (decision_checks r day d o)) (sym at) ∙ ok)
+
 change_carries : (done : Command) (day : ℕ) (before : State) (t : Relations) → change done day before ≡ Ok t → Carries before.relations t
 change_carries (command.Import import) day before t is =
     let new = made (import_refusal before.relations import.rows) (with_rows before.relations import.rows) t is in
@@ -153,6 +236,9 @@ change_carries (command.Lodge l) day before t is =
     subst (Carries before.relations) (made (spec.lodging_refusal before.relations before.seats day l) (spec.with_lodging before.relations day l) t is) (lodging_carries before.relations day l)
 change_carries (command.Retract c reference) day before t is =
     subst (Carries before.relations) (made (spec.retraction_refusal before.relations c reference) (spec.with_retraction before.relations c reference) t is) (retraction_carries before.relations c reference)
+change_carries (command.Decide d) day before t is =
+    subst (Carries before.relations) (made (decision_refusal before.relations day d) (with_decision before.relations d) t is)
+    (decision_carries before.relations day d (unrefused (decision_refusal before.relations day d) (with_decision before.relations d) t is))
 
 step_carries : (done : Command) (day : ℕ) (before : State) (answer : Result Reply Refusal) (after : State) → Step done day before answer after → Carries before.relations after.relations
 step_carries done day before answer after step = inner (change done day before) refl step

@@ -25,6 +25,7 @@ pub mod Repeating
 pub mod PutRows
 pub mod Superseding
 pub mod DecidedFacts
+pub mod DecisionSteps
 pub mod Stored
 pub mod RepeatedImports
 pub mod Seated

@@ -1,5 +1,5 @@
 -- What a command answers.
-use Rattle.std.specs.Prelude.{not, Bool, true, false, List, length, filter, Option, is_none}
+use Rattle.std.specs.Prelude.{not, Bool, true, false, List, length, filter, Option, is_none, None, Some, if◌then◌else◌}
 use Rattle.std.specs.Option.{option_map, option_map_or}
 use Rattle.std.specs.Ordering.{nat_cmp}
 use Rattle.exam_rules.specs.Relations.{Relations, code_cmp, opening_cmp, entry_cmp, row_at}
@@ -9,7 +9,11 @@ use Rattle.exam_office.specs.declared.command.Command.{Command}
 use Rattle.exam_office.specs.declared.command.Command.TheVariants as command
 use Rattle.exam_office.specs.declared.command.Reply.{Reply}
 use Rattle.exam_office.specs.declared.command.Reply.TheVariants as reply
-use Rattle.exam_office.specs.Appeals.{stored_state}
+use Rattle.exam_office.specs.Appeals.{appeal_at, is_decided, stored_state}
+use Rattle.exam_office.specs.Moves.{moved}
+use Rattle.exam_office.specs.declared.command.Decision.{Decision}
+use Rattle.exam_rules.specs.declared.rows.Appeal.{Appeal}
+use Rattle.exam_rules.specs.Seatings.{plan_of}
 use Rattle.exam_office.specs.Imports.{distinct_rows}
 use Rattle.exam_office.specs.State.{State}
 use Rattle.exam_office.specs.SameRows.{same_arrangement, same_candidate, same_hall, same_opening, same_paper, same_session}
@@ -40,6 +44,18 @@ import_reply r rows = reply.Imported
     (length (filter (is_changed r) (distinct_rows rows)))
     (length (filter (is_same r) (distinct_rows rows)))
 
+-- of the decision of this stored appeal: where it stands then, the appellant's hall in its session, and how
+-- many others moved
+abbrev pub reply_to : State → State → Decision → Option Appeal → Reply
+reply_to before after d None = reply.Unchanged
+reply_to before after d (Some a) =
+    if is_decided d.outcome d.answer a.status then reply.Unchanged
+    else reply.Decided (stored_state after.relations d.number d.reference) (plan_of after.seats a.session d.number)
+    (moved before.seats after.seats d.number)
+
+abbrev pub decision_reply : State → State → Decision → Reply
+decision_reply before after d = reply_to before after d (appeal_at before.relations d.number d.reference)
+
 -- of an accepted command, from the office before and after
 abbrev pub reply_of : Command → State → State → Reply
 reply_of (command.Import import) before after = import_reply before.relations import.rows
@@ -48,3 +64,4 @@ reply_of (command.Reinstate c p) before after = reply.Reinstated
 reply_of (command.CloseHall s h) before after = reply.Closed
 reply_of (command.Lodge l) before after = reply.Lodged (stored_state after.relations l.number l.reference)
 reply_of (command.Retract c reference) before after = reply.Retracted
+reply_of (command.Decide d) before after = decision_reply before after d

@@ -10,6 +10,7 @@ use Rattle.exam_office.specs.declared.command.Command.{Command}
 use Rattle.exam_office.specs.declared.command.Command.TheVariants as command
 use Rattle.exam_office.specs.declared.command.Reply.{Reply}
 use Rattle.exam_office.specs.Changes.{closed, imported, reinstated, withdrawn}
+use Rattle.exam_office.specs.Decisions.{decision_made, granted_number}
 use Rattle.exam_office.specs.Lodgings.{lodged, retracted}
 use Rattle.exam_office.specs.Replies.{reply_of}
 use Rattle.exam_office.specs.State.{State}
@@ -22,6 +23,7 @@ change (command.Reinstate c p) today before = reinstated before.relations c p
 change (command.CloseHall s h) today before = closed before.relations s h
 change (command.Lodge l) today before = lodged before.relations before.seats today l
 change (command.Retract c reference) today before = retracted before.relations c reference
+change (command.Decide d) today before = decision_made before.relations today d
 
 -- the candidate whom a command names
 abbrev pub IsNamed : Command → ℕ → Type 0
@@ -31,6 +33,7 @@ IsNamed (command.Reinstate d p) c = d ≡ c
 IsNamed (command.CloseHall s h) c = ⊥
 IsNamed (command.Lodge l) c = l.number ≡ c
 IsNamed (command.Retract d reference) c = d ≡ c
+IsNamed (command.Decide d) c = d.number ≡ c
 
 -- Whom the new plan of a session seats for certain. After an import or the closing of a hall: those whom the
 -- repair does not put out. After any other command: everybody seated before who is still a member, but for the
@@ -43,6 +46,7 @@ SeatsOn (command.CloseHall s h) g before after = (c : ℕ) → IsSome (kept_part
 SeatsOn (command.Lodge l) g before after = Keeps (IsNamed (command.Lodge l)) g before after
 SeatsOn (command.Retract d reference) g before after =
     Keeps (IsNamed (command.Retract d reference)) g before after
+SeatsOn (command.Decide d) g before after = Keeps (IsNamed (command.Decide d)) g before after
 
 -- the same members, fits and desks
 pub record SameSeating (a b : Seating ℕ Code) : Type 0 where
@@ -50,7 +54,7 @@ pub record SameSeating (a b : Seating ℕ Code) : Type 0 where
   pub fits : (c : ℕ) (h : Code) → a.fits c h ≡ b.fits c h
   pub desks : (h : Code) → a.desks h ≡ b.desks h
 
--- who is seated first
+-- who is seated first: the appellant of a grant
 abbrev pub first_seated : Command → Option ℕ
 first_seated (command.Import import) = None
 first_seated (command.Withdraw d p) = None
@@ -58,6 +62,7 @@ first_seated (command.Reinstate d p) = None
 first_seated (command.CloseHall s h) = None
 first_seated (command.Lodge l) = None
 first_seated (command.Retract d reference) = None
+first_seated (command.Decide d) = granted_number d d.outcome
 
 -- the plan of one session after an accepted command
 pub record IsNextPlan (done : Command) (old new : Seating ℕ Code) (before after : Plan ℕ Code) : Type 0 where

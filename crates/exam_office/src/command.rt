@@ -2,6 +2,7 @@
 use crate::import::Import;
 use exam_rules::Subject;
 use exam_types::{HallCode, Number, PaperCode, Reason, Reference, SessionCode};
+use std::{fmt, str};
 
 /// A command to the office.
 #[derive(Drop)]
@@ -17,6 +18,8 @@ pub enum Command {
     Lodge(Lodging),
     /// Takes back the candidate's open appeal with the reference.
     Retract(Number, Reference),
+    /// Decides an appeal.
+    Decide(Decision),
 }
 
 /// An appeal that a candidate lodges for a session, under a reference of their own.
@@ -55,14 +58,56 @@ pub enum AppealState {
 }
 
 /// What an accepted command answers.
-#[derive(Clone, Copy, Debug, PartialEq, Eq)]
+#[derive(Clone, Copy, PartialEq, Eq)]
 pub enum Reply {
     /// How many distinct keys of the file were new, had another row, and had the same row.
-    Imported { added: u32, changed: u32, same: u32 },
+    Imported {
+        added: u32,
+        changed: u32,
+        same: u32,
+    },
     Withdrawn,
     Reinstated,
     Closed,
     /// Where the appeal stands: pending where it is a new one.
     Lodged(AppealState),
     Retracted,
+    /// Where the appeal stands, the appellant's hall in its session, if they sit, and how many others sit in
+    /// another hall than before.
+    Decided {
+        state: AppealState,
+        seat: Option<HallCode>,
+        moved: usize,
+    },
+    /// The appeal was decided so already.
+    Unchanged,
+}
+
+impl fmt::Debug for Reply {
+    fn fmt<W: fmt::Write>(&self, f: &mut fmt::Formatter<W>) -> fmt::Result {
+        match self {
+            Reply::Imported {
+                added,
+                changed,
+                same,
+            } => write!(f, "Imported {added} {changed} {same}"),
+            Reply::Withdrawn => write!(f, "Withdrawn"),
+            Reply::Reinstated => write!(f, "Reinstated"),
+            Reply::Closed => write!(f, "Closed"),
+            Reply::Lodged(state) => write!(f, "Lodged {state:?}"),
+            Reply::Retracted => write!(f, "Retracted"),
+            Reply::Decided { state, seat, moved } => {
+                write!(f, "Decided {state:?} {} {moved}", hall_text(seat))
+            }
+            Reply::Unchanged => write!(f, "Unchanged"),
+        }
+    }
+}
+
+/// The hall's code, or `-`.
+fn hall_text(hall: &Option<HallCode>) -> &str {
+    match hall {
+        Some(code) => str::from_utf8(code.as_bytes()).unwrap_or("-"),
+        None => "-",
+    }
 }

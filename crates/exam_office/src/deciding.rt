@@ -6,17 +6,20 @@ ghost use Rattle.std.specs.Option.{option_map};
 ghost use Rattle.std.specs.Result.{result_err};
 ghost use Rattle.exam_types.specs.declared.refusal.Refusal.TheVariants.{NoMemory};
 ghost use Rattle.exam_rules.specs.Relations.{appeal_cmp, put_row, relations_of};
-ghost use Rattle.exam_rules.specs.Sessions as sessions;
 ghost use Rattle.exam_rules.specs.declared.rows.Subject.TheVariants as subjects;
 ghost use Rattle.exam_office.specs.declared.command.Outcome.TheVariants as outcomes;
 ghost use Rattle.exam_office.specs.Appeals as appeals;
 ghost use Rattle.exam_office.specs.Changes.{first_refusal};
 ghost use Rattle.exam_office.specs.Decisions as spec;
+ghost use Rattle.exam_office.specs.Replies as replies;
 ghost use Rattle.exam_office.specs.Singles.{AreSingle};
 
-use crate::appeals::{is_open, is_same_kind};
-use crate::command::{Decision, Outcome};
+use crate::appeals::{is_open, is_same_kind, stored_state};
+use crate::command::{Decision, Outcome, Reply};
 use crate::copies::{copied_facts, put};
+use crate::lodging::is_live_paper;
+use crate::moves::moved;
+use crate::office::Office;
 use exam_rules::{Appeal, Facts, Status, Subject, is_member};
 use exam_types::{Day, Number, PaperCode, Reason, Reference, Refusal, SessionCode};
 
@@ -43,8 +46,50 @@ pub fn decided(facts: &Facts, decision: &Decision, today: Day) -> Result<Facts, 
     with_outcome(facts, decision, appeal)
 }
 
+/// Who is seated first: the appellant of a grant.
+pub fn appellant(decision: &Decision) -> Option<Number>
+    ensures { result ≡ spec.granted_number decision.now decision.now.outcome }
+{
+    match decision.outcome {
+        Outcome::Grant => Some(decision.number),
+        Outcome::Refuse => None,
+    }
+}
+
+/// What a decision answers.
+pub fn reply_to(before: &Office, after: &Office, decision: &Decision) -> Reply
+    ensures { result ≡ replies.decision_reply before.now after.now decision.now }
+{
+    match before
+        .facts()
+        .appeals
+        .get(&(decision.number, decision.reference))
+    {
+        Some(appeal) => reply_about(before, after, decision, appeal),
+        None => Reply::Unchanged,
+    }
+}
+
+/// What the decision of this appeal answers, as it was stored before.
+fn reply_about(before: &Office, after: &Office, decision: &Decision, appeal: &Appeal) -> Reply
+    ensures { result ≡ replies.reply_to before.now after.now decision.now (Some appeal.now) }
+{
+    if is_decided(decision.outcome, &decision.answer, &appeal.status) {
+        return Reply::Unchanged;
+    }
+    let seat = after
+        .seats()
+        .get(&(appeal.session, decision.number))
+        .copied();
+    Reply::Decided {
+        state: stored_state(after.facts(), decision.number, decision.reference),
+        seat,
+        moved: moved(before.seats(), after.seats(), decision.number),
+    }
+}
+
 /// Whether an appeal was decided so, with this answer. What was superseded since is not.
-pub fn is_decided(outcome: Outcome, answer: &Reason, status: &Status) -> bool
+fn is_decided(outcome: Outcome, answer: &Reason, status: &Status) -> bool
     ensures { result ≡ appeals.is_decided outcome answer.now status.now }
 {
     match (outcome, status) {
@@ -110,23 +155,10 @@ fn check_paper(
     ensures { result_err result ≡ first_refusal
         (spec.paper_checks (relations_of facts.now) session.now number (subjects.Clash paper)) }
 {
-    if is_live_paper(facts, session, number, paper) {
+    if is_live_paper(facts, session, number, &paper) {
         Ok(())
     } else {
         Err(Refusal::NoEntry)
-    }
-}
-
-/// Whether the candidate has a live entry for the paper, and it is of the session.
-fn is_live_paper(facts: &Facts, session: &SessionCode, number: Number, paper: PaperCode) -> bool
-    ensures { result ≡ sessions.is_live_paper (relations_of facts.now) session.now number paper }
-{
-    match (
-        facts.entries.get(&(number, paper)),
-        facts.papers.get(&paper),
-    ) {
-        (Some(entry), Some(row)) => entry.live && row.session == *session,
-        _ => false,
     }
 }
 

@@ -14,7 +14,8 @@ ghost use Rattle.exam_office.specs.declared.command.Command.TheVariants as varia
 use crate::appeals::stored_state;
 use crate::changes::imported;
 use crate::closing::closed;
-use crate::command::{Command, Lodging, Reply};
+use crate::command::{Command, Decision, Lodging, Reply};
+use crate::deciding::{appellant, decided, reply_to};
 use crate::entries::{reinstated, withdrawn};
 use crate::import::Import;
 use crate::limits::is_within_limits;
@@ -91,6 +92,7 @@ pub fn next_office(
         Command::Retract(number, reference) => {
             with_retraction(alloc, office, *number, *reference, today)
         }
+        Command::Decide(decision) => with_decision(alloc, office, decision, today),
     }
 }
 
@@ -205,6 +207,26 @@ fn with_retraction(
     office.is_in_order();
     let facts = retracted(office.facts(), number, reference)?;
     Ok((resettled(alloc, facts, office, None)?, Reply::Retracted))
+}
+
+/// The office after the decision of an appeal, the appellant of a grant seated first. It passes no limit.
+fn with_decision(
+    alloc: Global,
+    office: &Office,
+    decision: &Decision,
+    today: Day,
+) -> Result<(Office, Reply), Refusal>
+    ensures ok { IfOk result (λ next. steps.Step (variant.Decide decision.now) today office.now
+        (Ok next.1) next.0) }
+    ensures refusal { IfErr result (λ e. (e ≡ NoMemory)
+        ⊎ steps.Step (variant.Decide decision.now) today office.now (Err e) office.now) }
+{
+    office.is_good();
+    office.is_in_order();
+    let facts = decided(office.facts(), decision, today)?;
+    let next = resettled(alloc, facts, office, appellant(decision))?;
+    let reply = reply_to(office, &next, decision);
+    Ok((next, reply))
 }
 
 /// The office with these facts, where each session's plan is repaired, the first candidate first where they

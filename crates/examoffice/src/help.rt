@@ -28,6 +28,14 @@ pub const PAPER: &str = "The code of a paper, as MATHS-1";
 
 pub const CLOSE_HALL: &str = "Closes a hall for a session, and seats anew who sat in it";
 
+pub const DECIDE: &str = "Grants or refuses an open appeal, and seats anew after a grant";
+
+pub const REFERENCE: &str = "The reference of an appeal, as HA1";
+
+pub const OUTCOME: &str = "What is decided: granted or refused";
+
+pub const REASON: &str = "What the candidate is answered, as 'a window was found'; it may be empty";
+
 pub const DOOR_LIST: &str = "Prints who sits in a hall, by desk";
 
 pub const ATTENDANCE: &str = "Prints who sits a paper in a session, with hall, desk and finish";

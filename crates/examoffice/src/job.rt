@@ -1,12 +1,12 @@
 //! The commands of the program, over any store, reader and writers.
-use crate::line::{Job, Line};
+use crate::line::{Job, Line, Sheet};
 use crate::report::{DONE, JobFault, flush, print, print_fault, reply_line};
 use exam_files::{
     appeal_register, attendance, clash_list, door_list, export_seats, read_import, shortage_sheet,
 };
-use exam_office::Command;
+use exam_office::{Command, Decision};
 use exam_store::Store;
-use exam_types::{Day, Refusal};
+use exam_types::{Day, Refusal, SessionCode};
 use sqlite::Alter;
 use std::alloc::Global;
 use std::io::{ErrorKind, Read, Write};
@@ -37,57 +37,61 @@ fn carry_out<S: Alter, R: Read, O: Write>(
     reader: &mut R,
     out: &mut O,
 ) -> Result<(), JobFault> {
-    match line.job {
+    match &line.job {
         // Opening the store was all that there is to do.
         Job::Init => print(out, "ready\n"),
         Job::Import { kind, .. } => {
             let bytes = read_file(alloc, reader)?;
-            let import = read_import(alloc, kind, bytes.as_slice())?;
+            let import = read_import(alloc, *kind, bytes.as_slice())?;
             apply(alloc, store, &Command::Import(import), line.today, out)
         }
         Job::Withdraw { number, paper } => {
-            let command = Command::Withdraw(number, paper);
+            let command = Command::Withdraw(*number, *paper);
             apply(alloc, store, &command, line.today, out)
         }
         Job::Reinstate { number, paper } => {
-            let command = Command::Reinstate(number, paper);
+            let command = Command::Reinstate(*number, *paper);
             apply(alloc, store, &command, line.today, out)
         }
         Job::CloseHall { session, hall } => {
-            let command = Command::CloseHall(session, hall);
+            let command = Command::CloseHall(*session, *hall);
             apply(alloc, store, &command, line.today, out)
         }
-        Job::DoorList { session, hall } => {
-            let view = store.load_session(alloc, &session)?;
-            door_list(alloc, &view, &hall, out)?;
-            flush(out)
+        Job::Decide(decision) => {
+            let command = Command::Decide(copy_of(decision)?);
+            apply(alloc, store, &command, line.today, out)
         }
-        Job::Attendance { session, paper } => {
-            let view = store.load_session(alloc, &session)?;
-            attendance(alloc, &view, &paper, out)?;
-            flush(out)
-        }
-        Job::Clashes { session } => {
-            let view = store.load_session(alloc, &session)?;
-            clash_list(alloc, &view, out)?;
-            flush(out)
-        }
-        Job::Shortage { session } => {
-            let view = store.load_session(alloc, &session)?;
-            shortage_sheet(alloc, &view, out)?;
-            flush(out)
-        }
-        Job::Appeals { session } => {
-            let view = store.load_session(alloc, &session)?;
-            appeal_register(alloc, &view, out)?;
-            flush(out)
-        }
-        Job::Export { session } => {
-            let view = store.load_session(alloc, &session)?;
-            export_seats(alloc, &view, out)?;
-            flush(out)
-        }
+        Job::Sheet { session, sheet } => print_sheet(alloc, store, session, sheet, out),
     }
+}
+
+fn copy_of(decision: &Decision) -> Result<Decision, Refusal> {
+    Ok(Decision {
+        number: decision.number,
+        reference: decision.reference,
+        outcome: decision.outcome,
+        answer: decision.answer.copy()?,
+    })
+}
+
+/// Prints a sheet of the session.
+fn print_sheet<S: Alter, O: Write>(
+    alloc: Global,
+    store: &mut Store<S>,
+    session: &SessionCode,
+    sheet: &Sheet,
+    out: &mut O,
+) -> Result<(), JobFault> {
+    let view = store.load_session(alloc, session)?;
+    match sheet {
+        Sheet::DoorList(hall) => door_list(alloc, &view, hall, out)?,
+        Sheet::Attendance(paper) => attendance(alloc, &view, paper, out)?,
+        Sheet::Clashes => clash_list(alloc, &view, out)?,
+        Sheet::Shortage => shortage_sheet(alloc, &view, out)?,
+        Sheet::Appeals => appeal_register(alloc, &view, out)?,
+        Sheet::Export => export_seats(alloc, &view, out)?,
+    }
+    flush(out)
 }
 
 /// Carries out a command of the office, and prints what it answers.

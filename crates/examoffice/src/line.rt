@@ -2,12 +2,12 @@
 use crate::help;
 use clap::error::ErrorKind;
 use clap::{Arg, ArgAction, ArgMatches, Command};
-use exam_office::Kind;
-use exam_types::{Day, HallCode, Number, PaperCode, SessionCode};
+use exam_office::{Decision, Kind, Outcome};
+use exam_types::{Day, HallCode, Number, PaperCode, Reason, Reference, SessionCode};
 use std::alloc::{AllocError, Global};
 
 /// A command of the program, with its values.
-#[derive(Clone, Copy)]
+#[derive(Drop)]
 pub enum Job<'a> {
     Init,
     /// Imports the file at the path.
@@ -27,30 +27,27 @@ pub enum Job<'a> {
         session: SessionCode,
         hall: HallCode,
     },
-    DoorList {
+    Decide(Decision),
+    /// Prints a sheet of the session.
+    Sheet {
         session: SessionCode,
-        hall: HallCode,
-    },
-    Attendance {
-        session: SessionCode,
-        paper: PaperCode,
-    },
-    Clashes {
-        session: SessionCode,
-    },
-    Shortage {
-        session: SessionCode,
-    },
-    Appeals {
-        session: SessionCode,
-    },
-    Export {
-        session: SessionCode,
+        sheet: Sheet,
     },
 }
 
-/// A command line that was understood.
+/// What is printed of a session.
 #[derive(Clone, Copy)]
+pub enum Sheet {
+    DoorList(HallCode),
+    Attendance(PaperCode),
+    Clashes,
+    Shortage,
+    Appeals,
+    Export,
+}
+
+/// A command line that was understood.
+#[derive(Drop)]
 pub struct Line<'a> {
     /// The path of the database, taken as it is.
     pub db: &'a str,
@@ -74,10 +71,7 @@ pub fn parse_line<'a>(alloc: Global, words: &'a [String]) -> Result<Line<'a>, Li
         return Err(LineFault::NoMemory);
     };
     match command.try_get_matches_from(words) {
-        Ok(matches) => match read_line(&matches) {
-            Some(line) => Ok(line),
-            None => Err(LineFault::NotUnderstood),
-        },
+        Ok(matches) => read_line(alloc, &matches),
         Err(error) => Err(fault_from(alloc, error)),
     }
 }
@@ -93,14 +87,28 @@ fn fault_from(alloc: Global, error: clap::Error) -> LineFault {
     }
 }
 
-fn read_line<'a>(matches: &ArgMatches<'a>) -> Option<Line<'a>> {
+fn read_line<'a>(alloc: Global, matches: &ArgMatches<'a>) -> Result<Line<'a>, LineFault> {
+    let Some((db, today)) = options_of(matches) else {
+        return Err(LineFault::NotUnderstood);
+    };
+    let Some((name, words)) = matches.subcommand() else {
+        return Err(LineFault::NotUnderstood);
+    };
+    let job = match name {
+        "decide" => Job::Decide(decision_of(alloc, words)?),
+        _ => match read_job(name, words) {
+            Some(job) => job,
+            None => return Err(LineFault::NotUnderstood),
+        },
+    };
+    Ok(Line { db, today, job })
+}
+
+/// The options before the command.
+fn options_of<'a>(matches: &ArgMatches<'a>) -> Option<(&'a str, Day)> {
     let db = matches.get_str("db")?;
     let today = Day::parse(matches.get_str("today")?.as_bytes())?;
-    let (name, words) = matches.subcommand()?;
-    match read_job(name, words) {
-        Some(job) => Some(Line { db, today, job }),
-        None => None,
-    }
+    Some((db, today))
 }
 
 fn read_job<'a>(name: &str, words: &ArgMatches<'a>) -> Option<Job<'a>> {
@@ -123,27 +131,54 @@ fn read_job<'a>(name: &str, words: &ArgMatches<'a>) -> Option<Job<'a>> {
             let (session, hall) = opening_of(words)?;
             Some(Job::CloseHall { session, hall })
         }
-        "door-list" => {
-            let (session, hall) = opening_of(words)?;
-            Some(Job::DoorList { session, hall })
-        }
-        "attendance" => {
-            let session = session_of(words)?;
-            let paper = paper_of(words)?;
-            Some(Job::Attendance { session, paper })
-        }
-        "clashes" => Some(Job::Clashes {
+        _ => Some(Job::Sheet {
             session: session_of(words)?,
+            sheet: read_sheet(name, words)?,
         }),
-        "shortage" => Some(Job::Shortage {
-            session: session_of(words)?,
+    }
+}
+
+fn read_sheet(name: &str, words: &ArgMatches<'_>) -> Option<Sheet> {
+    match name {
+        "door-list" => Some(Sheet::DoorList(hall_of(words)?)),
+        "attendance" => Some(Sheet::Attendance(paper_of(words)?)),
+        "clashes" => Some(Sheet::Clashes),
+        "shortage" => Some(Sheet::Shortage),
+        "appeals" => Some(Sheet::Appeals),
+        "export" => Some(Sheet::Export),
+        _ => None,
+    }
+}
+
+/// The decision that the words say. A reason takes memory.
+fn decision_of(alloc: Global, words: &ArgMatches<'_>) -> Result<Decision, LineFault> {
+    let Some((number, reference, outcome, reason)) = decided_of(words) else {
+        return Err(LineFault::NotUnderstood);
+    };
+    match Reason::parse(alloc, reason.as_bytes()) {
+        Ok(Some(answer)) => Ok(Decision {
+            number,
+            reference,
+            outcome,
+            answer,
         }),
-        "appeals" => Some(Job::Appeals {
-            session: session_of(words)?,
-        }),
-        "export" => Some(Job::Export {
-            session: session_of(words)?,
-        }),
+        Ok(None) => Err(LineFault::NotUnderstood),
+        Err(_) => Err(LineFault::NoMemory),
+    }
+}
+
+/// The appeal, the outcome and the reason that the words name.
+fn decided_of<'a>(words: &ArgMatches<'a>) -> Option<(Number, Reference, Outcome, &'a str)> {
+    let number = Number::parse(words.get_str("number")?.as_bytes())?;
+    let reference = Reference::parse(words.get_str("ref")?.as_bytes())?;
+    let outcome = outcome_of(words.get_str("outcome")?)?;
+    Some((number, reference, outcome, words.get_str("reason")?))
+}
+
+fn outcome_of(word: &str) -> Option<Outcome> {
+    match word {
+        "granted" => Some(Outcome::Grant),
+        "refused" => Some(Outcome::Refuse),
         _ => None,
     }
 }
@@ -163,8 +198,13 @@ fn paper_of(words: &ArgMatches<'_>) -> Option<PaperCode> {
 /// The session and the hall that the words name.
 fn opening_of(words: &ArgMatches<'_>) -> Option<(SessionCode, HallCode)> {
     let session = session_of(words)?;
-    let hall = HallCode::parse(words.get_str("hall")?.as_bytes())?;
+    let hall = hall_of(words)?;
     Some((session, hall))
+}
+
+/// The hall that the word names.
+fn hall_of(words: &ArgMatches<'_>) -> Option<HallCode> {
+    HallCode::parse(words.get_str("hall")?.as_bytes())
 }
 
 /// The session that the word names.
@@ -190,22 +230,30 @@ fn kind_of(word: &str) -> Option<Kind> {
 fn office_command<'a>(alloc: Global) -> Result<Command<'a>, AllocError> {
     let command = top_command(alloc)?;
     let command = with_job(alloc, command, "init", help::INIT, &[])?;
-    let command = with_job(
-        alloc,
-        command,
-        "import",
-        help::IMPORT,
-        &[("kind", help::KIND), ("file", help::FILE)],
-    )?;
+    let file = [("kind", help::KIND), ("file", help::FILE)];
+    let command = with_job(alloc, command, "import", help::IMPORT, &file)?;
     let entry = [("number", help::NUMBER), ("paper", help::PAPER)];
-    let opening = [("session", help::SESSION), ("hall", help::HALL)];
     let command = with_job(alloc, command, "withdraw", help::WITHDRAW, &entry)?;
     let command = with_job(alloc, command, "reinstate", help::REINSTATE, &entry)?;
+    let opening = [("session", help::SESSION), ("hall", help::HALL)];
     let command = with_job(alloc, command, "close-hall", help::CLOSE_HALL, &opening)?;
-    let command = with_job(alloc, command, "door-list", help::DOOR_LIST, &opening)?;
+    let decision = [
+        ("number", help::NUMBER),
+        ("ref", help::REFERENCE),
+        ("outcome", help::OUTCOME),
+        ("reason", help::REASON),
+    ];
+    let command = with_job(alloc, command, "decide", help::DECIDE, &decision)?;
+    with_sheets(alloc, command)
+}
+
+/// The command with those that print a sheet of a session.
+fn with_sheets<'a>(alloc: Global, command: Command<'a>) -> Result<Command<'a>, AllocError> {
     let session = [("session", help::SESSION)];
-    let sitting = [("session", help::SESSION), ("paper", help::PAPER)];
-    let command = with_job(alloc, command, "attendance", help::ATTENDANCE, &sitting)?;
+    let hall = [("session", help::SESSION), ("hall", help::HALL)];
+    let paper = [("session", help::SESSION), ("paper", help::PAPER)];
+    let command = with_job(alloc, command, "door-list", help::DOOR_LIST, &hall)?;
+    let command = with_job(alloc, command, "attendance", help::ATTENDANCE, &paper)?;
     let command = with_job(alloc, command, "clashes", help::CLASHES, &session)?;
     let command = with_job(alloc, command, "shortage", help::SHORTAGE, &session)?;
     let command = with_job(alloc, command, "appeals", help::APPEALS, &session)?;

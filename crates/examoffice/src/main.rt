@@ -60,11 +60,11 @@ fn words_of(rt: &HostRuntime) -> Result<Vec<String>, JobFault> {
 
 /// Opens what the line names, or makes it, and carries the line out.
 fn run_line(rt: &HostRuntime, line: &Line<'_>) -> Result<u8, JobFault> {
-    let mut store = match line.job {
+    let mut store = match &line.job {
         Job::Init => create_office(rt, line.db)?,
         _ => open_office(rt, line.db)?,
     };
-    let status = match line.job {
+    let status = match &line.job {
         Job::Import { file, .. } => run_import(rt, line, &mut store, file),
         _ => {
             let mut nothing: &[u8] = b"";

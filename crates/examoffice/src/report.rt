@@ -2,7 +2,7 @@
 use arrayvec::ArrayString;
 use exam_files::SheetFault;
 use exam_office::{AppealState, Reply};
-use exam_types::{Day, Refusal};
+use exam_types::{Day, HallCode, Refusal};
 use std::alloc::Global;
 use std::fmt::{self, Write as _};
 use std::io::Write;
@@ -65,6 +65,22 @@ fn write_reply(line: &mut ShortLine, reply: &Reply) -> fmt::Result {
             writeln!(line, "lodged {word}")
         }
         Reply::Retracted => writeln!(line, "retracted"),
+        Reply::Decided { state, seat, moved } => write_decided(line, *state, seat, *moved),
+        Reply::Unchanged => writeln!(line, "unchanged"),
+    }
+}
+
+/// What a decision made of the appeal, where the appellant sits then, and how many others sit elsewhere.
+fn write_decided(
+    line: &mut ShortLine,
+    state: AppealState,
+    seat: &Option<HallCode>,
+    moved: usize,
+) -> fmt::Result {
+    let word = state_word(state);
+    match seat {
+        Some(hall) => writeln!(line, "decided {word} hall {hall} moved {moved}"),
+        None => writeln!(line, "decided {word} hall - moved {moved}"),
     }
 }
 

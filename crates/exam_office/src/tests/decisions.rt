@@ -1,10 +1,11 @@
 //! What decisions make of appeals, and how they are refused.
-use super::lines::{Line, number};
-use super::setups::{Fact, Grant, facts_of, reason, reference};
+use super::lines::{Line, hall, number};
+use super::scenes::{Order, Scene, decision_of, play};
+use super::setups::{Fact, Grant, Sitting, facts_of, reference};
 use crate::appeals::stored_state;
 use crate::deciding::decided;
 use crate::grants::are_single;
-use crate::{AppealState, Decision, Outcome};
+use crate::{AppealState, Outcome, Reply};
 use exam_rules::Facts;
 use exam_types::{Day, Refusal};
 use std::alloc::Global;
@@ -23,12 +24,7 @@ type Standing<'a> = (u32, &'a str, AppealState);
 
 /// The facts after a ruling, or its refusal.
 fn ruled(alloc: Global, facts: &Facts, ruling: Ruling) -> Result<Result<Facts, Refusal>, Fail> {
-    let decision = Decision {
-        number: number(ruling.0)?,
-        reference: reference(ruling.1)?,
-        outcome: ruling.2,
-        answer: reason(alloc, "ok")?,
-    };
+    let decision = decision_of(alloc, ruling.0, ruling.1, ruling.2)?;
     let today = Day::parse(ruling.3.as_bytes()).ok_or("day")?;
     if !are_single(alloc, facts)? {
         return Err(Fail::new("appeals that do not stand alone"));
@@ -173,4 +169,96 @@ fn a_second_arrangement_grant_supersedes_the_first(rt: HostRuntime) -> Result<()
         (2, "AR1", AppealState::Granted),
     ];
     rule(&rt, &GRANTED, &rulings, &standings)
+}
+
+/// What a grant answers: the appellant's hall, or `-`, and how many others moved.
+fn granted(code: &str, moved: usize) -> Result<Result<Reply, Refusal>, Fail> {
+    let seat = match code {
+        "-" => None,
+        _ => Some(hall(code)?),
+    };
+    Ok(Ok(Reply::Decided {
+        state: AppealState::Granted,
+        seat,
+        moved,
+    }))
+}
+
+/// The halls A and B have a desk each, and the second candidate needs A.
+const NEEDY: [Fact<'static>; 7] = [
+    Fact::School,
+    Fact::Row(Line::Opening("S1", "A", 1)),
+    Fact::Row(Line::Opening("S1", "B", 1)),
+    Fact::Row(Line::Arrangement(2, "step-free", 0)),
+    Fact::Row(Line::Entry(1, "MA-1")),
+    Fact::Row(Line::Entry(2, "MA-1")),
+    Fact::Lodged(1, "HA1", Grant::AnotherHallThan("B")),
+];
+
+#[test]
+fn a_grant_unseats_nobody_but_the_appellant(rt: HostRuntime) -> Result<(), Fail> {
+    let grant = Order::Decide(1, "HA1", Outcome::Grant);
+    let scenes = [
+        Scene::Order(grant, granted("-", 0)?),
+        Scene::Seats("S1", &[(1, "-"), (2, "A")]),
+        Scene::Order(Order::Withdraw(2, "MA-1"), Ok(Reply::Withdrawn)),
+        Scene::Order(Order::Reinstate(2, "MA-1"), Ok(Reply::Reinstated)),
+        Scene::Order(Order::CloseHall("S1", "B"), Ok(Reply::Closed)),
+        Scene::Order(grant, Ok(Reply::Unchanged)),
+    ];
+    let seated: [Sitting; 2] = [("S1", 1, "B"), ("S1", 2, "A")];
+    play(&rt, &NEEDY, &seated, &scenes)
+}
+
+#[test]
+fn the_desk_of_an_appellant_goes_to_another(rt: HostRuntime) -> Result<(), Fail> {
+    let facts = [
+        Fact::School,
+        Fact::Row(Line::Opening("S1", "A", 1)),
+        Fact::Row(Line::Entry(1, "MA-1")),
+        Fact::Row(Line::Entry(2, "MA-1")),
+        Fact::Lodged(1, "HA1", Grant::AnotherHallThan("A")),
+    ];
+    let scenes = [
+        Scene::Order(Order::Decide(1, "HA1", Outcome::Grant), granted("-", 0)?),
+        Scene::Seats("S1", &[(1, "-"), (2, "A")]),
+    ];
+    play(&rt, &facts, &[("S1", 1, "A")], &scenes)
+}
+
+#[test]
+fn a_grant_moves_another_by_a_chain(rt: HostRuntime) -> Result<(), Fail> {
+    let facts = [
+        Fact::School,
+        Fact::Row(Line::Opening("S1", "A", 1)),
+        Fact::Row(Line::Opening("S1", "B", 1)),
+        Fact::Row(Line::Entry(1, "MA-1")),
+        Fact::Row(Line::Entry(2, "MA-1")),
+        Fact::Lodged(2, "HA1", Grant::AnotherHallThan("B")),
+    ];
+    let scenes = [
+        Scene::Order(Order::Decide(2, "HA1", Outcome::Grant), granted("A", 1)?),
+        Scene::Seats("S1", &[(1, "B"), (2, "A")]),
+    ];
+    play(&rt, &facts, &[("S1", 1, "A"), ("S1", 2, "B")], &scenes)
+}
+
+#[test]
+fn a_granted_clash_turns_the_sitting_paper(rt: HostRuntime) -> Result<(), Fail> {
+    let facts = [
+        Fact::School,
+        Fact::Row(Line::Opening("S1", "A", 1)),
+        Fact::Row(Line::Opening("S1", "B", 1)),
+        Fact::Row(Line::Paper("PH-2", "S1", "computer")),
+        Fact::Row(Line::Hall("C", "computer")),
+        Fact::Row(Line::Opening("S1", "C", 1)),
+        Fact::Row(Line::Entry(3, "MA-1")),
+        Fact::Row(Line::Entry(3, "PH-2")),
+        Fact::Lodged(3, "CL1", Grant::Paper("PH-2")),
+    ];
+    let scenes = [
+        Scene::Order(Order::Decide(3, "CL1", Outcome::Grant), granted("C", 0)?),
+        Scene::Seats("S1", &[(3, "C")]),
+    ];
+    play(&rt, &facts, &[("S1", 3, "A")], &scenes)
 }

@@ -1,7 +1,7 @@
 //! What happens to an office, in words.
 use super::lines::{Line, hall, import_of, number, paper, session};
 use super::setups::{Fact, Grant, Sitting, office_of, reason, reference, subject_of};
-use crate::{Command, Kind, Lodging, Office, Reply, run, step};
+use crate::{Command, Decision, Kind, Lodging, Office, Outcome, Reply, run, step};
 use exam_types::{Day, HallCode, Refusal};
 use std::alloc::Global;
 use std::process::Abort;
@@ -15,6 +15,8 @@ pub enum Order<'a> {
     CloseHall(&'a str, &'a str),
     Lodge(Plea<'a>),
     Retract(u32, &'a str),
+    /// A decision on 2027-05-31.
+    Decide(u32, &'a str, Outcome),
 }
 
 /// An appeal as it is lodged on a day.
@@ -81,6 +83,7 @@ fn day(text: &str) -> Result<Day, Fail> {
 fn day_of(order: Order) -> Result<Day, Fail> {
     match order {
         Order::Lodge(plea) => day(plea.on),
+        Order::Decide(_, _, _) => day("2027-05-31"),
         _ => today(),
     }
 }
@@ -99,6 +102,22 @@ fn lodging_of(alloc: Global, plea: Plea) -> Result<Lodging, Fail> {
     })
 }
 
+pub fn decision_of(
+    alloc: Global,
+    value: u32,
+    code: &str,
+    outcome: Outcome,
+) -> Result<Decision, Fail> {
+    let number = number(value)?;
+    let reference = reference(code)?;
+    Ok(Decision {
+        number,
+        reference,
+        outcome,
+        answer: reason(alloc, "ok")?,
+    })
+}
+
 fn command_of(alloc: Global, order: Order) -> Result<Command, Fail> {
     match order {
         Order::Withdraw(value, code) => Ok(Command::Withdraw(number(value)?, paper(code)?)),
@@ -106,6 +125,9 @@ fn command_of(alloc: Global, order: Order) -> Result<Command, Fail> {
         Order::CloseHall(of, code) => Ok(Command::CloseHall(session(of)?, hall(code)?)),
         Order::Lodge(plea) => Ok(Command::Lodge(lodging_of(alloc, plea)?)),
         Order::Retract(value, code) => Ok(Command::Retract(number(value)?, reference(code)?)),
+        Order::Decide(value, code, outcome) => {
+            Ok(Command::Decide(decision_of(alloc, value, code, outcome)?))
+        }
     }
 }
 

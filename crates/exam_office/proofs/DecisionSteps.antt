@@ -1,0 +1,59 @@
+-- A decision is a step.
+use Rattle.std.proofs.Common.{◌≡◌, ℕ, true, None, Some, Ok, Err, ap, sym, subst, ◌∙◌}
+use Rattle.exam_types.specs.declared.refusal.Refusal.{Refusal}
+use Rattle.exam_types.specs.declared.refusal.Refusal.TheVariants as refusal
+use Rattle.exam_plan.specs.Matching.{Keeps}
+use Rattle.exam_rules.specs.Orders.{KeysRise}
+use Rattle.exam_rules.specs.Relations.{Code, Relations, appeal_cmp}
+use Rattle.exam_rules.specs.Seatings.{seating, plan_of}
+use Rattle.exam_office.specs.declared.command.Command.TheVariants as command
+use Rattle.exam_office.specs.declared.command.Decision.{Decision}
+use Rattle.exam_office.specs.Changes.{unless}
+use Rattle.exam_office.specs.Decisions.{decision_refusal, granted_number, with_decision}
+use Rattle.exam_office.specs.Good.{IsGood, refers}
+use Rattle.exam_office.specs.Limits.{within_limits}
+use Rattle.exam_office.specs.Repairs.{IsRepaired}
+use Rattle.exam_office.specs.Replies.{decision_reply}
+use Rattle.exam_office.specs.Singles.{AreSingle}
+use Rattle.exam_office.specs.State.{State}
+use Rattle.exam_office.specs.Steps.{Step}
+use Rattle.exam_office.proofs.Commanding.{DoListsRise, IsLimitRefusal, within_memory}
+use Rattle.exam_office.proofs.DecidedFacts.{decision_candidates, decision_desks, decision_fits, decision_refers, decision_single, decision_within}
+use Rattle.exam_office.proofs.Keeping.{others_stay}
+use Rattle.exam_office.proofs.Stepping.{accepted_step, refused_step}
+
+module _ (before : State) (good : IsGood before) (d : Decision) where
+  -- the facts before, with the decision
+  abbrev pub IsDecided : Relations → Type 0
+  IsDecided t = t ≡ with_decision before.relations d
+
+  -- the plans of all sessions are repaired for these facts, the appellant of a grant first
+  abbrev pub ArePlansDecided : Relations → State → Type 0
+  ArePlansDecided t after = (s : Code) → IsRepaired t (granted_number d d.outcome) before.seats after.seats s
+
+  pub decided_known : (t : Relations) → IsDecided t → refers t ≡ true
+  decided_known t is = ap refers is ∙ decision_refers before.relations d good.refer
+
+  pub decided_alone : (t : Relations) → IsDecided t → AreSingle t
+  decided_alone t is = subst AreSingle (sym is) (decision_single before.relations d good.single)
+
+  -- only for want of memory it goes no further
+  pub decided_memory : KeysRise appeal_cmp before.relations.appeals → (t : Relations) → IsDecided t → (e : Refusal) → IsLimitRefusal t e → e ≡ refusal.NoMemory
+  decided_memory up t is = within_memory t (ap within_limits is ∙ decision_within before.relations d up ∙ good.limits)
+
+  -- everybody else who is a member stays
+  others_seated : (after : State) → ArePlansDecided (with_decision before.relations d) after
+      → (s : Code) → Keeps (λ c. d.number ≡ c) (seating (with_decision before.relations d) s) (plan_of before.seats s) (plan_of after.seats s)
+  others_seated after plans s =
+      others_stay before.relations (with_decision before.relations d) s d.number (decision_candidates before.relations d) (decision_desks before.relations d s) (decision_fits before.relations d s)
+      (granted_number d d.outcome) (plan_of before.seats s) (plan_of after.seats s) (good.best s).lawful (plans s).repair
+
+  pub decision_accepted : (today : ℕ) (after : State) (t : Relations) → decision_refusal before.relations today d ≡ None → IsDecided t → after.relations ≡ t
+      → DoListsRise t → ArePlansDecided t after → Step (command.Decide d) today before (Ok (decision_reply before after d)) after
+  decision_accepted today after t ok is facts up plans =
+      let new : Relations = with_decision before.relations d in
+      accepted_step (command.Decide d) today before after new (ap (λ o. unless o new) ok) (facts ∙ is) (subst DoListsRise is up) good (subst (λ u. ArePlansDecided u after) is plans)
+      (others_seated after (subst (λ u. ArePlansDecided u after) is plans))
+
+  pub decision_refused : (today : ℕ) (e : Refusal) → decision_refusal before.relations today d ≡ Some e → Step (command.Decide d) today before (Err e) before
+  decision_refused today e refused = refused_step (command.Decide d) today before e (ap (λ o. unless o (with_decision before.relations d)) refused)
