@@ -1,13 +1,13 @@
 -- A lodging and a retraction are steps, and seat nobody otherwise.
-use Rattle.std.proofs.Common.{◌≡◌, ℕ, ◌==◌, ◌&&◌, not, Bool, true, false, cond, List, [], ◌∷◌, ◌++◌, filter, length, nat_le, Option, None, Some, Ok, Err, is_some, is_none, IsSome, IfSome, IsTrue, Result, refl, ap, sym, subst, ◌∙◌, ◌⊎◌, inl, inr}
-use Rattle.std.specs.List.{list_all, list_any, filter_map, IsDistinct}
+use Rattle.std.proofs.Common.{◌≡◌, ℕ, ◌==◌, ◌&&◌, not, Bool, true, false, cond, [], ◌∷◌, ◌++◌, length, nat_le, Option, None, Some, Ok, Err, is_some, is_none, IsSome, IfSome, IsTrue, refl, ap, sym, subst, ◌∙◌, ◌⊎◌, inl, inr}
+use Rattle.std.specs.List.{list_all, list_any, filter_map}
 use Rattle.std.specs.Map.{keys_of}
 use Rattle.std.specs.Option.{option_and_then, option_map_or, option_or}
 use Rattle.std.specs.Ordering.{nat_cmp}
 use Rattle.std.specs.Cmp.{IsTotalOrder, nat_cmp_total, then_total, on_total}
 use Rattle.std.specs.Cmp.Lexicographic.{nat_list_cmp_total}
 use Rattle.std.proofs.Math.Path.{fun_ext}
-use Rattle.std.proofs.lemmas.Bool.{and_parts, and_from, and_right, not-false}
+use Rattle.std.proofs.lemmas.Bool.{and_parts, and_from, not-false}
 use Rattle.exam_types.specs.declared.refusal.Refusal.{Refusal}
 use Rattle.exam_types.specs.declared.refusal.Refusal.TheVariants as refusal
 use Rattle.exam_plan.specs.Matching.{IsBest, Keeps}
@@ -21,24 +21,23 @@ use Rattle.exam_rules.specs.declared.rows.Status.TheVariants as status
 use Rattle.exam_rules.specs.declared.rows.Subject.{Subject}
 use Rattle.exam_rules.specs.declared.rows.Subject.TheVariants as subject
 use Rattle.exam_rules.specs.Orders.{AreInOrder}
-use Rattle.exam_rules.specs.Relations.{Code, Relations, appeal_cmp, code_cmp, has_row, is_row_of, put_row, row_at, same_code}
+use Rattle.exam_rules.specs.Relations.{Code, Relations, appeal_cmp, code_cmp, has_row, put_row, row_at, same_code}
 use Rattle.exam_rules.specs.Sessions.{appeal_count, barred_halls, clash_papers, has_live_entry, is_granted, is_live, is_live_paper, is_member, is_paper_of, sitting}
 use Rattle.exam_rules.specs.Seatings.{fits, opened_room, plan_of, seating, sitting_terms, suits_opened}
 use Rattle.exam_rules.proofs.Naming.{same_code_exact}
 use Rattle.exam_office.specs.declared.command.AppealState.{AppealState}
-use Rattle.exam_office.specs.declared.command.Command.{Command}
 use Rattle.exam_office.specs.declared.command.Command.TheVariants as command
 use Rattle.exam_office.specs.declared.command.Lodging.{Lodging}
 use Rattle.exam_office.specs.declared.command.Reply.TheVariants as reply
 use Rattle.exam_office.specs.Appeals.{appeal_at, has_open_appeal, is_open, is_retracted, stored_state}
 use Rattle.exam_office.specs.Changes.{first_refusal, unless}
 use Rattle.exam_office.specs.Good.{IsGood, appeal_refers, refers, subject_refers}
-use Rattle.exam_office.specs.Limits.{within_limits, sessions_within, papers_within, halls_within, openings_within, candidates_within, members_within, appeals_within}
+use Rattle.exam_office.specs.Limits.{within_limits, sessions_within, papers_within, halls_within, openings_within, candidates_within, members_within}
 use Rattle.exam_office.specs.Lodgings as spec
 use Rattle.exam_office.specs.Singles.{AreSingle, same_single_key, single_key}
 use Rattle.exam_office.specs.State.{State}
 use Rattle.exam_office.specs.Steps.{SameSeating, Step}
-use Rattle.exam_office.proofs.Appealing.{appeals_exact, apart_from_all, open_as, open_key, put_seating_same, single_flips, with_appeals}
+use Rattle.exam_office.proofs.Appealing.{appeals_exact, apart_from_all, open_key, put_seating_same, single_flips, with_appeals}
 use Rattle.exam_office.proofs.Commanding.{ArePlansRepaired, DoListsRise, IsLimitRefusal, within_memory}
 use Rattle.exam_office.proofs.LodgingChecks.{both_passed}
 use Rattle.exam_office.proofs.PutAppeals.{IsApart, all_at_row, count_replaced, distinct_put}

@@ -1,6 +1,6 @@
 -- An appeal once stored stays stored, with what it asks, and once retracted it stays so: whatever comes after, the same lodging
 -- and the same retraction change nothing. And neither moves anybody.
-use Rattle.std.proofs.Common.{◌≡◌, ℕ, ◌&&◌, not, Bool, true, false, cond, List, [], ◌∷◌, ◌++◌, map, Option, None, Some, Result, Ok, Err, is_none, is_some, eq-eqb, nat_eq, refl, ap, sym, subst, ◌∙◌, ◌⊎◌, inl, inr}
+use Rattle.std.proofs.Common.{◌≡◌, ℕ, ◌&&◌, not, Bool, true, false, cond, List, [], ◌∷◌, map, Option, None, Some, Result, Ok, Err, is_none, eq-eqb, refl, ap, sym, subst, ◌∙◌, inl, inr}
 use Rattle.std.specs.BTreeMap.{is_at}
 use Rattle.std.specs.Cmp.{Equal-is}
 use Rattle.std.specs.Option.{option_or}

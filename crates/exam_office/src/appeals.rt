@@ -49,12 +49,6 @@ pub fn is_open(status: &Status) -> bool
     matches!(status, Status::Pending)
 }
 
-pub fn is_retracted(status: &Status) -> bool
-    ensures { result ≡ spec.is_retracted status.now }
-{
-    matches!(status, Status::Retracted)
-}
-
 pub fn state_of(status: &Status) -> AppealState
     ensures { result ≡ spec.state_of status.now }
 {

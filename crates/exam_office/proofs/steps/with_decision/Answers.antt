@@ -1,4 +1,4 @@
-use Rattle.std.proofs.Common.{rules, ◌≡◌, ◌⊎◌, Ok, Err, IfErr, IfOk, sym, ap, subst, inl, ◌∙◌}
+use Rattle.std.proofs.Common.{rules, ◌≡◌, ◌⊎◌, Ok, Err, IfErr, sym, ap, subst, inl, ◌∙◌}
 use Rattle.exam_types.specs.declared.refusal.Refusal.TheVariants.{NoMemory}
 use Rattle.exam_rules.specs.Relations.{Code, Relations, relations_of}
 use Rattle.exam_office.specs.declared.command.Command.TheVariants as command
