@@ -1,9 +1,9 @@
--- An appeal once stored stays stored, with what it asks, and once retracted it stays so: whatever comes after, the same lodging
--- and the same retraction change nothing. And neither moves anybody.
-use Rattle.std.proofs.Common.{◌≡◌, ℕ, ◌&&◌, not, Bool, true, false, cond, List, [], ◌∷◌, map, Option, None, Some, Result, Ok, Err, is_none, eq-eqb, refl, ap, sym, subst, ◌∙◌, inl, inr}
+-- An appeal once stored stays stored, with what it asks; once retracted it stays so, and once decided too, unless a later grant
+-- supersedes it. So whatever comes after, the same lodging, retraction and decision change nothing. And the first two move nobody.
+use Rattle.std.proofs.Common.{◌≡◌, ℕ, ◌&&◌, not, Bool, true, false, cond, List, [], ◌∷◌, map, Option, None, Some, Result, Ok, Err, is_none, eq-eqb, refl, ap, sym, subst, ◌∙◌, ◌⊎◌, inl, inr}
 use Rattle.std.specs.BTreeMap.{is_at}
 use Rattle.std.specs.Cmp.{Equal-is}
-use Rattle.std.specs.Option.{option_or}
+use Rattle.std.specs.Option.{option_map_or, option_or}
 use Rattle.std.specs.Ordering.{nat_cmp}
 use Rattle.std.proofs.lemmas.Bool.{and_from, not-false}
 use Rattle.exam_types.proofs.FeatureFacts.{same_features-itself}
@@ -15,7 +15,7 @@ use Rattle.exam_rules.specs.declared.rows.Status.TheVariants as status
 use Rattle.exam_rules.specs.declared.rows.Subject.{Subject}
 use Rattle.exam_rules.specs.declared.rows.Subject.TheVariants as subject
 use Rattle.exam_rules.specs.Relations.{Code, Relations, appeal_cmp, has_row, put_row, row_at, same_code, seat_cmp}
-use Rattle.exam_rules.specs.Seatings.{seating}
+use Rattle.exam_rules.specs.Seatings.{plan_of, seating}
 use Rattle.exam_rules.proofs.Naming.{same_code_itself}
 use Rattle.exam_office.specs.declared.command.Command.{Command}
 use Rattle.exam_office.specs.declared.command.Command.TheVariants as command
@@ -25,7 +25,10 @@ use Rattle.exam_office.specs.declared.command.Outcome.{Outcome}
 use Rattle.exam_office.specs.declared.command.Outcome.TheVariants as outcome
 use Rattle.exam_office.specs.declared.command.Reply.{Reply}
 use Rattle.exam_office.specs.declared.command.Reply.TheVariants as reply
-use Rattle.exam_office.specs.Appeals.{appeal_at, decided, is_decided, is_open, is_retracted, same_subject, stored_state, superseded}
+use Rattle.exam_office.specs.Appeals.{appeal_at, decided, is_decided, is_open, is_retracted, same_subject, state_of, stored_state, superseded}
+use Rattle.exam_office.specs.Moves.{moved}
+use Rattle.exam_office.specs.Replies.{reply_to}
+use Rattle.exam_office.specs.declared.command.AppealState.TheVariants as state
 use Rattle.exam_office.specs.Decisions.{decision_checks, decision_refusal, gives_way, giving_way, grant_checks, is_too_late, open_checks, with_decided, with_decision, with_outcome, with_superseded}
 use Rattle.exam_office.specs.Changes.{closing_refusal, first_refusal, import_refusal, reinstatement_refusal, unless, with_live, with_rows, without_opening, withdrawal_refusal}
 use Rattle.exam_office.specs.Good.{IsGood}
@@ -42,15 +45,41 @@ use Rattle.exam_office.proofs.SameSeats.{seats_exact, seats_total}
 
 -- ---- an appeal and what becomes of it
 
--- it asks the same, and a retracted one stays so
+-- decided so, with this answer, or superseded since
+abbrev Stands : Outcome → List ℕ → Status → Type 0
+Stands outcome answer st = (is_decided outcome answer st ≡ true) ⊎ (state_of st ≡ state.Superseded)
+
+-- it asks the same, and one that is retracted, decided or superseded stays so
 record Continues (a b : Appeal) : Type 0 where
   session : b.session ≡ a.session
   subject : b.subject ≡ a.subject
   reason : b.reason ≡ a.reason
   retracted : a.status ≡ status.Retracted → b.status ≡ status.Retracted
+  decided : (m : Outcome) (answer : List ℕ) → is_decided m answer a.status ≡ true → Stands m answer b.status
+  superseded : state_of a.status ≡ state.Superseded → state_of b.status ≡ state.Superseded
 
 continues_itself : (a : Appeal) → Continues a a
-continues_itself a = record { session = refl; subject = refl; reason = refl; retracted = λ is. is }
+continues_itself a = record { session = refl; subject = refl; reason = refl; retracted = λ is. is; decided = λ m answer is. inl is; superseded = λ is. is }
+
+stands_on : (a b : Appeal) → Continues a b → (m : Outcome) (answer : List ℕ) → Stands m answer a.status → Stands m answer b.status
+stands_on a b on m answer (inl is) = on.decided m answer is
+stands_on a b on m answer (inr is) = inr (on.superseded is)
+
+-- what is open is neither decided nor superseded
+open_undecided : {A : Type 0} (m : Outcome) (answer : List ℕ) (st : Status) → is_open st ≡ true → is_decided m answer st ≡ true → A
+open_undecided outcome.Grant answer status.Pending open_yet is = absurd (let differ : false ≡ true = is in cc)
+open_undecided outcome.Refuse answer status.Pending open_yet is = absurd (let differ : false ≡ true = is in cc)
+open_undecided m answer (status.Granted stored) open_yet is = absurd (let differ : false ≡ true = open_yet in cc)
+open_undecided m answer (status.Refused stored) open_yet is = absurd (let differ : false ≡ true = open_yet in cc)
+open_undecided m answer status.Retracted open_yet is = absurd (let differ : false ≡ true = open_yet in cc)
+open_undecided m answer (status.Superseded stored) open_yet is = absurd (let differ : false ≡ true = open_yet in cc)
+
+open_standing : {A : Type 0} (st : Status) → is_open st ≡ true → state_of st ≡ state.Superseded → A
+open_standing status.Pending open_yet is = absurd (let differ : state.Pending ≡ state.Superseded = is in cc)
+open_standing (status.Granted stored) open_yet is = absurd (let differ : false ≡ true = open_yet in cc)
+open_standing (status.Refused stored) open_yet is = absurd (let differ : false ≡ true = open_yet in cc)
+open_standing status.Retracted open_yet is = absurd (let differ : false ≡ true = open_yet in cc)
+open_standing (status.Superseded stored) open_yet is = absurd (let differ : false ≡ true = open_yet in cc)
 
 -- an appeal at the key, which continues this one
 record GoesOn (r : Relations) (k : ℕ × Code) (a : Appeal) : Type 0 where
@@ -80,6 +109,8 @@ carries_both r t u one two = record {
           subject = second.continues.subject ∙ first.continues.subject;
           reason = second.continues.reason ∙ first.continues.reason;
           retracted = λ is. second.continues.retracted (first.continues.retracted is);
+          decided = λ m answer is. stands_on first.then second.then second.continues m answer (first.continues.decided m answer is);
+          superseded = λ is. second.continues.superseded (first.continues.superseded is);
         };
       };
 }
@@ -124,31 +155,67 @@ lodging_carries r day l = inner (appeal_at r l.number l.reference) refl
     inner None none = carries_put r (l.number, l.reference) _ (λ a at. absurd (let differ : None ≡ Some a = sym none ∙ at in cc))
     inner (Some a) at = carries_itself r
 
-retraction_carries : (r : Relations) (c : ℕ) (reference : Code) → Carries r (spec.with_retraction r c reference)
-retraction_carries r c reference = inner (appeal_at r c reference) refl
+-- what passes and is not retracted is open
+retracting_open : (st : Status) → is_retracted st ≡ false → cond (not (is_open st) && not (is_retracted st)) (Some refusal.NotOpenAppeal) None ≡ None → is_open st ≡ true
+retracting_open status.Pending not_so ok = refl
+retracting_open (status.Granted stored) not_so ok = absurd (let differ : Some refusal.NotOpenAppeal ≡ None = ok in cc)
+retracting_open (status.Refused stored) not_so ok = absurd (let differ : Some refusal.NotOpenAppeal ≡ None = ok in cc)
+retracting_open status.Retracted not_so ok = absurd (let differ : true ≡ false = not_so in cc)
+retracting_open (status.Superseded stored) not_so ok = absurd (let differ : Some refusal.NotOpenAppeal ≡ None = ok in cc)
+
+retraction_carries : (r : Relations) (c : ℕ) (reference : Code) → spec.retraction_refusal r c reference ≡ None → Carries r (spec.with_retraction r c reference)
+retraction_carries r c reference ok = inner (appeal_at r c reference) refl
   where
-    by_status : (a : Appeal) → appeal_at r c reference ≡ Some a → (b : Bool) → Carries r (cond b r (spec.with_retracted_appeal r c reference a))
-    by_status a at true = carries_itself r
-    by_status a at false = carries_put r (c, reference) (record a { status = status.Retracted }) (λ b is.
+    by_status : (a : Appeal) → appeal_at r c reference ≡ Some a → (is_retracted a.status ≡ false → is_open a.status ≡ true) → (b : Bool) → is_retracted a.status ≡ b → Carries r (cond b r (spec.with_retracted_appeal r c reference a))
+    by_status a at opens true was = carries_itself r
+    by_status a at opens false was = carries_put r (c, reference) (record a { status = status.Retracted }) (λ b is.
         let both : Some a ≡ Some b = sym at ∙ is in
         let same : a ≡ b = cc in
         record {
           session = ap (λ (x : Appeal). x.session) same;
           subject = ap (λ (x : Appeal). x.subject) same;
           reason = ap (λ (x : Appeal). x.reason) same;
-          retracted = λ was. refl;
+          retracted = λ before. refl;
+          decided = λ m answer is. open_undecided m answer a.status (opens was) (ap (λ (x : Appeal). is_decided m answer x.status) same ∙ is);
+          superseded = λ is. open_standing a.status (opens was) (ap (λ (x : Appeal). state_of x.status) same ∙ is);
         })
 
     inner : (o : Option Appeal) → appeal_at r c reference ≡ o → Carries r (spec.with_retracted r c reference o)
     inner None none = carries_itself r
-    inner (Some a) at = by_status a at (is_retracted a.status)
+    inner (Some a) at = by_status a at (λ was. retracting_open a.status was (ap (λ o. first_refusal (spec.retraction_checks o)) (sym at) ∙ ok)) (is_retracted a.status) refl
+
+superseding : (m : Outcome) (answer : List ℕ) (st : Status) → is_decided m answer st ≡ true → Stands m answer (superseded st)
+superseding outcome.Grant answer (status.Granted stored) is = inr refl
+superseding outcome.Grant answer status.Pending is = inl is
+superseding outcome.Grant answer (status.Refused stored) is = inl is
+superseding outcome.Grant answer status.Retracted is = inl is
+superseding outcome.Grant answer (status.Superseded stored) is = inl is
+superseding outcome.Refuse answer (status.Granted stored) is = inr refl
+superseding outcome.Refuse answer status.Pending is = inl is
+superseding outcome.Refuse answer (status.Refused stored) is = inl is
+superseding outcome.Refuse answer status.Retracted is = inl is
+superseding outcome.Refuse answer (status.Superseded stored) is = inl is
+
+superseded_stays : (st : Status) → state_of st ≡ state.Superseded → state_of (superseded st) ≡ state.Superseded
+superseded_stays status.Pending is = is
+superseded_stays (status.Granted stored) is = refl
+superseded_stays (status.Refused stored) is = is
+superseded_stays status.Retracted is = is
+superseded_stays (status.Superseded stored) is = is
 
 -- who gives way to a grant asks the same, and is not open by it
 superseded_goes_on : (c : ℕ) (s : Code) (asked : Subject) (row : (ℕ × Code) × Appeal) → Continues row.1 (giving_way c s asked row).1
 superseded_goes_on c s asked row = inner (gives_way c s asked row)
   where
     inner : (b : Bool) → Continues row.1 (cond b (row.0, record row.1 { status = superseded row.1.status }) row).1
-    inner true = record { session = refl; subject = refl; reason = refl; retracted = λ is. ap superseded is }
+    inner true = record {
+      session = refl;
+      subject = refl;
+      reason = refl;
+      retracted = λ is. ap superseded is;
+      decided = λ m answer is. superseding m answer row.1.status is;
+      superseded = λ is. superseded_stays row.1.status is;
+    }
     inner false = continues_itself row.1
 
 giving_way_keyed : (c : ℕ) (s : Code) (asked : Subject) (row : (ℕ × Code) × Appeal) → (giving_way c s asked row).0 ≡ row.0
@@ -197,7 +264,14 @@ outcome_carries r d a stored open_yet = record { candidates = λ c has. has; app
           stored = ap (λ z. row_at appeal_cmp (put_row appeal_cmp (with_superseded d.number a d.outcome r.appeals) (d.number, d.reference) new) z) (sym same)
               ∙ put_found appeal_cmp appeals_total (with_superseded d.number a d.outcome r.appeals) (d.number, d.reference) new;
           continues = subst (λ z. Continues z new) one
-              (record { session = refl; subject = refl; reason = refl; retracted = λ is. absurd (let differ : true ≡ false = sym open_yet ∙ ap is_open is in cc) });
+              (record {
+                session = refl;
+                subject = refl;
+                reason = refl;
+                retracted = λ is. absurd (let differ : true ≡ false = sym open_yet ∙ ap is_open is in cc);
+                decided = λ m answer is. open_undecided m answer a.status open_yet is;
+                superseded = λ is. open_standing a.status open_yet is;
+              });
         }
     inner q x at false away =
         let on = rows_go_on d.number a d.outcome r.appeals q x at in
@@ -235,7 +309,8 @@ change_carries (command.CloseHall s h) day before t is =
 change_carries (command.Lodge l) day before t is =
     subst (Carries before.relations) (made (spec.lodging_refusal before.relations before.seats day l) (spec.with_lodging before.relations day l) t is) (lodging_carries before.relations day l)
 change_carries (command.Retract c reference) day before t is =
-    subst (Carries before.relations) (made (spec.retraction_refusal before.relations c reference) (spec.with_retraction before.relations c reference) t is) (retraction_carries before.relations c reference)
+    subst (Carries before.relations) (made (spec.retraction_refusal before.relations c reference) (spec.with_retraction before.relations c reference) t is)
+    (retraction_carries before.relations c reference (unrefused (spec.retraction_refusal before.relations c reference) (spec.with_retraction before.relations c reference) t is))
 change_carries (command.Decide d) day before t is =
     subst (Carries before.relations) (made (decision_refusal before.relations day d) (with_decision before.relations d) t is)
     (decision_carries before.relations day d (unrefused (decision_refusal before.relations day d) (with_decision before.relations d) t is))
@@ -403,6 +478,86 @@ repeated_retraction c reference day later before mid late after first done repli
     let still = retracted_still c reference mid.relations late.relations (run_carries done mid replies late run) there in
     let to : StepTo (command.Retract c reference) late second after (Ok late.relations) = subst (StepTo (command.Retract c reference) late second after) (retracted_again c reference later late still) two in
     (to.2, same_office (command.Retract c reference) late second after up up_after to)
+
+-- ---- deciding once more
+
+record IsDecidedAt (r : Relations) (d : Decision) : Type 0 where
+  appeal : Appeal
+  stored : appeal_at r d.number d.reference ≡ Some appeal
+  stands : Stands d.outcome d.answer appeal.status
+
+decided_itself : (m : Outcome) (answer : List ℕ) → is_decided m answer (decided m answer) ≡ true
+decided_itself outcome.Grant answer = same_code_itself answer
+decided_itself outcome.Refuse answer = same_code_itself answer
+
+-- what a superseded appeal answers
+over_refused : (r : Relations) (d : Decision) (day : ℕ) (a : Appeal) → state_of a.status ≡ state.Superseded → first_refusal (decision_checks r day d (Some a)) ≡ Some refusal.NotOpenAppeal
+over_refused r d day a is = inner d.outcome a.status is
+  where
+    inner : (m : Outcome) (st : Status) → state_of st ≡ state.Superseded
+        → first_refusal (cond (is_decided m d.answer st) [] ((not (is_open st), refusal.NotOpenAppeal) ∷ (is_too_late r a.session day, refusal.TooLate) ∷ grant_checks r d.number a d.outcome)) ≡ Some refusal.NotOpenAppeal
+    inner outcome.Grant (status.Superseded stored) is = refl
+    inner outcome.Refuse (status.Superseded stored) is = refl
+    inner m status.Pending is = absurd (let differ : state.Pending ≡ state.Superseded = is in cc)
+    inner m (status.Granted stored) is = absurd (let differ : state.Granted ≡ state.Superseded = is in cc)
+    inner m (status.Refused stored) is = absurd (let differ : state.Refused ≡ state.Superseded = is in cc)
+    inner m status.Retracted is = absurd (let differ : state.Retracted ≡ state.Superseded = is in cc)
+
+module _ (d : Decision) where
+  decided_still : (r t : Relations) → Carries r t → IsDecidedAt r d → IsDecidedAt t d
+  decided_still r t carries is =
+      let on = carries.appeals (d.number, d.reference) is.appeal is.stored in
+      record { appeal = on.then; stored = on.stored; stands = stands_on is.appeal on.then on.continues d.outcome d.answer is.stands }
+
+  decided_then : (r : Relations) (day : ℕ) → decision_refusal r day d ≡ None → IsDecidedAt (with_decision r d) d
+  decided_then r day ok = inner (appeal_at r d.number d.reference) refl
+    where
+      by_case : (a : Appeal) → appeal_at r d.number d.reference ≡ Some a → (b : Bool) → is_decided d.outcome d.answer a.status ≡ b → IsDecidedAt (cond b r (with_outcome r d a)) d
+      by_case a at true is = record { appeal = a; stored = at; stands = inl is }
+      by_case a at false is = record {
+        appeal = record a { status = decided d.outcome d.answer };
+        stored = put_found appeal_cmp appeals_total (with_superseded d.number a d.outcome r.appeals) (d.number, d.reference) (record a { status = decided d.outcome d.answer });
+        stands = inl (decided_itself d.outcome d.answer);
+      }
+
+      inner : (o : Option Appeal) → appeal_at r d.number d.reference ≡ o → IsDecidedAt (with_decision r d) d
+      inner None none = absurd (let differ : Some refusal.UnknownAppeal ≡ None = ap (λ o. first_refusal (decision_checks r day d o)) (sym none) ∙ ok in cc)
+      inner (Some a) at = subst (λ t. IsDecidedAt t d) (sym (ap (with_decided r d) at)) (by_case a at (is_decided d.outcome d.answer a.status) refl)
+
+  -- decided so still
+  again_unchanged : (day : ℕ) (late : State) (a : Appeal) → appeal_at late.relations d.number d.reference ≡ Some a → is_decided d.outcome d.answer a.status ≡ true → change (command.Decide d) day late ≡ Ok late.relations
+  again_unchanged day late a at is =
+      let r = late.relations in
+      ap (λ o. unless (first_refusal (decision_checks r day d o)) (with_decided r d o)) at
+      ∙ ap (λ b. unless (first_refusal (cond b [] (open_checks r day d a))) (cond b r (with_outcome r d a))) is
+
+  -- superseded since
+  again_refused : (day : ℕ) (late : State) (a : Appeal) → appeal_at late.relations d.number d.reference ≡ Some a → state_of a.status ≡ state.Superseded → change (command.Decide d) day late ≡ Err refusal.NotOpenAppeal
+  again_refused day late a at over =
+      ap (λ o. unless (first_refusal (decision_checks late.relations day d o)) (with_decision late.relations d)) at
+      ∙ ap (λ o. unless o (with_decision late.relations d)) (over_refused late.relations d day a over)
+
+pub repeated_decision : (d : Decision) (day later : ℕ) (before mid late after : State) (first : Reply) (done : List (Command × ℕ)) (replies : List (Result Reply Refusal)) (second : Result Reply Refusal)
+    → IsInOrder late → IsInOrder after → Step (command.Decide d) day before (Ok first) mid → Run done mid replies late → Step (command.Decide d) later late second after
+    → ((second ≡ Ok reply.Unchanged) ⊎ ((stored_state late.relations d.number d.reference ≡ state.Superseded) × (second ≡ Err refusal.NotOpenAppeal))) × (after ≡ late)
+repeated_decision d day later before mid late after first done replies second up up_after one run two =
+    let changed = new_facts (command.Decide d) day before first mid one in
+    let refused = decision_refusal before.relations day d in
+    let none = unrefused refused (with_decision before.relations d) mid.relations changed in
+    let there : IsDecidedAt mid.relations d = subst (λ t. IsDecidedAt t d) (made refused (with_decision before.relations d) mid.relations changed) (decided_then d before.relations day none) in
+    let still = decided_still d mid.relations late.relations (run_carries done mid replies late run) there in
+    inner still.appeal still.stored still.stands
+  where
+    inner : (a : Appeal) → appeal_at late.relations d.number d.reference ≡ Some a → Stands d.outcome d.answer a.status
+        → ((second ≡ Ok reply.Unchanged) ⊎ ((stored_state late.relations d.number d.reference ≡ state.Superseded) × (second ≡ Err refusal.NotOpenAppeal))) × (after ≡ late)
+    inner a at (inl is) =
+        let to : StepTo (command.Decide d) late second after (Ok late.relations) = subst (StepTo (command.Decide d) late second after) (again_unchanged d later late a at is) two in (
+          inl (to.2 ∙ ap (λ o. Ok (reply_to late after d o)) at ∙ ap (λ b. Ok (cond b reply.Unchanged (reply.Decided (stored_state after.relations d.number d.reference) (plan_of after.seats a.session d.number) (moved late.seats after.seats d.number)))) is),
+          same_office (command.Decide d) late second after up up_after to,
+        )
+    inner a at (inr over) =
+        let to : StepTo (command.Decide d) late second after (Err refusal.NotOpenAppeal) = subst (StepTo (command.Decide d) late second after) (again_refused d later late a at over) two in
+        (inr (ap (λ (o : Option Appeal). option_map_or (λ (x : Appeal). state_of x.status) o state.Pending) at ∙ over, to.0), to.1)
 
 -- ---- nobody moves
 

@@ -1,10 +1,13 @@
 //! Laws of offices, of imports and of appeals.
-ghost use Rattle.std.specs.Prelude.{◌≡◌, ℕ, true, List, Result, Ok, length};
+ghost use Rattle.std.specs.Prelude.{◌≡◌, ◌⊎◌, ℕ, true, List, Result, Ok, Err, length};
 ghost use Rattle.exam_types.specs.declared.refusal.Refusal.{Refusal};
+ghost use Rattle.exam_types.specs.declared.refusal.Refusal.TheVariants as refusal;
 ghost use Rattle.exam_rules.specs.Orders.{AreInOrder};
 ghost use Rattle.exam_rules.specs.Relations.{Code, Relations};
 ghost use Rattle.exam_office.specs.declared.command.Command.{Command};
 ghost use Rattle.exam_office.specs.declared.command.Command.TheVariants as command;
+ghost use Rattle.exam_office.specs.declared.command.AppealState.TheVariants as state;
+ghost use Rattle.exam_office.specs.declared.command.Decision.{Decision};
 ghost use Rattle.exam_office.specs.declared.command.Lodging.{Lodging};
 ghost use Rattle.exam_office.specs.declared.command.Reply.{Reply};
 ghost use Rattle.exam_office.specs.declared.command.Reply.TheVariants as reply;
@@ -69,6 +72,21 @@ pub fn repeated_retraction_changes_nothing()
         → Run done mid replies late
         → Step (command.Retract number reference) later late second after
         → (second ≡ Ok reply.Retracted) × (after ≡ late) }
+{}
+
+/// The same of a decision, which answers that it is unchanged or, where a later grant has superseded the
+/// appeal, that it is not open.
+pub fn repeated_decision_changes_nothing()
+    ensures { (decision : Decision) (day later : ℕ) (before mid late after : State) (first : Reply)
+        (done : List (Command × ℕ)) (replies : List (Result Reply Refusal)) (second : Result Reply Refusal)
+        → IsInOrder late → IsInOrder after
+        → Step (command.Decide decision) day before (Ok first) mid
+        → Run done mid replies late
+        → Step (command.Decide decision) later late second after
+        → ((second ≡ Ok reply.Unchanged)
+        ⊎ ((stored_state late.relations decision.number decision.reference ≡ state.Superseded)
+        × (second ≡ Err refusal.NotOpenAppeal)))
+        × (after ≡ late) }
 {}
 
 /// A lodging and a retraction leave every plan as it is. Every `Office` is good (`Office::is_good`) and in

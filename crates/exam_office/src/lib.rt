@@ -30,9 +30,9 @@ pub use command::{AppealState, Command, Decision, Lodging, Outcome, Reply};
 pub use import::Import;
 pub use import_row::{Kind, Row};
 pub use laws::{
-    good_office_is_seated, lodging_and_retracting_move_nobody, repeated_import_changes_nothing,
-    repeated_import_makes_the_same_facts, repeated_lodging_changes_nothing,
-    repeated_retraction_changes_nothing,
+    good_office_is_seated, lodging_and_retracting_move_nobody, repeated_decision_changes_nothing,
+    repeated_import_changes_nothing, repeated_import_makes_the_same_facts,
+    repeated_lodging_changes_nothing, repeated_retraction_changes_nothing,
 };
 pub use office::{Office, Seats};
 pub use steps::{next_office, run, step};
