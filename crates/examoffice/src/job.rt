@@ -1,9 +1,9 @@
 //! The commands of the program, over any store, reader and writers.
-use crate::line::{Job, Line, Sheet};
 use crate::report::{DONE, JobFault, flush, print, print_fault, reply_line};
 use exam_files::{
     appeal_register, attendance, clash_list, door_list, export_seats, read_import, shortage_sheet,
 };
+use exam_line::{Job, Line, Sheet};
 use exam_office::{Command, Decision};
 use exam_store::Store;
 use exam_types::{Day, Refusal, SessionCode};

@@ -2,18 +2,16 @@
 #![tactic(auto)]
 
 mod files;
-mod help;
 mod job;
-mod line;
 mod report;
 #[cfg(test)]
 mod tests;
 
+use exam_line::{Job, Line, LineFault, parse_line};
 use exam_store::Store;
 use exam_types::Refusal;
 use files::{OfficeFile, close_office, create_office, open_office};
 use job::run_job;
-use line::{Job, Line, LineFault, parse_line};
 use report::{DONE, JobFault, NOT_UNDERSTOOD, print, print_error, print_fault};
 use std::env;
 use std::fs::File;

@@ -6,7 +6,7 @@ mod reopening;
 mod stopping;
 
 use crate::job::run_job;
-use crate::line::{LineFault, parse_line};
+use exam_line::parse_line;
 use exam_store::Store;
 use sqlite::{Alter, MemStore};
 use std::alloc::{AllocError, Global};
@@ -347,31 +347,4 @@ fn opening_129_is_too_many(rt: HostRuntime) -> Result<(), Fail> {
         ),
     ];
     expect_all(&rt, &mut store, &rows)
-}
-
-#[test]
-fn other_words_are_not_understood(rt: HostRuntime) -> Result<(), Fail> {
-    let alloc = rt.alloc();
-    for line in [
-        "door-list S1",
-        "door-list S1 A B",
-        "door-list s1 A",
-        "import rooms f",
-        "attendance S1",
-        "clashes",
-        "export s1",
-        "",
-    ] {
-        let words = words_of(alloc, line)?;
-        assert!(rt;
-            matches!(
-                parse_line(alloc, words.as_slice()),
-                Err(LineFault::NotUnderstood)
-            ),
-            "{line}"
-        );
-    }
-    let help = words_of(alloc, "--help")?;
-    assert!(rt; matches!(parse_line(alloc, help.as_slice()), Err(LineFault::Help(_))));
-    Ok(())
 }

@@ -1,0 +1,209 @@
+-- What a command line says.
+use Rattle.std.specs.Prelude.{◌≡◌, ◌≢◌, ◌⊎◌, ⊤, ℕ, List, [], Bool, Option, Some, None, Result, Ok, Err, codes}
+use Rattle.std.specs.Prelude.{option_and_then, option_map, if◌then◌else◌}
+use Rattle.std.specs.Str.{bytes_eq}
+use Rattle.clap.specs.Words.{IsAmong, Row, Text, fault_of, first_of, found_of, matches_of, rows_of, subcommand_of}
+use Rattle.clap.specs.declared.error.kind.ErrorKind.{ErrorKind}
+use Rattle.clap.specs.declared.error.kind.ErrorKind.TheVariants as kind
+use Rattle.clap.specs.declared.parser.matches.ArgMatches.{ArgMatches}
+use Rattle.exam_types.specs.Codes.{is_hall_code, is_paper_code, is_reference, is_session_code}
+use Rattle.exam_types.specs.Days.{day_of}
+use Rattle.exam_types.specs.Numbers.{number_in}
+use Rattle.exam_types.specs.Texts.{is_reason}
+use Rattle.exam_office.specs.declared.command.Decision.{Decision}
+use Rattle.exam_office.specs.declared.command.Outcome.{Outcome}
+use Rattle.exam_office.specs.declared.command.Outcome.TheVariants.{Grant, Refuse}
+use Rattle.exam_office.specs.declared.import_row.Kind.{Kind}
+use Rattle.exam_office.specs.declared.import_row.Kind.TheVariants.{Sessions, Papers, Halls, Openings}
+use Rattle.exam_office.specs.declared.import_row.Kind.TheVariants.{Candidates, Entries, Arrangements}
+use Rattle.exam_line.specs.Grammar.{grammar}
+use Rattle.exam_line.specs.declared.line.Job.{Job}
+use Rattle.exam_line.specs.declared.line.Job.TheVariants as job
+use Rattle.exam_line.specs.declared.line.Line.{Line}
+use Rattle.exam_line.specs.declared.line.LineFault.{LineFault}
+use Rattle.exam_line.specs.declared.line.LineFault.TheVariants.{Help, NoMemory, NotUnderstood}
+use Rattle.exam_line.specs.declared.line.Sheet.{Sheet}
+use Rattle.exam_line.specs.declared.line.Sheet.TheVariants.{DoorList, Attendance, Clashes, Shortage, Appeals, Export}
+
+-- ---- what a line may say
+
+-- a command with its values
+pub data Task : Type 0 where
+  init : Task
+  import : Kind → Text → Task
+  withdraw : ℕ → Text → Task
+  reinstate : ℕ → Text → Task
+  close_hall : Text → Text → Task
+  decide : Decision → Task
+  print : Text → Sheet → Task
+
+-- the path of the database, the day, and the command
+pub record Said : Type 0 where
+  pub db : Text
+  pub today : ℕ
+  pub task : Task
+
+abbrev pub task_shown : Job → Task
+task_shown job.Init = init
+task_shown (job.Import kind file) = import kind file.now
+task_shown (job.Withdraw number paper) = withdraw number paper
+task_shown (job.Reinstate number paper) = reinstate number paper
+task_shown (job.CloseHall session hall) = close_hall session hall
+task_shown (job.Decide decision) = decide decision
+task_shown (job.Sheet session sheet) = print session sheet
+
+abbrev pub shown : Line → Said
+shown line = record { db = line.db.now; today = line.today; task = task_shown line.job }
+
+-- ---- the values of words
+
+abbrev pub rows : ArgMatches → List Row
+rows matches = rows_of (found_of matches)
+
+-- the value that the word with this name is the text of
+abbrev pub value_of : {X : Type 0} → (Text → Option X) → Text → List Row → Option X
+value_of read name words = option_and_then read (first_of name words)
+
+-- the word with this name, where it has the form
+abbrev pub text_of : (Text → Bool) → Text → List Row → Option Text
+text_of has_form = value_of (λ text. if has_form text then Some text else None)
+
+abbrev pub kind_in : Text → Option Kind
+kind_in text =
+    if bytes_eq text (codes "sessions") then Some Sessions
+    else (if bytes_eq text (codes "papers") then Some Papers
+    else (if bytes_eq text (codes "halls") then Some Halls
+    else (if bytes_eq text (codes "openings") then Some Openings
+    else (if bytes_eq text (codes "candidates") then Some Candidates
+    else (if bytes_eq text (codes "entries") then Some Entries
+    else (if bytes_eq text (codes "arrangements") then Some Arrangements
+    else None))))))
+
+abbrev pub outcome_in : Text → Option Outcome
+outcome_in text =
+    if bytes_eq text (codes "granted") then Some Grant
+    else (if bytes_eq text (codes "refused") then Some Refuse
+    else None)
+
+abbrev pub number_of : List Row → Option ℕ
+number_of = value_of number_in (codes "number")
+
+abbrev pub session_of : List Row → Option Text
+session_of = text_of is_session_code (codes "session")
+
+abbrev pub hall_of : List Row → Option Text
+hall_of = text_of is_hall_code (codes "hall")
+
+abbrev pub paper_of : List Row → Option Text
+paper_of = text_of is_paper_code (codes "paper")
+
+-- ---- the commands
+
+abbrev pub import_of : List Row → Option Task
+import_of words =
+    option_and_then (λ kind. option_map (import kind) (first_of (codes "file") words))
+    (value_of kind_in (codes "kind") words)
+
+-- a candidate and a paper
+abbrev pub entry_of : List Row → Option (ℕ × Text)
+entry_of words = option_and_then (λ number. option_map (λ paper. (number, paper)) (paper_of words)) (number_of words)
+
+-- a session and a hall
+abbrev pub opening_of : List Row → Option (Text × Text)
+opening_of words = option_and_then (λ session. option_map (λ hall. (session, hall)) (hall_of words)) (session_of words)
+
+-- an appeal, the outcome, and the text of the reason
+abbrev pub decided_of : List Row → Option (ℕ × Text × Outcome × Text)
+decided_of words =
+    option_and_then (λ number.
+    option_and_then (λ reference.
+    option_and_then (λ outcome.
+    option_map (λ reason. (number, reference, outcome, reason))
+    (first_of (codes "reason") words))
+    (value_of outcome_in (codes "outcome") words))
+    (text_of is_reference (codes "ref") words))
+    (number_of words)
+
+abbrev pub decision_of : List Row → Option Decision
+decision_of words =
+    option_and_then (λ said.
+    if is_reason said.3
+    then Some (record { number = said.0; reference = said.1; outcome = said.2; answer = said.3 })
+    else None)
+    (decided_of words)
+
+abbrev pub sheet_of : Text → List Row → Option Sheet
+sheet_of name words =
+    if bytes_eq name (codes "door-list") then option_map DoorList (hall_of words)
+    else (if bytes_eq name (codes "attendance") then option_map Attendance (paper_of words)
+    else (if bytes_eq name (codes "clashes") then Some Clashes
+    else (if bytes_eq name (codes "shortage") then Some Shortage
+    else (if bytes_eq name (codes "appeals") then Some Appeals
+    else (if bytes_eq name (codes "export") then Some Export
+    else None)))))
+
+abbrev pub print_of : Text → List Row → Option Task
+print_of name words =
+    option_and_then (λ session. option_map (print session) (sheet_of name words)) (session_of words)
+
+-- a command without a decision
+abbrev pub plain_task_of : Text → List Row → Option Task
+plain_task_of name words =
+    if bytes_eq name (codes "init") then Some init
+    else (if bytes_eq name (codes "import") then import_of words
+    else (if bytes_eq name (codes "withdraw") then option_map (λ e. withdraw e.0 e.1) (entry_of words)
+    else (if bytes_eq name (codes "reinstate") then option_map (λ e. reinstate e.0 e.1) (entry_of words)
+    else (if bytes_eq name (codes "close-hall") then option_map (λ o. close_hall o.0 o.1) (opening_of words)
+    else print_of name words))))
+
+-- the command with this name and these words
+abbrev pub task_of : Text → List Row → Option Task
+task_of name words =
+    if bytes_eq name (codes "decide") then option_map decide (decision_of words)
+    else plain_task_of name words
+
+-- ---- the line
+
+-- the path of the database and the day
+abbrev pub options_of : List Row → Option (Text × ℕ)
+options_of words =
+    option_and_then (λ db. option_map (λ today. (db, today)) (value_of day_of (codes "today") words))
+    (first_of (codes "db") words)
+
+abbrev pub said_in : List Row → Option (Text × List Row) → Option Said
+said_in words command =
+    option_and_then (λ given.
+    option_and_then (λ named.
+    option_map (λ task. let s : Said = record { db = given.0; today = given.1; task = task } in s)
+    (task_of named.0 named.1))
+    command)
+    (options_of words)
+
+-- what the words say, where `clap` takes them
+abbrev pub said : List Text → Option Said
+said words = said_in (matches_of grammar words) (subcommand_of grammar words)
+
+-- What a call answers for words: what they say, where `clap` takes them, and not understood, where they say
+-- nothing or `clap` does not take them; help, where it finds a request for help.
+abbrev pub Answers : Result Line LineFault → List Text → Type 0
+Answers (Ok line) words = (fault_of grammar words ≡ []) × (said words ≡ Some (shown line))
+Answers (Err NoMemory) words = ⊤
+Answers (Err (Help text)) words = IsAmong kind.DisplayHelp (fault_of grammar words)
+Answers (Err NotUnderstood) words =
+    ((fault_of grammar words ≡ []) × (said words ≡ None))
+    ⊎ ((k : ErrorKind) × IsAmong k (fault_of grammar words) × (k ≢ kind.DisplayHelp))
+
+-- ---- for the parts of the call
+
+-- the line that is said, or that none is, unless memory ran out
+abbrev pub GivesLine : Result Line LineFault → Option Said → Type 0
+GivesLine (Ok line) answer = answer ≡ Some (shown line)
+GivesLine (Err NoMemory) answer = ⊤
+GivesLine (Err NotUnderstood) answer = answer ≡ None
+GivesLine (Err (Help text)) answer = ⊥
+
+-- the fault of an error of `clap`
+abbrev pub Tells : LineFault → ErrorKind → Type 0
+Tells NoMemory k = ⊤
+Tells NotUnderstood k = (k ≢ kind.DisplayHelp) × (k ≢ kind.OutOfMemory)
+Tells (Help text) k = k ≡ kind.DisplayHelp

@@ -1,0 +1,11 @@
+//! What a command line of the program says.
+#![tactic(auto)]
+
+mod grammar;
+mod help;
+mod line;
+#[cfg(test)]
+mod tests;
+mod values;
+
+pub use line::{Job, Line, LineFault, Sheet, parse_line};

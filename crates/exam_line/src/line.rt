@@ -1,0 +1,217 @@
+//! What a command line says.
+ghost use Rattle.std.specs.Prelude.{◌≡◌, map, option_map, IfOk, IfErr, string_bytes};
+ghost use Rattle.clap.specs.Words.{subcommand_rows_of, kind_of};
+ghost use Rattle.exam_types.specs.declared.refusal.Refusal.TheVariants as refusal;
+ghost use Rattle.exam_line.specs.Lines as spec;
+
+use crate::grammar::office_command;
+use crate::values::{
+    decision_of, entry_of, hall_of, kind_of, number_of, opening_of, paper_of, session_of, text,
+    today_of,
+};
+use clap::ArgMatches;
+use clap::error::ErrorKind;
+use exam_office::{Decision, Kind};
+use exam_types::{Day, HallCode, Number, PaperCode, Refusal, SessionCode};
+use std::alloc::Global;
+
+/// A command of the program, with its values.
+#[derive(Drop)]
+pub enum Job<'a> {
+    Init,
+    /// Imports the file at the path.
+    Import {
+        kind: Kind,
+        file: &'a str,
+    },
+    Withdraw {
+        number: Number,
+        paper: PaperCode,
+    },
+    Reinstate {
+        number: Number,
+        paper: PaperCode,
+    },
+    CloseHall {
+        session: SessionCode,
+        hall: HallCode,
+    },
+    Decide(Decision),
+    /// Prints a sheet of the session.
+    Sheet {
+        session: SessionCode,
+        sheet: Sheet,
+    },
+}
+
+/// What is printed of a session.
+#[derive(Clone, Copy)]
+pub enum Sheet {
+    DoorList(HallCode),
+    Attendance(PaperCode),
+    Clashes,
+    Shortage,
+    Appeals,
+    Export,
+}
+
+/// A command line that was understood.
+#[derive(Drop)]
+pub struct Line<'a> {
+    /// The path of the database, taken as it is.
+    pub db: &'a str,
+    pub today: Day,
+    pub job: Job<'a>,
+}
+
+/// Why words are no line.
+#[derive(Drop)]
+pub enum LineFault {
+    /// Other words than the program takes, or a value that is none.
+    NotUnderstood,
+    /// A request for help, with its text.
+    Help(String),
+    NoMemory,
+}
+
+/// Reads the words of a command line, the program's name first.
+pub fn parse_line<'a>(alloc: Global, words: &'a [String]) -> Result<Line<'a>, LineFault>
+    ensures { spec.Answers result (map string_bytes words.entry.now) }
+{
+    let Ok(command) = office_command(alloc) else {
+        return Err(LineFault::NoMemory);
+    };
+    match command.try_get_matches_from(words) {
+        Ok(matches) => line_of(alloc, &matches),
+        Err(error) => Err(fault_from(alloc, error)),
+    }
+}
+
+fn line_of<'a>(alloc: Global, matches: &ArgMatches<'a>) -> Result<Line<'a>, LineFault>
+    ensures { spec.GivesLine result (spec.said_in (spec.rows matches.now) (subcommand_rows_of matches.now)) }
+{
+    match read_line(alloc, matches) {
+        Ok(Some(line)) => Ok(line),
+        Ok(None) => Err(LineFault::NotUnderstood),
+        Err(_) => Err(LineFault::NoMemory),
+    }
+}
+
+/// The fault of an error, with the text of a request for help.
+fn fault_from(alloc: Global, error: clap::Error) -> LineFault
+    ensures { spec.Tells result (kind_of error) }
+{
+    match error.kind() {
+        ErrorKind::OutOfMemory => LineFault::NoMemory,
+        ErrorKind::DisplayHelp => match error.to_string(alloc) {
+            Ok(text) => LineFault::Help(text),
+            Err(_) => LineFault::NoMemory,
+        },
+        _ => LineFault::NotUnderstood,
+    }
+}
+
+/// The line that the values of options and words say, if they say one.
+fn read_line<'a>(alloc: Global, matches: &ArgMatches<'a>) -> Result<Option<Line<'a>>, Refusal>
+    ensures ok { IfOk result (λ line. option_map spec.shown line
+        ≡ spec.said_in (spec.rows matches.now) (subcommand_rows_of matches.now)) }
+    ensures memory { IfErr result (λ e. e ≡ refusal.NoMemory) }
+{
+    let Some((db, today)) = options_of(matches) else {
+        return Ok(None);
+    };
+    let Some((name, words)) = command_of(matches) else {
+        return Ok(None);
+    };
+    match read_job(alloc, name, words)? {
+        Some(job) => Ok(Some(Line { db, today, job })),
+        None => Ok(None),
+    }
+}
+
+/// The options before the command.
+fn options_of<'a>(matches: &ArgMatches<'a>) -> Option<(&'a str, Day)>
+    ensures { option_map (λ o. (o.0.now, o.1)) result ≡ spec.options_of (spec.rows matches.now) }
+{
+    let db = text(matches, "db")?;
+    let today = today_of(matches)?;
+    Some((db, today))
+}
+
+/// The name of the command, with its own words.
+fn command_of<'m, 'a>(matches: &'m ArgMatches<'a>) -> Option<(&'a str, &'m ArgMatches<'a>)>
+    ensures { option_map (λ c. (c.0.now, spec.rows c.1.now)) result ≡ subcommand_rows_of matches.entry.now }
+{
+    matches.subcommand()
+}
+
+fn read_job<'a>(
+    alloc: Global,
+    name: &'a str,
+    words: &ArgMatches<'a>,
+) -> Result<Option<Job<'a>>, Refusal>
+    ensures ok { IfOk result (λ job. option_map spec.task_shown job
+        ≡ spec.task_of name.entry.now (spec.rows words.now)) }
+    ensures memory { IfErr result (λ e. e ≡ refusal.NoMemory) }
+{
+    match name {
+        "decide" => match decision_of(alloc, words)? {
+            Some(decision) => Ok(Some(Job::Decide(decision))),
+            None => Ok(None),
+        },
+        _ => Ok(read_plain_job(name, words)),
+    }
+}
+
+/// A job whose values take no memory.
+fn read_plain_job<'a>(name: &str, words: &ArgMatches<'a>) -> Option<Job<'a>>
+    ensures { option_map spec.task_shown result ≡ spec.plain_task_of name.now (spec.rows words.now) }
+{
+    match name {
+        "init" => Some(Job::Init),
+        "import" => import_of(words),
+        "withdraw" => {
+            let (number, paper) = entry_of(words)?;
+            Some(Job::Withdraw { number, paper })
+        }
+        "reinstate" => {
+            let (number, paper) = entry_of(words)?;
+            Some(Job::Reinstate { number, paper })
+        }
+        "close-hall" => {
+            let (session, hall) = opening_of(words)?;
+            Some(Job::CloseHall { session, hall })
+        }
+        _ => print_of(name, words),
+    }
+}
+
+fn import_of<'a>(words: &ArgMatches<'a>) -> Option<Job<'a>>
+    ensures { option_map spec.task_shown result ≡ spec.import_of (spec.rows words.now) }
+{
+    let kind = kind_of(words)?;
+    let file = text(words, "file")?;
+    Some(Job::Import { kind, file })
+}
+
+fn print_of<'a>(name: &str, words: &ArgMatches<'a>) -> Option<Job<'a>>
+    ensures { option_map spec.task_shown result ≡ spec.print_of name.now (spec.rows words.now) }
+{
+    let session = session_of(words)?;
+    let sheet = sheet_of(name, words)?;
+    Some(Job::Sheet { session, sheet })
+}
+
+fn sheet_of(name: &str, words: &ArgMatches<'_>) -> Option<Sheet>
+    ensures { result ≡ spec.sheet_of name.now (spec.rows words.now) }
+{
+    match name {
+        "door-list" => Some(Sheet::DoorList(hall_of(words)?)),
+        "attendance" => Some(Sheet::Attendance(paper_of(words)?)),
+        "clashes" => Some(Sheet::Clashes),
+        "shortage" => Some(Sheet::Shortage),
+        "appeals" => Some(Sheet::Appeals),
+        "export" => Some(Sheet::Export),
+        _ => None,
+    }
+}
