@@ -1,71 +1,18 @@
 //! What decisions make of appeals, and how they are refused.
-use super::lines::{Line, hall, number};
-use super::scenes::{Order, Scene, decision_of, play};
-use super::setups::{Fact, Grant, Sitting, facts_of, reference};
-use crate::appeals::stored_state;
-use crate::deciding::decided;
-use crate::grants::are_single;
+use super::lines::{Line, hall};
+use super::scenes::{Order, Ruling, Scene, play};
+use super::setups::{Fact, Grant, Sitting};
 use crate::{AppealState, Outcome, Reply};
-use exam_rules::Facts;
-use exam_types::{Day, Refusal};
-use std::alloc::Global;
-use std::process::Abort;
+use exam_types::Refusal;
 use std::test::Fail;
 
-/// The decision of a candidate's appeal with a reference, and its day.
-#[derive(Clone, Copy)]
-struct Ruling<'a>(u32, &'a str, Outcome, &'a str);
-
-/// A ruling, and where the appeal stands then, or why the ruling is refused.
-type Ruled<'a> = (Ruling<'a>, Result<AppealState, Refusal>);
-
-/// An appeal of a candidate, and where it stands.
-type Standing<'a> = (u32, &'a str, AppealState);
-
-/// The facts after a ruling, or its refusal.
-fn ruled(alloc: Global, facts: &Facts, ruling: Ruling) -> Result<Result<Facts, Refusal>, Fail> {
-    let decision = decision_of(alloc, ruling.0, ruling.1, ruling.2)?;
-    let today = Day::parse(ruling.3.as_bytes()).ok_or("day")?;
-    if !are_single(alloc, facts)? {
-        return Err(Fail::new("appeals that do not stand alone"));
-    }
-    Ok(decided(facts, &decision, today))
-}
-
-fn state(facts: &Facts, value: u32, code: &str) -> Result<AppealState, Fail> {
-    Ok(stored_state(facts, number(value)?, reference(code)?))
-}
-
-/// The facts after a ruling, which is as wanted; as they were where it is refused.
-fn after<R: Abort + AllocGlobal>(rt: &R, facts: Facts, next: &Ruled) -> Result<Facts, Fail> {
-    let (ruling, wanted) = *next;
-    match ruled(rt.alloc(), &facts, ruling)? {
-        Ok(changed) => {
-            assert_eq!(rt; Ok(state(&changed, ruling.0, ruling.1)?), wanted);
-            Ok(changed)
-        }
-        Err(refusal) => {
-            assert_eq!(rt; Err(refusal), wanted);
-            Ok(facts)
-        }
-    }
-}
-
-/// Makes the rulings in order, each as wanted, and compares where appeals stand at the end.
-fn rule<R: Abort + AllocGlobal>(
-    rt: &R,
-    list: &[Fact],
-    rulings: &[Ruled],
-    standings: &[Standing],
-) -> Result<(), Fail> {
-    let mut facts = facts_of(rt.alloc(), list)?;
-    for next in rulings {
-        facts = after(rt, facts, next)?;
-    }
-    for (value, code, wanted) in standings {
-        assert_eq!(rt; state(&facts, *value, code)?, *wanted);
-    }
-    Ok(())
+/// What a decision of an appellant who sits nowhere answers.
+const fn decided(state: AppealState) -> Result<Reply, Refusal> {
+    Ok(Reply::Decided {
+        state,
+        seat: None,
+        moved: 0,
+    })
 }
 
 /// The first two candidates are entered, and the third is not. The first has a granted hall appeal already.
@@ -79,58 +26,65 @@ const LODGED: [Fact<'static>; 7] = [
     Fact::Lodged(2, "CL1", Grant::Paper("MA-1")),
 ];
 
+/// On the last day to decide.
+const GRANT: Ruling<'static> = Ruling {
+    on: "2027-05-31",
+    number: 1,
+    reference: "HA1",
+    outcome: Outcome::Grant,
+};
+
 #[test]
 fn a_decision_is_made_once_and_before_the_day_of_the_session(rt: HostRuntime) -> Result<(), Fail> {
-    let granted = Ruling(1, "HA1", Outcome::Grant, "2027-05-31");
-    let rulings = [
-        (
-            Ruling(1, "HA1", Outcome::Grant, "2027-06-01"),
-            Err(Refusal::TooLate),
-        ),
-        (granted, Ok(AppealState::Granted)),
-        (granted, Ok(AppealState::Granted)),
-        (
-            Ruling(1, "HA1", Outcome::Grant, "2027-06-02"),
-            Ok(AppealState::Granted),
-        ),
-        (
-            Ruling(1, "HA1", Outcome::Refuse, "2027-06-02"),
-            Err(Refusal::NotOpenAppeal),
-        ),
-        (
-            Ruling(1, "XX", Outcome::Grant, "2027-05-31"),
-            Err(Refusal::UnknownAppeal),
-        ),
+    let on_the_day = Ruling {
+        on: "2027-06-01",
+        ..GRANT
+    };
+    let later = Ruling {
+        on: "2027-06-02",
+        ..GRANT
+    };
+    let other_outcome = Ruling {
+        outcome: Outcome::Refuse,
+        ..later
+    };
+    let unknown = Ruling {
+        reference: "XX",
+        ..GRANT
+    };
+    let scenes = [
+        Scene::Order(Order::Decide(on_the_day), Err(Refusal::TooLate)),
+        Scene::Order(Order::Decide(GRANT), decided(AppealState::Granted)),
+        Scene::Order(Order::Decide(GRANT), Ok(Reply::Unchanged)),
+        Scene::Order(Order::Decide(later), Ok(Reply::Unchanged)),
+        Scene::Order(Order::Decide(other_outcome), Err(Refusal::NotOpenAppeal)),
+        Scene::Order(Order::Decide(unknown), Err(Refusal::UnknownAppeal)),
     ];
-    rule(&rt, &LODGED, &rulings, &[])
+    play(&rt, &LODGED, &[], &scenes)
 }
 
 #[test]
 fn who_left_the_session_is_granted_nothing(rt: HostRuntime) -> Result<(), Fail> {
-    let rulings = [
-        (
-            Ruling(3, "HA1", Outcome::Grant, "2027-05-31"),
-            Err(Refusal::NotInSession),
-        ),
-        (
-            Ruling(3, "HA1", Outcome::Refuse, "2027-05-31"),
-            Ok(AppealState::Refused),
-        ),
+    let granted = Ruling { number: 3, ..GRANT };
+    let refused = Ruling {
+        outcome: Outcome::Refuse,
+        ..granted
+    };
+    let scenes = [
+        Scene::Order(Order::Decide(granted), Err(Refusal::NotInSession)),
+        Scene::Order(Order::Decide(refused), decided(AppealState::Refused)),
     ];
-    rule(&rt, &LODGED, &rulings, &[])
+    play(&rt, &LODGED, &[], &scenes)
 }
 
 #[test]
 fn hall_grants_add_up(rt: HostRuntime) -> Result<(), Fail> {
-    let granted = (
-        Ruling(1, "HA1", Outcome::Grant, "2027-05-31"),
-        Ok(AppealState::Granted),
-    );
-    let standings = [
-        (1, "HA2", AppealState::Granted),
-        (3, "HA1", AppealState::Pending),
+    let scenes = [
+        Scene::Order(Order::Decide(GRANT), decided(AppealState::Granted)),
+        Scene::Stands(1, "HA2", AppealState::Granted),
+        Scene::Stands(3, "HA1", AppealState::Pending),
     ];
-    rule(&rt, &LODGED, &[granted], &standings)
+    play(&rt, &LODGED, &[], &scenes)
 }
 
 /// The first has withdrawn from PH-2. Both have a granted arrangement, and the first an open one more.
@@ -148,27 +102,28 @@ const GRANTED: [Fact<'static>; 9] = [
 
 #[test]
 fn a_second_arrangement_grant_supersedes_the_first(rt: HostRuntime) -> Result<(), Fail> {
-    let rulings = [
-        (
-            Ruling(1, "AR2", Outcome::Grant, "2027-05-31"),
-            Ok(AppealState::Granted),
-        ),
-        (
-            Ruling(1, "AR1", Outcome::Grant, "2027-05-31"),
-            Err(Refusal::NotOpenAppeal),
-        ),
-        (
-            Ruling(1, "CL2", Outcome::Grant, "2027-05-31"),
-            Err(Refusal::NoEntry),
-        ),
+    let second = Ruling {
+        reference: "AR2",
+        ..GRANT
+    };
+    let first_again = Ruling {
+        reference: "AR1",
+        ..GRANT
+    };
+    let withdrawn_paper = Ruling {
+        reference: "CL2",
+        ..GRANT
+    };
+    let scenes = [
+        Scene::Order(Order::Decide(second), decided(AppealState::Granted)),
+        Scene::Order(Order::Decide(first_again), Err(Refusal::NotOpenAppeal)),
+        Scene::Order(Order::Decide(withdrawn_paper), Err(Refusal::NoEntry)),
+        Scene::Stands(1, "AR1", AppealState::Superseded),
+        Scene::Stands(1, "AR2", AppealState::Granted),
+        Scene::Stands(1, "CL1", AppealState::Granted),
+        Scene::Stands(2, "AR1", AppealState::Granted),
     ];
-    let standings = [
-        (1, "AR1", AppealState::Superseded),
-        (1, "AR2", AppealState::Granted),
-        (1, "CL1", AppealState::Granted),
-        (2, "AR1", AppealState::Granted),
-    ];
-    rule(&rt, &GRANTED, &rulings, &standings)
+    play(&rt, &GRANTED, &[], &scenes)
 }
 
 /// What a grant answers: the appellant's hall, or `-`, and how many others moved.
@@ -197,7 +152,7 @@ const NEEDY: [Fact<'static>; 7] = [
 
 #[test]
 fn a_grant_unseats_nobody_but_the_appellant(rt: HostRuntime) -> Result<(), Fail> {
-    let grant = Order::Decide(1, "HA1", Outcome::Grant);
+    let grant = Order::Decide(GRANT);
     let scenes = [
         Scene::Order(grant, granted("-", 0)?),
         Scene::Seats("S1", &[(1, "-"), (2, "A")]),
@@ -220,7 +175,7 @@ fn the_desk_of_an_appellant_goes_to_another(rt: HostRuntime) -> Result<(), Fail>
         Fact::Lodged(1, "HA1", Grant::AnotherHallThan("A")),
     ];
     let scenes = [
-        Scene::Order(Order::Decide(1, "HA1", Outcome::Grant), granted("-", 0)?),
+        Scene::Order(Order::Decide(GRANT), granted("-", 0)?),
         Scene::Seats("S1", &[(1, "-"), (2, "A")]),
     ];
     play(&rt, &facts, &[("S1", 1, "A")], &scenes)
@@ -236,8 +191,9 @@ fn a_grant_moves_another_by_a_chain(rt: HostRuntime) -> Result<(), Fail> {
         Fact::Row(Line::Entry(2, "MA-1")),
         Fact::Lodged(2, "HA1", Grant::AnotherHallThan("B")),
     ];
+    let of_the_second = Ruling { number: 2, ..GRANT };
     let scenes = [
-        Scene::Order(Order::Decide(2, "HA1", Outcome::Grant), granted("A", 1)?),
+        Scene::Order(Order::Decide(of_the_second), granted("A", 1)?),
         Scene::Seats("S1", &[(1, "B"), (2, "A")]),
     ];
     play(&rt, &facts, &[("S1", 1, "A"), ("S1", 2, "B")], &scenes)
@@ -256,8 +212,13 @@ fn a_granted_clash_turns_the_sitting_paper(rt: HostRuntime) -> Result<(), Fail> 
         Fact::Row(Line::Entry(3, "PH-2")),
         Fact::Lodged(3, "CL1", Grant::Paper("PH-2")),
     ];
+    let clash = Ruling {
+        number: 3,
+        reference: "CL1",
+        ..GRANT
+    };
     let scenes = [
-        Scene::Order(Order::Decide(3, "CL1", Outcome::Grant), granted("C", 0)?),
+        Scene::Order(Order::Decide(clash), granted("C", 0)?),
         Scene::Seats("S1", &[(3, "C")]),
     ];
     play(&rt, &facts, &[("S1", 3, "A")], &scenes)

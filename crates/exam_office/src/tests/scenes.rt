@@ -1,7 +1,8 @@
 //! What happens to an office, in words.
 use super::lines::{Line, hall, import_of, number, paper, session};
 use super::setups::{Fact, Grant, Sitting, office_of, reason, reference, subject_of};
-use crate::{Command, Decision, Kind, Lodging, Office, Outcome, Reply, run, step};
+use crate::appeals::stored_state;
+use crate::{AppealState, Command, Decision, Kind, Lodging, Office, Outcome, Reply, run, step};
 use exam_types::{Day, HallCode, Refusal};
 use std::alloc::Global;
 use std::process::Abort;
@@ -15,8 +16,7 @@ pub enum Order<'a> {
     CloseHall(&'a str, &'a str),
     Lodge(Plea<'a>),
     Retract(u32, &'a str),
-    /// A decision on 2027-05-31.
-    Decide(u32, &'a str, Outcome),
+    Decide(Ruling<'a>),
 }
 
 /// An appeal as it is lodged on a day.
@@ -28,6 +28,15 @@ pub struct Plea<'a> {
     pub session: &'a str,
     pub subject: Grant<'a>,
     pub reason: &'a str,
+}
+
+/// The decision of an appeal on a day.
+#[derive(Clone, Copy)]
+pub struct Ruling<'a> {
+    pub on: &'a str,
+    pub number: u32,
+    pub reference: &'a str,
+    pub outcome: Outcome,
 }
 
 /// A command or a look at the office.
@@ -47,6 +56,8 @@ pub enum Scene<'a> {
     EntryCount(usize),
     /// How many sit, over all sessions.
     SeatCount(usize),
+    /// Where a candidate's appeal with a reference stands.
+    Stands(u32, &'a str, AppealState),
     /// How many appeals there are, whatever became of them.
     AppealCount(usize),
 }
@@ -83,7 +94,7 @@ fn day(text: &str) -> Result<Day, Fail> {
 fn day_of(order: Order) -> Result<Day, Fail> {
     match order {
         Order::Lodge(plea) => day(plea.on),
-        Order::Decide(_, _, _) => day("2027-05-31"),
+        Order::Decide(ruling) => day(ruling.on),
         _ => today(),
     }
 }
@@ -102,18 +113,13 @@ fn lodging_of(alloc: Global, plea: Plea) -> Result<Lodging, Fail> {
     })
 }
 
-pub fn decision_of(
-    alloc: Global,
-    value: u32,
-    code: &str,
-    outcome: Outcome,
-) -> Result<Decision, Fail> {
-    let number = number(value)?;
-    let reference = reference(code)?;
+fn decision_of(alloc: Global, ruling: Ruling) -> Result<Decision, Fail> {
+    let number = number(ruling.number)?;
+    let reference = reference(ruling.reference)?;
     Ok(Decision {
         number,
         reference,
-        outcome,
+        outcome: ruling.outcome,
         answer: reason(alloc, "ok")?,
     })
 }
@@ -125,9 +131,7 @@ fn command_of(alloc: Global, order: Order) -> Result<Command, Fail> {
         Order::CloseHall(of, code) => Ok(Command::CloseHall(session(of)?, hall(code)?)),
         Order::Lodge(plea) => Ok(Command::Lodge(lodging_of(alloc, plea)?)),
         Order::Retract(value, code) => Ok(Command::Retract(number(value)?, reference(code)?)),
-        Order::Decide(value, code, outcome) => {
-            Ok(Command::Decide(decision_of(alloc, value, code, outcome)?))
-        }
+        Order::Decide(ruling) => Ok(Command::Decide(decision_of(alloc, ruling)?)),
     }
 }
 
@@ -161,6 +165,11 @@ fn expect_places<R: Abort + AllocGlobal>(
         assert!(rt; place_of(office, of, *value)? == wanted, "{value}");
     }
     Ok(())
+}
+
+/// Where an appeal stands.
+fn standing_of(office: &Office, value: u32, code: &str) -> Result<AppealState, Fail> {
+    Ok(stored_state(office.facts(), number(value)?, reference(code)?))
 }
 
 /// Whether there is such an entry, and it is withdrawn.
@@ -197,6 +206,10 @@ fn take<R: Abort + AllocGlobal>(rt: &R, office: &mut Office, scene: &Scene) -> R
         }
         Scene::EntryCount(count) => {
             assert_eq!(rt; office.facts().entries.len(), *count);
+            Ok(())
+        }
+        Scene::Stands(value, code, wanted) => {
+            assert_eq!(rt; standing_of(office, *value, code)?, *wanted);
             Ok(())
         }
         Scene::AppealCount(count) => {
