@@ -40,7 +40,7 @@ member_text m = 34 ∷ (m.0 ++ (codes "\":" ++ text_of m.1))
 abbrev pub object_text : List (List ℕ × Datum) → List ℕ
 object_text members = 123 ∷ listed member_text [] (codes "}") members
 
--- an object with one member, a list of objects
-abbrev pub list_body : {A : Type 0} → List ℕ → (A → List (List ℕ × Datum)) → List A → List ℕ
-list_body name members rows =
-    codes "{\"" ++ (name ++ (codes "\":[" ++ listed (λ row. object_text (members row)) [] (codes "]}") rows))
+-- an object with one member, a list of the rows' texts
+abbrev pub list_body : {A : Type 0} → List ℕ → (A → List ℕ) → List A → List ℕ
+list_body name text_of_row rows =
+    codes "{\"" ++ (name ++ (codes "\":[" ++ listed text_of_row [] (codes "]}") rows))

@@ -1,5 +1,5 @@
 //! JSON at the end of a vector of bytes. The texts are to hold no control character.
-ghost use Rattle.std.specs.Prelude.{◌≡◌, ◌++◌, OnOk, IfErr, decimal, map};
+ghost use Rattle.std.specs.Prelude.{◌≡◌, ◌++◌, OnOk, IfErr, decimal, map, option_map};
 ghost use Rattle.exam_types.specs.declared.refusal.Refusal.TheVariants.{NoMemory};
 ghost use Rattle.exam_http.specs.Json as json;
 ghost use Rattle.exam_http.specs.Members.{datum, shown};
@@ -45,7 +45,7 @@ impl<'a> Member<'a> {
 
     #[tactic(auto, unfolding(crate::specs::Members::shown))]
     pub fn text_or_null(name: &'a [u8], text: Option<&'a [u8]>) -> Self
-        ensures { shown result ≡ (name.now, json.or_null (λ t. json.text t.now) text.entry) }
+        ensures { shown result ≡ (name.now, json.or_null json.text (option_map (λ t. t.now) text.entry)) }
     {
         match text {
             Some(text) => Member::text(name, text),
