@@ -7,6 +7,7 @@ mod json;
 mod methods;
 mod own;
 mod routes;
+mod secret;
 mod sending;
 mod status;
 mod words;

@@ -1,5 +1,5 @@
 use Rattle.std.proofs.Common.{option_map, ap}
-use Rattle.exam_http.proofs.Finding.{found_reads, is_text, missing_reads}
+use Rattle.exam_http.proofs.FoundRoutes.{found_reads, is_text, missing_reads}
 use Rattle.exam_http.proofs.routes.find.Goals as goal
 
 pub returns-in_default : goal.returns-in_default

@@ -1,4 +1,4 @@
-use Rattle.exam_http.proofs.Finding.{table_reads}
+use Rattle.exam_http.proofs.FoundRoutes.{table_reads}
 use Rattle.exam_http.proofs.routes.routes_read.Goals as goal
 
 pub returns : goal.returns
