@@ -1,0 +1,12 @@
+//! The candidate view's HTTP: what a request asks, and the bytes of an answer.
+#![tactic(auto)]
+
+mod fault;
+mod head;
+mod laws;
+mod lines;
+mod reading;
+
+pub use fault::Fault;
+pub use laws::requests_ask_one_thing;
+pub use reading::{Asked, ReadFailed, read_request};
