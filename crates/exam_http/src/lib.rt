@@ -5,8 +5,10 @@ mod fault;
 mod head;
 mod laws;
 mod lines;
+mod posted;
 mod reading;
 
 pub use fault::Fault;
 pub use laws::requests_ask_one_thing;
+pub use posted::{Posted, posted_in};
 pub use reading::{Asked, ReadFailed, read_request};
