@@ -1,9 +1,9 @@
 -- The members of an object, as the program has them.
 use Rattle.std.specs.Prelude.{ℕ, List}
 use Rattle.exam_http.specs.Json.{Datum, null, number, text}
-use Rattle.exam_http.specs.declared.json.Field.{Field}
-use Rattle.exam_http.specs.declared.json.Field.TheVariants.{Null, Number, Text}
-use Rattle.exam_http.specs.declared.json.Member.{Member}
+use Rattle.exam_http.specs.declared.objects.Field.{Field}
+use Rattle.exam_http.specs.declared.objects.Field.TheVariants.{Null, Number, Text}
+use Rattle.exam_http.specs.declared.objects.Member.{Member}
 
 -- what stands there
 abbrev pub datum : Field → Datum

@@ -4,7 +4,7 @@ use Rattle.exam_types.specs.Days.{day_text}
 use Rattle.exam_types.specs.Features.{features_text}
 use Rattle.exam_types.specs.Numbers.{minute_text}
 use Rattle.exam_http.specs.Own.{OwnSessionRow}
-use Rattle.exam_http.specs.declared.bodies.SeatTexts.{SeatTexts}
+use Rattle.exam_http.specs.declared.own_bodies.SeatTexts.{SeatTexts}
 
 -- these are the date, the finish, the needs and the start of the seat
 abbrev pub HasSeatTexts : OwnSessionRow → SeatTexts → Type 0

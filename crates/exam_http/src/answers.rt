@@ -7,7 +7,7 @@ ghost use Rattle.exam_http.specs.Answer as spec;
 ghost use Rattle.exam_http.specs.Sending.{AppendsBeginning};
 ghost use Rattle.exam_http.specs.Written.{body_bytes};
 
-use crate::json::{Member, push_object};
+use crate::objects::{Member, push_object};
 use crate::methods::allowed;
 use crate::routes::Place;
 use crate::sending::{WriteFailed, send_both};

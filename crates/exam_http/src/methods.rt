@@ -1,5 +1,5 @@
 //! The methods of each route.
-ghost use Rattle.std.specs.Prelude.{◌≡◌, ◌≤◌, length};
+ghost use Rattle.std.specs.Prelude.{◌≡◌, ◌≤◌, codes, length};
 ghost use Rattle.std.specs.Str.{bytes_eq};
 ghost use Rattle.exam_http.specs.Methods.{allow_text, is_allowed};
 
@@ -27,6 +27,13 @@ pub fn allowed(place: Place) -> &'static [u8]
         Place::Appeals => b"GET, POST",
         Place::Appeal => b"DELETE",
     }
+}
+
+/// Whether a method, as its bytes, posts something.
+pub fn is_posting(method: &[u8]) -> bool
+    ensures { result ≡ bytes_eq method.now (codes "POST") }
+{
+    is(Method::POST, method)
 }
 
 /// Whether these bytes are the method, in capitals.
