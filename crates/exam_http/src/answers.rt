@@ -7,8 +7,8 @@ ghost use Rattle.exam_http.specs.Answer as spec;
 ghost use Rattle.exam_http.specs.Sending.{AppendsBeginning};
 ghost use Rattle.exam_http.specs.Written.{body_bytes};
 
-use crate::objects::{Member, push_object};
 use crate::methods::allowed;
+use crate::objects::{Member, push_object};
 use crate::routes::Place;
 use crate::sending::{WriteFailed, send_both};
 use crate::status::{phrase_of, status_of};

@@ -220,11 +220,7 @@ fn push_appeals(
     push_bytes(out, b"]}")
 }
 
-fn push_appeal(
-    alloc: Global,
-    out: &mut Vec<u8>,
-    row: &(Reference, Appeal),
-) -> Result<(), Refusal>
+fn push_appeal(alloc: Global, out: &mut Vec<u8>, row: &(Reference, Appeal)) -> Result<(), Refusal>
     ensures ok { OnOk result (out.new.items ≡ out.old.items ++ spec.appeal_text row.now) }
     ensures memory { IfErr result (λ e. e ≡ NoMemory) }
 {

@@ -1,4 +1,4 @@
-use Rattle.std.proofs.Common.{◌≡◌, ◌++◌, ◌∙◌, ap, subst, rules}
+use Rattle.std.proofs.Common.{◌≡◌, ◌++◌, subst, rules}
 use Rattle.std.specs.Prelude.{OnErr}
 use Rattle.exam_http.specs.Answer.{answer_text}
 use Rattle.exam_http.specs.Sending.{AppendsBeginning}

@@ -1,4 +1,4 @@
-use Rattle.std.proofs.Common.{◌≡◌, ◌++◌, drop, codes, map}
+use Rattle.std.proofs.Common.{◌≡◌, ◌++◌, drop, codes}
 use Rattle.exam_http.specs.Json.{list_body, listed}
 use Rattle.exam_http.specs.Bodies.{clash_text}
 use Rattle.exam_http.proofs.own_bodies.push_clashes.Given as goal
