@@ -13,7 +13,7 @@ use Rattle.exam_types.specs.Days.{day_text}
 use Rattle.exam_types.specs.Features.{features_text}
 use Rattle.exam_types.specs.Numbers.{minute_text}
 use Rattle.exam_http.specs.Json.{list_body, object_text, number, or_null, text}
-use Rattle.exam_http.specs.Own.{OwnRows, OwnSessionRow}
+use Rattle.exam_office.specs.Own.{OwnRows, OwnSessionRow}
 use Rattle.exam_http.specs.declared.own_bodies.MissedPaper.{MissedPaper}
 use Rattle.exam_http.specs.Words.{kind_word, state_word}
 

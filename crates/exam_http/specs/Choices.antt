@@ -8,7 +8,7 @@ use Rattle.exam_types.specs.Numbers.{number_in}
 use Rattle.exam_types.specs.declared.refusal.Refusal.TheVariants.{UnknownAppeal, UnknownCandidate}
 use Rattle.exam_http.specs.Asked.{Request}
 use Rattle.exam_http.specs.Methods.{is_allowed}
-use Rattle.exam_http.specs.Own.{OwnRows}
+use Rattle.exam_office.specs.Own.{OwnRows}
 use Rattle.exam_http.specs.Posted.{posted_of}
 use Rattle.exam_http.specs.Targets.{Target, reading}
 use Rattle.exam_http.specs.declared.choice.Choice.{Choice}

@@ -4,17 +4,16 @@ ghost use Rattle.exam_types.specs.Numbers.{number_in};
 ghost use Rattle.exam_types.specs.declared.refusal.Refusal.TheVariants.{NoMemory};
 ghost use Rattle.exam_http.specs.Asked.{request_of};
 ghost use Rattle.exam_http.specs.Choices as spec;
-ghost use Rattle.exam_http.specs.Own.{shown};
+ghost use Rattle.exam_office.specs.Own.{shown};
 ghost use Rattle.exam_http.specs.Targets as targets;
 
 use crate::fault::Fault;
 use crate::methods::{allows, is_posting};
-use crate::own::Own;
 use crate::posted::{Posted, posted_in};
 use crate::reading::Asked;
 use crate::routes::{Found, Place};
 use crate::secret::is_secret;
-use exam_office::{Command, Lodging};
+use exam_office::{Command, Lodging, Own};
 use exam_types::{AccessCode, Number, Reference, Refusal};
 use std::alloc::Global;
 

@@ -9,7 +9,6 @@ mod laws;
 mod lines;
 mod methods;
 mod objects;
-mod own;
 mod own_bodies;
 mod posted;
 mod reading;
@@ -23,9 +22,11 @@ pub use answers::{Answer, write_answer};
 pub use choice::{Choice, candidate_of, choose};
 pub use fault::Fault;
 pub use laws::requests_ask_one_thing;
-pub use own::{Own, OwnSession};
 pub use own_bodies::{appeals_body, clashes_body, seats_body};
 pub use posted::{Posted, posted_in};
 pub use reading::{Asked, ReadFailed, read_request};
 pub use routes::{Found, Place, find, server_routes};
 pub use sending::WriteFailed;
+
+#[cfg(test)]
+mod tests;

@@ -4,12 +4,12 @@ ghost use Rattle.exam_types.specs.declared.refusal.Refusal.TheVariants.{NoMemory
 ghost use Rattle.exam_http.specs.Bodies as spec;
 ghost use Rattle.exam_types.specs.Days.{day_text};
 ghost use Rattle.exam_http.specs.Json.{list_body};
-ghost use Rattle.exam_http.specs.Own.{shown, shown_session};
+ghost use Rattle.exam_office.specs.Own.{shown, shown_session};
 ghost use Rattle.exam_http.specs.SeatRows.{HasSeatTexts};
 
 use crate::objects::{Member, push_bytes, push_object};
-use crate::own::{Own, OwnSession};
 use crate::words::{kind_word, status_word};
+use exam_office::{Own, OwnSession};
 use exam_rules::{Appeal, Arrangement, Status, Subject};
 use exam_types::{HallCode, PaperCode, Reference, Refusal, SessionCode};
 use std::alloc::Global;

@@ -1,7 +1,7 @@
 use Rattle.std.proofs.Common.{◌≡◌, ◌++◌, drop, codes, map}
 use Rattle.exam_http.specs.Json.{list_body, listed}
 use Rattle.exam_http.specs.Bodies.{seat_text}
-use Rattle.exam_http.specs.Own.{shown_session}
+use Rattle.exam_office.specs.Own.{shown_session}
 use Rattle.exam_http.proofs.own_bodies.push_seats.Given as goal
 
 abbrev pub invariant-loop-session : goal.invariant-loop-session
