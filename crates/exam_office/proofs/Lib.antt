@@ -32,3 +32,5 @@ pub mod Seated
 pub mod SingleKeys
 pub mod Members
 pub mod Showing
+pub mod OwnSeats
+pub mod OwnRows

@@ -15,3 +15,4 @@ pub mod Orders
 pub mod Headline
 pub mod Views
 pub mod Moves
+pub mod Own

@@ -16,6 +16,8 @@ mod limits;
 mod lodging;
 mod moves;
 mod office;
+mod own;
+mod own_source;
 mod references;
 mod repair;
 mod retracting;
@@ -35,6 +37,7 @@ pub use laws::{
     repeated_lodging_changes_nothing, repeated_retraction_changes_nothing,
 };
 pub use office::{Office, Seats};
+pub use own::{Own, OwnSession};
 pub use steps::{next_office, run, step};
 pub use tables::{Table, first_bad_table};
 pub use view::{AppealRow, Clash, Seat, SessionShortage, SessionView};

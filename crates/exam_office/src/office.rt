@@ -1,6 +1,7 @@
 //! The office: its facts and the plan of each session.
 ghost use Rattle.std.specs.Prelude.{◌≡◌, ◌⊎◌, ℕ, IsTrue, IfOk, IfErr, OnOk};
 ghost use Rattle.std.specs.Bool.{Decides};
+ghost use Rattle.std.specs.Option.{option_map};
 ghost use Rattle.exam_types.specs.declared.refusal.Refusal.TheVariants.{NoMemory, BadStore};
 ghost use Rattle.exam_plan.specs.Matching.{IsBest};
 ghost use Rattle.exam_rules.specs.Lists.{AreListsOf};
@@ -10,13 +11,15 @@ ghost use Rattle.exam_office.specs.Headline.{IsSeated};
 ghost use Rattle.exam_office.specs.Limits.{within_limits};
 ghost use Rattle.exam_rules.specs.Relations.{Code, relations_of};
 ghost use Rattle.exam_office.specs.Orders.{IsInOrder};
+ghost use Rattle.exam_office.specs.Own.{own_of, shown};
 ghost use Rattle.exam_rules.specs.Sessions.{IsSessionRefusal};
 ghost use Rattle.exam_office.specs.State.{empty_state};
 ghost use Rattle.exam_office.specs.Views.{IsViewOf};
 
+use crate::own::Own;
 use crate::tables::first_bad_table;
 use crate::view::SessionView;
-use crate::view_source;
+use crate::{own_source, view_source};
 use exam_rules::Facts;
 use exam_types::{HallCode, Number, Refusal, SessionCode};
 use std::alloc::Global;
@@ -94,6 +97,15 @@ impl Office {
             return Err(Refusal::UnknownSession);
         };
         view_source::view_of(alloc, &self.facts, &self.seats, session, row)
+    }
+
+    /// The candidate with the number, with their sessions and their appeals, or none. Takes time by their own
+    /// rows and by those who sit in their sessions.
+    pub fn own(&self, alloc: Global, number: Number) -> Result<Option<Own>, Refusal>
+        ensures ok { IfOk result (λ own. option_map shown own ≡ own_of self.now number) }
+        ensures memory { IfErr result (λ e. e ≡ NoMemory) }
+    {
+        own_source::own_of(alloc, &self.facts, &self.seats, number)
     }
 
     /// The office with these facts and plans, which are good.

@@ -1,0 +1,5 @@
+//! Requests by example, read whole and byte by byte, and answers by example.
+mod answers;
+mod choices;
+mod owns;
+mod targets;

@@ -1,0 +1,64 @@
+//! The own rows of a candidate.
+use exam_office::{Own, OwnSession};
+use exam_rules::{Appeal, Arrangement, Status, Subject};
+use exam_types::{
+    AccessCode, Day, Extra, Features, HallCode, Minute, Name, Number, PaperCode, Reason, Reference,
+    SessionCode, SessionDay, StartTime,
+};
+use std::alloc::Global;
+use std::test::Fail;
+
+/// The candidate 0000001 sits in hall A at desk 1, has a clash, and has appealed against hall B.
+pub fn own_rows(alloc: Global) -> Result<Own, Fail> {
+    let mut sessions = Vec::new(alloc);
+    sessions.push(own_session(alloc)?)?;
+    let mut appeals = Vec::new(alloc);
+    appeals.push((reference(b"HA1")?, open_appeal(alloc)?))?;
+    Ok(Own {
+        number: Number::new(1).ok_or("number")?,
+        name: Name::parse(alloc, b"Bo Berg")?.ok_or("name")?,
+        code: AccessCode::parse(b"CODE0001").ok_or("code")?,
+        sessions,
+        appeals,
+    })
+}
+
+pub fn reference(code: &[u8]) -> Result<Reference, Fail> {
+    Ok(Reference::parse(code).ok_or("reference")?)
+}
+
+fn session() -> Result<SessionCode, Fail> {
+    Ok(SessionCode::parse(b"S1").ok_or("session")?)
+}
+
+fn paper(code: &[u8]) -> Result<PaperCode, Fail> {
+    Ok(PaperCode::parse(code).ok_or("paper")?)
+}
+
+fn own_session(alloc: Global) -> Result<OwnSession, Fail> {
+    Ok(OwnSession {
+        session: session()?,
+        day: SessionDay::parse(b"2027-06-01").ok_or("day")?,
+        start: StartTime::parse(b"09:00").ok_or("start")?,
+        papers: Vec::from_slice(alloc, &[paper(b"MA-1")?, paper(b"PH-2")?])?,
+        sitting: paper(b"MA-1")?,
+        clashes: Vec::from_slice(alloc, &[paper(b"PH-2")?])?,
+        arrangement: Arrangement {
+            needs: Features::none(),
+            extra: Extra::new(0).ok_or("extra")?,
+        },
+        finish: Minute::parse(b"10:00").ok_or("finish")?,
+        hall: HallCode::parse(b"A"),
+        desk: Some(1),
+    })
+}
+
+fn open_appeal(alloc: Global) -> Result<Appeal, Fail> {
+    Ok(Appeal {
+        session: session()?,
+        subject: Subject::Hall(HallCode::parse(b"B").ok_or("hall")?),
+        reason: Reason::parse(alloc, b"")?.ok_or("reason")?,
+        status: Status::Pending,
+        lodged: Day::parse(b"2027-05-30").ok_or("day")?,
+    })
+}

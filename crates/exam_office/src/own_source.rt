@@ -1,0 +1,341 @@
+//! How what the office shows of one candidate is made: from their own rows, and for each of their sessions
+//! from its seats.
+ghost use Rattle.std.specs.Prelude.{◌≡◌, ◌<◌, ◌≤◌, ◌^◌, ℕ, [], Contains, Some, codes, count_by, filter};
+ghost use Rattle.std.specs.Prelude.{length, map, IfOk, IfErr, IsTrue};
+ghost use Rattle.std.specs.Option.{option_map};
+ghost use Rattle.std.specs.BTreeMap.Range.{entries_between};
+ghost use Rattle.std.specs.Ordering.{is_lt, nat_cmp};
+ghost use Rattle.std.specs.declared.ops.Bound.TheVariants.{Unbounded, Excluded};
+ghost use Rattle.exam_types.specs.declared.refusal.Refusal.TheVariants.{NoMemory};
+ghost use Rattle.exam_plan.specs.Matching.{occupants};
+ghost use Rattle.exam_plan.specs.Problems.{most_members};
+ghost use Rattle.exam_rules.specs.Relations.{Code, relations_of, appeal_cmp, entry_cmp, code_cmp, seat_cmp};
+ghost use Rattle.exam_rules.specs.Relations.{row_at, is_row_of, leading, same_code, has_row};
+ghost use Rattle.exam_rules.specs.Orders.{KeysRise};
+ghost use Rattle.exam_rules.specs.Seatings.{seating, plan_of, stands_before, desk_cmp, desk_key};
+ghost use Rattle.exam_rules.specs.Sessions as sessions;
+ghost use Rattle.exam_office.specs.Good.{IsGood};
+ghost use Rattle.exam_office.specs.Headline.{desk_of};
+ghost use Rattle.exam_office.specs.Own as spec;
+
+use crate::office::Seats;
+use crate::own::{Own, OwnSession};
+use exam_rules::{
+    Appeal, Candidate, Entry, Facts, Session, arrangement_in_force, finish, is_member, sitting,
+};
+use exam_types::{HallCode, Number, PaperCode, Reference, Refusal, SessionCode};
+use std::alloc::Global;
+use std::collections::btree_map::Range;
+
+/// What desks are ordered by: the sitting paper, and then the number.
+type DeskKey = (Option<PaperCode>, Number);
+
+/// What a good office shows of the candidate, if there is one with the number.
+pub fn own_of(
+    alloc: Global,
+    facts: &Facts,
+    seats: &Seats,
+    number: Number,
+) -> Result<Option<Own>, Refusal>
+    requires { IsGood (record { relations = relations_of facts.now; seats = seats.now.entries }) }
+    ensures ok { IfOk result (λ own. option_map spec.shown own
+        ≡ spec.own_of (record { relations = relations_of facts.now; seats = seats.now.entries }) number) }
+    ensures memory { IfErr result (λ e. e ≡ NoMemory) }
+{
+    match facts.candidates.get(&number) {
+        Some(row) => Ok(Some(own_rows(alloc, facts, seats, number, row)?)),
+        None => Ok(None),
+    }
+}
+
+fn own_rows(
+    alloc: Global,
+    facts: &Facts,
+    seats: &Seats,
+    number: Number,
+    row: &Candidate,
+) -> Result<Own, Refusal>
+    requires good { IsGood (record { relations = relations_of facts.now; seats = seats.now.entries }) }
+    ensures ok { IfOk result (λ own. spec.shown own
+        ≡ spec.own_rows (record { relations = relations_of facts.now; seats = seats.now.entries }) number
+        row.now) }
+    ensures memory { IfErr result (λ e. e ≡ NoMemory) }
+{
+    Ok(Own {
+        number,
+        name: row.name.copy()?,
+        code: row.code,
+        sessions: own_sessions(alloc, facts, seats, number)?,
+        appeals: own_appeals(alloc, facts, number)?,
+    })
+}
+
+/// The sessions of which the candidate is a member, by code.
+fn own_sessions(
+    alloc: Global,
+    facts: &Facts,
+    seats: &Seats,
+    number: Number,
+) -> Result<Vec<OwnSession>, Refusal>
+    requires good { IsGood (record { relations = relations_of facts.now; seats = seats.now.entries }) }
+    ensures ok { IfOk result (λ sessions. map spec.shown_session sessions.items
+        ≡ spec.own_sessions (record { relations = relations_of facts.now; seats = seats.now.entries })
+        number) }
+    ensures memory { IfErr result (λ e. e ≡ NoMemory) }
+{
+    let mut list = Vec::new(alloc);
+    for (session, row) in &facts.sessions {
+        if is_member(facts, session, number) {
+            list.push(own_session(alloc, facts, seats, number, session, row)?)?;
+        }
+    }
+    Ok(list)
+}
+
+/// The session as its member sees it.
+fn own_session(
+    alloc: Global,
+    facts: &Facts,
+    seats: &Seats,
+    number: Number,
+    session: &SessionCode,
+    row: &Session,
+) -> Result<OwnSession, Refusal>
+    requires good { IsGood (record { relations = relations_of facts.now; seats = seats.now.entries }) }
+    requires known { row_at code_cmp facts.now.sessions.entries session.now ≡ Some row.now }
+    requires member { Contains (sessions.members (relations_of facts.now) session.now) number }
+    ensures ok { IfOk result (λ own. spec.own_session
+        (record { relations = relations_of facts.now; seats = seats.now.entries }) number
+        (session.now, row.now) ≡ Some (spec.shown_session own)) }
+    ensures memory { IfErr result (λ e. e ≡ NoMemory) }
+{
+    let sat = sitting(facts, session, number).unwrap();
+    let papers = live_papers(alloc, facts, session, number)?;
+    let clashes = clash_papers(alloc, &papers, sat)?;
+    let hall = seats.get(&(*session, number)).copied();
+    let end = finish(facts, session, number).unwrap();
+    let arrangement = arrangement_in_force(facts, session, number);
+    let desk = desk(facts, seats, session, number, &hall);
+    Ok(OwnSession {
+        session: *session,
+        day: row.day,
+        start: row.start,
+        papers,
+        sitting: sat,
+        clashes,
+        arrangement,
+        finish: end,
+        hall,
+        desk,
+    })
+}
+
+/// The number of the candidate's desk in the hall where they sit, if they do.
+fn desk(
+    facts: &Facts,
+    seats: &Seats,
+    session: &SessionCode,
+    number: Number,
+    hall: &Option<HallCode>,
+) -> Option<u32>
+    requires good { IsGood (record { relations = relations_of facts.now; seats = seats.now.entries }) }
+    requires known { IsTrue (has_row code_cmp facts.now.sessions.entries session.now) }
+    requires somebody { 0 < length facts.now.candidates.entries }
+    requires hall { hall.now ≡ plan_of seats.now.entries session.now number }
+    ensures { result ≡ desk_of (record { relations = relations_of facts.now; seats = seats.now.entries })
+        session.now number }
+{
+    match hall {
+        Some(hall) => Some(standing_before(facts, seats, session, number, hall) + 1),
+        None => None,
+    }
+}
+
+/// How many of those who sit in the hall stand before the candidate.
+fn standing_before(
+    facts: &Facts,
+    seats: &Seats,
+    session: &SessionCode,
+    number: Number,
+    hall: &HallCode,
+) -> u32
+    requires good { IsGood (record { relations = relations_of facts.now; seats = seats.now.entries }) }
+    requires known { IsTrue (has_row code_cmp facts.now.sessions.entries session.now) }
+    requires somebody { 0 < length facts.now.candidates.entries }
+    ensures count { result ≡ count_by (λ d. stands_before (relations_of facts.now) session.now d number)
+        (occupants (seating (relations_of facts.now) session.now) (plan_of seats.now.entries session.now)
+        hall.now) }
+    ensures most { result ≤ most_members }
+{
+    // That the tables rise is for the proof alone.
+    facts.are_in_order();
+    let own = (sitting(facts, session, number), number);
+    let mut count = 0;
+    for (key, other) in seats_of(facts, seats, session) {
+        if *hall == *other && is_before(facts, session, key.1, &own) {
+            count += 1;
+        }
+    }
+    count
+}
+
+/// Whether the candidate stands before this key in the order of desks.
+fn is_before(facts: &Facts, session: &SessionCode, number: Number, key: &DeskKey) -> bool
+    ensures { result ≡ is_lt (desk_cmp (desk_key (relations_of facts.now) session.now number) key.now) }
+{
+    (sitting(facts, session, number), number) < *key
+}
+
+/// The seats of the session, numbers rising. Who sits is a candidate, so their numbers are from that of the
+/// first candidate to that of the last.
+fn seats_of<'a>(
+    facts: &Facts,
+    seats: &'a Seats,
+    session: &SessionCode,
+) -> Range<'a, (SessionCode, Number), HallCode>
+    requires good { IsGood (record { relations = relations_of facts.now; seats = seats.now.entries }) }
+    requires somebody { 0 < length facts.now.candidates.entries }
+    ensures value { result ≡ filter (λ (seat : (Code × ℕ) × Code). same_code seat.0.0 session.now)
+        seats.now.entries }
+    ensures rising { KeysRise seat_cmp seats.now.entries }
+    ensures fits { length result < 2 ^ 63 }
+{
+    let (first, _) = facts.candidates.first_key_value().unwrap();
+    let (last, _) = facts.candidates.last_key_value().unwrap();
+    seats.range((*session, *first)..=(*session, *last))
+}
+
+/// The papers that are not the one that is sat.
+fn clash_papers(
+    alloc: Global,
+    papers: &[PaperCode],
+    sat: PaperCode,
+) -> Result<Vec<PaperCode>, Refusal>
+    ensures ok { IfOk result (λ clashes. clashes.items
+        ≡ filter (sessions.is_clash (Some sat)) papers.now) }
+    ensures memory { IfErr result (λ e. e ≡ NoMemory) }
+{
+    let clashes = papers
+        .iter()
+        .copied()
+        .filter(|paper| sat != *paper)
+        .collect(alloc)?;
+    Ok(clashes)
+}
+
+/// The candidate's live papers in the session, by code.
+fn live_papers(
+    alloc: Global,
+    facts: &Facts,
+    session: &SessionCode,
+    number: Number,
+) -> Result<Vec<PaperCode>, Refusal>
+    ensures ok { IfOk result (λ papers. papers.items
+        ≡ sessions.live_papers (relations_of facts.now) session.now number) }
+    ensures memory { IfErr result (λ e. e ≡ NoMemory) }
+{
+    let mut papers = Vec::new(alloc);
+    for (key, entry) in entries_from(facts, number) {
+        if key.0 != number {
+            break;
+        }
+        if entry.live && is_paper_of(facts, session, &key.1) {
+            papers.push(key.1)?;
+        }
+    }
+    Ok(papers)
+}
+
+fn is_paper_of(facts: &Facts, session: &SessionCode, paper: &PaperCode) -> bool
+    ensures { result ≡ sessions.is_paper_of (relations_of facts.now) session.now paper.now }
+{
+    match facts.papers.get(paper) {
+        Some(row) => row.session == *session,
+        None => false,
+    }
+}
+
+/// The entries from the candidate's first on; those of later numbers follow.
+fn entries_from<'a>(facts: &'a Facts, number: Number) -> Range<'a, (Number, PaperCode), Entry>
+    // The rows that stand together are all that count for the candidate.
+    ensures { (s : Code)
+        → sessions.live_papers_in (relations_of facts.now) (leading (is_row_of number) result) s number
+        ≡ sessions.live_papers (relations_of facts.now) s number }
+{
+    let least = least_paper();
+    no_entry_before(facts, number, least);
+    facts.entries.range((number, least)..)
+}
+
+/// No entry of the candidate stands before the least key. For the proof of `entries_from` alone.
+fn no_entry_before(facts: &Facts, number: Number, least: PaperCode)
+    requires { least ≡ codes "-" }
+    ensures { filter (is_row_of number)
+        (entries_between entry_cmp Unbounded (Excluded (number, least)) facts.now.entries.entries) ≡ [] }
+{
+    match facts.entries.range(..(number, least)).next_back() {
+        Some((key, _)) => {
+            // What a code is made of shows that none is less, so the row before is of another candidate.
+            let _code = key.1.as_bytes();
+        }
+        None => {}
+    }
+}
+
+/// The least paper code, by which a candidate's entries begin.
+fn least_paper() -> PaperCode
+    ensures { result ≡ codes "-" }
+{
+    PaperCode::parse(b"-").unwrap()
+}
+
+/// The candidate's appeals, by reference.
+fn own_appeals(
+    alloc: Global,
+    facts: &Facts,
+    number: Number,
+) -> Result<Vec<(Reference, Appeal)>, Refusal>
+    ensures ok { IfOk result (λ appeals. appeals.items ≡ spec.own_appeals (relations_of facts.now) number) }
+    ensures memory { IfErr result (λ e. e ≡ NoMemory) }
+{
+    let mut appeals = Vec::new(alloc);
+    for (key, appeal) in appeals_from(facts, number) {
+        if key.0 != number {
+            break;
+        }
+        appeals.push((key.1, appeal.clone()?))?;
+    }
+    Ok(appeals)
+}
+
+/// The appeals from the candidate's first on; those of later numbers follow.
+fn appeals_from<'a>(facts: &'a Facts, number: Number) -> Range<'a, (Number, Reference), Appeal>
+    // The rows that stand together are all of the candidate's.
+    ensures { leading (is_row_of number) result ≡ filter (is_row_of number) facts.now.appeals.entries }
+{
+    let least = least_reference();
+    no_appeal_before(facts, number, least);
+    facts.appeals.range((number, least)..)
+}
+
+/// No appeal of the candidate stands before the least key. For the proof of `appeals_from` alone.
+fn no_appeal_before(facts: &Facts, number: Number, least: Reference)
+    requires { least ≡ codes "0" }
+    ensures { filter (is_row_of number)
+        (entries_between appeal_cmp Unbounded (Excluded (number, least)) facts.now.appeals.entries) ≡ [] }
+{
+    match facts.appeals.range(..(number, least)).next_back() {
+        Some((key, _)) => {
+            // What a reference is made of shows that none is less, so the row before is of another candidate.
+            let _reference = key.1.as_bytes();
+        }
+        None => {}
+    }
+}
+
+/// The least reference, by which a candidate's appeals begin.
+fn least_reference() -> Reference
+    ensures { result ≡ codes "0" }
+{
+    Reference::parse(b"0").unwrap()
+}
