@@ -1,32 +1,8 @@
-//! The candidate view's HTTP: what a request asks, and the bytes of an answer.
+//! The candidate's view over HTTP: one request after the other, over an office in a database.
 #![tactic(auto)]
 
-mod answers;
-mod choice;
-mod fault;
-mod head;
-mod laws;
-mod lines;
-mod methods;
-mod objects;
-mod own_bodies;
-mod posted;
-mod reading;
-mod routes;
-mod secret;
-mod sending;
-mod status;
-mod words;
+mod answering;
+mod serving;
 
-pub use answers::{Answer, write_answer};
-pub use choice::{Choice, candidate_of, choose};
-pub use fault::Fault;
-pub use laws::requests_ask_one_thing;
-pub use own_bodies::{appeals_body, clashes_body, seats_body};
-pub use posted::{Posted, posted_in};
-pub use reading::{Asked, ReadFailed, read_request};
-pub use routes::{Found, Place, find, server_routes};
-pub use sending::WriteFailed;
-
-#[cfg(test)]
-mod tests;
+pub use answering::answer;
+pub use serving::{HttpFault, serve_one};

@@ -1,0 +1,16 @@
+pub mod Adding
+pub mod Bodies
+pub mod Cuts
+pub mod Extras
+pub mod Finding
+pub mod FoundRoutes
+pub mod Founds
+pub mod Heads
+pub mod InHand
+pub mod Members
+pub mod Once
+pub mod Readings
+pub mod Secrets
+pub mod Sent
+pub mod Tables
+pub mod Walking

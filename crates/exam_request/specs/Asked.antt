@@ -1,0 +1,74 @@
+-- What a request asks, as its bytes say.
+use Rattle.std.specs.Prelude.{◌≡◌, ◌+◌, ◌≤◌, ℕ, List, length, take, drop, Option, option_map, Result, Ok, Err, IfSome, MatchResult, nat_lt, ⊤, if◌then◌else◌}
+use Rattle.exam_request.specs.Head.{Judges, LiesIn, Said, said_at}
+use Rattle.exam_request.specs.Input.{head_of}
+use Rattle.exam_request.specs.declared.fault.Fault.{Fault}
+use Rattle.exam_request.specs.declared.fault.Fault.TheVariants.{Length}
+use Rattle.exam_request.specs.declared.reading.Asked.{Asked}
+use Rattle.exam_request.specs.declared.reading.Message.{Message}
+use Rattle.exam_request.specs.declared.reading.ReadFailed.{ReadFailed}
+use Rattle.exam_request.specs.declared.reading.Stop.{Stop}
+use Rattle.exam_request.specs.declared.reading.Stop.TheVariants.{Failed, Faulty}
+
+-- A request: its method, its target, the value of its one access code line, and its body.
+pub record Request : Type 0 where
+  pub method : List ℕ
+  pub target : List ℕ
+  pub code : Option (List ℕ)
+  pub body : List ℕ
+
+-- what a head says, with this body
+abbrev pub request_with : Said → List ℕ → Request
+request_with said body = record {
+  method = said.method;
+  target = said.target;
+  code = said.code;
+  body = body;
+}
+
+-- the body is the next bytes, of which there must be as many as the head says
+abbrev pub asked_with : List ℕ → Result Said Fault → Result Request Fault
+asked_with rest (Err fault) = Err fault
+asked_with rest (Ok said) =
+    if nat_lt (length rest) said.body_length then Err Length
+    else Ok (request_with said (take said.body_length rest))
+
+-- what an input asks: the fault of its head, or what its head says with the body behind it
+abbrev pub Asks : List ℕ → Result Request Fault → Type 0
+Asks input answer = MatchResult (head_of input)
+    (λ p. (said : Result Said Fault) × Judges p.0 said × (answer ≡ asked_with p.1 said))
+    (λ fault. answer ≡ Err fault)
+
+-- the parts of a request that a caller is handed
+abbrev pub request_of : Asked → Request
+request_of asked = record {
+  method = asked.method.now;
+  target = asked.target.now;
+  code = option_map (λ c. c.now) asked.code;
+  body = asked.body.now;
+}
+
+-- where the bytes of the reader are known, the answer is what they ask
+abbrev pub AnswersInput : Option (List ℕ) → Result (Result Asked Fault) ReadFailed → Type 0
+AnswersInput input (Err failed) = ⊤
+AnswersInput input (Ok (Ok asked)) = IfSome input (λ bytes. Asks bytes (Ok (request_of asked)))
+AnswersInput input (Ok (Err fault)) = IfSome input (λ bytes. Asks bytes (Err fault))
+
+-- Where a request lies in a buffer.
+
+-- the head stands first, and the body behind it
+abbrev pub request_at : List ℕ → Message → Request
+request_at buffer m =
+    request_with (said_at (take m.head buffer) m.spans) (take m.spans.body_length (drop m.head buffer))
+
+-- its parts lie in the buffer
+pub record MessageLiesIn (buffer : List ℕ) (m : Message) : Type 0 where
+  pub within : m.head + m.spans.body_length ≤ length buffer
+  pub parts : LiesIn (take m.head buffer) m.spans
+
+-- where the input is known, the message in the buffer is what it asks, and a fault is its own
+abbrev pub FindsMessage : Option (List ℕ) → List ℕ → Result Message Stop → Type 0
+FindsMessage old buffer (Ok m) =
+    MessageLiesIn buffer m × IfSome old (λ input. Asks input (Ok (request_at buffer m)))
+FindsMessage old buffer (Err Failed) = ⊤
+FindsMessage old buffer (Err (Faulty fault)) = IfSome old (λ input. Asks input (Err fault))

@@ -1,0 +1,101 @@
+-- The bodies that show a candidate their own rows: members stand in rising byte order of their names.
+use Rattle.std.specs.Prelude.{ℕ, List, [], ◌∷◌, ◌++◌, Option, Some, None, codes, decimal, map}
+use Rattle.std.specs.List.{flat_map}
+use Rattle.exam_office.specs.Appeals.{state_of}
+use Rattle.exam_rules.specs.Relations.{Code}
+use Rattle.exam_rules.specs.declared.rows.Appeal.{Appeal}
+use Rattle.exam_rules.specs.declared.rows.Arrangement.{Arrangement}
+use Rattle.exam_rules.specs.declared.rows.Status.{Status}
+use Rattle.exam_rules.specs.declared.rows.Status.TheVariants as status
+use Rattle.exam_rules.specs.declared.rows.Subject.{Subject}
+use Rattle.exam_rules.specs.declared.rows.Subject.TheVariants as subject
+use Rattle.exam_types.specs.Days.{day_text}
+use Rattle.exam_types.specs.Features.{features_text}
+use Rattle.exam_types.specs.Numbers.{minute_text}
+use Rattle.exam_request.specs.Json.{list_body, object_text, number, or_null, text}
+use Rattle.exam_office.specs.Own.{OwnRows, OwnSessionRow}
+use Rattle.exam_request.specs.declared.own_bodies.MissedPaper.{MissedPaper}
+use Rattle.exam_request.specs.Words.{kind_word, state_word}
+
+-- ---- seats
+
+-- a session of the candidate, with their place in it
+unfoldable pub seat_text : OwnSessionRow → List ℕ
+seat_text own = object_text (
+    (codes "date", text (day_text own.day))
+    ∷ (codes "desk", or_null number own.desk)
+    ∷ (codes "extra", number own.arrangement.extra)
+    ∷ (codes "finish", text (minute_text own.finish))
+    ∷ (codes "hall", or_null text own.hall)
+    ∷ (codes "needs", text (features_text own.arrangement.needs))
+    ∷ (codes "paper", text own.sitting)
+    ∷ (codes "session", text own.session)
+    ∷ (codes "start", text (minute_text own.start))
+    ∷ [])
+
+-- all of the candidate's sessions, by code
+abbrev pub seats_body : OwnRows → List ℕ
+seats_body own = list_body (codes "seats") seat_text own.sessions
+
+-- ---- clashes
+
+-- a live paper that the candidate does not sit, its session, and the paper that they sit there
+unfoldable pub clash_text : MissedPaper → List ℕ
+clash_text missed = object_text (
+    (codes "paper", text missed.paper)
+    ∷ (codes "session", text missed.session)
+    ∷ (codes "sitting", text missed.sitting)
+    ∷ [])
+
+-- a paper that the candidate does not sit in a session
+abbrev pub missed_paper : OwnSessionRow → Code → MissedPaper
+missed_paper own paper = record { paper = paper; session = own.session; sitting = own.sitting }
+
+-- the papers that the candidate does not sit in a session, by code
+abbrev pub missed_in : OwnSessionRow → List MissedPaper
+missed_in own = map (missed_paper own) own.clashes
+
+-- all of them, by session and paper
+abbrev pub missed_papers : OwnRows → List MissedPaper
+missed_papers own = flat_map missed_in own.sessions
+
+-- all that the candidate does not sit, by session and paper
+abbrev pub clashes_body : OwnRows → List ℕ
+clashes_body own = list_body (codes "clashes") clash_text (missed_papers own)
+
+-- ---- appeals
+
+-- the reason of the decision, where there was one
+abbrev pub decision_reason : Status → Option (List ℕ)
+decision_reason status.Pending = None
+decision_reason (status.Granted answer) = Some answer
+decision_reason (status.Refused answer) = Some answer
+decision_reason status.Retracted = None
+decision_reason (status.Superseded answer) = Some answer
+
+-- the needs, a space and the extra time
+abbrev pub arrangement_text : Arrangement → List ℕ
+arrangement_text asked = features_text asked.needs ++ (codes " " ++ decimal asked.extra)
+
+-- the hall, the paper, or the needs and the extra time
+abbrev pub subject_text : Subject → List ℕ
+subject_text (subject.Hall hall) = hall
+subject_text (subject.Clash paper) = paper
+subject_text (subject.Arrangement asked) = arrangement_text asked
+
+-- an appeal under its reference
+unfoldable pub appeal_text : Code × Appeal → List ℕ
+appeal_text own = object_text (
+    (codes "answer", or_null text (decision_reason own.1.status))
+    ∷ (codes "kind", text (kind_word own.1.subject))
+    ∷ (codes "lodged", text (day_text own.1.lodged))
+    ∷ (codes "reason", text own.1.reason)
+    ∷ (codes "ref", text own.0)
+    ∷ (codes "session", text own.1.session)
+    ∷ (codes "state", text (state_word (state_of own.1.status)))
+    ∷ (codes "subject", text (subject_text own.1.subject))
+    ∷ [])
+
+-- all of the candidate's appeals, by reference
+abbrev pub appeals_body : OwnRows → List ℕ
+appeals_body own = list_body (codes "appeals") appeal_text own.appeals

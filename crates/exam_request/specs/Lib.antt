@@ -1,0 +1,17 @@
+pub mod Answer
+pub mod Asked
+pub mod Bodies
+pub mod Choices
+pub mod Faults
+pub mod Head
+pub mod Input
+pub mod Json
+pub mod Members
+pub mod Methods
+pub mod Posted
+pub mod SeatRows
+pub mod Sending
+pub mod Table
+pub mod Targets
+pub mod Words
+pub mod Written

@@ -1,0 +1,232 @@
+//! Answers. A head and a short body take no memory, and cannot fail.
+ghost use Rattle.std.specs.Prelude.{◌≡◌, ◌≤◌, ◌+◌, ◌++◌, IfOk, IfErr, OnOk, OnErr, codes, decimal, length};
+ghost use Rattle.std.specs.Io.KnownBytes.{Appends};
+ghost use Rattle.arrayvec.specs.ArrayVec.{array_vec_len};
+ghost use Rattle.exam_types.specs.declared.refusal.Refusal.TheVariants.{NoMemory};
+ghost use Rattle.exam_request.specs.Answer as spec;
+ghost use Rattle.exam_request.specs.Sending.{AppendsBeginning};
+ghost use Rattle.exam_request.specs.Written.{body_bytes};
+
+use crate::methods::allowed;
+use crate::objects::{Member, push_object};
+use crate::routes::Place;
+use crate::sending::{WriteFailed, send_both};
+use crate::status::{phrase_of, status_of};
+use crate::words::state_word;
+use arrayvec::ArrayVec;
+use exam_office::AppealState;
+use exam_types::{Day, Refusal};
+use http::StatusCode;
+use itoa::Buffer;
+use std::alloc::Global;
+use std::io::Write;
+use std::marker::Model;
+
+/// A text of at most 256 bytes, which takes no memory.
+type Short = ArrayVec<u8, 256>;
+
+/// The body of an answer.
+#[derive(Drop)]
+enum Body {
+    Short(Short),
+    Long(Vec<u8>),
+}
+
+impl Body {
+    fn bytes(&self) -> &[u8]
+        ensures { result.now ≡ body_bytes self.now }
+    {
+        match self {
+            Body::Short(text) => text.as_slice(),
+            Body::Long(text) => text.as_slice(),
+        }
+    }
+}
+
+/// An answer. Contracts see what it tells.
+#[derive(Drop)]
+pub struct Answer {
+    status: StatusCode,
+    allow: Option<Place>,
+    body: Body,
+}
+
+impl Model for Answer {
+    ghost use Rattle.exam_request.specs.Answer.{Told};
+    ghost use Rattle.exam_request.specs.Written.{body_bytes};
+
+    ghost Value = { Told };
+
+    ghost view = { λ a. record { status = a.status; allow = a.allow; body = body_bytes a.body } };
+}
+
+impl Answer {
+    /// An answer 200 with this body.
+    pub fn ok(body: Vec<u8>) -> Answer
+        ensures { result ≡ spec.ok_told body.items }
+    {
+        Answer {
+            status: StatusCode::OK,
+            allow: None,
+            body: Body::Long(body),
+        }
+    }
+
+    /// The answer to a refusal or a fault by its number alone.
+    pub fn error(number: u16) -> Answer
+        ensures { result ≡ spec.error_told number }
+    {
+        Answer {
+            status: status_of(number),
+            allow: None,
+            body: Body::Short(error_body(number)),
+        }
+    }
+
+    /// The answer to a method that is none of the route's.
+    pub fn other_method(place: Place) -> Answer
+        ensures { result ≡ spec.method_told place }
+    {
+        Answer {
+            status: StatusCode::METHOD_NOT_ALLOWED,
+            allow: Some(place),
+            body: Body::Short(error_body(38)),
+        }
+    }
+
+    /// The answer to an accepted lodging or retraction.
+    pub fn state(state: AppealState) -> Answer
+        ensures { result ≡ spec.state_told state }
+    {
+        let mut body = Short::new();
+        put(&mut body, b"{\"state\":\"");
+        put(&mut body, state_word(state));
+        put(&mut body, b"\"}");
+        Answer {
+            status: StatusCode::OK,
+            allow: None,
+            body: Body::Short(body),
+        }
+    }
+
+    /// The answer to a refusal. That of a last day takes memory: where it is short, want of it is the answer.
+    pub fn refusal(alloc: Global, refusal: Refusal) -> Answer
+        ensures { spec.TellsRefusal refusal result }
+    {
+        match refusal {
+            Refusal::PastClosing { day } => match Answer::closing(alloc, day) {
+                Ok(answer) => answer,
+                Err(short) => Answer::error(short.number()),
+            },
+            other => Answer::error(other.number()),
+        }
+    }
+
+    /// The answer to a lodging after this last day.
+    fn closing(alloc: Global, day: Day) -> Result<Answer, Refusal>
+        ensures ok { IfOk result (λ a. a ≡ spec.closing_told day) }
+        ensures memory { IfErr result (λ e. e ≡ NoMemory) }
+    {
+        let mut text = Vec::new(alloc);
+        day.write_to(&mut text)?;
+        let mut body = Vec::new(alloc);
+        push_object(
+            &mut body,
+            &[Member::text(b"day", &text), Member::number(b"error", 13)],
+        )?;
+        Ok(Answer {
+            status: StatusCode::CONFLICT,
+            allow: None,
+            body: Body::Long(body),
+        })
+    }
+}
+
+/// Writes the answer: its head, then its body.
+pub fn write_answer<W: Write>(answer: &Answer, writer: &mut W) -> Result<(), WriteFailed>
+    ensures ok { OnOk result
+        (Appends (W.contents writer.old) (W.contents writer.new) (spec.answer_text answer.now)) }
+    ensures err { OnErr result
+        (AppendsBeginning (W.contents writer.old) (W.contents writer.new) (spec.answer_text answer.now)) }
+{
+    let body = answer.body.bytes();
+    let head = head(answer.status, answer.allow, body.len());
+    send_both(writer, head.as_slice(), body)
+}
+
+/// The head of an answer with a body of this length.
+fn head(status: StatusCode, allow: Option<Place>, count: usize) -> Short
+    ensures { result.items ≡ spec.head_text status allow count }
+{
+    let mut out = Short::new();
+    put_status_line(&mut out, status);
+    put_header(&mut out, b"Content-Type", b"application/json");
+    put_length(&mut out, count);
+    put_allow(&mut out, allow);
+    put_header(&mut out, b"Connection", b"close");
+    put(&mut out, b"\r\n");
+    out
+}
+
+fn put_status_line(out: &mut Short, status: StatusCode)
+    requires { array_vec_len out.old + 36 ≤ 256 }
+    ensures text { out.new.items ≡ out.old.items ++ spec.status_line status }
+    ensures len { array_vec_len out.new ≤ array_vec_len out.old + 36 }
+{
+    put(out, b"HTTP/1.1 ");
+    put(out, status.as_str().as_bytes());
+    put(out, b" ");
+    put(out, phrase_of(status));
+    put(out, b"\r\n");
+}
+
+fn put_length(out: &mut Short, count: usize)
+    requires { array_vec_len out.old + 38 ≤ 256 }
+    ensures text { out.new.items ≡ out.old.items ++ spec.header_line (codes "Content-Length") (decimal count) }
+    ensures len { array_vec_len out.new ≤ array_vec_len out.old + 38 }
+{
+    let mut buffer = Buffer::new();
+    put_header(out, b"Content-Length", buffer.format(count).as_bytes());
+}
+
+fn put_allow(out: &mut Short, allow: Option<Place>)
+    requires { array_vec_len out.old + 18 ≤ 256 }
+    ensures text { out.new.items ≡ out.old.items ++ spec.allow_line allow }
+    ensures len { array_vec_len out.new ≤ array_vec_len out.old + 18 }
+{
+    if let Some(place) = allow {
+        put_header(out, b"Allow", allowed(place));
+    }
+}
+
+fn put_header(out: &mut Short, name: &[u8], value: &[u8])
+    requires { array_vec_len out.old + length name.now + length value.now + 4 ≤ 256 }
+    ensures text { out.new.items ≡ out.old.items ++ spec.header_line name.now value.now }
+    ensures len { array_vec_len out.new ≡ array_vec_len out.old + length name.now + length value.now + 4 }
+{
+    put(out, name);
+    put(out, b": ");
+    put(out, value);
+    put(out, b"\r\n");
+}
+
+fn error_body(number: u16) -> Short
+    ensures { result.items ≡ spec.error_body number }
+{
+    let mut body = Short::new();
+    let mut buffer = Buffer::new();
+    put(&mut body, b"{\"error\":");
+    put(&mut body, buffer.format(number).as_bytes());
+    put(&mut body, b"}");
+    body
+}
+
+fn put(out: &mut Short, bytes: &[u8])
+    requires { array_vec_len out.old + length bytes.now ≤ 256 }
+    ensures text { out.new.items ≡ out.old.items ++ bytes.now }
+    ensures len { array_vec_len out.new ≡ array_vec_len out.old + length bytes.now }
+{
+    for b in bytes {
+        out.push(*b);
+    }
+}

@@ -1,0 +1,167 @@
+//! A request, read up to the end of its body and no further.
+ghost use Rattle.std.specs.Prelude.{◌≡◌, ◌≤◌, ◌<◌, length, IfSome, option_map};
+ghost use Rattle.httparse.specs.Spans.{IsWithin, span_bytes};
+ghost use Rattle.exam_request.specs.Asked as asked;
+ghost use Rattle.exam_request.specs.Input as spec;
+ghost use Rattle.exam_request.specs.declared.reading.Stop.TheVariants.{Faulty};
+
+use crate::fault::Fault;
+use crate::head::{HeadSpans, judge};
+use httparse::spans::Span;
+use std::io::Read;
+use std::str;
+use thiserror::Error;
+
+/// The length of the longest head.
+const MOST_HEAD: usize = 8_192;
+
+/// What ends a head.
+const EMPTY_LINE: &[u8] = b"\r\n\r\n";
+
+/// What a request asks.
+#[derive(Clone, Copy)]
+pub struct Asked<'b> {
+    pub method: &'b [u8],
+    pub target: &'b str,
+    /// The value of the access code line, where there is exactly one.
+    pub code: Option<&'b [u8]>,
+    pub body: &'b [u8],
+}
+
+/// A read failed, so it is not known what was asked.
+#[derive(Clone, Copy, Debug, PartialEq, Eq, Error)]
+#[error("a read failed")]
+pub struct ReadFailed;
+
+/// Why the reading stopped.
+#[derive(Clone, Copy, Debug, PartialEq, Eq)]
+pub enum Stop {
+    Failed,
+    Faulty(Fault),
+}
+
+impl From<Fault> for Stop {
+    ghost from_gives = { λ fault stop. stop ≡ Faulty fault };
+
+    fn from(fault: Fault) -> Stop {
+        Stop::Faulty(fault)
+    }
+}
+
+/// Where a request lies in the buffer: the head first, and the body behind it.
+#[derive(Clone, Copy)]
+pub struct Message {
+    pub head: usize,
+    pub spans: HeadSpans,
+}
+
+/// Reads one request into the buffer. No read is made once its bytes are in hand, and what follows it in the
+/// buffer is not looked at.
+pub fn read_request<'b, R: Read>(
+    reader: &mut R,
+    buffer: &'b mut [u8],
+) -> Result<Result<Asked<'b>, Fault>, ReadFailed>
+    requires room { 12288 ≤ length buffer.old }
+    ensures answer { asked.AnswersInput (R.remaining reader.old) result }
+    ensures bound { spec.GaveAtMost 12288 (R.remaining reader.old) (R.remaining reader.new) }
+{
+    match read_message(reader, buffer) {
+        Ok(message) => Ok(Ok(asked_in(buffer, message))),
+        Err(Stop::Faulty(fault)) => Ok(Err(fault)),
+        Err(Stop::Failed) => Err(ReadFailed),
+    }
+}
+
+/// The parts of a message.
+fn asked_in<'b>(buffer: &'b [u8], message: Message) -> Asked<'b>
+    requires { asked.MessageLiesIn buffer.now message }
+    ensures { asked.request_of result ≡ asked.request_at buffer.now message }
+{
+    let (head, rest) = buffer.split_at(message.head);
+    let spans = message.spans;
+    Asked {
+        method: spans.method.of(head),
+        target: str::from_utf8(spans.target.of(head)).unwrap_or(""),
+        code: code_in(head, spans.code),
+        body: &rest[..spans.body_length],
+    }
+}
+
+/// Reads a head and its body.
+fn read_message<R: Read>(reader: &mut R, buffer: &mut [u8]) -> Result<Message, Stop>
+    requires room { 12288 ≤ length buffer.old }
+    ensures finds { asked.FindsMessage (R.remaining reader.old) buffer.new result }
+    ensures bound { spec.GaveAtMost 12288 (R.remaining reader.old) (R.remaining reader.new) }
+{
+    let (head, mut filled) = read_head(reader, buffer)?;
+    let spans = judge(&buffer[..head])?;
+    let end = head + spans.body_length;
+    while filled < end {
+        let total = read_more(reader, buffer, filled, end)?;
+        if total == filled {
+            return Err(Stop::Faulty(Fault::Length));
+        }
+        filled = total;
+    }
+    Ok(Message { head, spans })
+}
+
+/// Reads until the end of the head is in hand. Answers its length and how many bytes are in hand.
+fn read_head<R: Read>(reader: &mut R, buffer: &mut [u8]) -> Result<(usize, usize), Stop>
+    requires { 8192 ≤ length buffer.old }
+    ensures head { spec.ReadsHead (R.remaining reader.old) (R.remaining reader.new) buffer.new result }
+    ensures bound { spec.GaveAtMost 8192 (R.remaining reader.old) (R.remaining reader.new) }
+{
+    let mut filled = 0;
+    while filled < MOST_HEAD {
+        let total = read_more(reader, buffer, filled, MOST_HEAD)?;
+        if total == filled {
+            return Err(Stop::Faulty(Fault::Head));
+        }
+        filled = total;
+        if let Some(head) = head_length(&buffer[..filled]) {
+            return Ok((head, filled));
+        }
+    }
+    Err(Stop::Faulty(Fault::Size))
+}
+
+/// How many bytes end with the first empty line.
+fn head_length(bytes: &[u8]) -> Option<usize>
+    ensures { result ≡ spec.head_len bytes.now }
+{
+    let mut rest = bytes;
+    let mut passed = 0;
+    while !rest.is_empty() {
+        if rest.starts_with(EMPTY_LINE) {
+            return Some(passed + 4);
+        }
+        rest = &rest[1..];
+        passed += 1;
+    }
+    None
+}
+
+/// One read behind the bytes in hand, and how many there are then: as many as before at the end of the input.
+fn read_more<R: Read>(
+    reader: &mut R,
+    buffer: &mut [u8],
+    filled: usize,
+    end: usize,
+) -> Result<usize, Stop>
+    requires room { filled < end }
+    requires within { end ≤ length buffer.old }
+    ensures { spec.ReadsMore (R.remaining reader.old) (R.remaining reader.new) buffer.old buffer.new filled end result }
+{
+    match reader.read(&mut buffer[filled..end]) {
+        Ok(count) => Ok(filled + count),
+        Err(_) => Err(Stop::Failed),
+    }
+}
+
+fn code_in<'b>(head: &'b [u8], place: Option<Span>) -> Option<&'b [u8]>
+    requires { IfSome place (IsWithin (length head.now)) }
+    ensures { option_map (λ c. c.now) result ≡ option_map (span_bytes head.now) place }
+{
+    Some(place?.of(head))
+}

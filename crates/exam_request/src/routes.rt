@@ -1,0 +1,112 @@
+//! Which route a target has, and the parts of the target that stand for its names.
+ghost use Rattle.std.specs.Prelude.{◌≡◌, ◌↔◌, ◌≤◌, length, IfErr, IfOk, OnOk, List, Some, drop};
+ghost use Rattle.std.specs.Prelude.{option_map, ℕ};
+ghost use Rattle.matchit.specs.declared.error.InsertError.TheVariants.{OutOfMemory};
+ghost use Rattle.exam_request.specs.Table.{IsFree, table, with_route};
+ghost use Rattle.exam_request.specs.Targets.{HasParts, Target, part, reading, reference_in, shown};
+ghost use Rattle.exam_request.specs.Targets.{target_text};
+ghost use Rattle.matchit.specs.Level.{IsText};
+ghost use Rattle.matchit.specs.Seek.{first};
+
+use matchit::{InsertError, Router};
+use std::alloc::Global;
+
+/// A route of the server.
+#[derive(Clone, Copy, Debug, PartialEq, Eq)]
+pub enum Place {
+    Seats,
+    Clashes,
+    Appeals,
+    Appeal,
+}
+
+/// The route of a target with its number, and with its reference, which is empty where the route has none.
+#[derive(Clone, Copy)]
+pub struct Found<'t> {
+    pub place: Place,
+    pub number: &'t [u8],
+    pub reference: &'t [u8],
+}
+
+/// One more route, where it conflicts with none.
+fn add(router: &mut Router<Place>, route: &str, place: Place) -> Result<(), InsertError>
+    requires { IsFree route.now router.old }
+    ensures rows { OnOk result (router.new ≡ with_route route.now place router.old) }
+    ensures memory { IfErr result (λ e. e ≡ OutOfMemory) }
+{
+    router.insert(route, place)
+}
+
+/// The routes of the server.
+pub fn server_routes(alloc: Global) -> Result<Router<Place>, InsertError>
+    ensures table { IfOk result (λ r. r ≡ table) }
+    ensures memory { IfErr result (λ e. e ≡ OutOfMemory) }
+{
+    let mut router = Router::new(alloc);
+    add(&mut router, "/candidates/{number}/seats", Place::Seats)?;
+    add(&mut router, "/candidates/{number}/clashes", Place::Clashes)?;
+    add(&mut router, "/candidates/{number}/appeals", Place::Appeals)?;
+    add(
+        &mut router,
+        "/candidates/{number}/appeals/{ref}",
+        Place::Appeal,
+    )?;
+    Ok(router)
+}
+
+/// The bytes from a place up to the next slash.
+fn part_at(bytes: &[u8], start: usize) -> &[u8]
+    ensures value { result.now ≡ part (drop start bytes.now) }
+    ensures within { length result.now ≤ length bytes.now }
+{
+    let rest = bytes.get(start..).unwrap_or(b"");
+    let mut end = 0;
+    for b in rest {
+        if *b == b'/' {
+            return &rest[..end];
+        }
+        end += 1;
+    }
+    rest
+}
+
+/// The reference behind a number of this length, or nothing where the route has none.
+fn reference_at(place: Place, bytes: &[u8], number: usize) -> &[u8]
+    requires { number ≤ length bytes.now }
+    ensures { result.now ≡ reference_in place number bytes.now }
+{
+    match place {
+        Place::Appeal => part_at(bytes, number + 21),
+        _ => b"",
+    }
+}
+
+/// What a target says.
+pub fn find<'t>(router: &Router<Place>, target: &'t str) -> Option<Found<'t>>
+    requires { router.now ≡ table }
+    ensures { option_map shown result ≡ reading target.now }
+{
+    let Ok(found) = router.at(target) else {
+        return None;
+    };
+    let place = *found.value;
+    let bytes = target.as_bytes();
+    let number = part_at(bytes, 12);
+    Some(Found {
+        place,
+        number,
+        reference: reference_at(place, bytes, number.len()),
+    })
+}
+
+/// What the router keeps finds what the reading says, and nothing else.
+pub fn routes_read()
+    ensures { (target : List ℕ) → IsText target
+        → option_map (λ r. r.value) (first table target) ≡ option_map (λ t. t.place) (reading target) }
+{}
+
+/// A reading is the parts of the target's text, each of one or more bytes without a slash, and each such text is read.
+pub fn reading_is_exact()
+    ensures { (target : List ℕ) (t : Target)
+        → (reading target ≡ Some t) ↔ (HasParts t × (target ≡ target_text t)) }
+{}
