@@ -59,8 +59,8 @@ RefusesOne writes db =
     (done : List Write) × (next : Write) × (rest : List Write) × (writes ≡ done ++ next ∷ rest)
     × (at : Database) × Becomes done db at × Refuses at next.sql next.params
 
--- Why a change is not made: there is no memory, or a call of the disk failed, the connection was shut, or what
--- stands against this change.
+-- Why a change is not made: there is no memory, or a call of the disk failed, the connection was shut, or this
+-- stands against it.
 abbrev pub FailsFor : Type 0 → State → State → Refusal → Type 0
 FailsFor Against old new e = (e ≡ NoMemory) ⊎ ((e ≡ Store) × (IsDown old new ⊎ Against))
 

@@ -14,6 +14,7 @@ ghost use Rattle.exam_store.specs.Faults.{is_store_refusal};
 ghost use Rattle.exam_store.specs.Found.{Finds, FindsNone, MakesEmpty};
 ghost use Rattle.exam_store.specs.Inside.{IsOurs};
 ghost use Rattle.exam_store.specs.Kept.{IsSound, IsKept, Rekeeps, Commits};
+ghost use Rattle.exam_store.specs.Loaded.{IsLeft, OnlyReads};
 ghost use Rattle.exam_store.specs.Versions.{FailsToCreate, IsBlank};
 
 use crate::loading::load_office;
@@ -88,7 +89,9 @@ impl<S: Alter> Store<S> {
             → FailsToCreate (state S.Store conn) (state S.Store e.1) e.0) }
         ensures refusal { IfErr result (λ e. HasCleanDisk (state S.Store e.1)
             → (IsBlank (state S.Store conn).now → ⊥) → ((e.0 ≡ Refusal.Store) × IsTrue e.1.in_transaction)
-            ⊎ FindsNone S.Store (state S.Store conn) e.1 e.0) }
+            ⊎ FindsNone S.Store conn e.1 e.0) }
+        ensures same { IfErr result (λ e. HasCleanDisk (state S.Store e.1)
+            → (IsBlank (state S.Store conn).now → ⊥) → IsLeft (state S.Store conn) (state S.Store e.1)) }
         ensures told { IfErr result (λ e. IsTrue (is_store_refusal e.0)) }
     {
         match create_office(alloc, &mut conn) {
@@ -107,7 +110,9 @@ impl<S: Alter> Store<S> {
             Finds (state S.Store conn) (state S.Store store.database) store.office) }
         ensures refusal { IfErr result (λ e. HasCleanDisk (state S.Store e.1)
             → ((e.0 ≡ Refusal.Store) × IsTrue e.1.in_transaction)
-            ⊎ FindsNone S.Store (state S.Store conn) e.1 e.0) }
+            ⊎ FindsNone S.Store conn e.1 e.0) }
+        ensures same { IfErr result (λ e. HasCleanDisk (state S.Store e.1)
+            → IsLeft (state S.Store conn) (state S.Store e.1)) }
         ensures told { IfErr result (λ e. IsTrue (is_store_refusal e.0)) }
     {
         match load_kept(alloc, &mut conn) {
@@ -221,7 +226,9 @@ fn create_office<S: Alter>(alloc: Global, conn: &mut Connection<S>) -> Result<Of
     ensures blank { HasCleanDisk (state S.Store conn.new) → IsBlank (state S.Store conn.old).now
         → IfErr result (FailsToCreate (state S.Store conn.old) (state S.Store conn.new)) }
     ensures refusal { HasCleanDisk (state S.Store conn.new) → (IsBlank (state S.Store conn.old).now → ⊥)
-        → IfErr result (FindsNone S.Store (state S.Store conn.old) conn.new) }
+        → IfErr result (FindsNone S.Store conn.old conn.new) }
+    ensures left { HasCleanDisk (state S.Store conn.new) → (IsBlank (state S.Store conn.old).now → ⊥)
+        → OnlyReads (state S.Store conn.old) (state S.Store conn.new) result }
     ensures told { IfErr result (λ e. IsTrue (is_store_refusal e)) }
 {
     if !is_blank(conn) {
@@ -235,7 +242,9 @@ fn create_office<S: Alter>(alloc: Global, conn: &mut Connection<S>) -> Result<Of
 fn load_kept<S: Alter>(alloc: Global, conn: &mut Connection<S>) -> Result<Office, Refusal>
     ensures found { IfOk result (Finds (state S.Store conn.old) (state S.Store conn.new)) }
     ensures refusal { HasCleanDisk (state S.Store conn.new)
-        → IfErr result (FindsNone S.Store (state S.Store conn.old) conn.new) }
+        → IfErr result (FindsNone S.Store conn.old conn.new) }
+    ensures left { HasCleanDisk (state S.Store conn.new)
+        → OnlyReads (state S.Store conn.old) (state S.Store conn.new) result }
     ensures told { IfErr result (λ e. IsTrue (is_store_refusal e)) }
 {
     load_office(alloc, conn)

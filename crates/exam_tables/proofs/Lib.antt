@@ -21,6 +21,7 @@ pub mod OfSession
 pub mod OpenShape
 pub mod Opens
 pub mod Queries
+pub mod Quiet
 pub mod RowLemmas
 pub mod StatementFails
 pub mod Statements
