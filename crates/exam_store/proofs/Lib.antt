@@ -14,4 +14,5 @@ pub mod SavedRows
 pub mod SavedTrees
 pub mod Steps
 pub mod Turning
+pub mod Unique
 pub mod Versioned
