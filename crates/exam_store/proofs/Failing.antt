@@ -1,5 +1,5 @@
 -- Why an office is not saved.
-use Rattle.std.proofs.Common.{◌≡◌, ◌≤◌, inl, inr, ap, ◌∙◌, List, Result, Ok, Err, IfErr, IsTrue}
+use Rattle.std.proofs.Common.{◌≡◌, ◌≤◌, inl, inr, ap, ◌∙◌, Result, Ok, Err, IfErr, IsTrue}
 use Rattle.std.proofs.lemmas.Bool.{both_ways}
 use Rattle.sqlite_trees.specs.Tree.{Trees}
 use Rattle.sqlite_trees.specs.declared.error.StoreError.TheVariants.{OutOfMemory, Io, Corrupt, Full, Broken, Unstorable}
@@ -10,18 +10,18 @@ use Rattle.exam_types.specs.declared.refusal.Refusal.{Refusal}
 use Rattle.exam_office.specs.State.{State as Office}
 use Rattle.exam_store.specs.declared.saving.Changes.{Changes}
 use Rattle.exam_store.specs.Faults.{refusal_of}
-use Rattle.exam_store.specs.Inside.{Write, FailsToWrite}
+use Rattle.exam_store.specs.Inside.{FailsFor, FailsToWrite}
 use Rattle.exam_store.specs.Saves.{all_saved, TurnsTables, FailsToSave}
 use Rattle.exam_store.proofs.Steps.{down_later, down_longer}
 
 -- what was written is undone
-pub undone : (writes : List Write) (old last end : State) (e : Refusal) → last.faults ≤ end.faults → FailsToWrite writes old last e → FailsToWrite writes old end e
-undone writes old last end e up (inl lacks) = inl lacks
-undone writes old last end e up (inr (told, inl down)) = inr (told, inl (down_longer old last end up down))
-undone writes old last end e up (inr (told, inr refused)) = inr (told, inr refused)
+pub undone : (Against : Type 0) (old last end : State) (e : Refusal) → last.faults ≤ end.faults → FailsFor Against old last e → FailsFor Against old end e
+undone Against old last end e up (inl lacks) = inl lacks
+undone Against old last end e up (inr (told, inl down)) = inr (told, inl (down_longer old last end up down))
+undone Against old last end e up (inr (told, inr refused)) = inr (told, inr refused)
 
-module _ (writes : List Write) {P Q : Trees → Type 0} (old last end : State) (before : Survives old last P) (after : Survives last end Q) (clean : HasCleanDisk last) (going : IsTrue last.in_transaction) where
-  not_committed : (e : Refusal) (error : Error) → e ≡ refusal_of error → FailsToCommit last end error → FailsToWrite writes old end e
+module _ (Against : Type 0) {P Q : Trees → Type 0} (old last end : State) (before : Survives old last P) (after : Survives last end Q) (clean : HasCleanDisk last) (going : IsTrue last.in_transaction) where
+  not_committed : (e : Refusal) (error : Error) → e ≡ refusal_of error → FailsToCommit last end error → FailsFor Against old end e
   not_committed e error told (inl (OutOfMemory, same, why, back, tells)) = inl (told ∙ ap refusal_of same)
   not_committed e error told (inl (Io, same, why, back, tells)) = inr (told ∙ ap refusal_of same, inl (down_later old last end before clean after.counts (inl why)))
   not_committed e error told (inl (Corrupt, same, why, back, tells)) = inr (told ∙ ap refusal_of same, inl (down_later old last end before clean after.counts (inl why)))
@@ -31,7 +31,7 @@ module _ (writes : List Write) {P Q : Trees → Type 0} (old last end : State) (
   not_committed e error told (inr late) = absurd (both_ways _ late.1 going)
 
   -- what was written is not committed
-  pub uncommitted : (result : Result (Unit {0}) Refusal) → IfErr result (λ e. (error : Error) × (e ≡ refusal_of error) × FailsToCommit last end error) → IfErr result (FailsToWrite writes old end)
+  pub uncommitted : (result : Result (Unit {0}) Refusal) → IfErr result (λ e. (error : Error) × (e ≡ refusal_of error) × FailsToCommit last end error) → IfErr result (FailsFor Against old end)
   uncommitted (Ok u) failed = tt
   uncommitted (Err e) failed = not_committed e failed.0 failed.1 failed.2
 

@@ -6,6 +6,7 @@ pub mod EachTree
 pub mod Exact
 pub mod Failing
 pub mod Inserting
+pub mod Leaving
 pub mod Reading
 pub mod Refusing
 pub mod Rekeeping
@@ -13,4 +14,5 @@ pub mod SavedRows
 pub mod SavedTrees
 pub mod Steps
 pub mod Turning
+pub mod Unique
 pub mod Versioned

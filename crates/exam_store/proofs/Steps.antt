@@ -15,7 +15,7 @@ use Rattle.exam_rules.specs.declared.rows.Status.{Status}
 use Rattle.exam_rules.specs.declared.rows.Status.TheVariants.{Pending, Granted, Refused, Retracted, Superseded}
 use Rattle.exam_store.specs.Stored.{kind_of, state_of}
 use Rattle.exam_store.specs.Faults.{refusal_of, is_store_refusal}
-use Rattle.exam_store.specs.Inside.{Contains, Ran, Becomes, Makes, Write, written, FailsToWrite}
+use Rattle.exam_store.specs.Inside.{Contains, Ran, Becomes, Makes, Write, written, FailsFor, FailsToWrite}
 use Rattle.exam_store.proofs.SavedTrees.{written_append}
 use Rattle.exam_tables.specs.Refusals.{Fails, Refuses, IsDown, is_failure}
 use Rattle.exam_tables.specs.Tables.{store_schema}
@@ -31,10 +31,16 @@ early : (old mid new : State) → Survives mid new (λ _. ⊥) → HasCleanDisk 
 early old mid new s clean = omega (arith, s.clean)
 
 -- an error that is a failure is told as one
-failure : (error : Error) → IsTrue (is_failure error) → refusal_of error ≡ Store
+pub failure : (error : Error) → IsTrue (is_failure error) → refusal_of error ≡ Store
 failure (SqliteFailure OutOfMemory) is = absurd cc
 failure (SqlInputError fault) is = absurd cc
 failure _ is = refl
+
+-- a statement that fails
+pub fails_for : (Against : Type 0) (old new : State) (e : Refusal) (error : Error) → e ≡ refusal_of error → Fails old new Against error → FailsFor Against old new e
+fails_for Against old new e error told (inl lacks) = inl (told ∙ ap refusal_of lacks)
+fails_for Against old new e error told (inr (named, inl down)) = inr (told ∙ failure error named, inl down)
+fails_for Against old new e error told (inr (named, inr against)) = inr (told ∙ failure error named, inr against)
 
 -- a write that fails
 fails_one : (sql : List ℕ) (params : Row) (change : Trees → Trees) (old new : State) (e : Refusal) (error : Error) → e ≡ refusal_of error → Fails old new (Refuses old.now sql params) error

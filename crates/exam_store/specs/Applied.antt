@@ -16,11 +16,12 @@ use Rattle.exam_store.specs.Inside.{IsOurs}
 use Rattle.exam_store.specs.Kept.{Commits, Rekeeps}
 use Rattle.exam_store.specs.Stores.{OfficeIn}
 
--- the command's step, or a failure of the store, which leaves the office as it was
+-- At a reply exactly the command's step is made. At a refusal, the step's own or one of the store, the office
+-- stays as it was.
 abbrev pub MayApply : Command → ℕ → State → Result Reply Refusal → State → Type 0
-MayApply done today before reply after =
-    ((e : Refusal) × IsTrue (is_store_refusal e) × (reply ≡ Err e) × (after ≡ before))
-    ⊎ Step done today before reply after
+MayApply done today before (Ok reply) after = Step done today before (Ok reply) after
+MayApply done today before (Err e) after =
+    (after ≡ before) × (Step done today before (Err e) before ⊎ IsTrue (is_store_refusal e))
 
 -- Why a command is refused: as its step is, for want of memory, or since the office after it is not saved.
 abbrev pub FailsToApply : Command → ℕ → State → Shown → Shown → Refusal → Type 0

@@ -8,7 +8,7 @@ use Rattle.exam_types.specs.declared.refusal.Refusal.{Refusal}
 use Rattle.exam_office.specs.State.{State as Office, empty_state}
 use Rattle.exam_store.specs.Inside.{Contains, IsOurs}
 use Rattle.exam_store.specs.Kept.{Keeps}
-use Rattle.exam_store.specs.Loaded.{IsLoadRefusal, Told}
+use Rattle.exam_store.specs.Loaded.{FailsThen, IsLoadRefusal}
 use Rattle.exam_store.specs.Refused.{HoldsNone}
 
 -- it is the office that the tables keep, where they are ours, and nothing changes
@@ -16,10 +16,8 @@ abbrev pub Finds : State → State → Office → Type 0
 Finds old new office = HasCleanDisk new → IsOurs old.now → Keeps old.now office × IsUnchanged old new
 
 -- there is no memory, a query fails and its error is told, or the tables hold no good office
-abbrev pub FindsNone : {S : Type 0} → Ghosts S → State → Held S → Refusal → Type 0
-FindsNone {S} g old new =
-    IsLoadRefusal (λ e. (mid : Held S) × Told (state g mid) (state g new) e)
-    ((all : Trees) → Contains old.now all → HoldsNone all)
+abbrev pub FindsNone : {S : Type 0} → Ghosts S → Held S → Held S → Refusal → Type 0
+FindsNone g old new = IsLoadRefusal (FailsThen g old new) ((all : Trees) → Contains (state g old).now all → HoldsNone all)
 
 -- the new database keeps an office with no facts
 abbrev pub MakesEmpty : Database → Database → Type 0

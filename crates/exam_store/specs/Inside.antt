@@ -59,10 +59,14 @@ RefusesOne writes db =
     (done : List Write) × (next : Write) × (rest : List Write) × (writes ≡ done ++ next ∷ rest)
     × (at : Database) × Becomes done db at × Refuses at next.sql next.params
 
--- Why writes are not made: there is no memory, or a call of the disk failed, the connection was shut, or the
--- database refuses a write.
+-- Why a change is not made: there is no memory, or a call of the disk failed, the connection was shut, or this
+-- stands against it.
+abbrev pub FailsFor : Type 0 → State → State → Refusal → Type 0
+FailsFor Against old new e = (e ≡ NoMemory) ⊎ ((e ≡ Store) × (IsDown old new ⊎ Against))
+
+-- the same of writes, of which the database may refuse one
 abbrev pub FailsToWrite : List Write → State → State → Refusal → Type 0
-FailsToWrite writes old new e = (e ≡ NoMemory) ⊎ ((e ≡ Store) × (IsDown old new ⊎ RefusesOne writes old.now))
+FailsToWrite writes old new = FailsFor (RefusesOne writes old.now) old new
 
 pub record Makes (old new : State) (result : Result (Unit {0}) Refusal) (writes : List Write) : Type 0 where
   -- where it succeeds, the writes are made and the transaction goes on

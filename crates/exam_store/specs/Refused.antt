@@ -24,6 +24,10 @@ pub record HoldsRelations (all : Trees) (r : Relations) : Type 0 where
 abbrev pub HoldsSeats : Trees → List ((Code × ℕ) × Code) → Type 0
 HoldsSeats all seats = HoldsTable seat_cmp IsSeat seat_row seats (all 15)
 
+-- the tables have the rows of this office, whose keys rise and whose values have the forms of their columns
+abbrev pub HoldsFormed : Trees → State → Type 0
+HoldsFormed all office = HoldsRelations all office.relations × HoldsSeats all office.seats
+
 -- the version is not there, the rows of a table are those of none, or what they hold is not good
 abbrev pub HoldsNone : Trees → Type 0
 HoldsNone all =

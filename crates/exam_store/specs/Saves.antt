@@ -1,5 +1,5 @@
 -- What is written where an office is saved.
-use Rattle.std.specs.Prelude.{◌≡◌, ◌⊎◌, ℕ, List, [], ◌∷◌, ◌++◌, map}
+use Rattle.std.specs.Prelude.{ℕ, List, [], ◌∷◌, ◌++◌, map}
 use Rattle.std.specs.declared.cmp.Ordering.{Ordering}
 use Rattle.std.specs.Map.Iter.{deref_pair}
 use Rattle.std.specs.Ordering.{nat_cmp}
@@ -21,15 +21,13 @@ use Rattle.exam_rules.specs.declared.rows.Appeal.{Appeal}
 use Rattle.exam_store.specs.declared.differences.Difference.{Difference}
 use Rattle.exam_store.specs.declared.saving.Changes.{Changes}
 use Rattle.exam_types.specs.declared.refusal.Refusal.{Refusal}
-use Rattle.exam_types.specs.declared.refusal.Refusal.TheVariants.{NoMemory, Store}
-use Rattle.exam_tables.specs.Refusals.{IsDown}
 use Rattle.sqlite.specs.Effect.{Database}
 use Rattle.sqlite.specs.State.{State as Shown}
 use Rattle.exam_office.specs.State.{State}
 use Rattle.exam_store.specs.Differences.{Turns}
 use Rattle.exam_store.specs.Stored.{whole}
 use Rattle.exam_store.specs.Rows.{session_row, paper_row, hall_row, candidate_row, opening_row, entry_row, arrangement_row, appeal_row, seat_row}
-use Rattle.exam_store.specs.Inside.{Write, put_of, delete_of, RefusesOne}
+use Rattle.exam_store.specs.Inside.{Write, put_of, delete_of, RefusesOne, FailsFor}
 
 -- how a table is written: its statements, its tree, the places of its key, the columns of a row and of a key
 pub record Form (K V : Type 0) : Type 0 where
@@ -199,7 +197,6 @@ pub record TurnsTables (before after : State) (c : Changes) : Type 0 where
 abbrev pub RefusesChange : State → State → Database → Type 0
 RefusesChange before after db = (c : Changes) × TurnsTables before after c × RefusesOne (all_saved c) db
 
--- There is no memory, or a call of the disk failed, the connection was shut, or the database refuses a write.
+-- there is no memory, or a call of the disk failed, the connection was shut, or the database refuses a write
 abbrev pub FailsToSave : State → State → Shown → Shown → Refusal → Type 0
-FailsToSave before after old new e =
-    (e ≡ NoMemory) ⊎ ((e ≡ Store) × (IsDown old new ⊎ RefusesChange before after old.now))
+FailsToSave before after old new = FailsFor (RefusesChange before after old.now) old new

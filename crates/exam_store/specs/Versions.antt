@@ -1,5 +1,5 @@
 -- The version of the schema, and a database that was just made.
-use Rattle.std.specs.Prelude.{◌≡◌, ℕ, ◌==◌, [], ◌∷◌, IsTrue, Result, OnOk, IfErr, if◌then◌else◌}
+use Rattle.std.specs.Prelude.{◌≡◌, ◌⊎◌, IsSome, ℕ, ◌==◌, [], ◌∷◌, IsTrue, Result, OnOk, IfErr, if◌then◌else◌}
 use Rattle.sqlite_value.specs.declared.value.Value.TheVariants.{Null}
 use Rattle.sqlite_value.specs.Order.{Row}
 use Rattle.sqlite_trees.specs.Tree.{Trees}
@@ -7,10 +7,11 @@ use Rattle.sqlite_schema.specs.declared.schema.Schema.{Schema}
 use Rattle.sqlite.specs.Effect.{Database}
 use Rattle.sqlite.specs.State.{State, HasCleanDisk, KeepsCommit, Survives}
 use Rattle.exam_types.specs.declared.refusal.Refusal.{Refusal}
+use Rattle.exam_types.specs.declared.refusal.Refusal.TheVariants.{Store}
 use Rattle.exam_tables.specs.Content.{ContainsIn}
 use Rattle.exam_tables.specs.Tables.{no_schema}
 use Rattle.exam_store.specs.Faults.{is_store_refusal}
-use Rattle.exam_store.specs.Inside.{Contains}
+use Rattle.exam_store.specs.Inside.{Contains, FailsFor}
 use Rattle.exam_store.specs.Stored.{whole}
 
 -- the version of this schema
@@ -41,12 +42,23 @@ HasNoRows schema db = ContainsIn schema db (λ tree. [])
 abbrev pub IsMade : Database → Type 0
 IsMade db = Contains db new_tables
 
+-- Why the tables are not made: there is no memory, or a call of the disk failed, the connection was shut, or it
+-- limits the steps of its statements.
+abbrev pub FailsToMake : State → State → Refusal → Type 0
+FailsToMake old new = FailsFor (IsSome old.step_limit) old new
+
+-- the same, or a transaction is under way
+abbrev pub FailsToCreate : State → State → Refusal → Type 0
+FailsToCreate old new e = FailsToMake old new e ⊎ ((e ≡ Store) × IsTrue old.in_transaction)
+
 -- what a call that makes one kind of database of another does inside a transaction
 pub record Leads (before after : Database → Type 0) (old new : State)
     (result : Result (Unit {0}) Refusal) : Type 0 where
   -- where it succeeds, the transaction goes on
   pub made : HasCleanDisk new → IsTrue old.in_transaction
       → OnOk result ((before old.now → after new.now) × IsTrue new.in_transaction)
+  pub failed : HasCleanDisk new → IsTrue old.in_transaction → before old.now
+      → IfErr result (FailsToMake old new)
   -- it commits nothing, whether or not it succeeds
   pub kept : HasCleanDisk new → KeepsCommit old new
   pub survives : Survives old new (λ _. ⊥)

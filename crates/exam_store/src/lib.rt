@@ -4,6 +4,7 @@
 mod columns;
 mod differences;
 mod faults;
+mod laws;
 mod loading;
 mod saving;
 mod schema;
@@ -13,4 +14,5 @@ mod subjects;
 mod table;
 mod tables;
 
+pub use laws::tables_hold_one_office;
 pub use store::Store;

@@ -6,7 +6,7 @@ ghost use Rattle.exam_rules.specs.Relations.{relations_of};
 ghost use Rattle.exam_store.specs.Held.{HoldsFacts, HoldsOffice};
 ghost use Rattle.exam_store.specs.Inside.{Contains};
 ghost use Rattle.exam_store.specs.Faults.{is_store_refusal};
-ghost use Rattle.exam_store.specs.Loaded.{IsLoadRefusal, Told};
+ghost use Rattle.exam_store.specs.Loaded.{FailsThen, IsLoadRefusal, OnlyReads};
 ghost use Rattle.exam_store.specs.Refused.{HoldsNone, HoldsRelations};
 ghost use Rattle.exam_store.specs.Versions.{HasVersion};
 
@@ -33,8 +33,10 @@ pub fn load_office<S: Alter>(alloc: Global, conn: &mut Connection<S>) -> Result<
         → Contains (state S.Store conn.old).now all
         → HoldsOffice all office × IsUnchanged (state S.Store conn.old) (state S.Store conn.new)) }
     ensures bad { HasCleanDisk (state S.Store conn.new) → IfErr result (IsLoadRefusal
-        (λ e. (mid : _) × Told (state S.Store mid) (state S.Store conn.new) e)
+        (FailsThen S.Store conn.old conn.new)
         ((all : _) → Contains (state S.Store conn.old).now all → HoldsNone all)) }
+    ensures left { HasCleanDisk (state S.Store conn.new)
+        → OnlyReads (state S.Store conn.old) (state S.Store conn.new) result }
     ensures version { HasCleanDisk (state S.Store conn.new) → OnOk result ((all : _)
         → Contains (state S.Store conn.old).now all → HasVersion all) }
     ensures told { IfErr result (λ e. IsTrue (is_store_refusal e)) }
@@ -51,8 +53,10 @@ fn load_facts<S: Alter>(alloc: Global, conn: &mut Connection<S>) -> Result<Facts
         → Contains (state S.Store conn.old).now all
         → HoldsFacts all (relations_of facts) × IsUnchanged (state S.Store conn.old) (state S.Store conn.new)) }
     ensures bad { HasCleanDisk (state S.Store conn.new) → IfErr result (IsLoadRefusal
-        (λ e. (mid : _) × Told (state S.Store mid) (state S.Store conn.new) e)
+        (FailsThen S.Store conn.old conn.new)
         ((all : _) → Contains (state S.Store conn.old).now all → (r : _) → HoldsRelations all r → ⊥)) }
+    ensures left { HasCleanDisk (state S.Store conn.new)
+        → OnlyReads (state S.Store conn.old) (state S.Store conn.new) result }
     ensures early { HasCleanDisk (state S.Store conn.new) → HasCleanDisk (state S.Store conn.old) }
     ensures told { IfErr result (λ e. IsTrue (is_store_refusal e)) }
 {

@@ -10,7 +10,7 @@ ghost use Rattle.exam_store.specs.Kept.{Rekeeps, Commits};
 ghost use Rattle.exam_store.specs.Saves.{timetable_put, halls_put, candidates_put, plans_put, all_put};
 ghost use Rattle.exam_store.specs.Saves.{timetable_deleted, halls_deleted, candidates_deleted, plans_deleted};
 ghost use Rattle.exam_store.specs.Saves.{all_deleted, all_saved, FailsToSave, TurnsTables};
-ghost use Rattle.exam_store.specs.Versions.{IsBlank, IsMade};
+ghost use Rattle.exam_store.specs.Versions.{FailsToCreate, IsBlank, IsMade};
 
 use crate::differences::{Difference, difference_of};
 use crate::faults::refusal_of;
@@ -252,6 +252,8 @@ fn write_changes<S: Alter>(
 pub fn save_empty<S: Alter>(conn: &mut Connection<S>) -> Result<(), Refusal>
     ensures made { Commits (state S.Store conn.old) (state S.Store conn.new) result
         (λ old new. IsBlank old → IsMade new) }
+    ensures failed { HasCleanDisk (state S.Store conn.new) → IsBlank (state S.Store conn.old).now
+        → IfErr result (FailsToCreate (state S.Store conn.old) (state S.Store conn.new)) }
     ensures autocommit { OnOk result (conn.new.in_transaction ≡ false) }
     ensures ended { conn.old.in_transaction ≡ false → conn.new.in_transaction ≡ false }
     ensures told { IfErr result (λ e. IsTrue (is_store_refusal e)) }

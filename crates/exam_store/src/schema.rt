@@ -10,7 +10,7 @@ ghost use Rattle.exam_store.specs.Inside.{Contains};
 ghost use Rattle.exam_store.specs.Faults.{is_store_refusal};
 ghost use Rattle.exam_store.specs.Stored.{whole};
 ghost use Rattle.exam_store.specs.Versions.{HasVersion, HasNoRows, IsBlank, IsMade, Leads, version_row};
-ghost use Rattle.exam_store.specs.Loaded.{IsLoadRefusal, Told};
+ghost use Rattle.exam_store.specs.Loaded.{IsLoadRefusal, OnlyReads, Told};
 
 use crate::columns::whole_at;
 use crate::statements::{all_rows, run};
@@ -127,6 +127,8 @@ pub fn check_version<S: Alter>(conn: &mut Connection<S>) -> Result<(), Refusal>
     ensures bad { HasCleanDisk (state S.Store conn.new) → IfErr result (IsLoadRefusal
         (Told (state S.Store conn.old) (state S.Store conn.new))
         ((all : _) → Contains (state S.Store conn.old).now all → HasVersion all → ⊥)) }
+    ensures left { HasCleanDisk (state S.Store conn.new)
+        → OnlyReads (state S.Store conn.old) (state S.Store conn.new) result }
     ensures early { HasCleanDisk (state S.Store conn.new) → HasCleanDisk (state S.Store conn.old) }
     ensures told { IfErr result (λ e. IsTrue (is_store_refusal e)) }
 {

@@ -15,7 +15,8 @@ ghost use Rattle.exam_store.specs.Faults.{is_store_refusal};
 ghost use Rattle.exam_store.specs.Found.{Finds, FindsNone, MakesEmpty};
 ghost use Rattle.exam_store.specs.Inside.{IsOurs};
 ghost use Rattle.exam_store.specs.Kept.{IsSound, IsKept, Rekeeps, Commits};
-ghost use Rattle.exam_store.specs.Versions.{IsBlank};
+ghost use Rattle.exam_store.specs.Loaded.{IsLeft, OnlyReads};
+ghost use Rattle.exam_store.specs.Versions.{FailsToCreate, IsBlank};
 
 use crate::loading::load_office;
 use crate::saving::{save, save_empty};
@@ -54,12 +55,12 @@ impl<S: Alter + Drop> Drop for Store<S> {
 }
 
 impl Store<MemStore> {
-    /// An empty office in memory.
+    /// An empty office in memory. Refused only where there is not enough of it.
     pub fn in_memory(alloc: Global) -> Result<Store<MemStore>, Refusal>
         ensures office { IfOk result (λ store. store.office ≡ empty_state) }
         ensures kept { IfOk result (λ store. IsKept (state over_memory store.database) store.office
             × IsTrue (state over_memory store.database).is_open) }
-        ensures told { IfErr result (λ e. IsTrue (is_store_refusal e)) }
+        ensures memory { IfErr result (λ e. e ≡ NoMemory) }
     {
         let mut conn = Connection::open_in_memory(alloc)?;
         save_empty(&mut conn)?;
@@ -84,9 +85,14 @@ impl<S: Alter> Store<S> {
             (λ e. Commits (state S.Store conn) (state S.Store e.1) result MakesEmpty) }
         ensures found { IfOk result (λ store.
             Finds (state S.Store conn) (state S.Store store.database) store.office) }
+        ensures blank { IfErr result (λ e. HasCleanDisk (state S.Store e.1)
+            → IsBlank (state S.Store conn).now
+            → FailsToCreate (state S.Store conn) (state S.Store e.1) e.0) }
         ensures refusal { IfErr result (λ e. HasCleanDisk (state S.Store e.1)
             → (IsBlank (state S.Store conn).now → ⊥) → ((e.0 ≡ Refusal.Store) × IsTrue e.1.in_transaction)
-            ⊎ FindsNone S.Store (state S.Store conn) e.1 e.0) }
+            ⊎ FindsNone S.Store conn e.1 e.0) }
+        ensures same { IfErr result (λ e. HasCleanDisk (state S.Store e.1)
+            → (IsBlank (state S.Store conn).now → ⊥) → IsLeft (state S.Store conn) (state S.Store e.1)) }
         ensures told { IfErr result (λ e. IsTrue (is_store_refusal e.0)) }
     {
         match create_office(alloc, &mut conn) {
@@ -105,7 +111,9 @@ impl<S: Alter> Store<S> {
             Finds (state S.Store conn) (state S.Store store.database) store.office) }
         ensures refusal { IfErr result (λ e. HasCleanDisk (state S.Store e.1)
             → ((e.0 ≡ Refusal.Store) × IsTrue e.1.in_transaction)
-            ⊎ FindsNone S.Store (state S.Store conn) e.1 e.0) }
+            ⊎ FindsNone S.Store conn e.1 e.0) }
+        ensures same { IfErr result (λ e. HasCleanDisk (state S.Store e.1)
+            → IsLeft (state S.Store conn) (state S.Store e.1)) }
         ensures told { IfErr result (λ e. IsTrue (is_store_refusal e.0)) }
     {
         match load_kept(alloc, &mut conn) {
@@ -225,8 +233,12 @@ fn create_office<S: Alter>(alloc: Global, conn: &mut Connection<S>) -> Result<Of
     ensures made { IsBlank (state S.Store conn.old).now
         → Commits (state S.Store conn.old) (state S.Store conn.new) result MakesEmpty }
     ensures found { IfOk result (Finds (state S.Store conn.old) (state S.Store conn.new)) }
+    ensures blank { HasCleanDisk (state S.Store conn.new) → IsBlank (state S.Store conn.old).now
+        → IfErr result (FailsToCreate (state S.Store conn.old) (state S.Store conn.new)) }
     ensures refusal { HasCleanDisk (state S.Store conn.new) → (IsBlank (state S.Store conn.old).now → ⊥)
-        → IfErr result (FindsNone S.Store (state S.Store conn.old) conn.new) }
+        → IfErr result (FindsNone S.Store conn.old conn.new) }
+    ensures left { HasCleanDisk (state S.Store conn.new) → (IsBlank (state S.Store conn.old).now → ⊥)
+        → OnlyReads (state S.Store conn.old) (state S.Store conn.new) result }
     ensures told { IfErr result (λ e. IsTrue (is_store_refusal e)) }
 {
     if !is_blank(conn) {
@@ -240,7 +252,9 @@ fn create_office<S: Alter>(alloc: Global, conn: &mut Connection<S>) -> Result<Of
 fn load_kept<S: Alter>(alloc: Global, conn: &mut Connection<S>) -> Result<Office, Refusal>
     ensures found { IfOk result (Finds (state S.Store conn.old) (state S.Store conn.new)) }
     ensures refusal { HasCleanDisk (state S.Store conn.new)
-        → IfErr result (FindsNone S.Store (state S.Store conn.old) conn.new) }
+        → IfErr result (FindsNone S.Store conn.old conn.new) }
+    ensures left { HasCleanDisk (state S.Store conn.new)
+        → OnlyReads (state S.Store conn.old) (state S.Store conn.new) result }
     ensures told { IfErr result (λ e. IsTrue (is_store_refusal e)) }
 {
     load_office(alloc, conn)

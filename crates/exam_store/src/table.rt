@@ -7,7 +7,7 @@ ghost use Rattle.sqlite_value.specs.Order.{Row as Columns};
 ghost use Rattle.exam_store.specs.Faults.{is_store_refusal};
 ghost use Rattle.exam_store.specs.Inside.{Makes, Contains, put_of, delete_of};
 ghost use Rattle.exam_types.specs.declared.refusal.Refusal.TheVariants.{NoMemory, BadStore};
-ghost use Rattle.exam_store.specs.Loaded.{AreRowsOf, HoldsTable, IsLoadRefusal, KeysMatch, Told};
+ghost use Rattle.exam_store.specs.Loaded.{AreRowsOf, HoldsTable, IsLoadRefusal, KeysMatch, OnlyReads, Told};
 ghost use Rattle.exam_store.specs.Reading.{MayRead};
 
 use crate::differences::Keyed;
@@ -70,6 +70,8 @@ pub trait Table {
             × IsUnchanged (state S.Store conn.old) (state S.Store conn.new)) }
         ensures failed { HasCleanDisk (state S.Store conn.new)
             → IfErr result (λ e. Told (state S.Store conn.old) (state S.Store conn.new) e) }
+        ensures left { HasCleanDisk (state S.Store conn.new)
+            → OnlyReads (state S.Store conn.old) (state S.Store conn.new) result }
         ensures early { HasCleanDisk (state S.Store conn.new) → HasCleanDisk (state S.Store conn.old) }
         ensures told { IfErr result (λ e. IsTrue (is_store_refusal e)) };
 
@@ -123,6 +125,8 @@ pub fn load_rows<T: Table, S: Alter>(
         → IfErr result (IsLoadRefusal (Told (state S.Store conn.old) (state S.Store conn.new))
         ((all : _) → Contains (state S.Store conn.old).now all
         → (entries : _) → HoldsTable T.Key.cmp T.IsRow T.row_of entries (all T.tree) → ⊥)) }
+    ensures left { HasCleanDisk (state S.Store conn.new)
+        → OnlyReads (state S.Store conn.old) (state S.Store conn.new) result }
     ensures early { HasCleanDisk (state S.Store conn.new) → HasCleanDisk (state S.Store conn.old) }
     ensures told { IfErr result (λ e. IsTrue (is_store_refusal e)) }
 {

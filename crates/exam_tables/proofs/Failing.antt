@@ -195,7 +195,7 @@ does_named limit mode params db text _ rows = absurd rows
 
 module _ (old new : State) (Refused : Type 0) where
   -- the disk, the memory or a row that is too big
-  cause : (e : Error) (TooBig : Type 0) → state.Fails old new TooBig e → (TooBig → Refused) → Fails old new Refused e
+  pub cause : (e : Error) (TooBig : Type 0) → state.Fails old new TooBig e → (TooBig → Refused) → Fails old new Refused e
   cause e TooBig (OutOfMemory, same, why, back, tells) big = inl same
   cause e TooBig (Io, same, why, back, tells) big = inr (is e _ same refl, inl (inl why))
   cause e TooBig (Corrupt, same, why, back, tells) big = inr (is e _ same refl, inl (inl why))

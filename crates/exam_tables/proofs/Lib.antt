@@ -1,4 +1,5 @@
 pub mod Changes
+pub mod CreateFails
 pub mod Creates
 pub mod Deletes
 pub mod Failing
@@ -20,6 +21,10 @@ pub mod OfSession
 pub mod OpenShape
 pub mod Opens
 pub mod Queries
+pub mod Quiet
 pub mod RowLemmas
+pub mod StatementFails
 pub mod Statements
 pub mod TableFacts
+pub mod Unrefused
+pub mod VersionFails

@@ -16,19 +16,19 @@ use Rattle.exam_tables.specs.Tables.{store_schema, office, office_text, session,
 use Rattle.exam_tables.specs.Grows.{schema_0, schema_1, schema_2, schema_3, schema_4, schema_5, schema_6, schema_7, schema_8, schema_9, schema_10}
 use Rattle.exam_tables.proofs.Creates.{create_by}
 
-office_is : table_defined_by office_text ≡ Ok office
+pub office_is : table_defined_by office_text ≡ Ok office
 unfolding everything
 office_is = refl
 
-office_reads : (command_of (understood schema_0 office_text) ≡ CreateTable) × (statement_of office_text (understood schema_0 office_text) ≡ office_text)
+pub office_reads : (command_of (understood schema_0 office_text) ≡ CreateTable) × (statement_of office_text (understood schema_0 office_text) ≡ office_text)
 unfolding understood everything schema_0
 office_reads = (refl, refl)
 
-office_plain : IsPlain (understood schema_0 office_text)
+pub office_plain : IsPlain (understood schema_0 office_text)
 unfolding understood everything schema_0
 office_plain = (refl, refl)
 
-office_next : (created schema_0 office ≡ schema_1) × (lacks_sequence (created schema_0 office) ≡ false) × (list_all (λ t. not (t.tree == next_tree schema_0)) schema_0.tables ≡ true) × (next_tree schema_0 ≡ 0)
+pub office_next : (created schema_0 office ≡ schema_1) × (lacks_sequence (created schema_0 office) ≡ false) × (list_all (λ t. not (t.tree == next_tree schema_0)) schema_0.tables ≡ true) × (next_tree schema_0 ≡ 0)
 unfolding schema_0 schema_1
 office_next = (refl, refl, refl, refl)
 
@@ -38,19 +38,19 @@ makes_office old new r h =
     (subst (λ t. OnOk r ((all : Trees) → ContainsIn schema_0 old.now all → ContainsIn (created schema_0 office) new.now (with_tree all t []))) office_next.3
     (create_by schema_0 office office_text office_reads.0 office_plain office_reads.1 office_is office_next.1 office_next.2 old new r h))
 
-session_is : table_defined_by session_text ≡ Ok session
+pub session_is : table_defined_by session_text ≡ Ok session
 unfolding everything
 session_is = refl
 
-session_reads : (command_of (understood schema_1 session_text) ≡ CreateTable) × (statement_of session_text (understood schema_1 session_text) ≡ session_text)
+pub session_reads : (command_of (understood schema_1 session_text) ≡ CreateTable) × (statement_of session_text (understood schema_1 session_text) ≡ session_text)
 unfolding understood everything schema_1
 session_reads = (refl, refl)
 
-session_plain : IsPlain (understood schema_1 session_text)
+pub session_plain : IsPlain (understood schema_1 session_text)
 unfolding understood everything schema_1
 session_plain = (refl, refl)
 
-session_next : (created schema_1 session ≡ schema_2) × (lacks_sequence (created schema_1 session) ≡ false) × (list_all (λ t. not (t.tree == next_tree schema_1)) schema_1.tables ≡ true) × (next_tree schema_1 ≡ 1)
+pub session_next : (created schema_1 session ≡ schema_2) × (lacks_sequence (created schema_1 session) ≡ false) × (list_all (λ t. not (t.tree == next_tree schema_1)) schema_1.tables ≡ true) × (next_tree schema_1 ≡ 1)
 unfolding schema_1 schema_2
 session_next = (refl, refl, refl, refl)
 
@@ -60,19 +60,19 @@ makes_session old new r h =
     (subst (λ t. OnOk r ((all : Trees) → ContainsIn schema_1 old.now all → ContainsIn (created schema_1 session) new.now (with_tree all t []))) session_next.3
     (create_by schema_1 session session_text session_reads.0 session_plain session_reads.1 session_is session_next.1 session_next.2 old new r h))
 
-paper_is : table_defined_by paper_text ≡ Ok paper
+pub paper_is : table_defined_by paper_text ≡ Ok paper
 unfolding everything
 paper_is = refl
 
-paper_reads : (command_of (understood schema_2 paper_text) ≡ CreateTable) × (statement_of paper_text (understood schema_2 paper_text) ≡ paper_text)
+pub paper_reads : (command_of (understood schema_2 paper_text) ≡ CreateTable) × (statement_of paper_text (understood schema_2 paper_text) ≡ paper_text)
 unfolding understood everything schema_2
 paper_reads = (refl, refl)
 
-paper_plain : IsPlain (understood schema_2 paper_text)
+pub paper_plain : IsPlain (understood schema_2 paper_text)
 unfolding understood everything schema_2
 paper_plain = (refl, refl)
 
-paper_next : (created schema_2 paper ≡ schema_3) × (lacks_sequence (created schema_2 paper) ≡ false) × (list_all (λ t. not (t.tree == next_tree schema_2)) schema_2.tables ≡ true) × (next_tree schema_2 ≡ 3)
+pub paper_next : (created schema_2 paper ≡ schema_3) × (lacks_sequence (created schema_2 paper) ≡ false) × (list_all (λ t. not (t.tree == next_tree schema_2)) schema_2.tables ≡ true) × (next_tree schema_2 ≡ 3)
 unfolding schema_2 schema_3
 paper_next = (refl, refl, refl, refl)
 
@@ -82,19 +82,19 @@ makes_paper old new r h =
     (subst (λ t. OnOk r ((all : Trees) → ContainsIn schema_2 old.now all → ContainsIn (created schema_2 paper) new.now (with_tree all t []))) paper_next.3
     (create_by schema_2 paper paper_text paper_reads.0 paper_plain paper_reads.1 paper_is paper_next.1 paper_next.2 old new r h))
 
-hall_is : table_defined_by hall_text ≡ Ok hall
+pub hall_is : table_defined_by hall_text ≡ Ok hall
 unfolding everything
 hall_is = refl
 
-hall_reads : (command_of (understood schema_3 hall_text) ≡ CreateTable) × (statement_of hall_text (understood schema_3 hall_text) ≡ hall_text)
+pub hall_reads : (command_of (understood schema_3 hall_text) ≡ CreateTable) × (statement_of hall_text (understood schema_3 hall_text) ≡ hall_text)
 unfolding understood everything schema_3
 hall_reads = (refl, refl)
 
-hall_plain : IsPlain (understood schema_3 hall_text)
+pub hall_plain : IsPlain (understood schema_3 hall_text)
 unfolding understood everything schema_3
 hall_plain = (refl, refl)
 
-hall_next : (created schema_3 hall ≡ schema_4) × (lacks_sequence (created schema_3 hall) ≡ false) × (list_all (λ t. not (t.tree == next_tree schema_3)) schema_3.tables ≡ true) × (next_tree schema_3 ≡ 5)
+pub hall_next : (created schema_3 hall ≡ schema_4) × (lacks_sequence (created schema_3 hall) ≡ false) × (list_all (λ t. not (t.tree == next_tree schema_3)) schema_3.tables ≡ true) × (next_tree schema_3 ≡ 5)
 unfolding schema_3 schema_4
 hall_next = (refl, refl, refl, refl)
 
@@ -104,19 +104,19 @@ makes_hall old new r h =
     (subst (λ t. OnOk r ((all : Trees) → ContainsIn schema_3 old.now all → ContainsIn (created schema_3 hall) new.now (with_tree all t []))) hall_next.3
     (create_by schema_3 hall hall_text hall_reads.0 hall_plain hall_reads.1 hall_is hall_next.1 hall_next.2 old new r h))
 
-candidate_is : table_defined_by candidate_text ≡ Ok candidate
+pub candidate_is : table_defined_by candidate_text ≡ Ok candidate
 unfolding everything
 candidate_is = refl
 
-candidate_reads : (command_of (understood schema_4 candidate_text) ≡ CreateTable) × (statement_of candidate_text (understood schema_4 candidate_text) ≡ candidate_text)
+pub candidate_reads : (command_of (understood schema_4 candidate_text) ≡ CreateTable) × (statement_of candidate_text (understood schema_4 candidate_text) ≡ candidate_text)
 unfolding understood everything schema_4
 candidate_reads = (refl, refl)
 
-candidate_plain : IsPlain (understood schema_4 candidate_text)
+pub candidate_plain : IsPlain (understood schema_4 candidate_text)
 unfolding understood everything schema_4
 candidate_plain = (refl, refl)
 
-candidate_next : (created schema_4 candidate ≡ schema_5) × (lacks_sequence (created schema_4 candidate) ≡ false) × (list_all (λ t. not (t.tree == next_tree schema_4)) schema_4.tables ≡ true) × (next_tree schema_4 ≡ 7)
+pub candidate_next : (created schema_4 candidate ≡ schema_5) × (lacks_sequence (created schema_4 candidate) ≡ false) × (list_all (λ t. not (t.tree == next_tree schema_4)) schema_4.tables ≡ true) × (next_tree schema_4 ≡ 7)
 unfolding schema_4 schema_5
 candidate_next = (refl, refl, refl, refl)
 
@@ -126,19 +126,19 @@ makes_candidate old new r h =
     (subst (λ t. OnOk r ((all : Trees) → ContainsIn schema_4 old.now all → ContainsIn (created schema_4 candidate) new.now (with_tree all t []))) candidate_next.3
     (create_by schema_4 candidate candidate_text candidate_reads.0 candidate_plain candidate_reads.1 candidate_is candidate_next.1 candidate_next.2 old new r h))
 
-opening_is : table_defined_by opening_text ≡ Ok opening
+pub opening_is : table_defined_by opening_text ≡ Ok opening
 unfolding everything
 opening_is = refl
 
-opening_reads : (command_of (understood schema_5 opening_text) ≡ CreateTable) × (statement_of opening_text (understood schema_5 opening_text) ≡ opening_text)
+pub opening_reads : (command_of (understood schema_5 opening_text) ≡ CreateTable) × (statement_of opening_text (understood schema_5 opening_text) ≡ opening_text)
 unfolding understood everything schema_5
 opening_reads = (refl, refl)
 
-opening_plain : IsPlain (understood schema_5 opening_text)
+pub opening_plain : IsPlain (understood schema_5 opening_text)
 unfolding understood everything schema_5
 opening_plain = (refl, refl)
 
-opening_next : (created schema_5 opening ≡ schema_6) × (lacks_sequence (created schema_5 opening) ≡ false) × (list_all (λ t. not (t.tree == next_tree schema_5)) schema_5.tables ≡ true) × (next_tree schema_5 ≡ 8)
+pub opening_next : (created schema_5 opening ≡ schema_6) × (lacks_sequence (created schema_5 opening) ≡ false) × (list_all (λ t. not (t.tree == next_tree schema_5)) schema_5.tables ≡ true) × (next_tree schema_5 ≡ 8)
 unfolding schema_5 schema_6
 opening_next = (refl, refl, refl, refl)
 
@@ -148,19 +148,19 @@ makes_opening old new r h =
     (subst (λ t. OnOk r ((all : Trees) → ContainsIn schema_5 old.now all → ContainsIn (created schema_5 opening) new.now (with_tree all t []))) opening_next.3
     (create_by schema_5 opening opening_text opening_reads.0 opening_plain opening_reads.1 opening_is opening_next.1 opening_next.2 old new r h))
 
-entry_is : table_defined_by entry_text ≡ Ok entry
+pub entry_is : table_defined_by entry_text ≡ Ok entry
 unfolding everything
 entry_is = refl
 
-entry_reads : (command_of (understood schema_6 entry_text) ≡ CreateTable) × (statement_of entry_text (understood schema_6 entry_text) ≡ entry_text)
+pub entry_reads : (command_of (understood schema_6 entry_text) ≡ CreateTable) × (statement_of entry_text (understood schema_6 entry_text) ≡ entry_text)
 unfolding understood everything schema_6
 entry_reads = (refl, refl)
 
-entry_plain : IsPlain (understood schema_6 entry_text)
+pub entry_plain : IsPlain (understood schema_6 entry_text)
 unfolding understood everything schema_6
 entry_plain = (refl, refl)
 
-entry_next : (created schema_6 entry ≡ schema_7) × (lacks_sequence (created schema_6 entry) ≡ false) × (list_all (λ t. not (t.tree == next_tree schema_6)) schema_6.tables ≡ true) × (next_tree schema_6 ≡ 10)
+pub entry_next : (created schema_6 entry ≡ schema_7) × (lacks_sequence (created schema_6 entry) ≡ false) × (list_all (λ t. not (t.tree == next_tree schema_6)) schema_6.tables ≡ true) × (next_tree schema_6 ≡ 10)
 unfolding schema_6 schema_7
 entry_next = (refl, refl, refl, refl)
 
@@ -170,19 +170,19 @@ makes_entry old new r h =
     (subst (λ t. OnOk r ((all : Trees) → ContainsIn schema_6 old.now all → ContainsIn (created schema_6 entry) new.now (with_tree all t []))) entry_next.3
     (create_by schema_6 entry entry_text entry_reads.0 entry_plain entry_reads.1 entry_is entry_next.1 entry_next.2 old new r h))
 
-arrangement_is : table_defined_by arrangement_text ≡ Ok arrangement
+pub arrangement_is : table_defined_by arrangement_text ≡ Ok arrangement
 unfolding everything
 arrangement_is = refl
 
-arrangement_reads : (command_of (understood schema_7 arrangement_text) ≡ CreateTable) × (statement_of arrangement_text (understood schema_7 arrangement_text) ≡ arrangement_text)
+pub arrangement_reads : (command_of (understood schema_7 arrangement_text) ≡ CreateTable) × (statement_of arrangement_text (understood schema_7 arrangement_text) ≡ arrangement_text)
 unfolding understood everything schema_7
 arrangement_reads = (refl, refl)
 
-arrangement_plain : IsPlain (understood schema_7 arrangement_text)
+pub arrangement_plain : IsPlain (understood schema_7 arrangement_text)
 unfolding understood everything schema_7
 arrangement_plain = (refl, refl)
 
-arrangement_next : (created schema_7 arrangement ≡ schema_8) × (lacks_sequence (created schema_7 arrangement) ≡ false) × (list_all (λ t. not (t.tree == next_tree schema_7)) schema_7.tables ≡ true) × (next_tree schema_7 ≡ 12)
+pub arrangement_next : (created schema_7 arrangement ≡ schema_8) × (lacks_sequence (created schema_7 arrangement) ≡ false) × (list_all (λ t. not (t.tree == next_tree schema_7)) schema_7.tables ≡ true) × (next_tree schema_7 ≡ 12)
 unfolding schema_7 schema_8
 arrangement_next = (refl, refl, refl, refl)
 
@@ -192,19 +192,19 @@ makes_arrangement old new r h =
     (subst (λ t. OnOk r ((all : Trees) → ContainsIn schema_7 old.now all → ContainsIn (created schema_7 arrangement) new.now (with_tree all t []))) arrangement_next.3
     (create_by schema_7 arrangement arrangement_text arrangement_reads.0 arrangement_plain arrangement_reads.1 arrangement_is arrangement_next.1 arrangement_next.2 old new r h))
 
-appeal_is : table_defined_by appeal_text ≡ Ok appeal
+pub appeal_is : table_defined_by appeal_text ≡ Ok appeal
 unfolding everything
 appeal_is = refl
 
-appeal_reads : (command_of (understood schema_8 appeal_text) ≡ CreateTable) × (statement_of appeal_text (understood schema_8 appeal_text) ≡ appeal_text)
+pub appeal_reads : (command_of (understood schema_8 appeal_text) ≡ CreateTable) × (statement_of appeal_text (understood schema_8 appeal_text) ≡ appeal_text)
 unfolding understood everything schema_8
 appeal_reads = (refl, refl)
 
-appeal_plain : IsPlain (understood schema_8 appeal_text)
+pub appeal_plain : IsPlain (understood schema_8 appeal_text)
 unfolding understood everything schema_8
 appeal_plain = (refl, refl)
 
-appeal_next : (created schema_8 appeal ≡ schema_9) × (lacks_sequence (created schema_8 appeal) ≡ false) × (list_all (λ t. not (t.tree == next_tree schema_8)) schema_8.tables ≡ true) × (next_tree schema_8 ≡ 13)
+pub appeal_next : (created schema_8 appeal ≡ schema_9) × (lacks_sequence (created schema_8 appeal) ≡ false) × (list_all (λ t. not (t.tree == next_tree schema_8)) schema_8.tables ≡ true) × (next_tree schema_8 ≡ 13)
 unfolding schema_8 schema_9
 appeal_next = (refl, refl, refl, refl)
 
@@ -214,19 +214,19 @@ makes_appeal old new r h =
     (subst (λ t. OnOk r ((all : Trees) → ContainsIn schema_8 old.now all → ContainsIn (created schema_8 appeal) new.now (with_tree all t []))) appeal_next.3
     (create_by schema_8 appeal appeal_text appeal_reads.0 appeal_plain appeal_reads.1 appeal_is appeal_next.1 appeal_next.2 old new r h))
 
-seat_is : table_defined_by seat_text ≡ Ok seat
+pub seat_is : table_defined_by seat_text ≡ Ok seat
 unfolding everything
 seat_is = refl
 
-seat_reads : (command_of (understood schema_9 seat_text) ≡ CreateTable) × (statement_of seat_text (understood schema_9 seat_text) ≡ seat_text)
+pub seat_reads : (command_of (understood schema_9 seat_text) ≡ CreateTable) × (statement_of seat_text (understood schema_9 seat_text) ≡ seat_text)
 unfolding understood everything schema_9
 seat_reads = (refl, refl)
 
-seat_plain : IsPlain (understood schema_9 seat_text)
+pub seat_plain : IsPlain (understood schema_9 seat_text)
 unfolding understood everything schema_9
 seat_plain = (refl, refl)
 
-seat_next : (created schema_9 seat ≡ schema_10) × (lacks_sequence (created schema_9 seat) ≡ false) × (list_all (λ t. not (t.tree == next_tree schema_9)) schema_9.tables ≡ true) × (next_tree schema_9 ≡ 15)
+pub seat_next : (created schema_9 seat ≡ schema_10) × (lacks_sequence (created schema_9 seat) ≡ false) × (list_all (λ t. not (t.tree == next_tree schema_9)) schema_9.tables ≡ true) × (next_tree schema_9 ≡ 15)
 unfolding schema_9 schema_10
 seat_next = (refl, refl, refl, refl)
 

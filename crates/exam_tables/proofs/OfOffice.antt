@@ -37,17 +37,17 @@ columns one version = Null ∷ Int version ∷ []
 fits : (one : ℤ) (version : ℤ) → Fits stored_office (1 ∷ []) (Int one) (columns one version) (row one version)
 fits one version = fits_given stored_office (1 ∷ []) one (columns one version) (row one version) refl (simp (cast_null, cast_int)) refl (λ r. refl)
 
-abbrev terms : List Term
+abbrev pub terms : List Term
 terms = lit (Int (pos 1)) ∷ lit Null ∷ col 0 0 ∷ []
 
 abbrev pub put_text : List ℕ
 put_text = codes "INSERT INTO office (one, version) VALUES (1, ?1)"
 
-put_is : command_of (understood store_schema put_text) ≡ Insert 0 (Values terms 3)
+pub put_is : command_of (understood store_schema put_text) ≡ Insert 0 (Values terms 3)
 unfolding understood everything store_schema
 put_is = refl
 
-put_plain : IsPlain (understood store_schema put_text)
+pub put_plain : IsPlain (understood store_schema put_text)
 unfolding understood everything store_schema
 put_plain = (refl, refl)
 

@@ -3,6 +3,7 @@ use Rattle.std.proofs.lemmas.Result.{IfOk-weaker, IfErr-weaker}
 use Rattle.sqlite.specs.Held.{state}
 use Rattle.sqlite.proofs.Callers.{unchanged_then}
 use Rattle.exam_store.specs.Held.{HoldsOffice}
+use Rattle.exam_store.proofs.Leaving.{left_then, reads_only, still, still_itself, still_then}
 use Rattle.exam_store.proofs.Refusing.{always_ok, part_failed, still_there}
 use Rattle.exam_store.proofs.SavedRows.{seats_match}
 use Rattle.exam_store.proofs.loading.load_office.Goals as goal
@@ -34,13 +35,14 @@ returns-clause-told g c = IfErr-weaker c.from_parts.result _ _ (λ e why. elim w
 pub returns-in_err-check_version-clause-bad : goal.returns-in_err-check_version-clause-bad
 returns-in_err-check_version-clause-bad g c = λ clean.
     let is : c.from_residual.result ≡ Err c.in_err-check_version.field-0.0 = search rules in
-    rw is (part_failed c.in_err-check_version.field-0.0 (λ told. (c.args.conn.now, told)) (λ none all was. inl (none all was)) (c.in_err-check_version.ensures.bad clean))
+    rw is (part_failed c.in_err-check_version.field-0.0 (λ told. (c.args.conn.now, still_itself (state g.S.Store c.args.conn.now), told)) (λ none all was. inl (none all was)) (c.in_err-check_version.ensures.bad clean))
 
 pub returns-in_err-facts-clause-bad : goal.returns-in_err-facts-clause-bad
 returns-in_err-facts-clause-bad g c = λ clean.
     let is : c.from_residual-in_err-facts.result ≡ Err c.in_err-facts.field-0.0 = search rules in
     let clean_1 = c.load_facts.ensures.early clean in
-    rw is (part_failed c.in_err-facts.field-0.0 (λ told. told) (λ none all was.
+    let same_1 = c.in_ok-check_version.ensures.left clean_1 in
+    rw is (part_failed c.in_err-facts.field-0.0 (λ told. (told.0, still_then (state g.S.Store c.args.conn.now) (state g.S.Store c.check_version.new.conn) (state g.S.Store told.0) same_1 told.1, told.2)) (λ none all was.
     inr (inl (none all (still_there (state g.S.Store c.args.conn.now) (state g.S.Store c.check_version.new.conn) all was (c.in_ok-check_version.ensures.ok clean_1 all was))))) (c.in_err-facts.ensures.bad clean))
 
 pub returns-in_err-seats-clause-bad : goal.returns-in_err-seats-clause-bad
@@ -48,7 +50,8 @@ returns-in_err-seats-clause-bad g c = λ clean.
     let is : c.from_residual-in_err-seats.result ≡ Err c.in_err-seats.field-0.0 = search rules in
     let clean_2 = c.load_rows.ensures.early clean in
     let clean_1 = c.load_facts.ensures.early clean_2 in
-    rw is (part_failed c.in_err-seats.field-0.0 (λ told. (c.load_facts.new.conn, told)) (λ none all was.
+    let same_2 = unchanged_then (state g.S.Store c.args.conn.now) (state g.S.Store c.check_version.new.conn) (state g.S.Store c.load_facts.new.conn) (c.in_ok-check_version.ensures.left clean_1) (c.in_ok-facts.ensures.left clean_2) in
+    rw is (part_failed c.in_err-seats.field-0.0 (λ told. (c.load_facts.new.conn, still (state g.S.Store c.args.conn.now) (state g.S.Store c.load_facts.new.conn) same_2, told)) (λ none all was.
     let was_1 = still_there (state g.S.Store c.args.conn.now) (state g.S.Store c.check_version.new.conn) all was (c.in_ok-check_version.ensures.ok clean_1 all was) in
     let was_2 = still_there (state g.S.Store c.check_version.new.conn) (state g.S.Store c.load_facts.new.conn) all was_1 (c.in_ok-facts.ensures.rows clean_2 all was_1) in
     inr (inr (inl (none all was_2)))) (c.in_err-seats.ensures.bad clean seats_match))
@@ -70,3 +73,26 @@ returns-clause-bad g c = λ clean.
             inr (inr (inr (_, record { facts = facts.0; seats = seats.0 }, bad.1))),
       ))
     ]) c.from_parts.ensures.refusal
+
+-- what is left
+
+pub returns-clause-left : goal.returns-clause-left
+returns-clause-left g c = λ clean.
+    let clean_2 = c.load_rows.ensures.early clean in
+    let clean_1 = c.load_facts.ensures.early clean_2 in
+    let same_2 = unchanged_then (state g.S.Store c.args.conn.now) (state g.S.Store c.check_version.new.conn) (state g.S.Store c.load_facts.new.conn) (c.in_ok-check_version.ensures.left clean_1) (c.in_ok-facts.ensures.left clean_2) in
+    reads_only (state g.S.Store c.args.conn.now) (state g.S.Store c.load_rows.new.conn) c.from_parts.result (unchanged_then (state g.S.Store c.args.conn.now) (state g.S.Store c.load_facts.new.conn) (state g.S.Store c.load_rows.new.conn) same_2 (c.in_ok-seats.ensures.left clean))
+
+pub returns-in_err-facts-clause-left : goal.returns-in_err-facts-clause-left
+returns-in_err-facts-clause-left g c = λ clean.
+    let is : c.from_residual-in_err-facts.result ≡ Err c.in_err-facts.field-0.0 = search rules in
+    let clean_1 = c.load_facts.ensures.early clean in
+    rw is (left_then (state g.S.Store c.args.conn.now) (state g.S.Store c.check_version.new.conn) (state g.S.Store c.load_facts.new.conn) (c.in_ok-check_version.ensures.left clean_1) (c.in_err-facts.ensures.left clean))
+
+pub returns-in_err-seats-clause-left : goal.returns-in_err-seats-clause-left
+returns-in_err-seats-clause-left g c = λ clean.
+    let is : c.from_residual-in_err-seats.result ≡ Err c.in_err-seats.field-0.0 = search rules in
+    let clean_2 = c.load_rows.ensures.early clean in
+    let clean_1 = c.load_facts.ensures.early clean_2 in
+    let same_2 = unchanged_then (state g.S.Store c.args.conn.now) (state g.S.Store c.check_version.new.conn) (state g.S.Store c.load_facts.new.conn) (c.in_ok-check_version.ensures.left clean_1) (c.in_ok-facts.ensures.left clean_2) in
+    rw is (left_then (state g.S.Store c.args.conn.now) (state g.S.Store c.load_facts.new.conn) (state g.S.Store c.load_rows.new.conn) same_2 (c.in_err-seats.ensures.left clean))

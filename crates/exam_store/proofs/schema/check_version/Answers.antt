@@ -1,6 +1,7 @@
-use Rattle.std.proofs.Common.{◌≡◌, true, false, inr, refl, sym, ◌∙◌}
+use Rattle.std.proofs.Common.{◌≡◌, Err, [], rules, true, false, inl, inr, refl, sym, ◌∙◌}
 use Rattle.sqlite.specs.Held.{state}
 use Rattle.exam_tables.proofs.OfOffice as office
+use Rattle.exam_tables.proofs.Quiet.{office_is_query, shown_unchanged, failed_unchanged}
 use Rattle.exam_store.proofs.Versioned.{version_held, version_shown}
 use Rattle.exam_store.proofs.schema.check_version.Goals as goal
 
@@ -20,3 +21,17 @@ returns-clause-bad g c = λ clean. inr (inr (
       let no : c.are_version.result ≡ false = c.if-are_version.false in
       absurd cc,
 ))
+
+pub returns-then-are_version-clause-left : goal.returns-then-are_version-clause-left
+returns-then-are_version-clause-left g c = λ clean.
+    shown_unchanged office.load_text office_is_query [] (state g.S.Store c.args.conn.now) (state g.S.Store c.all_rows.new.conn) c.in_ok-rows.rows.items (c.in_ok-rows.ensures.shown clean)
+
+pub returns-clause-left : goal.returns-clause-left
+returns-clause-left g c = λ clean.
+    inl (shown_unchanged office.load_text office_is_query [] (state g.S.Store c.args.conn.now) (state g.S.Store c.all_rows.new.conn) c.in_ok-rows.rows.items (c.in_ok-rows.ensures.shown clean))
+
+pub returns-in_err-rows-clause-left : goal.returns-in_err-rows-clause-left
+returns-in_err-rows-clause-left g c = λ clean.
+    let is : c.from_residual.result ≡ Err c.in_err-rows.field-0.0 = search rules in
+    let it = c.in_err-rows.ensures.failed clean in
+    rw is (failed_unchanged office.load_text [] (state g.S.Store c.args.conn.now) (state g.S.Store c.all_rows.new.conn) it.0 it.2)

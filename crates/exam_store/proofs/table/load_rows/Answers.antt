@@ -1,8 +1,10 @@
 use Rattle.std.proofs.Common.{inl, inr, map, sym, subst}
 use Rattle.std.specs.List.Sorted.{IsPermutation}
+use Rattle.sqlite.specs.Held.{state}
 use Rattle.std.proofs.lemmas.Result.{IfOk-weaker, IfErr-weaker}
 use Rattle.exam_store.proofs.Inserting.{shown_entries}
 use Rattle.exam_store.specs.Loaded.{AreRowsOf}
+use Rattle.exam_store.proofs.Leaving.{reads_only}
 use Rattle.exam_store.proofs.Refusing.{rows_shown}
 use Rattle.exam_store.proofs.table.load_rows.Goals as goal
 
@@ -24,3 +26,6 @@ returns-clause-bad g c = λ clean match.
             (rows_shown c.in_ok-rows.rows.items (all g.T.Table.tree) entries (c.in_ok-rows.ensures.rows clean all was).0 table)),
       ))
     ]) c.read_rows.ensures.bad
+
+pub returns-clause-left : goal.returns-clause-left
+returns-clause-left g c = λ clean. reads_only (state g.S.Store c.args.conn.now) (state g.S.Store c.shown.new.conn) c.read_rows.result (c.in_ok-rows.ensures.left clean)

@@ -1,4 +1,4 @@
-use Rattle.std.proofs.Common.{◌≡◌, Err, false, inl, inr, rules}
+use Rattle.std.proofs.Common.{◌≡◌, Err, false, inl, inr, refl, rules}
 use Rattle.sqlite.specs.Held.{state}
 use Rattle.exam_store.specs.Kept.{Rekeeps}
 use Rattle.exam_store.specs.Applied.{TurnsBy}
@@ -32,3 +32,13 @@ returns-in_err-save-clause-refusal g c =
     let is : c.from_residual-in_err-save.result ≡ Err c.in_err-save.field-0.0 = search rules in
     let ended : c.self.inside.conn.in_transaction ≡ false = search rules in
     rw (is, ← c.self.view_is) (λ clean ours. inr (inr (c.in_ok-next.reply, c.in_ok-next.next, c.in_ok-next.ensures.ok, c.in_err-save.ensures.failed ended clean ours)))
+
+pub returns-in_err-next-clause-step : goal.returns-in_err-next-clause-step
+returns-in_err-next-clause-step g c =
+    let is : c.from_residual.result ≡ Err c.in_err-next.field-0.0 = search rules in
+    rw (is, ← c.self.view_is) (refl, elim c.in_err-next.ensures.refusal [ inl lacks ↦ inr (rw lacks refl) | inr step ↦ inl step ])
+
+pub returns-in_err-save-clause-step : goal.returns-in_err-save-clause-step
+returns-in_err-save-clause-step g c =
+    let is : c.from_residual-in_err-save.result ≡ Err c.in_err-save.field-0.0 = search rules in
+    rw (is, ← c.self.view_is) (refl, inr c.in_err-save.ensures.told)
