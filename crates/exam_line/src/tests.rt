@@ -42,7 +42,8 @@ fn told(alloc: Global, line: &str) -> Result<&'static str, AllocError> {
     match parse_line(alloc, words.as_slice()) {
         Ok(line) => Ok(job_name(&line.job)),
         Err(LineFault::Help(_)) => Ok("help"),
-        Err(_) => Ok("none"),
+        Err(LineFault::NotUnderstood) => Ok("none"),
+        Err(LineFault::NoMemory) => Ok("no memory"),
     }
 }
 
