@@ -2,7 +2,7 @@
 use super::owns::own_rows;
 use crate::{Answer, Place, appeals_body, clashes_body, seats_body, write_answer};
 use exam_office::AppealState;
-use exam_types::{Day, Reason, Refusal};
+use exam_types::{Day, Refusal};
 use std::alloc::Global;
 use std::test::Fail;
 
@@ -64,7 +64,7 @@ fn short_answers(rt: HostRuntime) -> Result<(), Fail> {
 #[test]
 fn bodies_of_own_rows(rt: HostRuntime) -> Result<(), Fail> {
     let alloc = rt.alloc();
-    let own = own_rows(alloc)?;
+    let own = own_rows(alloc, Some(1), "")?;
     let seats =
         b"{\"seats\":[{\"date\":\"2027-06-01\",\"desk\":1,\"extra\":0,\"finish\":\"10:00\",\"hall\":\"A\",\"needs\":\"-\",\"paper\":\"MA-1\",\"session\":\"S1\",\"start\":\"09:00\"}]}";
     assert_eq!(rt; seats_body(alloc, &own)?.as_slice(), seats.as_slice());
@@ -79,10 +79,7 @@ fn bodies_of_own_rows(rt: HostRuntime) -> Result<(), Fail> {
 #[test]
 fn quotes_are_escaped_and_the_unseated_have_no_desk(rt: HostRuntime) -> Result<(), Fail> {
     let alloc = rt.alloc();
-    let mut own = own_rows(alloc)?;
-    own.appeals[0].1.reason = Reason::parse(alloc, "\"\\\u{e9}".as_bytes())?.ok_or("reason")?;
-    own.sessions[0].desk = None;
-    own.sessions[0].hall = None;
+    let own = own_rows(alloc, None, "\"\\\u{e9}")?;
     let seats = seats_body(alloc, &own)?;
     assert!(rt;
         seats.starts_with(b"{\"seats\":[{\"date\":\"2027-06-01\",\"desk\":null,\"extra\":0,")

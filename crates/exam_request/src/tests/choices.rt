@@ -50,7 +50,7 @@ const POSTED: &[u8] =
 fn chosen(alloc: Global, asked: &Asked<'_>) -> Result<Choice, Fail> {
     let router = server_routes(alloc).ok().ok_or("routes")?;
     let found = find(&router, asked.target);
-    let own = own_rows(alloc)?;
+    let own = own_rows(alloc, Some(1), "")?;
     let known = candidate_of(&found).is_some_and(|number| number.get() == 1);
     let own = if known { Some(&own) } else { None };
     Ok(choose(alloc, asked, found, own)?)

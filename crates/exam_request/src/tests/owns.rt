@@ -8,12 +8,13 @@ use exam_types::{
 use std::alloc::Global;
 use std::test::Fail;
 
-/// The candidate 0000001 sits in hall A at desk 1, has a clash, and has appealed against hall B.
-pub fn own_rows(alloc: Global) -> Result<Own, Fail> {
+/// The candidate 0000001 sits in hall A at this desk or nowhere, has a clash, and has appealed against hall B for
+/// this reason.
+pub fn own_rows(alloc: Global, desk: Option<u32>, reason: &str) -> Result<Own, Fail> {
     let mut sessions = Vec::new(alloc);
-    sessions.push(own_session(alloc)?)?;
+    sessions.push(own_session(alloc, desk)?)?;
     let mut appeals = Vec::new(alloc);
-    appeals.push((reference(b"HA1")?, open_appeal(alloc)?))?;
+    appeals.push((reference(b"HA1")?, open_appeal(alloc, reason)?))?;
     Ok(Own {
         number: Number::new(1).ok_or("number")?,
         name: Name::parse(alloc, b"Bo Berg")?.ok_or("name")?,
@@ -35,7 +36,7 @@ fn paper(code: &[u8]) -> Result<PaperCode, Fail> {
     Ok(PaperCode::parse(code).ok_or("paper")?)
 }
 
-fn own_session(alloc: Global) -> Result<OwnSession, Fail> {
+fn own_session(alloc: Global, desk: Option<u32>) -> Result<OwnSession, Fail> {
     Ok(OwnSession {
         session: session()?,
         day: SessionDay::parse(b"2027-06-01").ok_or("day")?,
@@ -48,16 +49,20 @@ fn own_session(alloc: Global) -> Result<OwnSession, Fail> {
             extra: Extra::new(0).ok_or("extra")?,
         },
         finish: Minute::parse(b"10:00").ok_or("finish")?,
-        hall: HallCode::parse(b"A"),
-        desk: Some(1),
+        hall: if desk.is_some() {
+            HallCode::parse(b"A")
+        } else {
+            None
+        },
+        desk,
     })
 }
 
-fn open_appeal(alloc: Global) -> Result<Appeal, Fail> {
+fn open_appeal(alloc: Global, reason: &str) -> Result<Appeal, Fail> {
     Ok(Appeal {
         session: session()?,
         subject: Subject::Hall(HallCode::parse(b"B").ok_or("hall")?),
-        reason: Reason::parse(alloc, b"")?.ok_or("reason")?,
+        reason: Reason::parse(alloc, reason.as_bytes())?.ok_or("reason")?,
         status: Status::Pending,
         lodged: Day::parse(b"2027-05-30").ok_or("day")?,
     })
