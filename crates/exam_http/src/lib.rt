@@ -7,6 +7,8 @@ mod laws;
 mod lines;
 mod posted;
 mod reading;
+#[cfg(test)]
+mod tests;
 
 pub use fault::Fault;
 pub use laws::requests_ask_one_thing;

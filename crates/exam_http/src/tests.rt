@@ -1,0 +1,3 @@
+//! Requests by example, read whole and byte by byte.
+mod posted;
+mod reading;
