@@ -29,8 +29,8 @@ head_or_fault input None = Err (if nat_lt (length input) 8192 then Head else Siz
 abbrev pub head_of : List ℕ → Result (List ℕ × List ℕ) Fault
 head_of input = head_or_fault input (head_len (take 8192 input))
 
--- What the bytes of a reader say, of which it gave at most so many: so say those that it gave, and so says its whole
--- input where that is known.
+-- What the bytes of a reader say, of which it gave at most so many: so say those that it gave, and so says
+-- its whole input where that is known.
 pub record Gave (most : ℕ) (old new : Option (List ℕ)) (Says : List ℕ → Type 0) : Type 0 where
   pub given : List ℕ
   pub few : length given ≤ most
@@ -58,6 +58,8 @@ pub record More (old new : Option (List ℕ)) (had now : List ℕ) : Type 0 wher
   pub at_end : got ≡ [] → IsAtEnd new
 
 -- a read answers how many bytes are in hand now, and a failed one took none
-abbrev pub ReadsMore : Option (List ℕ) → Option (List ℕ) → List ℕ → List ℕ → ℕ → ℕ → Result ℕ Stop → Type 0
-ReadsMore old new before after filled end (Ok total) = (filled ≤ total) × (total ≤ end) × More old new (take filled before) (take total after)
+abbrev pub ReadsMore :
+    Option (List ℕ) → Option (List ℕ) → List ℕ → List ℕ → ℕ → ℕ → Result ℕ Stop → Type 0
+ReadsMore old new before after filled end (Ok total) =
+    (filled ≤ total) × (total ≤ end) × More old new (take filled before) (take total after)
 ReadsMore old new before after filled end (Err stop) = (stop ≡ Failed) × Keeps old new

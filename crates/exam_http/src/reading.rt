@@ -149,7 +149,8 @@ fn read_more<R: Read>(
 ) -> Result<usize, Stop>
     requires room { filled < end }
     requires within { end ≤ length buffer.old }
-    ensures { spec.ReadsMore (R.remaining reader.old) (R.remaining reader.new) buffer.old buffer.new filled end result }
+    ensures { spec.ReadsMore (R.remaining reader.old) (R.remaining reader.new)
+        buffer.old buffer.new filled end result }
 {
     match reader.read(&mut buffer[filled..end]) {
         Ok(count) => Ok(filled + count),
