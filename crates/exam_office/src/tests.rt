@@ -10,6 +10,7 @@ mod limits;
 mod lines;
 mod moves;
 mod opening;
+mod own;
 mod replies;
 mod scenes;
 mod seating;
