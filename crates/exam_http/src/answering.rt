@@ -12,8 +12,8 @@ ghost use Rattle.exam_http.specs.Answering as spec;
 
 use exam_office::{AppealState, Own, Reply};
 use exam_request::{
-    Answer, Asked, Choice, Found, appeals_body, candidate_of, choose, clashes_body, find, seats_body,
-    server_routes,
+    Answer, Asked, Choice, Found, appeals_body, candidate_of, choose, clashes_body, find,
+    seats_body, server_routes,
 };
 use exam_store::Store;
 use exam_types::{Day, Refusal};
@@ -80,8 +80,8 @@ fn done<S: Alter>(
     choice: Choice,
     own: Option<Own>,
 ) -> Answer
-    ensures { spec.IsBusy store.old result store.new ⊎ spec.Does S.Store today (option_map shown own.entry)
-        store.old choice.entry result store.new }
+    ensures { spec.IsBusy store.old result store.new ⊎ spec.Does S.Store today (option_map shown own)
+        store.old choice result store.new }
 {
     match choice {
         Choice::Fault(fault) => Answer::error(fault.number()),
@@ -126,8 +126,8 @@ fn appeals(alloc: Global, own: &Option<Own>) -> Answer
 
 /// An answer with this body, or the answer to want of memory.
 fn with_body(body: Result<Vec<u8>, Refusal>) -> Answer
-    ensures ok { IfOk body.entry (λ bytes. result ≡ ok_told bytes.items) }
-    ensures err { IfErr body.entry (λ e. result ≡ error_told (refusal_number e)) }
+    ensures ok { IfOk body (λ bytes. result ≡ ok_told bytes.items) }
+    ensures err { IfErr body (λ e. result ≡ error_told (refusal_number e)) }
 {
     match body {
         Ok(bytes) => Answer::ok(bytes),

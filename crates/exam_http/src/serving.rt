@@ -2,7 +2,7 @@
 ghost use Rattle.exam_http.specs.Serving as spec;
 
 use crate::answering::answer;
-use exam_request::{Answer, read_request, write_answer};
+use exam_request::{Answer, Asked, Fault, read_request, write_answer};
 use exam_store::Store;
 use exam_types::Day;
 use sqlite::Alter;
@@ -31,14 +31,45 @@ pub fn serve_one<S: Alter, R: Read, W: Write>(
     reader: &mut R,
     writer: &mut W,
 ) -> Result<(), HttpFault>
-    ensures { spec.Serves S.Store W.contents today (R.remaining reader.old) store.old writer.old result
-        store.new writer.new }
+    ensures { spec.Serves S.Store W.contents today (R.remaining reader.old) (R.remaining reader.new) store.old
+        writer.old result store.new writer.new }
 {
     let mut buffer = [0; MOST];
-    let answer = match read_request(reader, &mut buffer) {
-        Ok(Ok(asked)) => answer(alloc, store, today, &asked),
-        Ok(Err(fault)) => Answer::error(fault.number()),
-        Err(_) => return Err(HttpFault::Read),
-    };
-    write_answer(&answer, writer).map_err(|_| HttpFault::Write)
+    match read_request(reader, &mut buffer) {
+        Ok(asked) => write_back(alloc, store, today, &asked, writer),
+        Err(_) => Err(HttpFault::Read),
+    }
+}
+
+/// Answers what was asked.
+fn write_back<S: Alter, W: Write>(
+    alloc: Global,
+    store: &mut Store<S>,
+    today: Day,
+    asked: &Result<Asked<'_>, Fault>,
+    writer: &mut W,
+) -> Result<(), HttpFault>
+    ensures { spec.Replies S.Store W.contents today (spec.asked_as asked.now) store.old writer.old result
+        store.new writer.new }
+{
+    let answer = told(alloc, store, today, asked);
+    match write_answer(&answer, writer) {
+        Ok(()) => Ok(()),
+        Err(_) => Err(HttpFault::Write),
+    }
+}
+
+/// What is told of what was asked.
+fn told<S: Alter>(
+    alloc: Global,
+    store: &mut Store<S>,
+    today: Day,
+    asked: &Result<Asked<'_>, Fault>,
+) -> Answer
+    ensures { spec.AnswersAsked S.Store today store.old (spec.asked_as asked.now) result store.new }
+{
+    match asked {
+        Ok(asked) => answer(alloc, store, today, asked),
+        Err(fault) => Answer::error(fault.number()),
+    }
 }
