@@ -37,3 +37,4 @@ pub mod OwnRows
 pub mod OwnFacts
 pub mod OwnRetracting
 pub mod OwnLodging
+pub mod OwnView

@@ -39,7 +39,10 @@ pub use laws::{
 };
 pub use office::{Office, Seats};
 pub use own::{Own, OwnSession};
-pub use own_laws::{own_rows_decide_a_lodging, own_rows_decide_a_retraction};
+pub use own_laws::{
+    lodging_and_retracting_show_others_nothing, own_rows_decide_a_lodging,
+    own_rows_decide_a_retraction,
+};
 pub use steps::{next_office, run, step};
 pub use tables::{Table, first_bad_table};
 pub use view::{AppealRow, Clash, Seat, SessionShortage, SessionView};
