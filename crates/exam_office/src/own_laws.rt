@@ -14,8 +14,8 @@ ghost use Rattle.exam_office.specs.State.{State};
 ghost use Rattle.exam_office.specs.Steps.{Step};
 
 /// Two offices that show a candidate the same answer a lodging of the candidate the same, and show them the
-/// same after it: it is accepted or refused alike, for the same reason, whatever there is of others. So a
-/// lodging tells its candidate nothing that what they see does not decide.
+/// same after it: it is accepted or refused alike, for the same reason, whatever there is of others. So
+/// lodging tells a candidate nothing of others beyond what they are shown already.
 pub fn own_rows_decide_a_lodging()
     ensures refusal { (lodging : Lodging) (day : ℕ) (one other : State)
         → IsGood one → IsInOrder one → IsGood other → IsInOrder other
