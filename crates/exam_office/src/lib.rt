@@ -17,6 +17,7 @@ mod lodging;
 mod moves;
 mod office;
 mod own;
+mod own_laws;
 mod own_source;
 mod references;
 mod repair;
@@ -38,6 +39,10 @@ pub use laws::{
 };
 pub use office::{Office, Seats};
 pub use own::{Own, OwnSession};
+pub use own_laws::{
+    lodging_and_retracting_show_others_nothing, own_rows_decide_a_lodging,
+    own_rows_decide_a_retraction,
+};
 pub use steps::{next_office, run, step};
 pub use tables::{Table, first_bad_table};
 pub use view::{AppealRow, Clash, Seat, SessionShortage, SessionView};

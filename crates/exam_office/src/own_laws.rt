@@ -1,0 +1,73 @@
+//! Laws of what a candidate is answered and shown: their own rows decide it, and nobody else's. Every
+//! `Office` is good (`Office::is_good`) and in order (`Office::is_in_order`), as the laws ask.
+ghost use Rattle.std.specs.Prelude.{◌≡◌, ◌≢◌, ℕ, Result};
+ghost use Rattle.exam_types.specs.declared.refusal.Refusal.{Refusal};
+ghost use Rattle.exam_rules.specs.Relations.{Code};
+ghost use Rattle.exam_office.specs.declared.command.Command.TheVariants as command;
+ghost use Rattle.exam_office.specs.declared.command.Lodging.{Lodging};
+ghost use Rattle.exam_office.specs.declared.command.Reply.{Reply};
+ghost use Rattle.exam_office.specs.Good.{IsGood};
+ghost use Rattle.exam_office.specs.Lodgings.{lodging_refusal, retraction_refusal};
+ghost use Rattle.exam_office.specs.Orders.{IsInOrder};
+ghost use Rattle.exam_office.specs.Own.{own_of};
+ghost use Rattle.exam_office.specs.State.{State};
+ghost use Rattle.exam_office.specs.Steps.{Step};
+
+/// Two offices that show a candidate the same answer a lodging of the candidate the same, and show them the
+/// same after it: it is accepted or refused alike, for the same reason, whatever there is of others. So
+/// lodging tells a candidate nothing of others beyond what they are shown already.
+pub fn own_rows_decide_a_lodging()
+    ensures refusal { (lodging : Lodging) (day : ℕ) (one other : State)
+        → IsGood one → IsInOrder one → IsGood other → IsInOrder other
+        → own_of one lodging.number ≡ own_of other lodging.number
+        → lodging_refusal one.relations one.seats day lodging
+        ≡ lodging_refusal other.relations other.seats day lodging }
+    ensures answer { (lodging : Lodging) (day : ℕ) (one other one_after other_after : State)
+        (first second : Result Reply Refusal)
+        → IsGood one → IsInOrder one → IsGood other → IsInOrder other
+        → own_of one lodging.number ≡ own_of other lodging.number
+        → Step (command.Lodge lodging) day one first one_after
+        → Step (command.Lodge lodging) day other second other_after → first ≡ second }
+    ensures shown { (lodging : Lodging) (day : ℕ) (one other one_after other_after : State)
+        (first second : Result Reply Refusal)
+        → IsGood one → IsInOrder one → IsGood other → IsInOrder other
+        → IsInOrder one_after → IsInOrder other_after
+        → own_of one lodging.number ≡ own_of other lodging.number
+        → Step (command.Lodge lodging) day one first one_after
+        → Step (command.Lodge lodging) day other second other_after
+        → own_of one_after lodging.number ≡ own_of other_after lodging.number }
+{}
+
+/// The same of a retraction, on whatever days.
+pub fn own_rows_decide_a_retraction()
+    ensures refusal { (number : ℕ) (reference : Code) (one other : State)
+        → IsGood one → IsGood other → own_of one number ≡ own_of other number
+        → retraction_refusal one.relations number reference
+        ≡ retraction_refusal other.relations number reference }
+    ensures answer { (number : ℕ) (reference : Code) (day later : ℕ)
+        (one other one_after other_after : State) (first second : Result Reply Refusal)
+        → IsGood one → IsGood other → own_of one number ≡ own_of other number
+        → Step (command.Retract number reference) day one first one_after
+        → Step (command.Retract number reference) later other second other_after → first ≡ second }
+    ensures shown { (number : ℕ) (reference : Code) (day later : ℕ)
+        (one other one_after other_after : State) (first second : Result Reply Refusal)
+        → IsGood one → IsInOrder one → IsGood other → IsInOrder other
+        → IsInOrder one_after → IsInOrder other_after → own_of one number ≡ own_of other number
+        → Step (command.Retract number reference) day one first one_after
+        → Step (command.Retract number reference) later other second other_after
+        → own_of one_after number ≡ own_of other_after number }
+{}
+
+/// What is shown of a candidate stays as it is when another lodges or retracts an appeal, accepted or
+/// refused.
+pub fn lodging_and_retracting_show_others_nothing()
+    ensures lodging { (lodging : Lodging) (day number : ℕ) (before after : State)
+        (answer : Result Reply Refusal)
+        → IsGood before → IsInOrder before → IsInOrder after → lodging.number ≢ number
+        → Step (command.Lodge lodging) day before answer after → own_of after number ≡ own_of before number }
+    ensures retracting { (appellant : ℕ) (reference : Code) (day number : ℕ) (before after : State)
+        (answer : Result Reply Refusal)
+        → IsGood before → IsInOrder before → IsInOrder after → appellant ≢ number
+        → Step (command.Retract appellant reference) day before answer after
+        → own_of after number ≡ own_of before number }
+{}
