@@ -29,7 +29,7 @@ options =
     with_rule (with_rule (on_top (λ shape. record shape { subcommand_required = true }) (new_app (codes "examoffice")))
     (option_rule (codes "db"))) (option_rule (codes "today"))
 
--- the commands that change the office or make it, with their words
+-- the commands that make the office, change it or serve it, with their words
 abbrev pub changes : List (Text × List Text)
 changes =
     (codes "init", [])
@@ -38,6 +38,7 @@ changes =
     ∷ (codes "reinstate", codes "number" ∷ codes "paper" ∷ [])
     ∷ (codes "close-hall", codes "session" ∷ codes "hall" ∷ [])
     ∷ (codes "decide", codes "number" ∷ codes "ref" ∷ codes "outcome" ∷ codes "reason" ∷ [])
+    ∷ (codes "serve", codes "port" ∷ [])
     ∷ []
 
 -- the commands that print a sheet, with their words

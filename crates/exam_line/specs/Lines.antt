@@ -2,13 +2,14 @@
 use Rattle.std.specs.Prelude.{◌≡◌, ◌≢◌, ◌⊎◌, ⊤, ℕ, List, [], Bool, Option, Some, None, Result, Ok, Err, codes}
 use Rattle.std.specs.Prelude.{option_and_then, option_map, if◌then◌else◌}
 use Rattle.std.specs.Str.{bytes_eq}
+use Rattle.std.specs.Fmt.{decimal}
 use Rattle.clap.specs.Words.{IsAmong, Row, Text, fault_of, first_of, found_of, matches_of, rows_of, subcommand_of}
 use Rattle.clap.specs.declared.error.kind.ErrorKind.{ErrorKind}
 use Rattle.clap.specs.declared.error.kind.ErrorKind.TheVariants as kind
 use Rattle.clap.specs.declared.parser.matches.ArgMatches.{ArgMatches}
 use Rattle.exam_types.specs.Codes.{is_hall_code, is_paper_code, is_reference, is_session_code}
 use Rattle.exam_types.specs.Days.{day_of}
-use Rattle.exam_types.specs.Numbers.{number_in}
+use Rattle.exam_types.specs.Numbers.{number_in, value_in}
 use Rattle.exam_types.specs.Texts.{is_reason}
 use Rattle.exam_office.specs.declared.command.Decision.{Decision}
 use Rattle.exam_office.specs.declared.command.Outcome.{Outcome}
@@ -35,6 +36,7 @@ pub data Task : Type 0 where
   reinstate : ℕ → Text → Task
   close_hall : Text → Text → Task
   decide : Decision → Task
+  serve : ℕ → Task
   print : Text → Sheet → Task
 
 -- the path of the database, the day, and the command
@@ -50,6 +52,7 @@ task_shown (job.Withdraw number paper) = withdraw number paper
 task_shown (job.Reinstate number paper) = reinstate number paper
 task_shown (job.CloseHall session hall) = close_hall session hall
 task_shown (job.Decide decision) = decide decision
+task_shown (job.Serve port) = serve port
 task_shown (job.Sheet session sheet) = print session sheet
 
 abbrev pub shown : Line → Said
@@ -84,6 +87,10 @@ outcome_in text =
     if bytes_eq text (codes "granted") then Some Grant
     else (if bytes_eq text (codes "refused") then Some Refuse
     else None)
+
+-- a decimal without leading zeros, from 1 to 65535
+abbrev pub port_in : Text → Option ℕ
+port_in = value_in decimal 1 65535
 
 abbrev pub number_of : List Row → Option ℕ
 number_of = value_of number_in (codes "number")
@@ -154,7 +161,8 @@ plain_task_of name words =
     else (if bytes_eq name (codes "withdraw") then option_map (λ e. withdraw e.0 e.1) (entry_of words)
     else (if bytes_eq name (codes "reinstate") then option_map (λ e. reinstate e.0 e.1) (entry_of words)
     else (if bytes_eq name (codes "close-hall") then option_map (λ o. close_hall o.0 o.1) (opening_of words)
-    else print_of name words))))
+    else (if bytes_eq name (codes "serve") then option_map serve (value_of port_in (codes "port") words)
+    else print_of name words)))))
 
 -- the command with this name and these words
 abbrev pub task_of : Text → List Row → Option Task

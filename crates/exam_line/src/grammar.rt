@@ -18,7 +18,7 @@ pub fn office_command<'a>(alloc: Global) -> Result<Command<'a>, AllocError>
     with_sheets(alloc, command)
 }
 
-/// The command with those that change the office or make it.
+/// The command with those that make the office, change it or serve it.
 fn with_changes<'a>(alloc: Global, command: Command<'a>) -> Result<Command<'a>, AllocError>
     ensures { IfOk result (λ c. app_of c ≡ fold spec.with_job (app_of command.entry) spec.changes) }
 {
@@ -36,7 +36,8 @@ fn with_changes<'a>(alloc: Global, command: Command<'a>) -> Result<Command<'a>, 
         ("outcome", help::OUTCOME),
         ("reason", help::REASON),
     ];
-    with_job(alloc, command, "decide", help::DECIDE, &decision)
+    let command = with_job(alloc, command, "decide", help::DECIDE, &decision)?;
+    with_job(alloc, command, "serve", help::SERVE, &[("port", help::PORT)])
 }
 
 /// The command with those that print a sheet of a session.

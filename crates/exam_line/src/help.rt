@@ -36,6 +36,10 @@ pub const OUTCOME: &str = "What is decided: granted or refused";
 
 pub const REASON: &str = "What the candidate is answered, as 'a window was found'; it may be empty";
 
+pub const SERVE: &str = "Answers candidates over HTTP, on this machine alone, until it is stopped";
+
+pub const PORT: &str = "The port to serve on, as 8080";
+
 pub const DOOR_LIST: &str = "Prints who sits in a hall, by desk";
 
 pub const ATTENDANCE: &str = "Prints who sits a paper in a session, with hall, desk and finish";

@@ -6,7 +6,7 @@ ghost use Rattle.exam_line.specs.Lines as spec;
 
 use crate::grammar::office_command;
 use crate::values::{
-    decision_of, entry_of, hall_of, kind_of, number_of, opening_of, paper_of, session_of, text,
+    decision_of, entry_of, hall_of, kind_of, number_of, opening_of, paper_of, port_of, session_of, text,
     today_of,
 };
 use clap::ArgMatches;
@@ -37,6 +37,10 @@ pub enum Job<'a> {
         hall: HallCode,
     },
     Decide(Decision),
+    /// Answers candidates over HTTP on the port.
+    Serve {
+        port: u16,
+    },
     /// Prints a sheet of the session.
     Sheet {
         session: SessionCode,
@@ -181,6 +185,10 @@ fn read_plain_job<'a>(name: &str, words: &ArgMatches<'a>) -> Option<Job<'a>>
         "close-hall" => {
             let (session, hall) = opening_of(words)?;
             Some(Job::CloseHall { session, hall })
+        }
+        "serve" => {
+            let port = port_of(words)?;
+            Some(Job::Serve { port })
         }
         _ => print_of(name, words),
     }

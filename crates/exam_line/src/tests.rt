@@ -32,6 +32,7 @@ fn job_name(job: &Job<'_>) -> &'static str {
         Job::Reinstate { .. } => "reinstate",
         Job::CloseHall { .. } => "close-hall",
         Job::Decide(_) => "decide",
+        Job::Serve { .. } => "serve",
         Job::Sheet { sheet, .. } => sheet_name(sheet),
     }
 }
@@ -64,6 +65,8 @@ fn each_command_is_understood(rt: HostRuntime) -> Result<(), Fail> {
         (given!("close-hall|S1|A"), "close-hall"),
         (given!("decide|0000001|HA1|granted|"), "decide"),
         (given!("decide|0000001|HA1|refused|--|-5 degrees"), "decide"),
+        (given!("serve|1"), "serve"),
+        (given!("serve|65535"), "serve"),
         (given!("door-list|S1|A"), "door-list"),
         (given!("attendance|S1|MA-1"), "attendance"),
         (given!("clashes|S1"), "clashes"),
@@ -93,6 +96,10 @@ fn other_words_are_not_understood(rt: HostRuntime) -> Result<(), Fail> {
         given!("clashes"),
         given!("export|s1"),
         given!("serve"),
+        given!("serve|0"),
+        given!("serve|080"),
+        given!("serve|+80"),
+        given!("serve|65536"),
         given!(""),
         "--db|office.db|--today|2027-02-30|init",
         "--db|office.db|init",

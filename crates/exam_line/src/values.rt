@@ -1,5 +1,6 @@
 //! The values of the words of a command.
-ghost use Rattle.std.specs.Prelude.{◌≡◌, option_map, codes, IfOk, IfErr};
+ghost use Rattle.std.specs.Prelude.{◌≡◌, ◌↔◌, ◌≤◌, ℕ, Some, option_map, codes, IfOk, IfErr};
+ghost use Rattle.std.specs.Fmt.{decimal};
 ghost use Rattle.clap.specs.Words.{first_of};
 ghost use Rattle.exam_types.specs.Codes.{is_reference};
 ghost use Rattle.exam_types.specs.Days.{day_of};
@@ -9,6 +10,7 @@ ghost use Rattle.exam_line.specs.Lines as spec;
 use clap::ArgMatches;
 use exam_office::{Decision, Kind, Outcome};
 use exam_types::{Day, HallCode, Number, PaperCode, Reason, Reference, Refusal, SessionCode};
+use itoa::Buffer;
 use std::alloc::Global;
 
 /// The text of an option or a word.
@@ -85,6 +87,32 @@ fn kind_named(name: &str) -> Option<Kind>
         "entries" => Some(Kind::Entries),
         "arrangements" => Some(Kind::Arrangements),
         _ => None,
+    }
+}
+
+/// The port that the words name.
+pub fn port_of(words: &ArgMatches<'_>) -> Option<u16>
+    ensures { result ≡ spec.value_of spec.port_in (codes "port") (spec.rows words.now) }
+{
+    port_in(text(words, "port")?)
+}
+
+fn port_in(text: &str) -> Option<u16>
+    ensures { result ≡ spec.port_in text.now }
+{
+    port_written(text)
+}
+
+/// The number from 1 to 65535 whose decimal this is.
+fn port_written(text: &str) -> Option<u16>
+    ensures { (n : ℕ) → (result ≡ Some n) ↔ (((1 ≤ n) × (n ≤ 65535)) × (decimal n ≡ text.now)) }
+{
+    let port = text.parse::<u16>().ok()?;
+    let mut buffer = Buffer::new();
+    if port > 0 && buffer.format(port) == text {
+        Some(port)
+    } else {
+        None
     }
 }
 

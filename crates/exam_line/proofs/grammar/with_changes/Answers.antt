@@ -8,4 +8,5 @@ returns c =
     let three = and_job _ _ _ _ (codes "number" ∷ codes "paper" ∷ []) c.in_ok-command-3.ensures two in
     let four = and_job _ _ _ _ (codes "number" ∷ codes "paper" ∷ []) c.in_ok-command-4.ensures three in
     let five = and_job _ _ _ _ (codes "session" ∷ codes "hall" ∷ []) c.in_ok-command-5.ensures four in
-    last_job _ _ _ _ (codes "number" ∷ codes "ref" ∷ codes "outcome" ∷ codes "reason" ∷ []) five c.with_job-6.ensures
+    let six = and_job _ _ _ _ (codes "number" ∷ codes "ref" ∷ codes "outcome" ∷ codes "reason" ∷ []) c.in_ok-command-6.ensures five in
+    last_job _ _ _ _ (codes "port" ∷ []) six c.with_job-7.ensures
