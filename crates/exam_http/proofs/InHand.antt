@@ -1,6 +1,6 @@
 -- What the bytes in hand say of the whole input.
 use Rattle.std.proofs.Common.{◌≡◌, ◌+◌, ◌-◌, ◌≤◌, ◌<◌, ℕ, suc, List, [], ◌∷◌, ◌++◌, length, take, drop, cond, Bool, true, false, Option, Some, None, refl, sym, ap, subst, ◌∙◌, arith, append-nil}
-use Rattle.std.specs.Prelude.{IfSome, Ok, Err, nat_lt, option_map}
+use Rattle.std.specs.Prelude.{IfSome, Ok, Err, nat_lt, option_map, ⊤}
 use Rattle.std.specs.Str.{bytes_eq}
 use Rattle.std.specs.Io.KnownBytes.{Consumes, IsAtEnd, Keeps}
 use Rattle.std.proofs.KnownBytes.{Consumes-trans}
@@ -10,7 +10,7 @@ use Rattle.std.proofs.lemmas.Slice.{take-put_mid}
 use Rattle.std.proofs.lemmas.Slice.Eq.{bytes_eq-Decides}
 use Rattle.std.proofs.Math.Seq.{take-append-add, take-append_seam}
 use borrow.Rule.Slice.PartMut.{put_mid}
-use Rattle.exam_http.specs.Input.{GaveAtMost, HeadRead, More, begins, empty_line, head_len, head_of, head_or_fault}
+use Rattle.exam_http.specs.Input.{Gave, HeadRead, More, begins, empty_line, head_len, head_of, head_or_fault}
 use Rattle.exam_http.specs.declared.fault.Fault.TheVariants.{Head, Size}
 
 -- a read of n bytes behind the first a
@@ -67,36 +67,63 @@ front xs rest h =
 
 -- the head is in hand
 pub in_hand : (old new : Option (List ℕ)) (xs : List ℕ) (n : ℕ) → length xs ≤ 8192 → head_len xs ≡ Some n → Consumes old new xs → HeadRead old new xs n
-in_hand None new xs n few h c = record { within = (head_within xs n h).1; head = h; consumed = c; known = tt }
-in_hand (Some input) None xs n few h c = absurd c
-in_hand (Some input) (Some rest) xs n few h c =
-    let w = (head_within xs n h).1 in
-    let f = front xs rest few in
-    let found : head_len (take 8192 input) ≡ Some n = rw (c, f.1) (head_stays xs f.0 n h) in
-    let cut : head_of input ≡ Ok (take n input, drop n input) = ap (head_or_fault input) found in
-    let parts : head_of input ≡ Ok (take n xs, drop n xs ++ rest) =
-    cut ∙ ap (λ i. Ok (take n i, drop n i)) c ∙ ap (λ a. Ok (a, drop n (xs ++ rest))) (take-append-le n xs rest w) ∙ ap (λ d. Ok (take n xs, d)) (drop-append-le n xs rest w) in
-    record { within = w; head = h; consumed = c; known = (rest, parts, refl) }
+in_hand old new xs n few h c = record { within = (head_within xs n h).1; consumed = c; head = λ rest. stands rest }
+  where
+    stands : (rest : List ℕ) → head_of (xs ++ rest) ≡ Ok (take n xs, drop n xs ++ rest)
+    stands rest =
+        let w = (head_within xs n h).1 in
+        let f = front xs rest few in
+        let found : head_len (take 8192 (xs ++ rest)) ≡ Some n = rw f.1 (head_stays xs f.0 n h) in
+        ap (head_or_fault (xs ++ rest)) found
+        ∙ ap (λ a. Ok (a, drop n (xs ++ rest))) (take-append-le n xs rest w) ∙ ap (λ d. Ok (take n xs, d)) (drop-append-le n xs rest w)
 
--- the input ended without one
-pub cut_short : (old new : Option (List ℕ)) (xs : List ℕ) → length xs < 8192 → head_len xs ≡ None → Consumes old new xs → IsAtEnd new → IfSome old (λ input. head_of input ≡ Err Head)
-cut_short None new xs few h c end = tt
-cut_short (Some input) None xs few h c end = absurd c
-cut_short (Some input) (Some rest) xs few h c end =
-    let all : input ≡ xs = c ∙ ap (λ r. xs ++ r) end ∙ append-nil xs in
-    let short : take 8192 input ≡ input = rw all (take_all 8192 xs (omega arith)) in
-    let less : nat_lt (length input) 8192 ≡ true = rw all (lt-ltb (length xs) 8192 few) in
-    let none : head_len input ≡ None = rw all h in
-    ap (λ i. head_or_fault input (head_len i)) short ∙ ap (head_or_fault input) none ∙ rw less refl
+-- what was given says it whatever follows
+pub gave_all : (P : List ℕ → Type 0) (old new : Option (List ℕ)) (xs : List ℕ) (most : ℕ) → length xs ≤ most → Consumes old new xs → ((rest : List ℕ) → P (xs ++ rest)) → Gave most old new P
+gave_all P old new xs most few c says = record { given = xs; few = few; consumed = c; says = subst P (append-nil xs) (says []); known = whole old new c }
+  where
+    whole : (o n : Option (List ℕ)) → Consumes o n xs → IfSome o P
+    whole None n c = tt
+    whole (Some input) None c = absurd c
+    whole (Some input) (Some rest) c = subst P (sym c) (says rest)
+
+-- what was given says it, and nothing follows
+pub gave_end : (P : List ℕ → Type 0) (old new : Option (List ℕ)) (xs : List ℕ) (most : ℕ) → length xs ≤ most → Consumes old new xs → IsAtEnd new → P xs → Gave most old new P
+gave_end P old new xs most few c end says = record { given = xs; few = few; consumed = c; says = says; known = whole old new c end }
+  where
+    whole : (o n : Option (List ℕ)) → Consumes o n xs → IsAtEnd n → IfSome o P
+    whole None n c end = tt
+    whole (Some input) None c end = absurd c
+    whole (Some input) (Some rest) c end = subst P (sym (c ∙ ap (λ r. xs ++ r) end ∙ append-nil xs)) says
+
+-- the input ended without a head
+pub cut_short : (old new : Option (List ℕ)) (xs : List ℕ) → length xs < 8192 → head_len xs ≡ None → Consumes old new xs → IsAtEnd new → Gave 8192 old new (λ input. head_of input ≡ Err Head)
+cut_short old new xs few h c end =
+    let short : take 8192 xs ≡ xs = take_all 8192 xs (omega arith) in
+    let less : nat_lt (length xs) 8192 ≡ true = lt-ltb (length xs) 8192 few in
+    let cut : head_of xs ≡ Err Head = ap (λ i. head_or_fault xs (head_len i)) short ∙ ap (head_or_fault xs) h ∙ rw less refl in
+    gave_end (λ input. head_of input ≡ Err Head) old new xs 8192 (omega arith) c end cut
 
 -- the room ended without one
-pub too_long : (old new : Option (List ℕ)) (xs : List ℕ) → length xs ≡ 8192 → head_len xs ≡ None → Consumes old new xs → IfSome old (λ input. head_of input ≡ Err Size)
-too_long None new xs few h c = tt
-too_long (Some input) None xs few h c = absurd c
-too_long (Some input) (Some rest) xs few h c =
-    let front_is : take 8192 input ≡ xs = rw (c, ← few) (take-append_seam xs rest) in
-    let size : 8192 ≤ length input = omega (arith, ap length c, length-append xs rest) in
-    ap (λ i. head_or_fault input (head_len i)) front_is ∙ ap (head_or_fault input) h ∙ rw (le-ltb (length input) 8192 size) refl
+pub too_long : (old new : Option (List ℕ)) (xs : List ℕ) → length xs ≡ 8192 → head_len xs ≡ None → Consumes old new xs → Gave 8192 old new (λ input. head_of input ≡ Err Size)
+too_long old new xs few h c = gave_all (λ input. head_of input ≡ Err Size) old new xs 8192 (omega arith) c (λ rest. long rest)
+  where
+    long : (rest : List ℕ) → head_of (xs ++ rest) ≡ Err Size
+    long rest =
+        let front_is : take 8192 (xs ++ rest) ≡ xs = rw (← few) (take-append_seam xs rest) in
+        let size : 8192 ≤ length (xs ++ rest) = omega (arith, length-append xs rest) in
+        ap (λ i. head_or_fault (xs ++ rest) (head_len i)) front_is ∙ ap (head_or_fault (xs ++ rest)) h ∙ rw (le-ltb (length (xs ++ rest)) 8192 size) refl
+
+-- a read that failed took nothing
+pub none_taken : (old mid new : Option (List ℕ)) (had : List ℕ) → Consumes old mid had → Keeps mid new → Consumes old new had
+none_taken None mid new had c k = tt
+none_taken (Some input) None new had c k = absurd c
+none_taken (Some input) (Some rest) None had c k = absurd k
+none_taken (Some input) (Some rest) (Some left) had c k = c ∙ ap (λ r. had ++ r) (sym k)
+
+-- a read failed
+pub gave_up : (old mid new : Option (List ℕ)) (buffer : List ℕ) (filled most : ℕ) → Consumes old mid (take filled buffer) → Keeps mid new → filled ≤ most → Gave most old new (λ input. ⊤)
+gave_up old mid new buffer filled most c k few =
+    gave_all (λ input. ⊤) old new (take filled buffer) most (omega (arith, length-take filled buffer)) (none_taken old mid new (take filled buffer) c k) (λ rest. tt)
 
 -- a turn that met the end of the input
 pub ended : (old mid new : Option (List ℕ)) (had now : List ℕ) → Consumes old mid had → More mid new had now → length now ≡ length had → Consumes old new had × IsAtEnd new
@@ -108,14 +135,3 @@ ended old mid new had now c m same =
 -- a turn that took more
 pub taken : (old mid new : Option (List ℕ)) (had now : List ℕ) → Consumes old mid had → More mid new had now → Consumes old new now
 taken old mid new had now c m = subst (Consumes old new) (sym m.now_is) (Consumes-trans old mid new had m.got c m.consumed)
-
--- a read that failed took nothing
-pub none_taken : (old mid new : Option (List ℕ)) (had : List ℕ) → Consumes old mid had → Keeps mid new → Consumes old new had
-none_taken None mid new had c k = tt
-none_taken (Some input) None new had c k = absurd c
-none_taken (Some input) (Some rest) None had c k = absurd k
-none_taken (Some input) (Some rest) (Some left) had c k = c ∙ ap (λ r. had ++ r) (sym k)
-
--- the bytes in hand are few
-pub gave : (old new : Option (List ℕ)) (buffer : List ℕ) (filled most : ℕ) → Consumes old new (take filled buffer) → filled ≤ most → GaveAtMost most old new
-gave old new buffer filled most c few = (take filled buffer, omega (arith, length-take filled buffer), c)

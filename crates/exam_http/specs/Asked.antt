@@ -1,7 +1,7 @@
 -- What a request asks, as its bytes say.
-use Rattle.std.specs.Prelude.{◌≡◌, ◌+◌, ◌≤◌, ℕ, List, length, take, drop, Option, option_map, Result, Ok, Err, IfSome, MatchResult, nat_lt, ⊤, if◌then◌else◌}
+use Rattle.std.specs.Prelude.{◌≡◌, ◌+◌, ◌≤◌, ℕ, List, length, take, drop, Option, option_map, Result, Ok, Err, MatchResult, nat_lt, ⊤, if◌then◌else◌}
 use Rattle.exam_http.specs.Head.{Judges, LiesIn, Said, said_at}
-use Rattle.exam_http.specs.Input.{head_of}
+use Rattle.exam_http.specs.Input.{Gave, head_of}
 use Rattle.exam_http.specs.declared.fault.Fault.{Fault}
 use Rattle.exam_http.specs.declared.fault.Fault.TheVariants.{Length}
 use Rattle.exam_http.specs.declared.reading.Asked.{Asked}
@@ -48,11 +48,11 @@ request_of asked = record {
   body = asked.body.now;
 }
 
--- where the bytes of the reader are known, the answer is what they ask
-abbrev pub AnswersInput : Option (List ℕ) → Result (Result Asked Fault) ReadFailed → Type 0
-AnswersInput input (Err failed) = ⊤
-AnswersInput input (Ok (Ok asked)) = IfSome input (λ bytes. Asks bytes (Ok (request_of asked)))
-AnswersInput input (Ok (Err fault)) = IfSome input (λ bytes. Asks bytes (Err fault))
+-- the answer is what these bytes ask
+abbrev pub IsAnswerTo : Result (Result Asked Fault) ReadFailed → List ℕ → Type 0
+IsAnswerTo (Err failed) input = ⊤
+IsAnswerTo (Ok (Ok asked)) input = Asks input (Ok (request_of asked))
+IsAnswerTo (Ok (Err fault)) input = Asks input (Err fault)
 
 -- Where a request lies in a buffer.
 
@@ -66,9 +66,9 @@ pub record MessageLiesIn (buffer : List ℕ) (m : Message) : Type 0 where
   pub within : m.head + m.spans.body_length ≤ length buffer
   pub parts : LiesIn (take m.head buffer) m.spans
 
--- where the input is known, the message in the buffer is what it asks, and a fault is its own
-abbrev pub FindsMessage : Option (List ℕ) → List ℕ → Result Message Stop → Type 0
-FindsMessage old buffer (Ok m) =
-    MessageLiesIn buffer m × IfSome old (λ input. Asks input (Ok (request_at buffer m)))
-FindsMessage old buffer (Err Failed) = ⊤
-FindsMessage old buffer (Err (Faulty fault)) = IfSome old (λ input. Asks input (Err fault))
+-- the message in the buffer is what the bytes that were given ask, and a fault is theirs
+abbrev pub FindsMessage : Option (List ℕ) → Option (List ℕ) → List ℕ → Result Message Stop → Type 0
+FindsMessage old new buffer (Ok m) =
+    MessageLiesIn buffer m × Gave 12288 old new (λ input. Asks input (Ok (request_at buffer m)))
+FindsMessage old new buffer (Err Failed) = Gave 12288 old new (λ input. ⊤)
+FindsMessage old new buffer (Err (Faulty fault)) = Gave 12288 old new (λ input. Asks input (Err fault))

@@ -22,7 +22,8 @@ same_name a b = bytes_eq (map to_ascii_lowercase a) (map to_ascii_lowercase b)
 -- the values of the lines of a name, in their order
 abbrev pub values_of : List ℕ → List (List ℕ × List ℕ) → List (List ℕ)
 values_of name [] = []
-values_of name (line ∷ lines) = if same_name line.0 name then line.1 ∷ values_of name lines else values_of name lines
+values_of name (line ∷ lines) =
+    if same_name line.0 name then line.1 ∷ values_of name lines else values_of name lines
 
 -- whether a name has no line, one or several
 pub data Found : Type 0 where
@@ -30,6 +31,7 @@ pub data Found : Type 0 where
   one : List ℕ → Found
   many : Found
 
+-- which of these it is, by the values
 abbrev pub found_in : List (List ℕ) → Found
 found_in [] = absent
 found_in (value ∷ []) = one value
@@ -61,6 +63,7 @@ has_right_host minor absent = minor == 0
 has_right_host minor (one value) = true
 has_right_host minor many = false
 
+-- whether the name has a line
 abbrev pub has_line : Found → Bool
 has_line absent = false
 has_line (one value) = true
@@ -94,6 +97,7 @@ pub record Said : Type 0 where
 abbrev pub lines_of : List ℕ → RequestHead → Found
 lines_of name h = found_in (values_of name (map name_and_value h.fields))
 
+-- what a head says, where the length of its body is one
 abbrev pub with_length : RequestHead → Result ℕ Fault → Result Said Fault
 with_length h (Err fault) = Err fault
 with_length h (Ok n) = Ok (record {
@@ -145,6 +149,7 @@ said_at bytes s = record {
   body_length = s.body_length;
 }
 
+-- what places in these bytes hold, or the fault
 abbrev pub answer_at : List ℕ → Result HeadSpans Fault → Result Said Fault
 answer_at bytes (Ok s) = Ok (said_at bytes s)
 answer_at bytes (Err fault) = Err fault

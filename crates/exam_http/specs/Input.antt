@@ -29,26 +29,26 @@ head_or_fault input None = Err (if nat_lt (length input) 8192 then Head else Siz
 abbrev pub head_of : List ℕ → Result (List ℕ × List ℕ) Fault
 head_of input = head_or_fault input (head_len (take 8192 input))
 
--- a reader has given at most so many bytes
-abbrev pub GaveAtMost : ℕ → Option (List ℕ) → Option (List ℕ) → Type 0
-GaveAtMost most old new = (given : List ℕ) × (length given ≤ most) × Consumes old new given
+-- What the bytes of a reader say, of which it gave at most so many: so say those that it gave, and so says
+-- its whole input where that is known.
+pub record Gave (most : ℕ) (old new : Option (List ℕ)) (Says : List ℕ → Type 0) : Type 0 where
+  pub given : List ℕ
+  pub few : length given ≤ most
+  pub consumed : Consumes old new given
+  pub says : Says given
+  pub known : IfSome old Says
 
--- what a read of a head found: n of the bytes in hand are the head, and the input has no other
+-- what a read of a head found: n of the bytes in hand are the head, whatever follows them
 pub record HeadRead (old new : Option (List ℕ)) (bytes : List ℕ) (n : ℕ) : Type 0 where
   pub within : n ≤ length bytes
-  pub head : head_len bytes ≡ Some n
   pub consumed : Consumes old new bytes
-  pub known : IfSome old (λ input. (rest : List ℕ) × (head_of input ≡ Ok (take n bytes, drop n bytes ++ rest)) × (new ≡ Some rest))
+  pub head : (rest : List ℕ) → head_of (bytes ++ rest) ≡ Ok (take n bytes, drop n bytes ++ rest)
 
--- a fault of the head's end is that of the input, where it is known
-abbrev pub HeadFails : Option (List ℕ) → Stop → Type 0
-HeadFails old Failed = ⊤
-HeadFails old (Faulty fault) = IfSome old (λ input. head_of input ≡ Err fault)
-
--- the head's length and how many bytes are in hand, or the fault of the input
+-- the head's length and how many bytes are in hand, or the fault of the bytes that were given
 abbrev pub ReadsHead : Option (List ℕ) → Option (List ℕ) → List ℕ → Result (ℕ × ℕ) Stop → Type 0
 ReadsHead old new buffer (Ok r) = (r.1 ≤ 8192) × HeadRead old new (take r.1 buffer) r.0
-ReadsHead old new buffer (Err stop) = HeadFails old stop
+ReadsHead old new buffer (Err Failed) = Gave 8192 old new (λ input. ⊤)
+ReadsHead old new buffer (Err (Faulty fault)) = Gave 8192 old new (λ input. head_of input ≡ Err fault)
 
 -- a read added to the bytes in hand, or met the end of the input
 pub record More (old new : Option (List ℕ)) (had now : List ℕ) : Type 0 where
@@ -58,6 +58,8 @@ pub record More (old new : Option (List ℕ)) (had now : List ℕ) : Type 0 wher
   pub at_end : got ≡ [] → IsAtEnd new
 
 -- a read answers how many bytes are in hand now, and a failed one took none
-abbrev pub ReadsMore : Option (List ℕ) → Option (List ℕ) → List ℕ → List ℕ → ℕ → ℕ → Result ℕ Stop → Type 0
-ReadsMore old new before after filled end (Ok total) = (filled ≤ total) × (total ≤ end) × More old new (take filled before) (take total after)
+abbrev pub ReadsMore :
+    Option (List ℕ) → Option (List ℕ) → List ℕ → List ℕ → ℕ → ℕ → Result ℕ Stop → Type 0
+ReadsMore old new before after filled end (Ok total) =
+    (filled ≤ total) × (total ≤ end) × More old new (take filled before) (take total after)
 ReadsMore old new before after filled end (Err stop) = (stop ≡ Failed) × Keeps old new

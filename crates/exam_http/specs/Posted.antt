@@ -16,6 +16,7 @@ use Rattle.exam_http.specs.declared.posted.Posted.{Posted}
 
 -- The members of an object.
 
+-- how many members these are
 abbrev pub count_of : json.Members → ℕ
 count_of json.no_members = 0
 count_of (json.member name value rest) = suc (count_of rest)
@@ -30,22 +31,28 @@ text_at name value = option_and_then as_str (get name value)
 
 -- the same, where it has the form of its value
 abbrev pub value_at : (List ℕ → Bool) → List ℕ → Data → Option (List ℕ)
-value_at is_value name value = option_and_then (λ text. if is_value text then Some text else None) (text_at name value)
+value_at is_value name value =
+    option_and_then (λ text. if is_value text then Some text else None) (text_at name value)
 
 -- The values of an appeal.
 
+-- the reference that `ref` gives
 abbrev pub reference_in : Data → Option (List ℕ)
 reference_in = value_at is_reference (codes "ref")
 
+-- the session
 abbrev pub session_in : Data → Option (List ℕ)
 session_in = value_at is_session_code (codes "session")
 
+-- the reason
 abbrev pub reason_in : Data → Option (List ℕ)
 reason_in = value_at is_reason (codes "reason")
 
+-- the hall that is not to be sat in
 abbrev pub hall_in : Data → Option (List ℕ)
 hall_in = value_at is_hall_code (codes "hall")
 
+-- the paper that is to be sat
 abbrev pub paper_in : Data → Option (List ℕ)
 paper_in = value_at is_paper_code (codes "paper")
 
@@ -55,6 +62,7 @@ extra_in value =
     option_and_then (λ n. if nat_le n 100 then Some n else None)
     (option_and_then as_u64 (option_and_then as_number (get (codes "extra") value)))
 
+-- the needs and the extra time
 abbrev pub arrangement_in : Data → Option Arrangement
 arrangement_in value =
     option_and_then (λ needs. option_map (λ extra. record { needs = needs; extra = extra }) (extra_in value))
@@ -84,13 +92,19 @@ lodged_by count value =
     option_and_then (λ reference.
     option_and_then (λ session.
     option_and_then (λ subject.
-    option_map (λ reason. record { reference = reference; session = session; subject = subject; reason = reason })
+    option_map (λ reason. record {
+      reference = reference;
+      session = session;
+      subject = subject;
+      reason = reason;
+    })
     (reason_in value)) (subject_in count value)) (session_in value)) (reference_in value)
 
--- The appeal that a text lodges: an object with these members in any order, as many as they are, so that no other
--- is there and none comes twice.
+-- The appeal that a text lodges: an object with these members in any order, as many as they are, so that
+-- no other is there and none comes twice.
 abbrev pub lodged_in : List ℕ → Option Posted
-lodged_in text = option_and_then (λ count. option_and_then (lodged_by count) (read text)) (members_written text)
+lodged_in text =
+    option_and_then (λ count. option_and_then (lodged_by count) (read text)) (members_written text)
 
 -- the appeal that a body lodges, which must be UTF-8
 abbrev pub posted_of : List ℕ → Option Posted

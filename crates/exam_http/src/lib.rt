@@ -16,6 +16,8 @@ mod routes;
 mod secret;
 mod sending;
 mod status;
+#[cfg(test)]
+mod tests;
 mod words;
 
 pub use answers::{Answer, write_answer};
@@ -27,6 +29,3 @@ pub use posted::{Posted, posted_in};
 pub use reading::{Asked, ReadFailed, read_request};
 pub use routes::{Found, Place, find, server_routes};
 pub use sending::WriteFailed;
-
-#[cfg(test)]
-mod tests;

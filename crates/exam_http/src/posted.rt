@@ -17,7 +17,8 @@ use serde_json::error::Category;
 use std::alloc::Global;
 use std::str;
 
-/// How many members the object of an appeal has that names one thing: `kind`, `reason`, `ref`, `session` and it.
+/// How many members the object of an appeal has that names one thing: `kind`, `reason`, `ref`, `session` and
+/// it.
 const MEMBERS_WITH_ONE: usize = 5;
 
 /// How many members the object of an appeal for an arrangement has, which names its needs and its extra time.
@@ -68,8 +69,8 @@ fn lodged_in(alloc: Global, text: &str) -> Result<Option<Posted>, Refusal>
     }
 }
 
-/// How many members an object has as it is written. A [`Value`] keeps only the last of a name that comes twice,
-/// so they are counted in the tree that keeps them all.
+/// How many members an object has as it is written. A [`Value`] keeps only the last of a name that comes
+/// twice, so they are counted in the tree that keeps them all.
 fn members_written(alloc: Global, text: &str) -> Result<Option<usize>, Refusal>
     ensures count { IfOk result (λ count. count ≡ spec.members_written text.now) }
     ensures memory { IfErr result (λ e. e ≡ NoMemory) }

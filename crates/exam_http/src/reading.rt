@@ -55,15 +55,15 @@ pub struct Message {
     pub spans: HeadSpans,
 }
 
-/// Reads one request into the buffer. No read is made once its bytes are in hand, and what follows it in the
-/// buffer is not looked at.
+/// Reads one request into the buffer. No read is made once its bytes are in hand, and what follows it is not
+/// looked at. Also of a reader whose bytes no contract knows, as a socket, the answer is what those bytes ask
+/// that it gave.
 pub fn read_request<'b, R: Read>(
     reader: &mut R,
     buffer: &'b mut [u8],
 ) -> Result<Result<Asked<'b>, Fault>, ReadFailed>
     requires room { 12288 ≤ length buffer.old }
-    ensures answer { asked.AnswersInput (R.remaining reader.old) result }
-    ensures bound { spec.GaveAtMost 12288 (R.remaining reader.old) (R.remaining reader.new) }
+    ensures { spec.Gave 12288 (R.remaining reader.old) (R.remaining reader.new) (asked.IsAnswerTo result) }
 {
     match read_message(reader, buffer) {
         Ok(message) => Ok(Ok(asked_in(buffer, message))),
@@ -90,8 +90,7 @@ fn asked_in<'b>(buffer: &'b [u8], message: Message) -> Asked<'b>
 /// Reads a head and its body.
 fn read_message<R: Read>(reader: &mut R, buffer: &mut [u8]) -> Result<Message, Stop>
     requires room { 12288 ≤ length buffer.old }
-    ensures finds { asked.FindsMessage (R.remaining reader.old) buffer.new result }
-    ensures bound { spec.GaveAtMost 12288 (R.remaining reader.old) (R.remaining reader.new) }
+    ensures { asked.FindsMessage (R.remaining reader.old) (R.remaining reader.new) buffer.new result }
 {
     let (head, mut filled) = read_head(reader, buffer)?;
     let spans = judge(&buffer[..head])?;
@@ -109,8 +108,7 @@ fn read_message<R: Read>(reader: &mut R, buffer: &mut [u8]) -> Result<Message, S
 /// Reads until the end of the head is in hand. Answers its length and how many bytes are in hand.
 fn read_head<R: Read>(reader: &mut R, buffer: &mut [u8]) -> Result<(usize, usize), Stop>
     requires { 8192 ≤ length buffer.old }
-    ensures head { spec.ReadsHead (R.remaining reader.old) (R.remaining reader.new) buffer.new result }
-    ensures bound { spec.GaveAtMost 8192 (R.remaining reader.old) (R.remaining reader.new) }
+    ensures { spec.ReadsHead (R.remaining reader.old) (R.remaining reader.new) buffer.new result }
 {
     let mut filled = 0;
     while filled < MOST_HEAD {
@@ -151,7 +149,8 @@ fn read_more<R: Read>(
 ) -> Result<usize, Stop>
     requires room { filled < end }
     requires within { end ≤ length buffer.old }
-    ensures { spec.ReadsMore (R.remaining reader.old) (R.remaining reader.new) buffer.old buffer.new filled end result }
+    ensures { spec.ReadsMore (R.remaining reader.old) (R.remaining reader.new)
+        buffer.old buffer.new filled end result }
 {
     match reader.read(&mut buffer[filled..end]) {
         Ok(count) => Ok(filled + count),

@@ -2,4 +2,6 @@
 mod answers;
 mod choices;
 mod owns;
+mod posted;
+mod reading;
 mod targets;

@@ -3,7 +3,7 @@ use Rattle.std.proofs.KnownBytes.{Consumes-nil}
 use Rattle.std.proofs.lemmas.List.{length-take-le}
 use Rattle.exam_http.specs.Input.{head_len}
 use Rattle.exam_http.proofs.Finding.{none_in}
-use Rattle.exam_http.proofs.InHand.{cut_short, ended, gave, in_hand, taken, too_long}
+use Rattle.exam_http.proofs.InHand.{cut_short, ended, in_hand, taken, too_long}
 use Rattle.exam_http.proofs.reading.read_head.Goals as goal
 
 pub loop-filled-init : goal.loop-filled-init
@@ -17,10 +17,7 @@ returns-then-total-filled g c =
     let a = length-take-le c.loop-filled.filled c.loop-filled.buffer (omega arith) in
     let b = length-take-le c.in_ok-total.total c.read_more.new.buffer (omega (arith, r.1)) in
     let e = ended _ _ _ _ _ inv.3 r.2 (omega arith) in
-    record {
-      head = cut_short _ _ _ (omega arith) inv.2 e.0 e.1;
-      bound = gave _ _ _ _ _ e.0 inv.0;
-    }
+    cut_short _ _ _ (omega arith) inv.2 e.0 e.1
 
 pub returns-in-Some : goal.returns-in-Some
 returns-in-Some g c =
@@ -29,17 +26,10 @@ returns-in-Some g c =
     let kept = c.read_more.auto.buffer in
     let b = length-take-le c.in_ok-total.total c.read_more.new.buffer (omega (arith, r.1)) in
     let found : head_len (take c.in_ok-total.total c.read_more.new.buffer) ≡ Some c.in-Some.head = search rules in
-    let all = taken _ _ _ _ _ inv.3 r.2 in
-    record {
-      head = (r.1, in_hand _ _ _ _ (omega (arith, r.1)) found all);
-      bound = gave _ _ _ _ _ all r.1;
-    }
+    (r.1, in_hand _ _ _ _ (omega (arith, r.1)) found (taken _ _ _ _ _ inv.3 r.2))
 
 pub returns : goal.returns
 returns g c =
     let inv = c.loop-filled.invariant in
     let all : c.loop-filled.filled ≡ 8192 = omega arith in
-    record {
-      head = too_long _ _ _ (length-take-le _ _ (omega arith) ∙ all) inv.2 inv.3;
-      bound = gave _ _ _ _ _ inv.3 inv.0;
-    }
+    too_long _ _ _ (length-take-le _ _ (omega arith) ∙ all) inv.2 inv.3
