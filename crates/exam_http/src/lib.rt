@@ -21,7 +21,9 @@ mod tests;
 mod words;
 
 pub use answers::{Answer, write_answer};
-pub use choice::{Choice, candidate_of, choose};
+pub use choice::{
+    Choice, candidate_of, choose, commands_are_of_who_shows_the_code, strangers_are_told_alike,
+};
 pub use fault::Fault;
 pub use laws::requests_ask_one_thing;
 pub use own_bodies::{appeals_body, clashes_body, seats_body};
