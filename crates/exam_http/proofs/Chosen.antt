@@ -7,11 +7,10 @@ use Rattle.exam_office.specs.declared.command.Command.TheVariants.{Lodge, Retrac
 use Rattle.exam_types.specs.Codes.{is_reference}
 use Rattle.exam_types.specs.declared.refusal.Refusal.TheVariants.{UnknownAppeal, UnknownCandidate}
 use Rattle.exam_http.specs.Asked.{Request}
-use Rattle.exam_http.specs.Choices.{IsBy, IsOwnCommand, IsStranger, choice_by, choice_for, choice_of, choice_of_known, choice_own, done_at, has_code, lodged, lodged_or_fault}
+use Rattle.exam_http.specs.Choices.{IsBy, IsOwnCommand, IsStranger, choice_by, choice_of, choice_of_known, choice_own, done_at, has_code, lodged, lodged_or_fault}
 use Rattle.exam_http.specs.Methods.{is_allowed}
 use Rattle.exam_http.specs.Posted.{posted_of}
 use Rattle.exam_http.specs.Targets.{Target, reading}
-use Rattle.exam_http.specs.declared.choice.Choice.{Choice}
 use Rattle.exam_http.specs.declared.choice.Choice.TheVariants as choice
 use Rattle.exam_http.specs.declared.posted.Posted.{Posted}
 use Rattle.exam_http.specs.declared.routes.Place.{Place}
