@@ -1,5 +1,6 @@
 //! An office in a database.
 ghost use Rattle.std.specs.Prelude.{◌≡◌, ◌⊎◌, false, IsTrue, IfOk, IfErr, OnErr, MatchResult};
+ghost use Rattle.std.specs.Option.{option_map};
 ghost use Rattle.sqlite.specs.Held.{state};
 ghost use Rattle.sqlite.specs.State.{HasCleanDisk};
 ghost use Rattle.sqlite.specs.Steps.{over_memory};
@@ -7,6 +8,7 @@ ghost use Rattle.exam_types.specs.declared.refusal.Refusal.TheVariants.{NoMemory
 ghost use Rattle.exam_rules.specs.Relations.{Code};
 ghost use Rattle.exam_rules.specs.Sessions.{IsSessionRefusal};
 ghost use Rattle.exam_office.specs.Headline.{IsSeated};
+ghost use Rattle.exam_office.specs.Own.{own_of, shown};
 ghost use Rattle.exam_office.specs.State.{empty_state};
 ghost use Rattle.exam_office.specs.Views.{IsViewOf};
 ghost use Rattle.exam_store.specs.Applied.{MayApply, FailsToApply, TurnsBy, Applies, AreApplied};
@@ -19,8 +21,8 @@ ghost use Rattle.exam_store.specs.Versions.{IsBlank};
 use crate::loading::load_office;
 use crate::saving::{save, save_empty};
 use crate::schema::is_blank;
-use exam_office::{Command, Office, Reply, SessionView, next_office};
-use exam_types::{Day, Refusal, SessionCode};
+use exam_office::{Command, Office, Own, Reply, SessionView, next_office};
+use exam_types::{Day, Number, Refusal, SessionCode};
 use sqlite::{Alter, Connection, MemStore};
 use std::alloc::Global;
 use std::marker::Model;
@@ -181,6 +183,15 @@ impl<S: Alter> Store<S> {
         ensures same { self.new ≡ self.old }
     {
         self.office.session_view(alloc, session)
+    }
+
+    /// What the office shows of one candidate, or none where there is no such candidate.
+    pub fn view_candidate(&mut self, alloc: Global, number: Number) -> Result<Option<Own>, Refusal>
+        ensures ok { IfOk result (λ own. option_map shown own ≡ own_of self.old.office number) }
+        ensures memory { IfErr result (λ e. e ≡ NoMemory) }
+        ensures same { self.new ≡ self.old }
+    {
+        self.office.own(alloc, number)
     }
 
     /// Gives the connection back. Takes no memory.
