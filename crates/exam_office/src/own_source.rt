@@ -1,10 +1,10 @@
 //! How what the office shows of one candidate is made: from their own rows, and for each of their sessions
 //! from its seats.
-ghost use Rattle.std.specs.Prelude.{◌≡◌, ◌<◌, ◌≤◌, ◌^◌, ℕ, [], Contains, Some, codes, count_by, filter};
+ghost use Rattle.std.specs.Prelude.{◌≡◌, ◌<◌, ◌≤◌, ℕ, [], Contains, Some, codes, count_by, filter};
 ghost use Rattle.std.specs.Prelude.{length, map, IfOk, IfErr, IsTrue};
 ghost use Rattle.std.specs.Option.{option_map};
 ghost use Rattle.std.specs.BTreeMap.Range.{entries_between};
-ghost use Rattle.std.specs.Ordering.{is_lt, nat_cmp};
+ghost use Rattle.std.specs.Ordering.{is_lt};
 ghost use Rattle.std.specs.declared.ops.Bound.TheVariants.{Unbounded, Excluded};
 ghost use Rattle.exam_types.specs.declared.refusal.Refusal.TheVariants.{NoMemory};
 ghost use Rattle.exam_plan.specs.Matching.{occupants};
@@ -198,7 +198,6 @@ fn seats_of<'a>(
     ensures value { result ≡ filter (λ (seat : (Code × ℕ) × Code). same_code seat.0.0 session.now)
         seats.now.entries }
     ensures rising { KeysRise seat_cmp seats.now.entries }
-    ensures fits { length result < 2 ^ 63 }
 {
     let (first, _) = facts.candidates.first_key_value().unwrap();
     let (last, _) = facts.candidates.last_key_value().unwrap();

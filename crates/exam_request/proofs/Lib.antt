@@ -1,5 +1,6 @@
 pub mod Adding
 pub mod Bodies
+pub mod Chosen
 pub mod Cuts
 pub mod Extras
 pub mod Finding

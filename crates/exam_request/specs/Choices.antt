@@ -1,6 +1,7 @@
 -- What is done for a request: the first of these that applies.
-use Rattle.std.specs.Prelude.{ℕ, List, Bool, false, Option, Some, None, option_and_then, bytes_eq}
+use Rattle.std.specs.Prelude.{◌≡◌, ⊤, ℕ, List, Bool, true, false, Option, Some, None, option_and_then, bytes_eq}
 use Rattle.std.specs.Prelude.{codes, if◌then◌else◌}
+use Rattle.exam_office.specs.declared.command.Command.{Command}
 use Rattle.exam_office.specs.declared.command.Command.TheVariants.{Lodge, Retract}
 use Rattle.exam_office.specs.declared.command.Lodging.{Lodging}
 use Rattle.exam_types.specs.Codes.{is_reference}
@@ -92,3 +93,22 @@ choice_by request own (Some target) = choice_at request own target
 -- what is done for a request, by the own rows of the candidate whom it names
 abbrev pub choice_of : Request → Option OwnRows → Choice
 choice_of request own = choice_by request own (reading request.target)
+
+-- ---- what the choices keep to
+
+-- the request does not show the code of this candidate; an unknown one has none to show
+abbrev pub IsStranger : Request → Option OwnRows → Type 0
+IsStranger request None = ⊤
+IsStranger request (Some own) = has_code request.code own.code ≡ false
+
+-- the candidate lodges an appeal or takes one back
+abbrev pub IsBy : ℕ → Command → Type 0
+IsBy number (Lodge lodging) = lodging.number ≡ number
+IsBy number (Retract other reference) = other ≡ number
+IsBy number command = ⊥
+
+-- the command is of the candidate, who has shown the code
+abbrev pub IsOwnCommand : Request → Option OwnRows → Command → Type 0
+IsOwnCommand request None command = ⊥
+IsOwnCommand request (Some own) command =
+    (has_code request.code own.code ≡ true) × IsBy own.number command

@@ -1,10 +1,12 @@
 //! What is done for a request, by what it asks and the rows of the candidate that it names.
-ghost use Rattle.std.specs.Prelude.{◌≡◌, IfOk, IfErr, option_map};
+ghost use Rattle.std.specs.Prelude.{◌≡◌, IfOk, IfErr, Option, option_map};
 ghost use Rattle.exam_types.specs.Numbers.{number_in};
 ghost use Rattle.exam_types.specs.declared.refusal.Refusal.TheVariants.{NoMemory};
-ghost use Rattle.exam_request.specs.Asked.{request_of};
+ghost use Rattle.exam_request.specs.Asked.{Request, request_of};
 ghost use Rattle.exam_request.specs.Choices as spec;
-ghost use Rattle.exam_office.specs.Own.{shown};
+ghost use Rattle.exam_office.specs.Own.{OwnRows, shown};
+ghost use Rattle.exam_office.specs.declared.command.Command as exam;
+ghost use Rattle.exam_request.specs.declared.choice.Choice.TheVariants as choice;
 ghost use Rattle.exam_request.specs.Targets as targets;
 
 use crate::fault::Fault;
@@ -160,3 +162,17 @@ fn retraction(number: Number, reference: &[u8]) -> Choice
         None => Choice::Refused(Refusal::UnknownAppeal),
     }
 }
+
+/// Whoever does not show the code of the candidate whom they name is told the same, whether there is such a
+/// candidate or not.
+pub fn strangers_are_told_alike()
+    ensures { (request : Request) (one other : Option OwnRows)
+        → spec.IsStranger request one → spec.IsStranger request other
+        → spec.choice_of request one ≡ spec.choice_of request other }
+{}
+
+/// A command is the lodging or the retraction of the candidate whom the request names and whose code it shows.
+pub fn commands_are_of_who_shows_the_code()
+    ensures { (request : Request) (own : Option OwnRows) (command : exam.Command)
+        → spec.choice_of request own ≡ choice.Do command → spec.IsOwnCommand request own command }
+{}

@@ -16,10 +16,14 @@ mod routes;
 mod secret;
 mod sending;
 mod status;
+#[cfg(test)]
+mod tests;
 mod words;
 
 pub use answers::{Answer, write_answer};
-pub use choice::{Choice, candidate_of, choose};
+pub use choice::{
+    Choice, candidate_of, choose, commands_are_of_who_shows_the_code, strangers_are_told_alike,
+};
 pub use fault::Fault;
 pub use laws::requests_ask_one_thing;
 pub use own_bodies::{appeals_body, clashes_body, seats_body};
@@ -27,6 +31,3 @@ pub use posted::{Posted, posted_in};
 pub use reading::{Asked, ReadFailed, read_request};
 pub use routes::{Found, Place, find, server_routes};
 pub use sending::WriteFailed;
-
-#[cfg(test)]
-mod tests;

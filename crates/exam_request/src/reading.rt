@@ -79,6 +79,7 @@ fn asked_in<'b>(buffer: &'b [u8], message: Message) -> Asked<'b>
 {
     let (head, rest) = buffer.split_at(message.head);
     let spans = message.spans;
+    // The target of a head is a text, so nothing is ever put in its place.
     Asked {
         method: spans.method.of(head),
         target: str::from_utf8(spans.target.of(head)).unwrap_or(""),

@@ -1,5 +1,6 @@
 //! An office in a database.
-ghost use Rattle.std.specs.Prelude.{◌≡◌, ◌⊎◌, false, IsTrue, IfOk, IfErr, OnErr, MatchResult, option_map};
+ghost use Rattle.std.specs.Prelude.{◌≡◌, ◌⊎◌, false, IsTrue, IfOk, IfErr, OnErr, MatchResult};
+ghost use Rattle.std.specs.Option.{option_map};
 ghost use Rattle.sqlite.specs.Held.{state};
 ghost use Rattle.sqlite.specs.State.{HasCleanDisk};
 ghost use Rattle.sqlite.specs.Steps.{over_memory};
@@ -7,7 +8,7 @@ ghost use Rattle.exam_types.specs.declared.refusal.Refusal.TheVariants.{NoMemory
 ghost use Rattle.exam_rules.specs.Relations.{Code};
 ghost use Rattle.exam_rules.specs.Sessions.{IsSessionRefusal};
 ghost use Rattle.exam_office.specs.Headline.{IsSeated};
-ghost use Rattle.exam_office.specs.Own as rows;
+ghost use Rattle.exam_office.specs.Own.{own_of, shown};
 ghost use Rattle.exam_office.specs.State.{empty_state};
 ghost use Rattle.exam_office.specs.Views.{IsViewOf};
 ghost use Rattle.exam_store.specs.Applied.{MayApply, FailsToApply, TurnsBy, Applies, AreApplied};
@@ -192,9 +193,9 @@ impl<S: Alter> Store<S> {
         self.office.session_view(alloc, session)
     }
 
-    /// What the office shows of the candidate with the number, if there is one.
+    /// What the office shows of one candidate, or none where there is no such candidate.
     pub fn view_candidate(&mut self, alloc: Global, number: Number) -> Result<Option<Own>, Refusal>
-        ensures ok { IfOk result (λ shown. option_map rows.shown shown ≡ rows.own_of self.old.office number) }
+        ensures ok { IfOk result (λ own. option_map shown own ≡ own_of self.old.office number) }
         ensures memory { IfErr result (λ e. e ≡ NoMemory) }
         ensures same { self.new ≡ self.old }
     {
