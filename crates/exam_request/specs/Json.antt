@@ -1,6 +1,6 @@
 -- Objects of texts, numbers and nulls as compact JSON. The texts hold no control character.
-use Rattle.std.specs.Prelude.{ℕ, List, [], ◌∷◌, ◌++◌, ◌==◌, ◌||◌, Option, Some, None, codes, decimal, flat_map}
-use Rattle.std.specs.Prelude.{if◌then◌else◌}
+use Rattle.std.specs.Prelude.{ℕ, List, [], ◌∷◌, ◌++◌, ◌==◌, ◌||◌, Option, Some, None, codes, decimal}
+use Rattle.std.specs.Prelude.{flat_map, if◌then◌else◌}
 
 -- what stands at a member
 pub data Datum : Type 0 where

@@ -182,7 +182,8 @@ fn put_status_line(out: &mut Short, status: StatusCode)
 
 fn put_length(out: &mut Short, count: usize)
     requires { array_vec_len out.old + 38 ≤ 256 }
-    ensures text { out.new.items ≡ out.old.items ++ spec.header_line (codes "Content-Length") (decimal count) }
+    ensures text { out.new.items
+        ≡ out.old.items ++ spec.header_line (codes "Content-Length") (decimal count) }
     ensures len { array_vec_len out.new ≤ array_vec_len out.old + 38 }
 {
     let mut buffer = Buffer::new();

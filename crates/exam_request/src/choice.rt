@@ -171,7 +171,8 @@ pub fn strangers_are_told_alike()
         → spec.choice_of request one ≡ spec.choice_of request other }
 {}
 
-/// A command is the lodging or the retraction of the candidate whom the request names and whose code it shows.
+/// A command is the lodging or the retraction of the candidate whom the request names and whose code it
+/// shows.
 pub fn commands_are_of_who_shows_the_code()
     ensures { (request : Request) (own : Option OwnRows) (command : exam.Command)
         → spec.choice_of request own ≡ choice.Do command → spec.IsOwnCommand request own command }

@@ -105,7 +105,8 @@ pub fn routes_read()
         → option_map (λ r. r.value) (first table target) ≡ option_map (λ t. t.place) (reading target) }
 {}
 
-/// A reading is the parts of the target's text, each of one or more bytes without a slash, and each such text is read.
+/// A reading is the parts of the target's text, each of one or more bytes without a slash, and each such text
+/// is read.
 pub fn reading_is_exact()
     ensures { (target : List ℕ) (t : Target)
         → (reading target ≡ Some t) ↔ (HasParts t × (target ≡ target_text t)) }

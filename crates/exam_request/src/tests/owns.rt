@@ -8,8 +8,8 @@ use exam_types::{
 use std::alloc::Global;
 use std::test::Fail;
 
-/// The candidate 0000001 sits in hall A at this desk or nowhere, has a clash, and has appealed against hall B for
-/// this reason.
+/// The candidate 0000001 sits in hall A at this desk or nowhere, has a clash, and has appealed against hall B
+/// for this reason.
 pub fn own_rows(alloc: Global, desk: Option<u32>, reason: &str) -> Result<Own, Fail> {
     let mut sessions = Vec::new(alloc);
     sessions.push(own_session(alloc, desk)?)?;
