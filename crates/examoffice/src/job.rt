@@ -61,6 +61,8 @@ fn carry_out<S: Alter, R: Read, O: Write>(
             let command = Command::Decide(copy_of(decision)?);
             apply(alloc, store, &command, line.today, out)
         }
+        // The program serves over sockets, and there is nothing to do over these outputs.
+        Job::Serve { .. } => Ok(()),
         Job::Sheet { session, sheet } => print_sheet(alloc, store, session, sheet, out),
     }
 }

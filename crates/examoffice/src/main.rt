@@ -4,15 +4,17 @@
 mod files;
 mod job;
 mod report;
+mod serving;
 #[cfg(test)]
 mod tests;
 
 use exam_line::{Job, Line, LineFault, parse_line};
 use exam_store::Store;
-use exam_types::Refusal;
+use exam_types::{Day, Refusal};
 use files::{OfficeFile, close_office, create_office, open_office};
 use job::run_job;
 use report::{DONE, JobFault, NOT_UNDERSTOOD, print, print_error, print_fault};
+use serving::serve;
 use std::env;
 use std::fs::File;
 use std::io::{ErrorKind, Read};
@@ -64,6 +66,7 @@ fn run_line(rt: &HostRuntime, line: &Line<'_>) -> Result<u8, JobFault> {
     };
     let status = match &line.job {
         Job::Import { file, .. } => run_import(rt, line, &mut store, file),
+        Job::Serve { port } => run_server(rt, &mut store, line.today, *port),
         _ => {
             let mut nothing: &[u8] = b"";
             run_over(rt, line, &mut store, &mut nothing)
@@ -71,6 +74,14 @@ fn run_line(rt: &HostRuntime, line: &Line<'_>) -> Result<u8, JobFault> {
     };
     close_office(store);
     Ok(status)
+}
+
+/// Serves candidates until the server ends.
+fn run_server(rt: &HostRuntime, store: &mut Store<OfficeFile>, today: Day, port: u16) -> u8 {
+    match serve(rt, store, today, port) {
+        Ok(status) => status,
+        Err(fault) => print_fault(rt.alloc(), &fault, &mut rt.stderr()),
+    }
 }
 
 /// Carries out an import of the file at the path.

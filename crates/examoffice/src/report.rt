@@ -22,6 +22,8 @@ pub enum JobFault {
     File,
     /// Standard output failed.
     Write,
+    /// The port cannot be bound, or a connection cannot be accepted.
+    Net,
 }
 
 impl From<Refusal> for JobFault {
@@ -95,6 +97,14 @@ fn state_word(state: AppealState) -> &'static str {
     }
 }
 
+/// What is printed once the port is bound.
+pub fn serving_line(port: u16) -> ShortLine {
+    let mut line = ArrayString::new();
+    // The longest line has 24 bytes.
+    let _ = writeln!(line, "serving 127.0.0.1 {port}");
+    line
+}
+
 /// Prints a line whole on standard output.
 pub fn print<O: Write>(out: &mut O, line: &str) -> Result<(), JobFault> {
     out.write_all(line.as_bytes()).map_err(|_| JobFault::Write)?;
@@ -112,6 +122,7 @@ pub fn print_fault<E: Write>(alloc: Global, fault: &JobFault, err: &mut E) -> u8
         JobFault::Refused(refusal) => print_error(err, refusal_line(refusal).as_str()),
         JobFault::File => print_error(err, "file fault\n"),
         JobFault::Write => print_error(err, "write fault\n"),
+        JobFault::Net => print_error(err, "net fault\n"),
     }
     FAILED
 }

@@ -1,0 +1,104 @@
+//! The office on a port of this machine.
+use crate::files::OfficeFile;
+use crate::report::{DONE, JobFault, print, print_error, serving_line};
+use exam_http::{HttpFault, serve_one};
+use exam_store::Store;
+use exam_types::Day;
+use std::io::{self, ErrorKind, Read, Write};
+use std::net::{Ipv4Addr, SocketAddrV4, TcpListener, TcpStream};
+use std::time::{Duration, Instant};
+
+/// How long a connection may last, so that a silent client does not hold the office.
+const LONGEST: Duration = Duration::from_secs(10);
+
+/// After so many connections the server ends.
+const MOST_CONNECTIONS: usize = 4_294_967_295;
+
+/// A connection whose reads and writes fail once its time is over.
+struct Timed<'s> {
+    stream: &'s TcpStream,
+    rt: &'s HostRuntime,
+    since: Instant,
+}
+
+impl Timed<'_> {
+    /// How long the connection may last yet.
+    fn time_left(&self) -> io::Result<Duration> {
+        let left = LONGEST.saturating_sub(self.since.elapsed(self.rt)?);
+        if left.is_zero() {
+            return Err(io::Error::from(ErrorKind::TimedOut));
+        }
+        Ok(left)
+    }
+}
+
+impl Read for Timed<'_> {
+    fn read(&mut self, buf: &mut [u8]) -> io::Result<usize> {
+        self.stream.set_read_timeout(Some(self.time_left()?))?;
+        let mut stream = self.stream;
+        stream.read(buf)
+    }
+}
+
+impl Write for Timed<'_> {
+    fn write(&mut self, buf: &[u8]) -> io::Result<usize> {
+        self.stream.set_write_timeout(Some(self.time_left()?))?;
+        let mut stream = self.stream;
+        stream.write(buf)
+    }
+
+    fn flush(&mut self) -> io::Result<()> {
+        Ok(())
+    }
+}
+
+/// Serves one connection after the other on the port, with the day as today. Says so once the port is bound.
+pub fn serve(
+    rt: &HostRuntime,
+    store: &mut Store<OfficeFile>,
+    today: Day,
+    port: u16,
+) -> Result<u8, JobFault> {
+    let address = SocketAddrV4::new(Ipv4Addr::LOCALHOST, port);
+    let Ok(listener) = TcpListener::bind(rt, address) else {
+        return Err(JobFault::Net);
+    };
+    print(&mut rt.stdout(), serving_line(port).as_str())?;
+    for stream in listener.incoming().take(MOST_CONNECTIONS) {
+        match stream {
+            Ok(stream) => serve_connection(rt, store, today, &stream),
+            Err(_) => return Err(JobFault::Net),
+        }
+    }
+    Ok(DONE)
+}
+
+/// Serves one request, and tells the fault where the connection failed.
+fn serve_connection(
+    rt: &HostRuntime,
+    store: &mut Store<OfficeFile>,
+    today: Day,
+    stream: &TcpStream,
+) {
+    let served = match Instant::now(rt) {
+        Ok(since) => serve_timed(rt, store, today, stream, since),
+        Err(_) => Err(HttpFault::Read),
+    };
+    match served {
+        Ok(()) => {}
+        Err(HttpFault::Read) => print_error(&mut rt.stderr(), "fault 41\n"),
+        Err(HttpFault::Write) => print_error(&mut rt.stderr(), "fault 42\n"),
+    }
+}
+
+fn serve_timed(
+    rt: &HostRuntime,
+    store: &mut Store<OfficeFile>,
+    today: Day,
+    stream: &TcpStream,
+    since: Instant,
+) -> Result<(), HttpFault> {
+    let mut reader = Timed { stream, rt, since };
+    let mut writer = Timed { stream, rt, since };
+    serve_one(rt.alloc(), store, today, &mut reader, &mut writer)
+}
