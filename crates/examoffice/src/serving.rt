@@ -8,13 +8,14 @@ use std::io::{self, ErrorKind, Read, Write};
 use std::net::{Ipv4Addr, SocketAddrV4, TcpListener, TcpStream};
 use std::time::{Duration, Instant};
 
-/// How long a connection may last, so that a silent client does not hold the office.
-const LONGEST: Duration = Duration::from_secs(10);
+/// How many seconds a connection may last, so that a silent client does not hold the office.
+const LONGEST: u64 = 10;
 
 /// After so many connections the server ends.
 const MOST_CONNECTIONS: usize = 4_294_967_295;
 
 /// A connection whose reads and writes fail once its time is over.
+#[derive(Drop)]
 struct Timed<'s> {
     stream: &'s TcpStream,
     rt: &'s HostRuntime,
@@ -24,7 +25,7 @@ struct Timed<'s> {
 impl Timed<'_> {
     /// How long the connection may last yet.
     fn time_left(&self) -> io::Result<Duration> {
-        let left = LONGEST.saturating_sub(self.since.elapsed(self.rt)?);
+        let left = Duration::from_secs(LONGEST).saturating_sub(self.since.elapsed(self.rt)?);
         if left.is_zero() {
             return Err(io::Error::from(ErrorKind::TimedOut));
         }
