@@ -3,6 +3,7 @@ mod closing;
 mod doctored;
 mod kept_rows;
 mod reopening;
+mod requests;
 mod stopping;
 
 use crate::job::run_job;

@@ -1,0 +1,194 @@
+//! A candidate's requests over an office in memory.
+use super::{ONE_ADDED, ONE_ENTRY, Row, base_office, expect_all};
+use exam_http::serve_one;
+use exam_store::Store;
+use exam_types::Day;
+use sqlite::MemStore;
+use std::alloc::Global;
+use std::process::Abort;
+use std::test::Fail;
+
+/// The day, the method with the target, the access code and the body of a request, and the status and the body of its answer.
+type Exchange<'a> = (&'a str, &'a str, &'a str, &'a str, &'a str, &'a str);
+
+/// What is answered to a request.
+fn answer_to(
+    alloc: Global,
+    store: &mut Store<MemStore>,
+    asked: Exchange<'_>,
+) -> Result<Vec<u8>, Fail> {
+    let (on, line, code, posted, _, _) = asked;
+    let length = posted.len();
+    let request = format!(in alloc;
+        "{line} HTTP/1.1\r\nHost: office\r\nExam-Code: {code}\r\nContent-Length: {length}\r\n\r\n{posted}"
+    )?;
+    let today = Day::parse(on.as_bytes()).ok_or("day")?;
+    let mut reader = request.as_str().as_bytes();
+    let mut answer = Vec::new(alloc);
+    match serve_one(alloc, store, today, &mut reader, &mut answer) {
+        Ok(()) => Ok(answer),
+        Err(_) => Err(Fail::new("a fault")),
+    }
+}
+
+/// Compares the first line and the body of what is answered.
+fn expect_answer<R: Abort + AllocGlobal>(
+    rt: &R,
+    store: &mut Store<MemStore>,
+    asked: Exchange<'_>,
+) -> Result<(), Fail> {
+    let (_, line, _, _, status, body) = asked;
+    let alloc = rt.alloc();
+    let answer = answer_to(alloc, store, asked)?;
+    let first = format!(in alloc; "HTTP/1.1 {status}\r\n")?;
+    let last = format!(in alloc; "\r\n\r\n{body}")?;
+    assert!(rt;
+        answer.as_slice().starts_with(first.as_str().as_bytes()),
+        "{line}"
+    );
+    assert!(rt;
+        answer.as_slice().ends_with(last.as_str().as_bytes()),
+        "{line}"
+    );
+    Ok(())
+}
+
+/// Carries out the commands, and then makes the requests in turn.
+fn exchange<R: Abort + AllocGlobal>(
+    rt: &R,
+    rows: &[Row<'_>],
+    exchanges: &[Exchange<'_>],
+) -> Result<(), Fail> {
+    let mut store = base_office(rt)?;
+    expect_all(rt, &mut store, rows)?;
+    for asked in exchanges {
+        expect_answer(rt, &mut store, *asked)?;
+    }
+    Ok(())
+}
+
+const UNKNOWN: &str = "{\"error\":6}";
+
+const ONE_SEAT: &str =
+    "{\"seats\":[{\"date\":\"2027-06-01\",\"desk\":1,\"extra\":0,\"finish\":\"10:00\",\
+\"hall\":\"A\",\"needs\":\"-\",\"paper\":\"MA-1\",\"session\":\"S1\",\"start\":\"09:00\"}]}";
+
+#[test]
+fn a_candidate_sees_their_seat_and_nobody_elses(rt: HostRuntime) -> Result<(), Fail> {
+    let rows = [("import entries f", ONE_ENTRY, Ok(ONE_ADDED))];
+    let on = "2027-05-30";
+    let seats = "GET /candidates/0000001/seats";
+    let exchanges = [
+        (on, seats, "CODE0001", "", "200 OK", ONE_SEAT),
+        (on, seats, "WRONG001", "", "404 Not Found", UNKNOWN),
+        (
+            on,
+            "GET /candidates/9999999/seats",
+            "CODE0001",
+            "",
+            "404 Not Found",
+            UNKNOWN,
+        ),
+        (
+            on,
+            "GET /candidates/0000002/seats",
+            "CODE0002",
+            "",
+            "200 OK",
+            "{\"seats\":[]}",
+        ),
+        (
+            on,
+            "GET /candidates/0000001/seats?x=1",
+            "CODE0001",
+            "",
+            "404 Not Found",
+            "{\"error\":37}",
+        ),
+        (
+            on,
+            "PUT /candidates/0000001/seats",
+            "WRONG001",
+            "",
+            "405 Method Not Allowed",
+            "{\"error\":38}",
+        ),
+    ];
+    exchange(&rt, &rows, &exchanges)
+}
+
+const AGAINST_B: &str =
+    "{\"hall\":\"B\",\"kind\":\"hall\",\"reason\":\"\",\"ref\":\"HA1\",\"session\":\"S1\"}";
+
+const AGAINST_A: &str =
+    "{\"hall\":\"A\",\"kind\":\"hall\",\"reason\":\"\",\"ref\":\"HA1\",\"session\":\"S1\"}";
+
+const TWO_SEATED: &[Row<'_>] = &[
+    ("import entries f", ONE_ENTRY, Ok(ONE_ADDED)),
+    (
+        "import arrangements f",
+        "number,needs,extra\n0000002,step-free,0\n",
+        Ok(ONE_ADDED),
+    ),
+    (
+        "import entries f",
+        "number,paper\n0000002,MA-1\n",
+        Ok(ONE_ADDED),
+    ),
+];
+
+#[test]
+fn an_appeal_is_lodged_and_taken_back_once(rt: HostRuntime) -> Result<(), Fail> {
+    let post = "POST /candidates/0000001/appeals";
+    let delete = "DELETE /candidates/0000001/appeals/HA1";
+    let open = "{\"state\":\"open\"}";
+    let retracted = "{\"state\":\"retracted\"}";
+    let late = "{\"day\":\"2027-05-30\",\"error\":13}";
+    let exchanges = [
+        (
+            "2027-05-31",
+            post,
+            "CODE0001",
+            AGAINST_B,
+            "409 Conflict",
+            late,
+        ),
+        ("2027-05-30", post, "CODE0001", AGAINST_B, "200 OK", open),
+        ("2027-05-31", post, "CODE0001", AGAINST_B, "200 OK", open),
+        (
+            "2027-05-31",
+            post,
+            "CODE0001",
+            AGAINST_A,
+            "409 Conflict",
+            "{\"error\":14}",
+        ),
+        (
+            "2027-05-31",
+            post,
+            "CODE0001",
+            "{}",
+            "400 Bad Request",
+            "{\"error\":36}",
+        ),
+        (
+            "2027-05-31",
+            delete,
+            "CODE0002",
+            "",
+            "404 Not Found",
+            UNKNOWN,
+        ),
+        ("2027-05-31", delete, "CODE0001", "", "200 OK", retracted),
+        ("2027-05-31", delete, "CODE0001", "", "200 OK", retracted),
+        (
+            "2027-05-31",
+            post,
+            "CODE0001",
+            AGAINST_B,
+            "200 OK",
+            retracted,
+        ),
+    ];
+    exchange(&rt, TWO_SEATED, &exchanges)
+}
