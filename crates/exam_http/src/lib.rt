@@ -2,7 +2,9 @@
 #![tactic(auto)]
 
 mod answering;
+mod laws;
 mod serving;
 
 pub use answering::answer;
+pub use laws::own_rows_decide_an_answer;
 pub use serving::{HttpFault, serve_one};

@@ -1,0 +1,22 @@
+//! What the answers of two offices have in common.
+ghost use Rattle.std.specs.Prelude.{◌≡◌, ℕ};
+ghost use Rattle.exam_office.specs.Good.{IsGood};
+ghost use Rattle.exam_office.specs.Orders.{IsInOrder};
+ghost use Rattle.exam_request.specs.Answer.{Told};
+ghost use Rattle.exam_request.specs.Asked.{Request};
+ghost use Rattle.exam_store.specs.Stores.{OfficeIn};
+ghost use Rattle.exam_http.specs.Alike.{AreAlike};
+ghost use Rattle.exam_http.specs.Answering.{Answers, own_named};
+
+use sqlite::Alter;
+
+/// Two offices that show the candidate whom a request names the same answer the request the same on a day,
+/// unless one of them fails: nobody learns anything of another candidate. The office of a store is good and in
+/// order (`Office::is_good`, `Office::is_in_order`).
+pub fn own_rows_decide_an_answer<S: Alter, T: Alter>()
+    ensures { (today : ℕ) (request : Request) (one one_after : OfficeIn S) (other other_after : OfficeIn T)
+        (first second : Told) → IsGood one.office → IsInOrder one.office → IsGood other.office
+        → IsInOrder other.office → own_named one.office request ≡ own_named other.office request
+        → Answers S.Store today one request first one_after
+        → Answers T.Store today other request second other_after → AreAlike first second }
+{}
