@@ -34,6 +34,7 @@ pub mod Members
 pub mod Showing
 pub mod OwnSeats
 pub mod OwnRows
+pub mod OwnEntered
 pub mod OwnFacts
 pub mod OwnRetracting
 pub mod OwnLodging

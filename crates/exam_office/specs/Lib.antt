@@ -15,4 +15,5 @@ pub mod Orders
 pub mod Headline
 pub mod Views
 pub mod Moves
+pub mod Entered
 pub mod Own

@@ -1,7 +1,7 @@
 //! How what the office shows of one candidate is made: from their own rows, and for each of their sessions
 //! from its seats.
 ghost use Rattle.std.specs.Prelude.{◌≡◌, ◌<◌, ◌≤◌, ℕ, [], Contains, Some, codes, count_by, filter};
-ghost use Rattle.std.specs.Prelude.{length, map, IfOk, IfErr, IsTrue};
+ghost use Rattle.std.specs.Prelude.{length, map, ◌++◌, IfOk, IfErr, OnOk, IsTrue};
 ghost use Rattle.std.specs.Option.{option_map};
 ghost use Rattle.std.specs.BTreeMap.Range.{entries_between};
 ghost use Rattle.std.specs.Ordering.{is_lt};
@@ -14,6 +14,7 @@ ghost use Rattle.exam_rules.specs.Relations.{row_at, is_row_of, leading, same_co
 ghost use Rattle.exam_rules.specs.Orders.{KeysRise};
 ghost use Rattle.exam_rules.specs.Seatings.{seating, plan_of, stands_before, desk_cmp, desk_key};
 ghost use Rattle.exam_rules.specs.Sessions as sessions;
+ghost use Rattle.exam_office.specs.Entered.{HoldsEntered, session_of_paper};
 ghost use Rattle.exam_office.specs.Good.{IsGood};
 ghost use Rattle.exam_office.specs.Headline.{desk_of};
 ghost use Rattle.exam_office.specs.Own as spec;
@@ -83,9 +84,10 @@ fn own_sessions(
         number) }
     ensures memory { IfErr result (λ e. e ≡ NoMemory) }
 {
+    let entered = entered_sessions(alloc, facts, number)?;
     let mut list = Vec::new(alloc);
     for (session, row) in &facts.sessions {
-        if is_member(facts, session, number) {
+        if is_member_among(facts, &entered, session, number) {
             list.push(own_session(alloc, facts, seats, number, session, row)?)?;
         }
     }
@@ -243,6 +245,61 @@ fn live_papers(
         }
     }
     Ok(papers)
+}
+
+/// The sessions of the candidate's live papers, so that the other sessions need no look at their entries. A
+/// session may stand more than once.
+fn entered_sessions(
+    alloc: Global,
+    facts: &Facts,
+    number: Number,
+) -> Result<Vec<SessionCode>, Refusal>
+    ensures ok { IfOk result (λ list. HoldsEntered (relations_of facts.now) number list.items) }
+    ensures memory { IfErr result (λ e. e ≡ NoMemory) }
+{
+    let mut list = Vec::new(alloc);
+    for (key, entry) in entries_from(facts, number) {
+        if key.0 != number {
+            break;
+        }
+        if entry.live {
+            push_session(facts, &key.1, &mut list)?;
+        }
+    }
+    Ok(list)
+}
+
+/// Appends the session of a paper, if there is such a paper.
+fn push_session(
+    facts: &Facts,
+    paper: &PaperCode,
+    list: &mut Vec<SessionCode>,
+) -> Result<(), Refusal>
+    ensures ok { OnOk result (list.new.items
+        ≡ list.old.items ++ session_of_paper (relations_of facts.now) paper.now) }
+    ensures memory { IfErr result (λ e. e ≡ NoMemory) }
+{
+    if let Some(row) = facts.papers.get(paper) {
+        list.push(row.session)?;
+    }
+    Ok(())
+}
+
+/// Whether the candidate is a member of the session, where they are of none but these.
+fn is_member_among(
+    facts: &Facts,
+    entered: &[SessionCode],
+    session: &SessionCode,
+    number: Number,
+) -> bool
+    requires { HoldsEntered (relations_of facts.now) number entered.now }
+    ensures value { result ≡ sessions.is_member (relations_of facts.now) session.now number }
+    ensures listed { IsTrue result → Contains (sessions.members (relations_of facts.now) session.now) number }
+{
+    if !entered.contains(session) {
+        return false;
+    }
+    is_member(facts, session, number)
 }
 
 fn is_paper_of(facts: &Facts, session: &SessionCode, paper: &PaperCode) -> bool
