@@ -19,9 +19,10 @@ none_is r text answer parses none never n =
 -- where one is, the text is its decimal and no other's
 pub some_is : {E : Type 0} (r : Result ℕ E) (text : List ℕ) (m : ℕ) → ParsesUnsigned 16 10 text r → r ≡ Ok m → 1 ≤ m → m ≤ 65535 → decimal m ≡ text
     → (n : ℕ) → (Some m ≡ Some n) ↔ (((1 ≤ n) × (n ≤ 65535)) × (decimal n ≡ text))
-some_is r text m parses is low most written n =
-    (λ h. let same : m ≡ n = cc in subst (λ k. ((1 ≤ k) × (k ≤ 65535)) × (decimal k ≡ text)) same ((low, most), written),
-     λ h. let got : Ok m ≡ Ok n = sym is ∙ port_read n text r h.0.1 h.1 parses in let same : m ≡ n = cc in ap Some same)
+some_is r text m parses is low most written n = (
+  λ h. let same : m ≡ n = cc in subst (λ k. ((1 ≤ k) × (k ≤ 65535)) × (decimal k ≡ text)) same ((low, most), written),
+  λ h. let got : Ok m ≡ Ok n = sym is ∙ port_read n text r h.0.1 h.1 parses in let same : m ≡ n = cc in ap Some same,
+)
 
 pub ok_is : {E : Type 0} (r : Result ℕ E) (m : ℕ) → result_ok r ≡ Some m → r ≡ Ok m
 ok_is (Ok k) m is = let same : k ≡ m = cc in ap Ok same

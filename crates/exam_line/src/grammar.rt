@@ -37,7 +37,13 @@ fn with_changes<'a>(alloc: Global, command: Command<'a>) -> Result<Command<'a>, 
         ("reason", help::REASON),
     ];
     let command = with_job(alloc, command, "decide", help::DECIDE, &decision)?;
-    with_job(alloc, command, "serve", help::SERVE, &[("port", help::PORT)])
+    with_job(
+        alloc,
+        command,
+        "serve",
+        help::SERVE,
+        &[("port", help::PORT)],
+    )
 }
 
 /// The command with those that print a sheet of a session.

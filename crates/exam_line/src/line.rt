@@ -6,8 +6,8 @@ ghost use Rattle.exam_line.specs.Lines as spec;
 
 use crate::grammar::office_command;
 use crate::values::{
-    decision_of, entry_of, hall_of, kind_of, number_of, opening_of, paper_of, port_of, session_of, text,
-    today_of,
+    decision_of, entry_of, hall_of, kind_of, number_of, opening_of, paper_of, port_of, session_of,
+    text, today_of,
 };
 use clap::ArgMatches;
 use clap::error::ErrorKind;
