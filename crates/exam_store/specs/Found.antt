@@ -17,7 +17,8 @@ Finds old new office = HasCleanDisk new → IsOurs old.now → Keeps old.now off
 
 -- there is no memory, a query fails and its error is told, or the tables hold no good office
 abbrev pub FindsNone : {S : Type 0} → Ghosts S → Held S → Held S → Refusal → Type 0
-FindsNone g old new = IsLoadRefusal (FailsThen g old new) ((all : Trees) → Contains (state g old).now all → HoldsNone all)
+FindsNone g old new =
+    IsLoadRefusal (FailsThen g old new) ((all : Trees) → Contains (state g old).now all → HoldsNone all)
 
 -- the new database keeps an office with no facts
 abbrev pub MakesEmpty : Database → Database → Type 0

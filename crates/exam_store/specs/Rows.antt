@@ -28,7 +28,8 @@ paper_row code p = Text code ∷ Text p.title ∷ Text p.session ∷ whole p.min
 
 abbrev pub IsPaper : Code → Paper → Type 0
 IsPaper code p =
-    IsTrue (is_paper_code code) × IsTrue (is_name p.title) × IsTrue (is_session_code p.session) × IsExamMinutes p.minutes
+    IsTrue (is_paper_code code) × IsTrue (is_name p.title) × IsTrue (is_session_code p.session)
+    × IsExamMinutes p.minutes
 
 abbrev pub hall_row : Code → Hall → Row
 hall_row code h = Text code ∷ Text h.title ∷ features h.features ∷ []

@@ -8,7 +8,8 @@ use std::alloc::Global;
 use std::process::Abort;
 use std::test::Fail;
 
-/// The day, the method with the target, the access code and the body of a request, and the status and the body of its answer.
+/// The day, the method with the target, the access code and the body of a request, and the status and the
+/// body of its answer.
 type Exchange<'a> = (&'a str, &'a str, &'a str, &'a str, &'a str, &'a str);
 
 /// What is answered to a request.
