@@ -1,7 +1,6 @@
 pub mod Appending
 pub mod Counts
 pub mod OfficeSheets
-pub mod Sent
 pub mod Steps
 pub mod Taking
 pub mod Written

@@ -4,7 +4,8 @@ use Rattle.std.specs.Prelude.{IfErr, OnErr, OnOk, IsErrAnd, Result, Ok, Err}
 use Rattle.std.specs.Io.KnownBytes.{Appends}
 use Rattle.exam_types.specs.declared.refusal.Refusal.{Refusal}
 use Rattle.exam_types.specs.declared.refusal.Refusal.TheVariants.{NoMemory}
-use Rattle.exam_files.specs.Writing.{AppendsBeginning, Writes}
+use Rattle.exam_send.specs.Sending.{AppendsBeginning}
+use Rattle.exam_files.specs.Writing.{Writes}
 use Rattle.exam_files.specs.declared.sheet_fault.SheetFault.{SheetFault}
 use Rattle.exam_files.specs.declared.sheet_fault.SheetFault.TheVariants.{Refused, Write}
 

@@ -2,10 +2,9 @@
 use Rattle.std.specs.Prelude.{ℕ, List, ◌++◌, length, codes}
 use Rattle.std.specs.Fmt.{decimal}
 use Rattle.std.specs.List.{flat_map}
-use Rattle.exam_office.specs.declared.command.AppealState.{AppealState}
-use Rattle.exam_office.specs.declared.command.AppealState.TheVariants as state
 use Rattle.exam_office.specs.declared.view.AppealRow.{AppealRow}
 use Rattle.exam_office.specs.Views.{View}
+use Rattle.exam_office.specs.Words.{kind_word, state_word}
 use Rattle.exam_rules.specs.declared.rows.Arrangement.{Arrangement}
 use Rattle.exam_rules.specs.declared.rows.Subject.{Subject}
 use Rattle.exam_rules.specs.declared.rows.Subject.TheVariants as subject
@@ -13,18 +12,6 @@ use Rattle.exam_types.specs.Days.{day_text}
 use Rattle.exam_types.specs.Features.{features_text}
 use Rattle.exam_types.specs.Numbers.{number_text}
 use Rattle.exam_files.specs.Padding.{left_in}
-
-abbrev pub kind_word : Subject → List ℕ
-kind_word (subject.Hall hall) = codes "hall"
-kind_word (subject.Clash paper) = codes "clash"
-kind_word (subject.Arrangement asked) = codes "arrangement"
-
-abbrev pub state_word : AppealState → List ℕ
-state_word state.Pending = codes "open"
-state_word state.Granted = codes "granted"
-state_word state.Refused = codes "refused"
-state_word state.Retracted = codes "retracted"
-state_word state.Superseded = codes "superseded"
 
 -- the needs and the extra time
 abbrev pub arrangement_text : Arrangement → List ℕ

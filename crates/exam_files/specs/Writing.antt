@@ -1,6 +1,7 @@
 -- What a call that writes a text leaves.
-use Rattle.std.specs.Prelude.{◌≡◌, ◌⊎◌, ℕ, List, ◌++◌, Option, Result, Ok, Err}
+use Rattle.std.specs.Prelude.{◌≡◌, ◌⊎◌, ℕ, List, Option, Result, Ok, Err}
 use Rattle.std.specs.Io.KnownBytes.{Appends}
+use Rattle.exam_send.specs.Sending.{AppendsBeginning}
 use Rattle.exam_types.specs.declared.refusal.Refusal.{Refusal}
 use Rattle.exam_types.specs.declared.refusal.Refusal.TheVariants.{NoMemory}
 use Rattle.exam_files.specs.declared.sheet_fault.SheetFault.{SheetFault}
@@ -10,11 +11,6 @@ use Rattle.exam_files.specs.declared.sheet_fault.SheetFault.TheVariants.{Refused
 abbrev pub sheet_if : {X : Type 0} → (X → List ℕ) → Result X Refusal → Result (List ℕ) Refusal
 sheet_if text (Ok x) = Ok (text x)
 sheet_if text (Err e) = Err e
-
--- a beginning of the text went out
-abbrev pub AppendsBeginning : Option (List ℕ) → Option (List ℕ) → List ℕ → Type 0
-AppendsBeginning old new text =
-    (front : List ℕ) × (rest : List ℕ) × (text ≡ front ++ rest) × Appends old new front
 
 -- the sheet has a text
 abbrev pub HasText : Result (List ℕ) Refusal → Type 0

@@ -15,8 +15,6 @@ mod sending;
 mod sheet_fault;
 mod sheet_text;
 mod shortages;
-#[cfg(test)]
-mod tests;
 
 pub use attendances::attendance;
 pub use clashes::clash_list;

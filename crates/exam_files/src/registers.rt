@@ -8,7 +8,7 @@ ghost use Rattle.exam_types.specs.declared.refusal.Refusal.TheVariants.{NoMemory
 use crate::sending::send;
 use crate::sheet_fault::SheetFault;
 use crate::sheet_text::{push_bytes, push_decimal, push_left};
-use exam_office::{AppealRow, AppealState, SessionView};
+use exam_office::{AppealRow, SessionView, kind_word, state_word};
 use exam_rules::{Arrangement, Subject};
 use exam_types::{Refusal, SessionCode};
 use std::alloc::Global;
@@ -80,28 +80,6 @@ fn push_line(text: &mut Vec<u8>, appeal: &AppealRow) -> Result<(), Refusal>
     push_subject(text, &appeal.subject)?;
     push_bytes(text, b"\n")?;
     Ok(())
-}
-
-fn kind_word(subject: &Subject) -> &[u8]
-    ensures { result.now ≡ spec.kind_word subject.now }
-{
-    match subject {
-        Subject::Hall(_) => b"hall",
-        Subject::Clash(_) => b"clash",
-        Subject::Arrangement(_) => b"arrangement",
-    }
-}
-
-fn state_word(state: AppealState) -> &'static [u8]
-    ensures { result.now ≡ spec.state_word state }
-{
-    match state {
-        AppealState::Pending => b"open",
-        AppealState::Granted => b"granted",
-        AppealState::Refused => b"refused",
-        AppealState::Retracted => b"retracted",
-        AppealState::Superseded => b"superseded",
-    }
 }
 
 /// Appends the hall, the paper, or the needs and the extra time.

@@ -18,7 +18,7 @@ use Rattle.exam_office.proofs.OwnRetracting.{same_retraction_answer}
 use Rattle.exam_store.specs.Applied.{MayApply}
 use Rattle.exam_store.specs.Faults.{is_store_refusal}
 use Rattle.exam_store.specs.Stores.{OfficeIn}
-use Rattle.exam_request.specs.Answer.{Told, TellsRefusal}
+use Rattle.exam_request.specs.Answer.{Told, refusal_told}
 use Rattle.exam_request.specs.Asked.{Request}
 use Rattle.exam_request.specs.Bodies.{appeals_body, clashes_body, seats_body}
 use Rattle.exam_request.specs.Choices.{IsBy, IsOwnCommand, candidate_named, choice_of}
@@ -28,15 +28,8 @@ use Rattle.exam_request.proofs.Chosen.{own_command}
 use Rattle.exam_http.specs.Alike.{AreAlike, IsFailure}
 use Rattle.exam_http.specs.Answering.{Answers, Does, Shows, TellsReply, choice_in, own_named}
 
--- the same refusal
-told_refusal : (e : Refusal) (first second : Told) → TellsRefusal e first → TellsRefusal e second → AreAlike first second
-told_refusal (refusal.PastClosing day) first second (inl a) (inl b) = inr (inr (a ∙ sym b))
-told_refusal (refusal.PastClosing day) first second (inr busy) b = inl (inl busy)
-told_refusal (refusal.PastClosing day) first second (inl a) (inr busy) = inr (inl (inl busy))
-told_refusal e first second a b = inr (inr (a ∙ sym b))
-
 -- a refusal of the store is a failure
-failed : (e : Refusal) (told : Told) → IsTrue (is_store_refusal e) → TellsRefusal e told → IsFailure told
+failed : (e : Refusal) (told : Told) → IsTrue (is_store_refusal e) → told ≡ refusal_told e → IsFailure told
 failed refusal.NoMemory told is tells = inl tells
 failed refusal.Store told is tells = inr (inl tells)
 failed refusal.BadStore told is tells = inr (inr tells)
@@ -50,7 +43,7 @@ shown body (Some own) first second a b = inr (inr (a ∙ sym b))
 -- the same reply
 replied : (a : Result Reply Refusal) (first second : Told) → TellsReply a first → TellsReply a second → AreAlike first second
 replied (Ok r) first second a b = inr (inr (a ∙ sym b))
-replied (Err e) first second a b = told_refusal e first second a b
+replied (Err e) first second a b = inr (inr (a ∙ sym b))
 
 -- ---- the rows of the candidate whom a request names
 
@@ -123,7 +116,7 @@ module _ {S T : Type 0} (g : Ghosts S) (h : Ghosts T) (today : ℕ) (request : R
       → Does g today own one c first one_after → Does h today own other c second other_after → AreAlike first second
   chosen own (choice.Fault fault) e left right a b = inr (inr (a.0 ∙ sym b.0))
   chosen own (choice.OtherMethod place) e left right a b = inr (inr (a.0 ∙ sym b.0))
-  chosen own (choice.Refused refused) e left right a b = told_refusal refused first second a.0 b.0
+  chosen own (choice.Refused refused) e left right a b = inr (inr (a.0 ∙ sym b.0))
   chosen own choice.ShowSeats e left right a b = shown seats_body own first second a.0 b.0
   chosen own choice.ShowClashes e left right a b = shown clashes_body own first second a.0 b.0
   chosen own choice.ShowAppeals e left right a b = shown appeals_body own first second a.0 b.0

@@ -4,7 +4,7 @@ use Rattle.std.specs.Prelude.{Result, Ok, Err, IfSome}
 use Rattle.sqlite_trees.specs.declared.store.Store.{Ghosts}
 use Rattle.exam_store.specs.Stores.{OfficeIn}
 use Rattle.exam_request.specs.Asked.{Asks, IsAnswerTo}
-use Rattle.exam_request.specs.Input.{Gave}
+use Rattle.exam_send.specs.Given.{Gave}
 use Rattle.exam_request.specs.declared.fault.Fault.{Fault}
 use Rattle.exam_request.specs.declared.reading.Asked.{Asked}
 use Rattle.exam_http.specs.Serving.{Replies, Serves, asked_as}

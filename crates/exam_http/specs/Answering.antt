@@ -11,7 +11,7 @@ use Rattle.exam_office.specs.Own.{OwnRows, own_of}
 use Rattle.exam_office.specs.State.{State}
 use Rattle.exam_store.specs.Applied.{IsApplied}
 use Rattle.exam_store.specs.Stores.{OfficeIn}
-use Rattle.exam_request.specs.Answer.{Told, TellsRefusal, error_told, method_told, ok_told, refusal_told, state_told}
+use Rattle.exam_request.specs.Answer.{Told, error_told, method_told, ok_told, refusal_told, state_told}
 use Rattle.exam_request.specs.Asked.{Request}
 use Rattle.exam_request.specs.Bodies.{appeals_body, clashes_body, seats_body}
 use Rattle.exam_request.specs.Choices.{candidate_named, choice_of}
@@ -35,7 +35,7 @@ state_after other = state.Retracted
 -- what is told of a command
 abbrev pub TellsReply : Result Reply Refusal → Told → Type 0
 TellsReply (Ok answered) told = told ≡ state_told (state_after answered)
-TellsReply (Err refusal) told = TellsRefusal refusal told
+TellsReply (Err refusal) told = told ≡ refusal_told refusal
 
 -- a body over the own rows, where there is such a candidate
 abbrev pub Shows : (OwnRows → List ℕ) → Option OwnRows → Told → Type 0
@@ -47,7 +47,7 @@ Shows body (Some own) told = told ≡ ok_told (body own)
 abbrev pub Does : {S : Type 0} → Ghosts S → ℕ → Option OwnRows → OfficeIn S → Choice → Told → OfficeIn S → Type 0
 Does g today own old (choice.Fault fault) told new = (told ≡ error_told (fault_number fault)) × (new ≡ old)
 Does g today own old (choice.OtherMethod place) told new = (told ≡ method_told place) × (new ≡ old)
-Does g today own old (choice.Refused refusal) told new = TellsRefusal refusal told × (new ≡ old)
+Does g today own old (choice.Refused refusal) told new = (told ≡ refusal_told refusal) × (new ≡ old)
 Does g today own old choice.ShowSeats told new = Shows seats_body own told × (new ≡ old)
 Does g today own old choice.ShowClashes told new = Shows clashes_body own told × (new ≡ old)
 Does g today own old choice.ShowAppeals told new = Shows appeals_body own told × (new ≡ old)

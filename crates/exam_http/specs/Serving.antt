@@ -6,8 +6,8 @@ use Rattle.exam_store.specs.Stores.{OfficeIn}
 use Rattle.exam_request.specs.Answer.{Told, answer_text, error_told}
 use Rattle.exam_request.specs.Asked.{Asks, Request, request_of}
 use Rattle.exam_request.specs.Faults.{fault_number}
-use Rattle.exam_request.specs.Input.{Gave}
-use Rattle.exam_request.specs.Sending.{AppendsBeginning}
+use Rattle.exam_send.specs.Given.{Gave}
+use Rattle.exam_send.specs.Sending.{AppendsBeginning}
 use Rattle.exam_request.specs.declared.fault.Fault.{Fault}
 use Rattle.exam_request.specs.declared.reading.Asked.{Asked}
 use Rattle.exam_http.specs.Answering.{Answers}

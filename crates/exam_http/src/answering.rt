@@ -2,8 +2,7 @@
 ghost use Rattle.std.specs.Prelude.{◌≡◌, ◌⊎◌, option_and_then, option_map, IfOk, IfErr, List, ℕ};
 ghost use Rattle.exam_types.specs.declared.refusal.Refusal.TheVariants.{NoMemory};
 ghost use Rattle.exam_office.specs.Own.{own_of, shown};
-ghost use Rattle.exam_types.specs.Refusals.{refusal_number};
-ghost use Rattle.exam_request.specs.Answer.{error_told, ok_told, refusal_told};
+ghost use Rattle.exam_request.specs.Answer.{ok_told, refusal_told};
 ghost use Rattle.exam_request.specs.Asked.{request_of};
 ghost use Rattle.exam_request.specs.Bodies as bodies;
 ghost use Rattle.exam_request.specs.Choices.{number_named};
@@ -31,7 +30,7 @@ pub fn answer<S: Alter>(
 {
     match chosen(alloc, store, asked) {
         Ok((choice, own)) => done(alloc, store, today, choice, own),
-        Err(refusal) => Answer::refusal(alloc, refusal),
+        Err(refusal) => Answer::refusal(refusal),
     }
 }
 
@@ -86,11 +85,11 @@ fn done<S: Alter>(
     match choice {
         Choice::Fault(fault) => Answer::error(fault.number()),
         Choice::OtherMethod(place) => Answer::other_method(place),
-        Choice::Refused(refusal) => Answer::refusal(alloc, refusal),
+        Choice::Refused(refusal) => Answer::refusal(refusal),
         Choice::ShowSeats => seats(alloc, &own),
         Choice::ShowClashes => clashes(alloc, &own),
         Choice::ShowAppeals => appeals(alloc, &own),
-        Choice::Do(command) => told(alloc, store.apply(alloc, &command, today)),
+        Choice::Do(command) => told(store.apply(alloc, &command, today)),
     }
 }
 
@@ -100,7 +99,7 @@ fn seats(alloc: Global, own: &Option<Own>) -> Answer
 {
     match own {
         Some(own) => with_body(seats_body(alloc, own)),
-        None => Answer::refusal(alloc, Refusal::UnknownCandidate),
+        None => Answer::refusal(Refusal::UnknownCandidate),
     }
 }
 
@@ -110,7 +109,7 @@ fn clashes(alloc: Global, own: &Option<Own>) -> Answer
 {
     match own {
         Some(own) => with_body(clashes_body(alloc, own)),
-        None => Answer::refusal(alloc, Refusal::UnknownCandidate),
+        None => Answer::refusal(Refusal::UnknownCandidate),
     }
 }
 
@@ -120,28 +119,28 @@ fn appeals(alloc: Global, own: &Option<Own>) -> Answer
 {
     match own {
         Some(own) => with_body(appeals_body(alloc, own)),
-        None => Answer::refusal(alloc, Refusal::UnknownCandidate),
+        None => Answer::refusal(Refusal::UnknownCandidate),
     }
 }
 
 /// An answer with this body, or the answer to want of memory.
 fn with_body(body: Result<Vec<u8>, Refusal>) -> Answer
     ensures ok { IfOk body (λ bytes. result ≡ ok_told bytes.items) }
-    ensures err { IfErr body (λ e. result ≡ error_told (refusal_number e)) }
+    ensures err { IfErr body (λ e. result ≡ refusal_told e) }
 {
     match body {
         Ok(bytes) => Answer::ok(bytes),
-        Err(refusal) => Answer::error(refusal.number()),
+        Err(refusal) => Answer::refusal(refusal),
     }
 }
 
 /// The answer to a lodging or a retraction.
-fn told(alloc: Global, answered: Result<Reply, Refusal>) -> Answer
+fn told(answered: Result<Reply, Refusal>) -> Answer
     ensures { spec.TellsReply answered result }
 {
     match answered {
         Ok(Reply::Lodged(state)) => Answer::state(state),
         Ok(_) => Answer::state(AppealState::Retracted),
-        Err(refusal) => Answer::refusal(alloc, refusal),
+        Err(refusal) => Answer::refusal(refusal),
     }
 }

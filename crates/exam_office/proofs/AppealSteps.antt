@@ -4,8 +4,6 @@ use Rattle.std.specs.List.{list_all, list_any, filter_map}
 use Rattle.std.specs.Map.{keys_of}
 use Rattle.std.specs.Option.{option_and_then, option_map_or, option_or}
 use Rattle.std.specs.Ordering.{nat_cmp}
-use Rattle.std.specs.Cmp.{IsTotalOrder, nat_cmp_total, then_total, on_total}
-use Rattle.std.specs.Cmp.Lexicographic.{nat_list_cmp_total}
 use Rattle.std.proofs.Math.Path.{fun_ext}
 use Rattle.std.proofs.lemmas.Bool.{and_parts, and_from, not-false}
 use Rattle.exam_types.specs.declared.refusal.Refusal.{Refusal}
@@ -34,19 +32,22 @@ use Rattle.exam_office.specs.Changes.{first_refusal, unless}
 use Rattle.exam_office.specs.Good.{IsGood, appeal_refers, refers, subject_refers}
 use Rattle.exam_office.specs.Limits.{within_limits, sessions_within, papers_within, halls_within, openings_within, candidates_within, members_within}
 use Rattle.exam_office.specs.Lodgings as spec
-use Rattle.exam_office.specs.Singles.{AreSingle, same_single_key, single_key}
+use Rattle.exam_office.specs.Orders.{IsInOrder}
+use Rattle.exam_office.specs.Singles.{AreSingle, SingleKey, same_single_key, single_key}
 use Rattle.exam_office.specs.State.{State}
 use Rattle.exam_office.specs.Steps.{SameSeating, Step}
-use Rattle.exam_office.proofs.Appealing.{appeals_exact, apart_from_all, open_key, put_seating_same, single_flips, with_appeals}
+use Rattle.exam_office.proofs.AppealKeys.{appeals_exact, appeals_total}
+use Rattle.exam_office.proofs.Appealing.{apart_from_all, open_as, open_key, put_seating_same, single_flips, with_appeals}
 use Rattle.exam_office.proofs.Commanding.{ArePlansRepaired, DoListsRise, IsLimitRefusal, within_memory}
 use Rattle.exam_office.proofs.LodgingChecks.{both_passed}
-use Rattle.exam_office.proofs.PutAppeals.{IsApart, all_at_row, count_replaced, distinct_put}
+use Rattle.exam_office.proofs.PutAppeals.{all_at_row, count_replaced}
+use Rattle.exam_office.proofs.PutRows.{IsApartFrom, put_distinct}
 use Rattle.exam_office.proofs.Referring.{all_put, appeals_refer_so, passed, stored_refer, there}
 use Rattle.exam_office.proofs.Staying.{best_stays}
 use Rattle.exam_office.proofs.Stepping.{accepted_step, refused_step, same_seating}
 
-pub appeals_total : IsTotalOrder appeal_cmp
-appeals_total = then_total (on_total (λ (k : ℕ × Code). k.0) nat_cmp_total) (on_total (λ (k : ℕ × Code). k.1) nat_list_cmp_total)
+one_value : (x y : SingleKey) → Some x ≡ Some y → x ≡ y
+one_value x y is = cc
 
 -- what becomes of good facts is good, and every session has the seating that it had
 pub record IsSettled (r t : Relations) : Type 0 where
@@ -161,8 +162,9 @@ module _ (before : State) (good : IsGood before) (today : ℕ) (l : Lodging) whe
         refer = appeals_refer_so r (put_row appeal_cmp r.appeals k made) good.refer
             (all_put appeal_cmp appeals_exact (λ x. has_row nat_cmp r.candidates x.0.0 && appeal_refers r x.1) r.appeals k made (stored_refer r good.refer)
             (and_from (has_row nat_cmp r.candidates l.number) (appeal_refers r made) s.candidate (and_from (has_row code_cmp r.sessions l.session) (subject_refers r l.subject) s.session s.subject)));
-        single = distinct_put appeal_cmp appeals_exact same_single_key single_flips single_key r.appeals k made good.single
-            (subst (λ o. IsApart appeal_cmp appeals_exact same_single_key single_flips single_key o (filter_map single_key r.appeals)) (sym (open_key k made refl)) (apart_from_all l.session l.number l.subject r.appeals s.alone));
+        single = put_distinct appeal_cmp appeals_exact single_key same_single_key single_flips r.appeals k made
+            (λ x is. subst (λ y. IsApartFrom same_single_key y (filter_map single_key r.appeals)) (one_value (l.session, l.number, open_as l.subject) x (sym (open_key k made refl) ∙ is))
+            (apart_from_all l.session l.number l.subject r.appeals s.alone)) good.single;
         seated = put_seating_same r k made refl (λ b at. absurd (let differ : None ≡ Some b = sym none ∙ at in cc));
       }
 
@@ -189,15 +191,15 @@ module _ (before : State) (good : IsGood before) (today : ℕ) (l : Lodging) whe
           ap (λ o. is_none o && not (within_limits (spec.with_appeal before.relations today l))) at
           ∙ ap not (sym good.limits ∙ sym (ap within_limits (same_facts a at)) ∙ within)
 
-  pub lodging_accepted : (after : State) (t : Relations) (told : AppealState) → IsChecked → within_limits t ≡ true → t ≡ spec.with_lodging before.relations today l → after.relations ≡ t
+  pub lodging_accepted : (after : State) (t : Relations) (told : AppealState) → IsChecked → within_limits t ≡ true → t ≡ spec.with_lodging before.relations today l → after.relations ≡ t → IsInOrder after
       → told ≡ stored_state t l.number l.reference → DoListsRise t → ArePlansRepaired t before after → Step (command.Lodge l) today before (Ok (reply.Lodged told)) after
-  lodging_accepted after t told ok within is facts says up plans =
+  lodging_accepted after t told ok within is facts order says up plans =
       let new : Relations = spec.with_lodging before.relations today l in
       let none : spec.lodging_refusal before.relations before.seats today l ≡ None = limit_refusal ok false (within_as true (ap within_limits (sym is) ∙ within)) in
       let same : (s : Code) → SameSeating (seating before.relations s) (seating new s) = (lodging_settled new ok refl).seated in
       let up_new : DoListsRise new = subst DoListsRise is up in
       let plans_new : ArePlansRepaired new before after = subst (λ u. ArePlansRepaired u before after) is plans in
-      let step = accepted_step (command.Lodge l) today before after new (ap (λ o. unless o new) none) (facts ∙ is) up_new good plans_new
+      let step = accepted_step (command.Lodge l) today before after new (ap (λ o. unless o new) none) (facts ∙ is) order up_new good plans_new
       (all_stay before after good new same up_new plans_new (λ c. l.number ≡ c)) in
       subst (λ (state : AppealState). Step (command.Lodge l) today before (Ok (reply.Lodged state)) after)
       (ap (λ (r : Relations). stored_state r l.number l.reference) facts ∙ sym says) step
@@ -253,7 +255,7 @@ module _ (before : State) (good : IsGood before) (c : ℕ) (reference : Code) wh
         settled = record {
           refer = appeals_refer_so r (put_row appeal_cmp r.appeals k new) good.refer
               (all_put appeal_cmp appeals_exact (λ x. has_row nat_cmp r.candidates x.0.0 && appeal_refers r x.1) r.appeals k new (stored_refer r good.refer) known);
-          single = distinct_put appeal_cmp appeals_exact same_single_key single_flips single_key r.appeals k new good.single tt;
+          single = put_distinct appeal_cmp appeals_exact single_key same_single_key single_flips r.appeals k new (λ x is. absurd (let none : Option SingleKey = None in let differ : none ≡ Some x = is in cc)) good.single;
           seated = put_seating_same r k new refl (λ b is. let same : a ≡ b = (let both : Some a ≡ Some b = sym at ∙ is in cc) in ap (λ (x : Appeal). is_granted x.status) (sym same) ∙ closed);
         };
         within = count_same r k new a up at ∙ good.limits;
@@ -282,13 +284,13 @@ module _ (before : State) (good : IsGood before) (c : ℕ) (reference : Code) wh
   pub retraction_memory : (t : Relations) → AreInOrder before.relations → IsRetractable → IsWithout t → (e : Refusal) → IsLimitRefusal t e → e ≡ refusal.NoMemory
   retraction_memory t up ok is = within_memory t (ap within_limits is ∙ (retraction_within up ok).within)
 
-  pub retraction_accepted : (today : ℕ) (after : State) (t : Relations) → AreInOrder before.relations → IsRetractable → IsWithout t → after.relations ≡ t
+  pub retraction_accepted : (today : ℕ) (after : State) (t : Relations) → AreInOrder before.relations → IsRetractable → IsWithout t → after.relations ≡ t → IsInOrder after
       → DoListsRise t → ArePlansRepaired t before after → Step (command.Retract c reference) today before (Ok reply.Retracted) after
-  retraction_accepted today after t order ok is facts up plans =
+  retraction_accepted today after t order ok is facts order_after up plans =
       let new : Relations = spec.with_retraction before.relations c reference in
       let up_new : DoListsRise new = subst DoListsRise is up in
       let plans_new : ArePlansRepaired new before after = subst (λ u. ArePlansRepaired u before after) is plans in
-      accepted_step (command.Retract c reference) today before after new (ap (λ o. unless o new) ok) (facts ∙ is) up_new good plans_new
+      accepted_step (command.Retract c reference) today before after new (ap (λ o. unless o new) ok) (facts ∙ is) order_after up_new good plans_new
       (all_stay before after good new (retraction_settled new order ok refl).seated up_new plans_new (λ d. c ≡ d))
 
   pub retraction_refused : (today : ℕ) (e : Refusal) → spec.retraction_refusal before.relations c reference ≡ Some e → Step (command.Retract c reference) today before (Err e) before

@@ -3,7 +3,6 @@ use Rattle.std.proofs.Common.{◌≡◌, ℕ, ◌&&◌, ◌||◌, not, Bool, tru
 use Rattle.std.specs.List.{list_any, cons_option, filter_map, AllByRecursion}
 use Rattle.std.specs.Option.{option_map, option_map_or, option_and_then, option_or, unwrap_or}
 use Rattle.std.specs.Ordering.{nat_cmp}
-use Rattle.std.proofs.lemmas.Map.Lookups.{CmpEqualImpliesEq, exact_pairs, exact_bytes, exact_unsigned}
 use Rattle.exam_rules.specs.declared.rows.Appeal.{Appeal}
 use Rattle.exam_rules.specs.declared.rows.Arrangement.{Arrangement}
 use Rattle.exam_rules.specs.declared.rows.Paper.{Paper}
@@ -21,6 +20,7 @@ use Rattle.exam_office.specs.declared.import_row.Key.TheVariants as key
 use Rattle.exam_office.specs.Appeals.{is_open, is_open_appeal, same_kind}
 use Rattle.exam_office.specs.Singles.{SingleKey, same_single, same_single_key, single_as, single_key}
 use Rattle.exam_office.specs.Steps.{SameSeating}
+use Rattle.exam_office.proofs.AppealKeys.{appeals_exact}
 use Rattle.exam_office.proofs.ImportKeys.{key_flips}
 use Rattle.exam_office.proofs.PutAppeals.{put_passed_over}
 
@@ -46,7 +46,8 @@ module _ (r : Relations) (appeals : Appeals) (s : Code) where
         && (suits_opened (option_and_then (λ (session : Session). option_map (λ (paper : Paper). terms_of session paper (arrangement_by asked)) (option_and_then (row_at code_cmp r.papers) (sitting_by asked))) (row_at code_cmp r.sessions s)) (opened_room r s h)
         && not (list_any (same_code h) (filter_map asked_hall asked)))
 
-    fits_same : (h : Code) → fits (with_appeals r appeals) s c h ≡ fits r s c h
+    -- the same halls fit the candidate
+    pub fits_same : (h : Code) → fits (with_appeals r appeals) s c h ≡ fits r s c h
     fits_same h = ap (fits_by h) same
 
   pub seating_same : ((c : ℕ) → granted_subjects appeals s c ≡ granted_subjects r.appeals s c) → SameSeating (seating r s) (seating (with_appeals r appeals) s)
@@ -57,9 +58,6 @@ not_granted : (mine here : Bool) → (mine && (here && false)) ≡ false
 not_granted true true = refl
 not_granted true false = refl
 not_granted false here = refl
-
-pub appeals_exact : CmpEqualImpliesEq appeal_cmp
-appeals_exact = exact_pairs nat_cmp code_cmp exact_unsigned exact_bytes
 
 -- an appeal that is put seats nobody otherwise, where it is not granted and takes no granted one's place
 pub put_seating_same : (r : Relations) (k : ℕ × Code) (a : Appeal) → is_granted a.status ≡ false → ((b : Appeal) → row_at appeal_cmp r.appeals k ≡ Some b → is_granted b.status ≡ false)

@@ -12,6 +12,7 @@ use Rattle.exam_office.specs.declared.command.Reply.TheVariants as reply
 use Rattle.exam_office.specs.Changes.{unless, first_refusal, too_many, no_entry, with_live, withdrawal_refusal, revival_refusal, reinstatement_refusal, without_opening, closing_refusal}
 use Rattle.exam_office.specs.Good.{IsGood, refers}
 use Rattle.exam_office.specs.Limits.{within_limits}
+use Rattle.exam_office.specs.Orders.{IsInOrder}
 use Rattle.exam_office.specs.Repairs.{IsRepaired}
 use Rattle.exam_office.specs.State.{State}
 use Rattle.exam_office.specs.Steps.{Step, SeatsOn}
@@ -57,11 +58,11 @@ module _ (before : State) (good : IsGood before) (c : ℕ) (p : Code) where
   pub withdrawal_memory : (t : Relations) → IsMarked before c p false t → (e : Refusal) → IsLimitRefusal t e → e ≡ refusal.NoMemory
   withdrawal_memory t is = within_memory t (ap within_limits is ∙ withdrawal_within before.relations c p good.limits)
 
-  pub withdrawal_accepted : (today : ℕ) (after : State) (t : Relations) → withdrawal_refusal before.relations c p ≡ None → IsMarked before c p false t → after.relations ≡ t
+  pub withdrawal_accepted : (today : ℕ) (after : State) (t : Relations) → withdrawal_refusal before.relations c p ≡ None → IsMarked before c p false t → after.relations ≡ t → IsInOrder after
       → DoListsRise t → ArePlansRepaired t before after → Step (command.Withdraw c p) today before (Ok reply.Withdrawn) after
-  withdrawal_accepted today after t ok is facts up plans =
+  withdrawal_accepted today after t ok is facts order up plans =
       let new : Relations = with_live before.relations c p false in
-      accepted_step (command.Withdraw c p) today before after new (ap (λ o. unless o new) ok) (facts ∙ is) (subst DoListsRise is up) good (subst (λ u. ArePlansRepaired u before after) is plans)
+      accepted_step (command.Withdraw c p) today before after new (ap (λ o. unless o new) ok) (facts ∙ is) order (subst DoListsRise is up) good (subst (λ u. ArePlansRepaired u before after) is plans)
       (others_seated false after (subst (λ u. ArePlansRepaired u before after) is plans))
 
   pub withdrawal_refused : (today : ℕ) (e : Refusal) → withdrawal_refusal before.relations c p ≡ Some e → Step (command.Withdraw c p) today before (Err e) before
@@ -75,13 +76,13 @@ module _ (before : State) (good : IsGood before) (c : ℕ) (p : Code) where
   pub reinstatement_refers : (t : Relations) → revival_refusal before.relations c p ≡ None → IsMarked before c p true t → refers t ≡ true
   reinstatement_refers t ok is = ap refers is ∙ live_refers before.relations c p true (no_entry before.relations c p ∷ (is_live before.relations c p, refusal.NotWithdrawn) ∷ []) good.refer ok
 
-  pub reinstatement_accepted : (today : ℕ) (after : State) (t : Relations) → revival_refusal before.relations c p ≡ None → within_limits t ≡ true → IsMarked before c p true t → after.relations ≡ t
+  pub reinstatement_accepted : (today : ℕ) (after : State) (t : Relations) → revival_refusal before.relations c p ≡ None → within_limits t ≡ true → IsMarked before c p true t → after.relations ≡ t → IsInOrder after
       → DoListsRise t → ArePlansRepaired t before after → Step (command.Reinstate c p) today before (Ok reply.Reinstated) after
-  reinstatement_accepted today after t ok within is facts up plans =
+  reinstatement_accepted today after t ok within is facts order up plans =
       let new : Relations = with_live before.relations c p true in
       accepted_step (command.Reinstate c p) today before after new
       (ap (λ o. unless o new) (limits_refusal true (ap within_limits (sym is) ∙ within)) ∙ ap (λ o. unless (option_or o None) new) ok)
-      (facts ∙ is) (subst DoListsRise is up) good (subst (λ u. ArePlansRepaired u before after) is plans)
+      (facts ∙ is) order (subst DoListsRise is up) good (subst (λ u. ArePlansRepaired u before after) is plans)
       (others_seated true after (subst (λ u. ArePlansRepaired u before after) is plans))
 
   pub reinstatement_refused : (today : ℕ) (e : Refusal) → revival_refusal before.relations c p ≡ Some e → Step (command.Reinstate c p) today before (Err e) before
@@ -108,11 +109,11 @@ module _ (before : State) (good : IsGood before) (s : Code) (h : Code) where
   pub closing_memory : (t : Relations) → IsClosed before s h t → (e : Refusal) → IsLimitRefusal t e → e ≡ refusal.NoMemory
   closing_memory t is = within_memory t (ap within_limits is ∙ closing_within before.relations s h good.limits)
 
-  pub closing_accepted : (today : ℕ) (after : State) (t : Relations) → closing_refusal before.relations s h ≡ None → IsClosed before s h t → after.relations ≡ t
+  pub closing_accepted : (today : ℕ) (after : State) (t : Relations) → closing_refusal before.relations s h ≡ None → IsClosed before s h t → after.relations ≡ t → IsInOrder after
       → DoListsRise t → ArePlansRepaired t before after → Step (command.CloseHall s h) today before (Ok reply.Closed) after
-  closing_accepted today after t ok is facts up plans =
+  closing_accepted today after t ok is facts order up plans =
       let new : Relations = without_opening before.relations s h in
-      accepted_step (command.CloseHall s h) today before after new (ap (λ o. unless o new) ok) (facts ∙ is) (subst DoListsRise is up) good (subst (λ u. ArePlansRepaired u before after) is plans)
+      accepted_step (command.CloseHall s h) today before after new (ap (λ o. unless o new) ok) (facts ∙ is) order (subst DoListsRise is up) good (subst (λ u. ArePlansRepaired u before after) is plans)
       (λ q. subst (λ (u : Relations). SeatsOn (command.CloseHall s h) (seating u q) (plan_of before.seats q) (plan_of after.seats q)) is
       (kept_stays (seating t q) None (plan_of before.seats q) (plan_of after.seats q) (plans q).repair))
 

@@ -1,25 +1,20 @@
 -- What a decision leaves: references, limits and appeals that stand alone, and the halls that fit everybody else.
-use Rattle.std.proofs.Common.{◌≡◌, ℕ, ◌==◌, ◌&&◌, not, arith, Bool, true, false, cond, List, [], ◌∷◌, map, filter, length, nat_eq, nat_le, Option, None, Some, refl, ap, sym, subst, ◌∙◌}
+use Rattle.std.proofs.Common.{◌≡◌, ℕ, ◌==◌, ◌&&◌, arith, Bool, true, false, cond, List, [], ◌∷◌, map, filter, length, nat_eq, nat_le, Option, None, Some, refl, ap, sym, subst, ◌∙◌}
 use Rattle.std.proofs.Math.Path.{fun_ext}
-use Rattle.std.specs.List.{IsDistinct, filter_map, list_all, list_any}
+use Rattle.std.specs.List.{IsDistinct, filter_map, list_all}
 use Rattle.std.specs.List.Sorted.{IsStrictlySortedBy}
 use Rattle.std.specs.Map.{keys_of}
 use Rattle.std.specs.BTreeMap.{is_at}
-use Rattle.std.specs.Cmp.{Equal-is}
-use Rattle.std.specs.Option.{option_map, option_and_then, option_or, unwrap_or}
+use Rattle.std.specs.Option.{option_map}
 use Rattle.std.specs.declared.cmp.Ordering.{Ordering}
 use Rattle.std.specs.Ordering.{nat_cmp}
 use Rattle.std.proofs.lemmas.Bool.{and_parts, eqb-true}
-use Rattle.std.proofs.lemmas.Map.Lookups.{CmpEqualImpliesEq}
 use Rattle.exam_rules.specs.declared.rows.Appeal.{Appeal}
-use Rattle.exam_rules.specs.declared.rows.Paper.{Paper}
-use Rattle.exam_rules.specs.declared.rows.Session.{Session}
 use Rattle.exam_rules.specs.declared.rows.Status.TheVariants as status
-use Rattle.exam_rules.specs.declared.rows.Subject.{Subject}
 use Rattle.exam_rules.specs.Orders.{KeysRise}
-use Rattle.exam_rules.specs.Relations.{Code, Relations, appeal_cmp, code_cmp, has_row, is_row_of, put_row, row_at, same_code}
-use Rattle.exam_rules.specs.Sessions.{appeal_count, asked_arrangement, asked_hall, asked_paper, granted_subjects, has_live_entry, head_of, is_granted, is_granted_appeal, is_live_paper, least_live_paper, no_arrangement, option_filter}
-use Rattle.exam_rules.specs.Seatings.{desks, fits, opened_room, suits_opened, terms_of}
+use Rattle.exam_rules.specs.Relations.{Code, Relations, appeal_cmp, has_row, is_row_of, put_row, row_at, same_code}
+use Rattle.exam_rules.specs.Sessions.{appeal_count, is_granted, is_granted_appeal}
+use Rattle.exam_rules.specs.Seatings.{desks, fits}
 use Rattle.exam_office.specs.declared.command.Decision.{Decision}
 use Rattle.exam_office.specs.declared.command.Outcome.{Outcome}
 use Rattle.exam_office.specs.declared.command.Outcome.TheVariants as outcome
@@ -29,23 +24,15 @@ use Rattle.exam_office.specs.Decisions.{gives_way, giving_way, with_decision, wi
 use Rattle.exam_office.specs.Good as good
 use Rattle.exam_office.specs.Limits.{within_limits, sessions_within, papers_within, halls_within, openings_within, candidates_within, members_within}
 use Rattle.exam_office.specs.Singles.{AreSingle, SingleKey, same_single_key, single_as, single_key}
+use Rattle.exam_office.proofs.Appealing.{fits_same, single_flips}
+use Rattle.exam_office.proofs.AppealKeys.{appeals_exact, appeals_total}
 use Rattle.exam_office.proofs.LiveMarks.{put_filtered}
+use Rattle.exam_office.proofs.PutAppeals.{all_at_row}
 use Rattle.exam_office.proofs.PutRows.{IsApartFrom, IsFresh, mapped_filtered, mapped_keys, put_distinct, put_keys}
 use Rattle.exam_office.proofs.Referring.{all_put}
-use Rattle.exam_office.proofs.Superseding.{appeals_exact, appeals_total, given_distinct, keys_flip, places_apart}
+use Rattle.exam_office.proofs.Superseding.{given_distinct, places_apart}
 
 -- ---- rows
-
--- what holds of all rows holds of the one at a key
-at_key : {K X : Type 0} (cmp : K → K → Ordering) → CmpEqualImpliesEq cmp → (p : K × X → Bool) (rows : List (K × X)) (k : K) (x : X) → list_all p rows ≡ true → row_at cmp rows k ≡ Some x → p (k, x) ≡ true
-at_key cmp exact p [] k x every at = absurd (let differ : None ≡ Some x = at in cc)
-at_key cmp exact p (e ∷ es) k x every at = inner (is_at (cmp k) e.0) refl at (at_key cmp exact p es k x (and_parts (p e) (list_all p es) every).1)
-  where
-    inner : (b : Bool) → is_at (cmp k) e.0 ≡ b → cond b (Some e.1) (row_at cmp es k) ≡ Some x → (row_at cmp es k ≡ Some x → p (k, x) ≡ true) → p (k, x) ≡ true
-    inner true here is rest =
-        let one : e.1 ≡ x = cc in
-        ap (λ y. p (k, y)) (sym one) ∙ ap (λ q. p (q, e.1)) (exact k e.0 ((Equal-is (cmp k e.0)).0 here)) ∙ (and_parts (p e) (list_all p es) every).0
-    inner false away is rest = rest is
 
 all_mapped : {R : Type 0} (p : R → Bool) (g : R → R) → ((row : R) → p (g row) ≡ p row) → (rows : List R) → list_all p (map g rows) ≡ list_all p rows
 all_mapped p g same [] = refl
@@ -152,18 +139,6 @@ module _ (r : Relations) (c : ℕ) (a : Appeal) where
             inner false away = ap (λ (k : ℕ × Code). (k.0 == n) && (same_code (given row).1.session s && is_granted (given row).1.status)) (given_keyed row)
                 ∙ ap (λ b. b && (same_code (given row).1.session s && is_granted (given row).1.status)) away
 
--- ---- which halls fit
-
--- that only other appeals than the candidate's granted ones have changed
-fits_by_grants : (r : Relations) (rows : List ((ℕ × Code) × Appeal)) (s : Code) (c : ℕ) → granted_subjects rows s c ≡ granted_subjects r.appeals s c → (h : Code) → fits (record r { appeals = rows }) s c h ≡ fits r s c h
-fits_by_grants r rows s c same h = ap by_grants same
-  where
-    by_grants : List Subject → Bool
-    by_grants granted = has_live_entry r s c
-        && (suits_opened (option_and_then (λ (session : Session). option_map (λ (paper : Paper). terms_of session paper (unwrap_or (option_or (head_of (filter_map asked_arrangement granted)) (row_at nat_cmp r.arrangements c)) no_arrangement))
-        (option_and_then (row_at code_cmp r.papers) (option_or (option_filter (is_live_paper r s c) (head_of (filter_map asked_paper granted))) (least_live_paper r s c)))) (row_at code_cmp r.sessions s)) (opened_room r s h)
-        && not (list_any (same_code h) (filter_map asked_hall granted)))
-
 -- ---- a decision
 
 module _ (r : Relations) (d : Decision) where
@@ -192,7 +167,7 @@ module _ (r : Relations) (d : Decision) where
       anew a stored =
           let now : good.appeals_refer (with_outcome r d a) ≡ true =
           all_put appeal_cmp appeals_exact (refers_at r d.number a) (with_superseded d.number a d.outcome r.appeals) (d.number, d.reference) (record a { status = decided d.outcome d.answer })
-          (rows_refer r d.number a d.outcome old) (at_key appeal_cmp appeals_exact (refers_at r d.number a) r.appeals (d.number, d.reference) a old stored) in
+          (rows_refer r d.number a d.outcome old) (all_at_row appeal_cmp appeals_exact (refers_at r d.number a) r.appeals (d.number, d.reference) a old stored) in
           ap (λ b. good.papers_refer r && (good.openings_refer r && (good.entries_refer r && (good.arrangements_refer r && b)))) (now ∙ sym old) ∙ every
 
   -- as many appeals of each candidate, and no other table changes
@@ -217,7 +192,7 @@ module _ (r : Relations) (d : Decision) where
     where
       anew : (a : Appeal) → appeal_at r d.number d.reference ≡ Some a → AreSingle (with_outcome r d a)
       anew a stored =
-          put_distinct appeal_cmp appeals_exact single_key same_single_key keys_flip (with_superseded d.number a d.outcome r.appeals) (d.number, d.reference) (record a { status = decided d.outcome d.answer })
+          put_distinct appeal_cmp appeals_exact single_key same_single_key single_flips (with_superseded d.number a d.outcome r.appeals) (d.number, d.reference) (record a { status = decided d.outcome d.answer })
           (rows_fresh r d.number a d.outcome d.answer) (rows_distinct r d.number a d.outcome distinct)
 
   pub decision_fits : (s : Code) (c : ℕ) → nat_eq d.number c ≡ false → (h : Code) → fits (with_decision r d) s c h ≡ fits r s c h
@@ -227,7 +202,7 @@ module _ (r : Relations) (d : Decision) where
       anew a stored =
           let rows : List ((ℕ × Code) × Appeal) = with_superseded d.number a d.outcome r.appeals in
           let v : Appeal = record a { status = decided d.outcome d.answer } in
-          fits_by_grants r (put_row appeal_cmp rows (d.number, d.reference) v) s c
+          fits_same r (put_row appeal_cmp rows (d.number, d.reference) v) s c
           (ap (map (λ (x : (ℕ × Code) × Appeal). x.1.subject))
           (put_filtered appeal_cmp appeals_exact (is_granted_appeal s c) rows (d.number, d.reference) v (λ w. ap (λ b. b && (same_code w.session s && is_granted w.status)) other) ∙ rows_filtered r d.number a s c other d.outcome)) h
 

@@ -12,6 +12,7 @@ use Rattle.exam_office.specs.Changes.{unless}
 use Rattle.exam_office.specs.Decisions.{decision_refusal, granted_number, with_decision}
 use Rattle.exam_office.specs.Good.{IsGood, refers}
 use Rattle.exam_office.specs.Limits.{within_limits}
+use Rattle.exam_office.specs.Orders.{IsInOrder}
 use Rattle.exam_office.specs.Repairs.{IsRepaired}
 use Rattle.exam_office.specs.Replies.{decision_reply}
 use Rattle.exam_office.specs.Singles.{AreSingle}
@@ -48,11 +49,11 @@ module _ (before : State) (good : IsGood before) (d : Decision) where
       others_stay before.relations (with_decision before.relations d) s d.number (decision_candidates before.relations d) (decision_desks before.relations d s) (decision_fits before.relations d s)
       (granted_number d d.outcome) (plan_of before.seats s) (plan_of after.seats s) (good.best s).lawful (plans s).repair
 
-  pub decision_accepted : (today : ℕ) (after : State) (t : Relations) → decision_refusal before.relations today d ≡ None → IsDecided t → after.relations ≡ t
+  pub decision_accepted : (today : ℕ) (after : State) (t : Relations) → decision_refusal before.relations today d ≡ None → IsDecided t → after.relations ≡ t → IsInOrder after
       → DoListsRise t → ArePlansDecided t after → Step (command.Decide d) today before (Ok (decision_reply before after d)) after
-  decision_accepted today after t ok is facts up plans =
+  decision_accepted today after t ok is facts order up plans =
       let new : Relations = with_decision before.relations d in
-      accepted_step (command.Decide d) today before after new (ap (λ o. unless o new) ok) (facts ∙ is) (subst DoListsRise is up) good (subst (λ u. ArePlansDecided u after) is plans)
+      accepted_step (command.Decide d) today before after new (ap (λ o. unless o new) ok) (facts ∙ is) order (subst DoListsRise is up) good (subst (λ u. ArePlansDecided u after) is plans)
       (others_seated after (subst (λ u. ArePlansDecided u after) is plans))
 
   pub decision_refused : (today : ℕ) (e : Refusal) → decision_refusal before.relations today d ≡ Some e → Step (command.Decide d) today before (Err e) before

@@ -37,8 +37,8 @@ use Rattle.exam_office.specs.Lodgings as spec
 use Rattle.exam_office.specs.Orders.{IsInOrder}
 use Rattle.exam_office.specs.State.{State}
 use Rattle.exam_office.specs.Steps.{MayStep, Run, SameSeating, Step, StepTo, change}
-use Rattle.exam_office.proofs.Appealing.{appeals_exact}
-use Rattle.exam_office.proofs.AppealSteps.{appeals_total, lodging_settled, retraction_settled}
+use Rattle.exam_office.proofs.AppealKeys.{appeals_exact, appeals_total}
+use Rattle.exam_office.proofs.AppealSteps.{lodging_settled, retraction_settled}
 use Rattle.exam_office.proofs.Referring.{import_appeals, import_candidates, neither, passed}
 use Rattle.exam_office.proofs.Repeating.{put_found, put_stays, same_rows}
 use Rattle.exam_office.proofs.SameSeats.{seats_exact, seats_total}

@@ -3,11 +3,13 @@ pub mod Stepping
 pub mod Commanding
 pub mod LodgingChecks
 pub mod PutAppeals
+pub mod AppealKeys
 pub mod Appealing
 pub mod AppealSteps
 pub mod Lasting
 pub mod Referring
 pub mod Running
+pub mod OneResult
 pub mod Counting
 pub mod SameSeats
 pub mod Staying

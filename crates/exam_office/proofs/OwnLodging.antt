@@ -33,8 +33,7 @@ use Rattle.exam_office.specs.Own.{OwnRows, OwnSessionRow, own_of, own_rows, own_
 use Rattle.exam_office.specs.SameRows.{same_arrangement}
 use Rattle.exam_office.specs.State.{State}
 use Rattle.exam_office.specs.Steps.{Step, StepTo}
-use Rattle.exam_office.proofs.Appealing.{appeals_exact}
-use Rattle.exam_office.proofs.AppealSteps.{appeals_total}
+use Rattle.exam_office.proofs.AppealKeys.{appeals_exact, appeals_total}
 use Rattle.exam_office.proofs.Members.{member_ends, member_sits}
 use Rattle.exam_office.proofs.OwnFacts.{all_but_one, appeal_found, is_own_open, live_found, one_more, open_found, own_among, session_at, session_found}
 use Rattle.exam_office.proofs.OwnRetracting.{answer_or, same_appeal}

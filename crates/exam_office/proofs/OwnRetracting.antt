@@ -17,7 +17,7 @@ use Rattle.exam_office.specs.Lodgings.{retraction_checks, retraction_refusal, wi
 use Rattle.exam_office.specs.Own.{OwnRows, own_of, own_rows}
 use Rattle.exam_office.specs.State.{State}
 use Rattle.exam_office.specs.Steps.{Step, StepTo}
-use Rattle.exam_office.proofs.Appealing.{appeals_exact}
+use Rattle.exam_office.proofs.AppealKeys.{appeals_exact}
 use Rattle.exam_office.proofs.OwnFacts.{appeal_found}
 use Rattle.exam_office.proofs.PutAppeals.{all_at_row}
 use Rattle.exam_office.proofs.Referring.{stored_refer}

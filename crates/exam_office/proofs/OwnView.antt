@@ -39,7 +39,8 @@ use Rattle.exam_office.specs.Orders.{IsInOrder}
 use Rattle.exam_office.specs.Own.{OwnRows, OwnSessionRow, own_of, own_rows, own_sessions}
 use Rattle.exam_office.specs.State.{Seats, State}
 use Rattle.exam_office.specs.Steps.{Step, StepTo}
-use Rattle.exam_office.proofs.Appealing.{appeals_exact, with_appeals}
+use Rattle.exam_office.proofs.AppealKeys.{appeals_exact}
+use Rattle.exam_office.proofs.Appealing.{with_appeals}
 use Rattle.exam_office.proofs.Lasting.{lodging_moves_nobody, retraction_moves_nobody}
 use Rattle.exam_office.proofs.OwnFacts.{AppealRows, own_among}
 use Rattle.exam_office.proofs.OwnLodging.{same_lodging_refusal}

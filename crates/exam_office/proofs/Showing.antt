@@ -1,5 +1,5 @@
 -- What a view shows is so of the office.
-use Rattle.std.proofs.Common.{◌≡◌, ◌↔◌, ℕ, suc, ◌+◌, ◌<◌, ◌≤◌, Bool, true, false, IsTrue, cond, List, [], ◌∷◌, length, map, filter, get_or, drop, Contains, ◌++◌, Option, None, Some, Result, Ok, Err, IfErr, refl, ap, sym, subst, ◌∙◌, inl, inr, arith}
+use Rattle.std.proofs.Common.{◌≡◌, ◌↔◌, ℕ, suc, ◌+◌, ◌<◌, ◌≤◌, Bool, true, false, cond, List, [], ◌∷◌, length, map, filter, get_or, drop, Contains, ◌++◌, Option, None, Some, Result, Ok, Err, IfErr, refl, ap, sym, subst, ◌∙◌, inl, inr, arith, ◌⊎◌}
 use Rattle.std.specs.Map.{keys_of}
 use Rattle.std.specs.List.{All, range_with_len}
 use Rattle.std.specs.Option.{option_map, option_and_then}
@@ -9,7 +9,7 @@ use Rattle.std.proofs.lemmas.List.{length-map, get_or-map, get_or_default, at_dr
 use Rattle.std.proofs.lemmas.List.Elements.{All-contains, All-head, All-tail, All-map, All-contains_itself, All-weaker}
 use Rattle.std.proofs.lemmas.List.FromFn.{length-range_with_len, get_or-range_with_len, get_or-map-range_with_len}
 use Rattle.exam_types.specs.declared.refusal.Refusal.{Refusal}
-use Rattle.exam_types.specs.declared.refusal.Refusal.TheVariants.{NoMemory}
+use Rattle.exam_types.specs.declared.refusal.Refusal.TheVariants.{NoMemory, TooMany}
 use Rattle.exam_plan.specs.Matching.{IsBest, IsCertificate, IsContested, desk_number, unseated}
 use Rattle.exam_plan.specs.Problems.{most_members, Problem, IsProblem, IsPlan, seating_of, plan_at, ranks_before, desk_numbers}
 use Rattle.exam_plan.proofs.Contested.{some_certificate}
@@ -17,9 +17,9 @@ use Rattle.exam_plan.proofs.Steps.{plan_at-get_or}
 use Rattle.exam_plan.proofs.Seatings.{fits_below}
 use Rattle.exam_rules.specs.declared.rows.Candidate.{Candidate}
 use Rattle.exam_rules.specs.declared.rows.Opening.{Opening}
-use Rattle.exam_rules.specs.Relations.{Code, Relations, code_cmp, same_code, row_at, has_row}
+use Rattle.exam_rules.specs.Relations.{Code, Relations, code_cmp, same_code, row_at}
 use Rattle.exam_rules.specs.Sessions.{members, sitting, finish, clashes}
-use Rattle.exam_rules.specs.Seatings.{indexed_seating, seating, problem_of, plan_of, open_halls, desks, fitting_places, stands_before, IsProblemRefusal}
+use Rattle.exam_rules.specs.Seatings.{indexed_seating, seating, problem_of, plan_of, open_halls, desks, fitting_places, stands_before}
 use Rattle.exam_rules.specs.Names.{naming, ListsRise, number_at, hall_at, index_of, named_plan, indexed_plan}
 use Rattle.exam_rules.proofs.Naming.{renames, order_same, numbers_rise, codes_rise, fit_open, index_known}
 use Rattle.exam_rules.proofs.Ranking.{is_problem}
@@ -40,11 +40,10 @@ pub on_err : {T E : Type 0} (result : Result T E) (P Q : E → Type 0) → ((e :
 on_err (Ok x) P Q f h = tt
 on_err (Err e) P Q f h = f e h
 
--- the refusals of a problem, where there is the session and it has few members
-pub memory_alone : (r : Relations) (s : Code) → IsTrue (has_row code_cmp r.sessions s) → length (members r s) ≤ most_members → (e : Refusal) → IsProblemRefusal r s e → e ≡ NoMemory
-memory_alone r s known few e (inl (inl unknown)) = absurd (let f : false ≡ true = sym unknown.1 ∙ known in cc)
-memory_alone r s known few e (inl (inr memory)) = memory.0
-memory_alone r s known few e (inr many) = absurd (omega (arith, many.1))
+-- the refusals of a problem of which the lists are known, where the session has few members
+pub memory_alone : (r : Relations) (s : Code) → length (members r s) ≤ most_members → (e : Refusal) → (e ≡ NoMemory) ⊎ ((e ≡ TooMany) × (most_members < length (members r s))) → e ≡ NoMemory
+memory_alone r s few e (inl memory) = memory
+memory_alone r s few e (inr many) = absurd (omega (arith, many.1))
 
 -- ---- lists of members
 

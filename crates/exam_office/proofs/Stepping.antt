@@ -15,6 +15,7 @@ use Rattle.exam_office.specs.declared.command.Command.{Command}
 use Rattle.exam_office.specs.declared.command.Command.TheVariants as command
 use Rattle.exam_office.specs.Changes.{imported, unless, first_refusal, rows_refusal, with_rows, too_many}
 use Rattle.exam_office.specs.Limits.{within_limits}
+use Rattle.exam_office.specs.Orders.{IsInOrder}
 use Rattle.exam_office.specs.Repairs.{IsRepaired}
 use Rattle.exam_office.specs.State.{State, Seats}
 use Rattle.exam_office.specs.Imports.{ImportRows}
@@ -61,12 +62,12 @@ next_plan done r t s before after up best made kept = record {
 
 -- ---- any command
 
-pub accepted_step : (done : Command) (today : ℕ) (before after : State) (t : Relations) → change done today before ≡ Ok t → after.relations ≡ t → ((s : Code) → ListsRise t s) → IsGood before
+pub accepted_step : (done : Command) (today : ℕ) (before after : State) (t : Relations) → change done today before ≡ Ok t → after.relations ≡ t → IsInOrder after → ((s : Code) → ListsRise t s) → IsGood before
     → ((s : Code) → IsRepaired t (first_seated done) before.seats after.seats s) → ((s : Code) → SeatsOn done (seating t s) (plan_of before.seats s) (plan_of after.seats s))
     → Step done today before (Ok (reply_of done before after)) after
-accepted_step done today before after t accepted facts up good plans kept =
+accepted_step done today before after t accepted facts order up good plans kept =
     subst (StepTo done before (Ok (reply_of done before after)) after) (sym accepted)
-    (facts, λ s. next_plan done before.relations t s before.seats after.seats (up s) (good.best s) (plans s) (kept s), refl)
+    (facts, λ s. next_plan done before.relations t s before.seats after.seats (up s) (good.best s) (plans s) (kept s), refl, order)
 
 pub refused_step : (done : Command) (today : ℕ) (before : State) (e : Refusal) → change done today before ≡ Err e → Step done today before (Err e) before
 refused_step done today before e refused = subst (StepTo done before (Err e) before) (sym refused) (refl, refl)
@@ -74,13 +75,13 @@ refused_step done today before e refused = subst (StepTo done before (Err e) bef
 -- ---- imports
 
 pub step_accepted : (import : ImportRows) (today : ℕ) (before after : State) (rows : List Row) (t : Relations) (reply : Reply) → rows ≡ import.rows
-    → rows_refusal before.relations rows ≡ None → t ≡ with_rows before.relations rows → within_limits t ≡ true → after.relations ≡ t
+    → rows_refusal before.relations rows ≡ None → t ≡ with_rows before.relations rows → within_limits t ≡ true → after.relations ≡ t → IsInOrder after
     → reply ≡ import_reply before.relations rows
     → ((s : Code) → ListsRise t s) → IsGood before → ((s : Code) → IsRepaired t None before.seats after.seats s) → Step (command.Import import) today before (Ok reply) after
-step_accepted import today before after rows t reply are ok is within facts says up good plans =
+step_accepted import today before after rows t reply are ok is within facts order says up good plans =
     let new : t ≡ with_rows before.relations import.rows = is ∙ ap (with_rows before.relations) are in
     let accepted : imported before.relations import.rows ≡ Ok (with_rows before.relations import.rows) =
     import_accepted before.relations import.rows (ap (rows_refusal before.relations) (sym are) ∙ ok) (ap within_limits (sym new) ∙ within) in
-    let step = accepted_step (command.Import import) today before after t (accepted ∙ ap Ok (sym new)) facts up good plans
+    let step = accepted_step (command.Import import) today before after t (accepted ∙ ap Ok (sym new)) facts order up good plans
     (λ s. kept_stays (seating t s) None (plan_of before.seats s) (plan_of after.seats s) (plans s).repair) in
     subst (λ told. Step (command.Import import) today before (Ok told) after) (sym (says ∙ ap (import_reply before.relations) are)) step

@@ -1,19 +1,15 @@
 -- Which appeals a grant supersedes: at most one, and after it no other appeal stands where the granted one does.
 use Rattle.std.proofs.Common.{◌≡◌, ℕ, ◌==◌, ◌&&◌, ◌⊎◌, inl, inr, Bool, true, false, cond, List, [], ◌∷◌, map, Option, None, Some, refl, ap, sym, ◌∙◌}
-use Rattle.std.specs.Cmp.{IsTotalOrder, both_ways, nat_cmp_total, then_total, on_total}
-use Rattle.std.specs.Cmp.Lexicographic.{nat_list_cmp_total}
 use Rattle.std.specs.List.{IsDistinct, filter_map, find}
 use Rattle.std.specs.Option.{option_map}
-use Rattle.std.specs.Ordering.{nat_cmp}
 use Rattle.std.proofs.lemmas.Bool.{and_parts, and_from, eqb-true, eq-eqb}
-use Rattle.std.proofs.lemmas.Map.Lookups.{CmpEqualImpliesEq, exact_pairs, exact_bytes, exact_unsigned}
 use Rattle.exam_rules.specs.declared.rows.Appeal.{Appeal}
 use Rattle.exam_rules.specs.declared.rows.Status.{Status}
 use Rattle.exam_rules.specs.declared.rows.Status.TheVariants as status
 use Rattle.exam_rules.specs.declared.rows.Subject.{Subject}
 use Rattle.exam_rules.specs.declared.rows.Subject.TheVariants as subject
 use Rattle.exam_rules.specs.Orders.{KeysRise}
-use Rattle.exam_rules.specs.Relations.{Code, appeal_cmp, code_cmp, put_row, same_code}
+use Rattle.exam_rules.specs.Relations.{Code, appeal_cmp, put_row, same_code}
 use Rattle.exam_rules.specs.Sessions.{is_granted}
 use Rattle.exam_rules.proofs.Naming.{same_code_exact, same_code_itself}
 use Rattle.exam_office.specs.declared.grants.Single.{Single}
@@ -21,13 +17,8 @@ use Rattle.exam_office.specs.declared.grants.Single.TheVariants as single
 use Rattle.exam_office.specs.Appeals.{superseded, supersedes}
 use Rattle.exam_office.specs.Decisions.{gives_way, giving_way, is_earlier}
 use Rattle.exam_office.specs.Singles.{SingleKey, same_single, same_single_key, single_as, single_key}
+use Rattle.exam_office.proofs.AppealKeys.{appeals_total}
 use Rattle.exam_office.proofs.PutRows.{IsApartFrom, mapped_apart, mapped_distinct, none_changed, one_changed}
-
-pub appeals_total : IsTotalOrder appeal_cmp
-appeals_total = then_total (on_total (λ (k : ℕ × Code). k.0) nat_cmp_total) (on_total (λ (k : ℕ × Code). k.1) nat_list_cmp_total)
-
-pub appeals_exact : CmpEqualImpliesEq appeal_cmp
-appeals_exact = exact_pairs nat_cmp code_cmp exact_unsigned exact_bytes
 
 -- ---- keys of what stands alone
 
@@ -58,12 +49,6 @@ key_exact x y e =
 
 key_itself : (x : SingleKey) → same_single_key x x ≡ true
 key_itself x = and_from (same_code x.0 x.0) ((x.1 == x.1) && same_single x.2 x.2) (same_code_itself x.0) (and_from (x.1 == x.1) (same_single x.2 x.2) (eq-eqb x.1 x.1 refl) (single_itself x.2))
-
-pub keys_flip : (x y : SingleKey) → same_single_key x y ≡ same_single_key y x
-keys_flip x y = both_ways (same_single_key x y) (same_single_key y x) (λ e. there x y e) (λ e. there y x e)
-  where
-    there : (x y : SingleKey) → same_single_key x y ≡ true → same_single_key y x ≡ true
-    there x y e = ap (λ z. same_single_key y z) (key_exact x y e) ∙ key_itself y
 
 -- ---- where a granted appeal stands
 

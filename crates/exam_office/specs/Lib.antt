@@ -17,3 +17,5 @@ pub mod Views
 pub mod Moves
 pub mod Entered
 pub mod Own
+pub mod Words
+pub mod Examples

@@ -1,5 +1,5 @@
 -- One command, and lists of commands.
-use Rattle.std.specs.Prelude.{◌≡◌, ◌⊎◌, ℕ, List, [], ◌∷◌, Option, None, IsSome, Result, Ok, Err}
+use Rattle.std.specs.Prelude.{◌≡◌, ◌≢◌, ◌⊎◌, ℕ, All, List, [], ◌∷◌, Option, None, IsSome, Result, Ok, Err}
 use Rattle.exam_types.specs.declared.refusal.Refusal.{Refusal}
 use Rattle.exam_types.specs.declared.refusal.Refusal.TheVariants.{NoMemory}
 use Rattle.exam_plan.specs.Matching.{Seating, Plan, SamePlan, IsBest, Keeps}
@@ -12,6 +12,7 @@ use Rattle.exam_office.specs.declared.command.Reply.{Reply}
 use Rattle.exam_office.specs.Changes.{closed, imported, reinstated, withdrawn}
 use Rattle.exam_office.specs.Decisions.{decision_made, granted_number}
 use Rattle.exam_office.specs.Lodgings.{lodged, retracted}
+use Rattle.exam_office.specs.Orders.{IsInOrder}
 use Rattle.exam_office.specs.Replies.{reply_of}
 use Rattle.exam_office.specs.State.{State}
 
@@ -71,6 +72,8 @@ pub record IsNextPlan (done : Command) (old new : Seating ℕ Code) (before afte
   pub kept : SeatsOn done new before after
   pub repair : IsRepair new (first_seated done) before after
 
+-- Where the change is refused, so is the command, and nothing changes. Otherwise the office has the new facts
+-- and the next plan of every session, in the order of their keys, and answers by them.
 abbrev pub StepTo : Command → State → Result Reply Refusal → State → Result Relations Refusal → Type 0
 StepTo done before reply after (Err e) = (reply ≡ Err e) × (after ≡ before)
 StepTo done before reply after (Ok r) =
@@ -78,6 +81,7 @@ StepTo done before reply after (Ok r) =
     × ((s : Code) → IsNextPlan done (seating before.relations s) (seating r s)
     (plan_of before.seats s) (plan_of after.seats s))
     × (reply ≡ Ok (reply_of done before after))
+    × IsInOrder after
 
 -- the command, on that day, leads from one state to the other with that reply
 abbrev pub Step : Command → ℕ → State → Result Reply Refusal → State → Type 0
@@ -96,3 +100,7 @@ Run (done ∷ rest) before (reply ∷ replies) after =
     (mid : State) × MayStep done.0 done.1 before reply mid × Run rest mid replies after
 Run [] before (reply ∷ replies) after = ⊥
 Run (done ∷ rest) before [] after = ⊥
+
+-- no command was refused for want of memory
+abbrev pub NoneLacksMemory : List (Result Reply Refusal) → Type 0
+NoneLacksMemory replies = All (λ reply. reply ≢ Err NoMemory) replies

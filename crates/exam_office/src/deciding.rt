@@ -17,10 +17,9 @@ ghost use Rattle.exam_office.specs.Singles.{AreSingle};
 use crate::appeals::{is_open, is_same_kind, stored_state};
 use crate::command::{Decision, Outcome, Reply};
 use crate::copies::{copied_facts, put};
-use crate::lodging::is_live_paper;
 use crate::moves::moved;
 use crate::office::Office;
-use exam_rules::{Appeal, Facts, Status, Subject, is_member};
+use exam_rules::{Appeal, Facts, Status, Subject, is_live_paper, is_member};
 use exam_types::{Day, Number, PaperCode, Reason, Reference, Refusal, SessionCode};
 
 /// The facts with the appeal decided, and with an earlier grant of its kind superseded where it is granted;

@@ -20,12 +20,29 @@ ghost use Rattle.exam_office.specs.Imports.{ImportRows, distinct_rows, is_consis
 ghost use Rattle.exam_office.specs.Orders.{IsInOrder};
 ghost use Rattle.exam_office.specs.Replies.{import_reply};
 ghost use Rattle.exam_office.specs.State.{State};
-ghost use Rattle.exam_office.specs.Steps.{Run, Step};
+ghost use Rattle.exam_office.specs.Steps.{NoneLacksMemory, Run, Step};
 
 /// A good office whose tables are in order seats every session as promised: `Office::is_seated`. Every
 /// `Office` is good (`Office::is_good`) and in order (`Office::is_in_order`).
 pub fn good_office_is_seated()
     ensures { (office : State) (s : Code) → IsGood office → AreInOrder office.relations → IsSeated office s }
+{}
+
+/// A command on a day has one result: one office leads to one reply and one office.
+pub fn one_step_has_one_result()
+    ensures { (done : Command) (today : ℕ) (before one other : State) (first second : Result Reply Refusal)
+        → Step done today before first one → Step done today before second other
+        → (first ≡ second) × (one ≡ other) }
+{}
+
+/// A list of commands, each on its day, gives from one office the same replies and the same office whenever
+/// it is run, as long as no command is refused for want of memory.
+pub fn one_list_gives_one_office()
+    ensures { (done : List (Command × ℕ)) (before one other : State)
+        (first second : List (Result Reply Refusal))
+        → NoneLacksMemory first → NoneLacksMemory second
+        → Run done before first one → Run done before second other
+        → (first ≡ second) × (one ≡ other) }
 {}
 
 /// An accepted import, repeated at once, is accepted, makes the same facts, and answers that all of its keys

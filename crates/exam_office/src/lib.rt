@@ -24,18 +24,19 @@ mod repair;
 mod retracting;
 mod steps;
 mod tables;
-#[cfg(test)]
-mod tests;
 mod view;
 mod view_source;
+mod words;
 
+pub use appeals::state_of;
 pub use command::{AppealState, Command, Decision, Lodging, Outcome, Reply};
 pub use import::Import;
 pub use import_row::{Kind, Row};
 pub use laws::{
-    good_office_is_seated, lodging_and_retracting_move_nobody, repeated_decision_changes_nothing,
-    repeated_import_changes_nothing, repeated_import_makes_the_same_facts,
-    repeated_lodging_changes_nothing, repeated_retraction_changes_nothing,
+    good_office_is_seated, lodging_and_retracting_move_nobody, one_list_gives_one_office,
+    one_step_has_one_result, repeated_decision_changes_nothing, repeated_import_changes_nothing,
+    repeated_import_makes_the_same_facts, repeated_lodging_changes_nothing,
+    repeated_retraction_changes_nothing,
 };
 pub use office::{Office, Seats};
 pub use own::{Own, OwnSession};
@@ -46,3 +47,4 @@ pub use own_laws::{
 pub use steps::{next_office, run, step};
 pub use tables::{Table, first_bad_table};
 pub use view::{AppealRow, Clash, Seat, SessionShortage, SessionView};
+pub use words::{kind_word, state_word, status_word};

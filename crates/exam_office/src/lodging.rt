@@ -14,7 +14,8 @@ use crate::copies::{copied_facts, put};
 use crate::office::Seats;
 use crate::references::check_candidate;
 use exam_rules::{
-    Appeal, Arrangement, Facts, Session, Status, Subject, arrangement_in_force, is_member, sitting,
+    Appeal, Arrangement, Facts, Session, Status, Subject, arrangement_in_force, is_clash,
+    is_live_paper, is_member, is_paper_of, sitting,
 };
 use exam_types::{Day, HallCode, Number, PaperCode, Refusal, SessionCode};
 
@@ -246,38 +247,4 @@ fn has_unsat_paper(
             && is_paper_of(facts, session, &key.1)
             && is_clash(sat, &key.1)
     })
-}
-
-/// Whether a live paper is another than the one that is sat.
-fn is_clash(sat: &Option<PaperCode>, paper: &PaperCode) -> bool
-    ensures { result ≡ sessions.is_clash sat.now paper.now }
-{
-    match sat {
-        Some(other) => *other != *paper,
-        None => true,
-    }
-}
-
-fn is_paper_of(facts: &Facts, session: &SessionCode, paper: &PaperCode) -> bool
-    ensures { result ≡ sessions.is_paper_of (relations_of facts.now) session.now paper.now }
-{
-    match facts.papers.get(paper) {
-        Some(row) => row.session == *session,
-        None => false,
-    }
-}
-
-/// Whether the candidate has a live entry for the paper, which is of the session.
-pub fn is_live_paper(
-    facts: &Facts,
-    session: &SessionCode,
-    number: Number,
-    paper: &PaperCode,
-) -> bool
-    ensures { result ≡ sessions.is_live_paper (relations_of facts.now) session.now number paper.now }
-{
-    match facts.entries.get(&(number, *paper)) {
-        Some(entry) => entry.live && is_paper_of(facts, session, paper),
-        None => false,
-    }
 }

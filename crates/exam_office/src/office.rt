@@ -17,10 +17,10 @@ ghost use Rattle.exam_office.specs.State.{empty_state};
 ghost use Rattle.exam_office.specs.Views.{IsViewOf};
 
 use crate::own::Own;
-use crate::tables::first_bad_table;
+use crate::tables::first_bad_listed;
 use crate::view::SessionView;
 use crate::{own_source, view_source};
-use exam_rules::Facts;
+use exam_rules::{Facts, SessionLists, session_lists};
 use exam_types::{HallCode, Number, Refusal, SessionCode};
 use std::alloc::Global;
 use std::collections::BTreeMap;
@@ -33,11 +33,15 @@ pub type Seats = BTreeMap<(SessionCode, Number), HallCode>;
 #[derive(Drop)]
 pub struct Office {
     facts: Facts,
+    /// The members and the open halls of each session, so that what asks of one does not go over all
+    /// candidates.
+    lists: SessionLists,
     seats: Seats,
 }
 
 impl Model for Office {
     ghost use Rattle.exam_rules.specs.Relations.{relations_of};
+    ghost use Rattle.exam_rules.specs.Lists.{AreListsOf};
     ghost use Rattle.exam_office.specs.State.{State};
     ghost use Rattle.exam_office.specs.Good.{IsGood};
 
@@ -45,7 +49,8 @@ impl Model for Office {
 
     ghost view = { λ a. record { relations = relations_of a.facts; seats = a.seats.entries } };
 
-    ghost invariant = { λ a. IsGood (record { relations = relations_of a.facts; seats = a.seats.entries }) };
+    ghost invariant = { λ a. IsGood (record { relations = relations_of a.facts; seats = a.seats.entries })
+        × AreListsOf (relations_of a.facts) a.lists };
 }
 
 impl Office {
@@ -55,6 +60,7 @@ impl Office {
     {
         Office {
             facts: Facts::new(alloc),
+            lists: SessionLists::empty(alloc),
             seats: BTreeMap::new(alloc),
         }
     }
@@ -70,8 +76,13 @@ impl Office {
             ⊎ ((e ≡ BadStore)
             × (IsGood (record { relations = relations_of facts; seats = seats.entries }) → ⊥))) }
     {
-        match first_bad_table(alloc, &facts, &seats)? {
-            None => Ok(Office { facts, seats }),
+        let lists = session_lists(alloc, &facts)?;
+        match first_bad_listed(alloc, &facts, &lists, &seats)? {
+            None => Ok(Office {
+                facts,
+                lists,
+                seats,
+            }),
             Some(_) => Err(Refusal::BadStore),
         }
     }
@@ -96,7 +107,7 @@ impl Office {
         let Some(row) = self.facts.sessions.get(session) else {
             return Err(Refusal::UnknownSession);
         };
-        view_source::view_of(alloc, &self.facts, &self.seats, session, row)
+        view_source::view_of(alloc, &self.facts, &self.lists, &self.seats, session, row)
     }
 
     /// The candidate with the number, with their sessions and their appeals, or none. Takes time by their own
@@ -105,15 +116,20 @@ impl Office {
         ensures ok { IfOk result (λ own. option_map shown own ≡ own_of self.now number) }
         ensures memory { IfErr result (λ e. e ≡ NoMemory) }
     {
-        own_source::own_of(alloc, &self.facts, &self.seats, number)
+        own_source::own_of(alloc, &self.facts, &self.lists, &self.seats, number)
     }
 
-    /// The office with these facts and plans, which are good.
-    pub(crate) fn holding(facts: Facts, seats: Seats) -> Self
-        requires { IsGood (record { relations = relations_of facts; seats = seats.entries }) }
+    /// The office with these facts and plans, which are good, and the lists of the facts.
+    pub(crate) fn holding(facts: Facts, lists: SessionLists, seats: Seats) -> Self
+        requires good { IsGood (record { relations = relations_of facts; seats = seats.entries }) }
+        requires lists { AreListsOf (relations_of facts) lists }
         ensures { result ≡ record { relations = relations_of facts; seats = seats.entries } }
     {
-        Office { facts, seats }
+        Office {
+            facts,
+            lists,
+            seats,
+        }
     }
 
     /// An office is good. Does nothing.

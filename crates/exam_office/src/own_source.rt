@@ -1,16 +1,15 @@
 //! How what the office shows of one candidate is made: from their own rows, and for each of their sessions
 //! from its seats.
-ghost use Rattle.std.specs.Prelude.{◌≡◌, ◌<◌, ◌≤◌, ℕ, [], Contains, Some, codes, count_by, filter};
+ghost use Rattle.std.specs.Prelude.{◌≡◌, ◌<◌, ◌≤◌, ℕ, Contains, Some, count_by, filter};
 ghost use Rattle.std.specs.Prelude.{length, map, ◌++◌, IfOk, IfErr, OnOk, IsTrue};
 ghost use Rattle.std.specs.Option.{option_map};
-ghost use Rattle.std.specs.BTreeMap.Range.{entries_between};
 ghost use Rattle.std.specs.Ordering.{is_lt};
-ghost use Rattle.std.specs.declared.ops.Bound.TheVariants.{Unbounded, Excluded};
 ghost use Rattle.exam_types.specs.declared.refusal.Refusal.TheVariants.{NoMemory};
 ghost use Rattle.exam_plan.specs.Matching.{occupants};
 ghost use Rattle.exam_plan.specs.Problems.{most_members};
-ghost use Rattle.exam_rules.specs.Relations.{Code, relations_of, appeal_cmp, entry_cmp, code_cmp, seat_cmp};
-ghost use Rattle.exam_rules.specs.Relations.{row_at, is_row_of, leading, same_code, has_row};
+ghost use Rattle.exam_rules.specs.Relations.{Code, relations_of, code_cmp, seat_cmp, row_at, same_code};
+ghost use Rattle.exam_rules.specs.Relations.{has_row};
+ghost use Rattle.exam_rules.specs.Lists.{AreListsOf, entrants};
 ghost use Rattle.exam_rules.specs.Orders.{KeysRise};
 ghost use Rattle.exam_rules.specs.Seatings.{seating, plan_of, stands_before, desk_cmp, desk_key};
 ghost use Rattle.exam_rules.specs.Sessions as sessions;
@@ -22,7 +21,8 @@ ghost use Rattle.exam_office.specs.Own as spec;
 use crate::office::Seats;
 use crate::own::{Own, OwnSession};
 use exam_rules::{
-    Appeal, Candidate, Entry, Facts, Session, arrangement_in_force, finish, is_member, sitting,
+    Appeal, Candidate, Entrant, Facts, Session, SessionLists, appeals_from, arrangement_in_force,
+    entries_from, finish, is_member, is_paper_of, sitting, sitting_among,
 };
 use exam_types::{HallCode, Number, PaperCode, Reference, Refusal, SessionCode};
 use std::alloc::Global;
@@ -35,16 +35,18 @@ type DeskKey = (Option<PaperCode>, Number);
 pub fn own_of(
     alloc: Global,
     facts: &Facts,
+    lists: &SessionLists,
     seats: &Seats,
     number: Number,
 ) -> Result<Option<Own>, Refusal>
-    requires { IsGood (record { relations = relations_of facts.now; seats = seats.now.entries }) }
+    requires lists { AreListsOf (relations_of facts.now) lists.now }
+    requires good { IsGood (record { relations = relations_of facts.now; seats = seats.now.entries }) }
     ensures ok { IfOk result (λ own. option_map spec.shown own
         ≡ spec.own_of (record { relations = relations_of facts.now; seats = seats.now.entries }) number) }
     ensures memory { IfErr result (λ e. e ≡ NoMemory) }
 {
     match facts.candidates.get(&number) {
-        Some(row) => Ok(Some(own_rows(alloc, facts, seats, number, row)?)),
+        Some(row) => Ok(Some(own_rows(alloc, facts, lists, seats, number, row)?)),
         None => Ok(None),
     }
 }
@@ -52,10 +54,12 @@ pub fn own_of(
 fn own_rows(
     alloc: Global,
     facts: &Facts,
+    lists: &SessionLists,
     seats: &Seats,
     number: Number,
     row: &Candidate,
 ) -> Result<Own, Refusal>
+    requires lists { AreListsOf (relations_of facts.now) lists.now }
     requires good { IsGood (record { relations = relations_of facts.now; seats = seats.now.entries }) }
     ensures ok { IfOk result (λ own. spec.shown own
         ≡ spec.own_rows (record { relations = relations_of facts.now; seats = seats.now.entries }) number
@@ -66,7 +70,7 @@ fn own_rows(
         number,
         name: row.name.copy()?,
         code: row.code,
-        sessions: own_sessions(alloc, facts, seats, number)?,
+        sessions: own_sessions(alloc, facts, lists, seats, number)?,
         appeals: own_appeals(alloc, facts, number)?,
     })
 }
@@ -75,9 +79,11 @@ fn own_rows(
 fn own_sessions(
     alloc: Global,
     facts: &Facts,
+    lists: &SessionLists,
     seats: &Seats,
     number: Number,
 ) -> Result<Vec<OwnSession>, Refusal>
+    requires lists { AreListsOf (relations_of facts.now) lists.now }
     requires good { IsGood (record { relations = relations_of facts.now; seats = seats.now.entries }) }
     ensures ok { IfOk result (λ sessions. map spec.shown_session sessions.items
         ≡ spec.own_sessions (record { relations = relations_of facts.now; seats = seats.now.entries })
@@ -88,7 +94,7 @@ fn own_sessions(
     let mut list = Vec::new(alloc);
     for (session, row) in &facts.sessions {
         if is_member_among(facts, &entered, session, number) {
-            list.push(own_session(alloc, facts, seats, number, session, row)?)?;
+            list.push(own_session(alloc, facts, lists, seats, number, session, row)?)?;
         }
     }
     Ok(list)
@@ -98,11 +104,13 @@ fn own_sessions(
 fn own_session(
     alloc: Global,
     facts: &Facts,
+    lists: &SessionLists,
     seats: &Seats,
     number: Number,
     session: &SessionCode,
     row: &Session,
 ) -> Result<OwnSession, Refusal>
+    requires lists { AreListsOf (relations_of facts.now) lists.now }
     requires good { IsGood (record { relations = relations_of facts.now; seats = seats.now.entries }) }
     requires known { row_at code_cmp facts.now.sessions.entries session.now ≡ Some row.now }
     requires member { Contains (sessions.members (relations_of facts.now) session.now) number }
@@ -117,7 +125,7 @@ fn own_session(
     let hall = seats.get(&(*session, number)).copied();
     let end = finish(facts, session, number).unwrap();
     let arrangement = arrangement_in_force(facts, session, number);
-    let desk = desk(facts, seats, session, number, &hall);
+    let desk = desk(facts, lists, seats, session, number, &hall);
     Ok(OwnSession {
         session: *session,
         day: row.day,
@@ -135,11 +143,13 @@ fn own_session(
 /// The number of the candidate's desk in the hall where they sit, if they do.
 fn desk(
     facts: &Facts,
+    lists: &SessionLists,
     seats: &Seats,
     session: &SessionCode,
     number: Number,
     hall: &Option<HallCode>,
 ) -> Option<u32>
+    requires lists { AreListsOf (relations_of facts.now) lists.now }
     requires good { IsGood (record { relations = relations_of facts.now; seats = seats.now.entries }) }
     requires known { IsTrue (has_row code_cmp facts.now.sessions.entries session.now) }
     requires somebody { 0 < length facts.now.candidates.entries }
@@ -148,7 +158,7 @@ fn desk(
         session.now number }
 {
     match hall {
-        Some(hall) => Some(standing_before(facts, seats, session, number, hall) + 1),
+        Some(hall) => Some(standing_before(facts, lists, seats, session, number, hall) + 1),
         None => None,
     }
 }
@@ -156,11 +166,13 @@ fn desk(
 /// How many of those who sit in the hall stand before the candidate.
 fn standing_before(
     facts: &Facts,
+    lists: &SessionLists,
     seats: &Seats,
     session: &SessionCode,
     number: Number,
     hall: &HallCode,
 ) -> u32
+    requires lists { AreListsOf (relations_of facts.now) lists.now }
     requires good { IsGood (record { relations = relations_of facts.now; seats = seats.now.entries }) }
     requires known { IsTrue (has_row code_cmp facts.now.sessions.entries session.now) }
     requires somebody { 0 < length facts.now.candidates.entries }
@@ -171,10 +183,11 @@ fn standing_before(
 {
     // That the tables rise is for the proof alone.
     facts.are_in_order();
-    let own = (sitting(facts, session, number), number);
+    let members = lists.members_of(session);
+    let own = (sitting_among(facts, members, session, number), number);
     let mut count = 0;
     for (key, other) in seats_of(facts, seats, session) {
-        if *hall == *other && is_before(facts, session, key.1, &own) {
+        if *hall == *other && is_before(facts, members, session, key.1, &own) {
             count += 1;
         }
     }
@@ -182,10 +195,17 @@ fn standing_before(
 }
 
 /// Whether the candidate stands before this key in the order of desks.
-fn is_before(facts: &Facts, session: &SessionCode, number: Number, key: &DeskKey) -> bool
+fn is_before(
+    facts: &Facts,
+    members: &[Entrant],
+    session: &SessionCode,
+    number: Number,
+    key: &DeskKey,
+) -> bool
+    requires { members.now ≡ entrants (relations_of facts.now) session.now }
     ensures { result ≡ is_lt (desk_cmp (desk_key (relations_of facts.now) session.now number) key.now) }
 {
-    (sitting(facts, session, number), number) < *key
+    (sitting_among(facts, members, session, number), number) < *key
 }
 
 /// The seats of the session, numbers rising. Who sits is a candidate, so their numbers are from that of the
@@ -302,49 +322,6 @@ fn is_member_among(
     is_member(facts, session, number)
 }
 
-fn is_paper_of(facts: &Facts, session: &SessionCode, paper: &PaperCode) -> bool
-    ensures { result ≡ sessions.is_paper_of (relations_of facts.now) session.now paper.now }
-{
-    match facts.papers.get(paper) {
-        Some(row) => row.session == *session,
-        None => false,
-    }
-}
-
-/// The entries from the candidate's first on; those of later numbers follow.
-fn entries_from<'a>(facts: &'a Facts, number: Number) -> Range<'a, (Number, PaperCode), Entry>
-    // The rows that stand together are all that count for the candidate.
-    ensures { (s : Code)
-        → sessions.live_papers_in (relations_of facts.now) (leading (is_row_of number) result) s number
-        ≡ sessions.live_papers (relations_of facts.now) s number }
-{
-    let least = least_paper();
-    no_entry_before(facts, number, least);
-    facts.entries.range((number, least)..)
-}
-
-/// No entry of the candidate stands before the least key. For the proof of `entries_from` alone.
-fn no_entry_before(facts: &Facts, number: Number, least: PaperCode)
-    requires { least ≡ codes "-" }
-    ensures { filter (is_row_of number)
-        (entries_between entry_cmp Unbounded (Excluded (number, least)) facts.now.entries.entries) ≡ [] }
-{
-    match facts.entries.range(..(number, least)).next_back() {
-        Some((key, _)) => {
-            // What a code is made of shows that none is less, so the row before is of another candidate.
-            let _code = key.1.as_bytes();
-        }
-        None => {}
-    }
-}
-
-/// The least paper code, by which a candidate's entries begin.
-fn least_paper() -> PaperCode
-    ensures { result ≡ codes "-" }
-{
-    PaperCode::parse(b"-").unwrap()
-}
-
 /// The candidate's appeals, by reference.
 fn own_appeals(
     alloc: Global,
@@ -362,36 +339,4 @@ fn own_appeals(
         appeals.push((key.1, appeal.clone()?))?;
     }
     Ok(appeals)
-}
-
-/// The appeals from the candidate's first on; those of later numbers follow.
-fn appeals_from<'a>(facts: &'a Facts, number: Number) -> Range<'a, (Number, Reference), Appeal>
-    // The rows that stand together are all of the candidate's.
-    ensures { leading (is_row_of number) result ≡ filter (is_row_of number) facts.now.appeals.entries }
-{
-    let least = least_reference();
-    no_appeal_before(facts, number, least);
-    facts.appeals.range((number, least)..)
-}
-
-/// No appeal of the candidate stands before the least key. For the proof of `appeals_from` alone.
-fn no_appeal_before(facts: &Facts, number: Number, least: Reference)
-    requires { least ≡ codes "0" }
-    ensures { filter (is_row_of number)
-        (entries_between appeal_cmp Unbounded (Excluded (number, least)) facts.now.appeals.entries) ≡ [] }
-{
-    match facts.appeals.range(..(number, least)).next_back() {
-        Some((key, _)) => {
-            // What a reference is made of shows that none is less, so the row before is of another candidate.
-            let _reference = key.1.as_bytes();
-        }
-        None => {}
-    }
-}
-
-/// The least reference, by which a candidate's appeals begin.
-fn least_reference() -> Reference
-    ensures { result ≡ codes "0" }
-{
-    Reference::parse(b"0").unwrap()
 }

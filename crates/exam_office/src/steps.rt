@@ -4,6 +4,7 @@ ghost use Rattle.exam_types.specs.declared.refusal.Refusal.TheVariants.{NoMemory
 ghost use Rattle.exam_rules.specs.Relations.{Code, relations_of};
 ghost use Rattle.exam_rules.specs.Names.{ListsRise};
 ghost use Rattle.exam_office.specs.Limits.{within_limits};
+ghost use Rattle.exam_office.specs.Orders.{IsInOrder};
 ghost use Rattle.exam_office.specs.Repairs.{IsRepaired};
 ghost use Rattle.exam_office.specs.Singles.{AreSingle};
 ghost use Rattle.exam_office.specs.Good as good;
@@ -240,6 +241,7 @@ fn resettled(
     requires refer { IsTrue (good.refers (relations_of facts)) }
     requires single { AreSingle (relations_of facts) }
     ensures relations { IfOk result (λ next. next.relations ≡ relations_of facts) }
+    ensures order { IfOk result (λ next. IsInOrder next) }
     ensures limits { OnOk result (IsTrue (within_limits (relations_of facts))) }
     ensures plans { IfOk result (λ next. (s : Code)
         → IsRepaired (relations_of facts) first office.now.seats next.seats s) }
@@ -252,5 +254,7 @@ fn resettled(
         return Err(Refusal::TooMany);
     }
     let seats = repaired(alloc, &facts, &lists, office.seats(), first)?;
-    Ok(Office::holding(facts, seats))
+    let next = Office::holding(facts, lists, seats);
+    next.is_in_order();
+    Ok(next)
 }

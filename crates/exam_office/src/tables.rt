@@ -42,6 +42,21 @@ pub fn first_bad_table(
     ensures memory { IfErr result (λ e. e ≡ NoMemory) }
 {
     let lists = session_lists(alloc, facts)?;
+    first_bad_listed(alloc, facts, &lists, seats)
+}
+
+/// The same where the members and the open halls of all sessions are listed.
+pub fn first_bad_listed(
+    alloc: Global,
+    facts: &Facts,
+    lists: &SessionLists,
+    seats: &Seats,
+) -> Result<Option<Table>, Refusal>
+    requires { AreListsOf (relations_of facts.now) lists.now }
+    ensures ok { IfOk result (λ found. good.IsFirstBad
+        (record { relations = relations_of facts.now; seats = seats.now.entries }) found) }
+    ensures memory { IfErr result (λ e. e ≡ NoMemory) }
+{
     if !limits::are_sessions_within(facts) {
         return Ok(Some(Table::Sessions));
     }
@@ -51,13 +66,13 @@ pub fn first_bad_table(
     if !limits::are_halls_within(facts) {
         return Ok(Some(Table::Halls));
     }
-    if !are_openings_good(facts, &lists) {
+    if !are_openings_good(facts, lists) {
         return Ok(Some(Table::Openings));
     }
     if !limits::are_candidates_within(facts) {
         return Ok(Some(Table::Candidates));
     }
-    if !are_entries_good(facts, &lists) {
+    if !are_entries_good(facts, lists) {
         return Ok(Some(Table::Entries));
     }
     if !references::arrangements_refer(facts) {
@@ -66,7 +81,7 @@ pub fn first_bad_table(
     if !are_appeals_good(alloc, facts)? {
         return Ok(Some(Table::Appeals));
     }
-    if !are_seats_good(alloc, facts, &lists, seats)? {
+    if !are_seats_good(alloc, facts, lists, seats)? {
         return Ok(Some(Table::Seats));
     }
     Ok(None)

@@ -2,6 +2,8 @@
 ghost use Rattle.std.specs.Prelude.{◌≡◌, Some, Contains, IsTrue, IfOk, IfErr, OnOk, map};
 ghost use Rattle.std.specs.Map.{keys_of};
 ghost use Rattle.exam_types.specs.declared.refusal.Refusal.TheVariants.{NoMemory};
+ghost use Rattle.exam_rules.specs.Lists as listing;
+ghost use Rattle.exam_rules.specs.Lists.{AreListsOf};
 ghost use Rattle.exam_rules.specs.Names.{ListsRise};
 ghost use Rattle.exam_rules.specs.Relations.{relations_of, code_cmp, has_row, row_at};
 ghost use Rattle.exam_rules.specs.Seatings as seatings;
@@ -15,7 +17,8 @@ use crate::office::Seats;
 use crate::repair::stored_plan;
 use crate::view::{AppealRow, Clash, Member, SessionView};
 use exam_rules::{
-    Appeal, Facts, ListedProblem, Opening, Session, clashes_among, finish, listed_problem, sitting,
+    Appeal, Entrant, Facts, ListedProblem, Opening, Session, SessionLists, clashes_among, finish,
+    indexed_problem, sitting, sitting_among,
 };
 use exam_types::{HallCode, Number, PaperCode, Reference, Refusal, SessionCode};
 use std::alloc::Global;
@@ -24,24 +27,32 @@ use std::alloc::Global;
 pub fn view_of(
     alloc: Global,
     facts: &Facts,
+    lists: &SessionLists,
     seats: &Seats,
     session: &SessionCode,
     row: &Session,
 ) -> Result<SessionView, Refusal>
+    requires lists { AreListsOf (relations_of facts.now) lists.now }
     requires good { IsGood (record { relations = relations_of facts.now; seats = seats.now.entries }) }
     requires known { row_at code_cmp facts.now.sessions.entries session.now ≡ Some row.now }
     ensures ok { IfOk result (views.IsViewOf
         (record { relations = relations_of facts.now; seats = seats.now.entries }) session.now) }
     ensures memory { IfErr result (λ e. e ≡ NoMemory) }
 {
-    let listed = listed(alloc, facts, session)?;
+    let listed = listed(alloc, facts, lists, session)?;
     let plan = stored_plan(alloc, &listed.numbers, &listed.halls, session, seats)?;
     Ok(SessionView {
         code: *session,
         session: *row,
         hall_codes: hall_codes(alloc, facts)?,
         openings: openings_of(alloc, facts, session)?,
-        members: members_of(alloc, facts, session, &listed.numbers)?,
+        members: members_of(
+            alloc,
+            facts,
+            lists.members_of(session),
+            session,
+            &listed.numbers,
+        )?,
         papers: papers_of(alloc, facts, session)?,
         clashes: clashes_of(alloc, facts, session, &listed.numbers)?,
         appeals: appeals_of(alloc, facts, session)?,
@@ -51,7 +62,13 @@ pub fn view_of(
 }
 
 /// The seating problem of a session that there is, within the limits.
-fn listed(alloc: Global, facts: &Facts, session: &SessionCode) -> Result<ListedProblem, Refusal>
+fn listed(
+    alloc: Global,
+    facts: &Facts,
+    lists: &SessionLists,
+    session: &SessionCode,
+) -> Result<ListedProblem, Refusal>
+    requires lists { AreListsOf (relations_of facts.now) lists.now }
     requires known { IsTrue (has_row code_cmp facts.now.sessions.entries session.now) }
     requires limits { IsTrue (within_limits (relations_of facts.now)) }
     ensures numbers { IfOk result (λ listed. listed.numbers.items
@@ -63,7 +80,7 @@ fn listed(alloc: Global, facts: &Facts, session: &SessionCode) -> Result<ListedP
     ensures lists { OnOk result (ListsRise (relations_of facts.now) session.now) }
     ensures memory { IfErr result (λ e. e ≡ NoMemory) }
 {
-    listed_problem(alloc, facts, session)
+    indexed_problem(alloc, facts, lists, session)
 }
 
 /// The papers of the session, codes rising.
@@ -190,9 +207,11 @@ fn openings_of(
 fn members_of(
     alloc: Global,
     facts: &Facts,
+    entrants: &[Entrant],
     session: &SessionCode,
     numbers: &[Number],
 ) -> Result<Vec<Member>, Refusal>
+    requires entrants { entrants.now ≡ listing.entrants (relations_of facts.now) session.now }
     requires known { IsTrue (has_row code_cmp facts.now.sessions.entries session.now) }
     requires members { numbers.now ≡ sessions.members (relations_of facts.now) session.now }
     ensures ok { IfOk result (λ members. map (λ member. Some member) members.items
@@ -201,12 +220,18 @@ fn members_of(
 {
     let mut members = Vec::with_capacity(alloc, numbers.len())?;
     for number in numbers {
-        members.push(member_of(facts, session, *number)?)?;
+        members.push(member_of(facts, entrants, session, *number)?)?;
     }
     Ok(members)
 }
 
-fn member_of(facts: &Facts, session: &SessionCode, number: Number) -> Result<Member, Refusal>
+fn member_of(
+    facts: &Facts,
+    entrants: &[Entrant],
+    session: &SessionCode,
+    number: Number,
+) -> Result<Member, Refusal>
+    requires entrants { entrants.now ≡ listing.entrants (relations_of facts.now) session.now }
     requires known { IsTrue (has_row code_cmp facts.now.sessions.entries session.now) }
     requires member { Contains (sessions.members (relations_of facts.now) session.now) number }
     ensures ok { IfOk result (λ member. views.member_of (relations_of facts.now) session.now number
@@ -217,7 +242,7 @@ fn member_of(facts: &Facts, session: &SessionCode, number: Number) -> Result<Mem
     Ok(Member {
         number,
         name: candidate.name.copy()?,
-        paper: sitting(facts, session, number).unwrap(),
+        paper: sitting_among(facts, entrants, session, number).unwrap(),
         finish: finish(facts, session, number).unwrap(),
     })
 }

@@ -6,7 +6,8 @@ use Rattle.std.proofs.lemmas.Bool.{le-ltb, lt-ltb}
 use Rattle.std.proofs.lemmas.List.{drop-append-le, drop-take, length-append, length-drop, length-take, length-take-le, take-append-le, take-take}
 use Rattle.exam_request.specs.Asked.{Asks, FindsMessage, request_with}
 use Rattle.exam_request.specs.Head.{Judges, LiesIn, Said, said_at}
-use Rattle.exam_request.specs.Input.{Gave, HeadRead, More, ReadsHead, head_of}
+use Rattle.exam_send.specs.Given.{Gave}
+use Rattle.exam_request.specs.Input.{HeadRead, More, ReadsHead, head_of}
 use Rattle.exam_request.specs.declared.fault.Fault.{Fault}
 use Rattle.exam_request.specs.declared.fault.Fault.TheVariants.{Length}
 use Rattle.exam_request.specs.declared.head.HeadSpans.{HeadSpans}

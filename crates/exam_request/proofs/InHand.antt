@@ -10,7 +10,8 @@ use Rattle.std.proofs.lemmas.Slice.{take-put_mid}
 use Rattle.std.proofs.lemmas.Slice.Eq.{bytes_eq-Decides}
 use Rattle.std.proofs.Math.Seq.{take-append-add, take-append_seam}
 use borrow.Rule.Slice.PartMut.{put_mid}
-use Rattle.exam_request.specs.Input.{Gave, HeadRead, More, begins, empty_line, head_len, head_of, head_or_fault}
+use Rattle.exam_send.specs.Given.{Gave}
+use Rattle.exam_request.specs.Input.{HeadRead, More, begins, empty_line, head_len, head_of, head_or_fault}
 use Rattle.exam_request.specs.declared.fault.Fault.TheVariants.{Head, Size}
 
 -- a read of n bytes behind the first a

@@ -2,6 +2,7 @@ pub mod Adding
 pub mod Bodies
 pub mod Chosen
 pub mod Cuts
+pub mod DayBodies
 pub mod Extras
 pub mod Finding
 pub mod FoundRoutes
@@ -12,6 +13,5 @@ pub mod Members
 pub mod Once
 pub mod Readings
 pub mod Secrets
-pub mod Sent
 pub mod Tables
 pub mod Walking

@@ -1,15 +1,15 @@
 -- An answer: what it tells, and its bytes.
-use Rattle.std.specs.Prelude.{◌≡◌, ◌⊎◌, ℕ, List, [], ◌∷◌, ◌++◌, ◌==◌, ◌||◌, ◌&&◌, Option, Some, None, codes}
+use Rattle.std.specs.Prelude.{ℕ, List, [], ◌∷◌, ◌++◌, ◌==◌, ◌||◌, ◌&&◌, Option, Some, None, codes}
 use Rattle.std.specs.Prelude.{decimal, length, nat_le, if◌then◌else◌}
 use Rattle.http.specs.StatusCode.{code_digits}
 use Rattle.exam_office.specs.declared.command.AppealState.{AppealState}
 use Rattle.exam_types.specs.Days.{day_text}
 use Rattle.exam_types.specs.Refusals.{refusal_number}
 use Rattle.exam_types.specs.declared.refusal.Refusal.{Refusal}
-use Rattle.exam_types.specs.declared.refusal.Refusal.TheVariants.{NoMemory, PastClosing}
+use Rattle.exam_types.specs.declared.refusal.Refusal.TheVariants.{PastClosing}
 use Rattle.exam_request.specs.Json.{number, object_text, text}
 use Rattle.exam_request.specs.Methods.{allow_text}
-use Rattle.exam_request.specs.Words.{state_word}
+use Rattle.exam_office.specs.Words.{state_word}
 use Rattle.exam_request.specs.declared.routes.Place.{Place}
 
 -- the status of the answer to a refusal or a fault
@@ -64,9 +64,13 @@ head_text status allow count =
     ++ (header_line (codes "Content-Length") (decimal count) ++ (allow_line allow
     ++ (header_line (codes "Connection") (codes "close") ++ codes "\r\n"))))
 
--- the head, and the body behind it
+-- the head, and this body behind it
+abbrev pub text_with : ℕ → Option Place → List ℕ → List ℕ
+text_with status allow body = head_text status allow (length body) ++ body
+
+-- all of an answer
 abbrev pub answer_text : Told → List ℕ
-answer_text told = head_text told.status told.allow (length told.body) ++ told.body
+answer_text told = text_with told.status told.allow told.body
 
 -- an answer 200
 abbrev pub ok_told : List ℕ → Told
@@ -84,13 +88,13 @@ error_told n = record { status = status_number n; allow = None; body = error_bod
 abbrev pub method_told : Place → Told
 method_told place = record { status = 405; allow = Some place; body = error_body 38 }
 
+-- `{"day":"YYYY-MM-DD","error":13}`
+abbrev pub closing_body : ℕ → List ℕ
+closing_body day = object_text ((codes "day", text (day_text day)) ∷ (codes "error", number 13) ∷ [])
+
 -- the answer to a lodging after this last day
 abbrev pub closing_told : ℕ → Told
-closing_told day = record {
-  status = 409;
-  allow = None;
-  body = object_text ((codes "day", text (day_text day)) ∷ (codes "error", number 13) ∷ []);
-}
+closing_told day = record { status = 409; allow = None; body = closing_body day }
 
 -- the answer to a refusal
 abbrev pub refusal_told : Refusal → Told
@@ -100,8 +104,3 @@ refusal_told refusal = error_told (refusal_number refusal)
 -- the answer to an accepted lodging or retraction: where the appeal stands
 abbrev pub state_told : AppealState → Told
 state_told state = ok_told (object_text ((codes "state", text (state_word state)) ∷ []))
-
--- the answer to a refusal; for that of a last day it may be the answer to want of memory
-abbrev pub TellsRefusal : Refusal → Told → Type 0
-TellsRefusal (PastClosing day) told = (told ≡ closing_told day) ⊎ (told ≡ refusal_told NoMemory)
-TellsRefusal refusal told = told ≡ refusal_told refusal

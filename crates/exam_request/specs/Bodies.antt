@@ -15,7 +15,7 @@ use Rattle.exam_types.specs.Numbers.{minute_text}
 use Rattle.exam_request.specs.Json.{list_body, object_text, number, or_null, text}
 use Rattle.exam_office.specs.Own.{OwnRows, OwnSessionRow}
 use Rattle.exam_request.specs.declared.own_bodies.MissedPaper.{MissedPaper}
-use Rattle.exam_request.specs.Words.{kind_word, state_word}
+use Rattle.exam_office.specs.Words.{kind_word, state_word}
 
 -- ---- seats
 

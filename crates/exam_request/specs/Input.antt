@@ -1,7 +1,8 @@
 -- Where the head of a request ends in the bytes that come in, and how far they were read.
-use Rattle.std.specs.Prelude.{◌≡◌, ◌≤◌, ℕ, suc, List, [], ◌∷◌, ◌++◌, length, take, drop, Bool, Option, Some, None, Result, Ok, Err, IfSome, option_map, nat_lt, ⊤, if◌then◌else◌}
+use Rattle.std.specs.Prelude.{◌≡◌, ◌≤◌, ℕ, suc, List, [], ◌∷◌, ◌++◌, length, take, drop, Bool, Option, Some, None, Result, Ok, Err, option_map, nat_lt, ⊤, if◌then◌else◌}
 use Rattle.std.specs.Io.KnownBytes.{Consumes, IsAtEnd, Keeps}
 use Rattle.std.specs.Str.{bytes_eq}
+use Rattle.exam_send.specs.Given.{Gave}
 use Rattle.exam_request.specs.declared.fault.Fault.{Fault}
 use Rattle.exam_request.specs.declared.fault.Fault.TheVariants.{Head, Size}
 use Rattle.exam_request.specs.declared.reading.Stop.{Stop}
@@ -28,15 +29,6 @@ head_or_fault input None = Err (if nat_lt (length input) 8192 then Head else Siz
 -- the head that an input begins with, which its first 8,192 bytes hold, and the bytes after it
 abbrev pub head_of : List ℕ → Result (List ℕ × List ℕ) Fault
 head_of input = head_or_fault input (head_len (take 8192 input))
-
--- What the bytes of a reader say, of which it gave at most so many: so say those that it gave, and so says
--- its whole input where that is known.
-pub record Gave (most : ℕ) (old new : Option (List ℕ)) (Says : List ℕ → Type 0) : Type 0 where
-  pub given : List ℕ
-  pub few : length given ≤ most
-  pub consumed : Consumes old new given
-  pub says : Says given
-  pub known : IfSome old Says
 
 -- what a read of a head found: n of the bytes in hand are the head, whatever follows them
 pub record HeadRead (old new : Option (List ℕ)) (bytes : List ℕ) (n : ℕ) : Type 0 where

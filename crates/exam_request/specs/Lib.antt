@@ -10,8 +10,6 @@ pub mod Members
 pub mod Methods
 pub mod Posted
 pub mod SeatRows
-pub mod Sending
 pub mod Table
 pub mod Targets
-pub mod Words
 pub mod Written

@@ -1,24 +1,21 @@
 //! Answers. A head and a short body take no memory, and cannot fail.
-ghost use Rattle.std.specs.Prelude.{◌≡◌, ◌≤◌, ◌+◌, ◌++◌, IfOk, IfErr, OnOk, OnErr, codes, decimal, length};
+ghost use Rattle.std.specs.Prelude.{◌≡◌, ◌≤◌, ◌+◌, ◌++◌, IfOk, OnOk, OnErr, codes, decimal, length};
 ghost use Rattle.std.specs.Io.KnownBytes.{Appends};
 ghost use Rattle.arrayvec.specs.ArrayVec.{array_vec_len};
-ghost use Rattle.exam_types.specs.declared.refusal.Refusal.TheVariants.{NoMemory};
+ghost use Rattle.exam_types.specs.Days.{day_text};
 ghost use Rattle.exam_request.specs.Answer as spec;
-ghost use Rattle.exam_request.specs.Sending.{AppendsBeginning};
-ghost use Rattle.exam_request.specs.Written.{body_bytes};
+ghost use Rattle.exam_send.specs.Sending.{AppendsBeginning};
 
 use crate::methods::allowed;
-use crate::objects::{Member, push_object};
 use crate::routes::Place;
-use crate::sending::{WriteFailed, send_both};
 use crate::status::{phrase_of, status_of};
-use crate::words::state_word;
-use arrayvec::ArrayVec;
-use exam_office::AppealState;
+use arrayvec::{ArrayString, ArrayVec};
+use exam_office::{AppealState, state_word};
+use exam_send::{WriteFailed, send_both};
 use exam_types::{Day, Refusal};
 use http::StatusCode;
 use itoa::Buffer;
-use std::alloc::Global;
+use std::fmt::Write as _;
 use std::io::Write;
 use std::marker::Model;
 
@@ -30,17 +27,8 @@ type Short = ArrayVec<u8, 256>;
 enum Body {
     Short(Short),
     Long(Vec<u8>),
-}
-
-impl Body {
-    fn bytes(&self) -> &[u8]
-        ensures { result.now ≡ body_bytes self.now }
-    {
-        match self {
-            Body::Short(text) => text.as_slice(),
-            Body::Long(text) => text.as_slice(),
-        }
-    }
+    /// That of a lodging after this last day, which is made as it is written.
+    Closing(Day),
 }
 
 /// An answer. Contracts see what it tells.
@@ -109,36 +97,18 @@ impl Answer {
         }
     }
 
-    /// The answer to a refusal. That of a last day takes memory: where it is short, want of it is the answer.
-    pub fn refusal(alloc: Global, refusal: Refusal) -> Answer
-        ensures { spec.TellsRefusal refusal result }
+    /// The answer to a refusal.
+    pub fn refusal(refusal: Refusal) -> Answer
+        ensures { result ≡ spec.refusal_told refusal }
     {
         match refusal {
-            Refusal::PastClosing { day } => match Answer::closing(alloc, day) {
-                Ok(answer) => answer,
-                Err(short) => Answer::error(short.number()),
+            Refusal::PastClosing { day } => Answer {
+                status: StatusCode::CONFLICT,
+                allow: None,
+                body: Body::Closing(day),
             },
             other => Answer::error(other.number()),
         }
-    }
-
-    /// The answer to a lodging after this last day.
-    fn closing(alloc: Global, day: Day) -> Result<Answer, Refusal>
-        ensures ok { IfOk result (λ a. a ≡ spec.closing_told day) }
-        ensures memory { IfErr result (λ e. e ≡ NoMemory) }
-    {
-        let mut text = Vec::new(alloc);
-        day.write_to(&mut text)?;
-        let mut body = Vec::new(alloc);
-        push_object(
-            &mut body,
-            &[Member::text(b"day", &text), Member::number(b"error", 13)],
-        )?;
-        Ok(Answer {
-            status: StatusCode::CONFLICT,
-            allow: None,
-            body: Body::Long(body),
-        })
     }
 }
 
@@ -149,8 +119,29 @@ pub fn write_answer<W: Write>(answer: &Answer, writer: &mut W) -> Result<(), Wri
     ensures err { OnErr result
         (AppendsBeginning (W.contents writer.old) (W.contents writer.new) (spec.answer_text answer.now)) }
 {
-    let body = answer.body.bytes();
-    let head = head(answer.status, answer.allow, body.len());
+    match &answer.body {
+        Body::Short(body) => send_answer(answer.status, answer.allow, body.as_slice(), writer),
+        Body::Long(body) => send_answer(answer.status, answer.allow, body.as_slice(), writer),
+        Body::Closing(day) => {
+            let body = closing_body(*day)?;
+            send_answer(answer.status, answer.allow, body.as_slice(), writer)
+        }
+    }
+}
+
+/// Writes the answer with this body.
+fn send_answer<W: Write>(
+    status: StatusCode,
+    allow: Option<Place>,
+    body: &[u8],
+    writer: &mut W,
+) -> Result<(), WriteFailed>
+    ensures ok { OnOk result (Appends (W.contents writer.old) (W.contents writer.new)
+        (spec.text_with status allow body.now)) }
+    ensures err { OnErr result (AppendsBeginning (W.contents writer.old) (W.contents writer.new)
+        (spec.text_with status allow body.now)) }
+{
+    let head = head(status, allow, body.len());
     send_both(writer, head.as_slice(), body)
 }
 
@@ -220,6 +211,29 @@ fn error_body(number: u16) -> Short
     put(&mut body, buffer.format(number).as_bytes());
     put(&mut body, b"}");
     body
+}
+
+/// The body of the answer to a lodging after this last day. A day's printing promises what it writes and not
+/// that it succeeds, so it is told as a failed write, where nothing has been written yet.
+fn closing_body(day: Day) -> Result<Short, WriteFailed>
+    ensures { IfOk result (λ body. body.items ≡ spec.closing_body day) }
+{
+    let text = printed(day)?;
+    let mut body = Short::new();
+    put(&mut body, b"{\"day\":\"");
+    put(&mut body, text.as_str().as_bytes());
+    put(&mut body, b"\",\"error\":13}");
+    Ok(body)
+}
+
+fn printed(day: Day) -> Result<ArrayString<10>, WriteFailed>
+    ensures { IfOk result (λ text. text.bytes ≡ day_text day) }
+{
+    let mut text = ArrayString::new();
+    match write!(text, "{day}") {
+        Ok(()) => Ok(text),
+        Err(_) => Err(WriteFailed),
+    }
 }
 
 fn put(out: &mut Short, bytes: &[u8])

@@ -14,11 +14,7 @@ mod posted;
 mod reading;
 mod routes;
 mod secret;
-mod sending;
 mod status;
-#[cfg(test)]
-mod tests;
-mod words;
 
 pub use answers::{Answer, write_answer};
 pub use choice::{
@@ -30,4 +26,3 @@ pub use own_bodies::{appeals_body, clashes_body, seats_body};
 pub use posted::{Posted, posted_in};
 pub use reading::{Asked, ReadFailed, read_request};
 pub use routes::{Found, Place, find, server_routes};
-pub use sending::WriteFailed;

@@ -8,8 +8,7 @@ ghost use Rattle.exam_office.specs.Own.{shown, shown_session};
 ghost use Rattle.exam_request.specs.SeatRows.{HasSeatTexts};
 
 use crate::objects::{Member, push_bytes, push_object};
-use crate::words::{kind_word, status_word};
-use exam_office::{Own, OwnSession};
+use exam_office::{Own, OwnSession, kind_word, status_word};
 use exam_rules::{Appeal, Arrangement, Status, Subject};
 use exam_types::{HallCode, PaperCode, Reference, Refusal, SessionCode};
 use std::alloc::Global;

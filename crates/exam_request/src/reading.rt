@@ -3,6 +3,7 @@ ghost use Rattle.std.specs.Prelude.{◌≡◌, ◌≤◌, ◌<◌, length, IfSom
 ghost use Rattle.httparse.specs.Spans.{IsWithin, span_bytes};
 ghost use Rattle.exam_request.specs.Asked as asked;
 ghost use Rattle.exam_request.specs.Input as spec;
+ghost use Rattle.exam_send.specs.Given.{Gave};
 ghost use Rattle.exam_request.specs.declared.reading.Stop.TheVariants.{Faulty};
 
 use crate::fault::Fault;
@@ -63,7 +64,7 @@ pub fn read_request<'b, R: Read>(
     buffer: &'b mut [u8],
 ) -> Result<Result<Asked<'b>, Fault>, ReadFailed>
     requires room { 12288 ≤ length buffer.old }
-    ensures { spec.Gave 12288 (R.remaining reader.old) (R.remaining reader.new) (asked.IsAnswerTo result) }
+    ensures { Gave 12288 (R.remaining reader.old) (R.remaining reader.new) (asked.IsAnswerTo result) }
 {
     match read_message(reader, buffer) {
         Ok(message) => Ok(Ok(asked_in(buffer, message))),

@@ -37,7 +37,7 @@ fn no_appeal_before(facts: &Facts, number: Number, least: Reference)
 }
 
 /// The appeals from the candidate's first on; those of later numbers follow.
-fn appeals_from<'a>(facts: &'a Facts, number: Number) -> Range<'a, (Number, Reference), Appeal>
+pub fn appeals_from<'a>(facts: &'a Facts, number: Number) -> Range<'a, (Number, Reference), Appeal>
     // The rows that stand together are all of the candidate's.
     ensures rows { leading (is_row_of number) result ≡ filter (is_row_of number) facts.now.appeals.entries }
     ensures granted { (s : Code)

@@ -10,10 +10,8 @@ mod lists;
 mod rows;
 mod seating;
 mod sessions;
-#[cfg(test)]
-mod tests;
 
-pub use appeals::has_at_most;
+pub use appeals::{appeals_from, has_at_most};
 pub use clashing::clashes_among;
 pub use facts::Facts;
 pub use fit::{finish, fits};
@@ -23,9 +21,12 @@ pub use laws::{
     lists_rise, plans_carry_over, plans_come_back, repair_is_one, repairs_carry_over,
     repairs_come_back, sweeps_carry_over, sweeps_come_back,
 };
-pub use lists::{BySession, SessionLists, session_lists};
+pub use lists::{BySession, Entrant, SessionLists, session_lists, sitting_among};
 pub use rows::{
     Appeal, Arrangement, Candidate, Entry, Hall, Opening, Paper, Session, Status, Subject,
 };
 pub use seating::{ListedProblem, indexed_problem, listed_problem, open_halls, problem};
-pub use sessions::{arrangement_in_force, clashes, is_member, members, sitting};
+pub use sessions::{
+    arrangement_in_force, clashes, entries_from, is_clash, is_live_paper, is_member, is_paper_of,
+    members, sitting,
+};

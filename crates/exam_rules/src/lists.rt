@@ -1,16 +1,17 @@
 //! The members and the open halls of all sessions, listed in one walk over the facts.
-ghost use Rattle.std.specs.Prelude.{◌≡◌, ◌++◌, ◌∷◌, [], length, IfOk, IfErr, OnOk, if◌then◌else◌};
+ghost use Rattle.std.specs.Prelude.{◌≡◌, ◌++◌, ◌∷◌, [], length, Contains, IfSome, IfOk, IfErr, OnOk};
+ghost use Rattle.std.specs.Prelude.{if◌then◌else◌};
 ghost use Rattle.std.specs.List.Sorted.{IsStrictlySortedBy};
 ghost use Rattle.std.specs.Ordering.{nat_cmp};
 ghost use Rattle.exam_types.specs.declared.refusal.Refusal.TheVariants.{NoMemory};
-ghost use Rattle.exam_rules.specs.Relations.{Code, Relations, relations_of, code_cmp, same_code};
+ghost use Rattle.exam_rules.specs.Relations.{Code, Relations, relations_of, no_relations, code_cmp, same_code};
 ghost use Rattle.exam_rules.specs.Sessions as spec;
 ghost use Rattle.exam_rules.specs.Seatings as seatings;
 ghost use Rattle.exam_rules.specs.Lists as listing;
 
 use crate::facts::Facts;
 use crate::rows::Entry;
-use crate::sessions::entries_from;
+use crate::sessions::{entries_from, sitting, sitting_beside};
 use exam_types::{HallCode, Number, PaperCode, Refusal, SessionCode};
 use std::alloc::Global;
 use std::collections::BTreeMap;
@@ -181,6 +182,16 @@ pub fn session_lists(alloc: Global, facts: &Facts) -> Result<SessionLists, Refus
 }
 
 impl SessionLists {
+    /// The lists where there are no facts. Takes no memory.
+    pub fn empty(alloc: Global) -> Self
+        ensures { listing.AreListsOf no_relations result }
+    {
+        SessionLists {
+            members: BTreeMap::new(alloc),
+            halls: BTreeMap::new(alloc),
+        }
+    }
+
     /// The members of the session, by number.
     pub fn members_of(&self, session: &SessionCode) -> &[Entrant]
         ensures { result.now ≡ listing.listed self.now.members.entries session.now }
@@ -200,5 +211,39 @@ impl SessionLists {
         ensures { result.now ≡ listing.listed self.now.halls.entries session.now }
     {
         listed(&self.halls, session)
+    }
+}
+
+/// The paper that the candidate sits, as `sitting` gives it, where these are the members of the session. Of a
+/// member no entry is looked at.
+pub fn sitting_among(
+    facts: &Facts,
+    entrants: &[Entrant],
+    session: &SessionCode,
+    number: Number,
+) -> Option<PaperCode>
+    requires { entrants.now ≡ listing.entrants (relations_of facts.now) session.now }
+    ensures { result ≡ spec.sitting (relations_of facts.now) session.now number }
+{
+    match paper_among(entrants, number) {
+        Some(least) => sitting_beside(facts, session, number, least),
+        None => sitting(facts, session, number),
+    }
+}
+
+/// The least live paper of the candidate, where they are found among these members, whose numbers rise.
+fn paper_among(entrants: &[Entrant], number: Number) -> Option<PaperCode>
+    ensures { IfSome result (λ paper. Contains entrants.now (listing.entrant number paper)) }
+{
+    let place = entrants.partition_point(|entrant| entrant.number < number);
+    match entrants.get(place) {
+        Some(entrant) => {
+            if entrant.number == number {
+                Some(entrant.paper)
+            } else {
+                None
+            }
+        }
+        None => None,
     }
 }

@@ -50,7 +50,8 @@ pub fn entries_from<'a>(facts: &'a Facts, number: Number) -> Range<'a, (Number, 
     facts.entries.range((number, least)..)
 }
 
-fn is_paper_of(facts: &Facts, session: &SessionCode, paper: &PaperCode) -> bool
+/// Whether there is the paper, and it is of the session.
+pub fn is_paper_of(facts: &Facts, session: &SessionCode, paper: &PaperCode) -> bool
     ensures { result ≡ spec.is_paper_of (relations_of facts.now) session.now paper.now }
 {
     match facts.papers.get(paper) {
@@ -60,7 +61,12 @@ fn is_paper_of(facts: &Facts, session: &SessionCode, paper: &PaperCode) -> bool
 }
 
 /// Whether the candidate has a live entry for the paper, which is of the session.
-fn is_live_paper(facts: &Facts, session: &SessionCode, number: Number, paper: &PaperCode) -> bool
+pub fn is_live_paper(
+    facts: &Facts,
+    session: &SessionCode,
+    number: Number,
+    paper: &PaperCode,
+) -> bool
     ensures { result ≡ spec.is_live_paper (relations_of facts.now) session.now number paper.now }
 {
     match facts.entries.get(&(number, *paper)) {
@@ -228,7 +234,7 @@ pub fn push_clashes(
 }
 
 /// Whether a live paper is another than the one that is sat.
-fn is_clash(sat: &Option<PaperCode>, paper: &PaperCode) -> bool
+pub fn is_clash(sat: &Option<PaperCode>, paper: &PaperCode) -> bool
     ensures { result ≡ spec.is_clash sat.now paper.now }
 {
     match sat {

@@ -7,11 +7,15 @@ use Rattle.sqlite.specs.declared.error.Error.{Error}
 use Rattle.sqlite.specs.State.{State, HasCleanDisk, Survives}
 use Rattle.sqlite.specs.Steps.{FailsToCommit}
 use Rattle.exam_types.specs.declared.refusal.Refusal.{Refusal}
+use Rattle.exam_rules.specs.Orders.{KeysRise}
+use Rattle.exam_rules.specs.Relations.{seat_cmp}
+use Rattle.exam_office.specs.Good.{IsGood}
 use Rattle.exam_office.specs.State.{State as Office}
 use Rattle.exam_store.specs.declared.saving.Changes.{Changes}
 use Rattle.exam_store.specs.Faults.{refusal_of}
 use Rattle.exam_store.specs.Inside.{FailsFor, FailsToWrite}
 use Rattle.exam_store.specs.Saves.{all_saved, TurnsTables, FailsToSave}
+use Rattle.exam_store.proofs.KeysHold.{no_key}
 use Rattle.exam_store.proofs.Steps.{down_later, down_longer}
 
 -- what was written is undone
@@ -36,8 +40,10 @@ module _ (Against : Type 0) {P Q : Trees → Type 0} (old last end : State) (bef
   uncommitted (Err e) failed = not_committed e failed.0 failed.1 failed.2
 
 -- the writes that are not made are those that turn the tables of the one office into those of the other
-pub fails_to_save : (before after : Office) (c : Changes) (old new : State) → TurnsTables before after c → (result : Result (Unit {0}) Refusal) → IfErr result (FailsToWrite (all_saved c) old new) → IfErr result (FailsToSave before after old new)
-fails_to_save before after c old new turns (Ok u) failed = tt
-fails_to_save before after c old new turns (Err e) (inl lacks) = inl lacks
-fails_to_save before after c old new turns (Err e) (inr (told, inl down)) = inr (told, inl down)
-fails_to_save before after c old new turns (Err e) (inr (told, inr refused)) = inr (told, inr (c, turns, refused))
+pub fails_to_save : (before after : Office) (c : Changes) (old new : State) → TurnsTables before after c → IsGood before → IsGood after → KeysRise seat_cmp before.seats → KeysRise seat_cmp after.seats
+    → (result : Result (Unit {0}) Refusal) → IfErr result (FailsToWrite (all_saved c) old new) → IfErr result (FailsToSave before after old new)
+fails_to_save before after c old new turns good_before good_after rises_before rises_after (Ok u) failed = tt
+fails_to_save before after c old new turns good_before good_after rises_before rises_after (Err e) (inl lacks) = inl lacks
+fails_to_save before after c old new turns good_before good_after rises_before rises_after (Err e) (inr (told, inl down)) = inr (told, inl down)
+fails_to_save before after c old new turns good_before good_after rises_before rises_after (Err e) (inr (told, inr refused)) =
+    inr (told, inr (c, turns, refused, λ keeps. no_key before after c old.now turns good_before good_after rises_before rises_after keeps refused))

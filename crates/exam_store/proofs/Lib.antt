@@ -6,8 +6,10 @@ pub mod EachTree
 pub mod Exact
 pub mod Failing
 pub mod Inserting
+pub mod KeysHold
 pub mod Leaving
 pub mod Reading
+pub mod Referring
 pub mod Refusing
 pub mod Rekeeping
 pub mod SavedRows

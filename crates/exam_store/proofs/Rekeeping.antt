@@ -22,7 +22,7 @@ use Rattle.exam_store.proofs.EachTree.{sessions_after, papers_after, halls_after
 use Rattle.exam_store.proofs.SavedRows.{table_saved, sessions_match, papers_match, halls_match, openings_match, candidates_match, entries_match, arrangements_match, appeals_match, seats_match}
 
 -- the rows of each table are those of the new office
-holds_after : (before after : State) (c : Changes) (all : Trees) → TurnsTables before after c → HoldsOffice all before → HoldsOffice (all_saved c all) after
+pub holds_after : (before after : State) (c : Changes) (all : Trees) → TurnsTables before after c → HoldsOffice all before → HoldsOffice (all_saved c all) after
 holds_after before after c all turns was = record {
   facts = record {
     sessions = subst (HoldsRows session_row after.relations.sessions) (sym (sessions_after c all)) (table_saved sessions_match 1 all _ _ _ _ turns.sessions was.facts.sessions);

@@ -7,7 +7,7 @@ use Rattle.sqlite.specs.Effect.{Database}
 use Rattle.sqlite.specs.State.{State, HasCleanDisk, KeepsCommit, Survives, Executes}
 use Rattle.exam_types.specs.declared.refusal.Refusal.{Refusal}
 use Rattle.exam_types.specs.declared.refusal.Refusal.TheVariants.{NoMemory, Store}
-use Rattle.exam_tables.specs.Refusals.{IsDown, Refuses}
+use Rattle.exam_tables.specs.Refusals.{IsDown, Refuses, RefusesRows}
 use Rattle.exam_tables.specs.Tables.{store_schema}
 use Rattle.exam_tables.specs.Content.{ContainsIn, put, delete}
 use Rattle.exam_store.specs.Faults.{is_store_refusal}
@@ -58,6 +58,12 @@ abbrev pub RefusesOne : List Write → Database → Type 0
 RefusesOne writes db =
     (done : List Write) × (next : Write) × (rest : List Write) × (writes ≡ done ++ next ∷ rest)
     × (at : Database) × Becomes done db at × Refuses at next.sql next.params
+
+-- the same, while it writes the rows of that one: no foreign key stands against it
+abbrev pub RefusesOneRow : List Write → Database → Type 0
+RefusesOneRow writes db =
+    (done : List Write) × (next : Write) × (rest : List Write) × (writes ≡ done ++ next ∷ rest)
+    × (at : Database) × Becomes done db at × RefusesRows at next.sql next.params
 
 -- Why a change is not made: there is no memory, or a call of the disk failed, the connection was shut, or this
 -- stands against it.

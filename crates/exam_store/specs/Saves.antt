@@ -27,7 +27,8 @@ use Rattle.exam_office.specs.State.{State}
 use Rattle.exam_store.specs.Differences.{Turns}
 use Rattle.exam_store.specs.Stored.{whole}
 use Rattle.exam_store.specs.Rows.{session_row, paper_row, hall_row, candidate_row, opening_row, entry_row, arrangement_row, appeal_row, seat_row}
-use Rattle.exam_store.specs.Inside.{Write, put_of, delete_of, RefusesOne, FailsFor}
+use Rattle.exam_store.specs.Inside.{Write, put_of, delete_of, RefusesOne, RefusesOneRow, FailsFor}
+use Rattle.exam_store.specs.Kept.{Keeps}
 
 -- how a table is written: its statements, its tree, the places of its key, the columns of a row and of a key
 pub record Form (K V : Type 0) : Type 0 where
@@ -193,9 +194,12 @@ pub record TurnsTables (before after : State) (c : Changes) : Type 0 where
 
 -- ---- why an office is not saved
 
--- the database refuses a write of those that turn the tables of the one office into those of the other
+-- The database refuses a write of those that turn the tables of the one office into those of the other. Where
+-- it keeps the one, no foreign key stands against it: it does not get to write the rows.
 abbrev pub RefusesChange : State → State → Database → Type 0
-RefusesChange before after db = (c : Changes) × TurnsTables before after c × RefusesOne (all_saved c) db
+RefusesChange before after db =
+    (c : Changes) × TurnsTables before after c × RefusesOne (all_saved c) db
+    × (Keeps db before → RefusesOneRow (all_saved c) db)
 
 -- there is no memory, or a call of the disk failed, the connection was shut, or the database refuses a write
 abbrev pub FailsToSave : State → State → Shown → Shown → Refusal → Type 0

@@ -4,6 +4,9 @@ ghost use Rattle.sqlite.specs.Held.{state};
 ghost use Rattle.sqlite.specs.State.{HasCleanDisk, Shows, Survives};
 ghost use Rattle.sqlite.specs.Steps.{FailsToCommit};
 ghost use Rattle.exam_types.specs.declared.refusal.Refusal.TheVariants.{NoMemory};
+ghost use Rattle.exam_rules.specs.Orders.{KeysRise};
+ghost use Rattle.exam_rules.specs.Relations.{seat_cmp};
+ghost use Rattle.exam_office.specs.Good.{IsGood};
 ghost use Rattle.exam_store.specs.Faults.{refusal_of, is_store_refusal};
 ghost use Rattle.exam_store.specs.Inside.{Becomes, FailsToWrite, IsOurs, Makes};
 ghost use Rattle.exam_store.specs.Kept.{Rekeeps, Commits};
@@ -208,8 +211,20 @@ pub fn save<S: Alter>(
     ensures ended { conn.old.in_transaction ≡ false → conn.new.in_transaction ≡ false }
     ensures told { IfErr result (λ e. IsTrue (is_store_refusal e)) }
 {
+    // What a good office refers to is there, before the changes and after them.
+    show_good(old);
+    show_good(new);
     let changes = changes_of(alloc, old, new)?;
     save_changes(alloc, conn, &changes)
+}
+
+/// An office is good, and no seat stands twice. Does nothing.
+fn show_good(office: &Office)
+    ensures good { IsGood office.now }
+    ensures rises { KeysRise seat_cmp office.now.seats }
+{
+    office.is_good();
+    office.is_in_order();
 }
 
 /// Makes the changes, in one transaction or not at all.

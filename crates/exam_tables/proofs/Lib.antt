@@ -6,6 +6,7 @@ pub mod Failing
 pub mod Fits
 pub mod Inserts
 pub mod Keys
+pub mod KeysHold
 pub mod Loads
 pub mod Making
 pub mod OfAppeal
@@ -22,8 +23,10 @@ pub mod OpenShape
 pub mod Opens
 pub mod Queries
 pub mod Quiet
+pub mod References
 pub mod RowLemmas
 pub mod StatementFails
+pub mod Standing
 pub mod Statements
 pub mod TableFacts
 pub mod Unrefused

@@ -15,19 +15,22 @@ use Rattle.sqlite_schema.specs.declared.command.Command.TheVariants.{InsertOr, D
 use Rattle.sqlite_schema.specs.declared.command.Source.TheVariants.{Values}
 use Rattle.sqlite_tied.specs.Compute.{everything}
 use Rattle.sqlite.specs.declared.error.Error.{Error}
+use Rattle.sqlite.specs.Effect.{Database}
 use Rattle.sqlite.specs.Listing.{understood, reads_listing}
 use Rattle.sqlite.specs.State.{State, Executes, ExecutesInside, Shown, IsUnchanged}
 use Rattle.sqlite.proofs.Callers.{IsPlain, command_of}
 use Rattle.exam_tables.specs.Content.{ContainsIn, places, bare, put, delete, same_key}
 use Rattle.exam_tables.specs.Plain.{one_table}
-use Rattle.exam_tables.specs.Refusals.{Fails, Refuses}
+use Rattle.exam_tables.specs.Refusals.{Fails, Refuses, RefusesRows}
 use Rattle.exam_tables.specs.Tables.{store_schema, stored_arrangement}
 use Rattle.exam_tables.specs.Texts.{put_arrangement, delete_arrangement}
 use Rattle.exam_tables.proofs.Failing.{IsWhole, fails_inside}
 use Rattle.exam_tables.proofs.Fits.{Fits, fits_given}
+use Rattle.exam_tables.proofs.KeysHold as keys
+use Rattle.exam_tables.proofs.References.{Stand, refers}
 use Rattle.exam_tables.proofs.Keys.{cast_int, cast_null}
-use Rattle.exam_tables.proofs.Statements.{put_by}
-use Rattle.exam_tables.proofs.Deletes.{delete_by}
+use Rattle.exam_tables.proofs.Statements.{put_by, put_sets}
+use Rattle.exam_tables.proofs.Deletes.{delete_by, delete_takes}
 use Rattle.exam_tables.proofs.Loads.{shown_by}
 use Rattle.exam_tables.proofs.TableFacts.{arrangement_keyed}
 
@@ -66,6 +69,11 @@ put_whole = (lit≤ tt, refl)
 pub put_fails : (old new : State) (number : ℤ) (needs : ℤ) (extra : ℤ) → old.now.schema ≡ store_schema → (e : Error) → ExecutesInside 0 put_text (row number needs extra) old new (Err e) → Fails old new (Refuses old.now put_text (row number needs extra)) e
 put_fails old new number needs extra has e h = fails_inside put_text (row number needs extra) old new store_schema has _ put_is tt put_plain put_whole e h
 
+-- where each row then has what it refers to, no foreign key refuses the put
+pub put_refused : (db : Database) (all : Trees) (number : ℤ) (needs : ℤ) (extra : ℤ) → ContainsIn store_schema db all → Stand (with_tree all 12 (put (1 ∷ []) (Null ∷ row number needs extra) (all 12))) → Refuses db put_text (row number needs extra) → RefusesRows db put_text (row number needs extra)
+put_refused db all number needs extra was stand = keys.put_refused store_schema 7 stored_arrangement (1 ∷ []) (0 ∷ []) arrangement_keyed db all was put_text Replace [] terms 4 put_is put_plain (row number needs extra) (row number needs extra)
+    (λ limit. put_sets store_schema 7 stored_arrangement (1 ∷ []) (0 ∷ []) arrangement_keyed limit terms 4 (row number needs extra) (Int number) (columns number needs extra) (row number needs extra) (fits number needs extra) refl) (λ next holds. refers next _ holds stand)
+
 abbrev pub delete_text : List ℕ
 delete_text = delete_arrangement
 
@@ -94,6 +102,11 @@ delete_whole = (lit≤ tt, refl)
 
 pub delete_fails : (old new : State) (number : ℤ) → old.now.schema ≡ store_schema → (e : Error) → ExecutesInside 0 delete_text (Int number ∷ []) old new (Err e) → Fails old new (Refuses old.now delete_text (Int number ∷ [])) e
 delete_fails old new number has e h = fails_inside delete_text (Int number ∷ []) old new store_schema has _ delete_is tt delete_plain delete_whole e h
+
+-- where each row that is left has what it refers to, no foreign key refuses the delete
+pub delete_refused : (db : Database) (all : Trees) (number : ℤ) → ContainsIn store_schema db all → Stand (with_tree all 12 (delete (1 ∷ []) (Null ∷ Int number ∷ []) (all 12))) → Refuses db delete_text (Int number ∷ []) → RefusesRows db delete_text (Int number ∷ [])
+delete_refused db all number was stand = keys.delete_refused store_schema 7 stored_arrangement (1 ∷ []) (0 ∷ []) arrangement_keyed db all was delete_text key_terms delete_is delete_plain (Int number ∷ [])
+    (λ limit. delete_takes store_schema 7 stored_arrangement (1 ∷ []) (0 ∷ []) arrangement_keyed key_terms limit (λ db. refl) (Int number ∷ []) (key_means (Int number ∷ []))) (λ next holds. refers next _ holds stand)
 
 abbrev pub load_text : List ℕ
 load_text = codes "SELECT number, needs, extra FROM arrangement"

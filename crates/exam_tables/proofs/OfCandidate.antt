@@ -16,19 +16,22 @@ use Rattle.sqlite_schema.specs.declared.command.Source.TheVariants.{Values}
 use Rattle.sqlite_tied.specs.Compute.{everything}
 use Rattle.sqlite.specs.declared.error.Error.{Error}
 use Rattle.sqlite.specs.Rows.{shown}
+use Rattle.sqlite.specs.Effect.{Database}
 use Rattle.sqlite.specs.Listing.{understood, reads_listing}
 use Rattle.sqlite.specs.State.{State, Executes, ExecutesInside, Shown, IsUnchanged}
 use Rattle.sqlite.proofs.Callers.{IsPlain, command_of}
 use Rattle.exam_tables.specs.Content.{ContainsIn, places, bare, put, delete, same_key, same_rowid}
 use Rattle.exam_tables.specs.Plain.{one_table, on_conflict}
-use Rattle.exam_tables.specs.Refusals.{Fails, Refuses}
+use Rattle.exam_tables.specs.Refusals.{Fails, Refuses, RefusesRows}
 use Rattle.exam_tables.specs.Tables.{store_schema, stored_candidate}
 use Rattle.exam_tables.specs.Texts.{put_candidate, delete_candidate}
 use Rattle.exam_tables.proofs.Failing.{IsWhole, fails_inside}
 use Rattle.exam_tables.proofs.Fits.{Fits, fits_given}
+use Rattle.exam_tables.proofs.KeysHold as keys
+use Rattle.exam_tables.proofs.References.{Stand, refers}
 use Rattle.exam_tables.proofs.Keys.{cast_null}
-use Rattle.exam_tables.proofs.Statements.{upsert_by}
-use Rattle.exam_tables.proofs.Deletes.{delete_by}
+use Rattle.exam_tables.proofs.Statements.{upsert_by, upsert_sets}
+use Rattle.exam_tables.proofs.Deletes.{delete_by, delete_takes}
 use Rattle.exam_tables.proofs.Loads.{shown_by}
 use Rattle.exam_tables.proofs.TableFacts.{candidate_keyed}
 
@@ -84,6 +87,11 @@ put_whole = (lit≤ tt, refl)
 pub put_fails : (old new : State) (number : ℤ) (name : List ℕ) (code : List ℕ) → old.now.schema ≡ store_schema → (e : Error) → ExecutesInside 0 put_text (row number name code) old new (Err e) → Fails old new (Refuses old.now put_text (row number name code)) e
 put_fails old new number name code has e h = fails_inside put_text (row number name code) old new store_schema has _ put_is tt put_plain put_whole e h
 
+-- where each row then has what it refers to, no foreign key refuses the put
+pub put_refused : (db : Database) (all : Trees) (number : ℤ) (name : List ℕ) (code : List ℕ) → ContainsIn store_schema db all → Stand (with_tree all 7 (put (1 ∷ []) (Null ∷ row number name code) (all 7))) → Refuses db put_text (row number name code) → RefusesRows db put_text (row number name code)
+put_refused db all number name code was stand = keys.put_refused store_schema 4 stored_candidate (1 ∷ []) (0 ∷ []) candidate_keyed db all was put_text Abort (on_conflict (0 ∷ []) 7 there project ∷ []) terms 4 put_is put_plain (row number name code) (row number name code)
+    (λ limit. upsert_sets store_schema 4 stored_candidate (1 ∷ []) (0 ∷ []) candidate_keyed limit terms 4 there project (λ db. refl) (row number name code) (Int number) (columns number name code) (row number name code) (fits number name code) refl (picked number name code) (written number name code)) (λ next holds. refers next _ holds stand)
+
 abbrev pub delete_text : List ℕ
 delete_text = delete_candidate
 
@@ -112,6 +120,11 @@ delete_whole = (lit≤ tt, refl)
 
 pub delete_fails : (old new : State) (number : ℤ) → old.now.schema ≡ store_schema → (e : Error) → ExecutesInside 0 delete_text (Int number ∷ []) old new (Err e) → Fails old new (Refuses old.now delete_text (Int number ∷ [])) e
 delete_fails old new number has e h = fails_inside delete_text (Int number ∷ []) old new store_schema has _ delete_is tt delete_plain delete_whole e h
+
+-- where each row that is left has what it refers to, no foreign key refuses the delete
+pub delete_refused : (db : Database) (all : Trees) (number : ℤ) → ContainsIn store_schema db all → Stand (with_tree all 7 (delete (1 ∷ []) (Null ∷ Int number ∷ []) (all 7))) → Refuses db delete_text (Int number ∷ []) → RefusesRows db delete_text (Int number ∷ [])
+delete_refused db all number was stand = keys.delete_refused store_schema 4 stored_candidate (1 ∷ []) (0 ∷ []) candidate_keyed db all was delete_text key_terms delete_is delete_plain (Int number ∷ [])
+    (λ limit. delete_takes store_schema 4 stored_candidate (1 ∷ []) (0 ∷ []) candidate_keyed key_terms limit (λ db. refl) (Int number ∷ []) (key_means (Int number ∷ []))) (λ next holds. refers next _ holds stand)
 
 abbrev pub load_text : List ℕ
 load_text = codes "SELECT number, name, code FROM candidate"

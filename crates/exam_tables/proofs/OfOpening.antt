@@ -17,19 +17,22 @@ use Rattle.sqlite_schema.specs.declared.command.Source.TheVariants.{Values}
 use Rattle.sqlite_tied.specs.Compute.{everything}
 use Rattle.sqlite.specs.declared.error.Error.{Error}
 use Rattle.sqlite.specs.Rows.{shown}
+use Rattle.sqlite.specs.Effect.{Database}
 use Rattle.sqlite.specs.Listing.{understood, reads_listing}
 use Rattle.sqlite.specs.State.{State, Executes, ExecutesInside, Shown, IsUnchanged}
 use Rattle.sqlite.proofs.Callers.{IsPlain, command_of}
 use Rattle.exam_tables.specs.Content.{ContainsIn, places, bare, put, delete, same_key, same_rowid}
 use Rattle.exam_tables.specs.Plain.{one_table, on_conflict}
-use Rattle.exam_tables.specs.Refusals.{Fails, Refuses}
+use Rattle.exam_tables.specs.Refusals.{Fails, Refuses, RefusesRows}
 use Rattle.exam_tables.specs.Tables.{store_schema, stored_opening}
 use Rattle.exam_tables.specs.Texts.{put_opening, delete_opening}
 use Rattle.exam_tables.proofs.Failing.{IsWhole, fails_inside}
 use Rattle.exam_tables.proofs.Fits.{Fits, fits_chosen}
+use Rattle.exam_tables.proofs.KeysHold as keys
+use Rattle.exam_tables.proofs.References.{Stand, refers}
 use Rattle.exam_tables.proofs.Keys.{cast_int, text_same}
-use Rattle.exam_tables.proofs.Statements.{upsert_by}
-use Rattle.exam_tables.proofs.Deletes.{delete_by}
+use Rattle.exam_tables.proofs.Statements.{upsert_by, upsert_sets}
+use Rattle.exam_tables.proofs.Deletes.{delete_by, delete_takes}
 use Rattle.exam_tables.proofs.Loads.{shown_by}
 use Rattle.exam_tables.proofs.TableFacts.{opening_keyed}
 
@@ -87,6 +90,11 @@ put_whole = (lit≤ tt, refl)
 pub put_fails : (old new : State) (session : List ℕ) (hall : List ℕ) (desks : ℤ) (until : ℤ) (reserved : ℤ) → old.now.schema ≡ store_schema → (e : Error) → ExecutesInside 0 put_text (row session hall desks until reserved) old new (Err e) → Fails old new (Refuses old.now put_text (row session hall desks until reserved)) e
 put_fails old new session hall desks until reserved has e h = fails_inside put_text (row session hall desks until reserved) old new store_schema has _ put_is tt put_plain put_whole e h
 
+-- where each row then has what it refers to, no foreign key refuses the put
+pub put_refused : (db : Database) (all : Trees) (session : List ℕ) (hall : List ℕ) (desks : ℤ) (until : ℤ) (reserved : ℤ) → ContainsIn store_schema db all → Stand (with_tree all 8 (put (1 ∷ 2 ∷ []) (Null ∷ row session hall desks until reserved) (all 8))) → Refuses db put_text (row session hall desks until reserved) → RefusesRows db put_text (row session hall desks until reserved)
+put_refused db all session hall desks until reserved was stand = keys.put_refused store_schema 5 stored_opening (1 ∷ 2 ∷ []) (1 ∷ 2 ∷ []) opening_keyed db all was put_text Abort (on_conflict (1 ∷ 2 ∷ []) 8 there project ∷ []) terms 6 put_is put_plain (row session hall desks until reserved) (row session hall desks until reserved)
+    (λ limit. upsert_sets store_schema 5 stored_opening (1 ∷ 2 ∷ []) (1 ∷ 2 ∷ []) opening_keyed limit terms 6 there project (λ db. refl) (row session hall desks until reserved) (Null) (columns session hall desks until reserved) (row session hall desks until reserved) (fits session hall desks until reserved) refl (picked session hall desks until reserved) (written session hall desks until reserved)) (λ next holds. refers next _ holds stand)
+
 abbrev pub delete_text : List ℕ
 delete_text = delete_opening
 
@@ -115,6 +123,11 @@ delete_whole = (lit≤ tt, refl)
 
 pub delete_fails : (old new : State) (session : List ℕ) (hall : List ℕ) → old.now.schema ≡ store_schema → (e : Error) → ExecutesInside 0 delete_text (Text session ∷ Text hall ∷ []) old new (Err e) → Fails old new (Refuses old.now delete_text (Text session ∷ Text hall ∷ [])) e
 delete_fails old new session hall has e h = fails_inside delete_text (Text session ∷ Text hall ∷ []) old new store_schema has _ delete_is tt delete_plain delete_whole e h
+
+-- where each row that is left has what it refers to, no foreign key refuses the delete
+pub delete_refused : (db : Database) (all : Trees) (session : List ℕ) (hall : List ℕ) → ContainsIn store_schema db all → Stand (with_tree all 8 (delete (1 ∷ 2 ∷ []) (Null ∷ Text session ∷ Text hall ∷ []) (all 8))) → Refuses db delete_text (Text session ∷ Text hall ∷ []) → RefusesRows db delete_text (Text session ∷ Text hall ∷ [])
+delete_refused db all session hall was stand = keys.delete_refused store_schema 5 stored_opening (1 ∷ 2 ∷ []) (1 ∷ 2 ∷ []) opening_keyed db all was delete_text key_terms delete_is delete_plain (Text session ∷ Text hall ∷ [])
+    (λ limit. delete_takes store_schema 5 stored_opening (1 ∷ 2 ∷ []) (1 ∷ 2 ∷ []) opening_keyed key_terms limit (λ db. refl) (Text session ∷ Text hall ∷ []) (key_means (Text session ∷ Text hall ∷ []))) (λ next holds. refers next _ holds stand)
 
 abbrev pub load_text : List ℕ
 load_text = codes "SELECT session, hall, desks, until, reserved FROM opening"

@@ -1,10 +1,10 @@
 -- A query leaves the database as it is, whatever its tables are; where it fails, it may undo the transaction.
-use Rattle.std.proofs.Common.{◌≡◌, ◌⊎◌, ℕ, List, true, false, if◌then◌else◌, None, Some, Option, Ok, Err, Result, inl, inr, refl, sym, ap, subst, ◌∙◌}
+use Rattle.std.proofs.Common.{◌≡◌, ◌⊎◌, ℕ, List, None, Some, Option, Ok, Err, Result, inl, inr, refl, sym, ap, ◌∙◌}
 use Rattle.std.proofs.lemmas.Bool.{cases_Bool}
 use Rattle.sqlite_value.specs.Order.{Row}
 use Rattle.sqlite_schema.specs.declared.command.Returning.{Returning}
 use Rattle.sqlite_schema.specs.declared.schema.Schema.{Schema}
-use Rattle.sqlite_resolve.specs.Compile.{compiled, planned, meaning, first, returning, command, with_command}
+use Rattle.sqlite_resolve.specs.Compile.{compiled, planned, meaning, first, returning, with_command}
 use Rattle.sqlite_resolve.specs.Lowering.{Checked, and_then}
 use Rattle.sqlite_schema.specs.declared.command.Command.{Command}
 use Rattle.sqlite.specs.Clock.{timed}
@@ -13,7 +13,7 @@ use Rattle.sqlite_resolve.specs.declared.error.CompileError.{CompileError}
 use Rattle.sqlite_tied.specs.Compute.{everything}
 use Rattle.sqlite.specs.declared.error.Error.{Error}
 use Rattle.sqlite.specs.Listing.{understood, if_select, is_select, reads_listing, listing_schema}
-use Rattle.sqlite.specs.State.{State, Shown, ShowsRows, FailsToQuery, FailsToShow, IsNotRun, IsUnchanged, IsRolledBack}
+use Rattle.sqlite.specs.State.{State, Shown, FailsToQuery, FailsToShow, IsNotRun, IsUnchanged, IsRolledBack}
 use Rattle.exam_tables.proofs.OfOffice as office
 use Rattle.exam_tables.proofs.OfSession as session
 use Rattle.exam_tables.proofs.OfPaper as paper

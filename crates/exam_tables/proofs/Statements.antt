@@ -38,7 +38,7 @@ use Rattle.sqlite_rules.proofs.TableLemmas.{int_is, put_all_adds, put_all_keeps}
 use Rattle.sqlite_rules.proofs.PlaceLemmas.{tied_same}
 use Rattle.sqlite.specs.declared.error.Error.{Error}
 use Rattle.sqlite.specs.Effect.{Database, value_rows}
-use Rattle.sqlite.specs.Rows.{Then, Gives, Written, Task, Edited, mended, nothing, rowids_for, count_of, shown, Updates, Puts, Clears, Meets, Upserts, Tries, TriesEach}
+use Rattle.sqlite.specs.Rows.{Then, Gives, Written, Task, Edited, mended, nothing, rowids_for, count_of, shown, Updates, Puts, Clears, Meets, Upserts, Tries, TriesEach, InsertsOr}
 use Rattle.sqlite.specs.Does.{Tally, Does, AtPlace, OnRows}
 use Rattle.sqlite.specs.State.{State, mode_of, Writes, Executes}
 use Rattle.sqlite.specs.Listing.{understood}
@@ -78,6 +78,9 @@ uncounts P Q false x e h = h
 
 pub unstamps : (params : Row) (terms : List Term) (env : Env) → terms ≡ [] → params ++ eval_all terms env ≡ params
 unstamps params terms env e = rw (e, append-nil)
+
+pub database_is : {schema : Schema} {trees : Trees} (db : Database) → db.schema ≡ schema → db.trees ≡ trees → db ≡ record { schema = schema; trees = trees }
+database_is db is are = ap₂ (λ s t. record { schema = s; trees = t }) is are
 
 module _ (schema : Schema) (at : ℕ) (table : Table) (key target : List ℕ) (keyed : IsKeyed schema at table key target) where
   -- the rows with the key of the values are taken out
@@ -129,19 +132,10 @@ module _ (schema : Schema) (at : ℕ) (table : Table) (key target : List ℕ) (k
     task = record { limit = limit; keys = Enforced; schema = schema; table = table; params = params }
 
     -- a statement with one source row tries to put the row that it becomes
-    pub tries_one : (way : Conflict) (clauses : List Upsert) (old new : State) (text : List ℕ) (source : Row) (terms : List Term) (width count : ℕ) → limit ≡ old.step_limit → old.now.schema ≡ schema
-        → value_rows params width (length terms / width) terms ≡ source ∷ [] → Writes old new None (InsertOr at way (Values terms width) clauses) text params count
-        → (new.now.schema ≡ schema) × (one : Written) × Tries task way clauses (with_rowid Chosen (old.now.trees table.tree) (cast_row table (mended way table source))) old.now.trees (Ok one) × (new.now.trees ≡ one.trees)
-    tries_one way clauses old new text source terms width count lim has given w =
-        let command = InsertOr at way (Values terms width) clauses in
-        let db = old.now.trees in
-        let made = subst (λ s. Does old.step_limit (mode_of old) params (record old.now { schema = s }) text None command (Ok (w.tally, new.now))) has w.changed in
-        let ran : OnRows task (mode_of old) None command db (Ok (w.tally, new.now)) =
-        subst (λ o. AtPlace (λ t. OnRows (record { limit = limit; keys = Enforced; schema = schema; table = t; params = params }) (mode_of old) None command db) o (Ok (w.tally, new.now))) keyed.place
-        (subst (λ l. Does l (mode_of old) params (record { schema = schema; trees = db }) text None command (Ok (w.tally, new.now))) (sym lim) made) in
-        let all = went ran in
-        let now : new.now ≡ record { schema = schema; trees = all.0.trees } = ap (λ (p : Tally × Database). p.1) (same_value (went (went all.2).2).2) in
-        let sourced = went all.1 in
+    tries_one : (way : Conflict) (clauses : List Upsert) (db : Trees) (source : Row) (terms : List Term) (width : ℕ) (w : Written) → value_rows params width (length terms / width) terms ≡ source ∷ [] → InsertsOr task way clauses (Values terms width) db (Ok w)
+        → (one : Written) × Tries task way clauses (with_rowid Chosen (db table.tree) (cast_row table (mended way table source))) db (Ok one) × (w.trees ≡ one.trees)
+    tries_one way clauses db source terms width w given wrote =
+        let sourced = went wrote in
         let counted = went sourced.2 in
         let tried = went counted.2 in
         let ended = went tried.2 in
@@ -150,9 +144,22 @@ module _ (schema : Schema) (at : ℕ) (table : Table) (key target : List ℕ) (k
         let each = went (subst (λ l. TriesEach task way clauses l (count_of counted.0) (nothing db) (Ok tried.0)) rows tried.1) in
         let chosen : with_rowid (rowids_for table (count_of counted.0)) (db table.tree) (cast_row table (mended way table source)) ≡ with_rowid Chosen (db table.tree) (cast_row table (mended way table source)) =
         ap (λ c. with_rowid (if c then Above (count_of counted.0) else Chosen) (db table.tree) (cast_row table (mended way table source))) keyed.uncounted in
-        let trees : new.now.trees ≡ each.0.trees =
-        ap (λ (d : Database). d.trees) now ∙ ap (λ (it : Written). it.trees) (same_value ended.2) ∙ next ∙ ap (λ (p : Written × ℤ). p.0.trees) (same_value each.2) in
-        (ap (λ (d : Database). d.schema) now, each.0, subst (λ n. Tries task way clauses n db (Ok each.0)) chosen each.1, trees)
+        let trees : w.trees ≡ each.0.trees = ap (λ (it : Written). it.trees) (same_value ended.2) ∙ next ∙ ap (λ (p : Written × ℤ). p.0.trees) (same_value each.2) in
+        (each.0, subst (λ n. Tries task way clauses n db (Ok each.0)) chosen each.1, trees)
+
+    -- what a statement that inserts leaves is what its rows are
+    inserted : (way : Conflict) (clauses : List Upsert) (old new : State) (text : List ℕ) (terms : List Term) (width count : ℕ) → limit ≡ old.step_limit → old.now.schema ≡ schema → Writes old new None (InsertOr at way (Values terms width) clauses) text params count
+        → (new.now.schema ≡ schema) × (w : Written) × InsertsOr task way clauses (Values terms width) old.now.trees (Ok w) × (new.now.trees ≡ w.trees)
+    inserted way clauses old new text terms width count lim has w =
+        let command = InsertOr at way (Values terms width) clauses in
+        let db = old.now.trees in
+        let made = subst (λ s. Does old.step_limit (mode_of old) params (record old.now { schema = s }) text None command (Ok (w.tally, new.now))) has w.changed in
+        let ran : OnRows task (mode_of old) None command db (Ok (w.tally, new.now)) =
+        subst (λ o. AtPlace (λ t. OnRows (record { limit = limit; keys = Enforced; schema = schema; table = t; params = params }) (mode_of old) None command db) o (Ok (w.tally, new.now))) keyed.place
+        (subst (λ l. Does l (mode_of old) params (record { schema = schema; trees = db }) text None command (Ok (w.tally, new.now))) (sym lim) made) in
+        let all = went ran in
+        let now : new.now ≡ record { schema = schema; trees = all.0.trees } = ap (λ (p : Tally × Database). p.1) (same_value (went (went all.2).2).2) in
+        (ap (λ (d : Database). d.schema) now, all.0, all.1, ap (λ (d : Database). d.trees) now)
 
     module _ (first : Value) (columns values : Row) (fits : Fits table key first columns values) where
       -- one row is put in
@@ -329,23 +336,42 @@ module _ (schema : Schema) (at : ℕ) (table : Table) (key target : List ℕ) (k
         upserts db new one shaped own (inr (None, judged, h)) = goes db new one h.0 shaped own h.1 h.2
         upserts db new one shaped own (inr (Some why, judged, h)) = absurd cc
 
+  -- what a statement that puts one row does with the rows that it finds
+  abbrev pub SetsRow : Option ℕ → Conflict → List Upsert → List Term → ℕ → Row → Row → Type 0
+  SetsRow limit way clauses terms width params values =
+      (db : Trees) (w : Written) → InsertsOr (task limit params) way clauses (Values terms width) db (Ok w) → (all : Trees) → ContainsIn schema (record { schema = schema; trees = db }) all
+      → ContainsIn schema (record { schema = schema; trees = w.trees }) (with_tree all table.tree (put key (Null ∷ values) (all table.tree)))
+
   -- a statement with one source row sets its key to the row, by what it does with the row that it tries
-  sets : (way : Conflict) (clauses : List Upsert) (text : List ℕ) (terms : List Term) (width : ℕ) → command_of (understood schema text) ≡ InsertOr at way (Values terms width) clauses → IsPlain (understood schema text)
-      → (old new : State) (params : Row) (count : ℕ) (first : Value) (columns values : Row) (fits : Fits table key first columns values) → mended way table (first ∷ columns) ≡ first ∷ columns
-      → value_rows params width (length terms / width) terms ≡ (first ∷ columns) ∷ [] → Executes text params old new (Ok count)
-      → ((new : Comes table key first columns values (old.now.trees table.tree)) (one : Written) → IsShaped TableShape (old.now.trees table.tree)
-      → Tries (task old.step_limit params) way clauses (Int new.id ∷ columns) old.now.trees (Ok one) → IsPut columns values old.now.trees one.trees)
-      → (all : Trees) → ContainsIn schema old.now all → ContainsIn schema new.now (with_tree all table.tree (put key (Null ∷ values) (all table.tree)))
-  sets way clauses text terms width is simple old new params count first columns values fits whole source h does all was =
-      let db = old.now.trees in
+  sets : (limit : Option ℕ) (way : Conflict) (clauses : List Upsert) (terms : List Term) (width : ℕ) (params : Row) (first : Value) (columns values : Row) (fits : Fits table key first columns values) → mended way table (first ∷ columns) ≡ first ∷ columns
+      → value_rows params width (length terms / width) terms ≡ (first ∷ columns) ∷ []
+      → ((db : Trees) (new : Comes table key first columns values (db table.tree)) (one : Written) → IsShaped TableShape (db table.tree) → Tries (task limit params) way clauses (Int new.id ∷ columns) db (Ok one) → IsPut columns values db one.trees)
+      → SetsRow limit way clauses terms width params values
+  sets limit way clauses terms width params first columns values fits whole source does db w wrote all was =
       let held = held_at db all was.rows in
-      let tried = tries_one old.step_limit params way clauses old new _ (first ∷ columns) terms width count refl was.schema_is source (runs_as text params old new schema was.schema_is _ is simple count h) in
+      let tried = tries_one limit params way clauses db (first ∷ columns) terms width w source wrote in
       let comes = fits.comes (db table.tree) held.shaped in
       let row : with_rowid Chosen (db table.tree) (cast_row table (mended way table (first ∷ columns))) ≡ Int comes.id ∷ columns =
       ap (λ r. with_rowid Chosen (db table.tree) (cast_row table r)) whole ∙ ap₂ (λ v vs. with_rowid Chosen (db table.tree) (v ∷ vs)) fits.first_typed fits.typed ∙ comes.numbered in
-      let put = does comes tried.1 held.shaped (subst (λ n. Tries (task old.step_limit params) way clauses n db (Ok tried.1)) row tried.2) in
-      let done = subst (IsPut columns values db) (sym tried.3) put in
-      set_in old.now new.now all _ was tried.0 (put_holds db new.now.trees columns values (all table.tree) done held) done.others
+      let put = does db comes tried.0 held.shaped (subst (λ n. Tries (task limit params) way clauses n db (Ok tried.0)) row tried.1) in
+      let done = subst (IsPut columns values db) (sym tried.2) put in
+      set_in (record { schema = schema; trees = db }) (record { schema = schema; trees = w.trees }) all _ was refl (put_holds db w.trees columns values (all table.tree) done held) done.others
+
+  -- so does its text, run
+  runs : (way : Conflict) (clauses : List Upsert) (text : List ℕ) (terms : List Term) (width : ℕ) → command_of (understood schema text) ≡ InsertOr at way (Values terms width) clauses → IsPlain (understood schema text)
+      → (old new : State) (params values : Row) (count : ℕ) → SetsRow old.step_limit way clauses terms width params values → Executes text params old new (Ok count)
+      → (all : Trees) → ContainsIn schema old.now all → ContainsIn schema new.now (with_tree all table.tree (put key (Null ∷ values) (all table.tree)))
+  runs way clauses text terms width is simple old new params values count does h all was =
+      let wrote = inserted old.step_limit params way clauses old new _ terms width count refl was.schema_is (runs_as text params old new schema was.schema_is _ is simple count h) in
+      let now : new.now ≡ record { schema = schema; trees = wrote.1.trees } = database_is new.now wrote.0 wrote.3 in
+      subst (λ (d : Database). ContainsIn schema d (with_tree all table.tree (put key (Null ∷ values) (all table.tree)))) (sym now)
+      (does old.now.trees wrote.1 wrote.2 all (subst (λ (d : Database). ContainsIn schema d all) (database_is old.now was.schema_is refl) was))
+
+  -- INSERT OR REPLACE sets the key to the row.
+  pub put_sets : (limit : Option ℕ) (terms : List Term) (width : ℕ) (params : Row) (first : Value) (columns values : Row) → Fits table key first columns values → value_rows params width (length terms / width) terms ≡ (first ∷ columns) ∷ []
+      → SetsRow limit Replace [] terms width params values
+  put_sets limit terms width params first columns values fits source =
+      sets limit Replace [] terms width params first columns values fits (ap (λ vs. first ∷ vs) fits.whole) source (λ db comes one. replaces limit params first columns values fits db comes one)
 
   -- The text of INSERT OR REPLACE, run, sets the key to the row.
   pub put_by : (text : List ℕ) (terms : List Term) (width : ℕ) → command_of (understood schema text) ≡ InsertOr at Replace (Values terms width) [] → IsPlain (understood schema text)
@@ -353,7 +379,16 @@ module _ (schema : Schema) (at : ℕ) (table : Table) (key target : List ℕ) (k
       → Executes text params old new r → OnOk r ((all : Trees) → ContainsIn schema old.now all → ContainsIn schema new.now (with_tree all table.tree (put key (Null ∷ values) (all table.tree))))
   put_by text terms width is simple old new params (Err e) first columns values fits source h = tt
   put_by text terms width is simple old new params (Ok count) first columns values fits source h =
-      sets Replace [] text terms width is simple old new params count first columns values fits (ap (λ vs. first ∷ vs) fits.whole) source h (λ comes one. replaces old.step_limit params first columns values fits old.now.trees comes one)
+      runs Replace [] text terms width is simple old new params values count (put_sets old.step_limit terms width params first columns values fits source) h
+
+  -- INSERT .. ON CONFLICT .. DO UPDATE sets the key to the row.
+  pub upsert_sets : (limit : Option ℕ) (terms : List Term) (width : ℕ) (filter project : List Term) → ((db : Trees) → overlay db [] table.tree ≡ db table.tree) → (params : Row) (first : Value) (columns values : Row) → Fits table key first columns values
+      → value_rows params width (length terms / width) terms ≡ (first ∷ columns) ∷ []
+      → ((t r : Row) (id : ℤ) → list_all (holds ((params ++ rowid t ∷ shown table (Int id ∷ columns)) ∷ r ∷ [])) filter ≡ same_rowid r t)
+      → ((t : Row) (id : ℤ) → same_key key (bare (places table) t) (Null ∷ values) ≡ true → eval_all project ((params ++ rowid t ∷ shown table (Int id ∷ columns)) ∷ t ∷ []) ≡ rowid t ∷ rowid t ∷ columns)
+      → SetsRow limit Abort (on_conflict target table.tree filter project ∷ []) terms width params values
+  upsert_sets limit terms width filter project own params first columns values fits source picked written =
+      sets limit Abort (on_conflict target table.tree filter project ∷ []) terms width params first columns values fits refl source (λ db comes one shaped tried. upserts limit params first columns values fits filter project picked written db comes one shaped (own db) tried)
 
   -- The text of INSERT .. ON CONFLICT .. DO UPDATE, run, sets the key to the row.
   pub upsert_by : (text : List ℕ) (terms : List Term) (width : ℕ) (filter project : List Term)
@@ -365,5 +400,4 @@ module _ (schema : Schema) (at : ℕ) (table : Table) (key target : List ℕ) (k
       → Executes text params old new r → OnOk r ((all : Trees) → ContainsIn schema old.now all → ContainsIn schema new.now (with_tree all table.tree (put key (Null ∷ values) (all table.tree))))
   upsert_by text terms width filter project is simple own old new params (Err e) first columns values fits source picked written h = tt
   upsert_by text terms width filter project is simple own old new params (Ok count) first columns values fits source picked written h =
-      sets Abort _ text terms width is simple old new params count first columns values fits refl source h
-      (λ comes one shaped tried. upserts old.step_limit params first columns values fits filter project picked written old.now.trees comes one shaped (own old.now.trees) tried)
+      runs Abort (on_conflict target table.tree filter project ∷ []) text terms width is simple old new params values count (upsert_sets old.step_limit terms width filter project own params first columns values fits source picked written) h

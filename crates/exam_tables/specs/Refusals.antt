@@ -1,14 +1,17 @@
 -- Why a statement on the rows of a table fails.
-use Rattle.std.specs.Prelude.{◌≡◌, ◌⊎◌, ℕ, Bool, true, false, List, Option, Ok, Err, IsTrue}
+use Rattle.std.specs.Prelude.{◌≡◌, ◌⊎◌, ℕ, Bool, true, false, List, slice_get, Option, Some, None, option_and_then, Ok, Err, IsTrue}
 use Rattle.sqlite_disk.specs.Disk.{MoreFaults}
 use Rattle.sqlite_value.specs.Order.{Row}
+use Rattle.sqlite_schema.specs.declared.command.Command.{Command}
+use Rattle.sqlite_schema.specs.declared.command.Command.TheVariants.{InsertOr, Delete}
 use Rattle.sqlite_schema.specs.declared.schema.Keys.TheVariants.{Enforced}
+use Rattle.sqlite_schema.specs.declared.schema.Table.{Table}
 use Rattle.sqlite_resolve.specs.declared.compiled.Compiled.{Compiled}
 use Rattle.sqlite.specs.declared.error.ErrorCode.TheVariants.{OutOfMemory}
 use Rattle.sqlite.specs.declared.error.Error.{Error}
 use Rattle.sqlite.specs.declared.error.Error.TheVariants.{SqliteFailure, SqlInputError}
 use Rattle.sqlite.specs.declared.run.Mode.{Mode}
-use Rattle.sqlite.specs.Does.{Does}
+use Rattle.sqlite.specs.Does.{Does, WritesRows}
 use Rattle.sqlite.specs.Effect.{Database}
 use Rattle.sqlite.specs.Listing.{understood}
 use Rattle.sqlite.specs.State.{State, text_of}
@@ -23,6 +26,20 @@ abbrev pub Refuses : Database → List ℕ → Row → Type 0
 Refuses db text params =
     (c : Compiled) × (understood db.schema text ≡ Ok c) × (limit : Option ℕ) × (stop : Option Error)
     × Does limit at_once params db (text_of text c) c.returning c.command (Err stop)
+
+-- the place of the table whose rows the command writes or takes out
+abbrev pub written_table : Command → Option ℕ
+written_table (InsertOr at way from clauses) = Some at
+written_table (Delete at q) = Some at
+written_table _ = None
+
+-- The same, while it writes the rows: no foreign key is tested before they are written.
+abbrev pub RefusesRows : Database → List ℕ → Row → Type 0
+RefusesRows db text params =
+    (c : Compiled) × (understood db.schema text ≡ Ok c) × (limit : Option ℕ) × (stop : Option Error)
+    × (table : Table) × (option_and_then (slice_get db.schema.tables) (written_table c.command) ≡ Some table)
+    × WritesRows (record { limit = limit; keys = Enforced; schema = db.schema; table = table; params = params })
+    db.trees c.command (Err stop)
 
 -- a call of the disk failed in between, or the connection was shut before
 abbrev pub IsDown : State → State → Type 0

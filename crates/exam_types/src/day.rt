@@ -100,7 +100,8 @@ impl Day {
         })
     }
 
-    fn text(self) -> ShortText
+    /// The text `YYYY-MM-DD`. Takes no memory.
+    pub fn text(self) -> ShortText
         ensures text { result.items ≡ spec.day_text self }
         ensures range { IsDay self }
     {

@@ -122,7 +122,7 @@ impl ShortSpelling for Decimal {
 }
 
 /// Appends a decimal without leading zeros.
-#[tactic(auto, using(crate::proofs::NumeralFacts::decimal_one, crate::proofs::NumeralFacts::decimal_more, crate::proofs::NumeralFacts::decimal_length))]
+#[tactic(auto, using(crate::proofs::NumeralFacts::decimal_one, crate::proofs::NumeralFacts::decimal_length))]
 fn push_decimal(text: &mut ShortText, number: u32)
     requires { array_vec_len text.old + length (decimal number) ≤ 16 }
     ensures text { text.new.items ≡ text.old.items ++ decimal number }

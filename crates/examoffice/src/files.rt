@@ -1,4 +1,9 @@
-//! The database at a path.
+//! The database and the import file at a path.
+ghost use Rattle.std.specs.Prelude.{◌≡◌, IfErr, IsTrue};
+ghost use Rattle.exam_store.specs.Faults.{is_store_refusal};
+ghost use Rattle.exam_job.specs.Reading.{IsReadFault};
+
+use exam_job::JobFault;
 use exam_store::Store;
 use exam_types::Refusal;
 use sqlite::{Connection, Error, ErrorCode, FileFrom, FileStore, Unknown};
@@ -10,13 +15,17 @@ use std::io::ErrorKind;
 pub type OfficeFile = FileStore<FileFrom<Unknown>>;
 
 /// Opens the office at the path, or makes an empty one where nothing is.
-pub fn create_office(rt: &HostRuntime, path: &str) -> Result<Store<OfficeFile>, Refusal> {
+pub fn create_office(rt: &HostRuntime, path: &str) -> Result<Store<OfficeFile>, Refusal>
+    ensures { IfErr result (λ refusal. IsTrue (is_store_refusal refusal)) }
+{
     let conn = open_database(rt, path)?;
     Store::create(rt.alloc(), conn).map_err(|(refusal, conn)| close_after(refusal, conn))
 }
 
 /// Opens the office at the path. Where nothing is there is no office, and no file is made.
-pub fn open_office(rt: &HostRuntime, path: &str) -> Result<Store<OfficeFile>, Refusal> {
+pub fn open_office(rt: &HostRuntime, path: &str) -> Result<Store<OfficeFile>, Refusal>
+    ensures { IfErr result (λ refusal. IsTrue (is_store_refusal refusal)) }
+{
     if is_missing(rt, path) {
         return Err(Refusal::BadStore);
     }
@@ -29,6 +38,27 @@ pub fn close_office(store: Store<OfficeFile>) {
     let _ = store.close().close();
 }
 
+/// Opens an import file.
+pub fn open_import(rt: &HostRuntime, path: &str) -> Result<File, JobFault>
+    ensures { IfErr result IsReadFault }
+{
+    match File::open(rt, path) {
+        Ok(file) => Ok(file),
+        Err(error) => Err(open_fault(error.kind())),
+    }
+}
+
+/// Why a file could not be opened.
+fn open_fault(kind: ErrorKind) -> JobFault
+    ensures { IsReadFault result }
+{
+    if kind == ErrorKind::OutOfMemory {
+        JobFault::Refused(Refusal::NoMemory)
+    } else {
+        JobFault::File
+    }
+}
+
 fn is_missing(rt: &HostRuntime, path: &str) -> bool {
     match File::open(rt, path) {
         Ok(_) => false,
@@ -36,7 +66,9 @@ fn is_missing(rt: &HostRuntime, path: &str) -> bool {
     }
 }
 
-fn open_database(rt: &HostRuntime, path: &str) -> Result<Connection<OfficeFile>, Refusal> {
+fn open_database(rt: &HostRuntime, path: &str) -> Result<Connection<OfficeFile>, Refusal>
+    ensures { IfErr result (λ refusal. IsTrue (is_store_refusal refusal)) }
+{
     match Connection::open_from(rt, path, false, Unknown) {
         Ok(conn) => Ok(conn),
         Err((error, _)) => Err(open_refusal(&error)),
@@ -44,7 +76,9 @@ fn open_database(rt: &HostRuntime, path: &str) -> Result<Connection<OfficeFile>,
 }
 
 /// A file that is no database holds no office.
-fn open_refusal(error: &Error) -> Refusal {
+fn open_refusal(error: &Error) -> Refusal
+    ensures { IsTrue (is_store_refusal result) }
+{
     match error {
         Error::SqliteFailure(ErrorCode::OutOfMemory) => Refusal::NoMemory,
         Error::SqliteFailure(ErrorCode::NotADatabase) => Refusal::BadStore,
@@ -52,7 +86,9 @@ fn open_refusal(error: &Error) -> Refusal {
     }
 }
 
-fn close_after(refusal: Refusal, conn: Connection<OfficeFile>) -> Refusal {
+fn close_after(refusal: Refusal, conn: Connection<OfficeFile>) -> Refusal
+    ensures { result ≡ refusal }
+{
     let _ = conn.close();
     refusal
 }

@@ -1,7 +1,7 @@
 //! The office on a port of this machine.
 use crate::files::OfficeFile;
-use crate::report::{DONE, JobFault, print, print_error, serving_line};
 use exam_http::{HttpFault, serve_one};
+use exam_job::{JobFault, print, print_error, serving_line};
 use exam_store::Store;
 use exam_types::Day;
 use std::io::{self, ErrorKind, Read, Write};
@@ -59,19 +59,19 @@ pub fn serve(
     store: &mut Store<OfficeFile>,
     today: Day,
     port: u16,
-) -> Result<u8, JobFault> {
+) -> Result<(), JobFault> {
     let address = SocketAddrV4::new(Ipv4Addr::LOCALHOST, port);
     let Ok(listener) = TcpListener::bind(rt, address) else {
         return Err(JobFault::Net);
     };
-    print(&mut rt.stdout(), serving_line(port).as_str())?;
+    print(&mut rt.stdout(), serving_line(port).as_slice())?;
     for stream in listener.incoming().take(MOST_CONNECTIONS) {
         match stream {
             Ok(stream) => serve_connection(rt, store, today, &stream),
             Err(_) => return Err(JobFault::Net),
         }
     }
-    Ok(DONE)
+    Ok(())
 }
 
 /// Serves one request, and tells the fault where the connection failed.
@@ -87,8 +87,8 @@ fn serve_connection(
     };
     match served {
         Ok(()) => {}
-        Err(HttpFault::Read) => print_error(&mut rt.stderr(), "fault 41\n"),
-        Err(HttpFault::Write) => print_error(&mut rt.stderr(), "fault 42\n"),
+        Err(HttpFault::Read) => print_error(&mut rt.stderr(), b"fault 41\n"),
+        Err(HttpFault::Write) => print_error(&mut rt.stderr(), b"fault 42\n"),
     }
 }
 

@@ -2,11 +2,12 @@
 mod closing;
 mod doctored;
 mod kept_rows;
+mod outputs;
 mod reopening;
 mod requests;
 mod stopping;
 
-use crate::job::run_job;
+use exam_job::run_job;
 use exam_line::parse_line;
 use exam_store::Store;
 use sqlite::{Alter, MemStore};

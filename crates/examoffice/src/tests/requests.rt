@@ -1,4 +1,6 @@
 //! A candidate's requests over an office in memory.
+mod sockets;
+
 use super::{ONE_ADDED, ONE_ENTRY, Row, base_office, expect_all};
 use exam_http::serve_one;
 use exam_store::Store;

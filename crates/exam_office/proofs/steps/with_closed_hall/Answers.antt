@@ -25,4 +25,4 @@ returns-clause-ok c =
     closing_accepted c.args.office.now c.is_good.ensures c.args.session c.args.hall c.args.today c.in_ok-resettled.field-0 (relations_of c.in_ok-facts.facts)
     (ap (λ r. closing_refusal r c.args.session c.args.hall) (sym c.facts.ensures) ∙ c.in_ok-facts.ensures.checked)
     (c.in_ok-facts.ensures.ok ∙ ap (λ r. without_opening r c.args.session c.args.hall) c.facts.ensures)
-    c.in_ok-resettled.ensures.relations c.in_ok-resettled.ensures.rising c.in_ok-resettled.ensures.plans
+    c.in_ok-resettled.ensures.relations c.in_ok-resettled.ensures.order c.in_ok-resettled.ensures.rising c.in_ok-resettled.ensures.plans

@@ -36,5 +36,5 @@ returns-clause-ok c =
     (decision_accepted c.args.office.now c.is_good.ensures c.args.decision.now c.args.today c.in_ok-next.next (relations_of c.in_ok-facts.facts)
     (ap (λ (r : Relations). decision_refusal r c.args.today c.args.decision.now) (sym c.facts.ensures) ∙ c.in_ok-facts.ensures.checked)
     (c.in_ok-facts.ensures.ok ∙ ap (λ (r : Relations). with_decision r c.args.decision.now) c.facts.ensures)
-    c.in_ok-next.ensures.relations c.in_ok-next.ensures.rising
+    c.in_ok-next.ensures.relations c.in_ok-next.ensures.order c.in_ok-next.ensures.rising
     (subst (λ first. (s : Code) → IsRepaired (relations_of c.in_ok-facts.facts) first c.args.office.now.seats c.in_ok-next.next.seats s) c.appellant.ensures c.in_ok-next.ensures.plans))

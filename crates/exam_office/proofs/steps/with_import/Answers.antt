@@ -25,6 +25,6 @@ returns-clause-ok c =
     step_accepted c.args.import.now c.args.today c.args.office.now c.in_ok-resettled.field-0 c.args.import.now.rows (relations_of c.in_ok-facts.facts) c.in_ok-facts.reply refl
     (ap (λ r. rows_refusal r c.args.import.now.rows) (sym c.facts.ensures) ∙ c.in_ok-facts.ensures.checked)
     (c.in_ok-facts.ensures.ok ∙ ap (λ r. with_rows r c.args.import.now.rows) c.facts.ensures)
-    c.in_ok-resettled.ensures.limits c.in_ok-resettled.ensures.relations
+    c.in_ok-resettled.ensures.limits c.in_ok-resettled.ensures.relations c.in_ok-resettled.ensures.order
     (c.in_ok-facts.ensures.reply ∙ ap (λ r. import_reply r c.args.import.now.rows) c.facts.ensures)
     c.in_ok-resettled.ensures.rising c.is_good.ensures c.in_ok-resettled.ensures.plans

@@ -37,4 +37,4 @@ returns-clause-ok c =
     (ap (λ (r : Relations). standing_refusal r c.args.office.now.seats c.args.today c.args.lodging.now) (sym c.facts.ensures)
     ∙ ap (λ (s : Seats). standing_refusal (relations_of c.facts.result.now) s c.args.today c.args.lodging.now) (sym c.seats.ensures) ∙ c.in_ok-facts.ensures.checked)
     c.in_ok-resettled.ensures.limits (c.in_ok-facts.ensures.ok ∙ ap (λ (r : Relations). with_lodging r c.args.today c.args.lodging.now) c.facts.ensures)
-    c.in_ok-resettled.ensures.relations c.stored_state-state.ensures c.in_ok-resettled.ensures.rising c.in_ok-resettled.ensures.plans
+    c.in_ok-resettled.ensures.relations c.in_ok-resettled.ensures.order c.stored_state-state.ensures c.in_ok-resettled.ensures.rising c.in_ok-resettled.ensures.plans

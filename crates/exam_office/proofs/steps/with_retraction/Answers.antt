@@ -33,4 +33,4 @@ returns-clause-ok c =
     retraction_accepted c.args.office.now c.is_good.ensures c.args.number c.args.reference c.args.today c.in_ok-resettled.field-0 (relations_of c.in_ok-facts.facts) c.is_in_order.ensures.tables
     (ap (λ (r : Relations). retraction_refusal r c.args.number c.args.reference) (sym c.facts.ensures) ∙ c.in_ok-facts.ensures.checked)
     (c.in_ok-facts.ensures.ok ∙ ap (λ (r : Relations). with_retraction r c.args.number c.args.reference) c.facts.ensures)
-    c.in_ok-resettled.ensures.relations c.in_ok-resettled.ensures.rising c.in_ok-resettled.ensures.plans
+    c.in_ok-resettled.ensures.relations c.in_ok-resettled.ensures.order c.in_ok-resettled.ensures.rising c.in_ok-resettled.ensures.plans

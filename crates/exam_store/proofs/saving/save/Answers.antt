@@ -10,4 +10,5 @@ returns-clause-made g c =
 
 pub returns-clause-failed : goal.returns-clause-failed
 returns-clause-failed g c = λ ended clean ours.
-    fails_to_save c.args.old.now c.args.new.now c.in_ok-changes.changes (state g.S.Store c.args.conn.now) (state g.S.Store c.save_changes.new.conn) c.in_ok-changes.ensures.turns c.save_changes.result (c.save_changes.ensures.failed ended clean ours)
+    fails_to_save c.args.old.now c.args.new.now c.in_ok-changes.changes (state g.S.Store c.args.conn.now) (state g.S.Store c.save_changes.new.conn) c.in_ok-changes.ensures.turns
+    c.show_good.ensures.good c.show_good-2.ensures.good c.show_good.ensures.rises c.show_good-2.ensures.rises c.save_changes.result (c.save_changes.ensures.failed ended clean ours)

@@ -1,0 +1,6 @@
+mod Reading
+mod Carried
+mod KeptOffice
+mod Listing
+mod OneOffice
+mod Asked

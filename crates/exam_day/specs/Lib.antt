@@ -1,0 +1,4 @@
+pub mod Orders
+pub mod Following
+pub mod Printing
+pub mod Memory

@@ -1,0 +1,58 @@
+-- What an order says.
+use Rattle.std.specs.Prelude.{ℕ, List, [], ◌∷◌, map, Option, Some, None, Result, Ok, Err, option_and_then}
+use Rattle.std.specs.Prelude.{string_bytes}
+use Rattle.clap.specs.Words.{Text, fault_of}
+use Rattle.clap.specs.declared.error.kind.ErrorKind.{ErrorKind}
+use Rattle.exam_types.specs.declared.refusal.Refusal.{Refusal}
+use Rattle.exam_rules.specs.Relations.{Code}
+use Rattle.exam_office.specs.declared.command.Command.{Command}
+use Rattle.exam_office.specs.declared.command.Command.TheVariants as command
+use Rattle.exam_office.specs.Imports.{ImportRows}
+use Rattle.exam_files.specs.ImportFiles.{import_of}
+use Rattle.exam_line.specs.Grammar.{grammar}
+use Rattle.exam_line.specs.Lines.{Said, Task, said}
+use Rattle.exam_line.specs.Lines as line
+use Rattle.exam_line.specs.declared.line.Sheet.{Sheet}
+use Rattle.exam_day.specs.declared.orders.Order.{Order}
+
+-- the words of a command line, and the bytes of the file that it imports
+pub record Given : Type 0 where
+  pub words : List Text
+  pub file : List ℕ
+
+abbrev pub shown : Order → Given
+shown order = record { words = map string_bytes order.words.now; file = order.file.now }
+
+-- what is said, where nothing is wrong with the words
+abbrev pub said_unless : List ErrorKind → Option Said → Option Said
+said_unless [] answer = answer
+said_unless (fault ∷ faults) answer = None
+
+-- what words say, where `clap` takes them
+unfoldable pub line_of : List Text → Option Said
+line_of words = said_unless (fault_of grammar words) (said words)
+
+-- the command to import what a file denotes, or its refusal
+abbrev pub import_command : Result ImportRows Refusal → Result Command Refusal
+import_command (Ok rows) = Ok (command.Import rows)
+import_command (Err refusal) = Err refusal
+
+-- the command of the office, or why the file denotes none; none where the line makes, serves or prints
+abbrev pub command_of : Task → List ℕ → Option (Result Command Refusal)
+command_of line.init file = None
+command_of (line.import kind path) file = Some (import_command (import_of kind file))
+command_of (line.withdraw number paper) file = Some (Ok (command.Withdraw number paper))
+command_of (line.reinstate number paper) file = Some (Ok (command.Reinstate number paper))
+command_of (line.close_hall session hall) file = Some (Ok (command.CloseHall session hall))
+command_of (line.decide decision) file = Some (Ok (command.Decide decision))
+command_of (line.serve port) file = None
+command_of (line.print session sheet) file = None
+
+-- the session and the sheet of a line that prints one
+abbrev pub sheet_of : Task → Option (Code × Sheet)
+sheet_of (line.print session sheet) = Some (session, sheet)
+sheet_of other = None
+
+-- the session and the sheet that words ask for
+abbrev pub sheet_asked : List Text → Option (Code × Sheet)
+sheet_asked words = option_and_then (λ s. sheet_of s.task) (line_of words)

@@ -1,0 +1,22 @@
+-- The sheet that words ask for.
+use Rattle.std.specs.Prelude.{◌≡◌, ◌⊎◌, ℕ, List, Option, Some, None, Result, Err}
+use Rattle.exam_rules.specs.Relations.{Code}
+use Rattle.exam_office.specs.State.{State}
+use Rattle.exam_line.specs.declared.line.LineFault.{LineFault}
+use Rattle.exam_line.specs.declared.line.LineFault.TheVariants.{NoMemory}
+use Rattle.exam_line.specs.declared.line.Sheet.{Sheet}
+use Rattle.exam_job.specs.Sheets.{PrintsSheet}
+use Rattle.exam_job.specs.declared.report.JobFault.{JobFault}
+use Rattle.exam_day.specs.Following.{Outcome, told}
+use Rattle.exam_day.specs.declared.orders.OrderFault.TheVariants.{Line}
+
+-- Words that ask for no sheet print nothing, nor does any where there is no memory to read them; the sheet that
+-- words ask for is printed of the office.
+abbrev pub PrintsAsked : {W : Type 0} → (W → Option (List ℕ)) → State → Option (Code × Sheet) → W → Outcome → W
+    → Type 0
+PrintsAsked contents office None before outcome after =
+    (fault : LineFault) × (outcome ≡ Err (Line fault)) × (after ≡ before)
+PrintsAsked contents office (Some asked) before outcome after =
+    ((outcome ≡ Err (Line NoMemory)) × (after ≡ before))
+    ⊎ ((job : Result (Unit {0}) JobFault) × (outcome ≡ told job)
+    × PrintsSheet contents office asked.0 asked.1 before job after)

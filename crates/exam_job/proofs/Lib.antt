@@ -1,0 +1,4 @@
+pub mod Given
+pub mod Told
+pub mod Shown
+pub mod Imported

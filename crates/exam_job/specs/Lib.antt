@@ -1,0 +1,4 @@
+pub mod Printed
+pub mod Reading
+pub mod Sheets
+pub mod Jobs

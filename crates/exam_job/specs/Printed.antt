@@ -1,0 +1,107 @@
+-- The lines that the program prints.
+use Rattle.std.specs.Prelude.{◌≡◌, ℕ, List, ◌++◌, Option, Result, Ok, Err, codes}
+use Rattle.std.specs.Fmt.{decimal}
+use Rattle.std.specs.Io.KnownBytes.{Appends, Keeps}
+use Rattle.exam_types.specs.Days.{day_text}
+use Rattle.exam_types.specs.Refusals.{refusal_number}
+use Rattle.exam_types.specs.declared.refusal.Refusal.{Refusal}
+use Rattle.exam_types.specs.declared.refusal.Refusal.TheVariants.{BadRow, PastClosing, RowConflict}
+use Rattle.exam_office.specs.Words.{state_word}
+use Rattle.exam_office.specs.declared.command.AppealState.{AppealState}
+use Rattle.exam_office.specs.declared.command.Reply.{Reply}
+use Rattle.exam_office.specs.declared.command.Reply.TheVariants as reply
+use Rattle.exam_files.specs.Places as places
+use Rattle.exam_files.specs.declared.sheet_fault.SheetFault.{SheetFault}
+use Rattle.exam_files.specs.declared.sheet_fault.SheetFault.TheVariants as sheet
+use Rattle.exam_send.specs.Sending.{AppendsBeginning}
+use Rattle.exam_job.specs.declared.report.JobFault.{JobFault}
+use Rattle.exam_job.specs.declared.report.JobFault.TheVariants as fault
+
+-- ---- their texts
+
+-- a hall, or a dash for none
+abbrev pub hall_word : Option (List ℕ) → List ℕ
+hall_word = places.hall_word
+
+abbrev pub imported_text : ℕ → ℕ → ℕ → List ℕ
+imported_text added changed same =
+    codes "added " ++ decimal added ++ codes " changed " ++ decimal changed ++ codes " same " ++ decimal same
+    ++ codes "\n"
+
+abbrev pub lodged_text : AppealState → List ℕ
+lodged_text state = codes "lodged " ++ state_word state ++ codes "\n"
+
+abbrev pub decided_text : AppealState → Option (List ℕ) → ℕ → List ℕ
+decided_text state seat moved =
+    codes "decided " ++ state_word state ++ codes " hall " ++ hall_word seat ++ codes " moved " ++ decimal moved
+    ++ codes "\n"
+
+-- what is printed of an accepted command
+abbrev pub reply_text : Reply → List ℕ
+reply_text (reply.Imported added changed same) = imported_text added changed same
+reply_text reply.Withdrawn = codes "withdrawn\n"
+reply_text reply.Reinstated = codes "reinstated\n"
+reply_text reply.Closed = codes "closed\n"
+reply_text (reply.Lodged state) = lodged_text state
+reply_text reply.Retracted = codes "retracted\n"
+reply_text (reply.Decided state seat moved) = decided_text state seat moved
+reply_text reply.Unchanged = codes "unchanged\n"
+
+abbrev pub bad_row_text : ℕ → ℕ → List ℕ
+bad_row_text place column =
+    codes "refused 1 record " ++ decimal place ++ codes " column " ++ decimal column ++ codes "\n"
+
+abbrev pub row_conflict_text : ℕ → List ℕ
+row_conflict_text place = codes "refused 3 record " ++ decimal place ++ codes "\n"
+
+abbrev pub past_closing_text : ℕ → List ℕ
+past_closing_text day = codes "refused 13 last day " ++ day_text day ++ codes "\n"
+
+abbrev pub number_text : ℕ → List ℕ
+number_text number = codes "refused " ++ decimal number ++ codes "\n"
+
+-- what is printed of a refusal: its number, and what it carries
+abbrev pub refusal_text : Refusal → List ℕ
+refusal_text (BadRow place column) = bad_row_text place column
+refusal_text (RowConflict place) = row_conflict_text place
+refusal_text (PastClosing day) = past_closing_text day
+refusal_text other = number_text (refusal_number other)
+
+-- what is printed of a fault
+abbrev pub fault_text : JobFault → List ℕ
+fault_text (fault.Refused refusal) = refusal_text refusal
+fault_text fault.File = codes "file fault\n"
+fault_text fault.Write = codes "write fault\n"
+fault_text fault.Net = codes "net fault\n"
+
+-- what is printed once the port is bound
+abbrev pub serving_text : ℕ → List ℕ
+serving_text port = codes "serving 127.0.0.1 " ++ decimal port ++ codes "\n"
+
+-- ---- what goes out
+
+-- the fault of a sheet that was not written
+abbrev pub fault_of : SheetFault → JobFault
+fault_of (sheet.Refused refusal) = fault.Refused refusal
+fault_of sheet.Write = fault.Write
+
+-- a line on standard output: whole, or a beginning of it where the writer fails
+abbrev pub Prints : {W : Type 0} → (W → Option (List ℕ)) → List ℕ → W → Result (Unit {0}) JobFault → W → Type 0
+Prints contents text before (Ok done) after = Appends (contents before) (contents after) text
+Prints contents text before (Err fault.Write) after = AppendsBeginning (contents before) (contents after) text
+Prints contents text before (Err (fault.Refused refusal)) after = ⊥
+Prints contents text before (Err fault.File) after = ⊥
+Prints contents text before (Err fault.Net) after = ⊥
+
+-- nothing is added
+abbrev pub Flushes : {W : Type 0} → (W → Option (List ℕ)) → W → Result (Unit {0}) JobFault → W → Type 0
+Flushes contents before (Ok done) after = Keeps (contents before) (contents after)
+Flushes contents before (Err failed) after =
+    (failed ≡ fault.Write) × Keeps (contents before) (contents after)
+
+-- the exit status, and what standard error has: nothing new, or the fault's line, of which a beginning goes out
+-- where that writer fails too
+abbrev pub Reports : {W : Type 0} → (W → Option (List ℕ)) → Result (Unit {0}) JobFault → W → ℕ → W → Type 0
+Reports contents (Ok done) before status after = (status ≡ 0) × (after ≡ before)
+Reports contents (Err failed) before status after =
+    (status ≡ 1) × AppendsBeginning (contents before) (contents after) (fault_text failed)

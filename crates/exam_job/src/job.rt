@@ -1,0 +1,136 @@
+//! The commands of the program, over any store, reader and writers.
+ghost use Rattle.std.specs.Prelude.{◌≡◌, IfOk, IfErr};
+ghost use Rattle.exam_types.specs.declared.refusal.Refusal.TheVariants.{NoMemory};
+ghost use Rattle.exam_office.specs.declared.command.Command.TheVariants as command;
+ghost use Rattle.exam_line.specs.Lines.{shown, task_shown};
+ghost use Rattle.exam_job.specs.Jobs as spec;
+
+use crate::lines::reply_line;
+use crate::reading::read_import_file;
+use crate::report::{DONE, JobFault, print, print_fault};
+use crate::sheets::print_sheet;
+use exam_line::{Job, Line};
+use exam_office::{Command, Decision, Kind, Reply};
+use exam_store::Store;
+use exam_types::{Day, Refusal};
+use sqlite::Alter;
+use std::alloc::Global;
+use std::io::{Read, Write};
+
+/// Carries out the line's command over the store, and gives the exit status. The reader is the import file; the writers
+/// are standard output and standard error.
+pub fn run_job<S: Alter, R: Read, O: Write, E: Write>(
+    alloc: Global,
+    line: &Line<'_>,
+    store: &mut Store<S>,
+    reader: &mut R,
+    out: &mut O,
+    err: &mut E,
+) -> u8
+    ensures { spec.Runs S.Store O.contents E.contents (shown line.now) (R.remaining reader.old)
+        (R.remaining reader.new) store.old out.old err.old result store.new out.new err.new }
+{
+    match carry_out(alloc, line, store, reader, out) {
+        Ok(()) => DONE,
+        Err(fault) => print_fault(&fault, err),
+    }
+}
+
+/// Carries out the line's command over the store. After `Write` a command stands, though its line went out in part.
+pub fn carry_out<S: Alter, R: Read, O: Write>(
+    alloc: Global,
+    line: &Line<'_>,
+    store: &mut Store<S>,
+    reader: &mut R,
+    out: &mut O,
+) -> Result<(), JobFault>
+    ensures { spec.Does S.Store O.contents (task_shown line.now.job) line.now.today (R.remaining reader.old)
+        (R.remaining reader.new) store.old out.old result store.new out.new }
+{
+    match &line.job {
+        // Opening the store was all that there is to do.
+        Job::Init => print(out, b"ready\n"),
+        Job::Import { kind, .. } => import(alloc, store, *kind, line.today, reader, out),
+        Job::Withdraw { number, paper } => {
+            let command = Command::Withdraw(*number, *paper);
+            carry_out_command(alloc, store, &command, line.today, out)
+        }
+        Job::Reinstate { number, paper } => {
+            let command = Command::Reinstate(*number, *paper);
+            carry_out_command(alloc, store, &command, line.today, out)
+        }
+        Job::CloseHall { session, hall } => {
+            let command = Command::CloseHall(*session, *hall);
+            carry_out_command(alloc, store, &command, line.today, out)
+        }
+        Job::Decide(decision) => decide(alloc, store, decision, line.today, out),
+        // The program serves over sockets, and there is nothing to do over these outputs.
+        Job::Serve { .. } => Ok(()),
+        Job::Sheet { session, sheet } => print_sheet(alloc, store, session, sheet, out),
+    }
+}
+
+/// Reads an import file and imports it.
+fn import<S: Alter, R: Read, O: Write>(
+    alloc: Global,
+    store: &mut Store<S>,
+    kind: Kind,
+    today: Day,
+    reader: &mut R,
+    out: &mut O,
+) -> Result<(), JobFault>
+    ensures { spec.ImportsFile S.Store O.contents kind today (R.remaining reader.old) (R.remaining reader.new)
+        store.old out.old result store.new out.new }
+{
+    let import = read_import_file(alloc, kind, reader)?;
+    carry_out_command(alloc, store, &Command::Import(import), today, out)
+}
+
+/// Carries out a decision, which the command takes a copy of.
+fn decide<S: Alter, O: Write>(
+    alloc: Global,
+    store: &mut Store<S>,
+    decision: &Decision,
+    today: Day,
+    out: &mut O,
+) -> Result<(), JobFault>
+    ensures { spec.Decides S.Store O.contents decision.now today store.old out.old result store.new out.new }
+{
+    let command = Command::Decide(copy_of(decision)?);
+    carry_out_command(alloc, store, &command, today, out)
+}
+
+fn copy_of(decision: &Decision) -> Result<Decision, Refusal>
+    ensures same { IfOk result (λ copy. copy ≡ decision.now) }
+    ensures memory { IfErr result (λ e. e ≡ NoMemory) }
+{
+    Ok(Decision {
+        number: decision.number,
+        reference: decision.reference,
+        outcome: decision.outcome,
+        answer: decision.answer.copy()?,
+    })
+}
+
+/// Carries out a command of the office, and prints what it answers.
+fn carry_out_command<S: Alter, O: Write>(
+    alloc: Global,
+    store: &mut Store<S>,
+    command: &Command,
+    today: Day,
+    out: &mut O,
+) -> Result<(), JobFault>
+    ensures { spec.Commands S.Store O.contents command.now today store.old out.old result store.new out.new }
+{
+    tell(store.apply(alloc, command, today), out)
+}
+
+/// Prints what a command answered; a refusal is told elsewhere.
+fn tell<O: Write>(answered: Result<Reply, Refusal>, out: &mut O) -> Result<(), JobFault>
+    ensures { spec.TellsReply O.contents answered out.old result out.new }
+{
+    match answered {
+        Ok(reply) => print(out, reply_line(&reply).as_slice()),
+        Err(refusal) => Err(JobFault::Refused(refusal)),
+    }
+}

@@ -1,0 +1,12 @@
+//! What a command line of the program does: to the office in a store, and to its outputs.
+#![tactic(auto)]
+
+mod job;
+mod lines;
+mod reading;
+mod report;
+mod sheets;
+
+pub use job::{carry_out, run_job};
+pub use lines::{ShortLine, fault_line, reply_line, serving_line};
+pub use report::{DONE, FAILED, JobFault, NOT_UNDERSTOOD, flush, print, print_error, print_fault};

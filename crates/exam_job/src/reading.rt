@@ -1,0 +1,71 @@
+//! An import file, read and taken apart.
+ghost use Rattle.std.specs.Prelude.{◌≡◌, ◌<◌, ◌≤◌, ◌++◌, length, take, IfOk, IfErr, OnOk, OnErr};
+ghost use Rattle.std.specs.Io.KnownBytes.{Consumes, IsAtEnd, Keeps};
+ghost use Rattle.exam_job.specs.declared.report.JobFault.TheVariants.{File};
+ghost use Rattle.exam_types.specs.declared.refusal.Refusal.TheVariants.{NoMemory};
+ghost use Rattle.exam_job.specs.Reading as spec;
+
+use crate::report::JobFault;
+use exam_files::read_import;
+use exam_office::{Import, Kind};
+use exam_types::Refusal;
+use std::alloc::Global;
+use std::io::Read;
+
+/// One byte more than an import file may have: no more is read of one than shows that it is too long.
+const MOST_READ: usize = 4_194_305;
+
+/// The most bytes that one read asks for.
+const PIECE: usize = 65_536;
+
+/// Reads an import file of the kind.
+pub fn read_import_file<R: Read>(
+    alloc: Global,
+    kind: Kind,
+    reader: &mut R,
+) -> Result<Import, JobFault>
+    ensures { spec.ReadsImport kind (R.remaining reader.old) (R.remaining reader.new) result }
+{
+    let bytes = read_file(alloc, reader)?;
+    Ok(read_import(alloc, kind, bytes.as_slice())?)
+}
+
+/// The bytes of a file, of one that is too long the first of them.
+fn read_file<R: Read>(alloc: Global, reader: &mut R) -> Result<Vec<u8>, JobFault>
+    ensures ok { IfOk result (λ bytes.
+        spec.ReadsAll (R.remaining reader.old) (R.remaining reader.new) bytes.items) }
+    ensures err { IfErr result spec.IsReadFault }
+    ensures read { OnErr result (spec.Reads (R.remaining reader.old) (R.remaining reader.new)) }
+{
+    let mut bytes = Vec::new(alloc);
+    let mut piece = [0; PIECE];
+    while bytes.len() < MOST_READ {
+        let room = PIECE.min(MOST_READ - bytes.len());
+        let count = read_piece(reader, &mut piece[..room])?;
+        if count == 0 {
+            return Ok(bytes);
+        }
+        append(&mut bytes, &piece[..count])?;
+    }
+    Ok(bytes)
+}
+
+fn append(bytes: &mut Vec<u8>, piece: &[u8]) -> Result<(), Refusal>
+    ensures ok { OnOk result (bytes.new.items ≡ bytes.old.items ++ piece.now) }
+    ensures memory { IfErr result (λ e. e ≡ NoMemory) }
+{
+    Ok(bytes.extend_from_slice(piece)?)
+}
+
+/// How many bytes one read gave: none at the end of the file.
+fn read_piece<R: Read>(reader: &mut R, piece: &mut [u8]) -> Result<usize, JobFault>
+    requires { 0 < length piece.old }
+    ensures bound { IfOk result (λ count. count ≤ length piece.new) }
+    ensures given { IfOk result (λ count.
+        Consumes (R.remaining reader.old) (R.remaining reader.new) (take count piece.new)) }
+    ensures end { IfOk result (λ count. count ≡ 0 → IsAtEnd (R.remaining reader.new)) }
+    ensures err { IfErr result (λ fault. fault ≡ File) }
+    ensures kept { OnErr result (Keeps (R.remaining reader.old) (R.remaining reader.new)) }
+{
+    reader.read(piece).map_err(|_| JobFault::File)
+}

@@ -1,0 +1,83 @@
+//! What the program tells on its outputs, and its exit statuses.
+ghost use Rattle.std.specs.Prelude.{◌≡◌, Err};
+ghost use Rattle.exam_files.specs.declared.sheet_fault.SheetFault.{SheetFault};
+ghost use Rattle.exam_send.specs.Sending.{AppendsBeginning};
+ghost use Rattle.exam_job.specs.Printed as spec;
+ghost use Rattle.exam_job.specs.declared.report.JobFault.TheVariants.{Refused};
+
+use crate::lines::fault_line;
+use exam_files::SheetFault;
+use exam_send::send;
+use exam_types::Refusal;
+use std::io::Write;
+
+/// The command was carried out.
+pub const DONE: u8 = 0;
+/// The command was refused, or a file failed.
+pub const FAILED: u8 = 1;
+/// The line was not understood.
+pub const NOT_UNDERSTOOD: u8 = 2;
+
+/// Why a command was not carried out, or its line not printed.
+#[derive(Clone, Copy, Debug, PartialEq, Eq)]
+pub enum JobFault {
+    Refused(Refusal),
+    /// The import file cannot be read.
+    File,
+    /// Standard output failed.
+    Write,
+    /// The port cannot be bound, or a connection cannot be accepted.
+    Net,
+}
+
+impl From<Refusal> for JobFault {
+    ghost from_gives = { λ refusal fault. fault ≡ Refused refusal };
+
+    fn from(refusal: Refusal) -> JobFault {
+        JobFault::Refused(refusal)
+    }
+}
+
+impl From<SheetFault> for JobFault {
+    ghost from_gives = { λ sheet fault. fault ≡ spec.fault_of sheet };
+
+    fn from(fault: SheetFault) -> JobFault {
+        match fault {
+            SheetFault::Refused(refusal) => JobFault::Refused(refusal),
+            SheetFault::Write => JobFault::Write,
+        }
+    }
+}
+
+/// Prints a line on standard output.
+pub fn print<O: Write>(out: &mut O, line: &[u8]) -> Result<(), JobFault>
+    ensures { spec.Prints O.contents line.now out.old result out.new }
+{
+    if send(out, line).is_err() {
+        return Err(JobFault::Write);
+    }
+    flush(out)
+}
+
+/// Hands on what standard output may hold back.
+pub fn flush<O: Write>(out: &mut O) -> Result<(), JobFault>
+    ensures { spec.Flushes O.contents out.old result out.new }
+{
+    out.flush().map_err(|_| JobFault::Write)
+}
+
+/// Prints a fault on standard error, and gives the exit status. If that fails too, the status alone tells it.
+pub fn print_fault<E: Write>(fault: &JobFault, err: &mut E) -> u8
+    ensures { spec.Reports E.contents (Err fault.now) err.old result err.new }
+{
+    print_error(err, fault_line(fault).as_slice());
+    FAILED
+}
+
+/// Prints a line on standard error, of which a beginning goes out where that fails.
+pub fn print_error<E: Write>(err: &mut E, line: &[u8])
+    ensures { AppendsBeginning (E.contents err.old) (E.contents err.new) line.now }
+{
+    // There is nowhere left to tell that it failed.
+    let _ = send(err, line);
+}

@@ -1,0 +1,10 @@
+use Rattle.std.proofs.Common.{◌≡◌, ◌++◌, subst, rules}
+use Rattle.std.specs.Prelude.{OnErr}
+use Rattle.exam_request.specs.Answer.{text_with}
+use Rattle.exam_send.specs.Sending.{AppendsBeginning}
+use Rattle.exam_request.proofs.answers.send_answer.Goals as goal
+
+pub returns-clause-err : goal.returns-clause-err
+returns-clause-err g c =
+    let all : c.as_slice.result.now ++ c.args.body.now ≡ text_with c.args.status c.args.allow c.args.body.now = search rules in
+    subst (λ text. OnErr c.send_both.result (AppendsBeginning (g.W.Write.contents c.args.writer.now) (g.W.Write.contents c.send_both.new.writer) text)) all c.send_both.ensures.err

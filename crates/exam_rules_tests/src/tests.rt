@@ -1,0 +1,113 @@
+//! Small offices, and what the calls answer on them. A test is data: the facts, and what is so of them. So
+//! the functions that own facts are few, and each is proved once.
+mod scenes;
+mod setups;
+
+use exam_rules::{clashes, problem, sitting};
+use exam_types::Refusal;
+use scenes::{Scene, play};
+use setups::{Fact, Grant, number, school_with, session};
+use std::test::Fail;
+
+#[test]
+fn a_quarter_more_of_ninety_minutes_ends_at_ten_fifty_three(rt: HostRuntime) -> Result<(), Fail> {
+    let facts = [
+        Fact::Paper("MA-1", 90, "-"),
+        Fact::Hall("A", "-", 653),
+        Fact::Hall("B", "-", 652),
+        Fact::Entered(1, "MA-1"),
+        Fact::Arrangement(1, "-", 25),
+    ];
+    let scenes = [
+        Scene::Finish(1, 653),
+        Scene::Fits(1, "A", true),
+        Scene::Fits(1, "B", false),
+    ];
+    play(&rt, &facts, &scenes)
+}
+
+#[test]
+fn a_granted_clash_appeal_turns_the_clash(rt: HostRuntime) -> Result<(), Fail> {
+    let facts = [
+        Fact::Paper("PH-2", 60, "computer"),
+        Fact::Entered(3, "MA-1"),
+        Fact::Entered(3, "PH-2"),
+        Fact::Entered(4, "PH-2"),
+    ];
+    let scenes = [
+        Scene::Sits(3, "MA-1"),
+        Scene::Clash(3, "PH-2"),
+        Scene::Fact(Fact::Granted(3, "S2", Grant::Paper("PH-2"))),
+        Scene::Sits(3, "MA-1"),
+        Scene::Fact(Fact::Granted(3, "S1", Grant::Paper("PH-2"))),
+        Scene::Sits(3, "PH-2"),
+        Scene::Clash(3, "MA-1"),
+    ];
+    play(&rt, &facts, &scenes)
+}
+
+#[test]
+fn a_granted_arrangement_takes_the_place_of_the_imported_one(rt: HostRuntime) -> Result<(), Fail> {
+    let scenes = [
+        Scene::InForce(1, "-", 0),
+        Scene::Fact(Fact::Arrangement(1, "screen", 25)),
+        Scene::InForce(1, "screen", 25),
+        Scene::Fact(Fact::Granted(1, "S1", Grant::Needs("-", 50))),
+        Scene::InForce(1, "-", 50),
+    ];
+    play(&rt, &[Fact::Entered(1, "MA-1")], &scenes)
+}
+
+#[test]
+fn a_granted_hall_appeal_bars_the_hall(rt: HostRuntime) -> Result<(), Fail> {
+    let scenes = [
+        Scene::Fits(1, "B", true),
+        Scene::Fact(Fact::Granted(1, "S1", Grant::AnotherHallThan("B"))),
+        Scene::Fits(1, "B", false),
+        Scene::Fits(1, "A", true),
+    ];
+    play(&rt, &[Fact::Entered(1, "MA-1")], &scenes)
+}
+
+#[test]
+fn desks_are_in_order_of_papers(rt: HostRuntime) -> Result<(), Fail> {
+    let facts = [
+        Fact::Paper("AB-0", 60, "-"),
+        Fact::Entered(1, "MA-1"),
+        Fact::Entered(2, "AB-0"),
+        Fact::Arrangement(2, "step-free", 0),
+    ];
+    let scenes = [
+        Scene::Listed(&[1, 2], 2),
+        Scene::Row(0, &[0, 1], 1),
+        Scene::Row(1, &[0], 0),
+    ];
+    play(&rt, &facts, &scenes)
+}
+
+#[test]
+fn copies_of_facts_are_equal(rt: HostRuntime) -> Result<(), Fail> {
+    let facts = [
+        Fact::Entered(1, "MA-1"),
+        Fact::Granted(1, "S1", Grant::AnotherHallThan("B")),
+    ];
+    let facts = school_with(rt.alloc(), &facts)?;
+    let copy = facts.clone()?;
+    assert!(rt; copy.papers == facts.papers);
+    assert!(rt; copy.halls == facts.halls);
+    assert!(rt; copy.candidates == facts.candidates);
+    assert!(rt; copy.appeals == facts.appeals);
+    Ok(())
+}
+
+#[test]
+fn an_unknown_session_is_refused(rt: HostRuntime) -> Result<(), Fail> {
+    let facts = school_with(rt.alloc(), &[])?;
+    let unknown = session("S9")?;
+    assert!(rt; sitting(&facts, &unknown, number(1)?).is_none());
+    let refusal = problem(rt.alloc(), &facts, &unknown).err();
+    assert_eq!(rt; refusal, Some(Refusal::UnknownSession));
+    let refusal = clashes(rt.alloc(), &facts, &unknown).err();
+    assert_eq!(rt; refusal, Some(Refusal::UnknownSession));
+    Ok(())
+}

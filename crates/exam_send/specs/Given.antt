@@ -1,0 +1,12 @@
+-- What a reader gave.
+use Rattle.std.specs.Prelude.{◌≤◌, ℕ, List, length, Option, IfSome}
+use Rattle.std.specs.Io.KnownBytes.{Consumes}
+
+-- What the bytes of a reader say, of which it gave at most so many: so say those that it gave, and so says
+-- its whole input where that is known.
+pub record Gave (most : ℕ) (old new : Option (List ℕ)) (Says : List ℕ → Type 0) : Type 0 where
+  pub given : List ℕ
+  pub few : length given ≤ most
+  pub consumed : Consumes old new given
+  pub says : Says given
+  pub known : IfSome old Says

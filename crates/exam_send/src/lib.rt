@@ -1,0 +1,6 @@
+//! Bytes to any writer, whole or a beginning of them.
+#![tactic(auto)]
+
+mod sending;
+
+pub use sending::{WriteFailed, send, send_both};

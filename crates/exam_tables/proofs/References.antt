@@ -1,0 +1,102 @@
+-- What the rows of the ten tables refer to: where each has it, no foreign key stands against a statement.
+use Rattle.std.proofs.Common.{◌≡◌, ℕ, List, [], ◌∷◌, Bool, true, refl, subst, ◌∙◌}
+use Rattle.std.specs.Cmp.Derive.{both_true}
+use Rattle.std.specs.List.{AllByRecursion, list_any}
+use Rattle.std.proofs.lemmas.Bool.{or_right}
+use Rattle.std.proofs.lemmas.List.Sorted.{IsPermutation-sym}
+use Rattle.sqlite_value.specs.Order.{Row}
+use Rattle.sqlite_value.specs.Keys.{plain, joined}
+use Rattle.sqlite_trees.specs.Tree.{Trees}
+use Rattle.sqlite_schema.specs.declared.schema.Among.TheVariants as among
+use Rattle.sqlite_schema.specs.Names.{same_name}
+use Rattle.sqlite_schema.specs.Rules.{Refers, agree}
+use Rattle.sqlite_rules.specs.Lists.{Has}
+use Rattle.sqlite_rules.proofs.ListLemmas.{all_has, all_from, some_from, some_has}
+use Rattle.sqlite_rules.proofs.ProbeLemmas.{has_mapped, mapped_has}
+use Rattle.sqlite.specs.Effect.{Database}
+use Rattle.exam_tables.specs.Content.{ContainsIn, Holds, places, bare}
+use Rattle.exam_tables.specs.Tables.{store_schema, stored_session, stored_paper, stored_hall, stored_candidate, stored_opening, stored_entry, stored_arrangement, stored_appeal, stored_seat}
+use Rattle.exam_tables.proofs.Queries.{has_permuted}
+
+-- a foreign key: the tree of the rows that refer to others, the places of their columns, and the tree and the key of those others
+pub record Link : Type 0 where
+  pub child : ℕ
+  pub columns : List ℕ
+  pub parent : ℕ
+  pub key : List ℕ
+
+abbrev pub link : ℕ → List ℕ → ℕ → List ℕ → Link
+link child columns parent key = record { child = child; columns = columns; parent = parent; key = key }
+
+-- the foreign keys of the ten tables, by the rows that are meant
+abbrev pub links : List Link
+links =
+    link 3 (3 ∷ []) 1 (1 ∷ []) ∷ link 8 (1 ∷ []) 1 (1 ∷ []) ∷ link 8 (2 ∷ []) 5 (1 ∷ [])
+    ∷ link 10 (1 ∷ []) 7 (1 ∷ []) ∷ link 10 (2 ∷ []) 3 (1 ∷ []) ∷ link 12 (1 ∷ []) 7 (1 ∷ [])
+    ∷ link 13 (1 ∷ []) 7 (1 ∷ []) ∷ link 13 (3 ∷ []) 1 (1 ∷ [])
+    ∷ link 15 (2 ∷ []) 7 (1 ∷ []) ∷ link 15 (1 ∷ 3 ∷ []) 8 (1 ∷ 2 ∷ []) ∷ []
+
+-- one of these rows is the one that the row refers to
+abbrev pub has_parent : Link → List Row → Row → Bool
+has_parent l parents row = list_any (λ p. agree plain l.key p l.columns row) parents
+
+-- each row has what it refers to
+abbrev pub Stands : Trees → Link → Type 0
+Stands all l = AllByRecursion (λ r. has_parent l (all l.parent) r ≡ true) (all l.child)
+
+abbrev pub Stand : Trees → Type 0
+Stand all = AllByRecursion (Stands all) links
+
+module _ (child_places parent_places : List ℕ) (kept_child child kept_parent parent : List Row) (children : Holds child_places kept_child child) (parents : Holds parent_places kept_parent parent) (test kept_test : Row → Row → Bool)
+    (same : (p r : Row) → kept_test p r ≡ test (bare parent_places p) (bare child_places r)) (stands : AllByRecursion (λ r. list_any (λ p. test p r) parent ≡ true) child) where
+  -- rows that are kept refer as those that are meant
+  kept : (r : Row) → Has kept_child r → list_any (λ p. kept_test p r) kept_parent ≡ true
+  kept r h =
+      let meant : list_any (λ p. test p (bare child_places r)) parent ≡ true =
+      all_has _ child (bare child_places r) stands (has_permuted _ _ _ children.same (mapped_has (bare child_places) kept_child r h)) in
+      let p = some_has (λ p. test p (bare child_places r)) parent meant in
+      let k = has_mapped (bare parent_places) kept_parent p.0 (has_permuted _ _ _ (IsPermutation-sym _ _ parents.same) p.1) in
+      some_from (λ p. kept_test p r) kept_parent k.0 k.1 (same k.0 r ∙ subst (λ q. test q (bare child_places r) ≡ true) k.2 p.2)
+
+module _ (db all : Trees) where
+  from_rows : AllByRecursion (λ t. Holds (places t) (db t.tree) (all t.tree)) store_schema.tables → Stand all → Refers among.All store_schema db
+  unfolding store_schema same_name joined
+  from_rows rows stand = (
+    all_from _ (db 0) (λ r h. refl),
+    (
+      all_from _ (db 1) (λ r h. refl),
+      (
+        all_from _ (db 3) (λ r h. both_true (or_right _ _ (kept (places stored_paper) (places stored_session) _ _ _ _ (rows.1.1.0) (rows.1.0) _ _ (λ p r. refl) (stand.0) r h)) refl),
+        (
+          all_from _ (db 5) (λ r h. refl),
+          (
+            all_from _ (db 7) (λ r h. refl),
+            (
+              all_from _ (db 8) (λ r h. both_true (or_right _ _ (kept (places stored_opening) (places stored_session) _ _ _ _ (rows.1.1.1.1.1.0) (rows.1.0) _ _ (λ p r. refl) (stand.1.0) r h))
+                  (both_true (or_right _ _ (kept (places stored_opening) (places stored_hall) _ _ _ _ (rows.1.1.1.1.1.0) (rows.1.1.1.0) _ _ (λ p r. refl) (stand.1.1.0) r h)) refl)),
+              (
+                all_from _ (db 10) (λ r h. both_true (or_right _ _ (kept (places stored_entry) (places stored_candidate) _ _ _ _ (rows.1.1.1.1.1.1.0) (rows.1.1.1.1.0) _ _ (λ p r. refl) (stand.1.1.1.0) r h))
+                    (both_true (or_right _ _ (kept (places stored_entry) (places stored_paper) _ _ _ _ (rows.1.1.1.1.1.1.0) (rows.1.1.0) _ _ (λ p r. refl) (stand.1.1.1.1.0) r h)) refl)),
+                (
+                  all_from _ (db 12) (λ r h. both_true (or_right _ _ (kept (places stored_arrangement) (places stored_candidate) _ _ _ _ (rows.1.1.1.1.1.1.1.0) (rows.1.1.1.1.0) _ _ (λ p r. refl) (stand.1.1.1.1.1.0) r h)) refl),
+                  (
+                    all_from _ (db 13) (λ r h. both_true (or_right _ _ (kept (places stored_appeal) (places stored_candidate) _ _ _ _ (rows.1.1.1.1.1.1.1.1.0) (rows.1.1.1.1.0) _ _ (λ p r. refl) (stand.1.1.1.1.1.1.0) r h))
+                        (both_true (or_right _ _ (kept (places stored_appeal) (places stored_session) _ _ _ _ (rows.1.1.1.1.1.1.1.1.0) (rows.1.0) _ _ (λ p r. refl) (stand.1.1.1.1.1.1.1.0) r h)) refl)),
+                    (
+                      all_from _ (db 15) (λ r h. both_true (or_right _ _ (kept (places stored_seat) (places stored_candidate) _ _ _ _ (rows.1.1.1.1.1.1.1.1.1.0) (rows.1.1.1.1.0) _ _ (λ p r. refl) (stand.1.1.1.1.1.1.1.1.0) r h))
+                          (both_true (or_right _ _ (kept (places stored_seat) (places stored_opening) _ _ _ _ (rows.1.1.1.1.1.1.1.1.1.0) (rows.1.1.1.1.1.0) _ _ (λ p r. refl) (stand.1.1.1.1.1.1.1.1.1.0) r h)) refl)),
+                      tt,
+                    ),
+                  ),
+                ),
+              ),
+            ),
+          ),
+        ),
+      ),
+    ),
+  )
+
+-- Where each row that is meant has what it refers to, the foreign keys hold.
+pub refers : (db : Database) (all : Trees) → ContainsIn store_schema db all → Stand all → Refers among.All store_schema db.trees
+refers db all was stand = from_rows db.trees all was.rows stand

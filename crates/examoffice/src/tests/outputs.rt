@@ -1,0 +1,141 @@
+//! An import file and a standard output that fail.
+use super::{ONE_ADDED, ONE_ENTRY, Outcome, base_office, expect_done, words_of};
+use exam_job::run_job;
+use exam_line::parse_line;
+use exam_store::Store;
+use sqlite::MemStore;
+use std::alloc::Global;
+use std::io::{self, ErrorKind, Read, Write};
+use std::test::Fail;
+
+/// An import file that fails behind its bytes, which it gives one by one.
+#[derive(Drop)]
+struct Torn<'a> {
+    bytes: &'a [u8],
+}
+
+impl Read for Torn<'_> {
+    fn read(&mut self, buf: &mut [u8]) -> io::Result<usize> {
+        match (self.bytes, buf) {
+            ([first, rest @ ..], [place, ..]) => {
+                *place = *first;
+                self.bytes = rest;
+                Ok(1)
+            }
+            _ => Err(io::Error::from(ErrorKind::Other)),
+        }
+    }
+}
+
+/// An output with room for so many bytes.
+#[derive(Drop)]
+struct Full {
+    taken: Vec<u8>,
+    room: usize,
+}
+
+impl Write for Full {
+    fn write(&mut self, buf: &[u8]) -> io::Result<usize> {
+        let count = buf.len().min(self.room);
+        self.taken.extend_from_slice(&buf[..count])?;
+        self.room -= count;
+        Ok(count)
+    }
+
+    fn flush(&mut self) -> io::Result<()> {
+        Ok(())
+    }
+}
+
+/// Where the entries' file is torn: before its first byte, inside its header, inside its row, behind it.
+const TORN_AT: &[usize] = &[0, 5, 20, ONE_ENTRY.len()];
+
+const NOBODY: &str = "session,number,paper,hall,desk\n";
+
+#[test]
+fn torn_import_changes_nothing(rt: HostRuntime) -> Result<(), Fail> {
+    let mut store = base_office(&rt)?;
+    for at in TORN_AT {
+        let outcome = import_torn(rt.alloc(), &mut store, &ONE_ENTRY.as_bytes()[..*at])?;
+        assert_eq!(rt; outcome.status, 1, "{at}");
+        assert!(rt; outcome.out.is_empty(), "{at}");
+        assert_eq!(rt; outcome.err.as_slice(), "file fault\n".as_bytes(), "{at}");
+        expect_done(&rt, &mut store, "export S1", "", NOBODY)?;
+    }
+    Ok(())
+}
+
+/// Imports entries from a file that fails behind these bytes.
+fn import_torn(alloc: Global, store: &mut Store<MemStore>, bytes: &[u8]) -> Result<Outcome, Fail> {
+    let words = words_of(alloc, "import entries f")?;
+    let mut outcome = Outcome {
+        status: 2,
+        out: Vec::new(alloc),
+        err: Vec::new(alloc),
+    };
+    let mut reader = Torn { bytes };
+    if let Ok(line) = parse_line(alloc, words.as_slice()) {
+        outcome.status = run_job(
+            alloc,
+            &line,
+            store,
+            &mut reader,
+            &mut outcome.out,
+            &mut outcome.err,
+        );
+    }
+    Ok(outcome)
+}
+
+const FIRST_SEATED: &str = "session,number,paper,hall,desk\nS1,0000001,MA-1,A,1\n";
+
+/// Commands whose line is lost behind so many bytes, what is left of it, and what is exported then.
+const LOST: &[(&str, usize, &str, &str)] = &[
+    ("withdraw 0000001 MA-1", 0, "", NOBODY),
+    ("reinstate 0000001 MA-1", 4, "rein", FIRST_SEATED),
+    ("withdraw 0000001 MA-1", 9, "withdrawn", NOBODY),
+    ("export S1", 30, "session,number,paper,hall,desk", NOBODY),
+];
+
+#[test]
+fn a_command_stands_whose_line_is_lost(rt: HostRuntime) -> Result<(), Fail> {
+    let mut store = base_office(&rt)?;
+    expect_done(&rt, &mut store, "import entries f", ONE_ENTRY, ONE_ADDED)?;
+    for (words, room, out, exported) in LOST {
+        let outcome = run_full(rt.alloc(), &mut store, words, *room)?;
+        assert_eq!(rt; outcome.status, 1, "{words}");
+        assert_eq!(rt; outcome.out.as_slice(), out.as_bytes(), "{words}");
+        assert_eq!(rt;
+            outcome.err.as_slice(),
+            "write fault\n".as_bytes(),
+            "{words}"
+        );
+        expect_done(&rt, &mut store, "export S1", "", exported)?;
+    }
+    Ok(())
+}
+
+/// Runs the program's command with room for so many bytes on standard output.
+fn run_full(
+    alloc: Global,
+    store: &mut Store<MemStore>,
+    words: &str,
+    room: usize,
+) -> Result<Outcome, Fail> {
+    let words = words_of(alloc, words)?;
+    let mut full = Full {
+        taken: Vec::new(alloc),
+        room,
+    };
+    let mut err = Vec::new(alloc);
+    let mut reader: &[u8] = b"";
+    let mut status = 2;
+    if let Ok(line) = parse_line(alloc, words.as_slice()) {
+        status = run_job(alloc, &line, store, &mut reader, &mut full, &mut err);
+    }
+    Ok(Outcome {
+        status,
+        out: full.taken,
+        err,
+    })
+}

@@ -1,0 +1,33 @@
+//! A request over a socket of this machine.
+use super::ONE_SEAT;
+use crate::tests::{ONE_ADDED, ONE_ENTRY, base_office, expect_all};
+use exam_http::serve_one;
+use exam_types::Day;
+use std::io::{self, Write};
+use std::net::{Ipv4Addr, SocketAddrV4, TcpListener, TcpStream};
+use std::test::Fail;
+
+const REQUEST: &[u8] =
+    b"GET /candidates/0000001/seats HTTP/1.1\r\nHost: 127.0.0.1\r\nExam-Code: CODE0001\r\n\r\n";
+
+const HEAD: &str =
+    "HTTP/1.1 200 OK\r\nContent-Type: application/json\r\nContent-Length: 138\r\nConnection: close\r\n\r\n";
+
+/// The client connects and writes, then the server accepts and serves, then the client reads to the end.
+#[test]
+fn a_seat_is_shown_over_a_socket(rt: HostRuntime) -> Result<(), Fail> {
+    let mut store = base_office(&rt)?;
+    let rows = [("import entries f", ONE_ENTRY, Ok(ONE_ADDED))];
+    expect_all(&rt, &mut store, &rows)?;
+    let today = Day::parse(b"2027-05-30").ok_or("day")?;
+    let listener = TcpListener::bind(&rt, SocketAddrV4::new(Ipv4Addr::LOCALHOST, 0))?;
+    let mut client = TcpStream::connect(&rt, listener.local_addr()?)?;
+    client.write_all(REQUEST)?;
+    let (stream, _) = listener.accept()?;
+    let served = serve_one(rt.alloc(), &mut store, today, &mut &stream, &mut &stream);
+    assert!(rt; served == Ok(()));
+    drop(stream);
+    let answer = io::read_to_string(rt.alloc(), client)?;
+    assert!(rt; answer.as_str().strip_prefix(HEAD) == Some(ONE_SEAT));
+    Ok(())
+}
