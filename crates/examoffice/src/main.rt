@@ -3,8 +3,6 @@
 
 mod files;
 mod serving;
-#[cfg(test)]
-mod tests;
 
 use exam_job::{DONE, JobFault, NOT_UNDERSTOOD, print, print_error, print_fault, run_job};
 use exam_line::{Job, Line, LineFault, parse_line};

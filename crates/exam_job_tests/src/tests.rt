@@ -4,7 +4,6 @@ mod doctored;
 mod kept_rows;
 mod outputs;
 mod reopening;
-mod requests;
 mod stopping;
 
 use exam_job::run_job;
