@@ -16,7 +16,7 @@ use Rattle.exam_office.specs.Imports.{ImportRows}
 use Rattle.exam_files.specs.ImportFiles.{import_of}
 use Rattle.exam_line.specs.Lines.{Task}
 use Rattle.exam_line.specs.Lines as line
-use Rattle.exam_store.specs.Kept.{IsSound}
+use Rattle.exam_rows.specs.Transactions.{IsSound}
 use Rattle.exam_store.specs.Stores.{OfficeIn}
 use Rattle.exam_job.specs.Jobs.{Commands, Decides, Does, Imports, ImportsFile, IsCarriedOut, Stops, TellsReply, denoted, unread, short}
 use Rattle.exam_job.specs.declared.report.JobFault.{JobFault}

@@ -9,7 +9,7 @@ use Rattle.exam_line.specs.Lines.{Answers, Said}
 use Rattle.exam_line.specs.declared.line.LineFault.{LineFault}
 use Rattle.exam_line.specs.declared.line.LineFault.TheVariants.{NoMemory}
 use Rattle.exam_store.specs.Applied.{MayApply}
-use Rattle.exam_store.specs.Faults.{is_store_refusal}
+use Rattle.exam_rows.specs.Faults.{is_store_refusal}
 use Rattle.exam_job.specs.declared.report.JobFault.{JobFault}
 use Rattle.exam_job.specs.declared.report.JobFault.TheVariants.{File, Refused, Write}
 use Rattle.exam_day.specs.Orders.{Given, command_of, line_of}

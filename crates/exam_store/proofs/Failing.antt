@@ -1,43 +1,16 @@
 -- Why an office is not saved.
-use Rattle.std.proofs.Common.{◌≡◌, ◌≤◌, inl, inr, ap, ◌∙◌, Result, Ok, Err, IfErr, IsTrue}
-use Rattle.std.proofs.lemmas.Bool.{both_ways}
-use Rattle.sqlite_trees.specs.Tree.{Trees}
-use Rattle.sqlite_trees.specs.declared.error.StoreError.TheVariants.{OutOfMemory, Io, Corrupt, Full, Broken, Unstorable}
-use Rattle.sqlite.specs.declared.error.Error.{Error}
-use Rattle.sqlite.specs.State.{State, HasCleanDisk, Survives}
-use Rattle.sqlite.specs.Steps.{FailsToCommit}
+use Rattle.std.proofs.Common.{inl, inr, Result, Ok, Err, IfErr}
+use Rattle.sqlite.specs.State.{State}
 use Rattle.exam_types.specs.declared.refusal.Refusal.{Refusal}
 use Rattle.exam_rules.specs.Orders.{KeysRise}
 use Rattle.exam_rules.specs.Relations.{seat_cmp}
 use Rattle.exam_office.specs.Good.{IsGood}
 use Rattle.exam_office.specs.State.{State as Office}
-use Rattle.exam_store.specs.declared.saving.Changes.{Changes}
-use Rattle.exam_store.specs.Faults.{refusal_of}
-use Rattle.exam_store.specs.Inside.{FailsFor, FailsToWrite}
-use Rattle.exam_store.specs.Saves.{all_saved, TurnsTables, FailsToSave}
+use Rattle.exam_rows.specs.declared.writing.Changes.{Changes}
+use Rattle.exam_rows.specs.Inside.{FailsToWrite}
+use Rattle.exam_rows.specs.Writes.{all_saved}
+use Rattle.exam_store.specs.Saves.{TurnsTables, FailsToSave}
 use Rattle.exam_store.proofs.KeysHold.{no_key}
-use Rattle.exam_store.proofs.Steps.{down_later, down_longer}
-
--- what was written is undone
-pub undone : (Against : Type 0) (old last end : State) (e : Refusal) → last.faults ≤ end.faults → FailsFor Against old last e → FailsFor Against old end e
-undone Against old last end e up (inl lacks) = inl lacks
-undone Against old last end e up (inr (told, inl down)) = inr (told, inl (down_longer old last end up down))
-undone Against old last end e up (inr (told, inr refused)) = inr (told, inr refused)
-
-module _ (Against : Type 0) {P Q : Trees → Type 0} (old last end : State) (before : Survives old last P) (after : Survives last end Q) (clean : HasCleanDisk last) (going : IsTrue last.in_transaction) where
-  not_committed : (e : Refusal) (error : Error) → e ≡ refusal_of error → FailsToCommit last end error → FailsFor Against old end e
-  not_committed e error told (inl (OutOfMemory, same, why, back, tells)) = inl (told ∙ ap refusal_of same)
-  not_committed e error told (inl (Io, same, why, back, tells)) = inr (told ∙ ap refusal_of same, inl (down_later old last end before clean after.counts (inl why)))
-  not_committed e error told (inl (Corrupt, same, why, back, tells)) = inr (told ∙ ap refusal_of same, inl (down_later old last end before clean after.counts (inl why)))
-  not_committed e error told (inl (Full, same, why, back, tells)) = inr (told ∙ ap refusal_of same, inl (down_later old last end before clean after.counts (inl why)))
-  not_committed e error told (inl (Broken, same, why, back, tells)) = inr (told ∙ ap refusal_of same, inl (down_later old last end before clean after.counts (inr why)))
-  not_committed e error told (inl (Unstorable, same, why, back, tells)) = absurd why
-  not_committed e error told (inr late) = absurd (both_ways _ late.1 going)
-
-  -- what was written is not committed
-  pub uncommitted : (result : Result (Unit {0}) Refusal) → IfErr result (λ e. (error : Error) × (e ≡ refusal_of error) × FailsToCommit last end error) → IfErr result (FailsFor Against old end)
-  uncommitted (Ok u) failed = tt
-  uncommitted (Err e) failed = not_committed e failed.0 failed.1 failed.2
 
 -- the writes that are not made are those that turn the tables of the one office into those of the other
 pub fails_to_save : (before after : Office) (c : Changes) (old new : State) → TurnsTables before after c → IsGood before → IsGood after → KeysRise seat_cmp before.seats → KeysRise seat_cmp after.seats

@@ -1,5 +1,5 @@
 -- No foreign key refuses a save that turns the tables of one good office into those of another.
-use Rattle.std.proofs.Common.{◌≡◌, ◌||◌, ◌==◌, inl, ℕ, pos, List, [], ◌∷◌, ◌++◌, map, if◌then◌else◌, true, Bor, Ordering, refl, sym, ap, subst, ◌∙◌}
+use Rattle.std.proofs.Common.{◌≡◌, ◌||◌, ◌==◌, inl, ℕ, List, [], ◌∷◌, ◌++◌, map, if◌then◌else◌, true, Bor, Ordering, refl, sym, ap, subst, ◌∙◌}
 use Rattle.std.specs.List.{AllByRecursion}
 use Rattle.std.specs.Map.Iter.{deref_pair}
 use Rattle.std.specs.Ordering.{nat_cmp}
@@ -14,38 +14,27 @@ use Rattle.sqlite_rules.proofs.ProbeLemmas.{has_mapped, mapped_has}
 use Rattle.sqlite.specs.Effect.{Database}
 use Rattle.exam_tables.specs.Changes.{put_all, delete_all}
 use Rattle.exam_tables.specs.Content.{put, delete}
-use Rattle.exam_tables.specs.Refusals.{Refuses, RefusesRows}
-use Rattle.exam_tables.proofs.OfAppeal as appeal
-use Rattle.exam_tables.proofs.OfArrangement as arrangement
-use Rattle.exam_tables.proofs.OfCandidate as candidate
-use Rattle.exam_tables.proofs.OfEntry as entry
-use Rattle.exam_tables.proofs.OfHall as hall
-use Rattle.exam_tables.proofs.OfOpening as opening
-use Rattle.exam_tables.proofs.OfPaper as paper
-use Rattle.exam_tables.proofs.OfSeat as seat
-use Rattle.exam_tables.proofs.OfSession as session
 use Rattle.exam_tables.proofs.Queries.{has_permuted}
 use Rattle.exam_tables.proofs.References.{Stand, links}
 use Rattle.exam_tables.proofs.Standing.{Way, at_rest, putting, all_there, deleting, arrived, now, is_sound, made, Along, Goes, goes_both, puts_part, deletes_part, known_at_start, stands_at, left_was}
-use Rattle.exam_types.specs.Days.{day_text}
-use Rattle.exam_types.specs.Features.{features_sum}
 use Rattle.exam_rules.specs.Orders.{KeysRise}
 use Rattle.exam_rules.specs.Relations.{code_cmp, opening_cmp, entry_cmp, appeal_cmp, seat_cmp}
 use Rattle.exam_office.specs.Good.{IsGood}
 use Rattle.exam_office.specs.State.{State}
-use Rattle.exam_store.specs.declared.differences.Difference.{Difference}
-use Rattle.exam_store.specs.declared.saving.Changes.{Changes}
-use Rattle.exam_store.specs.Held.{HoldsRows, HoldsOffice}
-use Rattle.exam_store.specs.Inside.{Contains, Write, put_of, delete_of, written, RefusesOne, RefusesOneRow}
-use Rattle.exam_store.specs.Kept.{Keeps}
-use Rattle.exam_store.specs.Rows.{session_row, paper_row, hall_row, candidate_row, opening_row, entry_row, arrangement_row, appeal_row, seat_row}
-use Rattle.exam_store.specs.Saves.{Form, sessions, papers, halls, candidates, openings, entries, arrangements, appeals, seats, with_put, with_deleted, all_put, all_deleted, all_saved, TurnsTable, TurnsTables}
-use Rattle.exam_store.specs.Stored.{kind_of, target_of, needs_of, extra_of, state_of, answer_of}
-use Rattle.exam_store.proofs.EachTree.{rows_put, keys_deleted, put_whole}
-use Rattle.exam_store.proofs.EachTree as each
+use Rattle.exam_rows.specs.declared.differences.Difference.{Difference}
+use Rattle.exam_rows.specs.declared.writing.Changes.{Changes}
+use Rattle.exam_rows.specs.Held.{HoldsRows}
+use Rattle.exam_rows.specs.Inside.{Write, put_of, delete_of, written, RefusesOne, RefusesOneRow}
+use Rattle.exam_store.specs.Kept.{HoldsOffice, Keeps}
+use Rattle.exam_rows.specs.Rows.{session_row, paper_row, hall_row, candidate_row, opening_row, entry_row, arrangement_row, appeal_row, seat_row}
+use Rattle.exam_rows.specs.Writes.{Form, sessions, papers, halls, candidates, openings, entries, arrangements, appeals, seats, with_put, with_deleted, all_put, all_deleted, all_saved}
+use Rattle.exam_store.specs.Saves.{TurnsTable, TurnsTables}
+use Rattle.exam_rows.proofs.EachTree.{rows_put, keys_deleted, put_whole}
+use Rattle.exam_rows.proofs.EachTree as each
+use Rattle.exam_rows.proofs.Narrowing.{Narrows, all_narrow}
 use Rattle.exam_store.proofs.Referring.{stand}
 use Rattle.exam_store.proofs.Rekeeping.{holds_after}
-use Rattle.exam_store.proofs.SavedTrees as saved
+use Rattle.exam_rows.proofs.SavedTrees as saved
 
 abbrev keys : ℕ → List ℕ
 keys tree = if (tree == 8) || ((tree == 10) || ((tree == 13) || (tree == 15))) then 1 ∷ 2 ∷ [] else 1 ∷ []
@@ -293,81 +282,6 @@ module _ (before after : State) (c : Changes) (all : Trees) (turns : TurnsTables
   -- After each write each row has what it refers to.
   pub stands : Along change (all_saved c) all
   stands = (both w0 w9 w18 _ _ all_puts all_deletes all (known_at_start change keys all mid end)).0
-
--- ---- each statement
-
--- where after the write each row has what it refers to, no foreign key refuses it
-abbrev Narrows : Write → Type 0
-Narrows w = (at : Database) (all : Trees) → Contains at all → Stand (w.change all) → Refuses at w.sql w.params → RefusesRows at w.sql w.params
-
-every : {Y : Type 0} (f : Y → Write) → ((y : Y) → Narrows (f y)) → (ys : List Y) → AllByRecursion Narrows (map f ys)
-every f each [] = tt
-every f each (y ∷ ys) = (each y, every f each ys)
-
-together : (xs ys : List Write) → AllByRecursion Narrows xs → AllByRecursion Narrows ys → AllByRecursion Narrows (xs ++ ys)
-together [] ys one two = two
-together (x ∷ xs) ys one two = (one.0, together xs ys one.1 two)
-
-sessions_put_narrow : (c : Changes) → AllByRecursion Narrows (with_put sessions c.sessions)
-sessions_put_narrow c = every (λ r. put_of sessions.put sessions.tree sessions.places (sessions.row r.0.now r.1.now)) (λ y at all. session.put_refused at all y.0.now (day_text y.1.now.day) (pos y.1.now.start)) c.sessions.put.items
-
-papers_put_narrow : (c : Changes) → AllByRecursion Narrows (with_put papers c.papers)
-papers_put_narrow c = every (λ r. put_of papers.put papers.tree papers.places (papers.row r.0.now r.1.now)) (λ y at all. paper.put_refused at all y.0.now y.1.now.title y.1.now.session (pos y.1.now.minutes) (pos (features_sum y.1.now.required))) c.papers.put.items
-
-halls_put_narrow : (c : Changes) → AllByRecursion Narrows (with_put halls c.halls)
-halls_put_narrow c = every (λ r. put_of halls.put halls.tree halls.places (halls.row r.0.now r.1.now)) (λ y at all. hall.put_refused at all y.0.now y.1.now.title (pos (features_sum y.1.now.features))) c.halls.put.items
-
-openings_put_narrow : (c : Changes) → AllByRecursion Narrows (with_put openings c.openings)
-openings_put_narrow c = every (λ r. put_of openings.put openings.tree openings.places (openings.row r.0.now r.1.now)) (λ y at all. opening.put_refused at all y.0.now.0 y.0.now.1 (pos y.1.now.desks) (pos y.1.now.until) (pos (if y.1.now.reserved then 1 else 0))) c.openings.put.items
-
-candidates_put_narrow : (c : Changes) → AllByRecursion Narrows (with_put candidates c.candidates)
-candidates_put_narrow c = every (λ r. put_of candidates.put candidates.tree candidates.places (candidates.row r.0.now r.1.now)) (λ y at all. candidate.put_refused at all (pos y.0.now) y.1.now.name y.1.now.code) c.candidates.put.items
-
-entries_put_narrow : (c : Changes) → AllByRecursion Narrows (with_put entries c.entries)
-entries_put_narrow c = every (λ r. put_of entries.put entries.tree entries.places (entries.row r.0.now r.1.now)) (λ y at all. entry.put_refused at all (pos y.0.now.0) y.0.now.1 (pos (if y.1.now.live then 1 else 0))) c.entries.put.items
-
-arrangements_put_narrow : (c : Changes) → AllByRecursion Narrows (with_put arrangements c.arrangements)
-arrangements_put_narrow c = every (λ r. put_of arrangements.put arrangements.tree arrangements.places (arrangements.row r.0.now r.1.now)) (λ y at all. arrangement.put_refused at all (pos y.0.now) (pos (features_sum y.1.now.needs)) (pos y.1.now.extra)) c.arrangements.put.items
-
-appeals_put_narrow : (c : Changes) → AllByRecursion Narrows (with_put appeals c.appeals)
-appeals_put_narrow c = every (λ r. put_of appeals.put appeals.tree appeals.places (appeals.row r.0.now r.1.now)) (λ y at all. appeal.put_refused at all (pos y.0.now.0) y.0.now.1 y.1.now.session (pos (kind_of y.1.now.subject)) (target_of y.1.now.subject) (pos (needs_of y.1.now.subject)) (pos (extra_of y.1.now.subject)) y.1.now.reason (pos (state_of y.1.now.status)) (answer_of y.1.now.status) (day_text y.1.now.lodged)) c.appeals.put.items
-
-seats_put_narrow : (c : Changes) → AllByRecursion Narrows (with_put seats c.seats)
-seats_put_narrow c = every (λ r. put_of seats.put seats.tree seats.places (seats.row r.0.now r.1.now)) (λ y at all. seat.put_refused at all y.0.now.0 (pos y.0.now.1) y.1.now) c.seats.put.items
-
-sessions_delete_narrow : (c : Changes) → AllByRecursion Narrows (with_deleted sessions c.sessions)
-sessions_delete_narrow c = every (λ k. delete_of sessions.delete sessions.tree sessions.places (sessions.key k.now)) (λ y at all. session.delete_refused at all y.now) c.sessions.delete.items
-
-papers_delete_narrow : (c : Changes) → AllByRecursion Narrows (with_deleted papers c.papers)
-papers_delete_narrow c = every (λ k. delete_of papers.delete papers.tree papers.places (papers.key k.now)) (λ y at all. paper.delete_refused at all y.now) c.papers.delete.items
-
-halls_delete_narrow : (c : Changes) → AllByRecursion Narrows (with_deleted halls c.halls)
-halls_delete_narrow c = every (λ k. delete_of halls.delete halls.tree halls.places (halls.key k.now)) (λ y at all. hall.delete_refused at all y.now) c.halls.delete.items
-
-openings_delete_narrow : (c : Changes) → AllByRecursion Narrows (with_deleted openings c.openings)
-openings_delete_narrow c = every (λ k. delete_of openings.delete openings.tree openings.places (openings.key k.now)) (λ y at all. opening.delete_refused at all y.now.0 y.now.1) c.openings.delete.items
-
-candidates_delete_narrow : (c : Changes) → AllByRecursion Narrows (with_deleted candidates c.candidates)
-candidates_delete_narrow c = every (λ k. delete_of candidates.delete candidates.tree candidates.places (candidates.key k.now)) (λ y at all. candidate.delete_refused at all (pos y.now)) c.candidates.delete.items
-
-entries_delete_narrow : (c : Changes) → AllByRecursion Narrows (with_deleted entries c.entries)
-entries_delete_narrow c = every (λ k. delete_of entries.delete entries.tree entries.places (entries.key k.now)) (λ y at all. entry.delete_refused at all (pos y.now.0) y.now.1) c.entries.delete.items
-
-arrangements_delete_narrow : (c : Changes) → AllByRecursion Narrows (with_deleted arrangements c.arrangements)
-arrangements_delete_narrow c = every (λ k. delete_of arrangements.delete arrangements.tree arrangements.places (arrangements.key k.now)) (λ y at all. arrangement.delete_refused at all (pos y.now)) c.arrangements.delete.items
-
-appeals_delete_narrow : (c : Changes) → AllByRecursion Narrows (with_deleted appeals c.appeals)
-appeals_delete_narrow c = every (λ k. delete_of appeals.delete appeals.tree appeals.places (appeals.key k.now)) (λ y at all. appeal.delete_refused at all (pos y.now.0) y.now.1) c.appeals.delete.items
-
-seats_delete_narrow : (c : Changes) → AllByRecursion Narrows (with_deleted seats c.seats)
-seats_delete_narrow c = every (λ k. delete_of seats.delete seats.tree seats.places (seats.key k.now)) (λ y at all. seat.delete_refused at all y.now.0 (pos y.now.1)) c.seats.delete.items
-
-all_narrow : (c : Changes) → AllByRecursion Narrows (all_saved c)
-all_narrow c = together (all_put c) (all_deleted c)
-    (together _ _ (together _ _ (sessions_put_narrow c) (papers_put_narrow c)) (together _ _ (together _ _ (halls_put_narrow c) (openings_put_narrow c)) (together _ _ (together _ _ (candidates_put_narrow c) (together _ _ (entries_put_narrow c) (arrangements_put_narrow c))) (together _ _ (appeals_put_narrow c) (seats_put_narrow c)))))
-    (together _ _ (together _ _ (seats_delete_narrow c) (appeals_delete_narrow c)) (together _ _ (together _ _ (arrangements_delete_narrow c) (together _ _ (entries_delete_narrow c) (candidates_delete_narrow c))) (together _ _ (together _ _ (openings_delete_narrow c) (halls_delete_narrow c)) (together _ _ (papers_delete_narrow c) (sessions_delete_narrow c)))))
-
--- ---- the save
 
 written_made : (writes : List Write) (all : Trees) → written writes all ≡ made change writes all
 written_made [] all = refl

@@ -35,10 +35,11 @@ use Rattle.exam_office.specs.Good.{IsGood, papers_refer, openings_refer, entries
 use Rattle.exam_office.specs.State.{State}
 use Rattle.exam_office.proofs.Members.{kept_from}
 use Rattle.exam_office.proofs.SameSeats.{seats_total}
-use Rattle.exam_store.specs.Held.{HoldsRows, HoldsOffice}
-use Rattle.exam_store.specs.Rows.{session_row, paper_row, hall_row, candidate_row, opening_row, entry_row, arrangement_row, appeal_row, seat_row}
-use Rattle.exam_store.specs.Stored.{whole}
-use Rattle.exam_store.proofs.Exact.{openings_exact}
+use Rattle.exam_rows.specs.Held.{HoldsRows}
+use Rattle.exam_store.specs.Kept.{HoldsOffice}
+use Rattle.exam_rows.specs.Rows.{session_row, paper_row, hall_row, candidate_row, opening_row, entry_row, arrangement_row, appeal_row, seat_row}
+use Rattle.exam_rows.specs.Stored.{whole}
+use Rattle.exam_rows.proofs.Exact.{openings_exact}
 
 -- a row that is looked up is among the rows
 found : {K X : Type 0} (cmp : K → K → Ordering) (k : K) (stored : K × X → Row) (test : Row → Bool) → ((e : K × X) → is_eq (cmp k e.0) ≡ true → test (stored e) ≡ true) → (rows : List (K × X)) → has_row cmp rows k ≡ true → list_any test (map stored rows) ≡ true

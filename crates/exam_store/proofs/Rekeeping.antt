@@ -8,18 +8,19 @@ use Rattle.exam_tables.specs.Tables.{no_schema, store_schema}
 use Rattle.sqlite.specs.State.{State as Shown, HasCleanDisk, IsUnchanged}
 use Rattle.exam_types.specs.declared.refusal.Refusal.{Refusal}
 use Rattle.exam_office.specs.State.{State, empty_state}
-use Rattle.exam_store.specs.declared.saving.Changes.{Changes}
-use Rattle.exam_store.specs.Held.{HoldsRows, HoldsOffice}
-use Rattle.exam_store.specs.Inside.{Becomes, Contains, IsOurs}
+use Rattle.exam_rows.specs.declared.writing.Changes.{Changes}
+use Rattle.exam_rows.specs.Held.{HoldsRows}
+use Rattle.exam_store.specs.Kept.{HoldsOffice}
+use Rattle.exam_rows.specs.Inside.{Becomes, Contains, IsOurs}
 use Rattle.exam_store.specs.Found.{Finds}
 use Rattle.exam_store.specs.Kept.{Rekeeps, Keeps}
-use Rattle.exam_store.specs.Rows.{session_row, paper_row, hall_row, candidate_row, opening_row, entry_row, arrangement_row, appeal_row, seat_row}
-use Rattle.exam_store.specs.Saves as writes
+use Rattle.exam_rows.specs.Rows.{session_row, paper_row, hall_row, candidate_row, opening_row, entry_row, arrangement_row, appeal_row, seat_row}
+use Rattle.exam_rows.specs.Writes as writes
 use Rattle.exam_store.specs.Saves.{TurnsTables}
-use Rattle.exam_store.proofs.SavedTrees.{all_saved, saved_are}
-use Rattle.exam_store.specs.Versions.{HasVersion, new_tables, IsBlank, IsMade}
-use Rattle.exam_store.proofs.EachTree.{sessions_after, papers_after, halls_after, openings_after, candidates_after, entries_after, arrangements_after, appeals_after, seats_after, version_after}
-use Rattle.exam_store.proofs.SavedRows.{table_saved, sessions_match, papers_match, halls_match, openings_match, candidates_match, entries_match, arrangements_match, appeals_match, seats_match}
+use Rattle.exam_rows.proofs.SavedTrees.{all_saved, saved_are}
+use Rattle.exam_rows.specs.Versions.{HasVersion, new_tables, IsBlank, IsMade}
+use Rattle.exam_rows.proofs.EachTree.{sessions_after, papers_after, halls_after, openings_after, candidates_after, entries_after, arrangements_after, appeals_after, seats_after, version_after}
+use Rattle.exam_rows.proofs.SavedRows.{table_saved, sessions_match, papers_match, halls_match, openings_match, candidates_match, entries_match, arrangements_match, appeals_match, seats_match}
 
 -- the rows of each table are those of the new office
 pub holds_after : (before after : State) (c : Changes) (all : Trees) → TurnsTables before after c → HoldsOffice all before → HoldsOffice (all_saved c all) after

@@ -10,10 +10,11 @@ use Rattle.exam_office.specs.declared.command.Command.{Command}
 use Rattle.exam_office.specs.declared.command.Reply.{Reply}
 use Rattle.exam_office.specs.State.{State}
 use Rattle.exam_office.specs.Steps.{Step}
-use Rattle.exam_store.specs.Faults.{is_store_refusal}
+use Rattle.exam_rows.specs.Faults.{is_store_refusal}
 use Rattle.exam_store.specs.Saves.{FailsToSave}
-use Rattle.exam_store.specs.Inside.{IsOurs}
-use Rattle.exam_store.specs.Kept.{Commits, Rekeeps}
+use Rattle.exam_rows.specs.Inside.{IsOurs}
+use Rattle.exam_rows.specs.Transactions.{Commits}
+use Rattle.exam_store.specs.Kept.{Rekeeps}
 use Rattle.exam_store.specs.Stores.{OfficeIn}
 
 -- At a reply exactly the command's step is made. At a refusal, the step's own or one of the store, the office

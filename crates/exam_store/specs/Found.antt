@@ -6,9 +6,9 @@ use Rattle.sqlite.specs.State.{State, HasCleanDisk, IsUnchanged}
 use Rattle.sqlite.specs.Held.{Held, state}
 use Rattle.exam_types.specs.declared.refusal.Refusal.{Refusal}
 use Rattle.exam_office.specs.State.{State as Office, empty_state}
-use Rattle.exam_store.specs.Inside.{Contains, IsOurs}
+use Rattle.exam_rows.specs.Inside.{Contains, IsOurs}
 use Rattle.exam_store.specs.Kept.{Keeps}
-use Rattle.exam_store.specs.Loaded.{FailsThen, IsLoadRefusal}
+use Rattle.exam_rows.specs.Loaded.{FailsThen, IsLoadRefusal}
 use Rattle.exam_store.specs.Refused.{HoldsNone}
 
 -- it is the office that the tables keep, where they are ours, and nothing changes

@@ -1,12 +1,18 @@
--- The database that keeps an office, and what calls leave of it.
-use Rattle.std.specs.Prelude.{◌≡◌, IsTrue, Result, OnOk, OnErr}
+-- The database that keeps an office.
+use Rattle.std.specs.Prelude.{◌≡◌}
 use Rattle.sqlite_trees.specs.Tree.{Trees}
 use Rattle.sqlite.specs.Effect.{Database}
-use Rattle.sqlite.specs.State.{State, HasCleanDisk, Survives}
+use Rattle.sqlite.specs.State.{State}
 use Rattle.exam_office.specs.State.{State as Office}
-use Rattle.exam_store.specs.Held.{HoldsOffice}
-use Rattle.exam_store.specs.Inside.{Contains}
-use Rattle.exam_store.specs.Versions.{HasVersion}
+use Rattle.exam_rows.specs.Held.{HoldsFacts, HoldsRows}
+use Rattle.exam_rows.specs.Inside.{Contains}
+use Rattle.exam_rows.specs.Rows.{seat_row}
+use Rattle.exam_rows.specs.Versions.{HasVersion}
+
+-- each table of facts has the rows of its relation, and the table of seats those of the plans
+pub record HoldsOffice (all : Trees) (office : Office) : Type 0 where
+  pub facts : HoldsFacts all office.relations
+  pub seats : HoldsRows seat_row office.seats (all 15)
 
 -- the ten tables have the rows of the office, in any order, and the version
 pub record Keeps (db : Database) (office : Office) : Type 0 where
@@ -14,23 +20,6 @@ pub record Keeps (db : Database) (office : Office) : Type 0 where
   pub contains : Contains db all
   pub version : HasVersion all
   pub held : HoldsOffice all office
-
--- the disk has returned what was written, and the connection is open
-abbrev pub IsSound : State → Type 0
-IsSound s = HasCleanDisk s × IsTrue s.is_open
-
--- A call turns the database into another in one transaction, or not at all.
-pub record Commits {A E : Type 0} (old new : State) (result : Result A E)
-    (Turns : Database → Database → Type 0) : Type 0 where
-  -- where it succeeds, the database is turned, that is committed, and the connection is open
-  pub turned : HasCleanDisk new → OnOk result (Turns old.now new.now × (new.committed ≡ new.now) × IsTrue new.is_open)
-  -- otherwise it is as it was
-  pub same : IsSound new → OnErr result ((new.now ≡ old.now) × (new.committed ≡ old.committed))
-  pub was_open : IsSound new → IsTrue old.is_open
-  -- a crash after the answer leaves what was committed
-  pub settled : HasCleanDisk new → OnOk result ((trees : Trees) → new.may_leave trees → trees ≡ new.committed.trees)
-  -- and a crash before it leaves what it left before, or all of the change
-  pub survives : Survives old new (λ trees. (db : Database) × Turns old.now db × (trees ≡ db.trees))
 
 -- what kept the one office keeps the other
 abbrev pub Rekeeps : Office → Office → Database → Database → Type 0

@@ -1,15 +1,6 @@
 pub mod Applied
-pub mod Differences
-pub mod Faults
 pub mod Found
-pub mod Held
-pub mod Inside
 pub mod Kept
-pub mod Loaded
-pub mod Reading
 pub mod Refused
-pub mod Rows
 pub mod Saves
-pub mod Stored
 pub mod Stores
-pub mod Versions

@@ -1,6 +1,6 @@
 //! The database and the import file at a path.
 ghost use Rattle.std.specs.Prelude.{◌≡◌, IfErr, IsTrue};
-ghost use Rattle.exam_store.specs.Faults.{is_store_refusal};
+ghost use Rattle.exam_rows.specs.Faults.{is_store_refusal};
 ghost use Rattle.exam_job.specs.Reading.{IsReadFault};
 
 use exam_job::JobFault;

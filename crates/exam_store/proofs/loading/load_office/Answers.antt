@@ -2,10 +2,10 @@ use Rattle.std.proofs.Common.{◌≡◌, Err, inl, inr, refl, sym, subst, rules}
 use Rattle.std.proofs.lemmas.Result.{IfOk-weaker, IfErr-weaker}
 use Rattle.sqlite.specs.Held.{state}
 use Rattle.sqlite.proofs.Callers.{unchanged_then}
-use Rattle.exam_store.specs.Held.{HoldsOffice}
-use Rattle.exam_store.proofs.Leaving.{left_then, reads_only, still, still_itself, still_then}
-use Rattle.exam_store.proofs.Refusing.{always_ok, part_failed, still_there}
-use Rattle.exam_store.proofs.SavedRows.{seats_match}
+use Rattle.exam_store.specs.Kept.{HoldsOffice}
+use Rattle.exam_rows.proofs.Leaving.{left_then, reads_only, still, still_itself, still_then}
+use Rattle.exam_rows.proofs.Refusing.{always_ok, part_failed, still_there}
+use Rattle.exam_rows.proofs.SavedRows.{seats_match}
 use Rattle.exam_store.proofs.loading.load_office.Goals as goal
 
 pub returns-clause-rows : goal.returns-clause-rows

@@ -2,7 +2,7 @@ use Rattle.std.proofs.Common.{ap, subst₂}
 use Rattle.std.specs.Ordering.{nat_cmp}
 use Rattle.exam_rules.specs.Relations.{Relations, code_cmp, opening_cmp, entry_cmp, appeal_cmp, seat_cmp}
 use Rattle.exam_store.specs.Saves.{TurnsTable}
-use Rattle.exam_store.proofs.Exact.{sessions_exact, papers_exact, halls_exact, openings_exact, candidates_exact, entries_exact, arrangements_exact, appeals_exact, seats_exact}
+use Rattle.exam_rows.proofs.Exact.{sessions_exact, papers_exact, halls_exact, openings_exact, candidates_exact, entries_exact, arrangements_exact, appeals_exact, seats_exact}
 use Rattle.exam_store.proofs.saving.changes_of.Goals as goal
 
 pub returns-clause-turns : goal.returns-clause-turns

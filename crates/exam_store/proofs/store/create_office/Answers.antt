@@ -1,6 +1,6 @@
 use Rattle.std.proofs.Common.{rules}
 use Rattle.sqlite.specs.Held.{state}
-use Rattle.exam_store.specs.Versions.{IsBlank}
+use Rattle.exam_rows.specs.Versions.{IsBlank}
 use Rattle.exam_store.proofs.Rekeeping.{not_blank}
 use Rattle.exam_store.proofs.store.create_office.Goals as goal
 

@@ -2,7 +2,7 @@ use Rattle.std.proofs.Common.{◌≡◌, Err, false, inl, inr, refl, rules}
 use Rattle.sqlite.specs.Held.{state}
 use Rattle.exam_store.specs.Kept.{Rekeeps}
 use Rattle.exam_store.specs.Applied.{TurnsBy}
-use Rattle.exam_store.proofs.Committing.{commits_weaker, commits_ok, commits_err}
+use Rattle.exam_rows.proofs.Committing.{commits_weaker, commits_ok, commits_err}
 use Rattle.exam_store.proofs.store.Store.apply.Goals as goal
 
 pub returns-in_err-save-clause-made : goal.returns-in_err-save-clause-made

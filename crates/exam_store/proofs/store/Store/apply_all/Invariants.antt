@@ -3,7 +3,8 @@ use Rattle.std.specs.Prelude.{vec_len}
 use Rattle.std.specs.Vec.{vec_capacity}
 use Rattle.sqlite.specs.Held.{state}
 use Rattle.exam_store.specs.Applied.{Applies, AreApplied}
-use Rattle.exam_store.specs.Kept.{IsSound, Rekeeps}
+use Rattle.exam_rows.specs.Transactions.{IsSound}
+use Rattle.exam_store.specs.Kept.{Rekeeps}
 use Rattle.exam_store.proofs.store.Store.apply_all.Given as goal
 
 -- the commands so far, what they answered and what they made of the tables; and there is room for the other replies

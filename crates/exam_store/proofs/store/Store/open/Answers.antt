@@ -2,9 +2,9 @@ use Rattle.std.proofs.Common.{inl, sym, subst, subst₂}
 use Rattle.std.proofs.lemmas.Result.{IfOk-weaker, IfErr-weaker}
 use Rattle.sqlite.specs.State.{HasCleanDisk, IsUnchanged}
 use Rattle.sqlite.specs.Held.{state}
-use Rattle.exam_store.specs.Inside.{IsOurs}
+use Rattle.exam_rows.specs.Inside.{IsOurs}
 use Rattle.exam_store.specs.Kept.{Keeps}
-use Rattle.exam_store.specs.Loaded.{IsLeft}
+use Rattle.exam_rows.specs.Loaded.{IsLeft}
 use Rattle.exam_store.proofs.store.Store.open.Goals as goal
 
 pub returns-in-Ok-clause-found : goal.returns-in-Ok-clause-found

@@ -1,0 +1,125 @@
+-- The tables are made one after another.
+use Rattle.std.proofs.Common.{◌≡◌, ◌==◌, ◌≤◌, IsSome, inl, inr, ℕ, List, [], Ok, Err, Result, OnOk, IfErr, IsTrue, refl, subst, sym, arith}
+use Rattle.std.specs.List.Sorted.{IsPermutation}
+use Rattle.std.proofs.lemmas.Bool.{both_ways, cases_Bool}
+use Rattle.std.proofs.lemmas.List.Sorted.{IsPermutation-refl}
+use Rattle.sqlite_value.specs.Order.{Row}
+use Rattle.sqlite_trees.specs.Tree.{Trees, with_tree}
+use Rattle.sqlite_trees.proofs.ListLemmas.{all_of}
+use Rattle.sqlite_schema.specs.declared.schema.Schema.{Schema}
+use Rattle.sqlite_trees.specs.declared.memory.MemStore.{MemStore}
+use Rattle.sqlite.specs.Held.{Held, IsNew, state}
+use Rattle.sqlite.specs.Steps.{over_memory, IsEmpty}
+use Rattle.sqlite.specs.Effect.{Database}
+use Rattle.sqlite.specs.declared.error.Error.{Error}
+use Rattle.sqlite.specs.State.{State, HasCleanDisk, KeepsCommit, Survives, Executes, ExecutesInside}
+use Rattle.sqlite.proofs.StateLemmas.{survives_then}
+use Rattle.sqlite.proofs.InsideLemmas.{keeps_then}
+use Rattle.exam_types.specs.declared.refusal.Refusal.{Refusal}
+use Rattle.exam_types.specs.declared.refusal.Refusal.TheVariants.{NoMemory}
+use Rattle.exam_tables.specs.Content.{ContainsIn}
+use Rattle.exam_tables.specs.Grows.{schema_0, schema_10}
+use Rattle.exam_tables.specs.Refusals.{Fails}
+use Rattle.exam_tables.specs.Tables.{store_schema}
+use Rattle.exam_tables.proofs.Changes.{contains_same}
+use Rattle.exam_tables.proofs.Making as making
+use Rattle.exam_rows.specs.Faults.{refusal_of, is_store_refusal}
+use Rattle.exam_rows.specs.Inside.{Ran}
+use Rattle.exam_rows.specs.Versions.{HasNoRows, IsBlank, Leads, FailsToMake, FailsToCreate}
+use Rattle.exam_rows.proofs.Steps.{down_later, fails_for}
+
+-- a disk that is clean was so before
+early : (mid new : State) → Survives mid new (λ _. ⊥) → HasCleanDisk new → HasCleanDisk mid
+early mid new s clean = omega (arith, s.clean)
+
+-- a statement that is refused tells the error that the database gave
+abbrev pub Refused : List ℕ → Row → State → State → Result (Unit {0}) Refusal → Type 0
+Refused sql params old new result = HasCleanDisk new → IsTrue old.in_transaction → IfErr result (λ e. (error : Error) × (e ≡ refusal_of error) × ExecutesInside 0 sql params old new (Err error))
+
+-- what a statement that was run makes
+pub leads_by : (before after : Database → Type 0) (old new : State) (sql : List ℕ) (params : Row) (result : Result (Unit {0}) Refusal) → ((count : ℕ) → Executes sql params old new (Ok count) → before old.now → after new.now)
+    → (before old.now → (error : Error) → ExecutesInside 0 sql params old new (Err error) → Fails old new (IsSome old.step_limit) error) → Refused sql params old new result
+    → (HasCleanDisk new → IsTrue old.in_transaction → OnOk result (Ran sql params old new × IsTrue new.in_transaction)) → (HasCleanDisk new → KeepsCommit old new) → Survives old new (λ _. ⊥) → IfErr result (λ e. IsTrue (is_store_refusal e)) → Leads before after old new result
+leads_by before after old new sql params (Ok u) does fails failed ran kept survives told = record { made = λ clean going. let h = ran clean going in (does h.0.0 h.0.1, h.1); failed = λ clean going was. tt; kept = kept; survives = survives; told = tt }
+leads_by before after old new sql params (Err e) does fails failed ran kept survives told = record { made = λ clean going. tt; failed = λ clean going was. let it = failed clean going in fails_for (IsSome old.step_limit) old new e it.0 it.1 (fails was it.0 it.2); kept = kept; survives = survives; told = told }
+
+-- what stood against the second of two steps stood against both
+made_later : (old mid new : State) (e : Refusal) → Survives old mid (λ _. ⊥) → HasCleanDisk mid → mid.faults ≤ new.faults → FailsToMake mid new e → FailsToMake old new e
+made_later old mid new e s clean up (inl lacks) = inl lacks
+made_later old mid new e s clean up (inr (told, inl down)) = inr (told, inl (down_later old mid new s clean up down))
+made_later old mid new e s clean up (inr (told, inr limited)) = inr (told, inr (subst IsSome s.limit limited))
+
+-- one step after another
+pub leads_then : (before between after : Database → Type 0) (old mid new : State) (result : Result (Unit {0}) Refusal) → Leads before between old mid (Ok tt) → Leads between after mid new result → Leads before after old new result
+leads_then before between after old mid new (Ok u) a b = record {
+  made = λ clean going.
+      let one = a.made (early mid new b.survives clean) going in
+      let two = b.made clean one.1 in
+      (λ was. two.0 (one.0 was), two.1);
+  failed = λ clean going was. tt;
+  kept = λ clean. keeps_then old mid new (a.kept (early mid new b.survives clean)) (b.kept clean);
+  survives = survives_then old mid new _ _ _ (λ _ db none. none) (λ _ db none. none) a.survives b.survives;
+  told = tt;
+}
+leads_then before between after old mid new (Err e) a b = record {
+  made = λ clean going. tt;
+  failed = λ clean going was.
+      let first = early mid new b.survives clean in
+      let one = a.made first going in
+      made_later old mid new e a.survives first b.survives.counts (b.failed clean one.1 (one.0 was));
+  kept = λ clean. keeps_then old mid new (a.kept (early mid new b.survives clean)) (b.kept clean);
+  survives = survives_then old mid new _ _ _ (λ _ db none. none) (λ _ db none. none) a.survives b.survives;
+  told = b.told;
+}
+
+-- a step that was refused, where others were to follow
+pub leads_refused : (before between after : Database → Type 0) (old new : State) (e : Refusal) → Leads before between old new (Err e) → Leads before after old new (Err e)
+leads_refused before between after old new e a = record { made = λ clean going. tt; failed = a.failed; kept = a.kept; survives = a.survives; told = a.told }
+
+-- a table that is added with no rows leaves all without rows
+still_empty : (schema : Schema) (db : Database) (t : ℕ) → ContainsIn schema db (with_tree (λ tree. []) t []) → HasNoRows schema db
+still_empty schema db t was = contains_same schema db _ _ was (all_of _ (λ s. subst (λ rows. IsPermutation rows []) (sym (nothing s.tree)) (IsPermutation-refl [])) schema.tables)
+  where
+    nothing : (u : ℕ) → with_tree (λ tree. []) t [] u ≡ []
+    nothing u = elim (cases_Bool (u == t)) [ inl is ↦ rw is refl | inr other ↦ rw other refl ]
+
+-- what nothing stands against, a limit of steps does not stand against
+limited : (old new : State) (error : Error) → Fails old new ⊥ error → Fails old new (IsSome old.step_limit) error
+limited old new error (inl lacks) = inl lacks
+limited old new error (inr (named, inl down)) = inr (named, inl down)
+limited old new error (inr (named, inr none)) = absurd none
+
+-- the statement of a table adds it
+pub table_leads : (before after : Schema) (t : ℕ) (text : List ℕ)
+    → ((old new : State) (r : Result ℕ Error) → Executes text [] old new r → OnOk r ((all : Trees) → ContainsIn before old.now all → ContainsIn after new.now (with_tree all t [])))
+    → ((old new : State) → old.now.schema ≡ before → (e : Error) → ExecutesInside 0 text [] old new (Err e) → Fails old new ⊥ e)
+    → (old new : State) (result : Result (Unit {0}) Refusal) → Refused text [] old new result → (HasCleanDisk new → IsTrue old.in_transaction → OnOk result (Ran text [] old new × IsTrue new.in_transaction)) → (HasCleanDisk new → KeepsCommit old new)
+    → Survives old new (λ _. ⊥) → IfErr result (λ e. IsTrue (is_store_refusal e)) → Leads (HasNoRows before) (HasNoRows after) old new result
+table_leads before after t text does fails old new result failed ran kept survives told =
+    leads_by (HasNoRows before) (HasNoRows after) old new text [] result (λ count run was. still_empty after new.now t (does old new (Ok count) run (λ tree. []) was)) (λ was error run. limited old new error (fails old new was.schema_is error run)) failed ran kept survives told
+
+-- nothing is the schema with no tables, and the last schema is the product's
+pub blank_is_empty : (db : Database) → IsBlank db → HasNoRows schema_0 db
+unfolding schema_0
+blank_is_empty db is = record { schema_is = is; rows = tt }
+
+pub whole_is_empty : (db : Database) → HasNoRows schema_10 db → HasNoRows store_schema db
+whole_is_empty db was = subst (λ s. HasNoRows s db) making.last_is was
+
+-- the same of states
+pub leads_from : (before after earlier later : Database → Type 0) (old new : State) (result : Result (Unit {0}) Refusal) → (earlier old.now → before old.now) → (after new.now → later new.now) → Leads before after old new result → Leads earlier later old new result
+leads_from before after earlier later old new (Ok u) first last a = record { made = λ clean going. let h = a.made clean going in (λ was. last (h.0 (first was)), h.1); failed = λ clean going was. tt; kept = a.kept; survives = a.survives; told = a.told }
+leads_from before after earlier later old new (Err e) first last a = record { made = λ clean going. tt; failed = λ clean going was. a.failed clean going (first was); kept = a.kept; survives = a.survives; told = a.told }
+
+-- where no transaction was under way
+pub not_created : (old new : State) (result : Result (Unit {0}) Refusal) → IfErr result (FailsToMake old new) → IfErr result (FailsToCreate old new)
+not_created old new (Ok u) failed = tt
+not_created old new (Err e) failed = inl failed
+
+-- a connection to memory that was just opened lacks nothing but memory
+pub only_memory : (old new : Held MemStore) (e : Refusal) → IsEmpty (state over_memory old) → IsNew old → FailsToCreate (state over_memory old) (state over_memory new) e → e ≡ NoMemory
+only_memory old new e empty fresh (inl (inl lacks)) = lacks
+only_memory old new e empty fresh (inl (inr (told, inl (inl more)))) = absurd (omega (arith, more))
+only_memory old new e empty fresh (inl (inr (told, inl (inr shut)))) = absurd (both_ways _ shut empty.0.is_open)
+only_memory old new e empty fresh (inl (inr (told, inr limited))) = let some = rw fresh.unlimited at limited in absurd cc
+only_memory old new e empty fresh (inr (told, going)) = absurd (both_ways _ fresh.autocommit going)

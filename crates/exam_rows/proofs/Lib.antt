@@ -1,0 +1,17 @@
+pub mod Committing
+pub mod Creating
+pub mod Differing
+pub mod EachTree
+pub mod Exact
+pub mod Inserting
+pub mod Leaving
+pub mod Narrowing
+pub mod OneTable
+pub mod Reading
+pub mod Refusing
+pub mod SavedRows
+pub mod SavedTrees
+pub mod Steps
+pub mod Turning
+pub mod Undoing
+pub mod Versioned

@@ -1,0 +1,37 @@
+use Rattle.std.proofs.Common.{◌≡◌, Ok, Err, rules}
+use Rattle.sqlite.specs.Held.{state}
+use Rattle.exam_tables.specs.Grows.{schema_0, schema_5, schema_10}
+use Rattle.exam_tables.specs.Tables.{store_schema}
+use Rattle.exam_rows.specs.Versions.{HasNoRows, IsBlank, IsMade}
+use Rattle.exam_rows.proofs.Creating.{blank_is_empty, leads_from, leads_then, leads_refused, whole_is_empty}
+use Rattle.exam_rows.proofs.schema.create_tables.Goals as goal
+
+pub returns-clause-made : goal.returns-clause-made
+returns-clause-made g c =
+    let at_0 = state g.S.Store c.args.tx.now.conn.now in
+    let at_1 = state g.S.Store c.create_parents.new.tx.conn.now in
+    let at_2 = state g.S.Store c.create_children.new.tx.conn.now in
+    let at_3 = state g.S.Store c.put_version.new.tx.conn.now in
+    let parents = leads_from (HasNoRows schema_0) (HasNoRows schema_5) IsBlank (HasNoRows schema_5) at_0 at_1 (Ok tt) (blank_is_empty at_0.now) (λ h. h) c.in_ok-create_parents.ensures.made in
+    let children = leads_from (HasNoRows schema_5) (HasNoRows schema_10) (HasNoRows schema_5) (HasNoRows store_schema) at_1 at_2 (Ok tt) (λ h. h) (whole_is_empty at_2.now) c.in_ok-create_children.ensures.made in
+    leads_then IsBlank (HasNoRows schema_5) IsMade at_0 at_1 at_3 c.put_version.result parents
+    (leads_then (HasNoRows schema_5) (HasNoRows store_schema) IsMade at_1 at_2 at_3 c.put_version.result children c.put_version.ensures.made)
+
+pub returns-in_err-create_parents-clause-made : goal.returns-in_err-create_parents-clause-made
+returns-in_err-create_parents-clause-made g c =
+    let e = c.in_err-create_parents.field-0.0 in
+    let is : c.from_residual.result ≡ Err e = search rules in
+    let at_0 = state g.S.Store c.args.tx.now.conn.now in
+    let at_1 = state g.S.Store c.create_parents.new.tx.conn.now in
+    let parents = leads_from (HasNoRows schema_0) (HasNoRows schema_5) IsBlank (HasNoRows schema_5) at_0 at_1 (Err e) (blank_is_empty at_0.now) (λ h. h) c.in_err-create_parents.ensures.made in
+    rw is (leads_refused IsBlank (HasNoRows schema_5) IsMade at_0 at_1 e parents)
+
+pub returns-in_err-create_children-clause-made : goal.returns-in_err-create_children-clause-made
+returns-in_err-create_children-clause-made g c =
+    let e = c.in_err-create_children.field-0.0 in
+    let is : c.from_residual-in_err-create_children.result ≡ Err e = search rules in
+    let at_0 = state g.S.Store c.args.tx.now.conn.now in
+    let at_1 = state g.S.Store c.create_parents.new.tx.conn.now in
+    let at_2 = state g.S.Store c.create_children.new.tx.conn.now in
+    let parents = leads_from (HasNoRows schema_0) (HasNoRows schema_5) IsBlank (HasNoRows schema_5) at_0 at_1 (Ok tt) (blank_is_empty at_0.now) (λ h. h) c.in_ok-create_parents.ensures.made in
+    rw is (leads_then IsBlank (HasNoRows schema_5) IsMade at_0 at_1 at_2 (Err e) parents (leads_refused (HasNoRows schema_5) (HasNoRows schema_10) IsMade at_1 at_2 e c.in_err-create_children.ensures.made))

@@ -1,0 +1,31 @@
+use Rattle.std.proofs.Common.{inl, inr, map, sym, subst}
+use Rattle.std.specs.List.Sorted.{IsPermutation}
+use Rattle.sqlite.specs.Held.{state}
+use Rattle.std.proofs.lemmas.Result.{IfOk-weaker, IfErr-weaker}
+use Rattle.exam_rows.proofs.Inserting.{shown_entries}
+use Rattle.exam_rows.specs.Loaded.{AreRowsOf}
+use Rattle.exam_rows.proofs.Leaving.{reads_only}
+use Rattle.exam_rows.proofs.Refusing.{rows_shown}
+use Rattle.exam_rows.proofs.table.load_rows.Goals as goal
+
+pub returns-clause-rows : goal.returns-clause-rows
+returns-clause-rows g c = λ clean.
+    IfOk-weaker c.read_rows.result _ _ (λ table read all was.
+    let it = c.in_ok-rows.ensures.rows clean all was in
+    (shown_entries (λ e. g.T.Table.row_of e.0 e.1) (all g.T.Table.tree) c.in_ok-rows.rows.items table.entries it.0 (subst (λ rows. IsPermutation rows (map (λ e. g.T.Table.row_of e.0 e.1) table.entries)) c.as_slice.ensures.value read), it.1)) c.read_rows.ensures.rows
+
+pub returns-clause-bad : goal.returns-clause-bad
+returns-clause-bad g c = λ clean match.
+    IfErr-weaker c.read_rows.result _ _ (λ e why.
+    elim why [
+      | inl lacks ↦ inl lacks
+      | inr bad ↦ inr (inr (
+        bad.0,
+        λ all was entries table.
+            bad.1 match entries (subst (λ rows. AreRowsOf g.T.Key.Ord.cmp g.T.Table.IsRow g.T.Table.row_of rows entries) (sym c.as_slice.ensures.value)
+            (rows_shown c.in_ok-rows.rows.items (all g.T.Table.tree) entries (c.in_ok-rows.ensures.rows clean all was).0 table)),
+      ))
+    ]) c.read_rows.ensures.bad
+
+pub returns-clause-left : goal.returns-clause-left
+returns-clause-left g c = λ clean. reads_only (state g.S.Store c.args.conn.now) (state g.S.Store c.shown.new.conn) c.read_rows.result (c.in_ok-rows.ensures.left clean)

@@ -1,0 +1,16 @@
+use Rattle.std.proofs.lemmas.Result.{IfOk-weaker}
+use Rattle.sqlite.specs.Held.{state}
+use Rattle.exam_tables.proofs.OfOpening as opening
+use Rattle.exam_tables.proofs.Quiet.{opening_is_query}
+use Rattle.exam_rows.proofs.Leaving.{query_reads}
+use Rattle.exam_rows.proofs.tables.openings.OpeningsTable.shown.Goals as goal
+
+pub returns-clause-rows : goal.returns-clause-rows
+returns-clause-rows g c = λ clean.
+    let old = state g.S.Store c.args.conn.now in
+    let new = state g.S.Store c.all_rows.new.conn in
+    IfOk-weaker c.all_rows.result _ _ (λ rows shown all was. let it = opening.shows old new rows.items all was shown in (it.0, it.2)) (c.all_rows.ensures.shown clean)
+
+pub returns-clause-left : goal.returns-clause-left
+returns-clause-left g c = λ clean.
+    query_reads (λ rows. rows.items) opening.load_text opening_is_query (state g.S.Store c.args.conn.now) (state g.S.Store c.all_rows.new.conn) c.all_rows.result (c.all_rows.ensures.shown clean) (c.all_rows.ensures.failed clean)

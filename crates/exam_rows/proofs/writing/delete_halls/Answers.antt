@@ -1,0 +1,19 @@
+use Rattle.std.proofs.Common.{◌≡◌, Err, rules}
+use Rattle.sqlite.specs.Held.{state}
+use Rattle.exam_rows.specs.Writes.{with_deleted, openings, halls}
+use Rattle.exam_rows.proofs.Steps.{makes_then, makes_part}
+use Rattle.exam_rows.proofs.writing.delete_halls.Goals as goal
+
+pub returns-in_err-delete_rows-clause-made : goal.returns-in_err-delete_rows-clause-made
+returns-in_err-delete_rows-clause-made g c =
+    let at_0 = state g.S.Store c.args.tx.now.conn.now in
+    let at_1 = state g.S.Store c.delete_rows.new.tx.conn.now in
+    let is : c.from_residual.result ≡ Err c.in_err-delete_rows.field-0.0 = search rules in
+    rw is (makes_part at_0 at_1 _ (with_deleted openings c.args.changes.now.openings) (with_deleted halls c.args.changes.now.halls) (rw c.as_slice.ensures.value at c.in_err-delete_rows.ensures.made))
+
+pub returns-clause-made : goal.returns-clause-made
+returns-clause-made g c =
+    let at_0 = state g.S.Store c.args.tx.now.conn.now in
+    let at_1 = state g.S.Store c.delete_rows.new.tx.conn.now in
+    let at_2 = state g.S.Store c.delete_rows-2.new.tx.conn.now in
+    makes_then at_0 at_1 at_2 _ (with_deleted openings c.args.changes.now.openings) (with_deleted halls c.args.changes.now.halls) (rw c.as_slice.ensures.value at c.in_ok-delete_rows.ensures.made) (rw c.as_slice-2.ensures.value at c.delete_rows-2.ensures.made)

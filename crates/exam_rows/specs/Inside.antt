@@ -1,0 +1,86 @@
+-- What a call does inside a transaction.
+use Rattle.std.specs.Prelude.{◌≡◌, ◌⊎◌, ℕ, List, [], ◌∷◌, ◌++◌, IsTrue, Result, Ok, OnOk, IfErr}
+use Rattle.sqlite_value.specs.declared.value.Value.TheVariants.{Null}
+use Rattle.sqlite_value.specs.Order.{Row}
+use Rattle.sqlite_trees.specs.Tree.{Trees, with_tree}
+use Rattle.sqlite.specs.Effect.{Database}
+use Rattle.sqlite.specs.State.{State, HasCleanDisk, KeepsCommit, Survives, Executes}
+use Rattle.exam_types.specs.declared.refusal.Refusal.{Refusal}
+use Rattle.exam_types.specs.declared.refusal.Refusal.TheVariants.{NoMemory, Store}
+use Rattle.exam_tables.specs.Refusals.{IsDown, Refuses, RefusesRows}
+use Rattle.exam_tables.specs.Tables.{store_schema}
+use Rattle.exam_tables.specs.Content.{ContainsIn, put, delete}
+use Rattle.exam_rows.specs.Faults.{is_store_refusal}
+
+-- the ten tables have these rows
+abbrev pub Contains : Database → Trees → Type 0
+Contains = ContainsIn store_schema
+
+-- the ten tables are there, with whatever rows
+abbrev pub IsOurs : Database → Type 0
+IsOurs db = (all : Trees) × Contains db all
+
+-- the row, as a query shows it, takes the place of the row with its key in the table of this tree
+abbrev pub with_row : ℕ → List ℕ → Row → Trees → Trees
+with_row tree key row all = with_tree all tree (put key (Null ∷ row) (all tree))
+
+-- and no row with this key is left
+abbrev pub without_row : ℕ → List ℕ → Row → Trees → Trees
+without_row tree key row all = with_tree all tree (delete key (Null ∷ row) (all tree))
+
+-- a statement with its parameters, and what it makes of the rows
+pub record Write : Type 0 where
+  pub sql : List ℕ
+  pub params : Row
+  pub change : Trees → Trees
+
+abbrev pub put_of : List ℕ → ℕ → List ℕ → Row → Write
+put_of sql tree key row = record { sql = sql; params = row; change = with_row tree key row }
+
+abbrev pub delete_of : List ℕ → ℕ → List ℕ → Row → Write
+delete_of sql tree key row = record { sql = sql; params = row; change = without_row tree key row }
+
+-- the rows after the writes in turn
+abbrev pub written : List Write → Trees → Trees
+written [] all = all
+written (w ∷ more) all = written more (w.change all)
+
+-- the statement was run and succeeded
+abbrev pub Ran : List ℕ → Row → State → State → Type 0
+Ran sql params old new = (count : ℕ) × Executes sql params old new (Ok count)
+
+-- the new database has the rows of the old one, with the writes made
+abbrev pub Becomes : List Write → Database → Database → Type 0
+Becomes writes old new = (all : Trees) → Contains old all → Contains new (written writes all)
+
+-- the database, as the first writes make it, refuses the next
+abbrev pub RefusesOne : List Write → Database → Type 0
+RefusesOne writes db =
+    (done : List Write) × (next : Write) × (rest : List Write) × (writes ≡ done ++ next ∷ rest)
+    × (at : Database) × Becomes done db at × Refuses at next.sql next.params
+
+-- the same, while it writes the rows of that one: no foreign key stands against it
+abbrev pub RefusesOneRow : List Write → Database → Type 0
+RefusesOneRow writes db =
+    (done : List Write) × (next : Write) × (rest : List Write) × (writes ≡ done ++ next ∷ rest)
+    × (at : Database) × Becomes done db at × RefusesRows at next.sql next.params
+
+-- Why a change is not made: there is no memory, or a call of the disk failed, the connection was shut, or this
+-- stands against it.
+abbrev pub FailsFor : Type 0 → State → State → Refusal → Type 0
+FailsFor Against old new e = (e ≡ NoMemory) ⊎ ((e ≡ Store) × (IsDown old new ⊎ Against))
+
+-- the same of writes, of which the database may refuse one
+abbrev pub FailsToWrite : List Write → State → State → Refusal → Type 0
+FailsToWrite writes old new = FailsFor (RefusesOne writes old.now) old new
+
+pub record Makes (old new : State) (result : Result (Unit {0}) Refusal) (writes : List Write) : Type 0 where
+  -- where it succeeds, the writes are made and the transaction goes on
+  pub made : HasCleanDisk new → IsTrue old.in_transaction
+      → OnOk result (Becomes writes old.now new.now × IsTrue new.in_transaction)
+  pub failed : HasCleanDisk new → IsTrue old.in_transaction → IsOurs old.now
+      → IfErr result (FailsToWrite writes old new)
+  -- it commits nothing, whether or not it succeeds
+  pub kept : HasCleanDisk new → KeepsCommit old new
+  pub survives : Survives old new (λ _. ⊥)
+  pub told : IfErr result (λ e. IsTrue (is_store_refusal e))

@@ -1,0 +1,11 @@
+pub mod Differences
+pub mod Faults
+pub mod Held
+pub mod Inside
+pub mod Loaded
+pub mod Reading
+pub mod Rows
+pub mod Stored
+pub mod Transactions
+pub mod Versions
+pub mod Writes

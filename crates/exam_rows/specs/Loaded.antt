@@ -1,0 +1,63 @@
+-- The rows of which a table is loaded, and why none is.
+use Rattle.std.specs.Prelude.{◌≡◌, ◌⊎◌, ℕ, Result, Ok, Err, List, [], ◌∷◌, map, IsPermutation}
+use Rattle.std.specs.declared.cmp.Ordering.{Ordering}
+use Rattle.std.specs.List.{AllByRecursion}
+use Rattle.std.specs.Ordering.{is_eq}
+use Rattle.sqlite_trees.specs.declared.store.Store.{Ghosts}
+use Rattle.sqlite.specs.Held.{Held, state}
+use Rattle.sqlite.specs.State.{State, FailsToQuery, IsUnchanged, IsRolledBack}
+use Rattle.sqlite.specs.declared.error.Error.{Error}
+use Rattle.sqlite_value.specs.declared.value.Value.TheVariants.{Null}
+use Rattle.sqlite_value.specs.Order.{Row}
+use Rattle.exam_types.specs.declared.refusal.Refusal.{Refusal}
+use Rattle.exam_types.specs.declared.refusal.Refusal.TheVariants.{NoMemory, BadStore}
+use Rattle.exam_tables.specs.Content.{same_key}
+use Rattle.exam_rules.specs.Orders.{KeysRise}
+use Rattle.exam_rows.specs.Faults.{refusal_of}
+
+-- Two rows of a table have the same key in SQL exactly where their keys compare as equal.
+pub record KeysMatch {K X : Type 0} (cmp : K → K → Ordering) (key : List ℕ) (row : K → X → Row)
+    (key_of : K → Row) : Type 0 where
+  pub rows : (a b : K × X) → same_key key (Null ∷ row a.0 a.1) (Null ∷ row b.0 b.1) ≡ is_eq (cmp a.0 b.0)
+  pub keys : (a : K × X) (k : K) → same_key key (Null ∷ row a.0 a.1) (Null ∷ key_of k) ≡ is_eq (cmp a.0 k)
+
+-- these rows, as they are shown, are those of these entries, which have the forms of the table
+pub record AreRowsOf {K X : Type 0} (cmp : K → K → Ordering) (IsRow : K → X → Type 0)
+    (row : K → X → Row) (rows : List Row) (entries : List (K × X)) : Type 0 where
+  pub rises : KeysRise cmp entries
+  pub forms : AllByRecursion (λ e. IsRow e.0 e.1) entries
+  pub same : IsPermutation rows (map (λ e. row e.0 e.1) entries)
+
+-- the same of the rows that are meant
+abbrev pub HoldsTable : {K X : Type 0} → (K → K → Ordering) → (K → X → Type 0) → (K → X → Row) → List (K × X)
+    → List Row → Type 0
+HoldsTable cmp IsRow row entries meant = AreRowsOf cmp IsRow (λ k x. Null ∷ row k x) meant entries
+
+-- the refusal tells the error that a query of the database gave
+abbrev pub Told : State → State → Refusal → Type 0
+Told old new e =
+    (sql : List ℕ) × (error : Error) × (e ≡ refusal_of error) × FailsToQuery sql [] old new error
+
+-- the database is as it was, or a call that failed has undone a transaction, back to the last commit
+abbrev pub IsLeft : State → State → Type 0
+IsLeft old new = IsUnchanged old new ⊎ IsRolledBack old new
+
+-- what a call that only reads leaves
+abbrev pub OnlyReads : {A E : Type 0} → State → State → Result A E → Type 0
+OnlyReads old new (Ok value) = IsUnchanged old new
+OnlyReads old new (Err e) = IsLeft old new
+
+-- both show the same database, in the same mode
+pub record IsStill (old new : State) : Type 0 where
+  pub now : new.now ≡ old.now
+  pub committed : new.committed ≡ old.committed
+  pub in_transaction : new.in_transaction ≡ old.in_transaction
+  pub is_open : new.is_open ≡ old.is_open
+
+-- while the database was still as it was, a query failed, and the refusal tells its error
+abbrev pub FailsThen : {S : Type 0} → Ghosts S → Held S → Held S → Refusal → Type 0
+FailsThen {S} g old new e = (mid : Held S) × IsStill (state g old) (state g mid) × Told (state g mid) (state g new) e
+
+-- why nothing is loaded: want of memory, a query that failed, or that there is none
+abbrev pub IsLoadRefusal : (Refusal → Type 0) → Type 0 → Refusal → Type 0
+IsLoadRefusal Fails IsNone e = (e ≡ NoMemory) ⊎ (Fails e ⊎ ((e ≡ BadStore) × IsNone))

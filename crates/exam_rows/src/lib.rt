@@ -1,0 +1,21 @@
+//! The rows of the office's tables: their columns, the statements that put, delete and show them, the schema, and
+//! one transaction for all that changes.
+#![tactic(auto)]
+
+mod columns;
+mod differences;
+mod faults;
+mod loading;
+mod schema;
+mod statements;
+mod subjects;
+mod table;
+mod tables;
+mod writing;
+
+pub use differences::{Difference, Keyed, difference_of};
+pub use loading::load_facts;
+pub use schema::{check_version, is_blank};
+pub use table::{Table, load_rows};
+pub use tables::seats::Seats;
+pub use writing::{Changes, save_changes, save_empty};

@@ -1,0 +1,56 @@
+//! Reading the facts of an office.
+ghost use Rattle.std.specs.Prelude.{IsTrue, IfOk, IfErr};
+ghost use Rattle.sqlite.specs.Held.{state};
+ghost use Rattle.sqlite.specs.State.{HasCleanDisk, IsUnchanged};
+ghost use Rattle.exam_rules.specs.Relations.{relations_of};
+ghost use Rattle.exam_rows.specs.Faults.{is_store_refusal};
+ghost use Rattle.exam_rows.specs.Held.{HoldsFacts, HoldsRelations};
+ghost use Rattle.exam_rows.specs.Inside.{Contains};
+ghost use Rattle.exam_rows.specs.Loaded.{FailsThen, IsLoadRefusal, OnlyReads};
+
+use crate::table::load_rows;
+use crate::tables::appeals::Appeals;
+use crate::tables::arrangements::Arrangements;
+use crate::tables::candidates::Candidates;
+use crate::tables::entries::Entries;
+use crate::tables::halls::Halls;
+use crate::tables::openings::Openings;
+use crate::tables::papers::Papers;
+use crate::tables::sessions::Sessions;
+use exam_rules::Facts;
+use exam_types::Refusal;
+use sqlite::{Alter, Connection};
+use std::alloc::Global;
+
+/// The facts that the tables hold. Refused as a bad store where they hold none.
+pub fn load_facts<S: Alter>(alloc: Global, conn: &mut Connection<S>) -> Result<Facts, Refusal>
+    ensures rows { HasCleanDisk (state S.Store conn.new) → IfOk result (λ facts. (all : _)
+        → Contains (state S.Store conn.old).now all
+        → HoldsFacts all (relations_of facts) × IsUnchanged (state S.Store conn.old) (state S.Store conn.new)) }
+    ensures bad { HasCleanDisk (state S.Store conn.new) → IfErr result (IsLoadRefusal
+        (FailsThen S.Store conn.old conn.new)
+        ((all : _) → Contains (state S.Store conn.old).now all → (r : _) → HoldsRelations all r → ⊥)) }
+    ensures left { HasCleanDisk (state S.Store conn.new)
+        → OnlyReads (state S.Store conn.old) (state S.Store conn.new) result }
+    ensures early { HasCleanDisk (state S.Store conn.new) → HasCleanDisk (state S.Store conn.old) }
+    ensures told { IfErr result (λ e. IsTrue (is_store_refusal e)) }
+{
+    let sessions = load_rows::<Sessions, S>(alloc, conn)?;
+    let papers = load_rows::<Papers, S>(alloc, conn)?;
+    let halls = load_rows::<Halls, S>(alloc, conn)?;
+    let openings = load_rows::<Openings, S>(alloc, conn)?;
+    let candidates = load_rows::<Candidates, S>(alloc, conn)?;
+    let entries = load_rows::<Entries, S>(alloc, conn)?;
+    let arrangements = load_rows::<Arrangements, S>(alloc, conn)?;
+    let appeals = load_rows::<Appeals, S>(alloc, conn)?;
+    Ok(Facts {
+        sessions,
+        papers,
+        halls,
+        openings,
+        candidates,
+        entries,
+        arrangements,
+        appeals,
+    })
+}

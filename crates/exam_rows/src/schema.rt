@@ -1,0 +1,168 @@
+//! The tables of schema 1.
+ghost use Rattle.std.specs.Prelude.{◌≡◌, [], ◌∷◌, IsTrue, IfErr, OnOk};
+ghost use Rattle.std.specs.Bool.{Decides};
+ghost use Rattle.sqlite.specs.Held.{state};
+ghost use Rattle.sqlite.specs.State.{HasCleanDisk, IsUnchanged};
+ghost use Rattle.sqlite_value.specs.Order.{column};
+ghost use Rattle.exam_tables.specs.Grows.{schema_0, schema_5, schema_10};
+ghost use Rattle.exam_tables.specs.Tables.{store_schema};
+ghost use Rattle.exam_rows.specs.Inside.{Contains};
+ghost use Rattle.exam_rows.specs.Faults.{is_store_refusal};
+ghost use Rattle.exam_rows.specs.Stored.{whole};
+ghost use Rattle.exam_rows.specs.Versions.{HasVersion, HasNoRows, IsBlank, IsMade, Leads, version_row};
+ghost use Rattle.exam_rows.specs.Loaded.{IsLoadRefusal, OnlyReads, Told};
+
+use crate::columns::whole_at;
+use crate::statements::{all_rows, run};
+use exam_types::Refusal;
+use sqlite::types::ValueRef;
+use sqlite::{Alter, Connection, Row, Transaction};
+
+/// The version of the schema.
+const VERSION: u32 = 1;
+
+/// Whether the database has no table, no index and no view.
+pub fn is_blank<S: Alter>(conn: &Connection<S>) -> bool
+    ensures { Decides result (IsBlank (state S.Store conn.now).now) }
+{
+    let schema = conn.schema();
+    schema.tables.len() == 0 && schema.indexes.len() == 0 && schema.views.len() == 0
+}
+
+/// Makes the ten tables, with no rows but the version, in a database with nothing in it.
+pub fn create_tables<S: Alter>(tx: &mut Transaction<'_, S>) -> Result<(), Refusal>
+    ensures same_reference { tx.new.conn.ghost_name ≡ tx.old.conn.ghost_name }
+    ensures made { Leads IsBlank IsMade
+        (state S.Store tx.old.conn.now) (state S.Store tx.new.conn.now) result }
+{
+    create_parents(tx)?;
+    create_children(tx)?;
+    put_version(tx)
+}
+
+/// Writes the one row of the table `office`.
+fn put_version<S: Alter>(tx: &mut Transaction<'_, S>) -> Result<(), Refusal>
+    ensures same_reference { tx.new.conn.ghost_name ≡ tx.old.conn.ghost_name }
+    ensures made { Leads (HasNoRows store_schema) IsMade
+        (state S.Store tx.old.conn.now) (state S.Store tx.new.conn.now) result }
+{
+    run(
+        tx,
+        "INSERT INTO office (one, version) VALUES (1, ?1)",
+        &[ValueRef::Int(i64::from(VERSION))],
+    )
+}
+
+/// The tables that refer to none, or to sessions alone.
+fn create_parents<S: Alter>(tx: &mut Transaction<'_, S>) -> Result<(), Refusal>
+    ensures same_reference { tx.new.conn.ghost_name ≡ tx.old.conn.ghost_name }
+    ensures made { Leads (HasNoRows schema_0) (HasNoRows schema_5)
+        (state S.Store tx.old.conn.now) (state S.Store tx.new.conn.now) result }
+{
+    run(
+        tx,
+        "CREATE TABLE office (one INTEGER NOT NULL, version INTEGER NOT NULL, PRIMARY KEY (one)) STRICT",
+        &[],
+    )?;
+    run(
+        tx,
+        "CREATE TABLE session (code TEXT NOT NULL, day TEXT NOT NULL, start INTEGER NOT NULL, PRIMARY KEY (code)) STRICT",
+        &[],
+    )?;
+    run(
+        tx,
+        "CREATE TABLE paper (code TEXT NOT NULL, title TEXT NOT NULL, session TEXT NOT NULL, minutes INTEGER NOT NULL, requires INTEGER NOT NULL, PRIMARY KEY (code), FOREIGN KEY (session) REFERENCES session (code)) STRICT",
+        &[],
+    )?;
+    run(
+        tx,
+        "CREATE TABLE hall (code TEXT NOT NULL, title TEXT NOT NULL, features INTEGER NOT NULL, PRIMARY KEY (code)) STRICT",
+        &[],
+    )?;
+    run(
+        tx,
+        "CREATE TABLE candidate (number INTEGER NOT NULL, name TEXT NOT NULL, code TEXT NOT NULL, PRIMARY KEY (number)) STRICT",
+        &[],
+    )
+}
+
+/// The tables that refer to those.
+fn create_children<S: Alter>(tx: &mut Transaction<'_, S>) -> Result<(), Refusal>
+    ensures same_reference { tx.new.conn.ghost_name ≡ tx.old.conn.ghost_name }
+    ensures made { Leads (HasNoRows schema_5) (HasNoRows schema_10)
+        (state S.Store tx.old.conn.now) (state S.Store tx.new.conn.now) result }
+{
+    run(
+        tx,
+        "CREATE TABLE opening (session TEXT NOT NULL, hall TEXT NOT NULL, desks INTEGER NOT NULL, until INTEGER NOT NULL, reserved INTEGER NOT NULL, PRIMARY KEY (session, hall), FOREIGN KEY (session) REFERENCES session (code), FOREIGN KEY (hall) REFERENCES hall (code)) STRICT",
+        &[],
+    )?;
+    run(
+        tx,
+        "CREATE TABLE entry (number INTEGER NOT NULL, paper TEXT NOT NULL, live INTEGER NOT NULL, PRIMARY KEY (number, paper), FOREIGN KEY (number) REFERENCES candidate (number), FOREIGN KEY (paper) REFERENCES paper (code)) STRICT",
+        &[],
+    )?;
+    run(
+        tx,
+        "CREATE TABLE arrangement (number INTEGER NOT NULL, needs INTEGER NOT NULL, extra INTEGER NOT NULL, PRIMARY KEY (number), FOREIGN KEY (number) REFERENCES candidate (number)) STRICT",
+        &[],
+    )?;
+    run(
+        tx,
+        "CREATE TABLE appeal (number INTEGER NOT NULL, ref TEXT NOT NULL, session TEXT NOT NULL, kind INTEGER NOT NULL, target TEXT NOT NULL, needs INTEGER NOT NULL, extra INTEGER NOT NULL, reason TEXT NOT NULL, state INTEGER NOT NULL, answer TEXT, lodged TEXT NOT NULL, PRIMARY KEY (number, ref), FOREIGN KEY (number) REFERENCES candidate (number), FOREIGN KEY (session) REFERENCES session (code)) STRICT",
+        &[],
+    )?;
+    run(
+        tx,
+        "CREATE TABLE seat (session TEXT NOT NULL, number INTEGER NOT NULL, hall TEXT NOT NULL, PRIMARY KEY (session, number), FOREIGN KEY (number) REFERENCES candidate (number), FOREIGN KEY (session, hall) REFERENCES opening (session, hall)) STRICT",
+        &[],
+    )
+}
+
+/// Refused as a bad store where the table `office` does not hold this version, and nothing else.
+pub fn check_version<S: Alter>(conn: &mut Connection<S>) -> Result<(), Refusal>
+    ensures ok { HasCleanDisk (state S.Store conn.new) → OnOk result ((all : _)
+        → Contains (state S.Store conn.old).now all
+        → HasVersion all × IsUnchanged (state S.Store conn.old) (state S.Store conn.new)) }
+    ensures bad { HasCleanDisk (state S.Store conn.new) → IfErr result (IsLoadRefusal
+        (Told (state S.Store conn.old) (state S.Store conn.new))
+        ((all : _) → Contains (state S.Store conn.old).now all → HasVersion all → ⊥)) }
+    ensures left { HasCleanDisk (state S.Store conn.new)
+        → OnlyReads (state S.Store conn.old) (state S.Store conn.new) result }
+    ensures early { HasCleanDisk (state S.Store conn.new) → HasCleanDisk (state S.Store conn.old) }
+    ensures told { IfErr result (λ e. IsTrue (is_store_refusal e)) }
+{
+    let rows = all_rows(conn, "SELECT one, version FROM office")?;
+    if are_version(rows.as_slice()) {
+        Ok(())
+    } else {
+        Err(Refusal::BadStore)
+    }
+}
+
+/// Whether these are the one row of this version.
+fn are_version(rows: &[Row]) -> bool
+    ensures { Decides result (rows.now ≡ version_row ∷ []) }
+{
+    match rows {
+        [row] => is_version(row),
+        _ => false,
+    }
+}
+
+/// Whether the columns are 1 and this version.
+fn is_version(row: &Row) -> bool
+    ensures { Decides result (row.now ≡ version_row) }
+{
+    row.column_count() == 2 && holds_at(row, 0, 1) && holds_at(row, 1, VERSION)
+}
+
+/// Whether this whole number stands there.
+fn holds_at(row: &Row, at: usize, value: u32) -> bool
+    ensures { Decides result (column row.now at ≡ whole value) }
+{
+    match whole_at(row, at) {
+        Ok(found) => found == value,
+        Err(_) => false,
+    }
+}

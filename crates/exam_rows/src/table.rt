@@ -1,0 +1,151 @@
+//! A table of the office.
+ghost use Rattle.std.specs.Prelude.{◌≡◌, ◌⊎◌, ℕ, List, [], ◌∷◌, IsTrue, IfOk, IfErr, map, IsPermutation};
+ghost use Rattle.sqlite.specs.Held.{state};
+ghost use Rattle.sqlite.specs.State.{HasCleanDisk, IsUnchanged};
+ghost use Rattle.sqlite_value.specs.declared.value.Value.TheVariants.{Null};
+ghost use Rattle.sqlite_value.specs.Order.{Row as Columns};
+ghost use Rattle.exam_rows.specs.Faults.{is_store_refusal};
+ghost use Rattle.exam_rows.specs.Inside.{Makes, Contains, put_of, delete_of};
+ghost use Rattle.exam_types.specs.declared.refusal.Refusal.TheVariants.{NoMemory, BadStore};
+ghost use Rattle.exam_rows.specs.Loaded.{AreRowsOf, HoldsTable, IsLoadRefusal, KeysMatch, OnlyReads, Told};
+ghost use Rattle.exam_rows.specs.Reading.{MayRead};
+
+use crate::differences::Keyed;
+use crate::statements::add_row;
+use exam_types::Refusal;
+use sqlite::{Alter, Connection, Row, Transaction};
+use std::alloc::Global;
+use std::collections::BTreeMap;
+
+/// How the rows of a table are put, deleted and read.
+///
+/// A row is put by its whole key, whether it is there or not, and deleted by its whole key. A row that others may
+/// refer to is changed in place: one that is replaced is deleted first, and is then looked for in the tables that
+/// refer to it, which have no index for that.
+pub trait Table {
+    type Key: Ord + Drop;
+
+    type Value: PartialEq + Drop;
+
+    /// The tree of its rows, and the places of its key among the columns, from 1.
+    ghost tree: { ℕ };
+
+    ghost key_places: { List ℕ };
+
+    /// The statements that put a row, and that delete one.
+    ghost put_text: { List ℕ };
+
+    ghost delete_text: { List ℕ };
+
+    /// The columns of a row, and those of its key.
+    ghost row_of: { Self.Key → Self.Value → Columns };
+
+    ghost key_of: { Self.Key → Columns };
+
+    /// The rows that there may be.
+    ghost IsRow: { Self.Key → Self.Value → Type 0 };
+
+    /// Sets the row with this key.
+    fn put<'a, S: Alter>(
+        alloc: Global,
+        tx: &mut Transaction<'_, S>,
+        key: &'a Self::Key,
+        value: &'a Self::Value,
+    ) -> Result<(), Refusal>
+        ensures same_reference { tx.new.conn.ghost_name ≡ tx.old.conn.ghost_name }
+        ensures made { Makes (state S.Store tx.old.conn.now) (state S.Store tx.new.conn.now) result
+            (put_of Self.put_text Self.tree Self.key_places (Self.row_of key.now value.now) ∷ []) };
+
+    /// Takes away the row with this key, if there is one.
+    fn delete<S: Alter>(tx: &mut Transaction<'_, S>, key: &Self::Key) -> Result<(), Refusal>
+        ensures same_reference { tx.new.conn.ghost_name ≡ tx.old.conn.ghost_name }
+        ensures made { Makes (state S.Store tx.old.conn.now) (state S.Store tx.new.conn.now) result
+            (delete_of Self.delete_text Self.tree Self.key_places (Self.key_of key.now) ∷ []) };
+
+    /// All rows, as they are shown.
+    fn shown<S: Alter>(conn: &mut Connection<S>) -> Result<Vec<Row>, Refusal>
+        ensures rows { HasCleanDisk (state S.Store conn.new) → IfOk result (λ rows. (all : _)
+            → Contains (state S.Store conn.old).now all
+            → IsPermutation (all Self.tree) (map (λ row. Null ∷ row) rows.items)
+            × IsUnchanged (state S.Store conn.old) (state S.Store conn.new)) }
+        ensures failed { HasCleanDisk (state S.Store conn.new)
+            → IfErr result (λ e. Told (state S.Store conn.old) (state S.Store conn.new) e) }
+        ensures left { HasCleanDisk (state S.Store conn.new)
+            → OnlyReads (state S.Store conn.old) (state S.Store conn.new) result }
+        ensures early { HasCleanDisk (state S.Store conn.new) → HasCleanDisk (state S.Store conn.old) }
+        ensures told { IfErr result (λ e. IsTrue (is_store_refusal e)) };
+
+    /// The row that is shown. Refused as a bad store where it is the stored form of none.
+    fn read(alloc: Global, row: &Row) -> Result<(Self::Key, Self::Value), Refusal>
+        ensures { MayRead (λ p. Self.IsRow p.0 p.1) (λ p. Self.row_of p.0 p.1) row.now result };
+}
+
+/// Sets these rows.
+pub fn put_rows<T: Table, S: Alter>(
+    alloc: Global,
+    tx: &mut Transaction<'_, S>,
+    rows: &[Keyed<'_, T::Key, T::Value>],
+) -> Result<(), Refusal>
+    ensures same_reference { tx.new.conn.ghost_name ≡ tx.old.conn.ghost_name }
+    ensures made { Makes (state S.Store tx.old.conn.now) (state S.Store tx.new.conn.now) result
+        (map (λ r. put_of T.put_text T.tree T.key_places (T.row_of r.0.now r.1.now)) rows.now) }
+{
+    'rows: for row in rows {
+        T::put(alloc, tx, row.0, row.1)?;
+    }
+    Ok(())
+}
+
+/// Takes away the rows with these keys.
+pub fn delete_rows<T: Table, S: Alter>(
+    tx: &mut Transaction<'_, S>,
+    keys: &[&T::Key],
+) -> Result<(), Refusal>
+    ensures same_reference { tx.new.conn.ghost_name ≡ tx.old.conn.ghost_name }
+    ensures made { Makes (state S.Store tx.old.conn.now) (state S.Store tx.new.conn.now) result
+        (map (λ key. delete_of T.delete_text T.tree T.key_places (T.key_of key.now)) keys.now) }
+{
+    'keys: for key in keys {
+        T::delete(tx, key)?;
+    }
+    Ok(())
+}
+
+/// The whole table.
+pub fn load_rows<T: Table, S: Alter>(
+    alloc: Global,
+    conn: &mut Connection<S>,
+) -> Result<BTreeMap<T::Key, T::Value>, Refusal>
+    ensures rows { HasCleanDisk (state S.Store conn.new) → IfOk result (λ table. (all : _)
+        → Contains (state S.Store conn.old).now all
+        → IsPermutation (all T.tree) (map (λ e. Null ∷ T.row_of e.0 e.1) table.entries)
+        × IsUnchanged (state S.Store conn.old) (state S.Store conn.new)) }
+    ensures bad { HasCleanDisk (state S.Store conn.new)
+        → KeysMatch T.Key.cmp T.key_places T.row_of T.key_of
+        → IfErr result (IsLoadRefusal (Told (state S.Store conn.old) (state S.Store conn.new))
+        ((all : _) → Contains (state S.Store conn.old).now all
+        → (entries : _) → HoldsTable T.Key.cmp T.IsRow T.row_of entries (all T.tree) → ⊥)) }
+    ensures left { HasCleanDisk (state S.Store conn.new)
+        → OnlyReads (state S.Store conn.old) (state S.Store conn.new) result }
+    ensures early { HasCleanDisk (state S.Store conn.new) → HasCleanDisk (state S.Store conn.old) }
+    ensures told { IfErr result (λ e. IsTrue (is_store_refusal e)) }
+{
+    let rows = T::shown(conn)?;
+    read_rows::<T>(alloc, rows.as_slice())
+}
+
+/// The table with these rows.
+fn read_rows<T: Table>(alloc: Global, rows: &[Row]) -> Result<BTreeMap<T::Key, T::Value>, Refusal>
+    ensures rows { IfOk result (λ table. IsPermutation rows.now (map (λ e. T.row_of e.0 e.1) table.entries)) }
+    ensures bad { IfErr result (λ e. (e ≡ NoMemory) ⊎ ((e ≡ BadStore)
+        × (KeysMatch T.Key.cmp T.key_places T.row_of T.key_of
+        → (entries : _) → AreRowsOf T.Key.cmp T.IsRow T.row_of rows.now entries → ⊥))) }
+    ensures told { IfErr result (λ e. IsTrue (is_store_refusal e)) }
+{
+    let mut table = BTreeMap::new(alloc);
+    'rows: for row in rows {
+        let (key, value) = T::read(alloc, row)?;
+        add_row(&mut table, key, value)?;
+    }
+    Ok(table)
+}

@@ -1,0 +1,129 @@
+//! The table of appeals.
+ghost use Rattle.std.specs.Prelude.{ℕ, List, [], ◌∷◌};
+ghost use Rattle.sqlite_value.specs.declared.value.Value.TheVariants.{Text};
+ghost use Rattle.exam_tables.specs.Texts.{put_appeal, delete_appeal};
+ghost use Rattle.exam_rows.specs.Rows.{appeal_row, IsAppeal};
+ghost use Rattle.exam_rows.specs.Stored as stored;
+ghost use Rattle.sqlite.specs.Held.{state};
+ghost use Rattle.std.specs.Prelude.{◌≡◌};
+ghost use Rattle.exam_rows.specs.Inside.{Makes, put_of};
+ghost use Rattle.exam_types.specs.Days.{day_text};
+
+use crate::columns::{day_at, day_text, number_at, reason_at, reference_at, session_code_at};
+use crate::statements::{all_rows, run};
+use crate::subjects::{
+    answer_of, extra_of, kind_of, needs_of, state_of, status_at, subject_at, target_of,
+};
+use crate::table::Table;
+use exam_rules::Appeal;
+use exam_types::{Number, Reference, Refusal};
+use sqlite::types::ValueRef;
+use sqlite::{Alter, Connection, Row, Transaction};
+use std::alloc::Global;
+
+/// The appeals, by candidate and reference.
+pub struct Appeals;
+
+impl Table for Appeals {
+    type Key = (Number, Reference);
+
+    type Value = Appeal;
+
+    ghost tree = { 13 };
+
+    ghost key_places = { 1 ∷ 2 ∷ [] };
+
+    ghost put_text = { put_appeal };
+
+    ghost delete_text = { delete_appeal };
+
+    ghost row_of = { appeal_row };
+
+    ghost key_of = { λ key. stored.whole key.0 ∷ Text key.1 ∷ [] };
+
+    ghost IsRow = { IsAppeal };
+
+    fn put<'a, S: Alter>(
+        alloc: Global,
+        tx: &mut Transaction<'_, S>,
+        key: &'a (Number, Reference),
+        appeal: &'a Appeal,
+    ) -> Result<(), Refusal> {
+        let lodged = day_text(alloc, appeal.lodged)?;
+        put_appeal(tx, key, appeal, lodged.as_slice())
+    }
+
+    fn delete<S: Alter>(
+        tx: &mut Transaction<'_, S>,
+        key: &(Number, Reference),
+    ) -> Result<(), Refusal> {
+        run(
+            tx,
+            "DELETE FROM appeal WHERE number = ?1 AND ref = ?2",
+            &[
+                ValueRef::Int(i64::from(key.0.get())),
+                ValueRef::Text(key.1.as_bytes()),
+            ],
+        )
+    }
+
+    fn shown<S: Alter>(conn: &mut Connection<S>) -> Result<Vec<Row>, Refusal> {
+        all_rows(
+            conn,
+            "SELECT number, ref, session, kind, target, needs, extra, reason, state, answer, lodged FROM appeal",
+        )
+    }
+
+    fn read(alloc: Global, row: &Row) -> Result<((Number, Reference), Appeal), Refusal> {
+        if row.column_count() != 11 {
+            return Err(Refusal::BadStore);
+        }
+        let number = number_at(row, 0)?;
+        let reference = reference_at(row, 1)?;
+        let session = session_code_at(row, 2)?;
+        let subject = subject_at(row, 3)?;
+        let reason = reason_at(alloc, row, 7)?;
+        let status = status_at(alloc, row, 8)?;
+        let lodged = day_at(row, 10)?;
+        Ok((
+            (number, reference),
+            Appeal {
+                session,
+                subject,
+                reason,
+                status,
+                lodged,
+            },
+        ))
+    }
+}
+
+fn put_appeal<'a, S: Alter>(
+    tx: &mut Transaction<'_, S>,
+    key: &'a (Number, Reference),
+    appeal: &'a Appeal,
+    lodged: &'a [u8],
+) -> Result<(), Refusal>
+    ensures same_reference { tx.new.conn.ghost_name ≡ tx.old.conn.ghost_name }
+    ensures made { lodged.now ≡ day_text appeal.now.lodged
+        → Makes (state S.Store tx.old.conn.now) (state S.Store tx.new.conn.now) result
+        (put_of put_appeal 13 (1 ∷ 2 ∷ []) (appeal_row key.now appeal.now) ∷ []) }
+{
+    run(
+        tx,
+        "INSERT OR REPLACE INTO appeal (number, ref, session, kind, target, needs, extra, reason, state, answer, lodged) VALUES (?1, ?2, ?3, ?4, ?5, ?6, ?7, ?8, ?9, ?10, ?11)",
+        &[
+            ValueRef::Int(i64::from(key.0.get())),
+            ValueRef::Text(key.1.as_bytes()),
+            ValueRef::Text(appeal.session.as_bytes()),
+            ValueRef::Int(kind_of(&appeal.subject)),
+            ValueRef::Text(target_of(&appeal.subject)),
+            ValueRef::Int(i64::from(needs_of(&appeal.subject))),
+            ValueRef::Int(i64::from(extra_of(&appeal.subject))),
+            ValueRef::Text(appeal.reason.as_str().as_bytes()),
+            ValueRef::Int(state_of(&appeal.status)),
+            answer_of(&appeal.status),
+            ValueRef::Text(lodged),
+        ],
+    )
+}

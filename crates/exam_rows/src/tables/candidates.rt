@@ -1,0 +1,77 @@
+//! The table of candidates.
+ghost use Rattle.std.specs.Prelude.{ℕ, List, [], ◌∷◌};
+ghost use Rattle.sqlite_value.specs.declared.value.Value.TheVariants.{Text};
+ghost use Rattle.exam_tables.specs.Texts.{put_candidate, delete_candidate};
+ghost use Rattle.exam_rows.specs.Rows.{candidate_row, IsCandidate};
+ghost use Rattle.exam_rows.specs.Stored as stored;
+
+use crate::columns::{access_code_at, name_at, number_at};
+use crate::statements::{all_rows, run};
+use crate::table::Table;
+use exam_rules::Candidate;
+use exam_types::{Number, Refusal};
+use sqlite::types::ValueRef;
+use sqlite::{Alter, Connection, Row, Transaction};
+use std::alloc::Global;
+
+/// The candidates, by their numbers.
+pub struct Candidates;
+
+impl Table for Candidates {
+    type Key = Number;
+
+    type Value = Candidate;
+
+    ghost tree = { 7 };
+
+    ghost key_places = { 1 ∷ [] };
+
+    ghost put_text = { put_candidate };
+
+    ghost delete_text = { delete_candidate };
+
+    ghost row_of = { candidate_row };
+
+    ghost key_of = { λ number. stored.whole number ∷ [] };
+
+    ghost IsRow = { IsCandidate };
+
+    fn put<'a, S: Alter>(
+        _alloc: Global,
+        tx: &mut Transaction<'_, S>,
+        number: &'a Number,
+        candidate: &'a Candidate,
+    ) -> Result<(), Refusal> {
+        run(
+            tx,
+            "INSERT INTO candidate (number, name, code) VALUES (?1, ?2, ?3) ON CONFLICT (number) DO UPDATE SET name = excluded.name, code = excluded.code",
+            &[
+                ValueRef::Int(i64::from(number.get())),
+                ValueRef::Text(candidate.name.as_str().as_bytes()),
+                ValueRef::Text(candidate.code.as_bytes()),
+            ],
+        )
+    }
+
+    fn delete<S: Alter>(tx: &mut Transaction<'_, S>, number: &Number) -> Result<(), Refusal> {
+        run(
+            tx,
+            "DELETE FROM candidate WHERE number = ?1",
+            &[ValueRef::Int(i64::from(number.get()))],
+        )
+    }
+
+    fn shown<S: Alter>(conn: &mut Connection<S>) -> Result<Vec<Row>, Refusal> {
+        all_rows(conn, "SELECT number, name, code FROM candidate")
+    }
+
+    fn read(alloc: Global, row: &Row) -> Result<(Number, Candidate), Refusal> {
+        if row.column_count() != 3 {
+            return Err(Refusal::BadStore);
+        }
+        let number = number_at(row, 0)?;
+        let name = name_at(alloc, row, 1)?;
+        let code = access_code_at(row, 2)?;
+        Ok((number, Candidate { name, code }))
+    }
+}

@@ -1,0 +1,99 @@
+//! The table of halls opened for sessions.
+ghost use Rattle.std.specs.Prelude.{ℕ, List, [], ◌∷◌};
+ghost use Rattle.sqlite_value.specs.declared.value.Value.TheVariants.{Text};
+ghost use Rattle.exam_tables.specs.Texts.{put_opening, delete_opening};
+ghost use Rattle.exam_rows.specs.Rows.{opening_row, IsOpening};
+ghost use Rattle.exam_rows.specs.Stored as stored;
+
+use crate::columns::{
+    closing_time_at, desk_count_at, flag, flag_at, hall_code_at, session_code_at,
+};
+use crate::statements::{all_rows, run};
+use crate::table::Table;
+use exam_rules::Opening;
+use exam_types::{HallCode, Refusal, SessionCode};
+use sqlite::types::ValueRef;
+use sqlite::{Alter, Connection, Row, Transaction};
+use std::alloc::Global;
+
+/// The halls opened for sessions, by session and hall.
+pub struct Openings;
+
+impl Table for Openings {
+    type Key = (SessionCode, HallCode);
+
+    type Value = Opening;
+
+    ghost tree = { 8 };
+
+    ghost key_places = { 1 ∷ 2 ∷ [] };
+
+    ghost put_text = { put_opening };
+
+    ghost delete_text = { delete_opening };
+
+    ghost row_of = { opening_row };
+
+    ghost key_of = { λ key. Text key.0 ∷ Text key.1 ∷ [] };
+
+    ghost IsRow = { IsOpening };
+
+    fn put<'a, S: Alter>(
+        _alloc: Global,
+        tx: &mut Transaction<'_, S>,
+        key: &'a (SessionCode, HallCode),
+        opening: &'a Opening,
+    ) -> Result<(), Refusal> {
+        run(
+            tx,
+            "INSERT INTO opening (session, hall, desks, until, reserved) VALUES (?1, ?2, ?3, ?4, ?5) ON CONFLICT (session, hall) DO UPDATE SET desks = excluded.desks, until = excluded.until, reserved = excluded.reserved",
+            &[
+                ValueRef::Text(key.0.as_bytes()),
+                ValueRef::Text(key.1.as_bytes()),
+                ValueRef::Int(i64::from(opening.desks.get())),
+                ValueRef::Int(i64::from(opening.until.get())),
+                ValueRef::Int(flag(opening.reserved)),
+            ],
+        )
+    }
+
+    fn delete<S: Alter>(
+        tx: &mut Transaction<'_, S>,
+        key: &(SessionCode, HallCode),
+    ) -> Result<(), Refusal> {
+        run(
+            tx,
+            "DELETE FROM opening WHERE session = ?1 AND hall = ?2",
+            &[
+                ValueRef::Text(key.0.as_bytes()),
+                ValueRef::Text(key.1.as_bytes()),
+            ],
+        )
+    }
+
+    fn shown<S: Alter>(conn: &mut Connection<S>) -> Result<Vec<Row>, Refusal> {
+        all_rows(
+            conn,
+            "SELECT session, hall, desks, until, reserved FROM opening",
+        )
+    }
+
+    fn read(_alloc: Global, row: &Row) -> Result<((SessionCode, HallCode), Opening), Refusal> {
+        if row.column_count() != 5 {
+            return Err(Refusal::BadStore);
+        }
+        let session = session_code_at(row, 0)?;
+        let hall = hall_code_at(row, 1)?;
+        let desks = desk_count_at(row, 2)?;
+        let until = closing_time_at(row, 3)?;
+        let reserved = flag_at(row, 4)?;
+        Ok((
+            (session, hall),
+            Opening {
+                desks,
+                until,
+                reserved,
+            },
+        ))
+    }
+}

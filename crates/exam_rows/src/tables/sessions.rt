@@ -1,0 +1,94 @@
+//! The table of sessions.
+ghost use Rattle.std.specs.Prelude.{◌≡◌, ℕ, pos, List, [], ◌∷◌, IsTrue, IfOk, IfErr};
+ghost use Rattle.sqlite.specs.Held.{state};
+ghost use Rattle.exam_rows.specs.Inside.{Makes, put_of};
+ghost use Rattle.exam_tables.specs.Texts.{put_session, delete_session};
+ghost use Rattle.exam_rows.specs.Rows.{session_row, IsSession};
+ghost use Rattle.exam_rows.specs.Reading.{MayRead};
+ghost use Rattle.exam_rows.specs.Stored as stored;
+ghost use Rattle.sqlite_value.specs.declared.value.Value.TheVariants.{Text};
+
+use crate::columns::{day_text, session_code_at, session_day_at, start_at};
+use crate::statements::{all_rows, run};
+use crate::table::Table;
+use exam_rules::Session;
+use exam_types::{Refusal, SessionCode, StartTime};
+use sqlite::types::ValueRef;
+use sqlite::{Alter, Connection, Row, Transaction};
+use std::alloc::Global;
+
+/// The sessions, by their codes.
+pub struct Sessions;
+
+impl Table for Sessions {
+    type Key = SessionCode;
+
+    type Value = Session;
+
+    ghost tree = { 1 };
+
+    ghost key_places = { 1 ∷ [] };
+
+    ghost put_text = { put_session };
+
+    ghost delete_text = { delete_session };
+
+    ghost row_of = { session_row };
+
+    ghost key_of = { λ code. Text code ∷ [] };
+
+    ghost IsRow = { IsSession };
+
+    fn put<'a, S: Alter>(
+        alloc: Global,
+        tx: &mut Transaction<'_, S>,
+        code: &'a SessionCode,
+        session: &'a Session,
+    ) -> Result<(), Refusal> {
+        let day = day_text(alloc, session.day.day())?;
+        put_session(tx, code, day.as_slice(), session.start)
+    }
+
+    fn delete<S: Alter>(tx: &mut Transaction<'_, S>, code: &SessionCode) -> Result<(), Refusal> {
+        run(
+            tx,
+            "DELETE FROM session WHERE code = ?1",
+            &[ValueRef::Text(code.as_bytes())],
+        )
+    }
+
+    fn shown<S: Alter>(conn: &mut Connection<S>) -> Result<Vec<Row>, Refusal> {
+        all_rows(conn, "SELECT code, day, start FROM session")
+    }
+
+    fn read(_alloc: Global, row: &Row) -> Result<(SessionCode, Session), Refusal> {
+        if row.column_count() != 3 {
+            return Err(Refusal::BadStore);
+        }
+        let code = session_code_at(row, 0)?;
+        let day = session_day_at(row, 1)?;
+        let start = start_at(row, 2)?;
+        Ok((code, Session { day, start }))
+    }
+}
+
+fn put_session<'a, S: Alter>(
+    tx: &mut Transaction<'_, S>,
+    code: &'a SessionCode,
+    day: &'a [u8],
+    start: StartTime,
+) -> Result<(), Refusal>
+    ensures same_reference { tx.new.conn.ghost_name ≡ tx.old.conn.ghost_name }
+    ensures made { Makes (state S.Store tx.old.conn.now) (state S.Store tx.new.conn.now) result
+        (put_of put_session 1 (1 ∷ []) (Text code.now ∷ Text day.now ∷ stored.whole start ∷ []) ∷ []) }
+{
+    run(
+        tx,
+        "INSERT INTO session (code, day, start) VALUES (?1, ?2, ?3) ON CONFLICT (code) DO UPDATE SET day = excluded.day, start = excluded.start",
+        &[
+            ValueRef::Text(code.as_bytes()),
+            ValueRef::Text(day),
+            ValueRef::Int(i64::from(start.get())),
+        ],
+    )
+}

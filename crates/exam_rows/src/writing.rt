@@ -1,0 +1,243 @@
+//! Writing what has changed.
+ghost use Rattle.std.specs.Prelude.{◌≡◌, false, Err, IsTrue, OnOk, IfErr};
+ghost use Rattle.sqlite.specs.Held.{state};
+ghost use Rattle.sqlite.specs.State.{HasCleanDisk, Shows, Survives};
+ghost use Rattle.sqlite.specs.Steps.{FailsToCommit};
+ghost use Rattle.exam_rows.specs.Faults.{refusal_of, is_store_refusal};
+ghost use Rattle.exam_rows.specs.Inside.{Becomes, FailsToWrite, IsOurs, Makes};
+ghost use Rattle.exam_rows.specs.Transactions.{Commits};
+ghost use Rattle.exam_rows.specs.Versions.{FailsToCreate, IsBlank, IsMade};
+ghost use Rattle.exam_rows.specs.Writes.{timetable_put, halls_put, candidates_put, plans_put, all_put};
+ghost use Rattle.exam_rows.specs.Writes.{timetable_deleted, halls_deleted, candidates_deleted, plans_deleted};
+ghost use Rattle.exam_rows.specs.Writes.{all_deleted, all_saved};
+
+use crate::differences::Difference;
+use crate::faults::refusal_of;
+use crate::schema::create_tables;
+use crate::table::{delete_rows, put_rows};
+use crate::tables::appeals::Appeals;
+use crate::tables::arrangements::Arrangements;
+use crate::tables::candidates::Candidates;
+use crate::tables::entries::Entries;
+use crate::tables::halls::Halls;
+use crate::tables::openings::Openings;
+use crate::tables::papers::Papers;
+use crate::tables::seats::Seats;
+use crate::tables::sessions::Sessions;
+use exam_rules::{Appeal, Arrangement, Candidate, Entry, Hall, Opening, Paper, Session};
+use exam_types::{HallCode, Number, PaperCode, Reference, Refusal, SessionCode};
+use sqlite::{Alter, Connection, Transaction};
+use std::alloc::Global;
+
+/// What makes the tables of one office those of another.
+#[derive(Drop)]
+pub struct Changes<'a> {
+    pub sessions: Difference<'a, SessionCode, Session>,
+    pub papers: Difference<'a, PaperCode, Paper>,
+    pub halls: Difference<'a, HallCode, Hall>,
+    pub openings: Difference<'a, (SessionCode, HallCode), Opening>,
+    pub candidates: Difference<'a, Number, Candidate>,
+    pub entries: Difference<'a, (Number, PaperCode), Entry>,
+    pub arrangements: Difference<'a, Number, Arrangement>,
+    pub appeals: Difference<'a, (Number, Reference), Appeal>,
+    pub seats: Difference<'a, (SessionCode, Number), HallCode>,
+}
+
+/// Sets the rows that are new or have changed, parents first, so that what a row refers to is there.
+fn put_all<S: Alter>(
+    alloc: Global,
+    tx: &mut Transaction<'_, S>,
+    changes: &Changes<'_>,
+) -> Result<(), Refusal>
+    ensures same_reference { tx.new.conn.ghost_name ≡ tx.old.conn.ghost_name }
+    ensures made { Makes (state S.Store tx.old.conn.now) (state S.Store tx.new.conn.now) result
+        (all_put changes.now) }
+{
+    put_timetable(alloc, tx, changes)?;
+    put_halls(alloc, tx, changes)?;
+    put_candidates(alloc, tx, changes)?;
+    put_plans(alloc, tx, changes)
+}
+
+fn put_timetable<S: Alter>(
+    alloc: Global,
+    tx: &mut Transaction<'_, S>,
+    changes: &Changes<'_>,
+) -> Result<(), Refusal>
+    ensures same_reference { tx.new.conn.ghost_name ≡ tx.old.conn.ghost_name }
+    ensures made { Makes (state S.Store tx.old.conn.now) (state S.Store tx.new.conn.now) result
+        (timetable_put changes.now) }
+{
+    put_rows::<Sessions, S>(alloc, tx, changes.sessions.put.as_slice())?;
+    put_rows::<Papers, S>(alloc, tx, changes.papers.put.as_slice())
+}
+
+fn put_halls<S: Alter>(
+    alloc: Global,
+    tx: &mut Transaction<'_, S>,
+    changes: &Changes<'_>,
+) -> Result<(), Refusal>
+    ensures same_reference { tx.new.conn.ghost_name ≡ tx.old.conn.ghost_name }
+    ensures made { Makes (state S.Store tx.old.conn.now) (state S.Store tx.new.conn.now) result
+        (halls_put changes.now) }
+{
+    put_rows::<Halls, S>(alloc, tx, changes.halls.put.as_slice())?;
+    put_rows::<Openings, S>(alloc, tx, changes.openings.put.as_slice())
+}
+
+fn put_candidates<S: Alter>(
+    alloc: Global,
+    tx: &mut Transaction<'_, S>,
+    changes: &Changes<'_>,
+) -> Result<(), Refusal>
+    ensures same_reference { tx.new.conn.ghost_name ≡ tx.old.conn.ghost_name }
+    ensures made { Makes (state S.Store tx.old.conn.now) (state S.Store tx.new.conn.now) result
+        (candidates_put changes.now) }
+{
+    put_rows::<Candidates, S>(alloc, tx, changes.candidates.put.as_slice())?;
+    put_rows::<Entries, S>(alloc, tx, changes.entries.put.as_slice())?;
+    put_rows::<Arrangements, S>(alloc, tx, changes.arrangements.put.as_slice())
+}
+
+fn put_plans<S: Alter>(
+    alloc: Global,
+    tx: &mut Transaction<'_, S>,
+    changes: &Changes<'_>,
+) -> Result<(), Refusal>
+    ensures same_reference { tx.new.conn.ghost_name ≡ tx.old.conn.ghost_name }
+    ensures made { Makes (state S.Store tx.old.conn.now) (state S.Store tx.new.conn.now) result
+        (plans_put changes.now) }
+{
+    put_rows::<Appeals, S>(alloc, tx, changes.appeals.put.as_slice())?;
+    put_rows::<Seats, S>(alloc, tx, changes.seats.put.as_slice())
+}
+
+/// Takes away the rows that are gone, children first. Seats that have moved out of a hall are set by then.
+fn delete_all<S: Alter>(tx: &mut Transaction<'_, S>, changes: &Changes<'_>) -> Result<(), Refusal>
+    ensures same_reference { tx.new.conn.ghost_name ≡ tx.old.conn.ghost_name }
+    ensures made { Makes (state S.Store tx.old.conn.now) (state S.Store tx.new.conn.now) result
+        (all_deleted changes.now) }
+{
+    delete_plans(tx, changes)?;
+    delete_candidates(tx, changes)?;
+    delete_halls(tx, changes)?;
+    delete_timetable(tx, changes)
+}
+
+fn delete_plans<S: Alter>(tx: &mut Transaction<'_, S>, changes: &Changes<'_>) -> Result<(), Refusal>
+    ensures same_reference { tx.new.conn.ghost_name ≡ tx.old.conn.ghost_name }
+    ensures made { Makes (state S.Store tx.old.conn.now) (state S.Store tx.new.conn.now) result
+        (plans_deleted changes.now) }
+{
+    delete_rows::<Seats, S>(tx, changes.seats.delete.as_slice())?;
+    delete_rows::<Appeals, S>(tx, changes.appeals.delete.as_slice())
+}
+
+fn delete_candidates<S: Alter>(
+    tx: &mut Transaction<'_, S>,
+    changes: &Changes<'_>,
+) -> Result<(), Refusal>
+    ensures same_reference { tx.new.conn.ghost_name ≡ tx.old.conn.ghost_name }
+    ensures made { Makes (state S.Store tx.old.conn.now) (state S.Store tx.new.conn.now) result
+        (candidates_deleted changes.now) }
+{
+    delete_rows::<Arrangements, S>(tx, changes.arrangements.delete.as_slice())?;
+    delete_rows::<Entries, S>(tx, changes.entries.delete.as_slice())?;
+    delete_rows::<Candidates, S>(tx, changes.candidates.delete.as_slice())
+}
+
+fn delete_halls<S: Alter>(tx: &mut Transaction<'_, S>, changes: &Changes<'_>) -> Result<(), Refusal>
+    ensures same_reference { tx.new.conn.ghost_name ≡ tx.old.conn.ghost_name }
+    ensures made { Makes (state S.Store tx.old.conn.now) (state S.Store tx.new.conn.now) result
+        (halls_deleted changes.now) }
+{
+    delete_rows::<Openings, S>(tx, changes.openings.delete.as_slice())?;
+    delete_rows::<Halls, S>(tx, changes.halls.delete.as_slice())
+}
+
+fn delete_timetable<S: Alter>(
+    tx: &mut Transaction<'_, S>,
+    changes: &Changes<'_>,
+) -> Result<(), Refusal>
+    ensures same_reference { tx.new.conn.ghost_name ≡ tx.old.conn.ghost_name }
+    ensures made { Makes (state S.Store tx.old.conn.now) (state S.Store tx.new.conn.now) result
+        (timetable_deleted changes.now) }
+{
+    delete_rows::<Papers, S>(tx, changes.papers.delete.as_slice())?;
+    delete_rows::<Sessions, S>(tx, changes.sessions.delete.as_slice())
+}
+
+/// Makes the changes, in one transaction or not at all. Refused as a failure also where a transaction is under way.
+pub fn save_changes<S: Alter>(
+    alloc: Global,
+    conn: &mut Connection<S>,
+    changes: &Changes<'_>,
+) -> Result<(), Refusal>
+    ensures made { Commits (state S.Store conn.old) (state S.Store conn.new) result
+        (Becomes (all_saved changes.now)) }
+    ensures failed { conn.old.in_transaction ≡ false → HasCleanDisk (state S.Store conn.new)
+        → IsOurs (state S.Store conn.old).now → IfErr result
+        (FailsToWrite (all_saved changes.now) (state S.Store conn.old) (state S.Store conn.new)) }
+    ensures busy { IsTrue conn.old.in_transaction → (result ≡ Err Refusal.Store) × (conn.new ≡ conn.old) }
+    ensures ended { conn.old.in_transaction ≡ false → conn.new.in_transaction ≡ false }
+    ensures told { IfErr result (λ e. IsTrue (is_store_refusal e)) }
+{
+    if !conn.is_autocommit() {
+        return Err(Refusal::Store);
+    }
+    let mut tx = conn.transaction();
+    write_changes(alloc, &mut tx, changes)?;
+    commit(tx)
+}
+
+fn write_changes<S: Alter>(
+    alloc: Global,
+    tx: &mut Transaction<'_, S>,
+    changes: &Changes<'_>,
+) -> Result<(), Refusal>
+    ensures same_reference { tx.new.conn.ghost_name ≡ tx.old.conn.ghost_name }
+    ensures made { Makes (state S.Store tx.old.conn.now) (state S.Store tx.new.conn.now) result
+        (all_saved changes.now) }
+{
+    put_all(alloc, tx, changes)?;
+    delete_all(tx, changes)
+}
+
+/// Makes the tables of an office with no facts in a database with nothing in it, in one transaction or not
+/// at all.
+pub fn save_empty<S: Alter>(conn: &mut Connection<S>) -> Result<(), Refusal>
+    ensures made { Commits (state S.Store conn.old) (state S.Store conn.new) result
+        (λ old new. IsBlank old → IsMade new) }
+    ensures failed { HasCleanDisk (state S.Store conn.new) → IsBlank (state S.Store conn.old).now
+        → IfErr result (FailsToCreate (state S.Store conn.old) (state S.Store conn.new)) }
+    ensures autocommit { OnOk result (conn.new.in_transaction ≡ false) }
+    ensures ended { conn.old.in_transaction ≡ false → conn.new.in_transaction ≡ false }
+    ensures told { IfErr result (λ e. IsTrue (is_store_refusal e)) }
+{
+    if !conn.is_autocommit() {
+        return Err(Refusal::Store);
+    }
+    let mut tx = conn.transaction();
+    create_tables(&mut tx)?;
+    commit(tx)
+}
+
+/// Commits what was written. A refusal tells the error that the database gave.
+fn commit<S: Alter>(tx: Transaction<'_, S>) -> Result<(), Refusal>
+    ensures ended { tx.exit.0.now.in_transaction ≡ false }
+    ensures ok { HasCleanDisk (state S.Store tx.exit.0.now)
+        → OnOk result (IsTrue (state S.Store tx.entry.conn.now).in_transaction
+        × Shows (state S.Store tx.entry.conn.now) (state S.Store tx.exit.0.now)
+        (state S.Store tx.entry.conn.now).now (state S.Store tx.entry.conn.now).now false) }
+    ensures failed { HasCleanDisk (state S.Store tx.exit.0.now)
+        → IfErr result (λ e. (error : _) × (e ≡ refusal_of error)
+        × FailsToCommit (state S.Store tx.entry.conn.now) (state S.Store tx.exit.0.now) error) }
+    ensures survives { Survives (state S.Store tx.entry.conn.now) (state S.Store tx.exit.0.now)
+        (λ db. db ≡ (state S.Store tx.entry.conn.now).now.trees) }
+    ensures told { IfErr result (λ e. IsTrue (is_store_refusal e)) }
+{
+    match tx.commit() {
+        Ok(()) => Ok(()),
+        Err(error) => Err(refusal_of(error)),
+    }
+}
