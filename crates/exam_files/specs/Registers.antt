@@ -4,23 +4,10 @@ use Rattle.std.specs.Fmt.{decimal}
 use Rattle.std.specs.List.{flat_map}
 use Rattle.exam_office.specs.declared.view.AppealRow.{AppealRow}
 use Rattle.exam_office.specs.Views.{View}
-use Rattle.exam_office.specs.Words.{kind_word, state_word}
-use Rattle.exam_rules.specs.declared.rows.Arrangement.{Arrangement}
-use Rattle.exam_rules.specs.declared.rows.Subject.{Subject}
-use Rattle.exam_rules.specs.declared.rows.Subject.TheVariants as subject
+use Rattle.exam_office.specs.Words.{kind_word, state_word, subject_text}
 use Rattle.exam_types.specs.Days.{day_text}
-use Rattle.exam_types.specs.Features.{features_text}
 use Rattle.exam_types.specs.Numbers.{number_text}
 use Rattle.exam_files.specs.Padding.{left_in}
-
--- the needs and the extra time
-abbrev pub arrangement_text : Arrangement → List ℕ
-arrangement_text asked = features_text asked.needs ++ codes " " ++ decimal asked.extra
-
-abbrev pub subject_text : Subject → List ℕ
-subject_text (subject.Hall hall) = hall
-subject_text (subject.Clash paper) = paper
-subject_text (subject.Arrangement asked) = arrangement_text asked
 
 abbrev pub appeal_line : AppealRow → List ℕ
 appeal_line row =

@@ -8,8 +8,7 @@ ghost use Rattle.exam_types.specs.declared.refusal.Refusal.TheVariants.{NoMemory
 use crate::sending::send;
 use crate::sheet_fault::SheetFault;
 use crate::sheet_text::{push_bytes, push_decimal, push_left};
-use exam_office::{AppealRow, SessionView, kind_word, state_word};
-use exam_rules::{Arrangement, Subject};
+use exam_office::{AppealRow, SessionView, kind_word, state_word, write_subject};
 use exam_types::{Refusal, SessionCode};
 use std::alloc::Global;
 use std::io::Write;
@@ -77,30 +76,7 @@ fn push_line(text: &mut Vec<u8>, appeal: &AppealRow) -> Result<(), Refusal>
     push_bytes(text, b" ")?;
     appeal.lodged.write_to(text)?;
     push_bytes(text, b" ")?;
-    push_subject(text, &appeal.subject)?;
+    write_subject(&appeal.subject, text)?;
     push_bytes(text, b"\n")?;
-    Ok(())
-}
-
-/// Appends the hall, the paper, or the needs and the extra time.
-fn push_subject(text: &mut Vec<u8>, subject: &Subject) -> Result<(), Refusal>
-    ensures ok { OnOk result (text.new.items ≡ text.old.items ++ spec.subject_text subject.now) }
-    ensures memory { IfErr result (λ e. e ≡ NoMemory) }
-{
-    match subject {
-        Subject::Hall(hall) => hall.write_to(text),
-        Subject::Clash(paper) => paper.write_to(text),
-        Subject::Arrangement(asked) => push_arrangement(text, *asked),
-    }
-}
-
-fn push_arrangement(text: &mut Vec<u8>, asked: Arrangement) -> Result<(), Refusal>
-    ensures ok { OnOk result (text.new.items
-        ≡ text.old.items ++ spec.arrangement_text asked) }
-    ensures memory { IfErr result (λ e. e ≡ NoMemory) }
-{
-    asked.needs.write_to(text)?;
-    push_bytes(text, b" ")?;
-    asked.extra.write_to(text)?;
     Ok(())
 }

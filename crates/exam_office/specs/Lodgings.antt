@@ -5,13 +5,12 @@ use Rattle.exam_types.specs.declared.refusal.Refusal.{Refusal}
 use Rattle.exam_types.specs.declared.refusal.Refusal.TheVariants as refusal
 use Rattle.exam_rules.specs.declared.rows.Appeal.{Appeal}
 use Rattle.exam_rules.specs.declared.rows.Arrangement.{Arrangement}
-use Rattle.exam_rules.specs.declared.rows.Entry.{Entry}
 use Rattle.exam_rules.specs.declared.rows.Session.{Session}
 use Rattle.exam_rules.specs.declared.rows.Status.TheVariants as status
 use Rattle.exam_rules.specs.declared.rows.Subject.{Subject}
 use Rattle.exam_rules.specs.declared.rows.Subject.TheVariants as subject
 use Rattle.exam_rules.specs.Relations.{Code, Relations, appeal_cmp, code_cmp, put_row, row_at, same_code}
-use Rattle.exam_rules.specs.Sessions.{arrangement_in_force, clash_papers, is_clash, is_live_paper, is_member, is_paper_of, sitting}
+use Rattle.exam_rules.specs.Sessions.{arrangement_in_force, clash_papers, is_live_paper, is_member, sitting}
 use Rattle.exam_rules.specs.Seatings.{plan_of}
 use Rattle.exam_office.specs.declared.command.Lodging.{Lodging}
 use Rattle.exam_office.specs.Appeals.{appeal_at, has_open_appeal, is_open, is_retracted, notice_days, same_subject}
@@ -148,9 +147,3 @@ with_retraction r c reference = with_retracted r c reference (appeal_at r c refe
 
 abbrev pub retracted : Relations → ℕ → Code → Result Relations Refusal
 retracted r c reference = unless (retraction_refusal r c reference) (with_retraction r c reference)
-
--- ---- of the code
-
--- a live entry of the candidate for a paper of the session other than the one that is sat
-abbrev pub is_unsat : Relations → Code → ℕ → Option Code → (ℕ × Code) × Entry → Bool
-is_unsat r s c sat e = (e.0.0 == c) && (e.1.live && (is_paper_of r s e.0.1 && is_clash sat e.0.1))

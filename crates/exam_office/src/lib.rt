@@ -47,4 +47,4 @@ pub use own_laws::{
 pub use steps::{next_office, run, step};
 pub use tables::{Table, first_bad_table};
 pub use view::{AppealRow, Clash, Seat, SessionShortage, SessionView};
-pub use words::{kind_word, state_word, status_word};
+pub use words::{kind_word, state_word, status_word, write_subject};

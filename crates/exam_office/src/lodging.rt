@@ -1,6 +1,5 @@
 //! Lodging an appeal.
 ghost use Rattle.std.specs.Prelude.{◌≡◌, ◌⊎◌, ◌==◌, length, not, [], ◌∷◌, ◌++◌, None, Some, IfOk, IfErr, OnOk};
-ghost use Rattle.std.specs.List.{list_any};
 ghost use Rattle.std.specs.Result.{result_err};
 ghost use Rattle.exam_types.specs.declared.refusal.Refusal.TheVariants.{NoMemory};
 ghost use Rattle.exam_rules.specs.Relations.{relations_of};
@@ -14,8 +13,8 @@ use crate::copies::{copied_facts, put};
 use crate::office::Seats;
 use crate::references::check_candidate;
 use exam_rules::{
-    Appeal, Arrangement, Facts, Session, Status, Subject, arrangement_in_force, is_clash,
-    is_live_paper, is_member, is_paper_of, sitting,
+    Appeal, Arrangement, Facts, Session, Status, Subject, arrangement_in_force, entries_from,
+    is_clash, is_live_paper, is_member, is_paper_of, sitting,
 };
 use exam_types::{Day, HallCode, Number, PaperCode, Refusal, SessionCode};
 
@@ -228,23 +227,13 @@ fn has_clash(facts: &Facts, session: &SessionCode, number: Number) -> bool
     ensures { result ≡ not (length (sessions.clash_papers (relations_of facts.now) session.now number) == 0) }
 {
     let sat = sitting(facts, session, number);
-    has_unsat_paper(facts, session, number, &sat)
-}
-
-/// Whether the candidate has a live paper in the session other than this one.
-fn has_unsat_paper(
-    facts: &Facts,
-    session: &SessionCode,
-    number: Number,
-    sat: &Option<PaperCode>,
-) -> bool
-    ensures { result ≡ list_any (spec.is_unsat (relations_of facts.now) session.now number sat.now)
-        facts.now.entries.entries }
-{
-    facts.entries.iter().any(|(key, entry)| {
-        key.0 == number
-            && entry.live
-            && is_paper_of(facts, session, &key.1)
-            && is_clash(sat, &key.1)
-    })
+    for (key, entry) in entries_from(facts, number) {
+        if key.0 != number {
+            break;
+        }
+        if entry.live && is_paper_of(facts, session, &key.1) && is_clash(&sat, &key.1) {
+            return true;
+        }
+    }
+    false
 }

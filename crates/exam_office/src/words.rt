@@ -1,11 +1,14 @@
-//! The words for the kinds and the states of appeals.
-ghost use Rattle.std.specs.Prelude.{◌≡◌, ◌≤◌, length};
+//! The words for the kinds, the states and the subjects of appeals.
+ghost use Rattle.std.specs.Prelude.{◌≡◌, ◌≤◌, ◌++◌, length, IfErr, OnOk, OnErr};
+ghost use Rattle.std.specs.Io.{StartsWith};
+ghost use Rattle.exam_types.specs.declared.refusal.Refusal.TheVariants.{NoMemory};
 ghost use Rattle.exam_office.specs.Appeals as appeals;
 ghost use Rattle.exam_office.specs.Words as spec;
 
 use crate::appeals::state_of;
 use crate::command::AppealState;
-use exam_rules::{Status, Subject};
+use exam_rules::{Arrangement, Status, Subject};
+use exam_types::Refusal;
 
 /// What an appeal asks for, as one word.
 pub fn kind_word(subject: &Subject) -> &'static [u8]
@@ -37,4 +40,28 @@ pub fn status_word(status: &Status) -> &'static [u8]
     ensures { result.now ≡ spec.state_word (appeals.state_of status.now) }
 {
     state_word(state_of(status))
+}
+
+/// Appends what an appeal asks for: the hall, the paper, or the needs and the extra time.
+pub fn write_subject(subject: &Subject, out: &mut Vec<u8>) -> Result<(), Refusal>
+    ensures ok { OnOk result (out.new.items ≡ out.old.items ++ spec.subject_text subject.now) }
+    ensures err { OnErr result (StartsWith out.new.items out.old.items) }
+    ensures memory { IfErr result (λ e. e ≡ NoMemory) }
+{
+    match subject {
+        Subject::Hall(hall) => hall.write_to(out),
+        Subject::Clash(paper) => paper.write_to(out),
+        Subject::Arrangement(asked) => write_arrangement(*asked, out),
+    }
+}
+
+fn write_arrangement(asked: Arrangement, out: &mut Vec<u8>) -> Result<(), Refusal>
+    ensures ok { OnOk result (out.new.items ≡ out.old.items ++ spec.arrangement_text asked) }
+    ensures err { OnErr result (StartsWith out.new.items out.old.items) }
+    ensures memory { IfErr result (λ e. e ≡ NoMemory) }
+{
+    asked.needs.write_to(out)?;
+    out.push(b' ')?;
+    asked.extra.write_to(out)?;
+    Ok(())
 }

@@ -1,21 +1,18 @@
 -- The bodies that show a candidate their own rows: members stand in rising byte order of their names.
-use Rattle.std.specs.Prelude.{ℕ, List, [], ◌∷◌, ◌++◌, Option, Some, None, codes, decimal, map}
+use Rattle.std.specs.Prelude.{ℕ, List, [], ◌∷◌, Option, Some, None, codes, map}
 use Rattle.std.specs.List.{flat_map}
 use Rattle.exam_office.specs.Appeals.{state_of}
 use Rattle.exam_rules.specs.Relations.{Code}
 use Rattle.exam_rules.specs.declared.rows.Appeal.{Appeal}
-use Rattle.exam_rules.specs.declared.rows.Arrangement.{Arrangement}
 use Rattle.exam_rules.specs.declared.rows.Status.{Status}
 use Rattle.exam_rules.specs.declared.rows.Status.TheVariants as status
-use Rattle.exam_rules.specs.declared.rows.Subject.{Subject}
-use Rattle.exam_rules.specs.declared.rows.Subject.TheVariants as subject
 use Rattle.exam_types.specs.Days.{day_text}
 use Rattle.exam_types.specs.Features.{features_text}
 use Rattle.exam_types.specs.Numbers.{minute_text}
 use Rattle.exam_request.specs.Json.{list_body, object_text, number, or_null, text}
 use Rattle.exam_office.specs.Own.{OwnRows, OwnSessionRow}
 use Rattle.exam_request.specs.declared.own_bodies.MissedPaper.{MissedPaper}
-use Rattle.exam_office.specs.Words.{kind_word, state_word}
+use Rattle.exam_office.specs.Words.{kind_word, state_word, subject_text}
 
 -- ---- seats
 
@@ -72,16 +69,6 @@ decision_reason (status.Granted answer) = Some answer
 decision_reason (status.Refused answer) = Some answer
 decision_reason status.Retracted = None
 decision_reason (status.Superseded answer) = Some answer
-
--- the needs, a space and the extra time
-abbrev pub arrangement_text : Arrangement → List ℕ
-arrangement_text asked = features_text asked.needs ++ (codes " " ++ decimal asked.extra)
-
--- the hall, the paper, or the needs and the extra time
-abbrev pub subject_text : Subject → List ℕ
-subject_text (subject.Hall hall) = hall
-subject_text (subject.Clash paper) = paper
-subject_text (subject.Arrangement asked) = arrangement_text asked
 
 -- an appeal under its reference
 unfoldable pub appeal_text : Code × Appeal → List ℕ

@@ -1,21 +1,19 @@
-//! Answers. A head and a short body take no memory, and cannot fail.
-ghost use Rattle.std.specs.Prelude.{◌≡◌, ◌≤◌, ◌+◌, ◌++◌, IfOk, OnOk, OnErr, codes, decimal, length};
+//! Answers. A head and a short body take no memory.
+ghost use Rattle.std.specs.Prelude.{◌≡◌, ◌≤◌, ◌+◌, ◌++◌, OnOk, OnErr, codes, decimal, length};
 ghost use Rattle.std.specs.Io.KnownBytes.{Appends};
 ghost use Rattle.arrayvec.specs.ArrayVec.{array_vec_len};
-ghost use Rattle.exam_types.specs.Days.{day_text};
 ghost use Rattle.exam_request.specs.Answer as spec;
 ghost use Rattle.exam_send.specs.Sending.{AppendsBeginning};
 
 use crate::methods::allowed;
 use crate::routes::Place;
 use crate::status::{phrase_of, status_of};
-use arrayvec::{ArrayString, ArrayVec};
+use arrayvec::ArrayVec;
 use exam_office::{AppealState, state_word};
 use exam_send::{WriteFailed, send_both};
 use exam_types::{Day, Refusal};
 use http::StatusCode;
 use itoa::Buffer;
-use std::fmt::Write as _;
 use std::io::Write;
 use std::marker::Model;
 
@@ -27,8 +25,19 @@ type Short = ArrayVec<u8, 256>;
 enum Body {
     Short(Short),
     Long(Vec<u8>),
-    /// That of a lodging after this last day, which is made as it is written.
-    Closing(Day),
+}
+
+impl Body {
+    ghost use Rattle.exam_request.specs.Written.{body_bytes};
+
+    fn as_slice(&self) -> &[u8]
+        ensures { result.now ≡ body_bytes self.now }
+    {
+        match self {
+            Body::Short(text) => text.as_slice(),
+            Body::Long(text) => text.as_slice(),
+        }
+    }
 }
 
 /// An answer. Contracts see what it tells.
@@ -105,7 +114,7 @@ impl Answer {
             Refusal::PastClosing { day } => Answer {
                 status: StatusCode::CONFLICT,
                 allow: None,
-                body: Body::Closing(day),
+                body: Body::Short(closing_body(day)),
             },
             other => Answer::error(other.number()),
         }
@@ -119,29 +128,8 @@ pub fn write_answer<W: Write>(answer: &Answer, writer: &mut W) -> Result<(), Wri
     ensures err { OnErr result
         (AppendsBeginning (W.contents writer.old) (W.contents writer.new) (spec.answer_text answer.now)) }
 {
-    match &answer.body {
-        Body::Short(body) => send_answer(answer.status, answer.allow, body.as_slice(), writer),
-        Body::Long(body) => send_answer(answer.status, answer.allow, body.as_slice(), writer),
-        Body::Closing(day) => {
-            let body = closing_body(*day)?;
-            send_answer(answer.status, answer.allow, body.as_slice(), writer)
-        }
-    }
-}
-
-/// Writes the answer with this body.
-fn send_answer<W: Write>(
-    status: StatusCode,
-    allow: Option<Place>,
-    body: &[u8],
-    writer: &mut W,
-) -> Result<(), WriteFailed>
-    ensures ok { OnOk result (Appends (W.contents writer.old) (W.contents writer.new)
-        (spec.text_with status allow body.now)) }
-    ensures err { OnErr result (AppendsBeginning (W.contents writer.old) (W.contents writer.new)
-        (spec.text_with status allow body.now)) }
-{
-    let head = head(status, allow, body.len());
+    let body = answer.body.as_slice();
+    let head = head(answer.status, answer.allow, body.len());
     send_both(writer, head.as_slice(), body)
 }
 
@@ -213,27 +201,15 @@ fn error_body(number: u16) -> Short
     body
 }
 
-/// The body of the answer to a lodging after this last day. A day's printing promises what it writes and not
-/// that it succeeds, so it is told as a failed write, where nothing has been written yet.
-fn closing_body(day: Day) -> Result<Short, WriteFailed>
-    ensures { IfOk result (λ body. body.items ≡ spec.closing_body day) }
+/// The body of the answer to a lodging after this last day.
+fn closing_body(day: Day) -> Short
+    ensures { result.items ≡ spec.closing_body day }
 {
-    let text = printed(day)?;
     let mut body = Short::new();
     put(&mut body, b"{\"day\":\"");
-    put(&mut body, text.as_str().as_bytes());
+    put(&mut body, day.text().as_slice());
     put(&mut body, b"\",\"error\":13}");
-    Ok(body)
-}
-
-fn printed(day: Day) -> Result<ArrayString<10>, WriteFailed>
-    ensures { IfOk result (λ text. text.bytes ≡ day_text day) }
-{
-    let mut text = ArrayString::new();
-    match write!(text, "{day}") {
-        Ok(()) => Ok(text),
-        Err(_) => Err(WriteFailed),
-    }
+    body
 }
 
 fn put(out: &mut Short, bytes: &[u8])

@@ -5,11 +5,12 @@ ghost use Rattle.exam_request.specs.Bodies as spec;
 ghost use Rattle.exam_types.specs.Days.{day_text};
 ghost use Rattle.exam_request.specs.Json.{list_body};
 ghost use Rattle.exam_office.specs.Own.{shown, shown_session};
+ghost use Rattle.exam_office.specs.Words.{subject_text};
 ghost use Rattle.exam_request.specs.SeatRows.{HasSeatTexts};
 
 use crate::objects::{Member, push_bytes, push_object};
-use exam_office::{Own, OwnSession, kind_word, status_word};
-use exam_rules::{Appeal, Arrangement, Status, Subject};
+use exam_office::{Own, OwnSession, kind_word, status_word, write_subject};
+use exam_rules::{Appeal, Status};
 use exam_types::{HallCode, PaperCode, Reference, Refusal, SessionCode};
 use std::alloc::Global;
 
@@ -226,7 +227,7 @@ fn push_appeal(alloc: Global, out: &mut Vec<u8>, row: &(Reference, Appeal)) -> R
     let mut lodged = Vec::new(alloc);
     row.1.lodged.write_to(&mut lodged)?;
     let mut subject = Vec::new(alloc);
-    push_subject(&mut subject, &row.1.subject)?;
+    write_subject(&row.1.subject, &mut subject)?;
     push_appeal_of(out, row, &lodged, &subject)
 }
 
@@ -238,7 +239,7 @@ fn push_appeal_of<'a>(
     subject: &'a [u8],
 ) -> Result<(), Refusal>
     requires lodged { lodged.now ≡ day_text row.now.1.lodged }
-    requires subject { subject.now ≡ spec.subject_text row.now.1.subject }
+    requires subject { subject.now ≡ subject_text row.now.1.subject }
     ensures ok { OnOk result (out.new.items ≡ out.old.items ++ spec.appeal_text row.now) }
     ensures memory { IfErr result (λ e. e ≡ NoMemory) }
 {
@@ -266,26 +267,4 @@ fn decision_reason(status: &Status) -> Option<&[u8]>
         }
         Status::Pending | Status::Retracted => None,
     }
-}
-
-/// Appends the hall, the paper, or the needs and the extra time.
-fn push_subject(out: &mut Vec<u8>, subject: &Subject) -> Result<(), Refusal>
-    ensures ok { OnOk result (out.new.items ≡ out.old.items ++ spec.subject_text subject.now) }
-    ensures memory { IfErr result (λ e. e ≡ NoMemory) }
-{
-    match subject {
-        Subject::Hall(hall) => hall.write_to(out),
-        Subject::Clash(paper) => paper.write_to(out),
-        Subject::Arrangement(asked) => push_arrangement(out, *asked),
-    }
-}
-
-fn push_arrangement(out: &mut Vec<u8>, asked: Arrangement) -> Result<(), Refusal>
-    ensures ok { OnOk result (out.new.items ≡ out.old.items ++ spec.arrangement_text asked) }
-    ensures memory { IfErr result (λ e. e ≡ NoMemory) }
-{
-    asked.needs.write_to(out)?;
-    push_bytes(out, b" ")?;
-    asked.extra.write_to(out)?;
-    Ok(())
 }

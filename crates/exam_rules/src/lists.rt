@@ -1,7 +1,7 @@
 //! The members and the open halls of all sessions, listed in one walk over the facts.
-ghost use Rattle.std.specs.Prelude.{◌≡◌, ◌++◌, ◌∷◌, [], length, Contains, IfSome, IfOk, IfErr, OnOk};
-ghost use Rattle.std.specs.Prelude.{if◌then◌else◌};
-ghost use Rattle.std.specs.List.Sorted.{IsStrictlySortedBy};
+ghost use Rattle.std.specs.Prelude.{◌≡◌, ◌≢◌, ◌++◌, ◌∷◌, [], length, All, Contains, IsNone, IfSome, IfOk, IfErr};
+ghost use Rattle.std.specs.Prelude.{OnOk, if◌then◌else◌};
+ghost use Rattle.std.specs.List.Sorted.{IsStrictlySortedBy, IsNonDecreasingBy};
 ghost use Rattle.std.specs.Ordering.{nat_cmp};
 ghost use Rattle.exam_types.specs.declared.refusal.Refusal.TheVariants.{NoMemory};
 ghost use Rattle.exam_rules.specs.Relations.{Code, Relations, relations_of, no_relations, code_cmp, same_code};
@@ -233,7 +233,9 @@ pub fn sitting_among(
 
 /// The least live paper of the candidate, where they are found among these members, whose numbers rise.
 fn paper_among(entrants: &[Entrant], number: Number) -> Option<PaperCode>
-    ensures { IfSome result (λ paper. Contains entrants.now (listing.entrant number paper)) }
+    ensures found { IfSome result (λ paper. Contains entrants.now (listing.entrant number paper)) }
+    ensures none_only_if_absent { IsNonDecreasingBy (λ (e : Entrant). e.number) entrants.now → IsNone result
+        → All (λ (e : Entrant). e.number ≢ number) entrants.now }
 {
     let place = entrants.partition_point(|entrant| entrant.number < number);
     match entrants.get(place) {

@@ -13,5 +13,5 @@ returns-clause-ok c =
     let e7 = more t _ _ _ _ e6 c.in_ok-push_bytes-4.ensures.ok in
     let e8 = more t _ _ _ _ e7 c.in_ok-write_to-2.ensures.ok in
     let e9 = more t _ _ _ _ e8 c.in_ok-push_bytes-5.ensures.ok in
-    let e10 = more t _ _ _ _ e9 c.in_ok-push_subject.ensures.ok in
+    let e10 = more t _ _ _ _ e9 c.in_ok-write_subject.ensures.ok in
     more t _ _ _ _ e10 c.in_ok-push_bytes-6.ensures.ok

@@ -5,4 +5,4 @@ use Rattle.exam_request.proofs.answers.closing_body.Goals as goal
 pub returns : goal.returns
 returns c =
     closing c.args.day _ _ _ _ _ c.new-body.ensures c.put.ensures.text c.put-2.ensures.text c.put-3.ensures.text
-    (c.as_bytes.ensures.value ∙ (c.as_str.ensures.value ∙ c.in_ok-text.ensures))
+    (c.as_slice.ensures.value ∙ c.text.ensures.text)

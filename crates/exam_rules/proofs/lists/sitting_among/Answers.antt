@@ -13,4 +13,4 @@ returns-in-Some c =
     let s = c.args.session.now in
     c.sitting_beside.ensures
     (All-contains (λ (e : Entrant). least_live_paper r s e.number ≡ Some e.paper) (entrants r s) (entrant c.args.number c.in-Some.least) (entrants_sit r s)
-    (subst (λ es. Contains es (entrant c.args.number c.in-Some.least)) c.requires c.in-Some.ensures))
+    (subst (λ es. Contains es (entrant c.args.number c.in-Some.least)) c.requires c.in-Some.ensures.found))
