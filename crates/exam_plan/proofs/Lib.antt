@@ -21,5 +21,4 @@ pub mod LawLemmas
 pub mod Contested
 pub mod BestPlans
 pub mod OneRepair
-pub mod TestLemmas
 pub mod NumberLaws

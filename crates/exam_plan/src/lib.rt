@@ -20,6 +20,3 @@ pub use laws::{
 };
 pub use problem::{MOST_MEMBERS, Plan, Problem};
 pub use report::Shortage;
-
-#[cfg(test)]
-mod tests;

@@ -11,8 +11,6 @@ mod numerals;
 mod ranged;
 mod refusal;
 mod session_day;
-#[cfg(test)]
-mod tests;
 mod text;
 
 pub use codes::{AccessCode, HallCode, PaperCode, Reference, SessionCode};

@@ -68,35 +68,3 @@ impl SessionDay {
         self.day
     }
 }
-
-#[cfg(test)]
-mod tests {
-    use super::*;
-    use std::test::Fail;
-
-    #[test]
-    fn begins_ten_days_after_the_first_day(rt: HostRuntime) -> Result<(), Fail> {
-        let rows = [
-            ("2000-01-10", false),
-            ("2000-01-11", true),
-            ("2199-12-31", true),
-            ("2027-02-29", false),
-        ];
-        for (text, wanted) in rows {
-            let session_day = SessionDay::parse(text.as_bytes());
-            assert_eq!(rt; session_day.is_some(), wanted, "{text}");
-            assert_eq!(rt;
-                Day::parse(text.as_bytes()).and_then(SessionDay::new),
-                session_day,
-                "{text}"
-            );
-            if let Some(session_day) = session_day {
-                let mut out = Vec::new(rt.alloc());
-                session_day.write_to(&mut out)?;
-                assert_eq!(rt; &out[..], text.as_bytes());
-                assert_eq!(rt; Some(session_day.day()), Day::parse(text.as_bytes()));
-            }
-        }
-        Ok(())
-    }
-}

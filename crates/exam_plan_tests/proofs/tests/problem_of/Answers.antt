@@ -1,6 +1,6 @@
 use Rattle.std.proofs.Common.{rules, ◌≡◌, length}
-use Rattle.exam_plan.proofs.TestLemmas.{tiny_problem}
-use Rattle.exam_plan.proofs.tests.problem_of.Goals as goal
+use Rattle.exam_plan_tests.proofs.TinyProblems.{tiny_problem}
+use Rattle.exam_plan_tests.proofs.tests.problem_of.Goals as goal
 
 pub new-requires : goal.new-requires
 new-requires c =

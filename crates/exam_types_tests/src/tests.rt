@@ -1,5 +1,10 @@
 //! Texts that are values, and texts that are none.
-use super::*;
+mod days;
+
+use exam_types::{
+    AccessCode, ClosingTime, Day, DeskCount, ExamMinutes, Extra, Features, HallCode, Minute, Name,
+    Number, PaperCode, Reason, Reference, Refusal, SessionCode, StartTime,
+};
 use std::test::Fail;
 
 #[test]

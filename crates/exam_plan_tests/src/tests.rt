@@ -1,16 +1,29 @@
 //! Worked examples, and a plain slow program that tries every plan of every tiny problem.
-ghost use Rattle.std.specs.Prelude.{◌≡◌, ◌<◌, ◌≤◌, ℕ, length, All, IfOk};
+ghost use Rattle.std.specs.Prelude.{◌≡◌, ◌<◌, ◌≤◌, ℕ, false, length, All, IfOk, filter, slice_index_or};
 ghost use Rattle.std.specs.List.{range_with_len};
 ghost use Rattle.std.specs.List.Sorted.{IsStrictlySortedBy};
 ghost use Rattle.std.specs.Ordering.{nat_cmp};
 ghost use Rattle.exam_plan.specs.Matching.{IsBest};
 ghost use Rattle.exam_plan.specs.Problems.{IsPlan, most_members, seating_of, plan_at};
 
-use crate::contest::marked_indices;
-use crate::{Plan, Problem, desks, keep_lawful, shortage, sweep};
+use exam_plan::{Plan, Problem, desks, keep_lawful, shortage, sweep};
 use exam_types::Refusal;
 use std::alloc::Global;
 use std::test::Fail;
+
+/// The halls that are marked for a candidate.
+fn row_of(alloc: Global, marks: &[bool]) -> Result<Vec<usize>, Refusal>
+    ensures indices { IfOk result (λ row. row.items
+        ≡ filter (λ h. slice_index_or marks.now h false) (range_with_len 0 (length marks.now))) }
+{
+    let mut row = Vec::new(alloc);
+    for (hall, fits) in marks.iter().enumerate() {
+        if *fits {
+            row.push(hall)?;
+        }
+    }
+    Ok(row)
+}
 
 /// The rows of the halls that are marked for each candidate.
 fn rows_of(alloc: Global, fits: &[[bool; 3]]) -> Result<Vec<Vec<usize>>, Refusal>
@@ -20,7 +33,7 @@ fn rows_of(alloc: Global, fits: &[[bool; 3]]) -> Result<Vec<Vec<usize>>, Refusal
 {
     let mut rows = Vec::new(alloc);
     for marks in fits {
-        rows.push(marked_indices(alloc, marks.as_slice())?)?;
+        rows.push(row_of(alloc, marks.as_slice())?)?;
     }
     Ok(rows)
 }
