@@ -4,7 +4,7 @@ mod doctored;
 mod kept_rows;
 mod outputs;
 mod reopening;
-mod requests;
+mod sockets;
 mod stopping;
 
 use exam_job::run_job;

@@ -1,0 +1,4 @@
+//! A candidate's requests over an office in memory.
+mod cuts;
+mod exchanges;
+mod office;
