@@ -1,7 +1,6 @@
 //! The commands of the program, over any store, reader and writers.
 ghost use Rattle.std.specs.Prelude.{◌≡◌, IfOk, IfErr};
 ghost use Rattle.exam_types.specs.declared.refusal.Refusal.TheVariants.{NoMemory};
-ghost use Rattle.exam_office.specs.declared.command.Command.TheVariants as command;
 ghost use Rattle.exam_line.specs.Lines.{shown, task_shown};
 ghost use Rattle.exam_job.specs.Jobs as spec;
 

@@ -10,7 +10,7 @@ use exam_files::read_import;
 use exam_office::{Import, Kind};
 use exam_types::Refusal;
 use std::alloc::Global;
-use std::io::Read;
+use std::io::{ErrorKind, Read};
 
 /// One byte more than an import file may have: no more is read of one than shows that it is too long.
 const MOST_READ: usize = 4_194_305;
@@ -57,7 +57,7 @@ fn append(bytes: &mut Vec<u8>, piece: &[u8]) -> Result<(), Refusal>
     Ok(bytes.extend_from_slice(piece)?)
 }
 
-/// How many bytes one read gave: none at the end of the file.
+/// How many bytes one read gave: none at the end of the file. A read that is interrupted is tried again.
 fn read_piece<R: Read>(reader: &mut R, piece: &mut [u8]) -> Result<usize, JobFault>
     requires { 0 < length piece.old }
     ensures bound { IfOk result (λ count. count ≤ length piece.new) }
@@ -67,5 +67,15 @@ fn read_piece<R: Read>(reader: &mut R, piece: &mut [u8]) -> Result<usize, JobFau
     ensures err { IfErr result (λ fault. fault ≡ File) }
     ensures kept { OnErr result (Keeps (R.remaining reader.old) (R.remaining reader.new)) }
 {
-    reader.read(piece).map_err(|_| JobFault::File)
+    'tries: for _ in 0..u64::MAX {
+        match reader.read(piece) {
+            Ok(count) => return Ok(count),
+            Err(fault) => {
+                if fault.kind() != ErrorKind::Interrupted {
+                    break;
+                }
+            }
+        }
+    }
+    Err(JobFault::File)
 }

@@ -1,8 +1,6 @@
 //! A request over a socket of this machine.
-use super::ONE_SEAT;
-use crate::tests::{ONE_ADDED, ONE_ENTRY, base_office, expect_all};
+use super::office::{FIRST_IN_A, day_of, office_with};
 use exam_http::serve_one;
-use exam_types::Day;
 use std::io::{self, Write};
 use std::net::{Ipv4Addr, SocketAddrV4, TcpListener, TcpStream};
 use std::test::Fail;
@@ -13,13 +11,15 @@ const REQUEST: &[u8] =
 const HEAD: &str =
     "HTTP/1.1 200 OK\r\nContent-Type: application/json\r\nContent-Length: 138\r\nConnection: close\r\n\r\n";
 
+const ONE_SEAT: &str =
+    "{\"seats\":[{\"date\":\"2027-06-01\",\"desk\":1,\"extra\":0,\"finish\":\"10:00\",\
+\"hall\":\"A\",\"needs\":\"-\",\"paper\":\"MA-1\",\"session\":\"S1\",\"start\":\"09:00\"}]}";
+
 /// The client connects and writes, then the server accepts and serves, then the client reads to the end.
 #[test]
 fn a_seat_is_shown_over_a_socket(rt: HostRuntime) -> Result<(), Fail> {
-    let mut store = base_office(&rt)?;
-    let rows = [("import entries f", ONE_ENTRY, Ok(ONE_ADDED))];
-    expect_all(&rt, &mut store, &rows)?;
-    let today = Day::parse(b"2027-05-30").ok_or("day")?;
+    let mut store = office_with(rt.alloc(), FIRST_IN_A)?;
+    let today = day_of("2027-05-30")?;
     let listener = TcpListener::bind(&rt, SocketAddrV4::new(Ipv4Addr::LOCALHOST, 0))?;
     let mut client = TcpStream::connect(&rt, listener.local_addr()?)?;
     client.write_all(REQUEST)?;

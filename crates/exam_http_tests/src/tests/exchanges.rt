@@ -1,10 +1,8 @@
-//! A candidate's requests over an office in memory.
-mod sockets;
-
-use super::{ONE_ADDED, ONE_ENTRY, Row, base_office, expect_all};
+//! Requests in turn, with the first line and the body of each answer.
+use super::office::{FIRST_IN_A, FIRST_IN_B, day_of, office_with};
 use exam_http::serve_one;
+use exam_office::Kind;
 use exam_store::Store;
-use exam_types::Day;
 use sqlite::MemStore;
 use std::alloc::Global;
 use std::process::Abort;
@@ -25,7 +23,7 @@ fn answer_to(
     let request = format!(in alloc;
         "{line} HTTP/1.1\r\nHost: office\r\nExam-Code: {code}\r\nContent-Length: {length}\r\n\r\n{posted}"
     )?;
-    let today = Day::parse(on.as_bytes()).ok_or("day")?;
+    let today = day_of(on)?;
     let mut reader = request.as_str().as_bytes();
     let mut answer = Vec::new(alloc);
     match serve_one(alloc, store, today, &mut reader, &mut answer) {
@@ -35,7 +33,7 @@ fn answer_to(
 }
 
 /// Compares the first line and the body of what is answered.
-fn expect_answer<R: Abort + AllocGlobal>(
+pub fn expect_answer<R: Abort + AllocGlobal>(
     rt: &R,
     store: &mut Store<MemStore>,
     asked: Exchange<'_>,
@@ -56,14 +54,13 @@ fn expect_answer<R: Abort + AllocGlobal>(
     Ok(())
 }
 
-/// Carries out the commands, and then makes the requests in turn.
+/// Makes the requests in turn, after these imports.
 fn exchange<R: Abort + AllocGlobal>(
     rt: &R,
-    rows: &[Row<'_>],
+    imports: &[(Kind, &str)],
     exchanges: &[Exchange<'_>],
 ) -> Result<(), Fail> {
-    let mut store = base_office(rt)?;
-    expect_all(rt, &mut store, rows)?;
+    let mut store = office_with(rt.alloc(), imports)?;
     for asked in exchanges {
         expect_answer(rt, &mut store, *asked)?;
     }
@@ -78,7 +75,6 @@ const ONE_SEAT: &str =
 
 #[test]
 fn a_candidate_sees_their_seat_and_nobody_elses(rt: HostRuntime) -> Result<(), Fail> {
-    let rows = [("import entries f", ONE_ENTRY, Ok(ONE_ADDED))];
     let on = "2027-05-30";
     let seats = "GET /candidates/0000001/seats";
     let exchanges = [
@@ -117,7 +113,7 @@ fn a_candidate_sees_their_seat_and_nobody_elses(rt: HostRuntime) -> Result<(), F
             "{\"error\":38}",
         ),
     ];
-    exchange(&rt, &rows, &exchanges)
+    exchange(&rt, FIRST_IN_A, &exchanges)
 }
 
 const AGAINST_B: &str =
@@ -125,20 +121,6 @@ const AGAINST_B: &str =
 
 const AGAINST_A: &str =
     "{\"hall\":\"A\",\"kind\":\"hall\",\"reason\":\"\",\"ref\":\"HA1\",\"session\":\"S1\"}";
-
-const TWO_SEATED: &[Row<'_>] = &[
-    ("import entries f", ONE_ENTRY, Ok(ONE_ADDED)),
-    (
-        "import arrangements f",
-        "number,needs,extra\n0000002,step-free,0\n",
-        Ok(ONE_ADDED),
-    ),
-    (
-        "import entries f",
-        "number,paper\n0000002,MA-1\n",
-        Ok(ONE_ADDED),
-    ),
-];
 
 #[test]
 fn an_appeal_is_lodged_and_taken_back_once(rt: HostRuntime) -> Result<(), Fail> {
@@ -193,5 +175,5 @@ fn an_appeal_is_lodged_and_taken_back_once(rt: HostRuntime) -> Result<(), Fail> 
             retracted,
         ),
     ];
-    exchange(&rt, TWO_SEATED, &exchanges)
+    exchange(&rt, FIRST_IN_B, &exchanges)
 }
