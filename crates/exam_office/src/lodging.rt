@@ -1,5 +1,5 @@
 //! Lodging an appeal.
-ghost use Rattle.std.specs.Prelude.{◌≡◌, ◌⊎◌, ◌==◌, length, not, [], ◌∷◌, ◌++◌, None, Some, IfOk, IfErr, OnOk};
+ghost use Rattle.std.specs.Prelude.{◌≡◌, ◌⊎◌, ◌==◌, ◌&&◌, length, not, [], ◌∷◌, ◌++◌, None, Some, IfOk, IfErr, OnOk};
 ghost use Rattle.std.specs.List.{list_any};
 ghost use Rattle.std.specs.Result.{result_err};
 ghost use Rattle.exam_types.specs.declared.refusal.Refusal.TheVariants.{NoMemory};
@@ -10,7 +10,7 @@ ghost use Rattle.exam_office.specs.Lodgings as spec;
 
 use crate::appeals::{has_open_appeal, is_same_subject, notice_days};
 use crate::command::Lodging;
-use crate::copies::{copied_facts, put};
+use crate::copies::{copied_facts, with_stored_appeal};
 use crate::office::Seats;
 use crate::references::check_candidate;
 use exam_rules::{
@@ -42,9 +42,13 @@ fn with_lodging(facts: &Facts, today: Day, lodging: &Lodging) -> Result<Facts, R
         ≡ spec.with_lodging (relations_of facts.now) today lodging.now) }
     ensures memory { IfErr result (λ e. e ≡ NoMemory) }
 {
-    match facts.appeals.get(&(lodging.number, lodging.reference)) {
-        Some(_) => copied_facts(facts),
-        None => with_appeal(facts, today, lodging),
+    if facts
+        .appeals
+        .contains_key(&(lodging.number, lodging.reference))
+    {
+        copied_facts(facts)
+    } else {
+        with_appeal(facts, today, lodging)
     }
 }
 
@@ -60,13 +64,7 @@ fn with_appeal(facts: &Facts, today: Day, lodging: &Lodging) -> Result<Facts, Re
         status: Status::Pending,
         lodged: today,
     };
-    let mut changed = copied_facts(facts)?;
-    put(
-        &mut changed.appeals,
-        (lodging.number, lodging.reference),
-        appeal,
-    )?;
-    Ok(changed)
+    with_stored_appeal(facts, (lodging.number, lodging.reference), appeal)
 }
 
 fn check_lodging(facts: &Facts, seats: &Seats, today: Day, lodging: &Lodging) -> Result<(), Refusal>
@@ -242,9 +240,19 @@ fn has_unsat_paper(
         facts.now.entries.entries }
 {
     facts.entries.iter().any(|(key, entry)| {
-        key.0 == number
-            && entry.live
-            && is_paper_of(facts, session, &key.1)
-            && is_clash(sat, &key.1)
+        key.0 == number && entry.live && is_unsat(facts, session, sat, &key.1)
     })
+}
+
+/// Whether the paper is of the session, and another one than that which is sat.
+fn is_unsat(
+    facts: &Facts,
+    session: &SessionCode,
+    sat: &Option<PaperCode>,
+    paper: &PaperCode,
+) -> bool
+    ensures { result ≡ (sessions.is_paper_of (relations_of facts.now) session.now paper.now
+        && sessions.is_clash sat.now paper.now) }
+{
+    is_paper_of(facts, session, paper) && is_clash(sat, paper)
 }
