@@ -4,8 +4,6 @@
 mod grammar;
 mod help;
 mod line;
-#[cfg(test)]
-mod tests;
 mod values;
 
 pub use line::{Job, Line, LineFault, Sheet, parse_line};

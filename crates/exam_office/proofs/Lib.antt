@@ -41,3 +41,4 @@ pub mod OwnFacts
 pub mod OwnRetracting
 pub mod OwnLodging
 pub mod OwnView
+pub mod FirstBad

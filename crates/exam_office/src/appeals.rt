@@ -1,10 +1,10 @@
 //! Kinds and states of appeals.
-ghost use Rattle.std.specs.Prelude.{◌≡◌, ◌≤◌};
-ghost use Rattle.exam_rules.specs.Relations.{relations_of};
+ghost use Rattle.std.specs.Prelude.{◌≡◌, ◌≤◌, ◌&&◌};
+ghost use Rattle.exam_rules.specs.Relations.{relations_of, same_code};
 ghost use Rattle.exam_office.specs.Appeals as spec;
 
 use crate::command::AppealState;
-use exam_rules::{Facts, Status, Subject};
+use exam_rules::{Appeal, Facts, Status, Subject};
 use exam_types::{Number, Reference, SessionCode};
 
 /// Both are against a hall, both on a clash, or both for an arrangement.
@@ -80,10 +80,14 @@ pub fn has_open_appeal(
 ) -> bool
     ensures { result ≡ spec.has_open_appeal (relations_of facts.now) number session.now subject.now }
 {
-    facts.appeals.iter().any(|(key, appeal)| {
-        key.0 == number
-            && appeal.session == *session
-            && is_same_kind(&appeal.subject, subject)
-            && is_open(&appeal.status)
-    })
+    facts.appeals.iter().any(|(key, appeal)| key.0 == number
+        && is_open_for(session, subject, appeal))
+}
+
+/// Whether the appeal is open, for the session and of the same kind.
+fn is_open_for(session: &SessionCode, subject: &Subject, appeal: &Appeal) -> bool
+    ensures { result ≡ (same_code appeal.now.session session.now
+        && (spec.same_kind appeal.now.subject subject.now && spec.is_open appeal.now.status)) }
+{
+    appeal.session == *session && is_same_kind(&appeal.subject, subject) && is_open(&appeal.status)
 }

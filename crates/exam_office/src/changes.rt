@@ -68,10 +68,19 @@ fn with_rows(facts: &Facts, rows: &[Row]) -> Result<Facts, Refusal>
     ensures memory { IfErr result (λ e. e ≡ NoMemory) }
 {
     let mut changed = copied_facts(facts)?;
-    for row in rows {
-        put_row(&mut changed, row)?;
-    }
+    put_rows(&mut changed, rows)?;
     Ok(changed)
+}
+
+/// Sets each row in turn.
+fn put_rows(facts: &mut Facts, rows: &[Row]) -> Result<(), Refusal>
+    ensures ok { OnOk result (relations_of facts.new ≡ changes.with_rows (relations_of facts.old) rows.now) }
+    ensures memory { IfErr result (λ e. e ≡ NoMemory) }
+{
+    for row in rows {
+        put_row(facts, row)?;
+    }
+    Ok(())
 }
 
 /// Adds a row with a new key, and sets a present key to the row. An entry that is there is left alone, and a
@@ -200,6 +209,8 @@ fn is_opening_stored(
     ensures { result ≡ option_map (same_opening opening.now)
         (row_at opening_cmp facts.now.openings.entries (session.now, hall.now)) }
 {
-    let stored = facts.openings.get(&(*session, *hall))?;
-    Some(*opening == *stored)
+    facts
+        .openings
+        .get(&(*session, *hall))
+        .map(|stored| *opening == *stored)
 }

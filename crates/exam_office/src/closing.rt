@@ -1,5 +1,6 @@
 //! Closing a hall for a session.
 ghost use Rattle.std.specs.Prelude.{◌≡◌, ◌⊎◌, None, Some, IfOk, IfErr, OnOk};
+ghost use Rattle.std.specs.Result.{result_err};
 ghost use Rattle.exam_types.specs.declared.refusal.Refusal.TheVariants.{NoMemory};
 ghost use Rattle.exam_rules.specs.Relations.{relations_of};
 ghost use Rattle.exam_office.specs.Changes as changes;
@@ -18,11 +19,28 @@ pub fn closed(facts: &Facts, session: SessionCode, hall: HallCode) -> Result<Fac
     ensures refusal { IfErr result (λ e. (e ≡ NoMemory)
         ⊎ (changes.closing_refusal (relations_of facts.now) session hall ≡ Some e)) }
 {
+    check_closing(facts, session, hall)?;
+    without_opening(facts, session, hall)
+}
+
+/// Refused, in this order, as an unknown session, an unknown hall, or a hall not opened.
+fn check_closing(facts: &Facts, session: SessionCode, hall: HallCode) -> Result<(), Refusal>
+    ensures { result_err result ≡ changes.closing_refusal (relations_of facts.now) session hall }
+{
     check_session(facts, &session)?;
     check_hall(facts, &hall)?;
     if !facts.openings.contains_key(&(session, hall)) {
         return Err(Refusal::HallNotOpened);
     }
+    Ok(())
+}
+
+/// The facts without the opening.
+fn without_opening(facts: &Facts, session: SessionCode, hall: HallCode) -> Result<Facts, Refusal>
+    ensures ok { IfOk result (λ changed. relations_of changed
+        ≡ changes.without_opening (relations_of facts.now) session hall) }
+    ensures memory { IfErr result (λ e. e ≡ NoMemory) }
+{
     let mut changed = copied_facts(facts)?;
     let _ = changed.openings.remove(&(session, hall));
     Ok(changed)

@@ -16,7 +16,7 @@ ghost use Rattle.exam_office.specs.Singles.{AreSingle};
 
 use crate::appeals::{is_open, is_same_kind, stored_state};
 use crate::command::{Decision, Outcome, Reply};
-use crate::copies::{copied_facts, put};
+use crate::copies::{copied_facts, put, with_stored_appeal};
 use crate::moves::moved;
 use crate::office::Office;
 use exam_rules::{Appeal, Facts, Status, Subject, is_live_paper, is_member};
@@ -194,9 +194,11 @@ fn with_status(appeal: &Appeal, status: Status) -> Result<Appeal, Refusal>
     ensures ok { IfOk result (λ changed. changed ≡ record appeal.now { status = status }) }
     ensures memory { IfErr result (λ e. e ≡ NoMemory) }
 {
-    let mut changed = appeal.clone()?;
-    changed.status = status;
-    Ok(changed)
+    Ok(Appeal {
+        reason: appeal.reason.copy()?,
+        status,
+        ..*appeal
+    })
 }
 
 /// The facts without the decision: where it is a grant, with the earlier grant of its kind superseded.
@@ -245,9 +247,7 @@ fn with_superseded_appeal(
     ensures memory { IfErr result (λ e. e ≡ NoMemory) }
 {
     let superseded = with_status(appeal, superseded_status(&appeal.status)?)?;
-    let mut changed = copied_facts(facts)?;
-    put(&mut changed.appeals, key, superseded)?;
-    Ok(changed)
+    with_stored_appeal(facts, key, superseded)
 }
 
 fn superseded_status(status: &Status) -> Result<Status, Refusal>

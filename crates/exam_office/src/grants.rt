@@ -4,10 +4,10 @@ ghost use Rattle.std.specs.Bool.{Decides};
 ghost use Rattle.std.specs.List.{IsDistinct};
 ghost use Rattle.std.specs.Ordering.{eq_by_cmp};
 ghost use Rattle.exam_types.specs.declared.refusal.Refusal.TheVariants.{NoMemory};
-ghost use Rattle.exam_rules.specs.Relations.{relations_of};
+ghost use Rattle.exam_rules.specs.Relations.{Code, relations_of};
 ghost use Rattle.exam_office.specs.Singles as spec;
 
-use exam_rules::{Facts, Status, Subject};
+use exam_rules::{Appeal, Facts, Status, Subject};
 use exam_types::{Number, Refusal, SessionCode};
 use std::alloc::Global;
 use std::collections::BTreeSet;
@@ -31,11 +31,19 @@ pub fn are_single(alloc: Global, facts: &Facts) -> Result<bool, Refusal>
 {
     let mut keys = Vec::new(alloc);
     for (key, appeal) in &facts.appeals {
-        if let Some(single) = single_of(&appeal.status, &appeal.subject) {
-            keys.push((appeal.session, key.0, single))?;
+        if let Some(single) = single_key(key.0, appeal) {
+            keys.push(single)?;
         }
     }
     are_distinct(alloc, &keys)
+}
+
+/// The session, the candidate and as what the appeal stands alone, if it does.
+fn single_key(number: Number, appeal: &Appeal) -> Option<(SessionCode, Number, Single)>
+    ensures { (reference : Code) → result ≡ spec.single_key ((number, reference), appeal.now) }
+{
+    let single = single_of(&appeal.status, &appeal.subject)?;
+    Some((appeal.session, number, single))
 }
 
 /// Whether no two of the keys are equal.

@@ -9,7 +9,7 @@ ghost use Rattle.exam_office.specs.Lodgings as spec;
 
 use crate::appeals::{has_open_appeal, is_same_subject, notice_days};
 use crate::command::Lodging;
-use crate::copies::{copied_facts, put};
+use crate::copies::{copied_facts, with_stored_appeal};
 use crate::office::Seats;
 use crate::references::check_candidate;
 use exam_rules::{
@@ -41,9 +41,13 @@ fn with_lodging(facts: &Facts, today: Day, lodging: &Lodging) -> Result<Facts, R
         ≡ spec.with_lodging (relations_of facts.now) today lodging.now) }
     ensures memory { IfErr result (λ e. e ≡ NoMemory) }
 {
-    match facts.appeals.get(&(lodging.number, lodging.reference)) {
-        Some(_) => copied_facts(facts),
-        None => with_appeal(facts, today, lodging),
+    if facts
+        .appeals
+        .contains_key(&(lodging.number, lodging.reference))
+    {
+        copied_facts(facts)
+    } else {
+        with_appeal(facts, today, lodging)
     }
 }
 
@@ -59,13 +63,7 @@ fn with_appeal(facts: &Facts, today: Day, lodging: &Lodging) -> Result<Facts, Re
         status: Status::Pending,
         lodged: today,
     };
-    let mut changed = copied_facts(facts)?;
-    put(
-        &mut changed.appeals,
-        (lodging.number, lodging.reference),
-        appeal,
-    )?;
-    Ok(changed)
+    with_stored_appeal(facts, (lodging.number, lodging.reference), appeal)
 }
 
 fn check_lodging(facts: &Facts, seats: &Seats, today: Day, lodging: &Lodging) -> Result<(), Refusal>

@@ -76,15 +76,8 @@ impl Office {
             ⊎ ((e ≡ BadStore)
             × (IsGood (record { relations = relations_of facts; seats = seats.entries }) → ⊥))) }
     {
-        let lists = session_lists(alloc, &facts)?;
-        match first_bad_listed(alloc, &facts, &lists, &seats)? {
-            None => Ok(Office {
-                facts,
-                lists,
-                seats,
-            }),
-            Some(_) => Err(Refusal::BadStore),
-        }
+        let lists = good_lists(alloc, &facts, &seats)?;
+        Ok(Office::holding(facts, lists, seats))
     }
 
     pub fn facts(&self) -> &Facts
@@ -156,5 +149,22 @@ impl Office {
     {
         self.is_good();
         self.is_in_order();
+    }
+}
+
+/// The members and the open halls of each session of a good office. Refused as a bad store exactly where these
+/// facts and plans are no good office, and where there is not enough memory.
+fn good_lists(alloc: Global, facts: &Facts, seats: &Seats) -> Result<SessionLists, Refusal>
+    ensures ok { IfOk result (λ lists. AreListsOf (relations_of facts.now) lists) }
+    ensures good { OnOk result
+        (IsGood (record { relations = relations_of facts.now; seats = seats.now.entries })) }
+    ensures refusal { IfErr result (λ e. (e ≡ NoMemory)
+        ⊎ ((e ≡ BadStore)
+        × (IsGood (record { relations = relations_of facts.now; seats = seats.now.entries }) → ⊥))) }
+{
+    let lists = session_lists(alloc, facts)?;
+    match first_bad_listed(alloc, facts, &lists, seats)? {
+        None => Ok(lists),
+        Some(_) => Err(Refusal::BadStore),
     }
 }

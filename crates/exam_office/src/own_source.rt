@@ -91,9 +91,29 @@ fn own_sessions(
     ensures memory { IfErr result (λ e. e ≡ NoMemory) }
 {
     let entered = entered_sessions(alloc, facts, number)?;
+    sessions_among(alloc, facts, lists, seats, number, &entered)
+}
+
+/// The same, where the candidate is a member of none but these.
+fn sessions_among(
+    alloc: Global,
+    facts: &Facts,
+    lists: &SessionLists,
+    seats: &Seats,
+    number: Number,
+    entered: &[SessionCode],
+) -> Result<Vec<OwnSession>, Refusal>
+    requires lists { AreListsOf (relations_of facts.now) lists.now }
+    requires good { IsGood (record { relations = relations_of facts.now; seats = seats.now.entries }) }
+    requires entered { HoldsEntered (relations_of facts.now) number entered.now }
+    ensures ok { IfOk result (λ sessions. map spec.shown_session sessions.items
+        ≡ spec.own_sessions (record { relations = relations_of facts.now; seats = seats.now.entries })
+        number) }
+    ensures memory { IfErr result (λ e. e ≡ NoMemory) }
+{
     let mut list = Vec::new(alloc);
     for (session, row) in &facts.sessions {
-        if is_member_among(facts, &entered, session, number) {
+        if is_member_among(facts, entered, session, number) {
             list.push(own_session(alloc, facts, lists, seats, number, session, row)?)?;
         }
     }

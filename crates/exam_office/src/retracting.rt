@@ -4,7 +4,7 @@ ghost use Rattle.exam_types.specs.declared.refusal.Refusal.TheVariants.{NoMemory
 ghost use Rattle.exam_rules.specs.Relations.{relations_of};
 ghost use Rattle.exam_office.specs.Lodgings as spec;
 
-use crate::copies::{copied_facts, put};
+use crate::copies::{copied_facts, with_stored_appeal};
 use exam_rules::{Appeal, Facts, Status};
 use exam_types::{Number, Reference, Refusal};
 
@@ -39,9 +39,10 @@ fn with_retracted(
         ≡ spec.with_retracted_appeal (relations_of facts.now) number reference appeal.now) }
     ensures memory { IfErr result (λ e. e ≡ NoMemory) }
 {
-    let mut retracted = appeal.clone()?;
-    retracted.status = Status::Retracted;
-    let mut changed = copied_facts(facts)?;
-    put(&mut changed.appeals, (number, reference), retracted)?;
-    Ok(changed)
+    let retracted = Appeal {
+        reason: appeal.reason.copy()?,
+        status: Status::Retracted,
+        ..*appeal
+    };
+    with_stored_appeal(facts, (number, reference), retracted)
 }

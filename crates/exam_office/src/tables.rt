@@ -1,5 +1,5 @@
 //! What is wrong with facts and plans that are no good office, by tables.
-ghost use Rattle.std.specs.Prelude.{◌≡◌, ◌&&◌, ℕ, IsTrue, IfOk, IfErr};
+ghost use Rattle.std.specs.Prelude.{◌≡◌, ◌&&◌, ◌∷◌, [], ℕ, None, IsTrue, IfOk, IfErr};
 ghost use Rattle.std.specs.Bool.{Decides};
 ghost use Rattle.exam_types.specs.declared.refusal.Refusal.TheVariants.{NoMemory};
 ghost use Rattle.exam_plan.specs.Matching.{IsBest};
@@ -9,6 +9,7 @@ ghost use Rattle.exam_rules.specs.Seatings.{seating, plan_of};
 ghost use Rattle.exam_office.specs.Good as good;
 ghost use Rattle.exam_office.specs.Limits as spec;
 ghost use Rattle.exam_office.specs.Singles.{AreSingle};
+ghost use Rattle.exam_office.specs.State as state;
 ghost use Rattle.exam_office.specs.declared.tables.Table.TheVariants as table;
 
 use crate::office::Seats;
@@ -57,27 +58,59 @@ pub fn first_bad_listed(
         (record { relations = relations_of facts.now; seats = seats.now.entries }) found) }
     ensures memory { IfErr result (λ e. e ≡ NoMemory) }
 {
+    match first_bad_of_imports(facts, lists) {
+        Some(table) => Ok(Some(table)),
+        None => first_bad_of_others(alloc, facts, lists, seats),
+    }
+}
+
+/// The first of the tables that imports fill which is not good. Whatever seats there are says nothing of them.
+fn first_bad_of_imports(facts: &Facts, lists: &SessionLists) -> Option<Table>
+    requires { AreListsOf (relations_of facts.now) lists.now }
+    ensures first { (seats : state.Seats)
+        → good.IsFirstBadOf (record { relations = relations_of facts.now; seats = seats })
+        (table.Sessions ∷ table.Papers ∷ table.Halls ∷ table.Openings ∷ table.Candidates ∷ table.Entries
+        ∷ table.Arrangements ∷ []) result }
+    ensures few { result ≡ None → IsTrue (spec.members_within (relations_of facts.now)) }
+{
     if !limits::are_sessions_within(facts) {
-        return Ok(Some(Table::Sessions));
+        return Some(Table::Sessions);
     }
     if !are_papers_good(facts) {
-        return Ok(Some(Table::Papers));
+        return Some(Table::Papers);
     }
     if !limits::are_halls_within(facts) {
-        return Ok(Some(Table::Halls));
+        return Some(Table::Halls);
     }
     if !are_openings_good(facts, lists) {
-        return Ok(Some(Table::Openings));
+        return Some(Table::Openings);
     }
     if !limits::are_candidates_within(facts) {
-        return Ok(Some(Table::Candidates));
+        return Some(Table::Candidates);
     }
     if !are_entries_good(facts, lists) {
-        return Ok(Some(Table::Entries));
+        return Some(Table::Entries);
     }
     if !references::arrangements_refer(facts) {
-        return Ok(Some(Table::Arrangements));
+        return Some(Table::Arrangements);
     }
+    None
+}
+
+/// The first of the other tables that is not good.
+fn first_bad_of_others(
+    alloc: Global,
+    facts: &Facts,
+    lists: &SessionLists,
+    seats: &Seats,
+) -> Result<Option<Table>, Refusal>
+    requires lists { AreListsOf (relations_of facts.now) lists.now }
+    requires few { IsTrue (spec.members_within (relations_of facts.now)) }
+    ensures ok { IfOk result (λ found. good.IsFirstBadOf
+        (record { relations = relations_of facts.now; seats = seats.now.entries })
+        (table.Appeals ∷ table.Seats ∷ []) found) }
+    ensures memory { IfErr result (λ e. e ≡ NoMemory) }
+{
     if !are_appeals_good(alloc, facts)? {
         return Ok(Some(Table::Appeals));
     }

@@ -230,9 +230,17 @@ impl SessionView {
     {
         let mut halls = Vec::with_capacity(alloc, places.len())?;
         for place in places {
-            halls.push((self.openings[*place].0, self.problem.desk_count(*place)))?;
+            halls.push(self.hall_with_desks(*place))?;
         }
         Ok(halls)
+    }
+
+    /// The hall at the place, with its desks.
+    fn hall_with_desks(&self, place: usize) -> (HallCode, u32)
+        requires { place < length self.now.openings }
+        ensures { result ≡ views.hall_with_desks self.now place }
+    {
+        (self.openings[place].0, self.problem.desk_count(place))
     }
 
     /// The numbers of the members at these places.

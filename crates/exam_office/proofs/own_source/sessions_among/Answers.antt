@@ -1,7 +1,7 @@
 use Rattle.std.specs.Map.Iter.{deref_pair}
 use Rattle.std.specs.Cmp.Lexicographic.{nat_list_cmp_total}
 use Rattle.std.proofs.lemmas.Map.Iter.{btree_map_turn}
-use Rattle.exam_office.proofs.own_source.own_sessions.Goals as goal
+use Rattle.exam_office.proofs.own_source.sessions_among.Goals as goal
 
 pub own_session-requires-clause-known : goal.own_session-requires-clause-known
 own_session-requires-clause-known c =

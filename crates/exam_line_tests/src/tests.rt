@@ -1,5 +1,5 @@
 //! Lines that are understood, words that are none, and the text of a request for help.
-use crate::{Job, LineFault, Sheet, parse_line};
+use exam_line::{Job, LineFault, Sheet, parse_line};
 use std::alloc::{AllocError, Global};
 use std::test::Fail;
 

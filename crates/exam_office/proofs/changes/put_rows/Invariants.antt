@@ -1,9 +1,9 @@
 use Rattle.std.proofs.Common.{◌≡◌, drop}
 use Rattle.exam_rules.specs.Relations.{relations_of}
 use Rattle.exam_office.specs.Changes as changes
-use Rattle.exam_office.proofs.changes.with_rows.Given as goal
+use Rattle.exam_office.proofs.changes.put_rows.Given as goal
 
 -- what is left makes of the facts so far what all rows make of the first ones
 abbrev pub invariant-loop-row : goal.invariant-loop-row
 invariant-loop-row l =
-    changes.with_rows (relations_of l.changed) (drop l.row-index l.rows) ≡ changes.with_rows (relations_of l.facts) l.rows
+    changes.with_rows (relations_of l.facts) (drop l.row-index l.rows) ≡ changes.with_rows (relations_of l.fn.facts) l.rows

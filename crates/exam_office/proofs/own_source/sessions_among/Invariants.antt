@@ -2,7 +2,7 @@ use Rattle.std.proofs.Common.{◌≡◌, ◌++◌, map}
 use Rattle.exam_rules.specs.Relations.{relations_of}
 use Rattle.exam_office.specs.Own.{own_sessions, shown_session}
 use Rattle.exam_office.proofs.OwnRows.{sessions_left}
-use Rattle.exam_office.proofs.own_source.own_sessions.Given as goal
+use Rattle.exam_office.proofs.own_source.sessions_among.Given as goal
 
 -- what is left makes of the sessions so far the whole
 abbrev pub invariant-loop-session : goal.invariant-loop-session
