@@ -1,7 +1,7 @@
 -- What a call that writes a text leaves.
 use Rattle.std.specs.Prelude.{◌≡◌, ◌⊎◌, ℕ, List, Option, Result, Ok, Err}
 use Rattle.std.specs.Io.KnownBytes.{Appends}
-use Rattle.exam_send.specs.Sending.{AppendsBeginning}
+use Rattle.exam_send.specs.Sending.{AppendsPart}
 use Rattle.exam_types.specs.declared.refusal.Refusal.{Refusal}
 use Rattle.exam_types.specs.declared.refusal.Refusal.TheVariants.{NoMemory}
 use Rattle.exam_files.specs.declared.sheet_fault.SheetFault.{SheetFault}
@@ -20,11 +20,11 @@ HasText sheet = (text : List ℕ) × (sheet ≡ Ok text)
 abbrev pub IsRefusal : Refusal → Result (List ℕ) Refusal → Type 0
 IsRefusal refusal sheet = ((refusal ≡ NoMemory) × HasText sheet) ⊎ (sheet ≡ Err refusal)
 
--- Of a sheet, or its refusal: all of it went out, nothing at all (the writer is as it was), or a beginning.
+-- Of a sheet, or its refusal: all of it went out, nothing at all (the writer is as it was), or a beginning that is not all.
 abbrev pub Writes : {W : Type 0} → (W → Option (List ℕ)) → Result (Unit {0}) SheetFault
     → W → W → Result (List ℕ) Refusal → Type 0
 Writes contents (Ok done) old new sheet =
     (text : List ℕ) × (sheet ≡ Ok text) × Appends (contents old) (contents new) text
 Writes contents (Err (Refused refusal)) old new sheet = (new ≡ old) × IsRefusal refusal sheet
 Writes contents (Err Write) old new sheet =
-    (text : List ℕ) × (sheet ≡ Ok text) × AppendsBeginning (contents old) (contents new) text
+    (text : List ℕ) × (sheet ≡ Ok text) × AppendsPart (contents old) (contents new) text

@@ -7,7 +7,7 @@ use Rattle.exam_request.specs.Answer.{Told, answer_text, error_told}
 use Rattle.exam_request.specs.Asked.{Asks, Request, request_of}
 use Rattle.exam_request.specs.Faults.{fault_number}
 use Rattle.exam_send.specs.Given.{Gave}
-use Rattle.exam_send.specs.Sending.{AppendsBeginning}
+use Rattle.exam_send.specs.Sending.{AppendsPart}
 use Rattle.exam_request.specs.declared.fault.Fault.{Fault}
 use Rattle.exam_request.specs.declared.reading.Asked.{Asked}
 use Rattle.exam_http.specs.Answering.{Answers}
@@ -40,10 +40,10 @@ Replies g contents today asked old before (Ok done) new after =
 Replies g contents today asked old before (Err Read) new after = ⊥
 Replies g contents today asked old before (Err Write) new after =
     (told : Told) × AnswersAsked g today old asked told new
-    × AppendsBeginning (contents before) (contents after) (answer_text told)
+    × AppendsPart (contents before) (contents after) (answer_text told)
 
 -- Where it succeeds, all of the answer is written. After a failed read nothing was written and nothing changed;
--- after a failed write a beginning of the answer went out, and what was done stands.
+-- after a failed write a beginning of the answer went out, not all of it, and what was done stands.
 abbrev pub Serves : {S W : Type 0} → Ghosts S → (W → Option (List ℕ)) → ℕ → Option (List ℕ) → Option (List ℕ)
     → OfficeIn S → W → Result (Unit {0}) HttpFault → OfficeIn S → W → Type 0
 Serves g contents today input rest old before (Ok done) new after =
@@ -52,4 +52,4 @@ Serves g contents today input rest old before (Ok done) new after =
 Serves g contents today input rest old before (Err Read) new after = (new ≡ old) × (after ≡ before)
 Serves g contents today input rest old before (Err Write) new after =
     (told : Told) × Tells g today input rest old told new
-    × AppendsBeginning (contents before) (contents after) (answer_text told)
+    × AppendsPart (contents before) (contents after) (answer_text told)

@@ -23,7 +23,7 @@ pub enum HttpFault {
 const MOST: usize = 12_288;
 
 /// Reads one request and writes one answer. After `Read` nothing was written and nothing changed; after `Write`
-/// a beginning of the answer went out, and a command stands as it was answered.
+/// a beginning of the answer went out, not all of it, and a command stands as it was answered.
 pub fn serve_one<S: Alter, R: Read, W: Write>(
     alloc: Global,
     store: &mut Store<S>,

@@ -1,10 +1,8 @@
 //! The worked rows, through all layers over a database in memory.
 mod closing;
-mod doctored;
 mod kept_rows;
 mod outputs;
 mod reopening;
-mod stopping;
 
 use exam_job::run_job;
 use exam_line::parse_line;

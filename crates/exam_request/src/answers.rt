@@ -3,7 +3,7 @@ ghost use Rattle.std.specs.Prelude.{◌≡◌, ◌≤◌, ◌+◌, ◌++◌, OnO
 ghost use Rattle.std.specs.Io.KnownBytes.{Appends};
 ghost use Rattle.arrayvec.specs.ArrayVec.{array_vec_len};
 ghost use Rattle.exam_request.specs.Answer as spec;
-ghost use Rattle.exam_send.specs.Sending.{AppendsBeginning};
+ghost use Rattle.exam_send.specs.Sending.{AppendsPart};
 
 use crate::methods::allowed;
 use crate::routes::Place;
@@ -126,7 +126,7 @@ pub fn write_answer<W: Write>(answer: &Answer, writer: &mut W) -> Result<(), Wri
     ensures ok { OnOk result
         (Appends (W.contents writer.old) (W.contents writer.new) (spec.answer_text answer.now)) }
     ensures err { OnErr result
-        (AppendsBeginning (W.contents writer.old) (W.contents writer.new) (spec.answer_text answer.now)) }
+        (AppendsPart (W.contents writer.old) (W.contents writer.new) (spec.answer_text answer.now)) }
 {
     let body = answer.body.as_slice();
     let head = head(answer.status, answer.allow, body.len());

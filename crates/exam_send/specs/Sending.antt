@@ -1,8 +1,13 @@
--- What a writer has after a failed write.
-use Rattle.std.specs.Prelude.{◌≡◌, ℕ, List, ◌++◌, Option}
+-- What a writer has after a failed write or flush.
+use Rattle.std.specs.Prelude.{◌≡◌, ◌<◌, ℕ, List, length, ◌++◌, Option}
 use Rattle.std.specs.Io.KnownBytes.{Appends}
 
--- a beginning of the bytes went out
+-- a beginning of the bytes went out, and not all of them
+abbrev pub AppendsPart : Option (List ℕ) → Option (List ℕ) → List ℕ → Type 0
+AppendsPart old new bytes =
+    (front : List ℕ) × (rest : List ℕ) × (bytes ≡ front ++ rest) × (0 < length rest) × Appends old new front
+
+-- a beginning of the bytes went out, and perhaps all of them
 abbrev pub AppendsBeginning : Option (List ℕ) → Option (List ℕ) → List ℕ → Type 0
 AppendsBeginning old new bytes =
     (front : List ℕ) × (rest : List ℕ) × (bytes ≡ front ++ rest) × Appends old new front

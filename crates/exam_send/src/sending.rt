@@ -1,7 +1,7 @@
 //! The one loop that writes bytes to a writer.
 ghost use Rattle.std.specs.Prelude.{◌++◌, OnOk, OnErr};
 ghost use Rattle.std.specs.Io.KnownBytes.{Appends};
-ghost use Rattle.exam_send.specs.Sending.{AppendsBeginning};
+ghost use Rattle.exam_send.specs.Sending.{AppendsPart};
 
 use std::io::Write;
 
@@ -14,7 +14,7 @@ pub fn send_both<W: Write>(writer: &mut W, these: &[u8], those: &[u8]) -> Result
     ensures ok { OnOk result
         (Appends (W.contents writer.old) (W.contents writer.new) (these.now ++ those.now)) }
     ensures err { OnErr result
-        (AppendsBeginning (W.contents writer.old) (W.contents writer.new) (these.now ++ those.now)) }
+        (AppendsPart (W.contents writer.old) (W.contents writer.new) (these.now ++ those.now)) }
 {
     send(writer, these)?;
     send(writer, those)
@@ -23,7 +23,7 @@ pub fn send_both<W: Write>(writer: &mut W, these: &[u8], those: &[u8]) -> Result
 /// Writes all of the bytes, in as many writes as it takes.
 pub fn send<W: Write>(writer: &mut W, bytes: &[u8]) -> Result<(), WriteFailed>
     ensures ok { OnOk result (Appends (W.contents writer.old) (W.contents writer.new) bytes.now) }
-    ensures err { OnErr result (AppendsBeginning (W.contents writer.old) (W.contents writer.new) bytes.now) }
+    ensures err { OnErr result (AppendsPart (W.contents writer.old) (W.contents writer.new) bytes.now) }
 {
     let mut sent = 0;
     while sent < bytes.len() {

@@ -1,4 +1,7 @@
 //! The office on a port of this machine.
+ghost use Rattle.std.specs.Prelude.{◌≡◌, ◌⊎◌, IfErr};
+ghost use Rattle.exam_job.specs.declared.report.JobFault.TheVariants.{Net, Write};
+
 use crate::files::OfficeFile;
 use exam_http::{HttpFault, serve_one};
 use exam_job::{JobFault, print, print_error, serving_line};
@@ -59,7 +62,9 @@ pub fn serve(
     store: &mut Store<OfficeFile>,
     today: Day,
     port: u16,
-) -> Result<(), JobFault> {
+) -> Result<(), JobFault>
+    ensures { IfErr result (λ fault. (fault ≡ Net) ⊎ (fault ≡ Write)) }
+{
     let address = SocketAddrV4::new(Ipv4Addr::LOCALHOST, port);
     let Ok(listener) = TcpListener::bind(rt, address) else {
         return Err(JobFault::Net);

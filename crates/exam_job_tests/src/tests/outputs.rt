@@ -1,4 +1,4 @@
-//! An import file and a standard output that fail.
+//! An import file and a standard output that fail, and reads that are interrupted.
 use super::{ONE_ADDED, ONE_ENTRY, Outcome, base_office, expect_done, words_of};
 use exam_job::run_job;
 use exam_line::parse_line;
@@ -23,6 +23,30 @@ impl Read for Torn<'_> {
                 Ok(1)
             }
             _ => Err(io::Error::from(ErrorKind::Other)),
+        }
+    }
+}
+
+/// An import file each of whose other reads is interrupted, and that gives its bytes one by one.
+#[derive(Drop)]
+struct Interrupted<'a> {
+    bytes: &'a [u8],
+    is_interrupted: bool,
+}
+
+impl Read for Interrupted<'_> {
+    fn read(&mut self, buf: &mut [u8]) -> io::Result<usize> {
+        self.is_interrupted = !self.is_interrupted;
+        if self.is_interrupted {
+            return Err(io::Error::from(ErrorKind::Interrupted));
+        }
+        match (self.bytes, buf) {
+            ([first, rest @ ..], [place, ..]) => {
+                *place = *first;
+                self.bytes = rest;
+                Ok(1)
+            }
+            _ => Ok(0),
         }
     }
 }
@@ -56,7 +80,10 @@ const NOBODY: &str = "session,number,paper,hall,desk\n";
 fn torn_import_changes_nothing(rt: HostRuntime) -> Result<(), Fail> {
     let mut store = base_office(&rt)?;
     for at in TORN_AT {
-        let outcome = import_torn(rt.alloc(), &mut store, &ONE_ENTRY.as_bytes()[..*at])?;
+        let mut torn = Torn {
+            bytes: &ONE_ENTRY.as_bytes()[..*at],
+        };
+        let outcome = import_entries(rt.alloc(), &mut store, &mut torn)?;
         assert_eq!(rt; outcome.status, 1, "{at}");
         assert!(rt; outcome.out.is_empty(), "{at}");
         assert_eq!(rt; outcome.err.as_slice(), "file fault\n".as_bytes(), "{at}");
@@ -65,21 +92,38 @@ fn torn_import_changes_nothing(rt: HostRuntime) -> Result<(), Fail> {
     Ok(())
 }
 
-/// Imports entries from a file that fails behind these bytes.
-fn import_torn(alloc: Global, store: &mut Store<MemStore>, bytes: &[u8]) -> Result<Outcome, Fail> {
+#[test]
+fn an_interrupted_read_is_tried_again(rt: HostRuntime) -> Result<(), Fail> {
+    let mut store = base_office(&rt)?;
+    let mut interrupted = Interrupted {
+        bytes: ONE_ENTRY.as_bytes(),
+        is_interrupted: false,
+    };
+    let outcome = import_entries(rt.alloc(), &mut store, &mut interrupted)?;
+    assert_eq!(rt; outcome.status, 0);
+    assert_eq!(rt; outcome.out.as_slice(), ONE_ADDED.as_bytes());
+    assert!(rt; outcome.err.is_empty());
+    Ok(())
+}
+
+/// Imports entries from this file.
+fn import_entries<R: Read>(
+    alloc: Global,
+    store: &mut Store<MemStore>,
+    file: &mut R,
+) -> Result<Outcome, Fail> {
     let words = words_of(alloc, "import entries f")?;
     let mut outcome = Outcome {
         status: 2,
         out: Vec::new(alloc),
         err: Vec::new(alloc),
     };
-    let mut reader = Torn { bytes };
     if let Ok(line) = parse_line(alloc, words.as_slice()) {
         outcome.status = run_job(
             alloc,
             &line,
             store,
-            &mut reader,
+            file,
             &mut outcome.out,
             &mut outcome.err,
         );

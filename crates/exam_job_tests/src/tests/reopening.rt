@@ -1,14 +1,10 @@
-//! What is written is what is read again, and what is no office is refused.
-use super::{
-    ONE_ADDED, ONE_ENTRY, SECOND_NEEDS, SECOND_NEEDS_A, base_office, expect_all, expect_done,
-    import_base,
-};
+//! What is written is what is read again.
+use super::{SECOND_NEEDS, SECOND_NEEDS_A, expect_all, expect_done, import_base};
 use exam_store::Store;
 use exam_types::Refusal;
-use sqlite::{Connection, FileStore, Files, MemStore, Options};
+use sqlite::{Connection, FileStore, Files, Options};
 use sqlite_disk::Memory;
 use std::alloc::Global;
-use std::process::Abort;
 use std::test::Fail;
 
 /// A connection over two files in memory, the log and the database.
@@ -67,68 +63,4 @@ fn an_office_is_read_as_it_was_written(rt: HostRuntime) -> Result<(), Fail> {
     let mut store = reopened(alloc, store)?;
     let same = "added 0 changed 0 same 1\n";
     expect_done(&rt, &mut store, "import arrangements f", SECOND_NEEDS, same)
-}
-
-/// The refusal of opening an office after this statement has changed its tables.
-fn refusal_after<R: Abort + AllocGlobal>(rt: &R, sql: &str) -> Result<Option<Refusal>, Fail> {
-    let alloc = rt.alloc();
-    let mut store = base_office(rt)?;
-    expect_done(rt, &mut store, "import entries f", ONE_ENTRY, ONE_ADDED)?;
-    let mut conn: Connection<MemStore> = store.close();
-    conn.execute_batch(sql)?;
-    match Store::open(alloc, conn) {
-        Ok(_) => Ok(None),
-        Err((refusal, conn)) => {
-            drop(conn);
-            Ok(Some(refusal))
-        }
-    }
-}
-
-#[test]
-fn a_doctored_office_is_refused(rt: HostRuntime) -> Result<(), Fail> {
-    for sql in [
-        "UPDATE office SET version = 2",
-        "DELETE FROM office",
-        "UPDATE session SET start = 1440",
-        "UPDATE session SET day = '2027-06-31'",
-        "UPDATE hall SET features = 32",
-        "UPDATE candidate SET number = 10000000 WHERE number = 3",
-        "UPDATE entry SET live = 2",
-        "DROP TABLE seat",
-    ] {
-        assert_eq!(rt; refusal_after(&rt, sql)?, Some(Refusal::BadStore), "{sql}");
-    }
-    Ok(())
-}
-
-#[test]
-fn a_plan_that_a_sweep_would_change_is_refused(rt: HostRuntime) -> Result<(), Fail> {
-    for sql in [
-        "DELETE FROM seat",
-        "UPDATE opening SET until = 599 WHERE hall = 'A'",
-        "UPDATE entry SET live = 0",
-        "INSERT INTO seat VALUES ('S1', 2, 'B')",
-    ] {
-        assert_eq!(rt; refusal_after(&rt, sql)?, Some(Refusal::BadStore), "{sql}");
-    }
-    // Any best plan will do, were it not the one that a repair from nothing makes.
-    let other = "UPDATE seat SET hall = 'B'";
-    assert_eq!(rt; refusal_after(&rt, other)?, None);
-    Ok(())
-}
-
-#[test]
-fn nothing_is_no_office(rt: HostRuntime) -> Result<(), Fail> {
-    let alloc = rt.alloc();
-    let conn = Connection::open_in_memory(alloc)?;
-    match Store::open(alloc, conn) {
-        Ok(_) => Err(Fail::new("an office")),
-        Err((refusal, conn)) => {
-            assert_eq!(rt; refusal, Refusal::BadStore);
-            // An office can be made in its place.
-            assert!(rt; Store::create(alloc, conn).is_ok());
-            Ok(())
-        }
-    }
 }

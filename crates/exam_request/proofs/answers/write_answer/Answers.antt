@@ -1,10 +1,10 @@
 use Rattle.std.proofs.Common.{◌≡◌, ◌++◌, subst, rules}
 use Rattle.std.specs.Prelude.{OnErr}
 use Rattle.exam_request.specs.Answer.{answer_text}
-use Rattle.exam_send.specs.Sending.{AppendsBeginning}
+use Rattle.exam_send.specs.Sending.{AppendsPart}
 use Rattle.exam_request.proofs.answers.write_answer.Goals as goal
 
 pub returns-clause-err : goal.returns-clause-err
 returns-clause-err g c =
     let all : c.as_slice.result.now ++ c.as_slice-body.result.now ≡ answer_text c.args.answer.now = search rules in
-    subst (λ text. OnErr c.send_both.result (AppendsBeginning (g.W.Write.contents c.args.writer.now) (g.W.Write.contents c.send_both.new.writer) text)) all c.send_both.ensures.err
+    subst (λ text. OnErr c.send_both.result (AppendsPart (g.W.Write.contents c.args.writer.now) (g.W.Write.contents c.send_both.new.writer) text)) all c.send_both.ensures.err

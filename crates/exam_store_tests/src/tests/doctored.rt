@@ -1,35 +1,19 @@
 //! Tables that hold no office are refused.
-use super::base_office;
+use super::{base_office, office_of, refusal_after, refusal_of_opening};
 use exam_store::Store;
 use exam_types::Refusal;
-use sqlite::{Connection, MemStore};
+use sqlite::Connection;
 use std::alloc::Global;
-use std::process::Abort;
 use std::test::Fail;
 
-/// The refusal of opening what this connection holds.
-fn refusal_of_opening(alloc: Global, conn: Connection<MemStore>) -> Option<Refusal> {
-    match Store::open(alloc, conn) {
-        Ok(_) => None,
-        Err((refusal, conn)) => {
-            drop(conn);
-            Some(refusal)
-        }
-    }
-}
-
 /// The refusal of opening the base office after these statements.
-fn refusal_after<R: Abort + AllocGlobal>(rt: &R, sql: &str) -> Result<Option<Refusal>, Fail> {
-    let mut conn = base_office(rt)?.close();
-    conn.execute_batch(sql)?;
-    Ok(refusal_of_opening(rt.alloc(), conn))
+fn refusal_of_base_after(alloc: Global, sql: &str) -> Result<Option<Refusal>, Fail> {
+    refusal_after(alloc, base_office(alloc)?, sql)
 }
 
 /// The refusal of opening an office with no facts after these statements.
 fn refusal_of_empty_after(alloc: Global, sql: &str) -> Result<Option<Refusal>, Fail> {
-    let mut conn = Store::in_memory(alloc)?.close();
-    conn.execute_batch(sql)?;
-    Ok(refusal_of_opening(alloc, conn))
+    refusal_after(alloc, office_of(alloc, &[])?, sql)
 }
 
 #[test]
@@ -60,7 +44,11 @@ fn a_value_out_of_range_is_refused(rt: HostRuntime) -> Result<(), Fail> {
         "INSERT INTO arrangement VALUES (1, 32, 0)",
         "INSERT INTO arrangement VALUES (1, 0, 101)",
     ] {
-        assert_eq!(rt; refusal_after(&rt, sql)?, Some(Refusal::BadStore), "{sql}");
+        assert_eq!(rt;
+            refusal_of_base_after(rt.alloc(), sql)?,
+            Some(Refusal::BadStore),
+            "{sql}"
+        );
     }
     Ok(())
 }
@@ -91,13 +79,13 @@ fn an_appeal_of_no_form_is_refused(rt: HostRuntime) -> Result<(), Fail> {
     ] {
         let sql = format!(in rt.alloc(); "INSERT INTO appeal VALUES (1, {columns})")?;
         assert_eq!(rt;
-            refusal_after(&rt, sql.as_str())?,
+            refusal_of_base_after(rt.alloc(), sql.as_str())?,
             Some(Refusal::BadStore),
             "{sql}"
         );
     }
     let good = "INSERT INTO appeal VALUES (1, 'R1', 'S1', 1, 'A', 0, 0, '', 1, NULL, '2027-05-01')";
-    assert_eq!(rt; refusal_after(&rt, good)?, None);
+    assert_eq!(rt; refusal_of_base_after(rt.alloc(), good)?, None);
     Ok(())
 }
 
@@ -192,7 +180,7 @@ fn an_appeal_that_may_stand_once_is_refused_twice(rt: HostRuntime) -> Result<(),
     for columns in TWICE {
         let sql = insert_twice(alloc, columns)?;
         assert_eq!(rt;
-            refusal_after(&rt, sql.as_str())?,
+            refusal_of_base_after(rt.alloc(), sql.as_str())?,
             Some(Refusal::BadStore),
             "{sql}"
         );
@@ -205,19 +193,18 @@ fn an_appeal_that_may_stand_once_is_refused_twice(rt: HostRuntime) -> Result<(),
         "2, 'MA-1', 0, 0, '', 5, 'Yes'",
     ] {
         let sql = insert_twice(alloc, columns)?;
-        assert_eq!(rt; refusal_after(&rt, sql.as_str())?, None, "{sql}");
+        assert_eq!(rt;
+            refusal_of_base_after(rt.alloc(), sql.as_str())?,
+            None,
+            "{sql}"
+        );
     }
     Ok(())
 }
 
 /// The base office with that many more halls, and appeals of one candidate.
-fn refusal_of_many<R: Abort + AllocGlobal>(
-    rt: &R,
-    halls: u32,
-    appeals: u32,
-) -> Result<Option<Refusal>, Fail> {
-    let alloc = rt.alloc();
-    let mut conn = base_office(rt)?.close();
+fn refusal_of_many(alloc: Global, halls: u32, appeals: u32) -> Result<Option<Refusal>, Fail> {
+    let mut conn = base_office(alloc)?;
     for number in 0..halls {
         let sql = format!(in alloc; "INSERT INTO hall VALUES ('H{number}', 'Hall', 0)")?;
         conn.execute_batch(sql.as_str())?;
@@ -233,8 +220,14 @@ fn refusal_of_many<R: Abort + AllocGlobal>(
 /// There may be 500 halls, of which the base has two, and 64 appeals of a candidate.
 #[test]
 fn more_than_the_limits_is_refused(rt: HostRuntime) -> Result<(), Fail> {
-    assert_eq!(rt; refusal_of_many(&rt, 498, 64)?, None);
-    assert_eq!(rt; refusal_of_many(&rt, 499, 64)?, Some(Refusal::BadStore));
-    assert_eq!(rt; refusal_of_many(&rt, 498, 65)?, Some(Refusal::BadStore));
+    assert_eq!(rt; refusal_of_many(rt.alloc(), 498, 64)?, None);
+    assert_eq!(rt;
+        refusal_of_many(rt.alloc(), 499, 64)?,
+        Some(Refusal::BadStore)
+    );
+    assert_eq!(rt;
+        refusal_of_many(rt.alloc(), 498, 65)?,
+        Some(Refusal::BadStore)
+    );
     Ok(())
 }
