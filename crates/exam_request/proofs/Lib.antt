@@ -1,4 +1,5 @@
 pub mod Adding
+pub mod Ascii
 pub mod Bodies
 pub mod Chosen
 pub mod Cuts
@@ -11,6 +12,7 @@ pub mod Heads
 pub mod InHand
 pub mod Members
 pub mod Once
+pub mod Printed
 pub mod Readings
 pub mod Secrets
 pub mod Tables

@@ -9,7 +9,7 @@ use Rattle.exam_rules.specs.declared.rows.Status.TheVariants as status
 use Rattle.exam_types.specs.Days.{day_text}
 use Rattle.exam_types.specs.Features.{features_text}
 use Rattle.exam_types.specs.Numbers.{minute_text}
-use Rattle.exam_request.specs.Json.{list_body, object_text, number, or_null, text}
+use Rattle.exam_request.specs.Json.{Object, list_body, number, or_null, text}
 use Rattle.exam_office.specs.Own.{OwnRows, OwnSessionRow}
 use Rattle.exam_request.specs.declared.own_bodies.MissedPaper.{MissedPaper}
 use Rattle.exam_office.specs.Words.{kind_word, state_word, subject_text}
@@ -17,8 +17,8 @@ use Rattle.exam_office.specs.Words.{kind_word, state_word, subject_text}
 -- ---- seats
 
 -- a session of the candidate, with their place in it
-unfoldable pub seat_text : OwnSessionRow → List ℕ
-seat_text own = object_text (
+unfoldable pub seat_object : OwnSessionRow → Object
+seat_object own =
     (codes "date", text (day_text own.day))
     ∷ (codes "desk", or_null number own.desk)
     ∷ (codes "extra", number own.arrangement.extra)
@@ -28,21 +28,21 @@ seat_text own = object_text (
     ∷ (codes "paper", text own.sitting)
     ∷ (codes "session", text own.session)
     ∷ (codes "start", text (minute_text own.start))
-    ∷ [])
+    ∷ []
 
 -- all of the candidate's sessions, by code
 abbrev pub seats_body : OwnRows → List ℕ
-seats_body own = list_body (codes "seats") seat_text own.sessions
+seats_body own = list_body (codes "seats") (map seat_object own.sessions)
 
 -- ---- clashes
 
 -- a live paper that the candidate does not sit, its session, and the paper that they sit there
-unfoldable pub clash_text : MissedPaper → List ℕ
-clash_text missed = object_text (
+unfoldable pub clash_object : MissedPaper → Object
+clash_object missed =
     (codes "paper", text missed.paper)
     ∷ (codes "session", text missed.session)
     ∷ (codes "sitting", text missed.sitting)
-    ∷ [])
+    ∷ []
 
 -- a paper that the candidate does not sit in a session
 abbrev pub missed_paper : OwnSessionRow → Code → MissedPaper
@@ -58,7 +58,7 @@ missed_papers own = flat_map missed_in own.sessions
 
 -- all that the candidate does not sit, by session and paper
 abbrev pub clashes_body : OwnRows → List ℕ
-clashes_body own = list_body (codes "clashes") clash_text (missed_papers own)
+clashes_body own = list_body (codes "clashes") (map clash_object (missed_papers own))
 
 -- ---- appeals
 
@@ -71,8 +71,8 @@ decision_reason status.Retracted = None
 decision_reason (status.Superseded answer) = Some answer
 
 -- an appeal under its reference
-unfoldable pub appeal_text : Code × Appeal → List ℕ
-appeal_text own = object_text (
+unfoldable pub appeal_object : Code × Appeal → Object
+appeal_object own =
     (codes "answer", or_null text (decision_reason own.1.status))
     ∷ (codes "kind", text (kind_word own.1.subject))
     ∷ (codes "lodged", text (day_text own.1.lodged))
@@ -81,8 +81,8 @@ appeal_text own = object_text (
     ∷ (codes "session", text own.1.session)
     ∷ (codes "state", text (state_word (state_of own.1.status)))
     ∷ (codes "subject", text (subject_text own.1.subject))
-    ∷ [])
+    ∷ []
 
 -- all of the candidate's appeals, by reference
 abbrev pub appeals_body : OwnRows → List ℕ
-appeals_body own = list_body (codes "appeals") appeal_text own.appeals
+appeals_body own = list_body (codes "appeals") (map appeal_object own.appeals)

@@ -1,6 +1,6 @@
--- Objects of texts, numbers and nulls as compact JSON. The texts hold no control character.
-use Rattle.std.specs.Prelude.{ℕ, List, [], ◌∷◌, ◌++◌, ◌==◌, ◌||◌, Option, Some, None, codes, decimal}
-use Rattle.std.specs.Prelude.{flat_map, if◌then◌else◌}
+-- Objects of texts, numbers and nulls as compact JSON.
+use Rattle.std.specs.Prelude.{ℕ, List, [], ◌∷◌, ◌++◌, Option, Some, None, codes, decimal}
+use Rattle.json.specs.Print.{quoted}
 
 -- what stands at a member
 pub data Datum : Type 0 where
@@ -8,19 +8,15 @@ pub data Datum : Type 0 where
   number : ℕ → Datum
   text : List ℕ → Datum
 
--- a quote and a backslash have a backslash before them
-abbrev pub escaped : ℕ → List ℕ
-escaped b = if (b == 34) || (b == 92) then 92 ∷ b ∷ [] else b ∷ []
+-- the members, each a name and what stands there
+abbrev pub Object : Type 0
+Object = List (List ℕ × Datum)
 
--- a text in quotes
-abbrev pub json_text : List ℕ → List ℕ
-json_text t = 34 ∷ (flat_map escaped t ++ 34 ∷ [])
-
--- what stands at a member, as it is written
+-- what stands at a member, as it is written: a text stands in quotes, with a backslash before a quote or a backslash
 abbrev pub text_of : Datum → List ℕ
 text_of null = codes "null"
 text_of (number n) = decimal n
-text_of (text t) = json_text t
+text_of (text t) = quoted t
 
 -- a value, or null
 abbrev pub or_null : {A : Type 0} → (A → Datum) → Option A → Datum
@@ -34,13 +30,12 @@ listed f before close (x ∷ rest) = before ++ (f x ++ listed f (codes ",") clos
 
 -- a name in quotes, a colon and what stands there
 abbrev pub member_text : List ℕ × Datum → List ℕ
-member_text m = 34 ∷ (m.0 ++ (codes "\":" ++ text_of m.1))
+member_text m = quoted m.0 ++ (codes ":" ++ text_of m.1)
 
 -- an object of these members
-abbrev pub object_text : List (List ℕ × Datum) → List ℕ
+abbrev pub object_text : Object → List ℕ
 object_text members = 123 ∷ listed member_text [] (codes "}") members
 
--- an object with one member, a list of the rows' texts
-abbrev pub list_body : {A : Type 0} → List ℕ → (A → List ℕ) → List A → List ℕ
-list_body name text_of_row rows =
-    codes "{\"" ++ (name ++ (codes "\":[" ++ listed text_of_row [] (codes "]}") rows))
+-- an object with one member, a list of these objects
+abbrev pub list_body : List ℕ → List Object → List ℕ
+list_body name rows = codes "{" ++ (quoted name ++ (codes ":[" ++ listed object_text [] (codes "]}") rows))

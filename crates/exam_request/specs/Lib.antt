@@ -6,10 +6,10 @@ pub mod Faults
 pub mod Head
 pub mod Input
 pub mod Json
-pub mod Members
 pub mod Methods
 pub mod Posted
 pub mod SeatRows
 pub mod Table
 pub mod Targets
+pub mod Values
 pub mod Written

@@ -1,149 +1,97 @@
-//! JSON at the end of a vector of bytes. The texts are to hold no control character.
-ghost use Rattle.std.specs.Prelude.{◌≡◌, ◌++◌, OnOk, IfErr, decimal, map, option_map};
+//! JSON objects of texts, numbers and nulls, and the body that a list of them is.
+ghost use Rattle.std.specs.Prelude.{◌≡◌, IfOk, IfErr, OnOk, map, option_map};
+ghost use Rattle.std.specs.Str.{IsAscii};
 ghost use Rattle.exam_types.specs.declared.refusal.Refusal.TheVariants.{NoMemory};
 ghost use Rattle.exam_request.specs.Json as json;
-ghost use Rattle.exam_request.specs.Members.{datum, shown};
+ghost use Rattle.exam_request.specs.Values.{data_of, object_data};
+ghost use Rattle.serde_json.specs.Data.{put};
+ghost use Rattle.serde_json.specs.View.{members_view, view};
 
 use exam_types::Refusal;
-use itoa::Buffer;
+use serde_json::{Map, Value};
+use std::alloc::Global;
+use std::str;
 
-/// What stands at a member of an object.
-#[derive(Clone, Copy)]
-pub enum Field<'a> {
-    Null,
-    Number(u32),
-    Text(&'a [u8]),
-}
+/// An object that is being built, its members by name.
+pub type Object = Map<String, Value>;
 
-/// A member of an object. The name is to hold no quote, backslash or control character.
-#[derive(Clone, Copy)]
-pub struct Member<'a> {
-    pub name: &'a [u8],
-    pub field: Field<'a>,
-}
-
-impl<'a> Member<'a> {
-    #[tactic(auto, unfolding(crate::specs::Members::shown))]
-    pub fn text(name: &'a [u8], text: &'a [u8]) -> Self
-        ensures { shown result ≡ (name.now, json.text text.now) }
-    {
-        Member {
-            name,
-            field: Field::Text(text),
-        }
-    }
-
-    #[tactic(auto, unfolding(crate::specs::Members::shown))]
-    pub fn number(name: &'a [u8], number: u32) -> Self
-        ensures { shown result ≡ (name.now, json.number number) }
-    {
-        Member {
-            name,
-            field: Field::Number(number),
-        }
-    }
-
-    #[tactic(auto, unfolding(crate::specs::Members::shown))]
-    pub fn text_or_null(name: &'a [u8], text: Option<&'a [u8]>) -> Self
-        ensures { shown result ≡ (name.now, json.or_null json.text (option_map (λ t. t.now) text.entry)) }
-    {
-        match text {
-            Some(text) => Member::text(name, text),
-            None => Member {
-                name,
-                field: Field::Null,
-            },
-        }
-    }
-
-    #[tactic(auto, unfolding(crate::specs::Members::shown))]
-    pub fn number_or_null(name: &'a [u8], number: Option<u32>) -> Self
-        ensures { shown result ≡ (name.now, json.or_null json.number number) }
-    {
-        match number {
-            Some(number) => Member::number(name, number),
-            None => Member {
-                name,
-                field: Field::Null,
-            },
-        }
-    }
-}
-
-/// Appends the bytes as they are.
-pub fn push_bytes(out: &mut Vec<u8>, bytes: &[u8]) -> Result<(), Refusal>
-    ensures ok { OnOk result (out.new.items ≡ out.old.items ++ bytes.now) }
+/// Sets a member to a text.
+pub fn put_text(object: &mut Object, alloc: Global, name: &str, text: &str) -> Result<(), Refusal>
+    ensures ok { OnOk result (members_view object.new.entries
+        ≡ put name.now (data_of (json.text text.now)) (members_view object.old.entries)) }
     ensures memory { IfErr result (λ e. e ≡ NoMemory) }
 {
-    Ok(out.extend_from_slice(bytes)?)
+    let value = Value::try_from_str(alloc, text)?;
+    Ok(serde_json::put(object, alloc, name, value)?)
 }
 
-fn push_number(out: &mut Vec<u8>, number: u32) -> Result<(), Refusal>
-    ensures ok { OnOk result (out.new.items ≡ out.old.items ++ decimal number) }
+/// Sets a member to a text, or to null where there is none.
+pub fn put_text_or_null(
+    object: &mut Object,
+    alloc: Global,
+    name: &str,
+    text: Option<&str>,
+) -> Result<(), Refusal>
+    ensures ok { OnOk result (members_view object.new.entries
+        ≡ put name.now (data_of (json.or_null json.text (option_map (λ t. t.now) text.entry)))
+        (members_view object.old.entries)) }
     ensures memory { IfErr result (λ e. e ≡ NoMemory) }
 {
-    let mut buffer = Buffer::new();
-    push_bytes(out, buffer.format(number).as_bytes())
-}
-
-fn push_escaped(out: &mut Vec<u8>, b: u8) -> Result<(), Refusal>
-    ensures ok { OnOk result (out.new.items ≡ out.old.items ++ json.escaped b) }
-    ensures memory { IfErr result (λ e. e ≡ NoMemory) }
-{
-    if b == b'"' || b == b'\\' {
-        out.push(b'\\')?;
-    }
-    out.push(b)?;
-    Ok(())
-}
-
-/// Appends a text in quotes.
-pub fn push_text(out: &mut Vec<u8>, text: &[u8]) -> Result<(), Refusal>
-    ensures ok { OnOk result (out.new.items ≡ out.old.items ++ json.json_text text.now) }
-    ensures memory { IfErr result (λ e. e ≡ NoMemory) }
-{
-    out.push(b'"')?;
-    for b in text {
-        push_escaped(out, *b)?;
-    }
-    out.push(b'"')?;
-    Ok(())
-}
-
-fn push_field(out: &mut Vec<u8>, field: Field<'_>) -> Result<(), Refusal>
-    ensures ok { OnOk result (out.new.items ≡ out.old.items ++ json.text_of (datum field.entry)) }
-    ensures memory { IfErr result (λ e. e ≡ NoMemory) }
-{
-    match field {
-        Field::Null => push_bytes(out, b"null"),
-        Field::Number(number) => push_number(out, number),
-        Field::Text(text) => push_text(out, text),
+    match text {
+        Some(text) => put_text(object, alloc, name, text),
+        None => Ok(serde_json::put(object, alloc, name, Value::Null)?),
     }
 }
 
-#[tactic(auto, unfolding(crate::specs::Members::shown))]
-fn push_member(out: &mut Vec<u8>, member: &Member<'_>) -> Result<(), Refusal>
-    ensures ok { OnOk result (out.new.items ≡ out.old.items ++ json.member_text (shown member.now)) }
+/// Sets a member to a number.
+pub fn put_number(
+    object: &mut Object,
+    alloc: Global,
+    name: &str,
+    number: u32,
+) -> Result<(), Refusal>
+    ensures ok { OnOk result (members_view object.new.entries
+        ≡ put name.now (data_of (json.number number)) (members_view object.old.entries)) }
     ensures memory { IfErr result (λ e. e ≡ NoMemory) }
 {
-    out.push(b'"')?;
-    push_bytes(out, member.name)?;
-    push_bytes(out, b"\":")?;
-    push_field(out, member.field)
+    Ok(serde_json::put(object, alloc, name, Value::from(number))?)
 }
 
-/// Appends an object with these members.
-pub fn push_object(out: &mut Vec<u8>, members: &[Member<'_>]) -> Result<(), Refusal>
-    ensures ok { OnOk result (out.new.items ≡ out.old.items ++ json.object_text (map shown members.now)) }
+/// Sets a member to a number, or to null where there is none.
+pub fn put_number_or_null(
+    object: &mut Object,
+    alloc: Global,
+    name: &str,
+    number: Option<u32>,
+) -> Result<(), Refusal>
+    ensures ok { OnOk result (members_view object.new.entries
+        ≡ put name.now (data_of (json.or_null json.number number)) (members_view object.old.entries)) }
     ensures memory { IfErr result (λ e. e ≡ NoMemory) }
 {
-    out.push(b'{')?;
-    let mut separator = b"".as_slice();
-    for member in members {
-        push_bytes(out, separator)?;
-        push_member(out, member)?;
-        separator = b",".as_slice();
+    match number {
+        Some(number) => put_number(object, alloc, name, number),
+        None => Ok(serde_json::put(object, alloc, name, Value::Null)?),
     }
-    out.push(b'}')?;
-    Ok(())
+}
+
+/// The text that ASCII bytes are.
+pub fn ascii_text(bytes: &[u8]) -> &str
+    requires { IsAscii bytes.now }
+    ensures { result.now ≡ bytes.now }
+{
+    match str::from_utf8(bytes) {
+        Ok(text) => text,
+        Err(_) => unreachable!(),
+    }
+}
+
+/// The body with these objects in a list under that name.
+pub fn list_body(alloc: Global, name: &str, rows: Vec<Value>) -> Result<Vec<u8>, Refusal>
+    ensures ok { IfOk result (λ body. (all : _) → map view rows.items ≡ map object_data all
+        → body.items ≡ json.list_body name.now all) }
+    ensures memory { IfErr result (λ e. e ≡ NoMemory) }
+{
+    let mut object = Map::new(alloc);
+    serde_json::put(&mut object, alloc, name, Value::Array(rows))?;
+    Ok(Value::Object(object).to_vec(alloc)?)
 }

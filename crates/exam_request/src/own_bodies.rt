@@ -1,17 +1,22 @@
 //! The bodies that show a candidate their own rows.
-ghost use Rattle.std.specs.Prelude.{◌≡◌, ◌++◌, IfOk, IfErr, OnOk, codes, flat_map, map, option_map};
+ghost use Rattle.std.specs.Prelude.{◌≡◌, ◌++◌, IfOk, IfErr, OnOk, flat_map, map, option_map};
+ghost use Rattle.std.specs.Str.{IsAscii};
 ghost use Rattle.exam_types.specs.declared.refusal.Refusal.TheVariants.{NoMemory};
-ghost use Rattle.exam_request.specs.Bodies as spec;
 ghost use Rattle.exam_types.specs.Days.{day_text};
-ghost use Rattle.exam_request.specs.Json.{list_body};
 ghost use Rattle.exam_office.specs.Own.{shown, shown_session};
 ghost use Rattle.exam_office.specs.Words.{subject_text};
+ghost use Rattle.exam_request.specs.Bodies as spec;
 ghost use Rattle.exam_request.specs.SeatRows.{HasSeatTexts};
+ghost use Rattle.exam_request.specs.Values.{object_data};
+ghost use Rattle.serde_json.specs.View.{view};
 
-use crate::objects::{Member, push_bytes, push_object};
+use crate::objects::{
+    ascii_text, list_body, put_number, put_number_or_null, put_text, put_text_or_null,
+};
 use exam_office::{Own, OwnSession, kind_word, status_word, write_subject};
-use exam_rules::{Appeal, Status};
+use exam_rules::{Appeal, Status, Subject};
 use exam_types::{HallCode, PaperCode, Reference, Refusal, SessionCode};
+use serde_json::{Map, Value};
 use std::alloc::Global;
 
 /// The body that shows a candidate's seats.
@@ -19,33 +24,21 @@ pub fn seats_body(alloc: Global, own: &Own) -> Result<Vec<u8>, Refusal>
     ensures ok { IfOk result (λ body. body.items ≡ spec.seats_body (shown own.now)) }
     ensures memory { IfErr result (λ e. e ≡ NoMemory) }
 {
-    let mut out = Vec::new(alloc);
-    push_seats(alloc, &mut out, &own.sessions)?;
-    Ok(out)
+    let seats = seat_values(alloc, &own.sessions)?;
+    list_body(alloc, "seats", seats)
 }
 
-fn push_seats(alloc: Global, out: &mut Vec<u8>, sessions: &[OwnSession]) -> Result<(), Refusal>
-    ensures ok { OnOk result (out.new.items ≡ out.old.items
-        ++ list_body (codes "seats") spec.seat_text (map shown_session sessions.now)) }
+fn seat_values(alloc: Global, sessions: &[OwnSession]) -> Result<Vec<Value>, Refusal>
+    ensures ok { IfOk result (λ values. map view values.items
+        ≡ map object_data (map spec.seat_object (map shown_session sessions.now))) }
     ensures memory { IfErr result (λ e. e ≡ NoMemory) }
 {
-    push_bytes(out, b"{\"seats\":[")?;
-    let mut separator = b"".as_slice();
+    let mut values = Vec::new(alloc);
     for session in sessions {
-        push_bytes(out, separator)?;
-        push_seat(alloc, out, session)?;
-        separator = b",".as_slice();
+        let texts = seat_texts(alloc, session)?;
+        values.push(seat_value(alloc, session, &texts)?)?;
     }
-    push_bytes(out, b"]}")
-}
-
-fn push_seat(alloc: Global, out: &mut Vec<u8>, own: &OwnSession) -> Result<(), Refusal>
-    ensures ok { OnOk result (out.new.items
-        ≡ out.old.items ++ spec.seat_text (shown_session own.now)) }
-    ensures memory { IfErr result (λ e. e ≡ NoMemory) }
-{
-    let texts = seat_texts(alloc, own)?;
-    push_seat_of(out, own, &texts)
+    Ok(values)
 }
 
 /// What is told of a seat and has no bytes of its own.
@@ -77,37 +70,46 @@ fn seat_texts(alloc: Global, own: &OwnSession) -> Result<SeatTexts, Refusal>
     })
 }
 
-#[tactic(auto, unfolding(crate::specs::Bodies::seat_text))]
-fn push_seat_of<'a>(
-    out: &mut Vec<u8>,
-    own: &'a OwnSession,
-    texts: &'a SeatTexts,
-) -> Result<(), Refusal>
+#[tactic(auto, unfolding(crate::specs::Bodies::seat_object))]
+fn seat_value(alloc: Global, own: &OwnSession, texts: &SeatTexts) -> Result<Value, Refusal>
     requires { HasSeatTexts (shown_session own.now) texts.now }
-    ensures ok { OnOk result (out.new.items
-        ≡ out.old.items ++ spec.seat_text (shown_session own.now)) }
+    ensures ok { IfOk result (λ value. view value ≡ object_data (spec.seat_object (shown_session own.now))) }
     ensures memory { IfErr result (λ e. e ≡ NoMemory) }
 {
-    let members = [
-        Member::text(b"date", &texts.date),
-        Member::number_or_null(b"desk", own.desk),
-        Member::number(b"extra", u32::from(own.arrangement.extra.get())),
-        Member::text(b"finish", &texts.finish),
-        Member::text_or_null(b"hall", hall_bytes(&own.hall)),
-        Member::text(b"needs", &texts.needs),
-        Member::text(b"paper", own.sitting.as_bytes()),
-        Member::text(b"session", own.session.as_bytes()),
-        Member::text(b"start", &texts.start),
-    ];
-    push_object(out, &members)
+    let mut seat = Map::new(alloc);
+    put_text(&mut seat, alloc, "date", ascii_text(&texts.date))?;
+    put_number_or_null(&mut seat, alloc, "desk", own.desk)?;
+    put_number(
+        &mut seat,
+        alloc,
+        "extra",
+        u32::from(own.arrangement.extra.get()),
+    )?;
+    put_text(&mut seat, alloc, "finish", ascii_text(&texts.finish))?;
+    put_text_or_null(&mut seat, alloc, "hall", hall_text(&own.hall))?;
+    put_text(&mut seat, alloc, "needs", ascii_text(&texts.needs))?;
+    put_text(
+        &mut seat,
+        alloc,
+        "paper",
+        ascii_text(own.sitting.as_bytes()),
+    )?;
+    put_text(
+        &mut seat,
+        alloc,
+        "session",
+        ascii_text(own.session.as_bytes()),
+    )?;
+    put_text(&mut seat, alloc, "start", ascii_text(&texts.start))?;
+    Ok(Value::Object(seat))
 }
 
-/// The code's bytes, where there is a hall.
-fn hall_bytes(hall: &Option<HallCode>) -> Option<&[u8]>
+/// The code's text, where there is a hall.
+fn hall_text(hall: &Option<HallCode>) -> Option<&str>
     ensures { option_map (λ h. h.now) result ≡ hall.now }
 {
     match hall {
-        Some(code) => Some(code.as_bytes()),
+        Some(code) => Some(ascii_text(code.as_bytes())),
         None => None,
     }
 }
@@ -127,24 +129,20 @@ pub fn clashes_body(alloc: Global, own: &Own) -> Result<Vec<u8>, Refusal>
 {
     let mut missed = Vec::new(alloc);
     collect_missed(&mut missed, &own.sessions)?;
-    let mut out = Vec::new(alloc);
-    push_clashes(&mut out, &missed)?;
-    Ok(out)
+    let clashes = clash_values(alloc, &missed)?;
+    list_body(alloc, "clashes", clashes)
 }
 
-fn push_clashes(out: &mut Vec<u8>, rows: &[MissedPaper]) -> Result<(), Refusal>
-    ensures ok { OnOk result (out.new.items ≡ out.old.items
-        ++ list_body (codes "clashes") spec.clash_text rows.now) }
+fn clash_values(alloc: Global, rows: &[MissedPaper]) -> Result<Vec<Value>, Refusal>
+    ensures ok { IfOk result (λ values. map view values.items
+        ≡ map object_data (map spec.clash_object rows.now)) }
     ensures memory { IfErr result (λ e. e ≡ NoMemory) }
 {
-    push_bytes(out, b"{\"clashes\":[")?;
-    let mut separator = b"".as_slice();
+    let mut values = Vec::new(alloc);
     for row in rows {
-        push_bytes(out, separator)?;
-        push_clash(out, row)?;
-        separator = b",".as_slice();
+        values.push(clash_value(alloc, row)?)?;
     }
-    push_bytes(out, b"]}")
+    Ok(values)
 }
 
 fn collect_missed(rows: &mut Vec<MissedPaper>, sessions: &[OwnSession]) -> Result<(), Refusal>
@@ -177,18 +175,26 @@ fn push_missed(
     Ok(())
 }
 
-#[tactic(auto, unfolding(crate::specs::Bodies::clash_text))]
-fn push_clash(out: &mut Vec<u8>, row: &MissedPaper) -> Result<(), Refusal>
-    ensures ok { OnOk result (out.new.items
-        ≡ out.old.items ++ spec.clash_text row.now) }
+#[tactic(auto, unfolding(crate::specs::Bodies::clash_object))]
+fn clash_value(alloc: Global, row: &MissedPaper) -> Result<Value, Refusal>
+    ensures ok { IfOk result (λ value. view value ≡ object_data (spec.clash_object row.now)) }
     ensures memory { IfErr result (λ e. e ≡ NoMemory) }
 {
-    let members = [
-        Member::text(b"paper", row.paper.as_bytes()),
-        Member::text(b"session", row.session.as_bytes()),
-        Member::text(b"sitting", row.sitting.as_bytes()),
-    ];
-    push_object(out, &members)
+    let mut clash = Map::new(alloc);
+    put_text(&mut clash, alloc, "paper", ascii_text(row.paper.as_bytes()))?;
+    put_text(
+        &mut clash,
+        alloc,
+        "session",
+        ascii_text(row.session.as_bytes()),
+    )?;
+    put_text(
+        &mut clash,
+        alloc,
+        "sitting",
+        ascii_text(row.sitting.as_bytes()),
+    )?;
+    Ok(Value::Object(clash))
 }
 
 /// The body that shows a candidate's appeals.
@@ -196,74 +202,99 @@ pub fn appeals_body(alloc: Global, own: &Own) -> Result<Vec<u8>, Refusal>
     ensures ok { IfOk result (λ body. body.items ≡ spec.appeals_body (shown own.now)) }
     ensures memory { IfErr result (λ e. e ≡ NoMemory) }
 {
-    let mut out = Vec::new(alloc);
-    push_appeals(alloc, &mut out, &own.appeals)?;
-    Ok(out)
+    let appeals = appeal_values(alloc, &own.appeals)?;
+    list_body(alloc, "appeals", appeals)
 }
 
-fn push_appeals(
-    alloc: Global,
-    out: &mut Vec<u8>,
-    rows: &[(Reference, Appeal)],
-) -> Result<(), Refusal>
-    ensures ok { OnOk result (out.new.items
-        ≡ out.old.items ++ list_body (codes "appeals") spec.appeal_text rows.now) }
+fn appeal_values(alloc: Global, rows: &[(Reference, Appeal)]) -> Result<Vec<Value>, Refusal>
+    ensures ok { IfOk result (λ values. map view values.items
+        ≡ map object_data (map spec.appeal_object rows.now)) }
     ensures memory { IfErr result (λ e. e ≡ NoMemory) }
 {
-    push_bytes(out, b"{\"appeals\":[")?;
-    let mut separator = b"".as_slice();
+    let mut values = Vec::new(alloc);
     for row in rows {
-        push_bytes(out, separator)?;
-        push_appeal(alloc, out, row)?;
-        separator = b",".as_slice();
+        values.push(appeal_value(alloc, row)?)?;
     }
-    push_bytes(out, b"]}")
+    Ok(values)
 }
 
-fn push_appeal(alloc: Global, out: &mut Vec<u8>, row: &(Reference, Appeal)) -> Result<(), Refusal>
-    ensures ok { OnOk result (out.new.items ≡ out.old.items ++ spec.appeal_text row.now) }
+fn appeal_value(alloc: Global, row: &(Reference, Appeal)) -> Result<Value, Refusal>
+    ensures ok { IfOk result (λ value. view value ≡ object_data (spec.appeal_object row.now)) }
     ensures memory { IfErr result (λ e. e ≡ NoMemory) }
 {
     let mut lodged = Vec::new(alloc);
     row.1.lodged.write_to(&mut lodged)?;
     let mut subject = Vec::new(alloc);
     write_subject(&row.1.subject, &mut subject)?;
-    push_appeal_of(out, row, &lodged, &subject)
+    show_ascii(&row.1.subject);
+    appeal_value_of(alloc, row, &lodged, &subject)
 }
 
-#[tactic(auto, unfolding(crate::specs::Bodies::appeal_text))]
-fn push_appeal_of<'a>(
-    out: &mut Vec<u8>,
-    row: &'a (Reference, Appeal),
-    lodged: &'a [u8],
-    subject: &'a [u8],
-) -> Result<(), Refusal>
+/// What an appeal asks is ASCII. Does nothing.
+fn show_ascii(subject: &Subject)
+    ensures { IsAscii (subject_text subject.now) }
+{
+    match subject {
+        Subject::Hall(hall) => {
+            hall.as_bytes();
+        }
+        Subject::Clash(paper) => {
+            paper.as_bytes();
+        }
+        Subject::Arrangement(wanted) => {
+            wanted.extra.get();
+        }
+    }
+}
+
+#[tactic(auto, unfolding(crate::specs::Bodies::appeal_object))]
+fn appeal_value_of(
+    alloc: Global,
+    row: &(Reference, Appeal),
+    lodged: &[u8],
+    subject: &[u8],
+) -> Result<Value, Refusal>
     requires lodged { lodged.now ≡ day_text row.now.1.lodged }
     requires subject { subject.now ≡ subject_text row.now.1.subject }
-    ensures ok { OnOk result (out.new.items ≡ out.old.items ++ spec.appeal_text row.now) }
+    requires ascii { IsAscii subject.now }
+    ensures ok { IfOk result (λ value. view value ≡ object_data (spec.appeal_object row.now)) }
     ensures memory { IfErr result (λ e. e ≡ NoMemory) }
 {
     let (reference, appeal) = row;
-    let members = [
-        Member::text_or_null(b"answer", decision_reason(&appeal.status)),
-        Member::text(b"kind", kind_word(&appeal.subject)),
-        Member::text(b"lodged", lodged),
-        Member::text(b"reason", appeal.reason.as_str().as_bytes()),
-        Member::text(b"ref", reference.as_bytes()),
-        Member::text(b"session", appeal.session.as_bytes()),
-        Member::text(b"state", status_word(&appeal.status)),
-        Member::text(b"subject", subject),
-    ];
-    push_object(out, &members)
+    let mut shown = Map::new(alloc);
+    put_text_or_null(&mut shown, alloc, "answer", decision_reason(&appeal.status))?;
+    put_text(
+        &mut shown,
+        alloc,
+        "kind",
+        ascii_text(kind_word(&appeal.subject)),
+    )?;
+    put_text(&mut shown, alloc, "lodged", ascii_text(lodged))?;
+    put_text(&mut shown, alloc, "reason", appeal.reason.as_str())?;
+    put_text(&mut shown, alloc, "ref", ascii_text(reference.as_bytes()))?;
+    put_text(
+        &mut shown,
+        alloc,
+        "session",
+        ascii_text(appeal.session.as_bytes()),
+    )?;
+    put_text(
+        &mut shown,
+        alloc,
+        "state",
+        ascii_text(status_word(&appeal.status)),
+    )?;
+    put_text(&mut shown, alloc, "subject", ascii_text(subject))?;
+    Ok(Value::Object(shown))
 }
 
 /// The reason of the decision, where there was one.
-fn decision_reason(status: &Status) -> Option<&[u8]>
+fn decision_reason(status: &Status) -> Option<&str>
     ensures { option_map (λ r. r.now) result ≡ spec.decision_reason status.now }
 {
     match status {
         Status::Granted(answer) | Status::Refused(answer) | Status::Superseded(answer) => {
-            Some(answer.as_str().as_bytes())
+            Some(answer.as_str())
         }
         Status::Pending | Status::Retracted => None,
     }

@@ -1,0 +1,81 @@
+-- Days, times, feature sets and arrangements are ASCII.
+use Rattle.std.proofs.Common.{◌≡◌, ◌++◌, ◌+◌, ◌^◌, ◌<◌, ◌%◌, ◌/◌, ℕ, zero, suc, Bool, true, false, List, [], ◌∷◌, refl, sym, subst, arith, codes, nat_lt}
+use Rattle.std.specs.Fmt.{decimal}
+use Rattle.std.specs.List.{list_all}
+use Rattle.std.specs.Str.{IsAscii}
+use Rattle.std.proofs.lemmas.Bool.{and_parts}
+use Rattle.std.proofs.lemmas.Bool.Decides.{nat_tests}
+use Rattle.std.proofs.lemmas.Fmt.{IsAscii-decimal}
+use Rattle.std.proofs.lemmas.Str.{IsAscii-append}
+use Rattle.std.proofs.lemmas.Str.Ascii.{IsAscii-cons, IsAscii-nil}
+use Rattle.exam_office.specs.Words.{arrangement_text}
+use Rattle.exam_rules.specs.declared.rows.Arrangement.{Arrangement}
+use Rattle.exam_types.specs.Days.{date_text, day_text, month_day_of, month_of, year_of}
+use Rattle.exam_types.specs.Digits.{digits}
+use Rattle.exam_types.specs.declared.features.Features.{Features}
+use Rattle.exam_types.specs.Features.{add_name, after_plus, dash_if_empty, features_text}
+use Rattle.exam_types.specs.Numbers.{minute_text}
+use Rattle.exam_types.proofs.DayTexts.{day_text-is}
+
+-- ---- bytes that all pass a test
+
+of_passing : (p : ℕ → Bool) → ((b : ℕ) → p b ≡ true → b < 128) → (t : List ℕ) → list_all p t ≡ true → IsAscii t
+of_passing p low [] all = IsAscii-nil
+of_passing p low (b ∷ t) all = let parts = and_parts (p b) (list_all p t) all in IsAscii-cons b t (low b parts.0) (of_passing p low t parts.1)
+
+literal : (t : List ℕ) → list_all (λ b. nat_lt b 128) t ≡ true → IsAscii t
+literal t all = of_passing (λ b. nat_lt b 128) low t all
+  where
+    low : (b : ℕ) → nat_lt b 128 ≡ true → b < 128
+    low b is = grind (arith, nat_tests)
+
+-- ---- days and times
+
+ascii_digits : (k n : ℕ) → IsAscii (digits k n)
+ascii_digits zero n = IsAscii-nil
+ascii_digits (suc k) n = IsAscii-append (digits k (n / 10)) ((48 + n % 10) ∷ []) (ascii_digits k (n / 10)) (IsAscii-cons (48 + n % 10) [] (omega arith) IsAscii-nil)
+
+ascii_date : (y m d : ℕ) → IsAscii (date_text y m d)
+ascii_date y m d =
+    IsAscii-append (digits 4 y) (45 ∷ digits 2 m ++ 45 ∷ digits 2 d) (ascii_digits 4 y)
+    (IsAscii-cons 45 (digits 2 m ++ 45 ∷ digits 2 d) (omega arith)
+    (IsAscii-append (digits 2 m) (45 ∷ digits 2 d) (ascii_digits 2 m) (IsAscii-cons 45 (digits 2 d) (omega arith) (ascii_digits 2 d))))
+
+pub ascii_day : (n : ℕ) → IsAscii (day_text n)
+ascii_day n = subst IsAscii (sym (day_text-is n)) (ascii_date (year_of n) (month_of n) (month_day_of n))
+
+pub ascii_minute : (m : ℕ) → IsAscii (minute_text m)
+unfolding minute_text
+ascii_minute m =
+    IsAscii-append (digits 2 (m / 60)) (58 ∷ digits 2 (m % 60)) (ascii_digits 2 (m / 60))
+    (IsAscii-cons 58 (digits 2 (m % 60)) (omega arith) (ascii_digits 2 (m % 60)))
+
+-- ---- feature sets
+
+ascii_after_plus : (t name : List ℕ) → IsAscii t → IsAscii name → IsAscii (after_plus t name)
+ascii_after_plus [] name these those = those
+ascii_after_plus (b ∷ t) name these those = IsAscii-append (b ∷ t) (43 ∷ name) these (IsAscii-cons 43 name (omega arith) those)
+
+ascii_add : (t : List ℕ) (wanted : Bool) (name : List ℕ) → IsAscii t → IsAscii name → IsAscii (add_name t wanted name)
+ascii_add t true name these those = ascii_after_plus t name these those
+ascii_add t false name these those = these
+
+ascii_dash : (t : List ℕ) → IsAscii t → IsAscii (dash_if_empty t)
+ascii_dash [] is = literal (codes "-") refl
+ascii_dash (b ∷ t) is = is
+
+pub ascii_features : (f : Features) → IsAscii (features_text f)
+ascii_features f =
+    ascii_dash _ (ascii_add _ f.computer (codes "computer")
+    (ascii_add _ f.small_room (codes "small-room")
+    (ascii_add _ f.reader (codes "reader")
+    (ascii_add _ f.screen (codes "screen")
+    (ascii_add [] f.step_free (codes "step-free") IsAscii-nil (literal (codes "step-free") refl))
+    (literal (codes "screen") refl)) (literal (codes "reader") refl)) (literal (codes "small-room") refl)) (literal (codes "computer") refl))
+
+-- ---- what an appeal asks
+
+pub ascii_arrangement : (asked : Arrangement) → asked.extra < 2 ^ 64 → IsAscii (arrangement_text asked)
+ascii_arrangement asked small =
+    IsAscii-append (features_text asked.needs) (32 ∷ decimal asked.extra) (ascii_features asked.needs)
+    (IsAscii-cons 32 (decimal asked.extra) (omega arith) (IsAscii-decimal asked.extra small))
