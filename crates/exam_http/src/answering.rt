@@ -1,6 +1,6 @@
 //! What a request is told, by what it asks and the office.
-ghost use Rattle.std.specs.Prelude.{◌≡◌, ◌⊎◌, option_and_then, option_map, IfOk, IfErr, List, ℕ};
-ghost use Rattle.exam_types.specs.declared.refusal.Refusal.TheVariants.{NoMemory};
+ghost use Rattle.std.specs.Prelude.{◌≡◌, ◌⊎◌, option_and_then, option_map, IfOk, IfErr, IfNone, List, ℕ};
+ghost use Rattle.exam_types.specs.declared.refusal.Refusal.TheVariants.{NoMemory, UnknownCandidate};
 ghost use Rattle.exam_office.specs.Own.{own_of, shown};
 ghost use Rattle.exam_request.specs.Answer.{ok_told, refusal_told};
 ghost use Rattle.exam_request.specs.Asked.{request_of};
@@ -95,7 +95,8 @@ fn done<S: Alter>(
 
 /// The answer that shows a candidate their seats.
 fn seats(alloc: Global, own: &Option<Own>) -> Answer
-    ensures { (result ≡ refusal_told NoMemory) ⊎ spec.Shows bodies.seats_body (option_map shown own.now) result }
+    ensures body { (result ≡ refusal_told NoMemory) ⊎ spec.Shows bodies.seats_body (option_map shown own.now) result }
+    ensures unknown { IfNone own.now (result ≡ refusal_told UnknownCandidate) }
 {
     match own {
         Some(own) => with_body(seats_body(alloc, own)),
@@ -105,7 +106,8 @@ fn seats(alloc: Global, own: &Option<Own>) -> Answer
 
 /// The answer that shows a candidate their clashes.
 fn clashes(alloc: Global, own: &Option<Own>) -> Answer
-    ensures { (result ≡ refusal_told NoMemory) ⊎ spec.Shows bodies.clashes_body (option_map shown own.now) result }
+    ensures body { (result ≡ refusal_told NoMemory) ⊎ spec.Shows bodies.clashes_body (option_map shown own.now) result }
+    ensures unknown { IfNone own.now (result ≡ refusal_told UnknownCandidate) }
 {
     match own {
         Some(own) => with_body(clashes_body(alloc, own)),
@@ -115,7 +117,8 @@ fn clashes(alloc: Global, own: &Option<Own>) -> Answer
 
 /// The answer that shows a candidate their appeals.
 fn appeals(alloc: Global, own: &Option<Own>) -> Answer
-    ensures { (result ≡ refusal_told NoMemory) ⊎ spec.Shows bodies.appeals_body (option_map shown own.now) result }
+    ensures body { (result ≡ refusal_told NoMemory) ⊎ spec.Shows bodies.appeals_body (option_map shown own.now) result }
+    ensures unknown { IfNone own.now (result ≡ refusal_told UnknownCandidate) }
 {
     match own {
         Some(own) => with_body(appeals_body(alloc, own)),
