@@ -210,8 +210,8 @@ GivesLine (Err NoMemory) answer = ⊤
 GivesLine (Err NotUnderstood) answer = answer ≡ None
 GivesLine (Err (Help text)) answer = ⊥
 
--- the fault of an error of `clap`
+-- the fault of an error of `clap`; the text of help may want memory too
 abbrev pub Tells : LineFault → ErrorKind → Type 0
-Tells NoMemory k = ⊤
+Tells NoMemory k = (k ≡ kind.OutOfMemory) ⊎ (k ≡ kind.DisplayHelp)
 Tells NotUnderstood k = (k ≢ kind.DisplayHelp) × (k ≢ kind.OutOfMemory)
 Tells (Help text) k = k ≡ kind.DisplayHelp
