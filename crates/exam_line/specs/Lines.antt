@@ -1,5 +1,5 @@
 -- What a command line says.
-use Rattle.std.specs.Prelude.{◌≡◌, ◌≢◌, ◌⊎◌, ⊤, ℕ, List, [], Bool, Option, Some, None, Result, Ok, Err, codes}
+use Rattle.std.specs.Prelude.{IsSome, ◌≡◌, ◌≢◌, ◌⊎◌, ⊤, ℕ, List, [], Bool, Option, Some, None, Result, Ok, Err, codes}
 use Rattle.std.specs.Prelude.{option_and_then, option_map, if◌then◌else◌}
 use Rattle.std.specs.Str.{bytes_eq}
 use Rattle.std.specs.Fmt.{decimal}
@@ -203,10 +203,10 @@ Answers (Err NotUnderstood) words =
 
 -- ---- for the parts of the call
 
--- the line that is said, or that none is, unless memory ran out
+-- the line that is said, or that none is; memory is wanting for a line alone
 abbrev pub GivesLine : Result Line LineFault → Option Said → Type 0
 GivesLine (Ok line) answer = answer ≡ Some (shown line)
-GivesLine (Err NoMemory) answer = ⊤
+GivesLine (Err NoMemory) answer = IsSome answer
 GivesLine (Err NotUnderstood) answer = answer ≡ None
 GivesLine (Err (Help text)) answer = ⊥
 

@@ -1,5 +1,5 @@
 //! What a command line says.
-ghost use Rattle.std.specs.Prelude.{◌≡◌, map, option_map, IfOk, IfErr, string_bytes};
+ghost use Rattle.std.specs.Prelude.{◌≡◌, map, option_map, IfOk, IfErr, IsSome, string_bytes};
 ghost use Rattle.clap.specs.Words.{subcommand_rows_of, kind_of};
 ghost use Rattle.exam_types.specs.declared.refusal.Refusal.TheVariants as refusal;
 ghost use Rattle.exam_line.specs.Lines as spec;
@@ -119,7 +119,8 @@ fn fault_from(alloc: Global, error: clap::Error) -> LineFault
 fn read_line<'a>(alloc: Global, matches: &ArgMatches<'a>) -> Result<Option<Line<'a>>, Refusal>
     ensures ok { IfOk result (λ line. option_map spec.shown line
         ≡ spec.said_in (spec.rows matches.now) (subcommand_rows_of matches.now)) }
-    ensures memory { IfErr result (λ e. e ≡ refusal.NoMemory) }
+    ensures memory { IfErr result (λ e. (e ≡ refusal.NoMemory)
+        × IsSome (spec.said_in (spec.rows matches.now) (subcommand_rows_of matches.now))) }
 {
     let Some((db, today)) = options_of(matches) else {
         return Ok(None);
@@ -156,7 +157,8 @@ fn read_job<'a>(
 ) -> Result<Option<Job<'a>>, Refusal>
     ensures ok { IfOk result (λ job. option_map spec.task_shown job
         ≡ spec.task_of name.entry.now (spec.rows words.now)) }
-    ensures memory { IfErr result (λ e. e ≡ refusal.NoMemory) }
+    ensures memory { IfErr result (λ e. (e ≡ refusal.NoMemory)
+        × IsSome (spec.task_of name.entry.now (spec.rows words.now))) }
 {
     match name {
         "decide" => match decision_of(alloc, words)? {

@@ -1,5 +1,5 @@
 //! The values of the words of a command.
-ghost use Rattle.std.specs.Prelude.{◌≡◌, ◌↔◌, ◌≤◌, ℕ, Some, option_map, codes, IfOk, IfErr};
+ghost use Rattle.std.specs.Prelude.{◌≡◌, ◌↔◌, ◌≤◌, ℕ, Some, option_map, codes, IfOk, IfErr, IsSome};
 ghost use Rattle.std.specs.Fmt.{decimal};
 ghost use Rattle.clap.specs.Words.{first_of};
 ghost use Rattle.exam_types.specs.Codes.{is_reference};
@@ -141,7 +141,7 @@ fn reference_of(words: &ArgMatches<'_>) -> Option<Reference>
 /// The decision that the words say. Its reason takes memory.
 pub fn decision_of(alloc: Global, words: &ArgMatches<'_>) -> Result<Option<Decision>, Refusal>
     ensures ok { IfOk result (λ decision. decision ≡ spec.decision_of (spec.rows words.now)) }
-    ensures memory { IfErr result (λ e. e ≡ NoMemory) }
+    ensures memory { IfErr result (λ e. (e ≡ NoMemory) × IsSome (spec.decision_of (spec.rows words.now))) }
 {
     let Some((number, reference, outcome, reason)) = decided_of(words) else {
         return Ok(None);
