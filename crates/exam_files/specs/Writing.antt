@@ -20,7 +20,8 @@ HasText sheet = (text : List ℕ) × (sheet ≡ Ok text)
 abbrev pub IsRefusal : Refusal → Result (List ℕ) Refusal → Type 0
 IsRefusal refusal sheet = ((refusal ≡ NoMemory) × HasText sheet) ⊎ (sheet ≡ Err refusal)
 
--- Of a sheet, or its refusal: all of it went out, nothing at all (the writer is as it was), or a beginning that is not all.
+-- Of a sheet, or its refusal: all of it went out, nothing at all (the writer is as it was), or a beginning that is
+-- not all.
 abbrev pub Writes : {W : Type 0} → (W → Option (List ℕ)) → Result (Unit {0}) SheetFault
     → W → W → Result (List ℕ) Refusal → Type 0
 Writes contents (Ok done) old new sheet =
