@@ -1,7 +1,11 @@
 //! The database and the import file at a path.
-ghost use Rattle.std.specs.Prelude.{◌≡◌, IfErr, IsTrue};
+ghost use Rattle.std.specs.Prelude.{◌≡◌, ◌≢◌, false, IfOk, IfErr, IsTrue};
+ghost use Rattle.sqlite.specs.State.{HasCleanDisk};
+ghost use Rattle.sqlite.specs.Files.{file_state};
+ghost use Rattle.sqlite_store.specs.FileStore.{view};
 ghost use Rattle.exam_rows.specs.Faults.{is_store_refusal};
 ghost use Rattle.exam_job.specs.Reading.{IsReadFault};
+ghost use Rattle.examoffice.specs.Opening.{opening_refusal};
 
 use exam_job::JobFault;
 use exam_store::Store;
@@ -50,7 +54,8 @@ pub fn open_import(rt: &HostRuntime, path: &str) -> Result<File, JobFault>
 
 /// Why a file could not be opened.
 fn open_fault(kind: ErrorKind) -> JobFault
-    ensures { IsReadFault result }
+    ensures memory { kind ≡ ErrorKind.OutOfMemory → result ≡ JobFault.Refused Refusal.NoMemory }
+    ensures other { kind ≢ ErrorKind.OutOfMemory → result ≡ JobFault.File }
 {
     if kind == ErrorKind::OutOfMemory {
         JobFault::Refused(Refusal::NoMemory)
@@ -66,18 +71,20 @@ fn is_missing(rt: &HostRuntime, path: &str) -> bool {
     }
 }
 
+/// A new file is a plain one, without the sums that only an extension of `sqlite3` writes.
 fn open_database(rt: &HostRuntime, path: &str) -> Result<Connection<OfficeFile>, Refusal>
-    ensures { IfErr result (λ refusal. IsTrue (is_store_refusal refusal)) }
+    ensures plain { IfOk result (λ conn. HasCleanDisk (file_state conn) → (view conn.store).has_sums ≡ false) }
+    ensures told { IfErr result (λ refusal. IsTrue (is_store_refusal refusal)) }
 {
-    match Connection::open_from(rt, path, false, Unknown) {
+    match Connection::open(rt, path) {
         Ok(conn) => Ok(conn),
-        Err((error, _)) => Err(open_refusal(&error)),
+        Err(error) => Err(open_refusal(&error)),
     }
 }
 
 /// A file that is no database holds no office.
 fn open_refusal(error: &Error) -> Refusal
-    ensures { IsTrue (is_store_refusal result) }
+    ensures { result ≡ opening_refusal error.now }
 {
     match error {
         Error::SqliteFailure(ErrorCode::OutOfMemory) => Refusal::NoMemory,
