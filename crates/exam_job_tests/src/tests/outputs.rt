@@ -6,6 +6,7 @@ use exam_store::Store;
 use sqlite::MemStore;
 use std::alloc::Global;
 use std::io::{self, ErrorKind, Read, Write};
+use std::process::Abort;
 use std::test::Fail;
 
 /// An import file that fails behind its bytes, which it gives one by one.
@@ -68,6 +69,23 @@ impl Write for Full {
 
     fn flush(&mut self) -> io::Result<()> {
         Ok(())
+    }
+}
+
+/// An output that takes each byte, and fails where it is to hand them on.
+#[derive(Drop)]
+struct HeldBack {
+    taken: Vec<u8>,
+}
+
+impl Write for HeldBack {
+    fn write(&mut self, buf: &[u8]) -> io::Result<usize> {
+        self.taken.extend_from_slice(buf)?;
+        Ok(buf.len())
+    }
+
+    fn flush(&mut self) -> io::Result<()> {
+        Err(io::Error::from(ErrorKind::Other))
     }
 }
 
@@ -146,40 +164,54 @@ fn a_command_stands_whose_line_is_lost(rt: HostRuntime) -> Result<(), Fail> {
     let mut store = base_office(&rt)?;
     expect_done(&rt, &mut store, "import entries f", ONE_ENTRY, ONE_ADDED)?;
     for (words, room, out, exported) in LOST {
-        let outcome = run_full(rt.alloc(), &mut store, words, *room)?;
-        assert_eq!(rt; outcome.status, 1, "{words}");
-        assert_eq!(rt; outcome.out.as_slice(), out.as_bytes(), "{words}");
-        assert_eq!(rt;
-            outcome.err.as_slice(),
-            "write fault\n".as_bytes(),
-            "{words}"
-        );
+        let mut full = Full {
+            taken: Vec::new(rt.alloc()),
+            room: *room,
+        };
+        expect_write_fault(&rt, &mut store, words, &mut full)?;
+        assert_eq!(rt; full.taken.as_slice(), out.as_bytes(), "{words}");
         expect_done(&rt, &mut store, "export S1", "", exported)?;
     }
     Ok(())
 }
 
-/// Runs the program's command with room for so many bytes on standard output.
-fn run_full(
-    alloc: Global,
+/// Commands whose line is held back, that line, and what is exported then.
+const HELD_BACK: &[(&str, &str, &str)] = &[
+    ("withdraw 0000001 MA-1", "withdrawn\n", NOBODY),
+    ("reinstate 0000001 MA-1", "reinstated\n", FIRST_SEATED),
+    ("export S1", FIRST_SEATED, FIRST_SEATED),
+];
+
+#[test]
+fn a_command_stands_whose_line_is_held_back(rt: HostRuntime) -> Result<(), Fail> {
+    let mut store = base_office(&rt)?;
+    expect_done(&rt, &mut store, "import entries f", ONE_ENTRY, ONE_ADDED)?;
+    for (words, out, exported) in HELD_BACK {
+        let mut held_back = HeldBack {
+            taken: Vec::new(rt.alloc()),
+        };
+        expect_write_fault(&rt, &mut store, words, &mut held_back)?;
+        assert_eq!(rt; held_back.taken.as_slice(), out.as_bytes(), "{words}");
+        expect_done(&rt, &mut store, "export S1", "", exported)?;
+    }
+    Ok(())
+}
+
+/// Runs the program's command over an output that fails.
+fn expect_write_fault<R: Abort + AllocGlobal, O: Write>(
+    rt: &R,
     store: &mut Store<MemStore>,
     words: &str,
-    room: usize,
-) -> Result<Outcome, Fail> {
-    let words = words_of(alloc, words)?;
-    let mut full = Full {
-        taken: Vec::new(alloc),
-        room,
-    };
-    let mut err = Vec::new(alloc);
+    out: &mut O,
+) -> Result<(), Fail> {
+    let line = words_of(rt.alloc(), words)?;
+    let mut err = Vec::new(rt.alloc());
     let mut reader: &[u8] = b"";
     let mut status = 2;
-    if let Ok(line) = parse_line(alloc, words.as_slice()) {
-        status = run_job(alloc, &line, store, &mut reader, &mut full, &mut err);
+    if let Ok(line) = parse_line(rt.alloc(), line.as_slice()) {
+        status = run_job(rt.alloc(), &line, store, &mut reader, out, &mut err);
     }
-    Ok(Outcome {
-        status,
-        out: full.taken,
-        err,
-    })
+    assert_eq!(rt; status, 1, "{words}");
+    assert_eq!(rt; err.as_slice(), "write fault\n".as_bytes(), "{words}");
+    Ok(())
 }
