@@ -1,5 +1,7 @@
 -- What a reader of a column or of a whole row answers.
-use Rattle.std.specs.Prelude.{◌≡◌, ◌⊎◌, Result, Ok, Err}
+use Rattle.std.specs.Prelude.{Bool, ℕ, List, ◌≡◌, ◌⊎◌, Result, Ok, Err, IsTrue, IfErr}
+use Rattle.sqlite_value.specs.declared.value.Value.{Value}
+use Rattle.sqlite_value.specs.declared.value.Value.TheVariants.{Text}
 use Rattle.exam_types.specs.declared.refusal.Refusal.{Refusal}
 use Rattle.exam_types.specs.declared.refusal.Refusal.TheVariants.{NoMemory, BadStore}
 
@@ -11,3 +13,8 @@ Reads IsOne stored shown (Err e) = (e ≡ BadStore) × ((value : _) → IsOne va
 -- the same, or want of memory
 abbrev pub MayRead : {V W : Type 0} → (V → Type 0) → (V → W) → W → Result V Refusal → Type 0
 MayRead IsOne stored shown result = (result ≡ Err NoMemory) ⊎ Reads IsOne stored shown result
+
+-- memory is told to be wanting only of a text of the form, which was to be kept
+abbrev pub WantsMemoryOf : {V : Type 0} → (List ℕ → Bool) → Value → Result V Refusal → Type 0
+WantsMemoryOf has_form shown result =
+    IfErr result (λ e. e ≡ NoMemory → (text : List ℕ) × IsTrue (has_form text) × (shown ≡ Text text))

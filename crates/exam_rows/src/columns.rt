@@ -7,7 +7,7 @@ ghost use Rattle.exam_types.specs.Days.{IsDay, IsSessionDay, day_text};
 ghost use Rattle.exam_types.specs.Numbers.{IsNumber, IsStartTime, IsClosingTime, IsExamMinutes, IsExtra, IsDeskCount};
 ghost use Rattle.exam_types.specs.Texts.{is_name, is_reason};
 ghost use Rattle.exam_types.specs.declared.refusal.Refusal.TheVariants.{NoMemory, BadStore};
-ghost use Rattle.exam_rows.specs.Reading.{Reads, MayRead};
+ghost use Rattle.exam_rows.specs.Reading.{Reads, MayRead, WantsMemoryOf};
 ghost use Rattle.exam_rows.specs.Stored as stored;
 ghost use Rattle.exam_rows.specs.Stored.{IsAny};
 
@@ -135,7 +135,8 @@ pub fn flag(yes: bool) -> i64
 
 /// Refused also where there is not enough memory.
 pub fn name_at(alloc: Global, row: &Row, at: usize) -> Result<Name, Refusal>
-    ensures { MayRead (λ text. IsTrue (is_name text)) Text (column row.now at) result }
+    ensures read { MayRead (λ text. IsTrue (is_name text)) Text (column row.now at) result }
+    ensures memory { WantsMemoryOf is_name (column row.now at) result }
 {
     Name::parse(alloc, text_at(row, at)?)?.ok_or(Refusal::BadStore)
 }
@@ -179,7 +180,8 @@ pub fn day_text(alloc: Global, day: Day) -> Result<Vec<u8>, Refusal>
 
 /// Refused also where there is not enough memory.
 pub fn reason_at(alloc: Global, row: &Row, at: usize) -> Result<Reason, Refusal>
-    ensures { MayRead (λ text. IsTrue (is_reason text)) Text (column row.now at) result }
+    ensures read { MayRead (λ text. IsTrue (is_reason text)) Text (column row.now at) result }
+    ensures memory { WantsMemoryOf is_reason (column row.now at) result }
 {
     Reason::parse(alloc, text_at(row, at)?)?.ok_or(Refusal::BadStore)
 }

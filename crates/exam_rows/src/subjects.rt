@@ -5,9 +5,10 @@ ghost use Rattle.sqlite_value.specs.Order.{column};
 ghost use Rattle.sqlite_value.specs.declared.value.Value.TheVariants.{Null, Text};
 ghost use Rattle.exam_types.specs.Codes.{is_hall_code, is_paper_code};
 ghost use Rattle.exam_types.specs.Numbers.{IsExtra};
+ghost use Rattle.exam_types.specs.Texts.{is_reason};
 ghost use Rattle.exam_types.specs.declared.refusal.Refusal.TheVariants.{BadStore};
 ghost use Rattle.std.specs.Bool.{Decides};
-ghost use Rattle.exam_rows.specs.Reading.{Reads, MayRead};
+ghost use Rattle.exam_rows.specs.Reading.{Reads, MayRead, WantsMemoryOf};
 ghost use Rattle.exam_rows.specs.Stored as stored;
 ghost use Rattle.exam_rows.specs.Stored.{IsSubject, IsAnswer, IsStatus};
 
@@ -185,7 +186,8 @@ pub fn status_at(alloc: Global, row: &Row, at: usize) -> Result<Status, Refusal>
 /// The reason that a column holds, or none where it is NULL.
 fn answer_at(alloc: Global, row: &Row, at: usize) -> Result<Option<Reason>, Refusal>
     requires { at < length row.now }
-    ensures { MayRead IsAnswer stored.text_or_null (column row.now at) result }
+    ensures read { MayRead IsAnswer stored.text_or_null (column row.now at) result }
+    ensures memory { WantsMemoryOf is_reason (column row.now at) result }
 {
     if is_null_at(row, at) {
         return Ok(None);

@@ -5,4 +5,7 @@ use Rattle.exam_rows.proofs.subjects.answer_at.Goals as goal
 pub returns-in_err-reason_at : goal.returns-in_err-reason_at
 returns-in_err-reason_at c =
     let is : c.from_residual.result ≡ Err c.in_err-reason_at.field-0.0 = search rules in
-    rw is (no_answer _ _ (search rules) c.in_err-reason_at.ensures)
+    rw is (record {
+      read = no_answer _ _ (search rules) c.in_err-reason_at.ensures.read;
+      memory = c.in_err-reason_at.ensures.memory;
+    })

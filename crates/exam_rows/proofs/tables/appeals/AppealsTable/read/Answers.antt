@@ -16,7 +16,7 @@ returns c =
     let reference = c.in_ok-reference.ensures in
     let session = c.in_ok-session.ensures in
     let subject = c.in_ok-subject.ensures in
-    let reason = found c.in_ok-reason.reason c.in_ok-reason.ensures in
+    let reason = found c.in_ok-reason.reason c.in_ok-reason.ensures.read in
     let status = found c.in_ok-status.status c.in_ok-status.ensures in
     let lodged = c.in_ok-lodged.ensures in
     inr (

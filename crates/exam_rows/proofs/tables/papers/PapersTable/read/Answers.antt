@@ -6,7 +6,7 @@ pub returns : goal.returns
 returns c =
     let len : length c.args.row.now ≡ 5 = search rules in
     let code = c.in_ok-code.ensures in
-    let title = found c.in_ok-title.title c.in_ok-title.ensures in
+    let title = found c.in_ok-title.title c.in_ok-title.ensures.read in
     let session = c.in_ok-session.ensures in
     let minutes = c.in_ok-minutes.ensures in
     let required = c.in_ok-required.ensures in
