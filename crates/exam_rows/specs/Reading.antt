@@ -2,6 +2,8 @@
 use Rattle.std.specs.Prelude.{Bool, ℕ, List, ◌≡◌, ◌⊎◌, Result, Ok, Err, IsTrue, IfErr}
 use Rattle.sqlite_value.specs.declared.value.Value.{Value}
 use Rattle.sqlite_value.specs.declared.value.Value.TheVariants.{Text}
+use Rattle.sqlite_value.specs.Order.{Row, column}
+use Rattle.exam_types.specs.Texts.{is_name, is_reason}
 use Rattle.exam_types.specs.declared.refusal.Refusal.{Refusal}
 use Rattle.exam_types.specs.declared.refusal.Refusal.TheVariants.{NoMemory, BadStore}
 
@@ -18,3 +20,8 @@ MayRead IsOne stored shown result = (result ≡ Err NoMemory) ⊎ Reads IsOne st
 abbrev pub WantsMemoryOf : {V : Type 0} → (List ℕ → Bool) → Value → Result V Refusal → Type 0
 WantsMemoryOf has_form shown result =
     IfErr result (λ e. e ≡ NoMemory → (text : List ℕ) × IsTrue (has_form text) × (shown ≡ Text text))
+
+-- the same of a row: one of its columns is such a text, a name or a reason
+abbrev pub WantsMemoryOfRow : {V : Type 0} → Row → Result V Refusal → Type 0
+WantsMemoryOfRow row result = IfErr result (λ e. e ≡ NoMemory
+    → (at : ℕ) × (text : List ℕ) × (IsTrue (is_name text) ⊎ IsTrue (is_reason text)) × (column row at ≡ Text text))

@@ -170,7 +170,8 @@ pub fn answer_of(status: &Status) -> ValueRef<'_>
 pub fn status_at(alloc: Global, row: &Row, at: usize) -> Result<Status, Refusal>
     requires small { at < 900 }
     requires within { at + 1 < length row.now }
-    ensures { MayRead IsStatus stored.status (column row.now at ∷ column row.now (at + 1) ∷ []) result }
+    ensures read { MayRead IsStatus stored.status (column row.now at ∷ column row.now (at + 1) ∷ []) result }
+    ensures memory { WantsMemoryOf is_reason (column row.now (at + 1)) result }
 {
     let state = whole_at(row, at)?;
     match (state, answer_at(alloc, row, at + 1)?) {

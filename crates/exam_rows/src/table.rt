@@ -8,7 +8,7 @@ ghost use Rattle.exam_rows.specs.Faults.{is_store_refusal};
 ghost use Rattle.exam_rows.specs.Inside.{Makes, Contains, put_of, delete_of};
 ghost use Rattle.exam_types.specs.declared.refusal.Refusal.TheVariants.{NoMemory, BadStore};
 ghost use Rattle.exam_rows.specs.Loaded.{AreRowsOf, HoldsTable, IsLoadRefusal, KeysMatch, OnlyReads, Told};
-ghost use Rattle.exam_rows.specs.Reading.{MayRead};
+ghost use Rattle.exam_rows.specs.Reading.{MayRead, WantsMemoryOfRow};
 
 use crate::differences::Keyed;
 use crate::statements::add_row;
@@ -77,7 +77,8 @@ pub trait Table {
 
     /// The row that is shown. Refused as a bad store where it is the stored form of none.
     fn read(alloc: Global, row: &Row) -> Result<(Self::Key, Self::Value), Refusal>
-        ensures { MayRead (λ p. Self.IsRow p.0 p.1) (λ p. Self.row_of p.0 p.1) row.now result };
+        ensures read { MayRead (λ p. Self.IsRow p.0 p.1) (λ p. Self.row_of p.0 p.1) row.now result }
+        ensures memory { WantsMemoryOfRow row.now result };
 }
 
 /// Sets these rows.

@@ -10,12 +10,12 @@ rows-preserved g c =
     let done = take c.rows.row-index c.args.rows.now in
     let row = c.row-item.result in
     let more : take (c.rows.row-index + 1) c.args.rows.now ≡ done ++ row ∷ [] = search (rules, take_more) in
-    one_read (λ e. g.T.Table.row_of e.0 e.1) done _ row (c.in_ok-key.key, c.in_ok-key.value) c.rows.table.entries c.add_row.new.table.entries more (found (c.in_ok-key.key, c.in_ok-key.value) c.in_ok-key.ensures).1 c.rows.invariant c.in_ok-add_row.ensures.ok
+    one_read (λ e. g.T.Table.row_of e.0 e.1) done _ row (c.in_ok-key.key, c.in_ok-key.value) c.rows.table.entries c.add_row.new.table.entries more (found (c.in_ok-key.key, c.in_ok-key.value) c.in_ok-key.ensures.read).1 c.rows.invariant c.in_ok-add_row.ensures.ok
 
 pub returns-in_err-key-clause-bad : goal.returns-in_err-key-clause-bad
 returns-in_err-key-clause-bad g c =
     let is : c.from_residual.result ≡ Err c.in_err-key.field-0.0 = search rules in
-    rw is (elim c.in_err-key.ensures [
+    rw is (elim c.in_err-key.ensures.read [
       | inl lacks ↦ inl cc
       | inr none ↦ inr (
         none.0,
@@ -31,7 +31,7 @@ returns-in_err-add_row-clause-bad g c =
     let done = take c.rows.row-index rows in
     let row = c.row-item.result in
     let more : take (c.rows.row-index + 1) rows ≡ done ++ row ∷ [] = search (rules, take_more) in
-    let read = found (c.in_ok-key.key, c.in_ok-key.value) c.in_ok-key.ensures in
+    let read = found (c.in_ok-key.key, c.in_ok-key.value) c.in_ok-key.ensures.read in
     rw is (elim c.in_err-add_row.ensures.bad [
       | inl lacks ↦ inl lacks
       | inr twice ↦ inr (

@@ -2,8 +2,8 @@ use Rattle.std.proofs.Common.{◌≡◌, length, inr, rules}
 use Rattle.exam_rows.proofs.Reading.{found, five}
 use Rattle.exam_rows.proofs.tables.papers.PapersTable.read.Goals as goal
 
-pub returns : goal.returns
-returns c =
+pub returns-clause-read : goal.returns-clause-read
+returns-clause-read c =
     let len : length c.args.row.now ≡ 5 = search rules in
     let code = c.in_ok-code.ensures in
     let title = found c.in_ok-title.title c.in_ok-title.ensures.read in
