@@ -13,8 +13,9 @@ use exam_types::{Refusal, SessionCode};
 use std::alloc::Global;
 use std::io::Write;
 
-/// Writes the seats of a session as a CSV file: a header and a record for each member, by number. No field
-/// needs quotes, since codes have neither commas nor quotes. The unseated have `-` as hall and as desk.
+/// Writes the seats of a session as a CSV file: a header and a record for each member, by number. Lines end with
+/// LF, where RFC 4180, section 2, has CR LF. No field needs quotes, since codes have neither commas nor quotes.
+/// The unseated have `-` as hall and as desk.
 pub fn export_seats<W: Write>(
     alloc: Global,
     view: &SessionView,

@@ -1,4 +1,4 @@
-//! The records of a file, as the reader of CSV gives them.
+//! The records of a file (RFC 4180, section 2), as the reader of CSV gives them.
 ghost use Rattle.std.specs.Prelude.{◌≡◌, ℕ, List, Some, IsTrue, IfOk, IfErr};
 ghost use Rattle.csv.specs.Reading.{default_config, is_flexible, records, strip_bom};
 ghost use Rattle.csv.specs.Records.{fields_of};

@@ -1,5 +1,5 @@
 -- One request, read and answered.
-use Rattle.std.specs.Prelude.{◌≡◌, ℕ, List, Option, Result, Ok, Err}
+use Rattle.std.specs.Prelude.{◌≡◌, ⊤, ℕ, List, Option, Result, Ok, Err}
 use Rattle.std.specs.Io.KnownBytes.{Appends}
 use Rattle.sqlite_trees.specs.declared.store.Store.{Ghosts}
 use Rattle.exam_store.specs.Stores.{OfficeIn}
@@ -13,6 +13,11 @@ use Rattle.exam_request.specs.declared.reading.Asked.{Asked}
 use Rattle.exam_http.specs.Answering.{Answers}
 use Rattle.exam_http.specs.declared.serving.HttpFault.{HttpFault}
 use Rattle.exam_http.specs.declared.serving.HttpFault.TheVariants.{Read, Write}
+
+-- the number by which a fault of a connection is told
+abbrev pub http_fault_number : HttpFault → ℕ
+http_fault_number Read = 41
+http_fault_number Write = 42
 
 -- a request that cannot be read is told its fault, and nothing changes
 abbrev pub AnswersAsked : {S : Type 0} → Ghosts S → ℕ → OfficeIn S → Result Request Fault → Told → OfficeIn S → Type 0
@@ -49,7 +54,8 @@ abbrev pub Serves : {S W : Type 0} → Ghosts S → (W → Option (List ℕ)) �
 Serves g contents today input rest old before (Ok done) new after =
     (told : Told) × Tells g today input rest old told new
     × Appends (contents before) (contents after) (answer_text told)
-Serves g contents today input rest old before (Err Read) new after = (new ≡ old) × (after ≡ before)
+Serves g contents today input rest old before (Err Read) new after =
+    Gave 12288 input rest (λ bytes. ⊤) × (new ≡ old) × (after ≡ before)
 Serves g contents today input rest old before (Err Write) new after =
     (told : Told) × Tells g today input rest old told new
     × AppendsPart (contents before) (contents after) (answer_text told)

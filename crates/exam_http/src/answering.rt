@@ -1,5 +1,5 @@
 //! What a request is told, by what it asks and the office.
-ghost use Rattle.std.specs.Prelude.{◌≡◌, ◌⊎◌, option_and_then, option_map, IfOk, IfErr, IfNone, List, ℕ};
+ghost use Rattle.std.specs.Prelude.{◌≡◌, ◌⊎◌, option_and_then, option_map, IsSome, IfOk, IfErr, IfNone, List, ℕ};
 ghost use Rattle.exam_types.specs.declared.refusal.Refusal.TheVariants.{NoMemory, UnknownCandidate};
 ghost use Rattle.exam_office.specs.Own.{own_of, shown};
 ghost use Rattle.exam_request.specs.Answer.{ok_told, refusal_told};
@@ -62,7 +62,8 @@ fn own_rows<S: Alter>(
 ) -> Result<Option<Own>, Refusal>
     ensures ok { IfOk result (λ own. option_map shown own
         ≡ option_and_then (own_of store.old.office) (number_named (option_map targets.shown found.now))) }
-    ensures memory { IfErr result (λ e. e ≡ NoMemory) }
+    ensures memory { IfErr result (λ e. (e ≡ NoMemory) × IsSome (option_and_then (own_of store.old.office)
+        (number_named (option_map targets.shown found.now)))) }
     ensures same { store.new ≡ store.old }
 {
     match candidate_of(found) {

@@ -4,6 +4,7 @@ ghost use Rattle.exam_office.specs.Good.{IsGood};
 ghost use Rattle.exam_office.specs.Orders.{IsInOrder};
 ghost use Rattle.exam_request.specs.Answer.{Told};
 ghost use Rattle.exam_request.specs.Asked.{Request};
+ghost use Rattle.exam_request.specs.Choices.{IsStranger};
 ghost use Rattle.exam_store.specs.Stores.{OfficeIn};
 ghost use Rattle.exam_http.specs.Alike.{AreAlike};
 ghost use Rattle.exam_http.specs.Answering.{Answers, own_named};
@@ -19,4 +20,16 @@ pub fn own_rows_decide_an_answer<S: Alter, T: Alter>()
         → IsInOrder other.office → own_named one.office request ≡ own_named other.office request
         → Answers S.Store today one request first one_after
         → Answers T.Store today other request second other_after → AreAlike first second }
+{}
+
+/// What a stranger is answered hangs on the request alone, and changes nothing: two offices, whatever they hold,
+/// of neither of which a request shows the code of the candidate whom it names, answer it the same on any days,
+/// unless one of them fails.
+pub fn strangers_are_answered_alike<S: Alter, T: Alter>()
+    ensures { (today later : ℕ) (request : Request) (one one_after : OfficeIn S) (other other_after : OfficeIn T)
+        (first second : Told) → IsStranger request (own_named one.office request)
+        → IsStranger request (own_named other.office request)
+        → Answers S.Store today one request first one_after
+        → Answers T.Store later other request second other_after
+        → AreAlike first second × (one_after ≡ one) }
 {}

@@ -1,4 +1,5 @@
 //! One request, read and answered.
+ghost use Rattle.std.specs.Prelude.{◌≡◌};
 ghost use Rattle.exam_http.specs.Serving as spec;
 
 use crate::answering::answer;
@@ -19,8 +20,20 @@ pub enum HttpFault {
     Write,
 }
 
-/// The greatest head with the greatest body.
-const MOST: usize = 12_288;
+impl HttpFault {
+    /// The number by which the fault is told.
+    pub fn number(self) -> u16
+        ensures { result ≡ spec.http_fault_number self }
+    {
+        match self {
+            HttpFault::Read => 41,
+            HttpFault::Write => 42,
+        }
+    }
+}
+
+/// The greatest head with the greatest body, in bytes.
+const LONGEST_REQUEST: usize = 12_288;
 
 /// Reads one request and writes one answer. After `Read` nothing was written and nothing changed; after `Write`
 /// a beginning of the answer went out, not all of it, and a command stands as it was answered.
@@ -34,7 +47,7 @@ pub fn serve_one<S: Alter, R: Read, W: Write>(
     ensures { spec.Serves S.Store W.contents today (R.remaining reader.old) (R.remaining reader.new) store.old
         writer.old result store.new writer.new }
 {
-    let mut buffer = [0; MOST];
+    let mut buffer = [0; LONGEST_REQUEST];
     match read_request(reader, &mut buffer) {
         Ok(asked) => write_back(alloc, store, today, &asked, writer),
         Err(_) => Err(HttpFault::Read),

@@ -1,11 +1,11 @@
 -- The lines that the program prints.
-use Rattle.std.specs.Prelude.{◌≡◌, ℕ, List, ◌++◌, Option, Result, Ok, Err, codes}
+use Rattle.std.specs.Prelude.{◌≡◌, ℕ, List, ◌++◌, Option, Result, Ok, Err, codes, string_bytes}
 use Rattle.std.specs.Fmt.{decimal}
 use Rattle.std.specs.Io.KnownBytes.{Appends, Keeps}
 use Rattle.exam_types.specs.Days.{day_text}
 use Rattle.exam_types.specs.Refusals.{refusal_number}
 use Rattle.exam_types.specs.declared.refusal.Refusal.{Refusal}
-use Rattle.exam_types.specs.declared.refusal.Refusal.TheVariants.{BadRow, PastClosing, RowConflict}
+use Rattle.exam_types.specs.declared.refusal.Refusal.TheVariants.{BadRow, NoMemory, PastClosing, RowConflict}
 use Rattle.exam_office.specs.Words.{state_word}
 use Rattle.exam_office.specs.declared.command.AppealState.{AppealState}
 use Rattle.exam_office.specs.declared.command.Reply.{Reply}
@@ -13,6 +13,8 @@ use Rattle.exam_office.specs.declared.command.Reply.TheVariants as reply
 use Rattle.exam_files.specs.Places as places
 use Rattle.exam_files.specs.declared.sheet_fault.SheetFault.{SheetFault}
 use Rattle.exam_files.specs.declared.sheet_fault.SheetFault.TheVariants as sheet
+use Rattle.exam_line.specs.declared.line.LineFault.{LineFault}
+use Rattle.exam_line.specs.declared.line.LineFault.TheVariants as line
 use Rattle.exam_send.specs.Sending.{AppendsBeginning}
 use Rattle.exam_job.specs.declared.report.JobFault.{JobFault}
 use Rattle.exam_job.specs.declared.report.JobFault.TheVariants as fault
@@ -78,6 +80,14 @@ fault_text fault.Net = codes "net fault\n"
 abbrev pub serving_text : ℕ → List ℕ
 serving_text port = codes "serving 127.0.0.1 " ++ decimal port ++ codes "\n"
 
+-- what is printed of a connection that ended in the fault with this number
+abbrev pub connection_fault_text : ℕ → List ℕ
+connection_fault_text number = codes "fault " ++ decimal number ++ codes "\n"
+
+-- what is printed of words that are no line
+abbrev pub not_understood_text : List ℕ
+not_understood_text = codes "line not understood\n"
+
 -- ---- what goes out
 
 -- the fault of a sheet that was not written
@@ -105,3 +115,20 @@ abbrev pub Reports : {W : Type 0} → (W → Option (List ℕ)) → Result (Unit
 Reports contents (Ok done) before status after = (status ≡ 0) × (after ≡ before)
 Reports contents (Err failed) before status after =
     (status ≡ 1) × AppendsBeginning (contents before) (contents after) (fault_text failed)
+
+-- the exit status of a request for help, whose text goes to standard output; a fault is told as any other
+abbrev pub ReportsHelp : {O E : Type 0} → (O → Option (List ℕ)) → (E → Option (List ℕ)) → List ℕ → O → E → ℕ → O → E
+    → Type 0
+ReportsHelp contents errors text before untold status after told =
+    (result : Result (Unit {0}) JobFault) × Prints contents text before result after
+    × Reports errors result untold status told
+
+-- the exit status of words that are no line, and what is told of them
+abbrev pub ReportsNoLine : {O E : Type 0} → (O → Option (List ℕ)) → (E → Option (List ℕ)) → LineFault → O → E → ℕ → O → E
+    → Type 0
+ReportsNoLine contents errors (line.Help text) before untold status after told =
+    ReportsHelp contents errors (string_bytes text) before untold status after told
+ReportsNoLine contents errors line.NotUnderstood before untold status after told =
+    (after ≡ before) × (status ≡ 2) × AppendsBeginning (errors untold) (errors told) not_understood_text
+ReportsNoLine contents errors line.NoMemory before untold status after told =
+    (after ≡ before) × Reports errors (Err (fault.Refused NoMemory)) untold status told

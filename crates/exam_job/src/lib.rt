@@ -8,5 +8,5 @@ mod report;
 mod sheets;
 
 pub use job::{carry_out, run_job};
-pub use lines::{ShortLine, fault_line, reply_line, serving_line};
-pub use report::{DONE, FAILED, JobFault, NOT_UNDERSTOOD, flush, print, print_error, print_fault};
+pub use lines::{connection_fault_line, serving_line};
+pub use report::{DONE, JobFault, print, print_error, print_fault, print_line_fault};

@@ -141,6 +141,16 @@ pub fn serving_line(port: u16) -> ShortLine
     line
 }
 
+/// What is printed of a connection that ended in the fault with this number.
+pub fn connection_fault_line(number: u16) -> ShortLine
+    ensures { result.items ≡ spec.connection_fault_text number }
+{
+    let mut line = line_of(b"fault ");
+    put_number(&mut line, number);
+    put(&mut line, b"\n");
+    line
+}
+
 /// The hall, or a dash for none.
 fn put_hall(line: &mut ShortLine, seat: &Option<HallCode>)
     requires { array_vec_len line.old + 8 ≤ 64 }

@@ -7,6 +7,7 @@ ghost use Rattle.exam_job.specs.declared.report.JobFault.TheVariants.{Refused};
 
 use crate::lines::fault_line;
 use exam_files::SheetFault;
+use exam_line::LineFault;
 use exam_send::send;
 use exam_types::Refusal;
 use std::io::Write;
@@ -72,6 +73,30 @@ pub fn print_fault<E: Write>(fault: &JobFault, err: &mut E) -> u8
 {
     print_error(err, fault_line(fault).as_slice());
     FAILED
+}
+
+/// Tells why words are no line, and gives the exit status. The text of help goes to standard output.
+pub fn print_line_fault<O: Write, E: Write>(fault: &LineFault, out: &mut O, err: &mut E) -> u8
+    ensures { spec.ReportsNoLine O.contents E.contents fault.now out.old err.old result out.new err.new }
+{
+    match fault {
+        LineFault::Help(text) => print_help(text.as_bytes(), out, err),
+        LineFault::NotUnderstood => {
+            print_error(err, b"line not understood\n");
+            NOT_UNDERSTOOD
+        }
+        LineFault::NoMemory => print_fault(&JobFault::Refused(Refusal::NoMemory), err),
+    }
+}
+
+/// Prints the text of help, and gives the exit status.
+fn print_help<O: Write, E: Write>(text: &[u8], out: &mut O, err: &mut E) -> u8
+    ensures { spec.ReportsHelp O.contents E.contents text.now out.old err.old result out.new err.new }
+{
+    match print(out, text) {
+        Ok(()) => DONE,
+        Err(fault) => print_fault(&fault, err),
+    }
 }
 
 /// Prints a line on standard error, of which a beginning goes out where that fails.

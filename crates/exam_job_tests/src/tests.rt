@@ -1,4 +1,4 @@
-//! The worked rows, through all layers over a database in memory.
+//! Short days at a small office, through all layers over a database in memory.
 mod closing;
 mod kept_rows;
 mod outputs;
@@ -86,14 +86,14 @@ const BASE: &[(&str, &str)] = &[
     ),
 ];
 
-/// The base office of the worked rows, in memory.
+/// The base office of these days, in memory.
 fn base_office<R: Abort + AllocGlobal>(rt: &R) -> Result<Store<MemStore>, Fail> {
     let mut store = Store::in_memory(rt.alloc())?;
     import_base(rt, &mut store)?;
     Ok(store)
 }
 
-/// Imports the base of the worked rows.
+/// Imports the base of these days.
 fn import_base<R: Abort + AllocGlobal, S: Alter>(rt: &R, store: &mut Store<S>) -> Result<(), Fail> {
     for (words, file) in BASE {
         let outcome = run(rt.alloc(), store, words, file)?;

@@ -1,5 +1,5 @@
 -- From what clap says of words to what the program answers.
-use Rattle.std.proofs.Common.{◌≡◌, ◌⊎◌, ◌∙◌, [], List, Option, true, refl, sym, subst, ap₂, inl, inr}
+use Rattle.std.proofs.Common.{◌≡◌, ◌≢◌, ◌⊎◌, ◌∙◌, [], ◌∷◌, List, Option, true, refl, sym, subst, ap₂, inl, inr}
 use Rattle.std.specs.Prelude.{Result, Ok, Err}
 use Rattle.clap.specs.Words.{App, HasMatchesOf, IsAmong, Text, fault_of, found_of, is_simple, is_simple_and_free, matches_of, rows_of, subcommand_of, subcommand_rows_of}
 use Rattle.clap.specs.declared.parser.matches.ArgMatches.{ArgMatches}
@@ -7,6 +7,7 @@ use Rattle.clap.specs.declared.error.kind.ErrorKind.{ErrorKind}
 use Rattle.clap.specs.declared.error.kind.ErrorKind.TheVariants as kind
 use Rattle.clap.proofs.OnLiterals.{clap_on_literals}
 use Rattle.exam_line.specs.Grammar.{grammar}
+use Rattle.exam_line.proofs.HelpAlone.{help_alone}
 use Rattle.exam_line.specs.Lines.{Answers, GivesLine, Said, Tells, rows, said, said_in}
 use Rattle.exam_line.specs.declared.line.Line.{Line}
 use Rattle.exam_line.specs.declared.line.LineFault.{LineFault}
@@ -26,10 +27,16 @@ accepted (Err NoMemory) answer words none same given = tt
 accepted (Err NotUnderstood) answer words none same given = inl (none, sym same ∙ given)
 accepted (Err (Help text)) answer words none same given = absurd given
 
+-- beside another kind no request for help is found
+no_help : (k : ErrorKind) (words : List Text) → k ≢ kind.DisplayHelp → IsAmong k (fault_of grammar words) → IsAmong kind.DisplayHelp (fault_of grammar words) → ⊥
+no_help k words other among help =
+    let single : IsAmong k (kind.DisplayHelp ∷ []) = subst (IsAmong k) (help_alone words help) among in
+    elim single [ inl e ↦ other e | inr further ↦ absurd further ]
+
 told : (f : LineFault) (k : ErrorKind) (words : List Text) → Tells f k → (k ≡ kind.OutOfMemory) ⊎ IsAmong k (fault_of grammar words) → Answers (Err f) words
 told NoMemory k words tells from = tt
 told NotUnderstood k words tells (inl e) = absurd (tells.1 e)
-told NotUnderstood k words tells (inr among) = inr (k, among, tells.0)
+told NotUnderstood k words tells (inr among) = inr (k, among, no_help k words tells.0 among)
 told (Help text) k words tells (inl e) = cc (tells, e)
 told (Help text) k words tells (inr among) = subst (λ x. IsAmong x (fault_of grammar words)) tells among
 

@@ -23,11 +23,15 @@ job_app name words = record { top = job_shape name words; subs = [] }
 abbrev pub with_job : App → Text × List Text → App
 with_job app job = with_subcommand app (job_shape job.0 job.1)
 
+-- a command has to be given, and `help` is none
+abbrev pub program_app : App
+program_app =
+    on_top (λ shape. record shape { subcommand_required = true; disable_help_subcommand = true })
+    (new_app (codes "examoffice"))
+
 -- the options, which stand before the command
 abbrev pub options : App
-options =
-    with_rule (with_rule (on_top (λ shape. record shape { subcommand_required = true }) (new_app (codes "examoffice")))
-    (option_rule (codes "db"))) (option_rule (codes "today"))
+options = with_rule (with_rule program_app (option_rule (codes "db"))) (option_rule (codes "today"))
 
 -- the commands that make the office, change it or serve it, with their words
 abbrev pub changes : List (Text × List Text)

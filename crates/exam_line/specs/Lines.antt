@@ -191,15 +191,16 @@ said_in words command =
 abbrev pub said : List Text → Option Said
 said words = said_in (matches_of grammar words) (subcommand_of grammar words)
 
--- What a call answers for words: what they say, where `clap` takes them, and not understood, where they say
--- nothing or `clap` does not take them; help, where it finds a request for help.
+-- What a call answers for words: what they say, where `clap` takes them; help, just where it finds a request
+-- for help; and not understood, where it finds faults and no such request, or they say nothing.
 abbrev pub Answers : Result Line LineFault → List Text → Type 0
 Answers (Ok line) words = (fault_of grammar words ≡ []) × (said words ≡ Some (shown line))
 Answers (Err NoMemory) words = ⊤
 Answers (Err (Help text)) words = IsAmong kind.DisplayHelp (fault_of grammar words)
 Answers (Err NotUnderstood) words =
     ((fault_of grammar words ≡ []) × (said words ≡ None))
-    ⊎ ((k : ErrorKind) × IsAmong k (fault_of grammar words) × (k ≢ kind.DisplayHelp))
+    ⊎ ((k : ErrorKind) × IsAmong k (fault_of grammar words)
+    × (IsAmong kind.DisplayHelp (fault_of grammar words) → ⊥))
 
 -- ---- for the parts of the call
 

@@ -61,7 +61,8 @@ fn with_sheets<'a>(alloc: Global, command: Command<'a>) -> Result<Command<'a>, A
     with_job(alloc, command, "export", help::EXPORT, &session)
 }
 
-/// The options, which stand before the command.
+/// The options, which stand before the command. `help` is no command, so that a request for help is never
+/// another fault too.
 fn top_command<'a>(alloc: Global) -> Result<Command<'a>, AllocError>
     ensures { IfOk result (λ c. app_of c ≡ spec.options) }
 {
@@ -69,6 +70,7 @@ fn top_command<'a>(alloc: Global) -> Result<Command<'a>, AllocError>
         .about(help::PROGRAM)
         .after_help(help::STATUSES)
         .subcommand_required(true)
+        .disable_help_subcommand(true)
         .arg(option(alloc, "db", help::DB))?
         .arg(option(alloc, "today", help::TODAY))
 }

@@ -1,4 +1,4 @@
-//! What `--help` and `help COMMAND` say. `{n}` stands for the end of a line.
+//! What `--help` and `COMMAND --help` say. `{n}` stands for the end of a line.
 
 pub const PROGRAM: &str =
     "The seating office of a school or university: it imports, seats candidates and prints door lists.";
@@ -36,7 +36,8 @@ pub const OUTCOME: &str = "What is decided: granted or refused";
 
 pub const REASON: &str = "What the candidate is answered, as 'a window was found'; it may be empty";
 
-pub const SERVE: &str = "Answers candidates over HTTP, on this machine alone, until it is stopped";
+pub const SERVE: &str =
+    "Answers candidates over HTTP, on this machine alone, until it is stopped; meanwhile no other command opens the file";
 
 pub const PORT: &str = "The port to serve on, as 8080";
 
@@ -77,6 +78,6 @@ A command that is refused changes nothing and prints `refused` with a number:{n}
 17 too late to decide{n}  \
 20 too many: a limit of the office would be passed, or the file is too long{n}  \
 22 not enough memory{n}  \
-23 the database failed{n}  \
-24 the file holds no office{n}  \
+23 the database failed, or another program, as `serve`, has it open{n}  \
+24 the file holds no office: `init` makes one{n}  \
 25 the hall is not opened for the session";

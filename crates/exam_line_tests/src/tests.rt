@@ -105,8 +105,63 @@ fn other_words_are_not_understood(rt: HostRuntime) -> Result<(), Fail> {
         "--db|office.db|init",
         "--today|2027-05-01|init",
         "init",
+        "help",
+        "help|import",
+        given!("help"),
+        given!("help|import"),
     ] {
         assert_eq!(rt; told(rt.alloc(), line)?, "none", "{line}");
+    }
+    Ok(())
+}
+
+/// Whether a line asks for help, and the text of the answer holds this part.
+fn helps_with(alloc: Global, line: &str, part: &str) -> Result<bool, AllocError> {
+    let words = words_of(alloc, line)?;
+    match parse_line(alloc, words.as_slice()) {
+        Err(LineFault::Help(text)) => Ok(text.as_str().contains(part)),
+        _ => Ok(false),
+    }
+}
+
+/// The name of a command where the text of help lists it, at the head of a line.
+macro_rules! listed {
+    ($name:literal) => {
+        concat!("\n  ", $name, " ")
+    };
+}
+
+#[test]
+fn help_names_each_command(rt: HostRuntime) -> Result<(), Fail> {
+    for name in [
+        listed!("init"),
+        listed!("import"),
+        listed!("withdraw"),
+        listed!("reinstate"),
+        listed!("close-hall"),
+        listed!("decide"),
+        listed!("serve"),
+        listed!("door-list"),
+        listed!("attendance"),
+        listed!("clashes"),
+        listed!("shortage"),
+        listed!("appeals"),
+        listed!("export"),
+    ] {
+        assert!(rt; helps_with(rt.alloc(), "--help", name)?, "{name}");
+    }
+    Ok(())
+}
+
+#[test]
+fn help_of_import_names_each_kind(rt: HostRuntime) -> Result<(), Fail> {
+    let kinds = "sessions, papers, halls, openings, candidates, entries or arrangements";
+    for line in [
+        "import|--help",
+        given!("import|--help"),
+        given!("import|entries|-h"),
+    ] {
+        assert!(rt; helps_with(rt.alloc(), line, kinds)?, "{line}");
     }
     Ok(())
 }

@@ -134,7 +134,7 @@ carries_put r k new continues = record { candidates = λ c has. has; appeals = �
 
 -- ---- by a command
 
-made : (o : Option Refusal) (r t : Relations) → unless o r ≡ Ok t → r ≡ t
+pub made : (o : Option Refusal) (r t : Relations) → unless o r ≡ Ok t → r ≡ t
 made None r t is = cc
 made (Some e) r t is = absurd (let differ : unless (Some e) r ≡ Ok t = is in cc)
 
@@ -335,14 +335,14 @@ run_carries (x ∷ done) before (q ∷ replies) after run =
 
 -- ---- steps that change nothing
 
-new_facts : (done : Command) (day : ℕ) (before : State) (answer : Reply) (after : State) → Step done day before (Ok answer) after → change done day before ≡ Ok after.relations
+pub new_facts : (done : Command) (day : ℕ) (before : State) (answer : Reply) (after : State) → Step done day before (Ok answer) after → change done day before ≡ Ok after.relations
 new_facts done day before answer after step = inner (change done day before) refl step
   where
     inner : (o : Result Relations Refusal) → change done day before ≡ o → StepTo done before (Ok answer) after o → o ≡ Ok after.relations
     inner (Ok t) is to = ap Ok (sym to.0)
     inner (Err e) is to = absurd (let differ : Ok answer ≡ Err e = to.0 in cc)
 
-same_office : (done : Command) (before : State) (answer : Result Reply Refusal) (after : State) → IsInOrder before → IsInOrder after → StepTo done before answer after (Ok before.relations) → after ≡ before
+pub same_office : (done : Command) (before : State) (answer : Result Reply Refusal) (after : State) → IsInOrder before → IsInOrder after → StepTo done before answer after (Ok before.relations) → after ≡ before
 same_office done before answer after up up_after to =
     let same : after.seats ≡ before.seats = same_rows seat_cmp seats_total seats_exact after.seats before.seats up_after.seats up.seats
     (λ q. (to.1 q.0).untouched (record { members = refl; fits = λ c h. refl; desks = λ h. refl }) q.1) in

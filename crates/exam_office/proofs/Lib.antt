@@ -30,6 +30,7 @@ pub mod DecidedFacts
 pub mod DecisionSteps
 pub mod Stored
 pub mod RepeatedImports
+pub mod LaterImports
 pub mod Seated
 pub mod SingleKeys
 pub mod Members

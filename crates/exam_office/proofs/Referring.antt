@@ -60,11 +60,11 @@ all_more p q (x ∷ xs) more every = and_from (q x) (list_all q xs) (more x (and
 
 -- ---- the tables that are referred to only grow
 
-record Grows (r t : Relations) : Type 0 where
-  sessions : (s : Code) → has_row code_cmp r.sessions s ≡ true → has_row code_cmp t.sessions s ≡ true
-  papers : (p : Code) → has_row code_cmp r.papers p ≡ true → has_row code_cmp t.papers p ≡ true
-  halls : (h : Code) → has_row code_cmp r.halls h ≡ true → has_row code_cmp t.halls h ≡ true
-  candidates : (c : ℕ) → has_row nat_cmp r.candidates c ≡ true → has_row nat_cmp t.candidates c ≡ true
+pub record Grows (r t : Relations) : Type 0 where
+  pub sessions : (s : Code) → has_row code_cmp r.sessions s ≡ true → has_row code_cmp t.sessions s ≡ true
+  pub papers : (p : Code) → has_row code_cmp r.papers p ≡ true → has_row code_cmp t.papers p ≡ true
+  pub halls : (h : Code) → has_row code_cmp r.halls h ≡ true → has_row code_cmp t.halls h ≡ true
+  pub candidates : (c : ℕ) → has_row nat_cmp r.candidates c ≡ true → has_row nat_cmp t.candidates c ≡ true
 
 grows_none : (r : Relations) → Grows r r
 grows_none r = record { sessions = λ s h. h; papers = λ p h. h; halls = λ h k. k; candidates = λ c h. h }
@@ -297,7 +297,7 @@ row_refers_still r t (row.OfEntry c k) grows ok =
 row_refers_still r t (row.OfArrangement c x) grows ok =
     once_more (has_row nat_cmp t.candidates c) refusal.UnknownCandidate [] (grows.candidates c (there (has_row nat_cmp r.candidates c) refusal.UnknownCandidate [] ok))
 
-rows_refer_still : (r t : Relations) (rows : List Row) → Grows r t → rows_refusal r rows ≡ None → rows_refusal t rows ≡ None
+pub rows_refer_still : (r t : Relations) (rows : List Row) → Grows r t → rows_refusal r rows ≡ None → rows_refusal t rows ≡ None
 rows_refer_still r t [] grows ok = refl
 rows_refer_still r t (x ∷ rows) grows ok =
     let both = neither (first_refusal (row_checks r x)) (rows_refusal r rows) ok in

@@ -107,7 +107,7 @@ module _ (r : Relations) where
   all_same [] every = refl
   all_same (x ∷ rows) every = ap (λ o. cond (option_map_or (λ same. same) o false) (x ∷ filter (is_same r) rows) (filter (is_same r) rows)) (row_same r x every.0) ∙ ap (λ xs. x ∷ xs) (all_same rows every.1)
 
-  stored_reply : (rows : List Row) → AllByRecursion (IsStored r) rows → import_reply r rows ≡ reply.Imported 0 0 (length (distinct_rows rows))
+  pub stored_reply : (rows : List Row) → AllByRecursion (IsStored r) rows → import_reply r rows ≡ reply.Imported 0 0 (length (distinct_rows rows))
   stored_reply rows every =
       let distinct : AllByRecursion (IsStored r) (distinct_rows rows) = all_distinct (IsStored r) rows every in
       ap (λ (xs : List Row). reply.Imported (length xs) (length (filter (is_changed r) (distinct_rows rows))) (length (filter (is_same r) (distinct_rows rows)))) (none_new (distinct_rows rows) distinct)
@@ -116,7 +116,7 @@ module _ (r : Relations) where
 
 -- ---- on the definitions
 
-accepted : (r t : Relations) (rows : List Row) → imported r rows ≡ Ok t → (import_refusal r rows ≡ None) × (with_rows r rows ≡ t)
+pub accepted : (r t : Relations) (rows : List Row) → imported r rows ≡ Ok t → (import_refusal r rows ≡ None) × (with_rows r rows ≡ t)
 accepted r t rows is = inner (import_refusal r rows) refl is
   where
     inner : (o : Option Refusal) → import_refusal r rows ≡ o → unless o (with_rows r rows) ≡ Ok t → (import_refusal r rows ≡ None) × (with_rows r rows ≡ t)

@@ -1,5 +1,5 @@
 -- A good office whose tables are in order seats every session as promised.
-use Rattle.std.proofs.Common.{◌≡◌, ℕ, ◌+◌, ◌≤◌, Bool, true, false, IsTrue, count_by, length, Option, Some, IfSome, ap, sym, subst, refl, ◌∙◌, arith}
+use Rattle.std.proofs.Common.{◌≡◌, ℕ, ◌+◌, ◌≤◌, Bool, true, false, IsTrue, count_by, length, Option, Some, IfSome, is_some, ap, sym, subst, refl, ◌∙◌, arith}
 use Rattle.std.specs.Option.{option_map}
 use Rattle.exam_plan.specs.Problems.{most_members}
 use Rattle.exam_plan.specs.Matching.{IsLawful, occupants}
@@ -40,6 +40,7 @@ module _ (office : State) (s : Code) (good : IsGood office) (up : AreInOrder off
 
   pub is_seated : IsSeated office s
   is_seated = record {
+    member = λ c h e. lawful.members c (ap is_some e);
     fitting = fit;
     at_desk = λ c h e. (before c h + 1, desk c h e, omega arith, desk_within office.relations s (lists_rise office.relations s up) (plan_of office.seats s) lawful c (before c h + 1) h e (desk c h e));
     alone = λ c d h ec ed same. desk_apart office.relations s (lists_rise office.relations s up) (plan_of office.seats s) lawful (few c h ec) c d h ec ed same;

@@ -1,7 +1,8 @@
 -- The headline: what an office promises of every session.
-use Rattle.std.specs.Prelude.{◌≡◌, ℕ, ◌≤◌, IsTrue, Option, Some}
+use Rattle.std.specs.Prelude.{◌≡◌, ℕ, ◌≤◌, Contains, IsTrue, Option, Some}
 use Rattle.exam_plan.specs.Matching.{Plan, IsLawful, desk_number, size}
 use Rattle.exam_rules.specs.Relations.{Code}
+use Rattle.exam_rules.specs.Sessions.{members}
 use Rattle.exam_rules.specs.Seatings.{seating, plan_of, fits, desks, stands_before}
 use Rattle.exam_office.specs.State.{State}
 
@@ -10,9 +11,10 @@ abbrev pub desk_of : State → Code → ℕ → Option ℕ
 desk_of office s c =
     desk_number (seating office.relations s) (stands_before office.relations s) (plan_of office.seats s) c
 
--- Whoever sits, sits in a hall that fits them, at one of its desks and alone there; and no lawful plan seats
--- more.
+-- Whoever sits is a member, and sits in a hall that fits them, at one of its desks and alone there; and no
+-- lawful plan seats more.
 pub record IsSeated (office : State) (s : Code) : Type 0 where
+  pub member : (c : ℕ) (h : Code) → plan_of office.seats s c ≡ Some h → Contains (members office.relations s) c
   pub fitting : (c : ℕ) (h : Code) → plan_of office.seats s c ≡ Some h → IsTrue (fits office.relations s c h)
   pub at_desk : (c : ℕ) (h : Code) → plan_of office.seats s c ≡ Some h
       → (n : ℕ) × (desk_of office s c ≡ Some n) × (1 ≤ n) × (n ≤ desks office.relations s h)

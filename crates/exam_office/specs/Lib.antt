@@ -11,6 +11,7 @@ pub mod Repairs
 pub mod Good
 pub mod Singles
 pub mod Steps
+pub mod Between
 pub mod Orders
 pub mod Headline
 pub mod Views

@@ -13,6 +13,7 @@ ghost use Rattle.exam_office.specs.declared.command.Reply.{Reply};
 ghost use Rattle.exam_office.specs.declared.command.Reply.TheVariants as reply;
 ghost use Rattle.exam_office.specs.declared.import_row.Row.{Row};
 ghost use Rattle.exam_office.specs.Appeals.{stored_state};
+ghost use Rattle.exam_office.specs.Between.{NoneImportsOrCloses};
 ghost use Rattle.exam_office.specs.Changes.{imported};
 ghost use Rattle.exam_office.specs.Good.{IsGood};
 ghost use Rattle.exam_office.specs.Headline.{IsSeated};
@@ -64,6 +65,18 @@ pub fn repeated_import_changes_nothing()
         → Step (command.Import import) day before (Ok first) mid
         → Step (command.Import import) later mid second after
         → (second ≡ Ok (reply.Imported 0 0 (length (distinct_rows import.rows)))) × (after ≡ mid) }
+{}
+
+/// The same at any later moment, on any day and after any commands between, of which none is an import or the
+/// closing of a hall. Every `Office` is good (`Office::is_good`).
+pub fn import_repeated_later_changes_nothing()
+    ensures { (import : ImportRows) (day later : ℕ) (before mid late after : State) (first : Reply)
+        (done : List (Command × ℕ)) (replies : List (Result Reply Refusal)) (second : Result Reply Refusal)
+        → IsGood late → is_consistent import.rows ≡ true → NoneImportsOrCloses done
+        → Step (command.Import import) day before (Ok first) mid
+        → Run done mid replies late
+        → Step (command.Import import) later late second after
+        → (second ≡ Ok (reply.Imported 0 0 (length (distinct_rows import.rows)))) × (after ≡ late) }
 {}
 
 /// After an accepted lodging the same lodging, at any later moment, on any day and after any commands

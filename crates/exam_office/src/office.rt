@@ -1,5 +1,5 @@
 //! The office: its facts and the plan of each session.
-ghost use Rattle.std.specs.Prelude.{◌≡◌, ◌⊎◌, ℕ, IsTrue, IfOk, IfErr, OnOk};
+ghost use Rattle.std.specs.Prelude.{◌≡◌, ◌⊎◌, ℕ, IsSome, IsTrue, IfOk, IfErr, OnOk};
 ghost use Rattle.std.specs.Bool.{Decides};
 ghost use Rattle.std.specs.Option.{option_map};
 ghost use Rattle.exam_types.specs.declared.refusal.Refusal.TheVariants.{NoMemory, BadStore};
@@ -104,10 +104,10 @@ impl Office {
     }
 
     /// The candidate with the number, with their sessions and their appeals, or none. Takes time by their own
-    /// rows and by those who sit in their sessions.
+    /// rows and by those who sit in their sessions, and no memory for an unknown number.
     pub fn own(&self, alloc: Global, number: Number) -> Result<Option<Own>, Refusal>
         ensures ok { IfOk result (λ own. option_map shown own ≡ own_of self.now number) }
-        ensures memory { IfErr result (λ e. e ≡ NoMemory) }
+        ensures memory { IfErr result (λ e. (e ≡ NoMemory) × IsSome (own_of self.now number)) }
     {
         own_source::own_of(alloc, &self.facts, &self.lists, &self.seats, number)
     }
@@ -142,8 +142,8 @@ impl Office {
         let _ = self.seats().len();
     }
 
-    /// In every session whoever sits has a fitting hall and a desk of their own, and no lawful plan seats
-    /// more. Does nothing.
+    /// In every session whoever sits is a member and has a fitting hall and a desk of their own, and no lawful
+    /// plan seats more. Does nothing.
     pub fn is_seated(&self)
         ensures { (s : Code) → IsSeated self.now s }
     {

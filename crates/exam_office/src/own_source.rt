@@ -1,7 +1,7 @@
 //! How what the office shows of one candidate is made: from their own rows, and for each of their sessions
 //! from its seats.
 ghost use Rattle.std.specs.Prelude.{◌≡◌, ◌<◌, ◌≤◌, ℕ, Contains, Some, count_by, filter};
-ghost use Rattle.std.specs.Prelude.{length, map, ◌++◌, IfOk, IfErr, OnOk, IsTrue};
+ghost use Rattle.std.specs.Prelude.{length, map, ◌++◌, IfOk, IfErr, OnOk, IsSome, IsTrue};
 ghost use Rattle.std.specs.Option.{option_map};
 ghost use Rattle.std.specs.Ordering.{is_lt};
 ghost use Rattle.exam_types.specs.declared.refusal.Refusal.TheVariants.{NoMemory};
@@ -31,7 +31,8 @@ use std::collections::btree_map::Range;
 /// What desks are ordered by: the sitting paper, and then the number.
 type DeskKey = (Option<PaperCode>, Number);
 
-/// What a good office shows of the candidate, if there is one with the number.
+/// What a good office shows of the candidate, if there is one with the number. Takes no memory for an unknown
+/// one.
 pub fn own_of(
     alloc: Global,
     facts: &Facts,
@@ -43,7 +44,8 @@ pub fn own_of(
     requires good { IsGood (record { relations = relations_of facts.now; seats = seats.now.entries }) }
     ensures ok { IfOk result (λ own. option_map spec.shown own
         ≡ spec.own_of (record { relations = relations_of facts.now; seats = seats.now.entries }) number) }
-    ensures memory { IfErr result (λ e. e ≡ NoMemory) }
+    ensures memory { IfErr result (λ e. (e ≡ NoMemory) × IsSome
+        (spec.own_of (record { relations = relations_of facts.now; seats = seats.now.entries }) number)) }
 {
     match facts.candidates.get(&number) {
         Some(row) => Ok(Some(own_rows(alloc, facts, lists, seats, number, row)?)),

@@ -45,7 +45,7 @@ pub fn status_word(status: &Status) -> &'static [u8]
 /// Appends what an appeal asks for: the hall, the paper, or the needs and the extra time.
 pub fn write_subject(subject: &Subject, out: &mut Vec<u8>) -> Result<(), Refusal>
     ensures ok { OnOk result (out.new.items ≡ out.old.items ++ spec.subject_text subject.now) }
-    ensures err { OnErr result (StartsWith out.new.items out.old.items) }
+    ensures err { OnErr result (out.new.items ≡ out.old.items) }
     ensures memory { IfErr result (λ e. e ≡ NoMemory) }
 {
     match subject {
@@ -55,7 +55,22 @@ pub fn write_subject(subject: &Subject, out: &mut Vec<u8>) -> Result<(), Refusal
     }
 }
 
+/// Appends the needs and the extra time, all of it or nothing.
 fn write_arrangement(asked: Arrangement, out: &mut Vec<u8>) -> Result<(), Refusal>
+    ensures ok { OnOk result (out.new.items ≡ out.old.items ++ spec.arrangement_text asked) }
+    ensures err { OnErr result (out.new.items ≡ out.old.items) }
+    ensures memory { IfErr result (λ e. e ≡ NoMemory) }
+{
+    let before = out.len();
+    if let Err(refusal) = write_parts(asked, out) {
+        out.truncate(before);
+        return Err(refusal);
+    }
+    Ok(())
+}
+
+/// Appends the same, or a part of it where there is not enough memory.
+fn write_parts(asked: Arrangement, out: &mut Vec<u8>) -> Result<(), Refusal>
     ensures ok { OnOk result (out.new.items ≡ out.old.items ++ spec.arrangement_text asked) }
     ensures err { OnErr result (StartsWith out.new.items out.old.items) }
     ensures memory { IfErr result (λ e. e ≡ NoMemory) }

@@ -7,7 +7,7 @@ use Rattle.exam_office.specs.declared.command.Command.TheVariants.{Lodge, Retrac
 use Rattle.exam_types.specs.Codes.{is_reference}
 use Rattle.exam_types.specs.declared.refusal.Refusal.TheVariants.{UnknownAppeal, UnknownCandidate}
 use Rattle.exam_request.specs.Asked.{Request}
-use Rattle.exam_request.specs.Choices.{IsBy, IsOwnCommand, IsStranger, choice_by, choice_of, choice_of_known, choice_own, done_at, has_code, lodged, lodged_or_fault}
+use Rattle.exam_request.specs.Choices.{IsBy, IsOwnCommand, IsStranger, ReadsText, choice_by, choice_of, choice_of_known, choice_own, done_at, has_code, lodged, lodged_or_fault}
 use Rattle.exam_request.specs.Methods.{is_allowed}
 use Rattle.exam_request.specs.Posted.{posted_of}
 use Rattle.exam_request.specs.Targets.{Target, reading}
@@ -31,6 +31,11 @@ alike_by request one other h k (Some t) = by (is_allowed t.place request.method)
 
 pub alike : (request : Request) (one other : Option OwnRows) → IsStranger request one → IsStranger request other → choice_of request one ≡ choice_of request other
 alike request one other h k = alike_by request one other h k (reading request.target)
+
+-- no text of a stranger is read
+pub unread : (request : Request) (own : Option OwnRows) → IsStranger request own → ReadsText request own → ⊥
+unread request None h reads = reads.0
+unread request (Some own) h reads = cc (h, reads.0)
 
 -- a posting
 by_posting : (number : ℕ) (posted : Option Posted) (command : Command) → lodged_or_fault number posted ≡ choice.Do command → IsBy number command

@@ -11,6 +11,7 @@ pub mod Founds
 pub mod Heads
 pub mod InHand
 pub mod Members
+pub mod Nonempty
 pub mod Once
 pub mod Printed
 pub mod Readings

@@ -1,5 +1,5 @@
 -- What is done for a request: the first of these that applies.
-use Rattle.std.specs.Prelude.{◌≡◌, ⊤, ℕ, List, Bool, true, false, Option, Some, None, option_and_then}
+use Rattle.std.specs.Prelude.{◌≡◌, ⊤, ℕ, List, Bool, true, false, Option, Some, None, IsSomeAnd, option_and_then}
 use Rattle.std.specs.Prelude.{bytes_eq, codes, if◌then◌else◌}
 use Rattle.exam_office.specs.declared.command.Command.{Command}
 use Rattle.exam_office.specs.declared.command.Command.TheVariants.{Lodge, Retract}
@@ -10,7 +10,7 @@ use Rattle.exam_types.specs.declared.refusal.Refusal.TheVariants.{UnknownAppeal,
 use Rattle.exam_request.specs.Asked.{Request}
 use Rattle.exam_request.specs.Methods.{is_allowed}
 use Rattle.exam_office.specs.Own.{OwnRows}
-use Rattle.exam_request.specs.Posted.{posted_of}
+use Rattle.exam_request.specs.Posted.{IsReadable, posted_of}
 use Rattle.exam_request.specs.Targets.{Target, reading}
 use Rattle.exam_request.specs.declared.choice.Choice.{Choice}
 use Rattle.exam_request.specs.declared.choice.Choice.TheVariants as choice
@@ -100,6 +100,20 @@ choice_of request own = choice_by request own (reading request.target)
 abbrev pub IsStranger : Request → Option OwnRows → Type 0
 IsStranger request None = ⊤
 IsStranger request (Some own) = has_code request.code own.code ≡ false
+
+-- the request shows the code of this candidate; an unknown one has none to show
+abbrev pub ShowsCode : Request → Option OwnRows → Type 0
+ShowsCode request None = ⊥
+ShowsCode request (Some own) = has_code request.code own.code ≡ true
+
+-- the request posts, at the route of appeals, a body that is a text
+abbrev pub PostsText : Request → Target → Type 0
+PostsText request target =
+    (target.place ≡ Appeals) × (bytes_eq request.method (codes "POST") ≡ true) × IsReadable request.body
+
+-- a text is posted with the candidate's code; for no other request is memory taken
+abbrev pub ReadsText : Request → Option OwnRows → Type 0
+ReadsText request own = ShowsCode request own × IsSomeAnd (reading request.target) (PostsText request)
 
 -- the candidate lodges an appeal or takes one back
 abbrev pub IsBy : ℕ → Command → Type 0

@@ -1,5 +1,5 @@
 -- What the body of a posting lodges.
-use Rattle.std.specs.Prelude.{◌==◌, ℕ, suc, List, Bool, Option, Some, None, option_map, option_and_then, nat_le, codes, bytes_eq, if◌then◌else◌}
+use Rattle.std.specs.Prelude.{◌==◌, ◌<◌, ℕ, suc, List, Bool, IsTrue, length, Option, Some, None, option_map, option_and_then, nat_le, codes, bytes_eq, if◌then◌else◌}
 use Rattle.std.specs.Str.{is_utf8}
 use Rattle.json.specs.Json as json
 use Rattle.json.specs.Find as json_find
@@ -109,3 +109,7 @@ lodged_in text =
 -- the appeal that a body lodges, which must be UTF-8
 abbrev pub posted_of : List ℕ → Option Posted
 posted_of body = if is_utf8 body then lodged_in body else None
+
+-- the body is a text, and not empty; for no other is memory taken
+abbrev pub IsReadable : List ℕ → Type 0
+IsReadable body = IsTrue (is_utf8 body) × (0 < length body)

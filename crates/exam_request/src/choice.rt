@@ -1,9 +1,10 @@
 //! What is done for a request, by what it asks and the rows of the candidate that it names.
-ghost use Rattle.std.specs.Prelude.{◌≡◌, IfOk, IfErr, Option, option_map};
+ghost use Rattle.std.specs.Prelude.{◌≡◌, IfOk, IfErr, Option, Some, option_map};
 ghost use Rattle.exam_types.specs.Numbers.{number_in};
 ghost use Rattle.exam_types.specs.declared.refusal.Refusal.TheVariants.{NoMemory};
 ghost use Rattle.exam_request.specs.Asked.{Request, request_of};
 ghost use Rattle.exam_request.specs.Choices as spec;
+ghost use Rattle.exam_request.specs.Posted.{IsReadable};
 ghost use Rattle.exam_office.specs.Own.{OwnRows, shown};
 ghost use Rattle.exam_office.specs.declared.command.Command as exam;
 ghost use Rattle.exam_request.specs.declared.choice.Choice.TheVariants as choice;
@@ -49,7 +50,8 @@ pub fn candidate_of(found: &Option<Found<'_>>) -> Option<Number>
 }
 
 /// What is done for a request that has this route, by the own rows of the candidate whom it names; none where
-/// there is no such candidate. Refused where there is not enough memory.
+/// there is no such candidate. Refused where there is not enough memory: it is taken only for a text that is
+/// posted with the candidate's code.
 pub fn choose(
     alloc: Global,
     asked: &Asked<'_>,
@@ -59,7 +61,8 @@ pub fn choose(
     requires { option_map targets.shown found ≡ targets.reading asked.now.target.now }
     ensures ok { IfOk result (λ choice. choice
         ≡ spec.choice_of (request_of asked.now) (option_map (λ o. shown o.now) own.entry)) }
-    ensures memory { IfErr result (λ e. e ≡ NoMemory) }
+    ensures memory { IfErr result (λ e. (e ≡ NoMemory)
+        × spec.ReadsText (request_of asked.now) (option_map (λ o. shown o.now) own.entry)) }
 {
     match found {
         Some(found) => choose_at(alloc, asked, found, own),
@@ -75,7 +78,9 @@ fn choose_at(
 ) -> Result<Choice, Refusal>
     ensures ok { IfOk result (λ choice. choice ≡ spec.choice_at (request_of asked.now)
         (option_map (λ o. shown o.now) own.entry) (targets.shown found.entry)) }
-    ensures memory { IfErr result (λ e. e ≡ NoMemory) }
+    ensures memory { IfErr result (λ e. (e ≡ NoMemory)
+        × spec.ShowsCode (request_of asked.now) (option_map (λ o. shown o.now) own.entry)
+        × spec.PostsText (request_of asked.now) (targets.shown found.entry)) }
 {
     if !allows(found.place, asked.method) {
         return Ok(Choice::OtherMethod(found.place));
@@ -94,7 +99,9 @@ fn choose_for(
 ) -> Result<Choice, Refusal>
     ensures ok { IfOk result (λ choice. choice ≡ spec.choice_for (request_of asked.now)
         (targets.shown found.entry) (shown own.now)) }
-    ensures memory { IfErr result (λ e. e ≡ NoMemory) }
+    ensures memory { IfErr result (λ e. (e ≡ NoMemory)
+        × spec.ShowsCode (request_of asked.now) (Some (shown own.now))
+        × spec.PostsText (request_of asked.now) (targets.shown found.entry)) }
 {
     if has_code(asked.code, &own.code) {
         choose_own(alloc, asked, found, own.number)
@@ -121,7 +128,8 @@ fn choose_own(
 ) -> Result<Choice, Refusal>
     ensures ok { IfOk result (λ choice. choice
         ≡ spec.choice_own (request_of asked.now) number (targets.shown found.entry)) }
-    ensures memory { IfErr result (λ e. e ≡ NoMemory) }
+    ensures memory { IfErr result (λ e. (e ≡ NoMemory)
+        × spec.PostsText (request_of asked.now) (targets.shown found.entry)) }
 {
     match found.place {
         Place::Seats => Ok(Choice::ShowSeats),
@@ -134,7 +142,7 @@ fn choose_own(
 
 fn lodging(alloc: Global, number: Number, body: &[u8]) -> Result<Choice, Refusal>
     ensures ok { IfOk result (λ choice. choice ≡ spec.lodging number body.now) }
-    ensures memory { IfErr result (λ e. e ≡ NoMemory) }
+    ensures memory { IfErr result (λ e. (e ≡ NoMemory) × IsReadable body.now) }
 {
     match posted_in(alloc, body)? {
         Some(posted) => Ok(Choice::Do(Command::Lodge(lodged(number, posted)))),
@@ -169,6 +177,12 @@ pub fn strangers_are_told_alike()
     ensures { (request : Request) (one other : Option OwnRows)
         → spec.IsStranger request one → spec.IsStranger request other
         → spec.choice_of request one ≡ spec.choice_of request other }
+{}
+
+/// Whoever does not show the code is not told want of memory either: no text of theirs is read.
+pub fn texts_of_strangers_are_not_read()
+    ensures { (request : Request) (own : Option OwnRows) → spec.IsStranger request own
+        → spec.ReadsText request own → ⊥ }
 {}
 
 /// A command is the lodging or the retraction of the candidate whom the request names and whose code it

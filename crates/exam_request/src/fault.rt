@@ -7,19 +7,20 @@ use thiserror::Error;
 /// Why a request is not served. Nothing was done for it.
 #[derive(Clone, Copy, Debug, PartialEq, Eq, Error)]
 pub enum Fault {
-    /// The input is cut before the head ends, or the head is not one of HTTP/1.0 or HTTP/1.1.
+    /// The input is cut before the head ends, or the head is not one of HTTP/1.0 or HTTP/1.1 (RFC 9112), or has
+    /// more than 32 lines, or a bare line feed.
     #[error("the head is not one")]
     Head,
-    /// The host is not given as its version wants.
+    /// The host is not given as its version wants (RFC 9112, section 3.2): once in HTTP/1.1, at most once in 1.0.
     #[error("the host line is missing or repeated")]
     Host,
-    /// The length of the body is not one, or the input is cut before the body ends.
+    /// The length of the body is not one (RFC 9112, section 6.3), or the input is cut before the body ends.
     #[error("the length is not that of the body")]
     Length,
     /// The head is longer than 8,192 bytes, or the body than 4,096.
     #[error("the request is too long")]
     Size,
-    /// The body has a transfer coding. By RFC 9112 servers read chunked bodies; this one does not.
+    /// The body has a transfer coding. By RFC 9112, section 7.1, servers read chunked bodies; this one does not.
     #[error("transfer codings are not read")]
     TransferCoding,
     /// The body is not a posting.
@@ -28,7 +29,7 @@ pub enum Fault {
     /// There is no such route.
     #[error("no such route")]
     Route,
-    /// The route has no such method.
+    /// The route has no such method (RFC 9110, section 15.5.6), `HEAD` among them.
     #[error("no such method here")]
     Method,
 }

@@ -19,6 +19,7 @@ mod status;
 pub use answers::{Answer, write_answer};
 pub use choice::{
     Choice, candidate_of, choose, commands_are_of_who_shows_the_code, strangers_are_told_alike,
+    texts_of_strangers_are_not_read,
 };
 pub use fault::Fault;
 pub use laws::requests_ask_one_thing;

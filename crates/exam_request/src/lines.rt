@@ -31,7 +31,7 @@ impl Lines {
     }
 }
 
-/// The lines of a name among a head's lines. Names are compared without regard to ASCII case.
+/// The lines of a name among a head's lines. Names are compared without regard to ASCII case (RFC 9110, section 5.1).
 pub fn lines_of(head: &[u8], headers: &[HeaderSpan], name: &[u8]) -> Lines
     requires { All (IsHeaderWithin (length head.now)) headers.now }
     ensures found { spec.shown head.now result

@@ -17,7 +17,7 @@ pub fn allows(place: Place, method: &[u8]) -> bool
     }
 }
 
-/// The methods of the route, as the line `Allow` has them.
+/// The methods of the route, as the line `Allow` has them (RFC 9110, section 10.2.1).
 pub fn allowed(place: Place) -> &'static [u8]
     ensures value { result.now ≡ allow_text place }
     ensures short { length result.now ≤ 9 }

@@ -1,4 +1,4 @@
-//! JSON objects of texts, numbers and nulls, and the body that a list of them is.
+//! JSON objects (RFC 8259) of texts, numbers and nulls, and the body that a list of them is.
 ghost use Rattle.std.specs.Prelude.{◌≡◌, IfOk, IfErr, OnOk, map, option_map};
 ghost use Rattle.std.specs.Str.{IsAscii};
 ghost use Rattle.exam_types.specs.declared.refusal.Refusal.TheVariants.{NoMemory};

@@ -1,5 +1,5 @@
 //! The body of a posting.
-ghost use Rattle.std.specs.Prelude.{◌≡◌, false, nat_le, IsTrue, IfOk, IfErr, IfSome, IfNone, Some, None};
+ghost use Rattle.std.specs.Prelude.{◌≡◌, ◌<◌, false, length, nat_le, IsTrue, IsSome, IfOk, IfErr, IfSome, IfNone, Some, None};
 ghost use Rattle.std.specs.Prelude.{option_map, if◌then◌else◌};
 ghost use Rattle.std.specs.Str.{is_utf8};
 ghost use Rattle.json.specs.Find.{as_object};
@@ -33,11 +33,11 @@ pub struct Posted {
     pub reason: Reason,
 }
 
-/// What a body lodges, or none where it is not the object of an appeal, with its members and no other, each
-/// once. Refused where there is not enough memory.
+/// What a body lodges, or none where it is not the JSON object (RFC 8259) of an appeal, with its members and no
+/// other, each once. Refused where there is not enough memory: it is taken only for a text, and not for an empty one.
 pub fn posted_in(alloc: Global, body: &[u8]) -> Result<Option<Posted>, Refusal>
     ensures posted { IfOk result (λ posted. posted ≡ spec.posted_of body.now) }
-    ensures memory { IfErr result (λ e. e ≡ NoMemory) }
+    ensures memory { IfErr result (λ e. (e ≡ NoMemory) × spec.IsReadable body.now) }
 {
     match text_of(body) {
         Some(text) => lodged_in(alloc, text),
@@ -58,7 +58,7 @@ fn text_of(bytes: &[u8]) -> Option<&str>
 
 fn lodged_in(alloc: Global, text: &str) -> Result<Option<Posted>, Refusal>
     ensures posted { IfOk result (λ posted. posted ≡ spec.lodged_in text.now) }
-    ensures memory { IfErr result (λ e. e ≡ NoMemory) }
+    ensures memory { IfErr result (λ e. (e ≡ NoMemory) × (0 < length text.now)) }
 {
     let Some(count) = members_written(alloc, text)? else {
         return Ok(None);
@@ -73,7 +73,7 @@ fn lodged_in(alloc: Global, text: &str) -> Result<Option<Posted>, Refusal>
 /// twice, so they are counted in the tree that keeps them all.
 fn members_written(alloc: Global, text: &str) -> Result<Option<usize>, Refusal>
     ensures count { IfOk result (λ count. count ≡ spec.members_written text.now) }
-    ensures memory { IfErr result (λ e. e ≡ NoMemory) }
+    ensures memory { IfErr result (λ e. (e ≡ NoMemory) × (0 < length text.now)) }
 {
     let mut scratch = Scratch::new(alloc);
     match Tree::parse(alloc, text, &mut scratch) {
@@ -95,7 +95,7 @@ fn member_count(tree: &Tree<'_>) -> Option<usize>
 /// The value that a text is.
 fn value_of(alloc: Global, text: &str) -> Result<Option<Value>, Refusal>
     ensures value { IfOk result (λ value. option_map view value ≡ read text.now) }
-    ensures memory { IfErr result (λ e. e ≡ NoMemory) }
+    ensures memory { IfErr result (λ e. (e ≡ NoMemory) × (0 < length text.now)) }
 {
     match Value::from_str(alloc, text) {
         Ok(value) => Ok(Some(value)),
@@ -109,7 +109,7 @@ fn value_of(alloc: Global, text: &str) -> Result<Option<Value>, Refusal>
 /// The appeal that an object of so many members lodges.
 fn lodged_by(alloc: Global, count: usize, object: &Value) -> Result<Option<Posted>, Refusal>
     ensures posted { IfOk result (λ posted. posted ≡ spec.lodged_by count (view object.now)) }
-    ensures memory { IfErr result (λ e. e ≡ NoMemory) }
+    ensures memory { IfErr result (λ e. (e ≡ NoMemory) × IsSome (spec.lodged_by count (view object.now))) }
 {
     let Some(reference) = reference_in(object) else {
         return Ok(None);
@@ -180,7 +180,7 @@ fn session_in(object: &Value) -> Option<SessionCode>
 
 fn reason_in(alloc: Global, object: &Value) -> Result<Option<Reason>, Refusal>
     ensures reason { IfOk result (λ reason. reason ≡ spec.reason_in (view object.now)) }
-    ensures memory { IfErr result (λ e. e ≡ NoMemory) }
+    ensures memory { IfErr result (λ e. (e ≡ NoMemory) × IsSome (spec.reason_in (view object.now))) }
 {
     match text_at(object, "reason") {
         Some(text) => Reason::parse(alloc, text),

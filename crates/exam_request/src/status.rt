@@ -20,7 +20,7 @@ pub fn status_of(number: u16) -> StatusCode
     }
 }
 
-/// The phrase of a status. It is the office's own, also where `http` has another.
+/// The phrase of a status, as RFC 9110, section 15, has it; `http` has an older one for 413.
 pub fn phrase_of(status: StatusCode) -> &'static [u8]
     ensures value { result.now ≡ phrase_text status }
     ensures short { length result.now ≤ 21 }

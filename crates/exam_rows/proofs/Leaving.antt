@@ -1,13 +1,23 @@
 -- What calls that only read leave.
-use Rattle.std.proofs.Common.{◌≡◌, ℕ, List, [], inl, inr, Result, Ok, Err, IfOk, IfErr, refl, sym, ◌∙◌}
+use Rattle.std.proofs.Common.{◌≡◌, ◌≢◌, ◌⊎◌, ℕ, List, [], inl, inr, Result, Ok, Err, IfOk, IfErr, OnOk, IsTrue, refl, sym, ap, subst, ◌∙◌}
 use Rattle.sqlite_value.specs.Order.{Row}
+use Rattle.sqlite_trees.specs.declared.store.Store.{Ghosts}
 use Rattle.sqlite.specs.declared.error.Error.{Error}
-use Rattle.sqlite.specs.State.{State, Shown, FailsToQuery, IsUnchanged}
+use Rattle.sqlite.specs.declared.error.Error.TheVariants.{SqliteFailure}
+use Rattle.sqlite.specs.declared.error.ErrorCode.TheVariants.{OutOfMemory}
+use Rattle.sqlite.specs.Held.{Held, state}
+use Rattle.sqlite.specs.State.{State, CommitsShowing, Shown, FailsToQuery, IsUnchanged, Survives}
 use Rattle.sqlite.proofs.Callers.{unchanged_then}
+use Rattle.sqlite.proofs.StateLemmas.{survives_then, survives_weaker}
 use Rattle.exam_types.specs.declared.refusal.Refusal.{Refusal}
-use Rattle.exam_tables.proofs.Quiet.{IsQuery, shown_unchanged, failed_unchanged}
+use Rattle.exam_types.specs.declared.refusal.Refusal.TheVariants.{NoMemory, Store, BadStore}
+use Rattle.exam_tables.specs.Refusals.{is_failure}
+use Rattle.exam_tables.specs.Tables.{store_schema}
+use Rattle.exam_tables.proofs.Quiet.{IsQuery, shown_unchanged, failed_unchanged, commits_nothing}
 use Rattle.exam_rows.specs.Faults.{refusal_of}
-use Rattle.exam_rows.specs.Loaded.{IsLeft, IsStill, OnlyReads}
+use Rattle.exam_rows.specs.Inside.{IsOurs}
+use Rattle.exam_rows.specs.Loaded.{FailsThen, FailsToLoad, IsLeft, IsStill, IsUnderstood, OnlyReads}
+use Rattle.exam_rows.proofs.Steps.{failure}
 
 -- a query leaves the database as it is, or fails
 pub query_reads : {V : Type 0} (items : V → List Row) (text : List ℕ) → IsQuery text → (old new : State) (result : Result V Refusal) → IfOk result (λ rows. Shown text [] old new (items rows))
@@ -43,3 +53,44 @@ still_itself s = record { now = refl; committed = refl; in_transaction = refl; i
 
 pub still_then : (old mid new : State) → IsUnchanged old mid → IsStill mid new → IsStill old new
 still_then old mid new first next = record { now = next.now ∙ first.0.now_is; committed = next.committed ∙ first.0.committed_is; in_transaction = next.in_transaction ∙ first.0.mode; is_open = next.is_open ∙ (first.0.is_open ∙ sym first.0.was_open) }
+
+-- a query commits nothing
+pub query_survives : (text : List ℕ) → IsQuery text → (old new : State) → Survives old new (CommitsShowing text [] old) → Survives old new (λ _. ⊥)
+query_survives text query old new s = survives_weaker old new _ _ (λ clean db commits. commits_nothing text query [] old db commits) s
+
+-- one call that commits nothing after another
+pub both_survive : (old mid new : State) → Survives old mid (λ _. ⊥) → Survives mid new (λ _. ⊥) → Survives old new (λ _. ⊥)
+both_survive old mid new first next = survives_then old mid new _ _ _ (λ _ db none. none) (λ _ db none. none) first next
+
+-- an error that is no fault of a text is told as want of memory or as a failure
+not_bad_store : (e : Refusal) (error : Error) → e ≡ refusal_of error → (error ≡ SqliteFailure OutOfMemory) ⊎ IsTrue (is_failure error) → e ≡ BadStore → ⊥
+not_bad_store e error told (inl lacks) bad = let same : NoMemory ≡ BadStore = sym (told ∙ ap refusal_of lacks) ∙ bad in absurd cc
+not_bad_store e error told (inr named) bad = let same : Store ≡ BadStore = sym (told ∙ failure error named) ∙ bad in absurd cc
+
+-- the query of a text that is understood where the ten tables are there
+pub fails_to_load : {V : Type 0} (text : List ℕ) → ((old new : State) → old.now.schema ≡ store_schema → (error : Error) → FailsToQuery text [] old new error → (error ≡ SqliteFailure OutOfMemory) ⊎ IsTrue (is_failure error)) → (old new : State) (result : Result V Refusal)
+    → IfErr result (λ e. (error : Error) × (e ≡ refusal_of error) × FailsToQuery text [] old new error) → IfErr result (FailsToLoad text old new)
+fails_to_load text known old new (Ok value) failed = tt
+fails_to_load text known old new (Err e) failed = (failed, λ ours. not_bad_store e failed.0 failed.1 (known old new ours.1.schema_is failed.0 failed.2))
+
+-- a bad store is told of no query that failed where the ten tables are there
+pub not_bad : {S : Type 0} (g : Ghosts S) (old new : Held S) (e : Refusal) → FailsThen g old new e → IsOurs (state g old).now → e ≢ BadStore
+not_bad g old new e (mid, same, text, one, fails) ours = fails.1 (subst IsOurs (sym same.now) ours)
+
+-- a text whose rows were shown is understood
+pub shown_understood : (text : List ℕ) (old new : State) (rows : List Row) → Shown text [] old new rows → IsUnderstood old.now text
+unfolding Shown
+shown_understood text old new rows shown = (shown.0, shown.1.is)
+
+pub query_understood : {V : Type 0} (items : V → List Row) (text : List ℕ) (old new : State) (result : Result V Refusal) → IfOk result (λ rows. Shown text [] old new (items rows)) → OnOk result (IsUnderstood old.now text)
+query_understood items text old new (Ok rows) shown = shown_understood text old new (items rows) shown
+query_understood items text old new (Err e) shown = tt
+
+-- so it was before, where nothing has changed
+pub understood_before : (text : List ℕ) (old mid : State) → IsUnchanged old mid → IsUnderstood mid.now text → IsUnderstood old.now text
+understood_before text old mid same is = subst (λ db. IsUnderstood db text) same.0.now_is is
+
+-- whatever is made of what was read
+pub understood_still : {A E P : Type 0} (result : Result A E) → P → OnOk result P
+understood_still (Ok value) is = is
+understood_still (Err e) is = tt

@@ -3,8 +3,10 @@ pub mod Creating
 pub mod Differing
 pub mod EachTree
 pub mod Exact
+pub mod Holding
 pub mod Inserting
 pub mod Leaving
+pub mod LoadTexts
 pub mod Narrowing
 pub mod OneTable
 pub mod Reading

@@ -19,6 +19,7 @@ use Rattle.exam_tables.specs.Content.{same_key}
 use Rattle.exam_rules.specs.Orders.{KeysRise}
 use Rattle.exam_rows.specs.Inside.{Contains}
 use Rattle.exam_rows.specs.Loaded.{AreRowsOf, HoldsTable, IsLoadRefusal, KeysMatch}
+use Rattle.exam_rows.proofs.Inserting.{shown_entries}
 
 module _ {E R : Type 0} (f : E → R) (IsOne : E → Type 0) where
   none_is : (r : R) (entries : List E) → ((e : E) → IsOne e → r ≡ f e → ⊥) → AllByRecursion IsOne entries → All (λ z. r ≡ z → ⊥) (map f entries)
@@ -100,6 +101,11 @@ rows_shown {K} {X} {cmp} {IsRow} {row} rows meant entries shown holds = record {
     bare : (rows : List Row) → map (drop 1) (map (λ r. Null ∷ r) rows) ≡ rows
     bare [] = refl
     bare (r ∷ rows) = ap (λ l. r ∷ l) (bare rows)
+
+-- and what has their rows, of which a query shows the table, is held by it
+pub rows_held : {K X : Type 0} {cmp : K → K → Ordering} {IsRow : K → X → Type 0} {row : K → X → Row} (rows meant : List Row) (entries : List (K × X)) → IsPermutation meant (map (λ r. Null ∷ r) rows)
+    → AreRowsOf cmp IsRow row rows entries → HoldsTable cmp IsRow row entries meant
+rows_held {K} {X} {cmp} {IsRow} {row} rows meant entries shown read = record { rises = read.rises; forms = read.forms; same = shown_entries (λ (e : K × X). row e.0 e.1) meant rows entries shown read.same }
 
 -- why a part is not loaded is why the whole is not
 pub part_failed : {A B P Q : Type 0} (e : Refusal) → (A → B) → (P → Q) → IsLoadRefusal (λ _. A) P e → IsLoadRefusal (λ _. B) Q e

@@ -15,9 +15,11 @@ use Rattle.exam_rules.specs.declared.rows.Status.{Status}
 use Rattle.exam_rules.specs.declared.rows.Status.TheVariants.{Pending, Granted, Refused, Retracted, Superseded}
 use Rattle.exam_rows.specs.Stored.{kind_of, state_of}
 use Rattle.exam_rows.specs.Faults.{refusal_of, is_store_refusal}
-use Rattle.exam_rows.specs.Inside.{Contains, Ran, Becomes, Makes, Write, written, FailsFor, FailsToWrite}
+use Rattle.exam_rows.specs.Inside.{AreRun, Contains, Ran, Becomes, Makes, Write, written, FailsFor, FailsToWrite}
 use Rattle.exam_tables.specs.Refusals.{Fails, Refuses, IsDown, is_failure}
 use Rattle.exam_tables.specs.Tables.{store_schema}
+use Rattle.exam_tables.proofs.Failing.{Answers}
+use Rattle.sqlite.specs.Effect.{Database}
 use Rattle.sqlite_disk.specs.Disk.{MoreFaults}
 use Rattle.sqlite.specs.declared.error.Error.{Error}
 use Rattle.sqlite.specs.declared.error.Error.TheVariants.{SqliteFailure, SqlInputError}
@@ -47,22 +49,30 @@ fails_for Against old new e error told (inr (named, inl down)) = inr (told ∙ f
 fails_for Against old new e error told (inr (named, inr against)) = inr (told ∙ failure error named, inr against)
 
 -- a write that fails
-fails_one : (sql : List ℕ) (params : Row) (change : Trees → Trees) (old new : State) (e : Refusal) (error : Error) → e ≡ refusal_of error → Fails old new (Refuses old.now sql params) error
+fails_one : (sql : List ℕ) (params : Row) (change : Trees → Trees) (old new : State) (e : Refusal) (error : Error) → e ≡ refusal_of error → Fails old new (Refuses old.step_limit old.now sql params) error
     → FailsToWrite (record { sql = sql; params = params; change = change } ∷ []) old new e
 fails_one sql params change old new e error told (inl lacks) = inl (told ∙ ap refusal_of lacks)
 fails_one sql params change old new e error told (inr (named, inl down)) = inr (told ∙ failure error named, inl down)
-fails_one sql params change old new e error told (inr (named, inr refused)) = inr (told ∙ failure error named, inr ([], record { sql = sql; params = params; change = change }, [], refl, old.now, (λ all was. was), refused))
+fails_one sql params change old new e error told (inr (named, inr refused)) = inr (told ∙ failure error named, inr ([], record { sql = sql; params = params; change = change }, [], refl, old.now, refl, (λ all was. was), refused))
 
 -- what a statement that was run makes of the rows
 pub makes_by : (old new : State) (sql : List ℕ) (params : Row) (result : Result (Unit {0}) Refusal) (change : Trees → Trees) → ((count : ℕ) → Executes sql params old new (Ok count) → (all : Trees) → Contains old.now all → Contains new.now (change all))
-    → (old.now.schema ≡ store_schema → (error : Error) → ExecutesInside 0 sql params old new (Err error) → Fails old new (Refuses old.now sql params) error)
+    → (old.now.schema ≡ store_schema → Answers sql params old new)
     → (HasCleanDisk new → IsTrue old.in_transaction → OnOk result (Ran sql params old new × IsTrue new.in_transaction))
     → (HasCleanDisk new → IsTrue old.in_transaction → IfErr result (λ e. (error : Error) × (e ≡ refusal_of error) × ExecutesInside 0 sql params old new (Err error)))
     → (HasCleanDisk new → KeepsCommit old new) → Survives old new (λ _. ⊥) → IfErr result (λ e. IsTrue (is_store_refusal e)) → Makes old new result (record { sql = sql; params = params; change = change } ∷ [])
-makes_by old new sql params (Ok u) change does fails ran failed kept survives told = record { made = λ clean going. let h = ran clean going in (does h.0.0 h.0.1, h.1); failed = λ clean going ours. tt; kept = kept; survives = survives; told = tt }
-makes_by old new sql params (Err e) change does fails ran failed kept survives told = record {
+makes_by old new sql params (Ok u) change does answers ran failed kept survives told = record {
+  made = λ clean going. let h = ran clean going in (does h.0.0 h.0.1, h.1);
+  ran = λ clean going ours. let h = ran clean going in (new.now, (answers ours.1.schema_is).done h.0.0 h.0.1, refl);
+  failed = λ clean going ours. tt;
+  kept = kept;
+  survives = survives;
+  told = tt;
+}
+makes_by old new sql params (Err e) change does answers ran failed kept survives told = record {
   made = λ clean going. tt;
-  failed = λ clean going ours. let it = failed clean going in fails_one sql params change old new e it.0 it.1 (fails ours.1.schema_is it.0 it.2);
+  ran = λ clean going ours. tt;
+  failed = λ clean going ours. let it = failed clean going in fails_one sql params change old new e it.0 it.1 ((answers ours.1.schema_is).fails it.0 it.2);
   kept = kept;
   survives = survives;
   told = told;
@@ -86,11 +96,18 @@ pub down_longer : (old mid new : State) → mid.faults ≤ new.faults → IsDown
 down_longer old mid new up (inl more) = inl (still_more old.faults mid.faults new.faults more up)
 down_longer old mid new up (inr shut) = inr shut
 
-fails_later : (first next : List Write) (old mid new : State) (e : Refusal) → Survives old mid (λ _. ⊥) → HasCleanDisk mid → mid.faults ≤ new.faults → Becomes first old.now mid.now → FailsToWrite next mid new e → FailsToWrite (first ++ next) old new e
-fails_later first next old mid new e s clean up made (inl lacks) = inl lacks
-fails_later first next old mid new e s clean up made (inr (told, inl down)) = inr (told, inl (down_later old mid new s clean up down))
-fails_later first next old mid new e s clean up made (inr (told, inr (done, one, rest, are, at, becomes, refused))) =
-    inr (told, inr (first ++ done, one, rest, ap (λ l. first ++ l) are ∙ sym (append_assoc first done (one ∷ rest)), at, (λ all was. subst (Contains at) (sym (written_append first done all)) (becomes _ (made all was))), refused))
+-- the writes of a list run, and then those of another
+runs_append : (limit : Option ℕ) (first next : List Write) (old mid new : Database) → AreRun limit first old mid → AreRun limit next mid new → AreRun limit (first ++ next) old new
+runs_append limit [] next old mid new one two = subst (λ db. AreRun limit next db new) one two
+runs_append limit (w ∷ first) next old mid new (at, ran, one) two = (at, ran, runs_append limit first next at mid new one two)
+
+fails_later : (first next : List Write) (old mid new : State) (e : Refusal) → Survives old mid (λ _. ⊥) → HasCleanDisk mid → mid.faults ≤ new.faults → AreRun old.step_limit first old.now mid.now → Becomes first old.now mid.now → FailsToWrite next mid new e
+    → FailsToWrite (first ++ next) old new e
+fails_later first next old mid new e s clean up ran made (inl lacks) = inl lacks
+fails_later first next old mid new e s clean up ran made (inr (told, inl down)) = inr (told, inl (down_later old mid new s clean up down))
+fails_later first next old mid new e s clean up ran made (inr (told, inr (done, one, rest, are, at, after, becomes, refused))) =
+    let run = runs_append old.step_limit first done old.now mid.now at ran (subst (λ limit. AreRun limit done mid.now at) s.limit after) in
+    inr (told, inr (first ++ done, one, rest, ap (λ l. first ++ l) are ∙ sym (append_assoc first done (one ∷ rest)), at, run, (λ all was. subst (Contains at) (sym (written_append first done all)) (becomes _ (made all was))), subst (λ limit. Refuses limit at one.sql one.params) s.limit refused))
 
 -- one step after another, where the first succeeded
 pub makes_then : (old mid new : State) (result : Result (Unit {0}) Refusal) (first next : List Write) → Makes old mid (Ok tt) first → Makes mid new result next → Makes old new result (first ++ next)
@@ -99,6 +116,11 @@ makes_then old mid new (Ok u) first next a b = record {
       let one = a.made (early old mid new b.survives clean) going in
       let two = b.made clean one.1 in
       (λ all was. subst (Contains new.now) (sym (written_append first next all)) (two.0 _ (one.0 all was)), two.1);
+  ran = λ clean going ours.
+      let before = early old mid new b.survives clean in
+      let one = a.made before going in
+      let two = b.ran clean one.1 (written first ours.0, one.0 ours.0 ours.1) in
+      runs_append old.step_limit first next old.now mid.now new.now (a.ran before going ours) (subst (λ limit. AreRun limit next mid.now new.now) a.survives.limit two);
   failed = λ clean going ours. tt;
   kept = λ clean. keeps_then old mid new (a.kept (early old mid new b.survives clean)) (b.kept clean);
   survives = survives_then old mid new _ _ _ (λ _ db none. none) (λ _ db none. none) a.survives b.survives;
@@ -106,10 +128,11 @@ makes_then old mid new (Ok u) first next a b = record {
 }
 makes_then old mid new (Err e) first next a b = record {
   made = λ clean going. tt;
+  ran = λ clean going ours. tt;
   failed = λ clean going ours.
       let before = early old mid new b.survives clean in
       let one = a.made before going in
-      fails_later first next old mid new e a.survives before b.survives.counts one.0 (b.failed clean one.1 (written first ours.0, one.0 ours.0 ours.1));
+      fails_later first next old mid new e a.survives before b.survives.counts (a.ran before going ours) one.0 (b.failed clean one.1 (written first ours.0, one.0 ours.0 ours.1));
   kept = λ clean. keeps_then old mid new (a.kept (early old mid new b.survives clean)) (b.kept clean);
   survives = survives_then old mid new _ _ _ (λ _ db none. none) (λ _ db none. none) a.survives b.survives;
   told = b.told;
@@ -117,12 +140,12 @@ makes_then old mid new (Err e) first next a b = record {
 
 -- a step that was refused, where others were to follow
 pub makes_part : (old new : State) (e : Refusal) (first rest : List Write) → Makes old new (Err e) first → Makes old new (Err e) (first ++ rest)
-makes_part old new e first rest a = record { made = λ clean going. tt; failed = λ clean going ours. part (a.failed clean going ours); kept = a.kept; survives = a.survives; told = a.told }
+makes_part old new e first rest a = record { made = λ clean going. tt; ran = λ clean going ours. tt; failed = λ clean going ours. part (a.failed clean going ours); kept = a.kept; survives = a.survives; told = a.told }
   where
     part : FailsToWrite first old new e → FailsToWrite (first ++ rest) old new e
     part (inl lacks) = inl lacks
     part (inr (told, inl down)) = inr (told, inl down)
-    part (inr (told, inr (done, one, more, are, at, becomes, refused))) = inr (told, inr (done, one, more ++ rest, ap (λ l. l ++ rest) are ∙ append_assoc done (one ∷ more) rest, at, becomes, refused))
+    part (inr (told, inr (done, one, more, are, at, run, becomes, refused))) = inr (told, inr (done, one, more ++ rest, ap (λ l. l ++ rest) are ∙ append_assoc done (one ∷ more) rest, at, run, becomes, refused))
 
 -- a number that is passed as an i64
 pub passed : (n : ℕ) → n < 2 ^ 63 → to_z w64 (of_z w64 (pos n)) ≡ pos n

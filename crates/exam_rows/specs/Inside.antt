@@ -1,5 +1,5 @@
 -- What a call does inside a transaction.
-use Rattle.std.specs.Prelude.{◌≡◌, ◌⊎◌, ℕ, List, [], ◌∷◌, ◌++◌, IsTrue, Result, Ok, OnOk, IfErr}
+use Rattle.std.specs.Prelude.{◌≡◌, ◌⊎◌, ℕ, List, [], ◌∷◌, ◌++◌, IsTrue, Option, Result, Ok, OnOk, IfErr}
 use Rattle.sqlite_value.specs.declared.value.Value.TheVariants.{Null}
 use Rattle.sqlite_value.specs.Order.{Row}
 use Rattle.sqlite_trees.specs.Tree.{Trees, with_tree}
@@ -7,7 +7,7 @@ use Rattle.sqlite.specs.Effect.{Database}
 use Rattle.sqlite.specs.State.{State, HasCleanDisk, KeepsCommit, Survives, Executes}
 use Rattle.exam_types.specs.declared.refusal.Refusal.{Refusal}
 use Rattle.exam_types.specs.declared.refusal.Refusal.TheVariants.{NoMemory, Store}
-use Rattle.exam_tables.specs.Refusals.{IsDown, Refuses, RefusesRows}
+use Rattle.exam_tables.specs.Refusals.{IsDown, Refuses, RefusesRows, RunsTo}
 use Rattle.exam_tables.specs.Tables.{store_schema}
 use Rattle.exam_tables.specs.Content.{ContainsIn, put, delete}
 use Rattle.exam_rows.specs.Faults.{is_store_refusal}
@@ -53,17 +53,22 @@ Ran sql params old new = (count : ℕ) × Executes sql params old new (Ok count)
 abbrev pub Becomes : List Write → Database → Database → Type 0
 Becomes writes old new = (all : Trees) → Contains old all → Contains new (written writes all)
 
+-- the database after the writes in turn, each run within that limit of steps
+abbrev pub AreRun : Option ℕ → List Write → Database → Database → Type 0
+AreRun limit [] old new = new ≡ old
+AreRun limit (w ∷ more) old new = (mid : Database) × RunsTo limit w.sql w.params old mid × AreRun limit more mid new
+
 -- the database, as the first writes make it, refuses the next
-abbrev pub RefusesOne : List Write → Database → Type 0
-RefusesOne writes db =
+abbrev pub RefusesOne : List Write → Option ℕ → Database → Type 0
+RefusesOne writes limit db =
     (done : List Write) × (next : Write) × (rest : List Write) × (writes ≡ done ++ next ∷ rest)
-    × (at : Database) × Becomes done db at × Refuses at next.sql next.params
+    × (at : Database) × AreRun limit done db at × Becomes done db at × Refuses limit at next.sql next.params
 
 -- the same, while it writes the rows of that one: no foreign key stands against it
-abbrev pub RefusesOneRow : List Write → Database → Type 0
-RefusesOneRow writes db =
+abbrev pub RefusesOneRow : List Write → Option ℕ → Database → Type 0
+RefusesOneRow writes limit db =
     (done : List Write) × (next : Write) × (rest : List Write) × (writes ≡ done ++ next ∷ rest)
-    × (at : Database) × Becomes done db at × RefusesRows at next.sql next.params
+    × (at : Database) × AreRun limit done db at × Becomes done db at × RefusesRows limit at next.sql next.params
 
 -- Why a change is not made: there is no memory, or a call of the disk failed, the connection was shut, or this
 -- stands against it.
@@ -72,12 +77,15 @@ FailsFor Against old new e = (e ≡ NoMemory) ⊎ ((e ≡ Store) × (IsDown old 
 
 -- the same of writes, of which the database may refuse one
 abbrev pub FailsToWrite : List Write → State → State → Refusal → Type 0
-FailsToWrite writes old new = FailsFor (RefusesOne writes old.now) old new
+FailsToWrite writes old new = FailsFor (RefusesOne writes old.step_limit old.now) old new
 
 pub record Makes (old new : State) (result : Result (Unit {0}) Refusal) (writes : List Write) : Type 0 where
   -- where it succeeds, the writes are made and the transaction goes on
   pub made : HasCleanDisk new → IsTrue old.in_transaction
       → OnOk result (Becomes writes old.now new.now × IsTrue new.in_transaction)
+  -- each of them was run
+  pub ran : HasCleanDisk new → IsTrue old.in_transaction → IsOurs old.now
+      → OnOk result (AreRun old.step_limit writes old.now new.now)
   pub failed : HasCleanDisk new → IsTrue old.in_transaction → IsOurs old.now
       → IfErr result (FailsToWrite writes old new)
   -- it commits nothing, whether or not it succeeds

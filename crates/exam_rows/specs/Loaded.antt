@@ -1,19 +1,25 @@
 -- The rows of which a table is loaded, and why none is.
-use Rattle.std.specs.Prelude.{◌≡◌, ◌⊎◌, ℕ, Result, Ok, Err, List, [], ◌∷◌, map, IsPermutation}
+use Rattle.std.specs.Prelude.{◌≡◌, ◌≢◌, ◌⊎◌, ℕ, Result, Ok, Err, List, [], ◌∷◌, map, IsPermutation}
 use Rattle.std.specs.declared.cmp.Ordering.{Ordering}
-use Rattle.std.specs.List.{AllByRecursion}
+use Rattle.std.specs.List.{AllByRecursion, Contains}
 use Rattle.std.specs.Ordering.{is_eq}
 use Rattle.sqlite_trees.specs.declared.store.Store.{Ghosts}
 use Rattle.sqlite.specs.Held.{Held, state}
 use Rattle.sqlite.specs.State.{State, FailsToQuery, IsUnchanged, IsRolledBack}
+use Rattle.sqlite.specs.Effect.{Database}
+use Rattle.sqlite.specs.Listing.{understood}
 use Rattle.sqlite.specs.declared.error.Error.{Error}
+use Rattle.sqlite_resolve.specs.declared.compiled.Compiled.{Compiled}
 use Rattle.sqlite_value.specs.declared.value.Value.TheVariants.{Null}
 use Rattle.sqlite_value.specs.Order.{Row}
 use Rattle.exam_types.specs.declared.refusal.Refusal.{Refusal}
 use Rattle.exam_types.specs.declared.refusal.Refusal.TheVariants.{NoMemory, BadStore}
 use Rattle.exam_tables.specs.Content.{same_key}
+use Rattle.exam_tables.specs.Texts.{load_texts, load_session, load_paper, load_hall, load_candidate, load_opening}
+use Rattle.exam_tables.specs.Texts.{load_entry, load_arrangement, load_appeal}
 use Rattle.exam_rules.specs.Orders.{KeysRise}
 use Rattle.exam_rows.specs.Faults.{refusal_of}
+use Rattle.exam_rows.specs.Inside.{IsOurs}
 
 -- Two rows of a table have the same key in SQL exactly where their keys compare as equal.
 pub record KeysMatch {K X : Type 0} (cmp : K → K → Ordering) (key : List ℕ) (row : K → X → Row)
@@ -33,10 +39,26 @@ abbrev pub HoldsTable : {K X : Type 0} → (K → K → Ordering) → (K → X �
     → List Row → Type 0
 HoldsTable cmp IsRow row entries meant = AreRowsOf cmp IsRow (λ k x. Null ∷ row k x) meant entries
 
--- the refusal tells the error that a query of the database gave
-abbrev pub Told : State → State → Refusal → Type 0
-Told old new e =
-    (sql : List ℕ) × (error : Error) × (e ≡ refusal_of error) × FailsToQuery sql [] old new error
+-- the database understands the text: the table that it names is there, with its columns
+abbrev pub IsUnderstood : Database → List ℕ → Type 0
+IsUnderstood db text = (c : Compiled) × (understood db.schema text ≡ Ok c)
+
+abbrev pub AreUnderstood : Database → List (List ℕ) → Type 0
+AreUnderstood db = AllByRecursion (IsUnderstood db)
+
+-- the texts that load the tables of facts
+abbrev pub fact_texts : List (List ℕ)
+fact_texts =
+    load_session ∷ load_paper ∷ load_hall ∷ load_candidate ∷ load_opening ∷ load_entry ∷ load_arrangement ∷ load_appeal
+    ∷ []
+
+-- the refusal tells the error that the query of this text gave
+abbrev pub Told : List ℕ → State → State → Refusal → Type 0
+Told text old new e = (error : Error) × (e ≡ refusal_of error) × FailsToQuery text [] old new error
+
+-- the same, and where the ten tables are there it is not told as a bad store
+abbrev pub FailsToLoad : List ℕ → State → State → Refusal → Type 0
+FailsToLoad text old new e = Told text old new e × (IsOurs old.now → e ≢ BadStore)
 
 -- the database is as it was, or a call that failed has undone a transaction, back to the last commit
 abbrev pub IsLeft : State → State → Type 0
@@ -54,9 +76,11 @@ pub record IsStill (old new : State) : Type 0 where
   pub in_transaction : new.in_transaction ≡ old.in_transaction
   pub is_open : new.is_open ≡ old.is_open
 
--- while the database was still as it was, a query failed, and the refusal tells its error
+-- while the database was still as it was, the query that loads one of the ten tables failed
 abbrev pub FailsThen : {S : Type 0} → Ghosts S → Held S → Held S → Refusal → Type 0
-FailsThen {S} g old new e = (mid : Held S) × IsStill (state g old) (state g mid) × Told (state g mid) (state g new) e
+FailsThen {S} g old new e =
+    (mid : Held S) × IsStill (state g old) (state g mid)
+    × (text : List ℕ) × Contains load_texts text × FailsToLoad text (state g mid) (state g new) e
 
 -- why nothing is loaded: want of memory, a query that failed, or that there is none
 abbrev pub IsLoadRefusal : (Refusal → Type 0) → Type 0 → Refusal → Type 0

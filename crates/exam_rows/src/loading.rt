@@ -1,12 +1,12 @@
 //! Reading the facts of an office.
-ghost use Rattle.std.specs.Prelude.{IsTrue, IfOk, IfErr};
+ghost use Rattle.std.specs.Prelude.{IsTrue, IfOk, IfErr, OnOk};
 ghost use Rattle.sqlite.specs.Held.{state};
-ghost use Rattle.sqlite.specs.State.{HasCleanDisk, IsUnchanged};
+ghost use Rattle.sqlite.specs.State.{HasCleanDisk, IsUnchanged, Survives};
 ghost use Rattle.exam_rules.specs.Relations.{relations_of};
 ghost use Rattle.exam_rows.specs.Faults.{is_store_refusal};
-ghost use Rattle.exam_rows.specs.Held.{HoldsFacts, HoldsRelations};
+ghost use Rattle.exam_rows.specs.Held.{HoldsRelations};
 ghost use Rattle.exam_rows.specs.Inside.{Contains};
-ghost use Rattle.exam_rows.specs.Loaded.{FailsThen, IsLoadRefusal, OnlyReads};
+ghost use Rattle.exam_rows.specs.Loaded.{AreUnderstood, FailsThen, IsLoadRefusal, OnlyReads, fact_texts};
 
 use crate::table::load_rows;
 use crate::tables::appeals::Appeals;
@@ -26,12 +26,16 @@ use std::alloc::Global;
 pub fn load_facts<S: Alter>(alloc: Global, conn: &mut Connection<S>) -> Result<Facts, Refusal>
     ensures rows { HasCleanDisk (state S.Store conn.new) → IfOk result (λ facts. (all : _)
         → Contains (state S.Store conn.old).now all
-        → HoldsFacts all (relations_of facts) × IsUnchanged (state S.Store conn.old) (state S.Store conn.new)) }
+        → HoldsRelations all (relations_of facts)
+        × IsUnchanged (state S.Store conn.old) (state S.Store conn.new)) }
     ensures bad { HasCleanDisk (state S.Store conn.new) → IfErr result (IsLoadRefusal
         (FailsThen S.Store conn.old conn.new)
         ((all : _) → Contains (state S.Store conn.old).now all → (r : _) → HoldsRelations all r → ⊥)) }
     ensures left { HasCleanDisk (state S.Store conn.new)
         → OnlyReads (state S.Store conn.old) (state S.Store conn.new) result }
+    ensures survives { Survives (state S.Store conn.old) (state S.Store conn.new) (λ _. ⊥) }
+    ensures understood { HasCleanDisk (state S.Store conn.new)
+        → OnOk result (AreUnderstood (state S.Store conn.old).now fact_texts) }
     ensures early { HasCleanDisk (state S.Store conn.new) → HasCleanDisk (state S.Store conn.old) }
     ensures told { IfErr result (λ e. IsTrue (is_store_refusal e)) }
 {

@@ -2,15 +2,16 @@
 ghost use Rattle.std.specs.Prelude.{◌≡◌, [], ◌∷◌, IsTrue, IfErr, OnOk};
 ghost use Rattle.std.specs.Bool.{Decides};
 ghost use Rattle.sqlite.specs.Held.{state};
-ghost use Rattle.sqlite.specs.State.{HasCleanDisk, IsUnchanged};
+ghost use Rattle.sqlite.specs.State.{HasCleanDisk, IsUnchanged, Survives};
 ghost use Rattle.sqlite_value.specs.Order.{column};
 ghost use Rattle.exam_tables.specs.Grows.{schema_0, schema_5, schema_10};
 ghost use Rattle.exam_tables.specs.Tables.{store_schema};
+ghost use Rattle.exam_tables.specs.Texts.{load_office};
 ghost use Rattle.exam_rows.specs.Inside.{Contains};
 ghost use Rattle.exam_rows.specs.Faults.{is_store_refusal};
 ghost use Rattle.exam_rows.specs.Stored.{whole};
 ghost use Rattle.exam_rows.specs.Versions.{HasVersion, HasNoRows, IsBlank, IsMade, Leads, version_row};
-ghost use Rattle.exam_rows.specs.Loaded.{IsLoadRefusal, OnlyReads, Told};
+ghost use Rattle.exam_rows.specs.Loaded.{FailsToLoad, IsLoadRefusal, IsUnderstood, OnlyReads};
 
 use crate::columns::whole_at;
 use crate::statements::{all_rows, run};
@@ -125,10 +126,13 @@ pub fn check_version<S: Alter>(conn: &mut Connection<S>) -> Result<(), Refusal>
         → Contains (state S.Store conn.old).now all
         → HasVersion all × IsUnchanged (state S.Store conn.old) (state S.Store conn.new)) }
     ensures bad { HasCleanDisk (state S.Store conn.new) → IfErr result (IsLoadRefusal
-        (Told (state S.Store conn.old) (state S.Store conn.new))
+        (FailsToLoad load_office (state S.Store conn.old) (state S.Store conn.new))
         ((all : _) → Contains (state S.Store conn.old).now all → HasVersion all → ⊥)) }
     ensures left { HasCleanDisk (state S.Store conn.new)
         → OnlyReads (state S.Store conn.old) (state S.Store conn.new) result }
+    ensures survives { Survives (state S.Store conn.old) (state S.Store conn.new) (λ _. ⊥) }
+    ensures understood { HasCleanDisk (state S.Store conn.new)
+        → OnOk result (IsUnderstood (state S.Store conn.old).now load_office) }
     ensures early { HasCleanDisk (state S.Store conn.new) → HasCleanDisk (state S.Store conn.old) }
     ensures told { IfErr result (λ e. IsTrue (is_store_refusal e)) }
 {

@@ -5,6 +5,7 @@ ghost use Rattle.sqlite.specs.State.{HasCleanDisk, KeepsCommit, Survives, Shown,
 ghost use Rattle.sqlite.specs.Values.{bound};
 ghost use Rattle.std.specs.BTreeMap.{ContainsKey};
 ghost use Rattle.exam_types.specs.declared.refusal.Refusal.TheVariants.{NoMemory, BadStore};
+ghost use Rattle.exam_rules.specs.Orders.{KeysRise};
 ghost use Rattle.exam_rows.specs.Faults.{refusal_of, is_store_refusal};
 ghost use Rattle.exam_rows.specs.Inside.{Ran};
 
@@ -65,6 +66,7 @@ pub fn add_row<K: Ord + Drop, V: Drop>(
     row: V,
 ) -> Result<(), Refusal>
     ensures ok { OnOk result (IsPermutation ((key, row) ∷ table.old.entries) table.new.entries) }
+    ensures rises { KeysRise K.cmp table.new.entries }
     ensures bad { IfErr result (λ e. (e ≡ NoMemory) ⊎ ((e ≡ BadStore) × ContainsKey K.cmp table.old key)) }
     ensures told { IfErr result (λ e. IsTrue (is_store_refusal e)) }
 {

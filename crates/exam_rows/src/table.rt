@@ -1,13 +1,13 @@
 //! A table of the office.
-ghost use Rattle.std.specs.Prelude.{◌≡◌, ◌⊎◌, ℕ, List, [], ◌∷◌, IsTrue, IfOk, IfErr, map, IsPermutation};
+ghost use Rattle.std.specs.Prelude.{◌≡◌, ◌⊎◌, ℕ, List, [], ◌∷◌, IsTrue, IfOk, IfErr, OnOk, map, IsPermutation};
 ghost use Rattle.sqlite.specs.Held.{state};
-ghost use Rattle.sqlite.specs.State.{HasCleanDisk, IsUnchanged};
+ghost use Rattle.sqlite.specs.State.{HasCleanDisk, IsUnchanged, Survives};
 ghost use Rattle.sqlite_value.specs.declared.value.Value.TheVariants.{Null};
 ghost use Rattle.sqlite_value.specs.Order.{Row as Columns};
 ghost use Rattle.exam_rows.specs.Faults.{is_store_refusal};
 ghost use Rattle.exam_rows.specs.Inside.{Makes, Contains, put_of, delete_of};
 ghost use Rattle.exam_types.specs.declared.refusal.Refusal.TheVariants.{NoMemory, BadStore};
-ghost use Rattle.exam_rows.specs.Loaded.{AreRowsOf, HoldsTable, IsLoadRefusal, KeysMatch, OnlyReads, Told};
+ghost use Rattle.exam_rows.specs.Loaded.{AreRowsOf, FailsToLoad, HoldsTable, IsLoadRefusal, IsUnderstood, KeysMatch, OnlyReads};
 ghost use Rattle.exam_rows.specs.Reading.{MayRead, WantsMemoryOfRow};
 
 use crate::differences::Keyed;
@@ -32,10 +32,12 @@ pub trait Table {
 
     ghost key_places: { List ℕ };
 
-    /// The statements that put a row, and that delete one.
+    /// The statements that put a row, that delete one, and that show all.
     ghost put_text: { List ℕ };
 
     ghost delete_text: { List ℕ };
+
+    ghost load_text: { List ℕ };
 
     /// The columns of a row, and those of its key.
     ghost row_of: { Self.Key → Self.Value → Columns };
@@ -69,9 +71,12 @@ pub trait Table {
             → IsPermutation (all Self.tree) (map (λ row. Null ∷ row) rows.items)
             × IsUnchanged (state S.Store conn.old) (state S.Store conn.new)) }
         ensures failed { HasCleanDisk (state S.Store conn.new)
-            → IfErr result (λ e. Told (state S.Store conn.old) (state S.Store conn.new) e) }
+            → IfErr result (FailsToLoad Self.load_text (state S.Store conn.old) (state S.Store conn.new)) }
         ensures left { HasCleanDisk (state S.Store conn.new)
             → OnlyReads (state S.Store conn.old) (state S.Store conn.new) result }
+        ensures survives { Survives (state S.Store conn.old) (state S.Store conn.new) (λ _. ⊥) }
+        ensures understood { HasCleanDisk (state S.Store conn.new)
+            → OnOk result (IsUnderstood (state S.Store conn.old).now Self.load_text) }
         ensures early { HasCleanDisk (state S.Store conn.new) → HasCleanDisk (state S.Store conn.old) }
         ensures told { IfErr result (λ e. IsTrue (is_store_refusal e)) };
 
@@ -119,15 +124,18 @@ pub fn load_rows<T: Table, S: Alter>(
 ) -> Result<BTreeMap<T::Key, T::Value>, Refusal>
     ensures rows { HasCleanDisk (state S.Store conn.new) → IfOk result (λ table. (all : _)
         → Contains (state S.Store conn.old).now all
-        → IsPermutation (all T.tree) (map (λ e. Null ∷ T.row_of e.0 e.1) table.entries)
+        → HoldsTable T.Key.cmp T.IsRow T.row_of table.entries (all T.tree)
         × IsUnchanged (state S.Store conn.old) (state S.Store conn.new)) }
     ensures bad { HasCleanDisk (state S.Store conn.new)
         → KeysMatch T.Key.cmp T.key_places T.row_of T.key_of
-        → IfErr result (IsLoadRefusal (Told (state S.Store conn.old) (state S.Store conn.new))
+        → IfErr result (IsLoadRefusal (FailsToLoad T.load_text (state S.Store conn.old) (state S.Store conn.new))
         ((all : _) → Contains (state S.Store conn.old).now all
         → (entries : _) → HoldsTable T.Key.cmp T.IsRow T.row_of entries (all T.tree) → ⊥)) }
     ensures left { HasCleanDisk (state S.Store conn.new)
         → OnlyReads (state S.Store conn.old) (state S.Store conn.new) result }
+    ensures survives { Survives (state S.Store conn.old) (state S.Store conn.new) (λ _. ⊥) }
+    ensures understood { HasCleanDisk (state S.Store conn.new)
+        → OnOk result (IsUnderstood (state S.Store conn.old).now T.load_text) }
     ensures early { HasCleanDisk (state S.Store conn.new) → HasCleanDisk (state S.Store conn.old) }
     ensures told { IfErr result (λ e. IsTrue (is_store_refusal e)) }
 {
@@ -137,7 +145,7 @@ pub fn load_rows<T: Table, S: Alter>(
 
 /// The table with these rows.
 fn read_rows<T: Table>(alloc: Global, rows: &[Row]) -> Result<BTreeMap<T::Key, T::Value>, Refusal>
-    ensures rows { IfOk result (λ table. IsPermutation rows.now (map (λ e. T.row_of e.0 e.1) table.entries)) }
+    ensures rows { IfOk result (λ table. AreRowsOf T.Key.cmp T.IsRow T.row_of rows.now table.entries) }
     ensures bad { IfErr result (λ e. (e ≡ NoMemory) ⊎ ((e ≡ BadStore)
         × (KeysMatch T.Key.cmp T.key_places T.row_of T.key_of
         → (entries : _) → AreRowsOf T.Key.cmp T.IsRow T.row_of rows.now entries → ⊥))) }

@@ -201,7 +201,9 @@ impl SessionLists {
 
     /// How many members the session has.
     pub fn member_count(&self, session: &SessionCode) -> usize
-        ensures { (r : Relations) → listing.AreListsOf r self.now → result ≡ length (spec.members r session.now) }
+        ensures count { result ≡ length (listing.listed self.now.members.entries session.now) }
+        ensures members { (r : Relations) → listing.AreListsOf r self.now
+            → result ≡ length (spec.members r session.now) }
     {
         self.members_of(session).len()
     }

@@ -40,8 +40,9 @@ fn no_entry_before(facts: &Facts, number: Number, least: PaperCode)
 
 /// The entries from the candidate's first on; those of later numbers follow.
 pub fn entries_from<'a>(facts: &'a Facts, number: Number) -> Range<'a, (Number, PaperCode), Entry>
-    // The rows that stand together are all that count for the candidate.
-    ensures { (s : Code)
+    // The rows that stand together are all of the candidate's.
+    ensures rows { leading (is_row_of number) result ≡ filter (is_row_of number) facts.now.entries.entries }
+    ensures live { (s : Code)
         → spec.live_papers_in (relations_of facts.now) (leading (is_row_of number) result) s number
         ≡ spec.live_papers (relations_of facts.now) s number }
 {

@@ -19,4 +19,4 @@ fails_to_save before after c old new turns good_before good_after rises_before r
 fails_to_save before after c old new turns good_before good_after rises_before rises_after (Err e) (inl lacks) = inl lacks
 fails_to_save before after c old new turns good_before good_after rises_before rises_after (Err e) (inr (told, inl down)) = inr (told, inl down)
 fails_to_save before after c old new turns good_before good_after rises_before rises_after (Err e) (inr (told, inr refused)) =
-    inr (told, inr (c, turns, refused, λ keeps. no_key before after c old.now turns good_before good_after rises_before rises_after keeps refused))
+    inr (told, inr (c, turns, refused, λ keeps. no_key before after c old.step_limit old.now turns good_before good_after rises_before rises_after keeps refused))

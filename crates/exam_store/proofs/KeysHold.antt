@@ -1,5 +1,5 @@
 -- No foreign key refuses a save that turns the tables of one good office into those of another.
-use Rattle.std.proofs.Common.{◌≡◌, ◌||◌, ◌==◌, inl, ℕ, List, [], ◌∷◌, ◌++◌, map, if◌then◌else◌, true, Bor, Ordering, refl, sym, ap, subst, ◌∙◌}
+use Rattle.std.proofs.Common.{Option, ◌≡◌, ◌||◌, ◌==◌, inl, ℕ, List, [], ◌∷◌, ◌++◌, map, if◌then◌else◌, true, Bor, Ordering, refl, sym, ap, subst, ◌∙◌}
 use Rattle.std.specs.List.{AllByRecursion}
 use Rattle.std.specs.Map.Iter.{deref_pair}
 use Rattle.std.specs.Ordering.{nat_cmp}
@@ -288,10 +288,10 @@ written_made [] all = refl
 written_made (w ∷ writes) all = written_made writes (w.change all)
 
 -- Where the database keeps the old office, it refuses a write of the save by no foreign key.
-pub no_key : (before after : State) (c : Changes) (db : Database) → TurnsTables before after c → IsGood before → IsGood after → KeysRise seat_cmp before.seats → KeysRise seat_cmp after.seats → Keeps db before → RefusesOne (all_saved c) db → RefusesOneRow (all_saved c) db
-no_key before after c db turns good_before good_after rises_before rises_after keeps (done, next, rest, are, at, becomes, refused) =
+pub no_key : (before after : State) (c : Changes) (limit : Option ℕ) (db : Database) → TurnsTables before after c → IsGood before → IsGood after → KeysRise seat_cmp before.seats → KeysRise seat_cmp after.seats → Keeps db before → RefusesOne (all_saved c) limit db → RefusesOneRow (all_saved c) limit db
+no_key before after c limit db turns good_before good_after rises_before rises_after keeps (done, next, rest, are, at, run, becomes, refused) =
     let along = subst (λ l. Along change l keeps.all) are (stands before after c keeps.all turns keeps.held good_before good_after rises_before rises_after) in
     let stood : Stand (next.change (written done keeps.all)) = subst (λ a. Stand (next.change a)) (sym (written_made done keeps.all)) (stands_at change done next rest keeps.all along) in
     let among : Has (all_saved c) next = subst (λ l. Has l next) (sym are) (has_right done (next ∷ rest) next (inl refl)) in
     let narrow = all_has Narrows (all_saved c) next (all_narrow c) among in
-    (done, next, rest, are, at, becomes, narrow at (written done keeps.all) (becomes keeps.all keeps.contains) stood refused)
+    (done, next, rest, are, at, run, becomes, narrow limit at (written done keeps.all) (becomes keeps.all keeps.contains) stood refused)

@@ -5,7 +5,7 @@ use Rattle.sqlite_trees.specs.Tree.{Trees}
 use Rattle.sqlite.specs.Effect.{Database}
 use Rattle.sqlite_schema.specs.declared.schema.Schema.{Schema}
 use Rattle.exam_tables.specs.Tables.{no_schema, store_schema}
-use Rattle.sqlite.specs.State.{State as Shown, HasCleanDisk, IsUnchanged}
+use Rattle.sqlite.specs.State.{State as Shown, HasCleanDisk, IsUnchanged, Survives}
 use Rattle.exam_types.specs.declared.refusal.Refusal.{Refusal}
 use Rattle.exam_office.specs.State.{State, empty_state}
 use Rattle.exam_rows.specs.declared.writing.Changes.{Changes}
@@ -13,7 +13,11 @@ use Rattle.exam_rows.specs.Held.{HoldsRows}
 use Rattle.exam_store.specs.Kept.{HoldsOffice}
 use Rattle.exam_rows.specs.Inside.{Becomes, Contains, IsOurs}
 use Rattle.exam_store.specs.Found.{Finds}
-use Rattle.exam_store.specs.Kept.{Rekeeps, Keeps}
+use Rattle.exam_store.specs.Kept.{KeepsOurs, Keeps, Rekeeps}
+use Rattle.exam_store.specs.Refused.{HoldsFormed}
+use Rattle.exam_rows.specs.Loaded.{AreUnderstood, OnlyReads}
+use Rattle.exam_tables.specs.Texts.{load_texts}
+use Rattle.exam_rows.proofs.Holding.{held_facts}
 use Rattle.exam_rows.specs.Rows.{session_row, paper_row, hall_row, candidate_row, opening_row, entry_row, arrangement_row, appeal_row, seat_row}
 use Rattle.exam_rows.specs.Writes as writes
 use Rattle.exam_store.specs.Saves.{TurnsTables}
@@ -65,8 +69,24 @@ has_tables is = let e = ap (λ (s : Schema). length s.tables) is in absurd cc
 pub not_blank : (db : Database) → IsOurs db → IsBlank db → ⊥
 not_blank db ours blank = has_tables (sym ours.1.schema_is ∙ blank)
 
+-- the rows of an office whose values have their forms are its rows
+held_office : (all : Trees) (office : State) → HoldsFormed all office → HoldsOffice all office
+held_office all office formed = record { facts = held_facts all office.relations formed.0; seats = formed.1.same }
+
 -- the office that was loaded is kept by the tables, where they are the ten
-pub loaded : (old new : Shown) (result : Result State Refusal) → (HasCleanDisk new → IfOk result (λ office. (all : Trees) → Contains old.now all → HoldsOffice all office × IsUnchanged old new))
-    → (HasCleanDisk new → OnOk result ((all : Trees) → Contains old.now all → HasVersion all)) → IfOk result (Finds old new)
-loaded old new (Ok office) rows version = λ clean ours. let it = rows clean ours.0 ours.1 in (record { all = ours.0; contains = ours.1; version = version clean ours.0 ours.1; held = it.0 }, it.1)
-loaded old new (Err e) rows version = tt
+pub loaded : (old new : Shown) (result : Result State Refusal) → (HasCleanDisk new → IfOk result (λ office. (all : Trees) → Contains old.now all → HoldsFormed all office × IsUnchanged old new))
+    → (HasCleanDisk new → OnOk result ((all : Trees) → Contains old.now all → HasVersion all)) → (HasCleanDisk new → OnOk result (AreUnderstood old.now load_texts)) → (HasCleanDisk new → OnlyReads old new result) → Survives old new (λ _. ⊥) → IfOk result (Finds old new)
+loaded old new (Ok office) rows version understood left survives = record {
+  understood = understood;
+  same = left;
+  kept = λ clean ours. record { all = ours.0; contains = ours.1; version = version clean ours.0 ours.1; held = held_office ours.0 office (rows clean ours.0 ours.1).0 };
+  survives = survives;
+}
+loaded old new (Err e) rows version understood left survives = tt
+
+-- what opening found is kept by what is seen after it
+pub finds_kept : (old new : Shown) (result : Result State Refusal) → IfOk result (Finds old new) → IfOk result (KeepsOurs new)
+finds_kept old new (Ok office) found = λ clean ours.
+    let same = (found.same clean).0.now_is in
+    subst (λ db. Keeps db office) (sym same) (found.kept clean (subst IsOurs same ours))
+finds_kept old new (Err e) found = tt

@@ -2,10 +2,10 @@
 use Rattle.std.specs.Prelude.{◌≡◌}
 use Rattle.sqlite_trees.specs.Tree.{Trees}
 use Rattle.sqlite.specs.Effect.{Database}
-use Rattle.sqlite.specs.State.{State}
+use Rattle.sqlite.specs.State.{State, HasCleanDisk}
 use Rattle.exam_office.specs.State.{State as Office}
 use Rattle.exam_rows.specs.Held.{HoldsFacts, HoldsRows}
-use Rattle.exam_rows.specs.Inside.{Contains}
+use Rattle.exam_rows.specs.Inside.{Contains, IsOurs}
 use Rattle.exam_rows.specs.Rows.{seat_row}
 use Rattle.exam_rows.specs.Versions.{HasVersion}
 
@@ -28,3 +28,7 @@ Rekeeps before after old new = Keeps old before → Keeps new after
 -- the tables that are seen keep the office, and are committed
 abbrev pub IsKept : State → Office → Type 0
 IsKept s office = Keeps s.now office × (s.committed ≡ s.now)
+
+-- the tables that are seen keep the office, where they are ours
+abbrev pub KeepsOurs : State → Office → Type 0
+KeepsOurs s office = HasCleanDisk s → IsOurs s.now → Keeps s.now office

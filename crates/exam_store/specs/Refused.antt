@@ -6,7 +6,6 @@ use Rattle.exam_office.specs.Good.{IsGood}
 use Rattle.exam_office.specs.State.{State}
 use Rattle.exam_rows.specs.Held.{HoldsRelations, HoldsSeats}
 use Rattle.exam_rows.specs.Versions.{HasVersion}
-use Rattle.exam_store.specs.Kept.{HoldsOffice}
 
 -- the tables have the rows of this office, whose keys rise and whose values have the forms of their columns
 abbrev pub HoldsFormed : Trees → State → Type 0
@@ -18,4 +17,4 @@ HoldsNone all =
     (HasVersion all → ⊥)
     ⊎ (((r : Relations) → HoldsRelations all r → ⊥)
     ⊎ (((seats : List ((Code × ℕ) × Code)) → HoldsSeats all seats → ⊥)
-    ⊎ ((office : State) × HoldsOffice all office × (IsGood office → ⊥))))
+    ⊎ ((office : State) × HoldsFormed all office × (IsGood office → ⊥))))

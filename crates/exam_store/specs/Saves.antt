@@ -1,5 +1,5 @@
 -- The changes that save an office, and why it is not saved.
-use Rattle.std.specs.Prelude.{List, map}
+use Rattle.std.specs.Prelude.{ℕ, List, Option, map}
 use Rattle.std.specs.declared.cmp.Ordering.{Ordering}
 use Rattle.std.specs.Map.Iter.{deref_pair}
 use Rattle.std.specs.Ordering.{nat_cmp}
@@ -32,13 +32,13 @@ pub record TurnsTables (before after : State) (c : Changes) : Type 0 where
 
 -- ---- why an office is not saved
 
--- The database refuses a write of those that turn the tables of the one office into those of the other. Where
--- it keeps the one, no foreign key stands against it: it does not get to write the rows.
-abbrev pub RefusesChange : State → State → Database → Type 0
-RefusesChange before after db =
-    (c : Changes) × TurnsTables before after c × RefusesOne (all_saved c) db
-    × (Keeps db before → RefusesOneRow (all_saved c) db)
+-- The database, within that limit of steps, refuses a write of those that turn the tables of the one office into
+-- those of the other. Where it keeps the one, no foreign key stands against it: it does not get to write the rows.
+abbrev pub RefusesChange : State → State → Option ℕ → Database → Type 0
+RefusesChange before after limit db =
+    (c : Changes) × TurnsTables before after c × RefusesOne (all_saved c) limit db
+    × (Keeps db before → RefusesOneRow (all_saved c) limit db)
 
 -- there is no memory, or a call of the disk failed, the connection was shut, or the database refuses a write
 abbrev pub FailsToSave : State → State → Shown → Shown → Refusal → Type 0
-FailsToSave before after old new = FailsFor (RefusesChange before after old.now) old new
+FailsToSave before after old new = FailsFor (RefusesChange before after old.step_limit old.now) old new

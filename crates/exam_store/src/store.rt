@@ -1,8 +1,8 @@
 //! An office in a database.
-ghost use Rattle.std.specs.Prelude.{◌≡◌, ◌⊎◌, false, IsTrue, IfOk, IfErr, OnErr, MatchResult};
+ghost use Rattle.std.specs.Prelude.{◌≡◌, ◌⊎◌, false, IsTrue, IsSome, IfOk, IfErr, OnErr, MatchResult};
 ghost use Rattle.std.specs.Option.{option_map};
 ghost use Rattle.sqlite.specs.Held.{state};
-ghost use Rattle.sqlite.specs.State.{HasCleanDisk};
+ghost use Rattle.sqlite.specs.State.{HasCleanDisk, Survives};
 ghost use Rattle.sqlite.specs.Steps.{over_memory};
 ghost use Rattle.exam_types.specs.declared.refusal.Refusal.TheVariants.{NoMemory};
 ghost use Rattle.exam_rules.specs.Relations.{Code};
@@ -16,7 +16,7 @@ ghost use Rattle.exam_rows.specs.Faults.{is_store_refusal};
 ghost use Rattle.exam_store.specs.Found.{Finds, FindsNone, MakesEmpty};
 ghost use Rattle.exam_rows.specs.Inside.{IsOurs};
 ghost use Rattle.exam_rows.specs.Transactions.{IsSound, Commits};
-ghost use Rattle.exam_store.specs.Kept.{IsKept, Rekeeps};
+ghost use Rattle.exam_store.specs.Kept.{IsKept, KeepsOurs, Rekeeps};
 ghost use Rattle.exam_rows.specs.Loaded.{IsLeft, OnlyReads};
 ghost use Rattle.exam_rows.specs.Versions.{FailsToCreate, IsBlank};
 
@@ -85,8 +85,9 @@ impl<S: Alter> Store<S> {
         ensures made { IsBlank (state S.Store conn).now → MatchResult result
             (λ store. Commits (state S.Store conn) (state S.Store store.database) result MakesEmpty)
             (λ e. Commits (state S.Store conn) (state S.Store e.1) result MakesEmpty) }
-        ensures found { IfOk result (λ store.
+        ensures found { (IsBlank (state S.Store conn).now → ⊥) → IfOk result (λ store.
             Finds (state S.Store conn) (state S.Store store.database) store.office) }
+        ensures kept { IfOk result (λ store. KeepsOurs (state S.Store store.database) store.office) }
         ensures blank { IfErr result (λ e. HasCleanDisk (state S.Store e.1)
             → IsBlank (state S.Store conn).now
             → FailsToCreate (state S.Store conn) (state S.Store e.1) e.0) }
@@ -95,6 +96,8 @@ impl<S: Alter> Store<S> {
             ⊎ FindsNone S.Store conn e.1 e.0) }
         ensures same { IfErr result (λ e. HasCleanDisk (state S.Store e.1)
             → (IsBlank (state S.Store conn).now → ⊥) → IsLeft (state S.Store conn) (state S.Store e.1)) }
+        ensures survives { IfErr result (λ e. (IsBlank (state S.Store conn).now → ⊥)
+            → Survives (state S.Store conn) (state S.Store e.1) (λ _. ⊥)) }
         ensures told { IfErr result (λ e. IsTrue (is_store_refusal e.0)) }
     {
         match create_office(alloc, &mut conn) {
@@ -111,11 +114,13 @@ impl<S: Alter> Store<S> {
     ) -> Result<Store<S>, (Refusal, Connection<S>)>
         ensures found { IfOk result (λ store.
             Finds (state S.Store conn) (state S.Store store.database) store.office) }
+        ensures kept { IfOk result (λ store. KeepsOurs (state S.Store store.database) store.office) }
         ensures refusal { IfErr result (λ e. HasCleanDisk (state S.Store e.1)
             → ((e.0 ≡ Refusal.Store) × IsTrue e.1.in_transaction)
             ⊎ FindsNone S.Store conn e.1 e.0) }
         ensures same { IfErr result (λ e. HasCleanDisk (state S.Store e.1)
             → IsLeft (state S.Store conn) (state S.Store e.1)) }
+        ensures survives { IfErr result (λ e. Survives (state S.Store conn) (state S.Store e.1) (λ _. ⊥)) }
         ensures told { IfErr result (λ e. IsTrue (is_store_refusal e.0)) }
     {
         match load_kept(alloc, &mut conn) {
@@ -197,7 +202,7 @@ impl<S: Alter> Store<S> {
     /// What the office shows of one candidate, or none where there is no such candidate.
     pub fn view_candidate(&mut self, alloc: Global, number: Number) -> Result<Option<Own>, Refusal>
         ensures ok { IfOk result (λ own. option_map shown own ≡ own_of self.old.office number) }
-        ensures memory { IfErr result (λ e. e ≡ NoMemory) }
+        ensures memory { IfErr result (λ e. (e ≡ NoMemory) × IsSome (own_of self.old.office number)) }
         ensures same { self.new ≡ self.old }
     {
         self.office.own(alloc, number)
@@ -234,13 +239,17 @@ fn create_office<S: Alter>(alloc: Global, conn: &mut Connection<S>) -> Result<Of
         → IfOk result (λ office. (office ≡ empty_state) × (conn.new.in_transaction ≡ false)) }
     ensures made { IsBlank (state S.Store conn.old).now
         → Commits (state S.Store conn.old) (state S.Store conn.new) result MakesEmpty }
-    ensures found { IfOk result (Finds (state S.Store conn.old) (state S.Store conn.new)) }
+    ensures found { (IsBlank (state S.Store conn.old).now → ⊥)
+        → IfOk result (Finds (state S.Store conn.old) (state S.Store conn.new)) }
+    ensures kept { IfOk result (KeepsOurs (state S.Store conn.new)) }
     ensures blank { HasCleanDisk (state S.Store conn.new) → IsBlank (state S.Store conn.old).now
         → IfErr result (FailsToCreate (state S.Store conn.old) (state S.Store conn.new)) }
     ensures refusal { HasCleanDisk (state S.Store conn.new) → (IsBlank (state S.Store conn.old).now → ⊥)
         → IfErr result (FindsNone S.Store conn.old conn.new) }
     ensures left { HasCleanDisk (state S.Store conn.new) → (IsBlank (state S.Store conn.old).now → ⊥)
         → OnlyReads (state S.Store conn.old) (state S.Store conn.new) result }
+    ensures survives { (IsBlank (state S.Store conn.old).now → ⊥)
+        → Survives (state S.Store conn.old) (state S.Store conn.new) (λ _. ⊥) }
     ensures told { IfErr result (λ e. IsTrue (is_store_refusal e)) }
 {
     if !is_blank(conn) {
@@ -253,10 +262,12 @@ fn create_office<S: Alter>(alloc: Global, conn: &mut Connection<S>) -> Result<Of
 /// The office that is there.
 fn load_kept<S: Alter>(alloc: Global, conn: &mut Connection<S>) -> Result<Office, Refusal>
     ensures found { IfOk result (Finds (state S.Store conn.old) (state S.Store conn.new)) }
+    ensures kept { IfOk result (KeepsOurs (state S.Store conn.new)) }
     ensures refusal { HasCleanDisk (state S.Store conn.new)
         → IfErr result (FindsNone S.Store conn.old conn.new) }
     ensures left { HasCleanDisk (state S.Store conn.new)
         → OnlyReads (state S.Store conn.old) (state S.Store conn.new) result }
+    ensures survives { Survives (state S.Store conn.old) (state S.Store conn.new) (λ _. ⊥) }
     ensures told { IfErr result (λ e. IsTrue (is_store_refusal e)) }
 {
     load_office(alloc, conn)

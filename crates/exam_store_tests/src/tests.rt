@@ -1,5 +1,6 @@
 //! An office as the rows of its tables.
 mod doctored;
+mod lists;
 mod opening;
 mod stopping;
 

@@ -28,13 +28,13 @@ use Rattle.sqlite_schema.specs.declared.schema.Constraint.TheVariants.{ForeignKe
 use Rattle.sqlite.specs.declared.run.Mode.{Mode}
 use Rattle.sqlite.specs.Effect.{Database, edit_error, is_query}
 use Rattle.sqlite.specs.Rows.{Part, Then, Gives, Task, Queried, Sourced, Edited, Counter, CounterIn, Counts, CountsIn, Written, Puts, Clears, Updates, Resolves, Meets, Upserts, Judged, Tries, TriesEach, InsertsOr, Deletes, passes_over, sequence, nothing, shown, count_of, joined, higher, rowids_for, mended, stamped}
-use Rattle.sqlite.specs.Does.{Does, Concludes, OnRows, AtPlace}
+use Rattle.sqlite.specs.Does.{Does, Concludes, OnRows, AtPlace, Tally}
 use Rattle.sqlite.specs.Clock.{timed}
 use Rattle.sqlite.specs.State as state
-use Rattle.sqlite.specs.State.{State, Executes, ExecutesIn, IsNotRun, IsStatement, ExecutesInside, Escapes, EndsScope, IsMisplaced, shows_rows, is_pragma, text_of, mode_of, RunsCommand}
+use Rattle.sqlite.specs.State.{State, Executes, ExecutesIn, IsNotRun, IsStatement, ExecutesInside, Escapes, EndsScope, IsMisplaced, shows_rows, is_pragma, text_of, mode_of, Runs, RunsCommand}
 use Rattle.sqlite.specs.Listing.{understood}
 use Rattle.sqlite.proofs.Callers.{IsPlain, command_of}
-use Rattle.exam_tables.specs.Refusals.{Refuses, Fails, is_failure}
+use Rattle.exam_tables.specs.Refusals.{Refuses, RunsTo, Fails, is_failure}
 
 -- ---- the errors by which a part of a statement is refused
 
@@ -203,6 +203,11 @@ module _ (old new : State) (Refused : Type 0) where
   cause e TooBig (Broken, same, why, back, tells) big = inr (is e _ same refl, inl (inr why))
   cause e TooBig (Unstorable, same, why, back, tells) big = inr (is e _ same refl, inr (big why))
 
+-- what the answer of a statement tells: the database does it, or why it fails
+pub record Answers (sql : List ℕ) (params : Row) (old new : State) : Type 0 where
+  pub done : (count : ℕ) → Executes sql params old new (Ok count) → RunsTo old.step_limit sql params old.now new.now
+  pub fails : (e : Error) → ExecutesInside 0 sql params old new (Err e) → Fails old new (Refuses old.step_limit old.now sql params) e
+
 -- the text is one statement with so many parameters
 abbrev pub IsWhole : List ℕ → ℕ → Result Compiled CompileError → Type 0
 IsWhole text count (Ok c) = (length text ≤ c.tail) × (count ≡ length c.names)
@@ -211,7 +216,7 @@ IsWhole text count (Err fault) = ⊥
 module _ (sql : List ℕ) (params : Row) (old new : State) (schema : Schema) (has : old.now.schema ≡ schema) (command : Command) (commands : command_of (understood schema sql) ≡ command) (writes : IsOnRows command)
     (plain : IsPlain (understood schema sql)) (whole : IsWhole sql (length params) (understood schema sql)) where
   abbrev Why : Error → Type 0
-  Why = Fails old new (Refuses old.now sql params)
+  Why = Fails old new (Refuses old.step_limit old.now sql params)
 
   module _ (c : Compiled) (known : understood schema sql ≡ Ok c) where
     its_plain : (c.returning ≡ None) × (c.formats ≡ [])
@@ -223,8 +228,22 @@ module _ (sql : List ℕ) (params : Row) (old new : State) (schema : Schema) (ha
     its_rows : IsOnRows c.command
     its_rows = subst IsOnRows (sym commands ∙ ap command_of known) writes
 
-    refused : (now : ℕ) (stop : Option Error) → Does old.step_limit (mode_of old) (timed params c.formats now) old.now (text_of sql c) c.returning c.command (Err stop) → Refuses old.now sql params
-    refused now stop does = (c, ap (λ s. understood s sql) has ∙ known, old.step_limit, stop, rw (its_plain.1, append-nil params) at does)
+    refused : (now : ℕ) (stop : Option Error) → Does old.step_limit (mode_of old) (timed params c.formats now) old.now (text_of sql c) c.returning c.command (Err stop) → Refuses old.step_limit old.now sql params
+    refused now stop does = (c, ap (λ s. understood s sql) has ∙ known, stop, rw (its_plain.1, append-nil params) at does)
+
+    -- what it was done by
+    tally_of : (k : Command) → IsOnRows k → (given : Row) (count : ℕ) → Runs old new c.returning k (text_of sql c) given count → (tally : Tally) × Does old.step_limit (mode_of old) given old.now (text_of sql c) c.returning k (Ok (tally, new.now))
+    tally_of (InsertOr at way from clauses) rows given count w = (w.tally, w.changed)
+    tally_of (Delete at q) rows given count w = (w.tally, w.changed)
+    tally_of _ rows given count w = absurd rows
+
+    reached : (now : ℕ) (tally : Tally) → Does old.step_limit (mode_of old) (timed params c.formats now) old.now (text_of sql c) c.returning c.command (Ok (tally, new.now)) → RunsTo old.step_limit sql params old.now new.now
+    reached now tally does = (c, ap (λ s. understood s sql) has ∙ known, tally, rw (its_plain.1, append-nil params) at does)
+
+    command_done : (now count : ℕ) → RunsCommand old new sql c (timed params c.formats now) (Ok count) → RunsTo old.step_limit sql params old.now new.now
+    command_done now count ran =
+        let it = tally_of c.command its_rows (timed params c.formats now) count ran in
+        reached now it.0 it.1
 
   -- it shows no rows
   quiet : (c : Compiled) → IsOnRows c.command → c.returning ≡ None → shows_rows false c ≡ false
@@ -259,7 +278,13 @@ module _ (sql : List ℕ) (params : Row) (old new : State) (schema : Schema) (ha
       inr (does_named old.step_limit (mode_of old) (timed params c.formats now) old.now (text_of sql c) c.command (its_rows c known) e named, inr (refused c known now (Some e) does))
   command_fails c known now e (inr failed) = cause old new _ e _ failed (λ big. refused c known now None big)
 
-  pub fails_as : (e : Error) → Executes sql params old new (Err e) → Why e
+  done_as : (count : ℕ) → Executes sql params old new (Ok count) → RunsTo old.step_limit sql params old.now new.now
+  unfolding ExecutesIn
+  done_as count (c, it, ran) =
+      let known = from_schema it.is in
+      command_done c known it.now count (rw (quiet c (its_rows c known) (its_plain c known).0) at ran)
+
+  fails_as : (e : Error) → Executes sql params old new (Err e) → Why e
   unfolding ExecutesIn IsNotRun
   fails_as e (inl (inl (inl unknown, same))) = absurd (subst IsPlain (from_schema unknown.1) plain)
   fails_as e (inl (inl (inr (c, known, inl many), same))) = absurd (many.0 (its_whole c (from_schema known)).0)
@@ -270,7 +295,10 @@ module _ (sql : List ℕ) (params : Row) (old new : State) (schema : Schema) (ha
       let known = from_schema it.is in
       command_fails c known it.now e (rw (quiet c (its_rows c known) (its_plain c known).0) at ran)
 
-  pub fails_inside : (e : Error) → ExecutesInside 0 sql params old new (Err e) → Why e
+  fails_inside : (e : Error) → ExecutesInside 0 sql params old new (Err e) → Why e
   unfolding EndsScope
   fails_inside e (inl (ran, same)) = fails_as e ran
   fails_inside e (inr ((c, it, ends), told_as, same)) = absurd (escapes c.command (its_rows c (from_schema it.is)) ends)
+
+  pub answers : Answers sql params old new
+  answers = record { done = done_as; fails = fails_inside }

@@ -55,38 +55,38 @@ module _ (schema : Schema) (at : ℕ) (table : Table) (key target : List ℕ) (k
       subst (λ o. AtPlace (λ t. OnRows (record { limit = limit; keys = Enforced; schema = schema; table = t; params = params }) at_once None command trees) o (Err stop)) keyed.place does
 
   module _ (text : List ℕ) (command : Command) (is : command_of (understood schema text) ≡ command) (plain : IsPlain (understood schema text)) (on : IsOn command) (aims : written_table command ≡ Some at) where
-    refused_rows : (trees : Trees) (params : Row) → ((limit : Option ℕ) (w : Written) → WritesRows (task schema at table key target keyed limit params) trees command (Ok w) → Refers among.All schema w.trees)
-        → Refuses (record { schema = schema; trees = trees }) text params → RefusesRows (record { schema = schema; trees = trees }) text params
-    refused_rows trees params sound (c, known, limit, stop, does) =
+    refused_rows : (limit : Option ℕ) (trees : Trees) (params : Row) → ((w : Written) → WritesRows (task schema at table key target keyed limit params) trees command (Ok w) → Refers among.All schema w.trees)
+        → Refuses limit (record { schema = schema; trees = trees }) text params → RefusesRows limit (record { schema = schema; trees = trees }) text params
+    refused_rows limit trees params sound (c, known, stop, does) =
         let its_plain : (c.returning ≡ None) × (c.formats ≡ []) = subst IsPlain known plain in
         let its_command : c.command ≡ command = sym (ap command_of known) ∙ is in
         let ran : Does limit at_once params (record { schema = schema; trees = trees }) (text_of text c) None command (Err stop) = rw (its_plain.0, its_command) at does in
         let task = task schema at table key target keyed limit params in
-        let stopped = stops_writing task command trees stop (sound limit) (on limit params _ trees stop ran) in
+        let stopped = stops_writing task command trees stop sound (on limit params _ trees stop ran) in
         let place : option_and_then (slice_get schema.tables) (written_table c.command) ≡ Some table = ap (λ k. option_and_then (slice_get schema.tables) (written_table k)) its_command ∙ ap (option_and_then (slice_get schema.tables)) aims ∙ keyed.place in
-        (c, known, limit, stop, table, place, subst (λ k. WritesRows task trees k (Err stop)) (sym its_command) stopped)
+        (c, known, stop, table, place, subst (λ k. WritesRows task trees k (Err stop)) (sym its_command) stopped)
 
-  module _ (db : Database) (all : Trees) (was : ContainsIn schema db all) where
+  module _ (limit : Option ℕ) (db : Database) (all : Trees) (was : ContainsIn schema db all) where
     -- the rows that are written are those that are meant
     in_schema : db ≡ record { schema = schema; trees = db.trees }
     in_schema = database_is db was.schema_is refl
 
-    within : (text : List ℕ) (params : Row) → (Refuses (record { schema = schema; trees = db.trees }) text params → RefusesRows (record { schema = schema; trees = db.trees }) text params) → Refuses db text params → RefusesRows db text params
-    within text params narrow refused = subst (λ d. RefusesRows d text params) (sym in_schema) (narrow (subst (λ d. Refuses d text params) in_schema refused))
+    within : (text : List ℕ) (params : Row) → (Refuses limit (record { schema = schema; trees = db.trees }) text params → RefusesRows limit (record { schema = schema; trees = db.trees }) text params) → Refuses limit db text params → RefusesRows limit db text params
+    within text params narrow refused = subst (λ d. RefusesRows limit d text params) (sym in_schema) (narrow (subst (λ d. Refuses limit d text params) in_schema refused))
 
     held : ContainsIn schema (record { schema = schema; trees = db.trees }) all
     held = subst (λ d. ContainsIn schema d all) in_schema was
 
     -- A put after which the foreign keys hold is refused by none.
     pub put_refused : (text : List ℕ) (way : Conflict) (clauses : List Upsert) (terms : List Term) (width : ℕ) → command_of (understood schema text) ≡ InsertOr at way (Values terms width) clauses → IsPlain (understood schema text) → (params values : Row)
-        → ((limit : Option ℕ) → SetsRow schema at table key target keyed limit way clauses terms width params values)
-        → ((next : Database) → ContainsIn schema next (with_tree all table.tree (put key (Null ∷ values) (all table.tree))) → Refers among.All schema next.trees) → Refuses db text params → RefusesRows db text params
+        → SetsRow schema at table key target keyed limit way clauses terms width params values
+        → ((next : Database) → ContainsIn schema next (with_tree all table.tree (put key (Null ∷ values) (all table.tree))) → Refers among.All schema next.trees) → Refuses limit db text params → RefusesRows limit db text params
     put_refused text way clauses terms width is plain params values sets sound =
-        within text params (refused_rows text _ is plain (on_insert way clauses terms width) refl db.trees params (λ limit w wrote. sound (record { schema = schema; trees = w.trees }) (sets limit db.trees w wrote all held)))
+        within text params (refused_rows text _ is plain (on_insert way clauses terms width) refl limit db.trees params (λ w wrote. sound (record { schema = schema; trees = w.trees }) (sets db.trees w wrote all held)))
 
     -- A delete after which the foreign keys hold is refused by none.
     pub delete_refused : (text : List ℕ) (terms : List Term) → command_of (understood schema text) ≡ Delete at (taking schema at table key target keyed terms table.tree) → IsPlain (understood schema text) → (params : Row)
-        → ((limit : Option ℕ) → TakesRow schema at table key target keyed terms limit params)
-        → ((next : Database) → ContainsIn schema next (with_tree all table.tree (delete key (Null ∷ params) (all table.tree))) → Refers among.All schema next.trees) → Refuses db text params → RefusesRows db text params
+        → TakesRow schema at table key target keyed terms limit params
+        → ((next : Database) → ContainsIn schema next (with_tree all table.tree (delete key (Null ∷ params) (all table.tree))) → Refers among.All schema next.trees) → Refuses limit db text params → RefusesRows limit db text params
     delete_refused text terms is plain params takes sound =
-        within text params (refused_rows text _ is plain (on_delete terms) refl db.trees params (λ limit w wrote. sound (record { schema = schema; trees = w.trees }) (takes limit db.trees w wrote all held)))
+        within text params (refused_rows text _ is plain (on_delete terms) refl limit db.trees params (λ w wrote. sound (record { schema = schema; trees = w.trees }) (takes db.trees w wrote all held)))

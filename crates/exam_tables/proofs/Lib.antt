@@ -22,6 +22,7 @@ pub mod OfSession
 pub mod OpenShape
 pub mod Opens
 pub mod Queries
+pub mod QueryFails
 pub mod Quiet
 pub mod References
 pub mod RowLemmas

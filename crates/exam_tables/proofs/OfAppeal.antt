@@ -1,5 +1,5 @@
 -- The table appeal: what its texts mean, and what they do.
-use Rattle.std.proofs.Common.{◌≡◌, Err, lit≤, ℕ, ℤ, List, [], ◌∷◌, codes, map, length, false, Some, None, Option, Result, OnOk, refl}
+use Rattle.std.proofs.Common.{◌≡◌, ◌⊎◌, IsTrue, lit≤, ℕ, ℤ, List, [], ◌∷◌, codes, map, length, false, Some, None, Option, Result, OnOk, refl}
 use Rattle.std.specs.List.{AllByRecursion, list_all}
 use Rattle.std.specs.List.Sorted.{IsPermutation}
 use Rattle.sqlite.specs.Kind.TheVariants.{Text as KindText}
@@ -17,23 +17,26 @@ use Rattle.sqlite_schema.specs.declared.command.Command.TheVariants.{InsertOr, D
 use Rattle.sqlite_schema.specs.declared.command.Source.TheVariants.{Values}
 use Rattle.sqlite_tied.specs.Compute.{everything}
 use Rattle.sqlite.specs.declared.error.Error.{Error}
+use Rattle.sqlite.specs.declared.error.Error.TheVariants.{SqliteFailure}
+use Rattle.sqlite.specs.declared.error.ErrorCode.TheVariants.{OutOfMemory}
 use Rattle.sqlite.specs.Values.{or_null}
 use Rattle.sqlite.specs.Effect.{Database}
 use Rattle.sqlite.specs.Listing.{understood, reads_listing}
-use Rattle.sqlite.specs.State.{State, Executes, ExecutesInside, Shown, IsUnchanged}
+use Rattle.sqlite.specs.State.{State, Executes, FailsToQuery, Shown, IsUnchanged}
 use Rattle.sqlite.proofs.Callers.{IsPlain, command_of}
 use Rattle.exam_tables.specs.Content.{ContainsIn, places, bare, put, delete, same_key}
 use Rattle.exam_tables.specs.Plain.{one_table}
-use Rattle.exam_tables.specs.Refusals.{Fails, Refuses, RefusesRows}
+use Rattle.exam_tables.specs.Refusals.{Refuses, RefusesRows, is_failure}
 use Rattle.exam_tables.specs.Tables.{store_schema, stored_appeal}
-use Rattle.exam_tables.specs.Texts.{put_appeal, delete_appeal}
-use Rattle.exam_tables.proofs.Failing.{IsWhole, fails_inside}
+use Rattle.exam_tables.specs.Texts.{put_appeal, delete_appeal, load_appeal}
+use Rattle.exam_tables.proofs.Failing.{Answers, IsWhole, answers}
 use Rattle.exam_tables.proofs.Fits.{Fits, fits_chosen}
 use Rattle.exam_tables.proofs.KeysHold as keys
 use Rattle.exam_tables.proofs.References.{Stand, refers}
 use Rattle.exam_tables.proofs.Keys.{cast_int}
 use Rattle.exam_tables.proofs.Statements.{put_by, put_sets}
 use Rattle.exam_tables.proofs.Deletes.{delete_by, delete_takes}
+use Rattle.exam_tables.proofs.QueryFails.{query_fails}
 use Rattle.exam_tables.proofs.Loads.{shown_by}
 use Rattle.exam_tables.proofs.TableFacts.{appeal_keyed}
 
@@ -73,13 +76,13 @@ put_whole : IsWhole put_text 11 (understood store_schema put_text)
 unfolding understood everything store_schema
 put_whole = (lit≤ tt, refl)
 
-pub put_fails : (old new : State) (number : ℤ) (reference : List ℕ) (session : List ℕ) (kind : ℤ) (target : List ℕ) (needs : ℤ) (extra : ℤ) (reason : List ℕ) (state : ℤ) (answer : Option (List ℕ)) (lodged : List ℕ) → old.now.schema ≡ store_schema → (e : Error) → ExecutesInside 0 put_text (row number reference session kind target needs extra reason state answer lodged) old new (Err e) → Fails old new (Refuses old.now put_text (row number reference session kind target needs extra reason state answer lodged)) e
-put_fails old new number reference session kind target needs extra reason state answer lodged has e h = fails_inside put_text (row number reference session kind target needs extra reason state answer lodged) old new store_schema has _ put_is tt put_plain put_whole e h
+pub put_answers : (old new : State) (number : ℤ) (reference : List ℕ) (session : List ℕ) (kind : ℤ) (target : List ℕ) (needs : ℤ) (extra : ℤ) (reason : List ℕ) (state : ℤ) (answer : Option (List ℕ)) (lodged : List ℕ) → old.now.schema ≡ store_schema → Answers put_text (row number reference session kind target needs extra reason state answer lodged) old new
+put_answers old new number reference session kind target needs extra reason state answer lodged has = answers put_text (row number reference session kind target needs extra reason state answer lodged) old new store_schema has _ put_is tt put_plain put_whole
 
 -- where each row then has what it refers to, no foreign key refuses the put
-pub put_refused : (db : Database) (all : Trees) (number : ℤ) (reference : List ℕ) (session : List ℕ) (kind : ℤ) (target : List ℕ) (needs : ℤ) (extra : ℤ) (reason : List ℕ) (state : ℤ) (answer : Option (List ℕ)) (lodged : List ℕ) → ContainsIn store_schema db all → Stand (with_tree all 13 (put (1 ∷ 2 ∷ []) (Null ∷ row number reference session kind target needs extra reason state answer lodged) (all 13))) → Refuses db put_text (row number reference session kind target needs extra reason state answer lodged) → RefusesRows db put_text (row number reference session kind target needs extra reason state answer lodged)
-put_refused db all number reference session kind target needs extra reason state answer lodged was stand = keys.put_refused store_schema 8 stored_appeal (1 ∷ 2 ∷ []) (1 ∷ 2 ∷ []) appeal_keyed db all was put_text Replace [] terms 12 put_is put_plain (row number reference session kind target needs extra reason state answer lodged) (row number reference session kind target needs extra reason state answer lodged)
-    (λ limit. put_sets store_schema 8 stored_appeal (1 ∷ 2 ∷ []) (1 ∷ 2 ∷ []) appeal_keyed limit terms 12 (row number reference session kind target needs extra reason state answer lodged) (Null) (columns number reference session kind target needs extra reason state answer lodged) (row number reference session kind target needs extra reason state answer lodged) (fits number reference session kind target needs extra reason state answer lodged) refl) (λ next holds. refers next _ holds stand)
+pub put_refused : (limit : Option ℕ) (db : Database) (all : Trees) (number : ℤ) (reference : List ℕ) (session : List ℕ) (kind : ℤ) (target : List ℕ) (needs : ℤ) (extra : ℤ) (reason : List ℕ) (state : ℤ) (answer : Option (List ℕ)) (lodged : List ℕ) → ContainsIn store_schema db all → Stand (with_tree all 13 (put (1 ∷ 2 ∷ []) (Null ∷ row number reference session kind target needs extra reason state answer lodged) (all 13))) → Refuses limit db put_text (row number reference session kind target needs extra reason state answer lodged) → RefusesRows limit db put_text (row number reference session kind target needs extra reason state answer lodged)
+put_refused limit db all number reference session kind target needs extra reason state answer lodged was stand = keys.put_refused store_schema 8 stored_appeal (1 ∷ 2 ∷ []) (1 ∷ 2 ∷ []) appeal_keyed limit db all was put_text Replace [] terms 12 put_is put_plain (row number reference session kind target needs extra reason state answer lodged) (row number reference session kind target needs extra reason state answer lodged)
+    (put_sets store_schema 8 stored_appeal (1 ∷ 2 ∷ []) (1 ∷ 2 ∷ []) appeal_keyed limit terms 12 (row number reference session kind target needs extra reason state answer lodged) (Null) (columns number reference session kind target needs extra reason state answer lodged) (row number reference session kind target needs extra reason state answer lodged) (fits number reference session kind target needs extra reason state answer lodged) refl) (λ next holds. refers next _ holds stand)
 
 abbrev pub delete_text : List ℕ
 delete_text = delete_appeal
@@ -107,16 +110,16 @@ delete_whole : IsWhole delete_text 2 (understood store_schema delete_text)
 unfolding understood everything store_schema
 delete_whole = (lit≤ tt, refl)
 
-pub delete_fails : (old new : State) (number : ℤ) (reference : List ℕ) → old.now.schema ≡ store_schema → (e : Error) → ExecutesInside 0 delete_text (Int number ∷ Text reference ∷ []) old new (Err e) → Fails old new (Refuses old.now delete_text (Int number ∷ Text reference ∷ [])) e
-delete_fails old new number reference has e h = fails_inside delete_text (Int number ∷ Text reference ∷ []) old new store_schema has _ delete_is tt delete_plain delete_whole e h
+pub delete_answers : (old new : State) (number : ℤ) (reference : List ℕ) → old.now.schema ≡ store_schema → Answers delete_text (Int number ∷ Text reference ∷ []) old new
+delete_answers old new number reference has = answers delete_text (Int number ∷ Text reference ∷ []) old new store_schema has _ delete_is tt delete_plain delete_whole
 
 -- where each row that is left has what it refers to, no foreign key refuses the delete
-pub delete_refused : (db : Database) (all : Trees) (number : ℤ) (reference : List ℕ) → ContainsIn store_schema db all → Stand (with_tree all 13 (delete (1 ∷ 2 ∷ []) (Null ∷ Int number ∷ Text reference ∷ []) (all 13))) → Refuses db delete_text (Int number ∷ Text reference ∷ []) → RefusesRows db delete_text (Int number ∷ Text reference ∷ [])
-delete_refused db all number reference was stand = keys.delete_refused store_schema 8 stored_appeal (1 ∷ 2 ∷ []) (1 ∷ 2 ∷ []) appeal_keyed db all was delete_text key_terms delete_is delete_plain (Int number ∷ Text reference ∷ [])
-    (λ limit. delete_takes store_schema 8 stored_appeal (1 ∷ 2 ∷ []) (1 ∷ 2 ∷ []) appeal_keyed key_terms limit (λ db. refl) (Int number ∷ Text reference ∷ []) (key_means (Int number ∷ Text reference ∷ []))) (λ next holds. refers next _ holds stand)
+pub delete_refused : (limit : Option ℕ) (db : Database) (all : Trees) (number : ℤ) (reference : List ℕ) → ContainsIn store_schema db all → Stand (with_tree all 13 (delete (1 ∷ 2 ∷ []) (Null ∷ Int number ∷ Text reference ∷ []) (all 13))) → Refuses limit db delete_text (Int number ∷ Text reference ∷ []) → RefusesRows limit db delete_text (Int number ∷ Text reference ∷ [])
+delete_refused limit db all number reference was stand = keys.delete_refused store_schema 8 stored_appeal (1 ∷ 2 ∷ []) (1 ∷ 2 ∷ []) appeal_keyed limit db all was delete_text key_terms delete_is delete_plain (Int number ∷ Text reference ∷ [])
+    (delete_takes store_schema 8 stored_appeal (1 ∷ 2 ∷ []) (1 ∷ 2 ∷ []) appeal_keyed key_terms limit (λ db. refl) (Int number ∷ Text reference ∷ []) (key_means (Int number ∷ Text reference ∷ []))) (λ next holds. refers next _ holds stand)
 
 abbrev pub load_text : List ℕ
-load_text = codes "SELECT number, ref, session, kind, target, needs, extra, reason, state, answer, lodged FROM appeal"
+load_text = load_appeal
 
 abbrev shown_terms : List Term
 shown_terms = col 1 1 ∷ col 1 2 ∷ col 1 3 ∷ col 1 4 ∷ col 1 5 ∷ col 1 6 ∷ col 1 7 ∷ col 1 8 ∷ col 1 9 ∷ col 1 10 ∷ col 1 11 ∷ []
@@ -136,3 +139,7 @@ load_unlisted = refl
 pub shows : (old new : State) (rows : List Row) (all : Trees) → ContainsIn store_schema old.now all → Shown load_text [] old new rows
     → IsPermutation (all 13) (map (λ r. Null ∷ r) rows) × AllByRecursion (λ r. length r ≡ 11) rows × IsUnchanged old new
 shows = shown_by store_schema 8 stored_appeal (1 ∷ 2 ∷ []) (1 ∷ 2 ∷ []) appeal_keyed load_text shown_terms [] _ load_is load_plain load_unlisted (λ db. refl) (λ r. refl) refl
+
+-- where it fails, the text was understood
+pub load_fails : (old new : State) → old.now.schema ≡ store_schema → (e : Error) → FailsToQuery load_text [] old new e → (e ≡ SqliteFailure OutOfMemory) ⊎ IsTrue (is_failure e)
+load_fails old new has e h = query_fails load_text [] old new store_schema has load_plain e h

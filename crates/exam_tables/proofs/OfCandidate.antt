@@ -1,5 +1,5 @@
 -- The table candidate: what its texts mean, and what they do.
-use Rattle.std.proofs.Common.{◌≡◌, Err, lit≤, ℕ, ℤ, List, [], ◌∷◌, ◌++◌, codes, map, length, true, false, Result, OnOk, refl}
+use Rattle.std.proofs.Common.{◌≡◌, ◌⊎◌, IsTrue, lit≤, ℕ, ℤ, List, [], ◌∷◌, ◌++◌, codes, map, length, true, false, Result, OnOk, Option, refl}
 use Rattle.std.specs.List.{AllByRecursion, list_all}
 use Rattle.std.specs.List.Sorted.{IsPermutation}
 use Rattle.sqlite_value.specs.declared.value.Value.TheVariants.{Null, Int, Text}
@@ -15,23 +15,26 @@ use Rattle.sqlite_schema.specs.declared.command.Command.TheVariants.{InsertOr, D
 use Rattle.sqlite_schema.specs.declared.command.Source.TheVariants.{Values}
 use Rattle.sqlite_tied.specs.Compute.{everything}
 use Rattle.sqlite.specs.declared.error.Error.{Error}
+use Rattle.sqlite.specs.declared.error.Error.TheVariants.{SqliteFailure}
+use Rattle.sqlite.specs.declared.error.ErrorCode.TheVariants.{OutOfMemory}
 use Rattle.sqlite.specs.Rows.{shown}
 use Rattle.sqlite.specs.Effect.{Database}
 use Rattle.sqlite.specs.Listing.{understood, reads_listing}
-use Rattle.sqlite.specs.State.{State, Executes, ExecutesInside, Shown, IsUnchanged}
+use Rattle.sqlite.specs.State.{State, Executes, FailsToQuery, Shown, IsUnchanged}
 use Rattle.sqlite.proofs.Callers.{IsPlain, command_of}
 use Rattle.exam_tables.specs.Content.{ContainsIn, places, bare, put, delete, same_key, same_rowid}
 use Rattle.exam_tables.specs.Plain.{one_table, on_conflict}
-use Rattle.exam_tables.specs.Refusals.{Fails, Refuses, RefusesRows}
+use Rattle.exam_tables.specs.Refusals.{Refuses, RefusesRows, is_failure}
 use Rattle.exam_tables.specs.Tables.{store_schema, stored_candidate}
-use Rattle.exam_tables.specs.Texts.{put_candidate, delete_candidate}
-use Rattle.exam_tables.proofs.Failing.{IsWhole, fails_inside}
+use Rattle.exam_tables.specs.Texts.{put_candidate, delete_candidate, load_candidate}
+use Rattle.exam_tables.proofs.Failing.{Answers, IsWhole, answers}
 use Rattle.exam_tables.proofs.Fits.{Fits, fits_given}
 use Rattle.exam_tables.proofs.KeysHold as keys
 use Rattle.exam_tables.proofs.References.{Stand, refers}
 use Rattle.exam_tables.proofs.Keys.{cast_null}
 use Rattle.exam_tables.proofs.Statements.{upsert_by, upsert_sets}
 use Rattle.exam_tables.proofs.Deletes.{delete_by, delete_takes}
+use Rattle.exam_tables.proofs.QueryFails.{query_fails}
 use Rattle.exam_tables.proofs.Loads.{shown_by}
 use Rattle.exam_tables.proofs.TableFacts.{candidate_keyed}
 
@@ -84,13 +87,13 @@ put_whole : IsWhole put_text 3 (understood store_schema put_text)
 unfolding understood everything store_schema
 put_whole = (lit≤ tt, refl)
 
-pub put_fails : (old new : State) (number : ℤ) (name : List ℕ) (code : List ℕ) → old.now.schema ≡ store_schema → (e : Error) → ExecutesInside 0 put_text (row number name code) old new (Err e) → Fails old new (Refuses old.now put_text (row number name code)) e
-put_fails old new number name code has e h = fails_inside put_text (row number name code) old new store_schema has _ put_is tt put_plain put_whole e h
+pub put_answers : (old new : State) (number : ℤ) (name : List ℕ) (code : List ℕ) → old.now.schema ≡ store_schema → Answers put_text (row number name code) old new
+put_answers old new number name code has = answers put_text (row number name code) old new store_schema has _ put_is tt put_plain put_whole
 
 -- where each row then has what it refers to, no foreign key refuses the put
-pub put_refused : (db : Database) (all : Trees) (number : ℤ) (name : List ℕ) (code : List ℕ) → ContainsIn store_schema db all → Stand (with_tree all 7 (put (1 ∷ []) (Null ∷ row number name code) (all 7))) → Refuses db put_text (row number name code) → RefusesRows db put_text (row number name code)
-put_refused db all number name code was stand = keys.put_refused store_schema 4 stored_candidate (1 ∷ []) (0 ∷ []) candidate_keyed db all was put_text Abort (on_conflict (0 ∷ []) 7 there project ∷ []) terms 4 put_is put_plain (row number name code) (row number name code)
-    (λ limit. upsert_sets store_schema 4 stored_candidate (1 ∷ []) (0 ∷ []) candidate_keyed limit terms 4 there project (λ db. refl) (row number name code) (Int number) (columns number name code) (row number name code) (fits number name code) refl (picked number name code) (written number name code)) (λ next holds. refers next _ holds stand)
+pub put_refused : (limit : Option ℕ) (db : Database) (all : Trees) (number : ℤ) (name : List ℕ) (code : List ℕ) → ContainsIn store_schema db all → Stand (with_tree all 7 (put (1 ∷ []) (Null ∷ row number name code) (all 7))) → Refuses limit db put_text (row number name code) → RefusesRows limit db put_text (row number name code)
+put_refused limit db all number name code was stand = keys.put_refused store_schema 4 stored_candidate (1 ∷ []) (0 ∷ []) candidate_keyed limit db all was put_text Abort (on_conflict (0 ∷ []) 7 there project ∷ []) terms 4 put_is put_plain (row number name code) (row number name code)
+    (upsert_sets store_schema 4 stored_candidate (1 ∷ []) (0 ∷ []) candidate_keyed limit terms 4 there project (λ db. refl) (row number name code) (Int number) (columns number name code) (row number name code) (fits number name code) refl (picked number name code) (written number name code)) (λ next holds. refers next _ holds stand)
 
 abbrev pub delete_text : List ℕ
 delete_text = delete_candidate
@@ -118,16 +121,16 @@ delete_whole : IsWhole delete_text 1 (understood store_schema delete_text)
 unfolding understood everything store_schema
 delete_whole = (lit≤ tt, refl)
 
-pub delete_fails : (old new : State) (number : ℤ) → old.now.schema ≡ store_schema → (e : Error) → ExecutesInside 0 delete_text (Int number ∷ []) old new (Err e) → Fails old new (Refuses old.now delete_text (Int number ∷ [])) e
-delete_fails old new number has e h = fails_inside delete_text (Int number ∷ []) old new store_schema has _ delete_is tt delete_plain delete_whole e h
+pub delete_answers : (old new : State) (number : ℤ) → old.now.schema ≡ store_schema → Answers delete_text (Int number ∷ []) old new
+delete_answers old new number has = answers delete_text (Int number ∷ []) old new store_schema has _ delete_is tt delete_plain delete_whole
 
 -- where each row that is left has what it refers to, no foreign key refuses the delete
-pub delete_refused : (db : Database) (all : Trees) (number : ℤ) → ContainsIn store_schema db all → Stand (with_tree all 7 (delete (1 ∷ []) (Null ∷ Int number ∷ []) (all 7))) → Refuses db delete_text (Int number ∷ []) → RefusesRows db delete_text (Int number ∷ [])
-delete_refused db all number was stand = keys.delete_refused store_schema 4 stored_candidate (1 ∷ []) (0 ∷ []) candidate_keyed db all was delete_text key_terms delete_is delete_plain (Int number ∷ [])
-    (λ limit. delete_takes store_schema 4 stored_candidate (1 ∷ []) (0 ∷ []) candidate_keyed key_terms limit (λ db. refl) (Int number ∷ []) (key_means (Int number ∷ []))) (λ next holds. refers next _ holds stand)
+pub delete_refused : (limit : Option ℕ) (db : Database) (all : Trees) (number : ℤ) → ContainsIn store_schema db all → Stand (with_tree all 7 (delete (1 ∷ []) (Null ∷ Int number ∷ []) (all 7))) → Refuses limit db delete_text (Int number ∷ []) → RefusesRows limit db delete_text (Int number ∷ [])
+delete_refused limit db all number was stand = keys.delete_refused store_schema 4 stored_candidate (1 ∷ []) (0 ∷ []) candidate_keyed limit db all was delete_text key_terms delete_is delete_plain (Int number ∷ [])
+    (delete_takes store_schema 4 stored_candidate (1 ∷ []) (0 ∷ []) candidate_keyed key_terms limit (λ db. refl) (Int number ∷ []) (key_means (Int number ∷ []))) (λ next holds. refers next _ holds stand)
 
 abbrev pub load_text : List ℕ
-load_text = codes "SELECT number, name, code FROM candidate"
+load_text = load_candidate
 
 abbrev shown_terms : List Term
 shown_terms = col 1 0 ∷ col 1 2 ∷ col 1 3 ∷ []
@@ -147,3 +150,7 @@ load_unlisted = refl
 pub shows : (old new : State) (rows : List Row) (all : Trees) → ContainsIn store_schema old.now all → Shown load_text [] old new rows
     → IsPermutation (all 7) (map (λ r. Null ∷ r) rows) × AllByRecursion (λ r. length r ≡ 3) rows × IsUnchanged old new
 shows = shown_by store_schema 4 stored_candidate (1 ∷ []) (0 ∷ []) candidate_keyed load_text shown_terms [] _ load_is load_plain load_unlisted (λ db. refl) (λ r. refl) refl
+
+-- where it fails, the text was understood
+pub load_fails : (old new : State) → old.now.schema ≡ store_schema → (e : Error) → FailsToQuery load_text [] old new e → (e ≡ SqliteFailure OutOfMemory) ⊎ IsTrue (is_failure e)
+load_fails old new has e h = query_fails load_text [] old new store_schema has load_plain e h

@@ -1,5 +1,5 @@
 -- The table entry: what its texts mean, and what they do.
-use Rattle.std.proofs.Common.{◌≡◌, Err, lit≤, ℕ, ℤ, List, [], ◌∷◌, codes, map, length, false, Result, OnOk, refl}
+use Rattle.std.proofs.Common.{◌≡◌, ◌⊎◌, IsTrue, lit≤, ℕ, ℤ, List, [], ◌∷◌, codes, map, length, false, Result, OnOk, Option, refl}
 use Rattle.std.specs.List.{AllByRecursion, list_all}
 use Rattle.std.specs.List.Sorted.{IsPermutation}
 use Rattle.sqlite_value.specs.declared.value.Value.TheVariants.{Null, Int, Text}
@@ -15,22 +15,25 @@ use Rattle.sqlite_schema.specs.declared.command.Command.TheVariants.{InsertOr, D
 use Rattle.sqlite_schema.specs.declared.command.Source.TheVariants.{Values}
 use Rattle.sqlite_tied.specs.Compute.{everything}
 use Rattle.sqlite.specs.declared.error.Error.{Error}
+use Rattle.sqlite.specs.declared.error.Error.TheVariants.{SqliteFailure}
+use Rattle.sqlite.specs.declared.error.ErrorCode.TheVariants.{OutOfMemory}
 use Rattle.sqlite.specs.Effect.{Database}
 use Rattle.sqlite.specs.Listing.{understood, reads_listing}
-use Rattle.sqlite.specs.State.{State, Executes, ExecutesInside, Shown, IsUnchanged}
+use Rattle.sqlite.specs.State.{State, Executes, FailsToQuery, Shown, IsUnchanged}
 use Rattle.sqlite.proofs.Callers.{IsPlain, command_of}
 use Rattle.exam_tables.specs.Content.{ContainsIn, places, bare, put, delete, same_key}
 use Rattle.exam_tables.specs.Plain.{one_table}
-use Rattle.exam_tables.specs.Refusals.{Fails, Refuses, RefusesRows}
+use Rattle.exam_tables.specs.Refusals.{Refuses, RefusesRows, is_failure}
 use Rattle.exam_tables.specs.Tables.{store_schema, stored_entry}
-use Rattle.exam_tables.specs.Texts.{put_entry, delete_entry}
-use Rattle.exam_tables.proofs.Failing.{IsWhole, fails_inside}
+use Rattle.exam_tables.specs.Texts.{put_entry, delete_entry, load_entry}
+use Rattle.exam_tables.proofs.Failing.{Answers, IsWhole, answers}
 use Rattle.exam_tables.proofs.Fits.{Fits, fits_chosen}
 use Rattle.exam_tables.proofs.KeysHold as keys
 use Rattle.exam_tables.proofs.References.{Stand, refers}
 use Rattle.exam_tables.proofs.Keys.{cast_int}
 use Rattle.exam_tables.proofs.Statements.{put_by, put_sets}
 use Rattle.exam_tables.proofs.Deletes.{delete_by, delete_takes}
+use Rattle.exam_tables.proofs.QueryFails.{query_fails}
 use Rattle.exam_tables.proofs.Loads.{shown_by}
 use Rattle.exam_tables.proofs.TableFacts.{entry_keyed}
 
@@ -66,13 +69,13 @@ put_whole : IsWhole put_text 3 (understood store_schema put_text)
 unfolding understood everything store_schema
 put_whole = (lit≤ tt, refl)
 
-pub put_fails : (old new : State) (number : ℤ) (paper : List ℕ) (live : ℤ) → old.now.schema ≡ store_schema → (e : Error) → ExecutesInside 0 put_text (row number paper live) old new (Err e) → Fails old new (Refuses old.now put_text (row number paper live)) e
-put_fails old new number paper live has e h = fails_inside put_text (row number paper live) old new store_schema has _ put_is tt put_plain put_whole e h
+pub put_answers : (old new : State) (number : ℤ) (paper : List ℕ) (live : ℤ) → old.now.schema ≡ store_schema → Answers put_text (row number paper live) old new
+put_answers old new number paper live has = answers put_text (row number paper live) old new store_schema has _ put_is tt put_plain put_whole
 
 -- where each row then has what it refers to, no foreign key refuses the put
-pub put_refused : (db : Database) (all : Trees) (number : ℤ) (paper : List ℕ) (live : ℤ) → ContainsIn store_schema db all → Stand (with_tree all 10 (put (1 ∷ 2 ∷ []) (Null ∷ row number paper live) (all 10))) → Refuses db put_text (row number paper live) → RefusesRows db put_text (row number paper live)
-put_refused db all number paper live was stand = keys.put_refused store_schema 6 stored_entry (1 ∷ 2 ∷ []) (1 ∷ 2 ∷ []) entry_keyed db all was put_text Replace [] terms 4 put_is put_plain (row number paper live) (row number paper live)
-    (λ limit. put_sets store_schema 6 stored_entry (1 ∷ 2 ∷ []) (1 ∷ 2 ∷ []) entry_keyed limit terms 4 (row number paper live) (Null) (columns number paper live) (row number paper live) (fits number paper live) refl) (λ next holds. refers next _ holds stand)
+pub put_refused : (limit : Option ℕ) (db : Database) (all : Trees) (number : ℤ) (paper : List ℕ) (live : ℤ) → ContainsIn store_schema db all → Stand (with_tree all 10 (put (1 ∷ 2 ∷ []) (Null ∷ row number paper live) (all 10))) → Refuses limit db put_text (row number paper live) → RefusesRows limit db put_text (row number paper live)
+put_refused limit db all number paper live was stand = keys.put_refused store_schema 6 stored_entry (1 ∷ 2 ∷ []) (1 ∷ 2 ∷ []) entry_keyed limit db all was put_text Replace [] terms 4 put_is put_plain (row number paper live) (row number paper live)
+    (put_sets store_schema 6 stored_entry (1 ∷ 2 ∷ []) (1 ∷ 2 ∷ []) entry_keyed limit terms 4 (row number paper live) (Null) (columns number paper live) (row number paper live) (fits number paper live) refl) (λ next holds. refers next _ holds stand)
 
 abbrev pub delete_text : List ℕ
 delete_text = delete_entry
@@ -100,16 +103,16 @@ delete_whole : IsWhole delete_text 2 (understood store_schema delete_text)
 unfolding understood everything store_schema
 delete_whole = (lit≤ tt, refl)
 
-pub delete_fails : (old new : State) (number : ℤ) (paper : List ℕ) → old.now.schema ≡ store_schema → (e : Error) → ExecutesInside 0 delete_text (Int number ∷ Text paper ∷ []) old new (Err e) → Fails old new (Refuses old.now delete_text (Int number ∷ Text paper ∷ [])) e
-delete_fails old new number paper has e h = fails_inside delete_text (Int number ∷ Text paper ∷ []) old new store_schema has _ delete_is tt delete_plain delete_whole e h
+pub delete_answers : (old new : State) (number : ℤ) (paper : List ℕ) → old.now.schema ≡ store_schema → Answers delete_text (Int number ∷ Text paper ∷ []) old new
+delete_answers old new number paper has = answers delete_text (Int number ∷ Text paper ∷ []) old new store_schema has _ delete_is tt delete_plain delete_whole
 
 -- where each row that is left has what it refers to, no foreign key refuses the delete
-pub delete_refused : (db : Database) (all : Trees) (number : ℤ) (paper : List ℕ) → ContainsIn store_schema db all → Stand (with_tree all 10 (delete (1 ∷ 2 ∷ []) (Null ∷ Int number ∷ Text paper ∷ []) (all 10))) → Refuses db delete_text (Int number ∷ Text paper ∷ []) → RefusesRows db delete_text (Int number ∷ Text paper ∷ [])
-delete_refused db all number paper was stand = keys.delete_refused store_schema 6 stored_entry (1 ∷ 2 ∷ []) (1 ∷ 2 ∷ []) entry_keyed db all was delete_text key_terms delete_is delete_plain (Int number ∷ Text paper ∷ [])
-    (λ limit. delete_takes store_schema 6 stored_entry (1 ∷ 2 ∷ []) (1 ∷ 2 ∷ []) entry_keyed key_terms limit (λ db. refl) (Int number ∷ Text paper ∷ []) (key_means (Int number ∷ Text paper ∷ []))) (λ next holds. refers next _ holds stand)
+pub delete_refused : (limit : Option ℕ) (db : Database) (all : Trees) (number : ℤ) (paper : List ℕ) → ContainsIn store_schema db all → Stand (with_tree all 10 (delete (1 ∷ 2 ∷ []) (Null ∷ Int number ∷ Text paper ∷ []) (all 10))) → Refuses limit db delete_text (Int number ∷ Text paper ∷ []) → RefusesRows limit db delete_text (Int number ∷ Text paper ∷ [])
+delete_refused limit db all number paper was stand = keys.delete_refused store_schema 6 stored_entry (1 ∷ 2 ∷ []) (1 ∷ 2 ∷ []) entry_keyed limit db all was delete_text key_terms delete_is delete_plain (Int number ∷ Text paper ∷ [])
+    (delete_takes store_schema 6 stored_entry (1 ∷ 2 ∷ []) (1 ∷ 2 ∷ []) entry_keyed key_terms limit (λ db. refl) (Int number ∷ Text paper ∷ []) (key_means (Int number ∷ Text paper ∷ []))) (λ next holds. refers next _ holds stand)
 
 abbrev pub load_text : List ℕ
-load_text = codes "SELECT number, paper, live FROM entry"
+load_text = load_entry
 
 abbrev shown_terms : List Term
 shown_terms = col 1 1 ∷ col 1 2 ∷ col 1 3 ∷ []
@@ -129,3 +132,7 @@ load_unlisted = refl
 pub shows : (old new : State) (rows : List Row) (all : Trees) → ContainsIn store_schema old.now all → Shown load_text [] old new rows
     → IsPermutation (all 10) (map (λ r. Null ∷ r) rows) × AllByRecursion (λ r. length r ≡ 3) rows × IsUnchanged old new
 shows = shown_by store_schema 6 stored_entry (1 ∷ 2 ∷ []) (1 ∷ 2 ∷ []) entry_keyed load_text shown_terms [] _ load_is load_plain load_unlisted (λ db. refl) (λ r. refl) refl
+
+-- where it fails, the text was understood
+pub load_fails : (old new : State) → old.now.schema ≡ store_schema → (e : Error) → FailsToQuery load_text [] old new e → (e ≡ SqliteFailure OutOfMemory) ⊎ IsTrue (is_failure e)
+load_fails old new has e h = query_fails load_text [] old new store_schema has load_plain e h

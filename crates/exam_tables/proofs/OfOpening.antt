@@ -1,5 +1,5 @@
 -- The table opening: what its texts mean, and what they do.
-use Rattle.std.proofs.Common.{◌≡◌, Err, lit≤, ℕ, ℤ, List, [], ◌∷◌, ◌++◌, codes, map, length, true, false, Result, OnOk, refl, ap₂}
+use Rattle.std.proofs.Common.{◌≡◌, ◌⊎◌, IsTrue, lit≤, ℕ, ℤ, List, [], ◌∷◌, ◌++◌, codes, map, length, true, false, Result, OnOk, Option, refl, ap₂}
 use Rattle.std.specs.List.{AllByRecursion, list_all}
 use Rattle.std.specs.List.Sorted.{IsPermutation}
 use Rattle.std.proofs.lemmas.Bool.{and_parts}
@@ -16,23 +16,26 @@ use Rattle.sqlite_schema.specs.declared.command.Command.TheVariants.{InsertOr, D
 use Rattle.sqlite_schema.specs.declared.command.Source.TheVariants.{Values}
 use Rattle.sqlite_tied.specs.Compute.{everything}
 use Rattle.sqlite.specs.declared.error.Error.{Error}
+use Rattle.sqlite.specs.declared.error.Error.TheVariants.{SqliteFailure}
+use Rattle.sqlite.specs.declared.error.ErrorCode.TheVariants.{OutOfMemory}
 use Rattle.sqlite.specs.Rows.{shown}
 use Rattle.sqlite.specs.Effect.{Database}
 use Rattle.sqlite.specs.Listing.{understood, reads_listing}
-use Rattle.sqlite.specs.State.{State, Executes, ExecutesInside, Shown, IsUnchanged}
+use Rattle.sqlite.specs.State.{State, Executes, FailsToQuery, Shown, IsUnchanged}
 use Rattle.sqlite.proofs.Callers.{IsPlain, command_of}
 use Rattle.exam_tables.specs.Content.{ContainsIn, places, bare, put, delete, same_key, same_rowid}
 use Rattle.exam_tables.specs.Plain.{one_table, on_conflict}
-use Rattle.exam_tables.specs.Refusals.{Fails, Refuses, RefusesRows}
+use Rattle.exam_tables.specs.Refusals.{Refuses, RefusesRows, is_failure}
 use Rattle.exam_tables.specs.Tables.{store_schema, stored_opening}
-use Rattle.exam_tables.specs.Texts.{put_opening, delete_opening}
-use Rattle.exam_tables.proofs.Failing.{IsWhole, fails_inside}
+use Rattle.exam_tables.specs.Texts.{put_opening, delete_opening, load_opening}
+use Rattle.exam_tables.proofs.Failing.{Answers, IsWhole, answers}
 use Rattle.exam_tables.proofs.Fits.{Fits, fits_chosen}
 use Rattle.exam_tables.proofs.KeysHold as keys
 use Rattle.exam_tables.proofs.References.{Stand, refers}
 use Rattle.exam_tables.proofs.Keys.{cast_int, text_same}
 use Rattle.exam_tables.proofs.Statements.{upsert_by, upsert_sets}
 use Rattle.exam_tables.proofs.Deletes.{delete_by, delete_takes}
+use Rattle.exam_tables.proofs.QueryFails.{query_fails}
 use Rattle.exam_tables.proofs.Loads.{shown_by}
 use Rattle.exam_tables.proofs.TableFacts.{opening_keyed}
 
@@ -87,13 +90,13 @@ put_whole : IsWhole put_text 5 (understood store_schema put_text)
 unfolding understood everything store_schema
 put_whole = (lit≤ tt, refl)
 
-pub put_fails : (old new : State) (session : List ℕ) (hall : List ℕ) (desks : ℤ) (until : ℤ) (reserved : ℤ) → old.now.schema ≡ store_schema → (e : Error) → ExecutesInside 0 put_text (row session hall desks until reserved) old new (Err e) → Fails old new (Refuses old.now put_text (row session hall desks until reserved)) e
-put_fails old new session hall desks until reserved has e h = fails_inside put_text (row session hall desks until reserved) old new store_schema has _ put_is tt put_plain put_whole e h
+pub put_answers : (old new : State) (session : List ℕ) (hall : List ℕ) (desks : ℤ) (until : ℤ) (reserved : ℤ) → old.now.schema ≡ store_schema → Answers put_text (row session hall desks until reserved) old new
+put_answers old new session hall desks until reserved has = answers put_text (row session hall desks until reserved) old new store_schema has _ put_is tt put_plain put_whole
 
 -- where each row then has what it refers to, no foreign key refuses the put
-pub put_refused : (db : Database) (all : Trees) (session : List ℕ) (hall : List ℕ) (desks : ℤ) (until : ℤ) (reserved : ℤ) → ContainsIn store_schema db all → Stand (with_tree all 8 (put (1 ∷ 2 ∷ []) (Null ∷ row session hall desks until reserved) (all 8))) → Refuses db put_text (row session hall desks until reserved) → RefusesRows db put_text (row session hall desks until reserved)
-put_refused db all session hall desks until reserved was stand = keys.put_refused store_schema 5 stored_opening (1 ∷ 2 ∷ []) (1 ∷ 2 ∷ []) opening_keyed db all was put_text Abort (on_conflict (1 ∷ 2 ∷ []) 8 there project ∷ []) terms 6 put_is put_plain (row session hall desks until reserved) (row session hall desks until reserved)
-    (λ limit. upsert_sets store_schema 5 stored_opening (1 ∷ 2 ∷ []) (1 ∷ 2 ∷ []) opening_keyed limit terms 6 there project (λ db. refl) (row session hall desks until reserved) (Null) (columns session hall desks until reserved) (row session hall desks until reserved) (fits session hall desks until reserved) refl (picked session hall desks until reserved) (written session hall desks until reserved)) (λ next holds. refers next _ holds stand)
+pub put_refused : (limit : Option ℕ) (db : Database) (all : Trees) (session : List ℕ) (hall : List ℕ) (desks : ℤ) (until : ℤ) (reserved : ℤ) → ContainsIn store_schema db all → Stand (with_tree all 8 (put (1 ∷ 2 ∷ []) (Null ∷ row session hall desks until reserved) (all 8))) → Refuses limit db put_text (row session hall desks until reserved) → RefusesRows limit db put_text (row session hall desks until reserved)
+put_refused limit db all session hall desks until reserved was stand = keys.put_refused store_schema 5 stored_opening (1 ∷ 2 ∷ []) (1 ∷ 2 ∷ []) opening_keyed limit db all was put_text Abort (on_conflict (1 ∷ 2 ∷ []) 8 there project ∷ []) terms 6 put_is put_plain (row session hall desks until reserved) (row session hall desks until reserved)
+    (upsert_sets store_schema 5 stored_opening (1 ∷ 2 ∷ []) (1 ∷ 2 ∷ []) opening_keyed limit terms 6 there project (λ db. refl) (row session hall desks until reserved) (Null) (columns session hall desks until reserved) (row session hall desks until reserved) (fits session hall desks until reserved) refl (picked session hall desks until reserved) (written session hall desks until reserved)) (λ next holds. refers next _ holds stand)
 
 abbrev pub delete_text : List ℕ
 delete_text = delete_opening
@@ -121,16 +124,16 @@ delete_whole : IsWhole delete_text 2 (understood store_schema delete_text)
 unfolding understood everything store_schema
 delete_whole = (lit≤ tt, refl)
 
-pub delete_fails : (old new : State) (session : List ℕ) (hall : List ℕ) → old.now.schema ≡ store_schema → (e : Error) → ExecutesInside 0 delete_text (Text session ∷ Text hall ∷ []) old new (Err e) → Fails old new (Refuses old.now delete_text (Text session ∷ Text hall ∷ [])) e
-delete_fails old new session hall has e h = fails_inside delete_text (Text session ∷ Text hall ∷ []) old new store_schema has _ delete_is tt delete_plain delete_whole e h
+pub delete_answers : (old new : State) (session : List ℕ) (hall : List ℕ) → old.now.schema ≡ store_schema → Answers delete_text (Text session ∷ Text hall ∷ []) old new
+delete_answers old new session hall has = answers delete_text (Text session ∷ Text hall ∷ []) old new store_schema has _ delete_is tt delete_plain delete_whole
 
 -- where each row that is left has what it refers to, no foreign key refuses the delete
-pub delete_refused : (db : Database) (all : Trees) (session : List ℕ) (hall : List ℕ) → ContainsIn store_schema db all → Stand (with_tree all 8 (delete (1 ∷ 2 ∷ []) (Null ∷ Text session ∷ Text hall ∷ []) (all 8))) → Refuses db delete_text (Text session ∷ Text hall ∷ []) → RefusesRows db delete_text (Text session ∷ Text hall ∷ [])
-delete_refused db all session hall was stand = keys.delete_refused store_schema 5 stored_opening (1 ∷ 2 ∷ []) (1 ∷ 2 ∷ []) opening_keyed db all was delete_text key_terms delete_is delete_plain (Text session ∷ Text hall ∷ [])
-    (λ limit. delete_takes store_schema 5 stored_opening (1 ∷ 2 ∷ []) (1 ∷ 2 ∷ []) opening_keyed key_terms limit (λ db. refl) (Text session ∷ Text hall ∷ []) (key_means (Text session ∷ Text hall ∷ []))) (λ next holds. refers next _ holds stand)
+pub delete_refused : (limit : Option ℕ) (db : Database) (all : Trees) (session : List ℕ) (hall : List ℕ) → ContainsIn store_schema db all → Stand (with_tree all 8 (delete (1 ∷ 2 ∷ []) (Null ∷ Text session ∷ Text hall ∷ []) (all 8))) → Refuses limit db delete_text (Text session ∷ Text hall ∷ []) → RefusesRows limit db delete_text (Text session ∷ Text hall ∷ [])
+delete_refused limit db all session hall was stand = keys.delete_refused store_schema 5 stored_opening (1 ∷ 2 ∷ []) (1 ∷ 2 ∷ []) opening_keyed limit db all was delete_text key_terms delete_is delete_plain (Text session ∷ Text hall ∷ [])
+    (delete_takes store_schema 5 stored_opening (1 ∷ 2 ∷ []) (1 ∷ 2 ∷ []) opening_keyed key_terms limit (λ db. refl) (Text session ∷ Text hall ∷ []) (key_means (Text session ∷ Text hall ∷ []))) (λ next holds. refers next _ holds stand)
 
 abbrev pub load_text : List ℕ
-load_text = codes "SELECT session, hall, desks, until, reserved FROM opening"
+load_text = load_opening
 
 abbrev shown_terms : List Term
 shown_terms = col 1 1 ∷ col 1 2 ∷ col 1 3 ∷ col 1 4 ∷ col 1 5 ∷ []
@@ -150,3 +153,7 @@ load_unlisted = refl
 pub shows : (old new : State) (rows : List Row) (all : Trees) → ContainsIn store_schema old.now all → Shown load_text [] old new rows
     → IsPermutation (all 8) (map (λ r. Null ∷ r) rows) × AllByRecursion (λ r. length r ≡ 5) rows × IsUnchanged old new
 shows = shown_by store_schema 5 stored_opening (1 ∷ 2 ∷ []) (1 ∷ 2 ∷ []) opening_keyed load_text shown_terms [] _ load_is load_plain load_unlisted (λ db. refl) (λ r. refl) refl
+
+-- where it fails, the text was understood
+pub load_fails : (old new : State) → old.now.schema ≡ store_schema → (e : Error) → FailsToQuery load_text [] old new e → (e ≡ SqliteFailure OutOfMemory) ⊎ IsTrue (is_failure e)
+load_fails old new has e h = query_fails load_text [] old new store_schema has load_plain e h

@@ -1,5 +1,5 @@
 -- The table paper: what its texts mean, and what they do.
-use Rattle.std.proofs.Common.{◌≡◌, Err, lit≤, ℕ, ℤ, List, [], ◌∷◌, ◌++◌, codes, map, length, true, false, Result, OnOk, refl, ap}
+use Rattle.std.proofs.Common.{◌≡◌, ◌⊎◌, IsTrue, lit≤, ℕ, ℤ, List, [], ◌∷◌, ◌++◌, codes, map, length, true, false, Result, OnOk, Option, refl, ap}
 use Rattle.std.specs.List.{AllByRecursion, list_all}
 use Rattle.std.specs.List.Sorted.{IsPermutation}
 use Rattle.std.proofs.lemmas.Bool.{and_parts}
@@ -16,23 +16,26 @@ use Rattle.sqlite_schema.specs.declared.command.Command.TheVariants.{InsertOr, D
 use Rattle.sqlite_schema.specs.declared.command.Source.TheVariants.{Values}
 use Rattle.sqlite_tied.specs.Compute.{everything}
 use Rattle.sqlite.specs.declared.error.Error.{Error}
+use Rattle.sqlite.specs.declared.error.Error.TheVariants.{SqliteFailure}
+use Rattle.sqlite.specs.declared.error.ErrorCode.TheVariants.{OutOfMemory}
 use Rattle.sqlite.specs.Rows.{shown}
 use Rattle.sqlite.specs.Effect.{Database}
 use Rattle.sqlite.specs.Listing.{understood, reads_listing}
-use Rattle.sqlite.specs.State.{State, Executes, ExecutesInside, Shown, IsUnchanged}
+use Rattle.sqlite.specs.State.{State, Executes, FailsToQuery, Shown, IsUnchanged}
 use Rattle.sqlite.proofs.Callers.{IsPlain, command_of}
 use Rattle.exam_tables.specs.Content.{ContainsIn, places, bare, put, delete, same_key, same_rowid}
 use Rattle.exam_tables.specs.Plain.{one_table, on_conflict}
-use Rattle.exam_tables.specs.Refusals.{Fails, Refuses, RefusesRows}
+use Rattle.exam_tables.specs.Refusals.{Refuses, RefusesRows, is_failure}
 use Rattle.exam_tables.specs.Tables.{store_schema, stored_paper}
-use Rattle.exam_tables.specs.Texts.{put_paper, delete_paper}
-use Rattle.exam_tables.proofs.Failing.{IsWhole, fails_inside}
+use Rattle.exam_tables.specs.Texts.{put_paper, delete_paper, load_paper}
+use Rattle.exam_tables.proofs.Failing.{Answers, IsWhole, answers}
 use Rattle.exam_tables.proofs.Fits.{Fits, fits_chosen}
 use Rattle.exam_tables.proofs.KeysHold as keys
 use Rattle.exam_tables.proofs.References.{Stand, refers}
 use Rattle.exam_tables.proofs.Keys.{cast_int, text_same}
 use Rattle.exam_tables.proofs.Statements.{upsert_by, upsert_sets}
 use Rattle.exam_tables.proofs.Deletes.{delete_by, delete_takes}
+use Rattle.exam_tables.proofs.QueryFails.{query_fails}
 use Rattle.exam_tables.proofs.Loads.{shown_by}
 use Rattle.exam_tables.proofs.TableFacts.{paper_keyed}
 
@@ -85,13 +88,13 @@ put_whole : IsWhole put_text 5 (understood store_schema put_text)
 unfolding understood everything store_schema
 put_whole = (lit≤ tt, refl)
 
-pub put_fails : (old new : State) (code : List ℕ) (title : List ℕ) (session : List ℕ) (minutes : ℤ) (requires : ℤ) → old.now.schema ≡ store_schema → (e : Error) → ExecutesInside 0 put_text (row code title session minutes requires) old new (Err e) → Fails old new (Refuses old.now put_text (row code title session minutes requires)) e
-put_fails old new code title session minutes requires has e h = fails_inside put_text (row code title session minutes requires) old new store_schema has _ put_is tt put_plain put_whole e h
+pub put_answers : (old new : State) (code : List ℕ) (title : List ℕ) (session : List ℕ) (minutes : ℤ) (requires : ℤ) → old.now.schema ≡ store_schema → Answers put_text (row code title session minutes requires) old new
+put_answers old new code title session minutes requires has = answers put_text (row code title session minutes requires) old new store_schema has _ put_is tt put_plain put_whole
 
 -- where each row then has what it refers to, no foreign key refuses the put
-pub put_refused : (db : Database) (all : Trees) (code : List ℕ) (title : List ℕ) (session : List ℕ) (minutes : ℤ) (requires : ℤ) → ContainsIn store_schema db all → Stand (with_tree all 3 (put (1 ∷ []) (Null ∷ row code title session minutes requires) (all 3))) → Refuses db put_text (row code title session minutes requires) → RefusesRows db put_text (row code title session minutes requires)
-put_refused db all code title session minutes requires was stand = keys.put_refused store_schema 2 stored_paper (1 ∷ []) (1 ∷ []) paper_keyed db all was put_text Abort (on_conflict (1 ∷ []) 3 there project ∷ []) terms 6 put_is put_plain (row code title session minutes requires) (row code title session minutes requires)
-    (λ limit. upsert_sets store_schema 2 stored_paper (1 ∷ []) (1 ∷ []) paper_keyed limit terms 6 there project (λ db. refl) (row code title session minutes requires) (Null) (columns code title session minutes requires) (row code title session minutes requires) (fits code title session minutes requires) refl (picked code title session minutes requires) (written code title session minutes requires)) (λ next holds. refers next _ holds stand)
+pub put_refused : (limit : Option ℕ) (db : Database) (all : Trees) (code : List ℕ) (title : List ℕ) (session : List ℕ) (minutes : ℤ) (requires : ℤ) → ContainsIn store_schema db all → Stand (with_tree all 3 (put (1 ∷ []) (Null ∷ row code title session minutes requires) (all 3))) → Refuses limit db put_text (row code title session minutes requires) → RefusesRows limit db put_text (row code title session minutes requires)
+put_refused limit db all code title session minutes requires was stand = keys.put_refused store_schema 2 stored_paper (1 ∷ []) (1 ∷ []) paper_keyed limit db all was put_text Abort (on_conflict (1 ∷ []) 3 there project ∷ []) terms 6 put_is put_plain (row code title session minutes requires) (row code title session minutes requires)
+    (upsert_sets store_schema 2 stored_paper (1 ∷ []) (1 ∷ []) paper_keyed limit terms 6 there project (λ db. refl) (row code title session minutes requires) (Null) (columns code title session minutes requires) (row code title session minutes requires) (fits code title session minutes requires) refl (picked code title session minutes requires) (written code title session minutes requires)) (λ next holds. refers next _ holds stand)
 
 abbrev pub delete_text : List ℕ
 delete_text = delete_paper
@@ -119,16 +122,16 @@ delete_whole : IsWhole delete_text 1 (understood store_schema delete_text)
 unfolding understood everything store_schema
 delete_whole = (lit≤ tt, refl)
 
-pub delete_fails : (old new : State) (code : List ℕ) → old.now.schema ≡ store_schema → (e : Error) → ExecutesInside 0 delete_text (Text code ∷ []) old new (Err e) → Fails old new (Refuses old.now delete_text (Text code ∷ [])) e
-delete_fails old new code has e h = fails_inside delete_text (Text code ∷ []) old new store_schema has _ delete_is tt delete_plain delete_whole e h
+pub delete_answers : (old new : State) (code : List ℕ) → old.now.schema ≡ store_schema → Answers delete_text (Text code ∷ []) old new
+delete_answers old new code has = answers delete_text (Text code ∷ []) old new store_schema has _ delete_is tt delete_plain delete_whole
 
 -- where each row that is left has what it refers to, no foreign key refuses the delete
-pub delete_refused : (db : Database) (all : Trees) (code : List ℕ) → ContainsIn store_schema db all → Stand (with_tree all 3 (delete (1 ∷ []) (Null ∷ Text code ∷ []) (all 3))) → Refuses db delete_text (Text code ∷ []) → RefusesRows db delete_text (Text code ∷ [])
-delete_refused db all code was stand = keys.delete_refused store_schema 2 stored_paper (1 ∷ []) (1 ∷ []) paper_keyed db all was delete_text key_terms delete_is delete_plain (Text code ∷ [])
-    (λ limit. delete_takes store_schema 2 stored_paper (1 ∷ []) (1 ∷ []) paper_keyed key_terms limit (λ db. refl) (Text code ∷ []) (key_means (Text code ∷ []))) (λ next holds. refers next _ holds stand)
+pub delete_refused : (limit : Option ℕ) (db : Database) (all : Trees) (code : List ℕ) → ContainsIn store_schema db all → Stand (with_tree all 3 (delete (1 ∷ []) (Null ∷ Text code ∷ []) (all 3))) → Refuses limit db delete_text (Text code ∷ []) → RefusesRows limit db delete_text (Text code ∷ [])
+delete_refused limit db all code was stand = keys.delete_refused store_schema 2 stored_paper (1 ∷ []) (1 ∷ []) paper_keyed limit db all was delete_text key_terms delete_is delete_plain (Text code ∷ [])
+    (delete_takes store_schema 2 stored_paper (1 ∷ []) (1 ∷ []) paper_keyed key_terms limit (λ db. refl) (Text code ∷ []) (key_means (Text code ∷ []))) (λ next holds. refers next _ holds stand)
 
 abbrev pub load_text : List ℕ
-load_text = codes "SELECT code, title, session, minutes, requires FROM paper"
+load_text = load_paper
 
 abbrev shown_terms : List Term
 shown_terms = col 1 1 ∷ col 1 2 ∷ col 1 3 ∷ col 1 4 ∷ col 1 5 ∷ []
@@ -148,3 +151,7 @@ load_unlisted = refl
 pub shows : (old new : State) (rows : List Row) (all : Trees) → ContainsIn store_schema old.now all → Shown load_text [] old new rows
     → IsPermutation (all 3) (map (λ r. Null ∷ r) rows) × AllByRecursion (λ r. length r ≡ 5) rows × IsUnchanged old new
 shows = shown_by store_schema 2 stored_paper (1 ∷ []) (1 ∷ []) paper_keyed load_text shown_terms [] _ load_is load_plain load_unlisted (λ db. refl) (λ r. refl) refl
+
+-- where it fails, the text was understood
+pub load_fails : (old new : State) → old.now.schema ≡ store_schema → (e : Error) → FailsToQuery load_text [] old new e → (e ≡ SqliteFailure OutOfMemory) ⊎ IsTrue (is_failure e)
+load_fails old new has e h = query_fails load_text [] old new store_schema has load_plain e h

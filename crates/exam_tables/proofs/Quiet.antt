@@ -2,6 +2,7 @@
 use Rattle.std.proofs.Common.{◌≡◌, ◌⊎◌, ℕ, List, None, Some, Option, Ok, Err, Result, inl, inr, refl, sym, ap, ◌∙◌}
 use Rattle.std.proofs.lemmas.Bool.{cases_Bool}
 use Rattle.sqlite_value.specs.Order.{Row}
+use Rattle.sqlite_trees.specs.Tree.{Trees}
 use Rattle.sqlite_schema.specs.declared.command.Returning.{Returning}
 use Rattle.sqlite_schema.specs.declared.schema.Schema.{Schema}
 use Rattle.sqlite_resolve.specs.Compile.{compiled, planned, meaning, first, returning, with_command}
@@ -13,7 +14,7 @@ use Rattle.sqlite_resolve.specs.declared.error.CompileError.{CompileError}
 use Rattle.sqlite_tied.specs.Compute.{everything}
 use Rattle.sqlite.specs.declared.error.Error.{Error}
 use Rattle.sqlite.specs.Listing.{understood, if_select, is_select, reads_listing, listing_schema}
-use Rattle.sqlite.specs.State.{State, Shown, FailsToQuery, FailsToShow, IsNotRun, IsUnchanged, IsRolledBack}
+use Rattle.sqlite.specs.State.{State, CommitsShowing, Shown, FailsToQuery, FailsToShow, IsNotRun, IsUnchanged, IsRolledBack}
 use Rattle.exam_tables.proofs.OfOffice as office
 use Rattle.exam_tables.proofs.OfSession as session
 use Rattle.exam_tables.proofs.OfPaper as paper
@@ -62,6 +63,11 @@ module _ (text : List ℕ) (query : IsQuery text) where
   pub shown_unchanged : (params : Row) (old new : State) (rows : List Row) → Shown text params old new rows → IsUnchanged old new
   unfolding Shown
   shown_unchanged params old new rows h = (rw (alone old.now.schema h.0 h.1.is) at h.2).3
+
+  -- and it commits nothing
+  pub commits_nothing : (params : Row) (s : State) (db : Trees) → CommitsShowing text params s db → ⊥
+  unfolding CommitsShowing
+  commits_nothing params s db h = let none = rw (alone s.now.schema h.0 h.1.is) at h.2 in cc
 
 -- where a query fails, nothing has changed, or the transaction is undone
 pub failed_unchanged : (text : List ℕ) (params : Row) (old new : State) (e : Error) → FailsToQuery text params old new e → IsUnchanged old new ⊎ IsRolledBack old new

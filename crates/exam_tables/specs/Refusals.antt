@@ -11,7 +11,7 @@ use Rattle.sqlite.specs.declared.error.ErrorCode.TheVariants.{OutOfMemory}
 use Rattle.sqlite.specs.declared.error.Error.{Error}
 use Rattle.sqlite.specs.declared.error.Error.TheVariants.{SqliteFailure, SqlInputError}
 use Rattle.sqlite.specs.declared.run.Mode.{Mode}
-use Rattle.sqlite.specs.Does.{Does, WritesRows}
+use Rattle.sqlite.specs.Does.{Does, Tally, WritesRows}
 use Rattle.sqlite.specs.Effect.{Database}
 use Rattle.sqlite.specs.Listing.{understood}
 use Rattle.sqlite.specs.State.{State, text_of}
@@ -22,10 +22,16 @@ at_once = record { keys = Enforced; in_doubt = false; may_wait = false }
 
 -- The database understands the statement and refuses it: a rule of its tables stands against it, no rowid is
 -- left, a row is too big, or the steps that it may take are too few.
-abbrev pub Refuses : Database → List ℕ → Row → Type 0
-Refuses db text params =
-    (c : Compiled) × (understood db.schema text ≡ Ok c) × (limit : Option ℕ) × (stop : Option Error)
+abbrev pub Refuses : Option ℕ → Database → List ℕ → Row → Type 0
+Refuses limit db text params =
+    (c : Compiled) × (understood db.schema text ≡ Ok c) × (stop : Option Error)
     × Does limit at_once params db (text_of text c) c.returning c.command (Err stop)
+
+-- the database understands the statement, and within that limit of steps it makes it this one
+abbrev pub RunsTo : Option ℕ → List ℕ → Row → Database → Database → Type 0
+RunsTo limit text params db after =
+    (c : Compiled) × (understood db.schema text ≡ Ok c) × (tally : Tally)
+    × Does limit at_once params db (text_of text c) c.returning c.command (Ok (tally, after))
 
 -- the place of the table whose rows the command writes or takes out
 abbrev pub written_table : Command → Option ℕ
@@ -34,9 +40,9 @@ written_table (Delete at q) = Some at
 written_table _ = None
 
 -- The same, while it writes the rows: no foreign key is tested before they are written.
-abbrev pub RefusesRows : Database → List ℕ → Row → Type 0
-RefusesRows db text params =
-    (c : Compiled) × (understood db.schema text ≡ Ok c) × (limit : Option ℕ) × (stop : Option Error)
+abbrev pub RefusesRows : Option ℕ → Database → List ℕ → Row → Type 0
+RefusesRows limit db text params =
+    (c : Compiled) × (understood db.schema text ≡ Ok c) × (stop : Option Error)
     × (table : Table) × (option_and_then (slice_get db.schema.tables) (written_table c.command) ≡ Some table)
     × WritesRows (record { limit = limit; keys = Enforced; schema = db.schema; table = table; params = params })
     db.trees c.command (Err stop)

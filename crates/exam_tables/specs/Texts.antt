@@ -1,5 +1,6 @@
--- The texts that put a row of a table, whether its key is there or not, and that delete one by its key.
-use Rattle.std.specs.Prelude.{ℕ, List, codes}
+-- The texts that put a row of a table, whether its key is there or not, that delete one by its key, and that
+-- load all rows.
+use Rattle.std.specs.Prelude.{ℕ, List, [], ◌∷◌, codes}
 
 abbrev pub put_session : List ℕ
 put_session = codes "INSERT INTO session (code, day, start) VALUES (?1, ?2, ?3) ON CONFLICT (code) DO UPDATE SET day = excluded.day, start = excluded.start"
@@ -54,3 +55,39 @@ put_seat = codes "INSERT OR REPLACE INTO seat (session, number, hall) VALUES (?1
 
 abbrev pub delete_seat : List ℕ
 delete_seat = codes "DELETE FROM seat WHERE session = ?1 AND number = ?2"
+
+abbrev pub load_office : List ℕ
+load_office = codes "SELECT one, version FROM office"
+
+abbrev pub load_session : List ℕ
+load_session = codes "SELECT code, day, start FROM session"
+
+abbrev pub load_paper : List ℕ
+load_paper = codes "SELECT code, title, session, minutes, requires FROM paper"
+
+abbrev pub load_hall : List ℕ
+load_hall = codes "SELECT code, title, features FROM hall"
+
+abbrev pub load_candidate : List ℕ
+load_candidate = codes "SELECT number, name, code FROM candidate"
+
+abbrev pub load_opening : List ℕ
+load_opening = codes "SELECT session, hall, desks, until, reserved FROM opening"
+
+abbrev pub load_entry : List ℕ
+load_entry = codes "SELECT number, paper, live FROM entry"
+
+abbrev pub load_arrangement : List ℕ
+load_arrangement = codes "SELECT number, needs, extra FROM arrangement"
+
+abbrev pub load_appeal : List ℕ
+load_appeal = codes "SELECT number, ref, session, kind, target, needs, extra, reason, state, answer, lodged FROM appeal"
+
+abbrev pub load_seat : List ℕ
+load_seat = codes "SELECT session, number, hall FROM seat"
+
+-- what loads the ten tables
+abbrev pub load_texts : List (List ℕ)
+load_texts =
+    load_office ∷ load_session ∷ load_paper ∷ load_hall ∷ load_candidate ∷ load_opening ∷ load_entry
+    ∷ load_arrangement ∷ load_appeal ∷ load_seat ∷ []

@@ -1,9 +1,30 @@
--- How a database that could not be opened is told.
+-- What is opened of files, and how files that could not be opened are told.
+use Rattle.std.specs.Prelude.{◌≡◌}
+use Rattle.sqlite.specs.Held.{Held, state}
+use Rattle.sqlite.specs.State.{State, HasCleanDisk}
+use Rattle.sqlite.specs.Start.{FindsIn}
 use Rattle.sqlite.specs.declared.error.Error.{Error}
 use Rattle.sqlite.specs.declared.error.Error.TheVariants.{SqliteFailure}
 use Rattle.sqlite.specs.declared.error.ErrorCode.TheVariants.{OutOfMemory, NotADatabase}
+use Rattle.sqlite_trees.specs.declared.store.Store.{Ghosts}
+use Rattle.sqlite_wal.specs.Recovery.{Image}
 use Rattle.exam_types.specs.declared.refusal.Refusal.{Refusal}
 use Rattle.exam_types.specs.declared.refusal.Refusal.TheVariants.{NoMemory, Store, BadStore}
+use Rattle.exam_office.specs.State.{State as Office, empty_state}
+use Rattle.exam_rows.specs.Versions.{IsBlank}
+use Rattle.exam_store.specs.Found.{Finds}
+
+-- The connection at which the files were opened finds the database that they held, and opening it finds the office.
+abbrev pub OpensIn : {S : Type 0} → Ghosts S → Image → Held S → Office → Type 0
+OpensIn {S} g image now office =
+    (was : Held S) × (HasCleanDisk (state g was) → FindsIn image (state g was)) × Finds (state g was) (state g now) office
+
+-- the same, or there was nothing, and the office is the empty one
+abbrev pub MakesIn : {S : Type 0} → Ghosts S → Image → Held S → Office → Type 0
+MakesIn {S} g image now office =
+    (was : Held S) × (HasCleanDisk (state g was) → FindsIn image (state g was))
+    × (IsBlank (state g was).now → office ≡ empty_state)
+    × ((IsBlank (state g was).now → ⊥) → Finds (state g was) (state g now) office)
 
 -- want of memory, a file that is no database, or another failure
 abbrev pub opening_refusal : Error → Refusal

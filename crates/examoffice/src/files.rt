@@ -1,44 +1,94 @@
 //! The database and the import file at a path.
 ghost use Rattle.std.specs.Prelude.{◌≡◌, ◌≢◌, false, IfOk, IfErr, IsTrue};
 ghost use Rattle.sqlite.specs.State.{HasCleanDisk};
-ghost use Rattle.sqlite.specs.Files.{file_state};
+ghost use Rattle.sqlite.specs.Start.{FindsIn};
+ghost use Rattle.sqlite.specs.Files.{file_state, over_files, IsBlankAs};
 ghost use Rattle.sqlite_store.specs.FileStore.{view};
+ghost use Rattle.sqlite_wal.specs.Files.{image_at};
 ghost use Rattle.exam_rows.specs.Faults.{is_store_refusal};
+ghost use Rattle.exam_rows.specs.Versions.{IsBlank};
+ghost use Rattle.exam_office.specs.State.{empty_state};
+ghost use Rattle.exam_store.specs.Found.{Finds};
+ghost use Rattle.exam_store.specs.Kept.{KeepsOurs};
 ghost use Rattle.exam_job.specs.Reading.{IsReadFault};
-ghost use Rattle.examoffice.specs.Opening.{opening_refusal};
+ghost use Rattle.examoffice.specs.Opening.{MakesIn, OpensIn, opening_refusal};
 
 use exam_job::JobFault;
 use exam_store::Store;
 use exam_types::Refusal;
-use sqlite::{Connection, Error, ErrorCode, FileFrom, FileStore, Unknown};
+use sqlite::{Connection, Error, ErrorCode, FileFrom, FileStore, Start};
 use std::alloc::Global;
 use std::fs::File;
 use std::io::ErrorKind;
 
-/// What holds the tables of a file.
-pub type OfficeFile = FileStore<FileFrom<Unknown>>;
+/// What holds the tables of a file. `S` stands for what the file held as it was opened, so that a contract can speak of it.
+pub type OfficeFile<S> = FileStore<FileFrom<S>>;
 
 /// Opens the office at the path, or makes an empty one where nothing is.
-pub fn create_office(rt: &HostRuntime, path: &str) -> Result<Store<OfficeFile>, Refusal>
-    ensures { IfErr result (λ refusal. IsTrue (is_store_refusal refusal)) }
+pub fn create_office<S: Start>(
+    rt: &HostRuntime,
+    path: &str,
+    start: S,
+) -> Result<Store<OfficeFile<S>>, Refusal>
+    ensures found { IfOk result (λ store. MakesIn over_files (image_at S.Start) store.database store.office) }
+    ensures kept { IfOk result (λ store. KeepsOurs (file_state store.database) store.office) }
+    ensures told { IfErr result (λ refusal. IsTrue (is_store_refusal refusal)) }
 {
-    let conn = open_database(rt, path)?;
-    Store::create(rt.alloc(), conn).map_err(|(refusal, conn)| close_after(refusal, conn))
+    let conn = open_database(rt, path, start)?;
+    create_over(rt.alloc(), conn)
+}
+
+/// Opens the office that the database holds, or makes an empty one where nothing is. Closes it where it is refused.
+fn create_over<S: Start>(
+    alloc: Global,
+    conn: Connection<OfficeFile<S>>,
+) -> Result<Store<OfficeFile<S>>, Refusal>
+    ensures empty { IsBlank (file_state conn).now → IfOk result (λ store. store.office ≡ empty_state) }
+    ensures found { (IsBlank (file_state conn).now → ⊥)
+        → IfOk result (λ store. Finds (file_state conn) (file_state store.database) store.office) }
+    ensures kept { IfOk result (λ store. KeepsOurs (file_state store.database) store.office) }
+    ensures told { IfErr result (λ refusal. IsTrue (is_store_refusal refusal)) }
+{
+    match Store::create(alloc, conn) {
+        Ok(store) => Ok(store),
+        Err((refusal, conn)) => Err(close_after(refusal, conn)),
+    }
 }
 
 /// Opens the office at the path. Where nothing is there is no office, and no file is made.
-pub fn open_office(rt: &HostRuntime, path: &str) -> Result<Store<OfficeFile>, Refusal>
-    ensures { IfErr result (λ refusal. IsTrue (is_store_refusal refusal)) }
+pub fn open_office<S: Start>(
+    rt: &HostRuntime,
+    path: &str,
+    start: S,
+) -> Result<Store<OfficeFile<S>>, Refusal>
+    ensures found { IfOk result (λ store. OpensIn over_files (image_at S.Start) store.database store.office) }
+    ensures kept { IfOk result (λ store. KeepsOurs (file_state store.database) store.office) }
+    ensures told { IfErr result (λ refusal. IsTrue (is_store_refusal refusal)) }
 {
     if is_missing(rt, path) {
         return Err(Refusal::BadStore);
     }
-    let conn = open_database(rt, path)?;
-    Store::open(rt.alloc(), conn).map_err(|(refusal, conn)| close_after(refusal, conn))
+    let conn = open_database(rt, path, start)?;
+    open_over(rt.alloc(), conn)
+}
+
+/// Opens the office that the database holds. Closes it where it is refused.
+fn open_over<S: Start>(
+    alloc: Global,
+    conn: Connection<OfficeFile<S>>,
+) -> Result<Store<OfficeFile<S>>, Refusal>
+    ensures found { IfOk result (λ store. Finds (file_state conn) (file_state store.database) store.office) }
+    ensures kept { IfOk result (λ store. KeepsOurs (file_state store.database) store.office) }
+    ensures told { IfErr result (λ refusal. IsTrue (is_store_refusal refusal)) }
+{
+    match Store::open(alloc, conn) {
+        Ok(store) => Ok(store),
+        Err((refusal, conn)) => Err(close_after(refusal, conn)),
+    }
 }
 
 /// Closes the office. What was answered stands already, so a failure here takes nothing back.
-pub fn close_office(store: Store<OfficeFile>) {
+pub fn close_office<S: Start>(store: Store<OfficeFile<S>>) {
     let _ = store.close().close();
 }
 
@@ -72,13 +122,19 @@ fn is_missing(rt: &HostRuntime, path: &str) -> bool {
 }
 
 /// A new file is a plain one, without the sums that only an extension of `sqlite3` writes.
-fn open_database(rt: &HostRuntime, path: &str) -> Result<Connection<OfficeFile>, Refusal>
-    ensures plain { IfOk result (λ conn. HasCleanDisk (file_state conn) → (view conn.store).has_sums ≡ false) }
+fn open_database<S: Start>(
+    rt: &HostRuntime,
+    path: &str,
+    start: S,
+) -> Result<Connection<OfficeFile<S>>, Refusal>
+    ensures found { IfOk result (λ conn. HasCleanDisk (file_state conn) → FindsIn (image_at S.Start) (file_state conn)) }
+    ensures plain { IfOk result (λ conn. HasCleanDisk (file_state conn) → IsBlankAs false (image_at S.Start)
+        → (view conn.store).has_sums ≡ false) }
     ensures told { IfErr result (λ refusal. IsTrue (is_store_refusal refusal)) }
 {
-    match Connection::open(rt, path) {
+    match Connection::open_from(rt, path, false, start) {
         Ok(conn) => Ok(conn),
-        Err(error) => Err(open_refusal(&error)),
+        Err((error, _)) => Err(open_refusal(&error)),
     }
 }
 
@@ -93,7 +149,7 @@ fn open_refusal(error: &Error) -> Refusal
     }
 }
 
-fn close_after(refusal: Refusal, conn: Connection<OfficeFile>) -> Refusal
+fn close_after<S: Start>(refusal: Refusal, conn: Connection<OfficeFile<S>>) -> Refusal
     ensures { result ≡ refusal }
 {
     let _ = conn.close();

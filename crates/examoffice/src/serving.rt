@@ -4,15 +4,16 @@ ghost use Rattle.exam_job.specs.declared.report.JobFault.TheVariants.{Net, Write
 
 use crate::files::OfficeFile;
 use exam_http::{HttpFault, serve_one};
-use exam_job::{JobFault, print, print_error, serving_line};
+use exam_job::{JobFault, connection_fault_line, print, print_error, serving_line};
 use exam_store::Store;
 use exam_types::Day;
+use sqlite::Start;
 use std::io::{self, ErrorKind, Read, Write};
 use std::net::{Ipv4Addr, SocketAddrV4, TcpListener, TcpStream};
 use std::time::{Duration, Instant};
 
 /// How many seconds a connection may last, so that a silent client does not hold the office.
-const LONGEST: u64 = 10;
+const LONGEST_CONNECTION: u64 = 10;
 
 /// After so many connections the server ends.
 const MOST_CONNECTIONS: usize = 4_294_967_295;
@@ -28,7 +29,9 @@ struct Timed<'s> {
 impl Timed<'_> {
     /// How long the connection may last yet.
     fn time_left(&self) -> io::Result<Duration> {
-        let left = Duration::from_secs(LONGEST).saturating_sub(self.since.elapsed(self.rt)?);
+        let left = Duration::from_secs(LONGEST_CONNECTION).saturating_sub(
+            self.since.elapsed(self.rt)?,
+        );
         if left.is_zero() {
             return Err(io::Error::from(ErrorKind::TimedOut));
         }
@@ -57,9 +60,9 @@ impl Write for Timed<'_> {
 }
 
 /// Serves one connection after the other on the port, with the day as today. Says so once the port is bound.
-pub fn serve(
+pub fn serve<S: Start>(
     rt: &HostRuntime,
-    store: &mut Store<OfficeFile>,
+    store: &mut Store<OfficeFile<S>>,
     today: Day,
     port: u16,
 ) -> Result<(), JobFault>
@@ -80,9 +83,9 @@ pub fn serve(
 }
 
 /// Serves one request, and tells the fault where the connection failed.
-fn serve_connection(
+fn serve_connection<S: Start>(
     rt: &HostRuntime,
-    store: &mut Store<OfficeFile>,
+    store: &mut Store<OfficeFile<S>>,
     today: Day,
     stream: &TcpStream,
 ) {
@@ -90,16 +93,17 @@ fn serve_connection(
         Ok(since) => serve_timed(rt, store, today, stream, since),
         Err(_) => Err(HttpFault::Read),
     };
-    match served {
-        Ok(()) => {}
-        Err(HttpFault::Read) => print_error(&mut rt.stderr(), b"fault 41\n"),
-        Err(HttpFault::Write) => print_error(&mut rt.stderr(), b"fault 42\n"),
+    if let Err(fault) = served {
+        print_error(
+            &mut rt.stderr(),
+            connection_fault_line(fault.number()).as_slice(),
+        );
     }
 }
 
-fn serve_timed(
+fn serve_timed<S: Start>(
     rt: &HostRuntime,
-    store: &mut Store<OfficeFile>,
+    store: &mut Store<OfficeFile<S>>,
     today: Day,
     stream: &TcpStream,
     since: Instant,

@@ -1,7 +1,7 @@
 //! The table of appeals.
 ghost use Rattle.std.specs.Prelude.{ℕ, List, [], ◌∷◌};
 ghost use Rattle.sqlite_value.specs.declared.value.Value.TheVariants.{Text};
-ghost use Rattle.exam_tables.specs.Texts.{put_appeal, delete_appeal};
+ghost use Rattle.exam_tables.specs.Texts.{put_appeal, delete_appeal, load_appeal};
 ghost use Rattle.exam_rows.specs.Rows.{appeal_row, IsAppeal};
 ghost use Rattle.exam_rows.specs.Stored as stored;
 ghost use Rattle.sqlite.specs.Held.{state};
@@ -36,6 +36,8 @@ impl Table for Appeals {
     ghost put_text = { put_appeal };
 
     ghost delete_text = { delete_appeal };
+
+    ghost load_text = { load_appeal };
 
     ghost row_of = { appeal_row };
 

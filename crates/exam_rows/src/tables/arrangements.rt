@@ -1,7 +1,7 @@
 //! The table of arrangements.
 ghost use Rattle.std.specs.Prelude.{ℕ, List, [], ◌∷◌};
 ghost use Rattle.sqlite_value.specs.declared.value.Value.TheVariants.{Text};
-ghost use Rattle.exam_tables.specs.Texts.{put_arrangement, delete_arrangement};
+ghost use Rattle.exam_tables.specs.Texts.{put_arrangement, delete_arrangement, load_arrangement};
 ghost use Rattle.exam_rows.specs.Rows.{arrangement_row, IsArrangement};
 ghost use Rattle.exam_rows.specs.Stored as stored;
 
@@ -29,6 +29,8 @@ impl Table for Arrangements {
     ghost put_text = { put_arrangement };
 
     ghost delete_text = { delete_arrangement };
+
+    ghost load_text = { load_arrangement };
 
     ghost row_of = { arrangement_row };
 

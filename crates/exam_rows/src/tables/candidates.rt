@@ -1,7 +1,7 @@
 //! The table of candidates.
 ghost use Rattle.std.specs.Prelude.{ℕ, List, [], ◌∷◌};
 ghost use Rattle.sqlite_value.specs.declared.value.Value.TheVariants.{Text};
-ghost use Rattle.exam_tables.specs.Texts.{put_candidate, delete_candidate};
+ghost use Rattle.exam_tables.specs.Texts.{put_candidate, delete_candidate, load_candidate};
 ghost use Rattle.exam_rows.specs.Rows.{candidate_row, IsCandidate};
 ghost use Rattle.exam_rows.specs.Stored as stored;
 
@@ -29,6 +29,8 @@ impl Table for Candidates {
     ghost put_text = { put_candidate };
 
     ghost delete_text = { delete_candidate };
+
+    ghost load_text = { load_candidate };
 
     ghost row_of = { candidate_row };
 

@@ -1,7 +1,7 @@
 //! The table of entries.
 ghost use Rattle.std.specs.Prelude.{ℕ, List, [], ◌∷◌};
 ghost use Rattle.sqlite_value.specs.declared.value.Value.TheVariants.{Text};
-ghost use Rattle.exam_tables.specs.Texts.{put_entry, delete_entry};
+ghost use Rattle.exam_tables.specs.Texts.{put_entry, delete_entry, load_entry};
 ghost use Rattle.exam_rows.specs.Rows.{entry_row, IsEntry};
 ghost use Rattle.exam_rows.specs.Stored as stored;
 
@@ -29,6 +29,8 @@ impl Table for Entries {
     ghost put_text = { put_entry };
 
     ghost delete_text = { delete_entry };
+
+    ghost load_text = { load_entry };
 
     ghost row_of = { entry_row };
 

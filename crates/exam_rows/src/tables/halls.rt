@@ -1,7 +1,7 @@
 //! The table of halls.
 ghost use Rattle.std.specs.Prelude.{ℕ, List, [], ◌∷◌};
 ghost use Rattle.sqlite_value.specs.declared.value.Value.TheVariants.{Text};
-ghost use Rattle.exam_tables.specs.Texts.{put_hall, delete_hall};
+ghost use Rattle.exam_tables.specs.Texts.{put_hall, delete_hall, load_hall};
 ghost use Rattle.exam_rows.specs.Rows.{hall_row, IsHall};
 ghost use Rattle.exam_rows.specs.Stored as stored;
 
@@ -29,6 +29,8 @@ impl Table for Halls {
     ghost put_text = { put_hall };
 
     ghost delete_text = { delete_hall };
+
+    ghost load_text = { load_hall };
 
     ghost row_of = { hall_row };
 

@@ -1,7 +1,7 @@
 //! The table of halls opened for sessions.
 ghost use Rattle.std.specs.Prelude.{ℕ, List, [], ◌∷◌};
 ghost use Rattle.sqlite_value.specs.declared.value.Value.TheVariants.{Text};
-ghost use Rattle.exam_tables.specs.Texts.{put_opening, delete_opening};
+ghost use Rattle.exam_tables.specs.Texts.{put_opening, delete_opening, load_opening};
 ghost use Rattle.exam_rows.specs.Rows.{opening_row, IsOpening};
 ghost use Rattle.exam_rows.specs.Stored as stored;
 
@@ -31,6 +31,8 @@ impl Table for Openings {
     ghost put_text = { put_opening };
 
     ghost delete_text = { delete_opening };
+
+    ghost load_text = { load_opening };
 
     ghost row_of = { opening_row };
 

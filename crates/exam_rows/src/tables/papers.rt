@@ -1,7 +1,7 @@
 //! The table of papers.
 ghost use Rattle.std.specs.Prelude.{ℕ, List, [], ◌∷◌};
 ghost use Rattle.sqlite_value.specs.declared.value.Value.TheVariants.{Text};
-ghost use Rattle.exam_tables.specs.Texts.{put_paper, delete_paper};
+ghost use Rattle.exam_tables.specs.Texts.{put_paper, delete_paper, load_paper};
 ghost use Rattle.exam_rows.specs.Rows.{paper_row, IsPaper};
 ghost use Rattle.exam_rows.specs.Stored as stored;
 
@@ -29,6 +29,8 @@ impl Table for Papers {
     ghost put_text = { put_paper };
 
     ghost delete_text = { delete_paper };
+
+    ghost load_text = { load_paper };
 
     ghost row_of = { paper_row };
 

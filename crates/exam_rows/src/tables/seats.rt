@@ -1,7 +1,7 @@
 //! The table of seats.
 ghost use Rattle.std.specs.Prelude.{ℕ, List, [], ◌∷◌};
 ghost use Rattle.sqlite_value.specs.declared.value.Value.TheVariants.{Text};
-ghost use Rattle.exam_tables.specs.Texts.{put_seat, delete_seat};
+ghost use Rattle.exam_tables.specs.Texts.{put_seat, delete_seat, load_seat};
 ghost use Rattle.exam_rows.specs.Rows.{seat_row, IsSeat};
 ghost use Rattle.exam_rows.specs.Stored as stored;
 
@@ -28,6 +28,8 @@ impl Table for Seats {
     ghost put_text = { put_seat };
 
     ghost delete_text = { delete_seat };
+
+    ghost load_text = { load_seat };
 
     ghost row_of = { seat_row };
 

@@ -2,7 +2,7 @@
 ghost use Rattle.std.specs.Prelude.{◌≡◌, ℕ, pos, List, [], ◌∷◌, IsTrue, IfOk, IfErr};
 ghost use Rattle.sqlite.specs.Held.{state};
 ghost use Rattle.exam_rows.specs.Inside.{Makes, put_of};
-ghost use Rattle.exam_tables.specs.Texts.{put_session, delete_session};
+ghost use Rattle.exam_tables.specs.Texts.{put_session, delete_session, load_session};
 ghost use Rattle.exam_rows.specs.Rows.{session_row, IsSession};
 ghost use Rattle.exam_rows.specs.Reading.{MayRead};
 ghost use Rattle.exam_rows.specs.Stored as stored;
@@ -32,6 +32,8 @@ impl Table for Sessions {
     ghost put_text = { put_session };
 
     ghost delete_text = { delete_session };
+
+    ghost load_text = { load_session };
 
     ghost row_of = { session_row };
 

@@ -2,8 +2,10 @@ use Rattle.std.proofs.Common.{◌≡◌, Err, sym, subst, rules}
 use Rattle.sqlite.specs.Effect.{Database}
 use Rattle.sqlite.specs.Held.{state}
 use Rattle.sqlite.proofs.Callers.{unchanged_then}
+use Rattle.exam_tables.specs.Texts.{load_session, load_paper, load_hall, load_candidate, load_opening, load_entry, load_arrangement, load_appeal}
 use Rattle.exam_rows.specs.Inside.{Contains}
-use Rattle.exam_rows.proofs.Leaving.{left_then, still, still_itself}
+use Rattle.exam_rows.proofs.Leaving.{both_survive, left_then, still, still_itself, understood_before}
+use Rattle.exam_rows.proofs.LoadTexts.{session_loads, paper_loads, hall_loads, candidate_loads, opening_loads, entry_loads, arrangement_loads, appeal_loads}
 use Rattle.exam_rows.proofs.Refusing.{part_failed, still_there}
 use Rattle.exam_rows.proofs.SavedRows.{appeals_match, arrangements_match, candidates_match, entries_match, halls_match, openings_match, papers_match, sessions_match}
 use Rattle.exam_rows.proofs.loading.load_facts.Goals as goal
@@ -53,7 +55,7 @@ returns-clause-rows g c = λ clean all was.
 pub returns-in_err-sessions-clause-bad : goal.returns-in_err-sessions-clause-bad
 returns-in_err-sessions-clause-bad g c = λ clean.
     let is : c.from_residual.result ≡ Err c.in_err-sessions.field-0.0 = search rules in
-    rw is (part_failed c.in_err-sessions.field-0.0 (λ told. (c.args.conn.now, still_itself (state g.S.Store c.args.conn.now), told)) (λ none all was r holds.
+    rw is (part_failed c.in_err-sessions.field-0.0 (λ told. (c.args.conn.now, still_itself (state g.S.Store c.args.conn.now), load_session, session_loads, told)) (λ none all was r holds.
     none all was r.sessions holds.sessions) (c.in_err-sessions.ensures.bad clean sessions_match))
 
 pub returns-in_err-papers-clause-bad : goal.returns-in_err-papers-clause-bad
@@ -61,7 +63,7 @@ returns-in_err-papers-clause-bad g c = λ clean.
     let is : c.from_residual-in_err-papers.result ≡ Err c.in_err-papers.field-0.0 = search rules in
     let clean_1 = c.load_rows-2.ensures.early clean in
     let same_1 = c.in_ok-sessions.ensures.left clean_1 in
-    rw is (part_failed c.in_err-papers.field-0.0 (λ told. (c.load_rows.new.conn, still (state g.S.Store c.args.conn.now) (state g.S.Store c.load_rows.new.conn) same_1, told)) (λ none all was r holds.
+    rw is (part_failed c.in_err-papers.field-0.0 (λ told. (c.load_rows.new.conn, still (state g.S.Store c.args.conn.now) (state g.S.Store c.load_rows.new.conn) same_1, load_paper, paper_loads, told)) (λ none all was r holds.
     let was_1 = still_there (state g.S.Store c.args.conn.now) (state g.S.Store c.load_rows.new.conn) all was (c.in_ok-sessions.ensures.rows clean_1 all was) in
     none all was_1 r.papers holds.papers) (c.in_err-papers.ensures.bad clean papers_match))
 
@@ -72,7 +74,7 @@ returns-in_err-halls-clause-bad g c = λ clean.
     let clean_1 = c.load_rows-2.ensures.early clean_2 in
     let same_1 = c.in_ok-sessions.ensures.left clean_1 in
     let same_2 = unchanged_then (state g.S.Store c.args.conn.now) (state g.S.Store c.load_rows.new.conn) (state g.S.Store c.load_rows-2.new.conn) same_1 (c.in_ok-papers.ensures.left clean_2) in
-    rw is (part_failed c.in_err-halls.field-0.0 (λ told. (c.load_rows-2.new.conn, still (state g.S.Store c.args.conn.now) (state g.S.Store c.load_rows-2.new.conn) same_2, told)) (λ none all was r holds.
+    rw is (part_failed c.in_err-halls.field-0.0 (λ told. (c.load_rows-2.new.conn, still (state g.S.Store c.args.conn.now) (state g.S.Store c.load_rows-2.new.conn) same_2, load_hall, hall_loads, told)) (λ none all was r holds.
     let was_1 = still_there (state g.S.Store c.args.conn.now) (state g.S.Store c.load_rows.new.conn) all was (c.in_ok-sessions.ensures.rows clean_1 all was) in
     let was_2 = still_there (state g.S.Store c.load_rows.new.conn) (state g.S.Store c.load_rows-2.new.conn) all was_1 (c.in_ok-papers.ensures.rows clean_2 all was_1) in
     none all was_2 r.halls holds.halls) (c.in_err-halls.ensures.bad clean halls_match))
@@ -86,7 +88,7 @@ returns-in_err-openings-clause-bad g c = λ clean.
     let same_1 = c.in_ok-sessions.ensures.left clean_1 in
     let same_2 = unchanged_then (state g.S.Store c.args.conn.now) (state g.S.Store c.load_rows.new.conn) (state g.S.Store c.load_rows-2.new.conn) same_1 (c.in_ok-papers.ensures.left clean_2) in
     let same_3 = unchanged_then (state g.S.Store c.args.conn.now) (state g.S.Store c.load_rows-2.new.conn) (state g.S.Store c.load_rows-3.new.conn) same_2 (c.in_ok-halls.ensures.left clean_3) in
-    rw is (part_failed c.in_err-openings.field-0.0 (λ told. (c.load_rows-3.new.conn, still (state g.S.Store c.args.conn.now) (state g.S.Store c.load_rows-3.new.conn) same_3, told)) (λ none all was r holds.
+    rw is (part_failed c.in_err-openings.field-0.0 (λ told. (c.load_rows-3.new.conn, still (state g.S.Store c.args.conn.now) (state g.S.Store c.load_rows-3.new.conn) same_3, load_opening, opening_loads, told)) (λ none all was r holds.
     let was_1 = still_there (state g.S.Store c.args.conn.now) (state g.S.Store c.load_rows.new.conn) all was (c.in_ok-sessions.ensures.rows clean_1 all was) in
     let was_2 = still_there (state g.S.Store c.load_rows.new.conn) (state g.S.Store c.load_rows-2.new.conn) all was_1 (c.in_ok-papers.ensures.rows clean_2 all was_1) in
     let was_3 = still_there (state g.S.Store c.load_rows-2.new.conn) (state g.S.Store c.load_rows-3.new.conn) all was_2 (c.in_ok-halls.ensures.rows clean_3 all was_2) in
@@ -103,7 +105,7 @@ returns-in_err-candidates-clause-bad g c = λ clean.
     let same_2 = unchanged_then (state g.S.Store c.args.conn.now) (state g.S.Store c.load_rows.new.conn) (state g.S.Store c.load_rows-2.new.conn) same_1 (c.in_ok-papers.ensures.left clean_2) in
     let same_3 = unchanged_then (state g.S.Store c.args.conn.now) (state g.S.Store c.load_rows-2.new.conn) (state g.S.Store c.load_rows-3.new.conn) same_2 (c.in_ok-halls.ensures.left clean_3) in
     let same_4 = unchanged_then (state g.S.Store c.args.conn.now) (state g.S.Store c.load_rows-3.new.conn) (state g.S.Store c.load_rows-4.new.conn) same_3 (c.in_ok-openings.ensures.left clean_4) in
-    rw is (part_failed c.in_err-candidates.field-0.0 (λ told. (c.load_rows-4.new.conn, still (state g.S.Store c.args.conn.now) (state g.S.Store c.load_rows-4.new.conn) same_4, told)) (λ none all was r holds.
+    rw is (part_failed c.in_err-candidates.field-0.0 (λ told. (c.load_rows-4.new.conn, still (state g.S.Store c.args.conn.now) (state g.S.Store c.load_rows-4.new.conn) same_4, load_candidate, candidate_loads, told)) (λ none all was r holds.
     let was_1 = still_there (state g.S.Store c.args.conn.now) (state g.S.Store c.load_rows.new.conn) all was (c.in_ok-sessions.ensures.rows clean_1 all was) in
     let was_2 = still_there (state g.S.Store c.load_rows.new.conn) (state g.S.Store c.load_rows-2.new.conn) all was_1 (c.in_ok-papers.ensures.rows clean_2 all was_1) in
     let was_3 = still_there (state g.S.Store c.load_rows-2.new.conn) (state g.S.Store c.load_rows-3.new.conn) all was_2 (c.in_ok-halls.ensures.rows clean_3 all was_2) in
@@ -123,7 +125,7 @@ returns-in_err-entries-clause-bad g c = λ clean.
     let same_3 = unchanged_then (state g.S.Store c.args.conn.now) (state g.S.Store c.load_rows-2.new.conn) (state g.S.Store c.load_rows-3.new.conn) same_2 (c.in_ok-halls.ensures.left clean_3) in
     let same_4 = unchanged_then (state g.S.Store c.args.conn.now) (state g.S.Store c.load_rows-3.new.conn) (state g.S.Store c.load_rows-4.new.conn) same_3 (c.in_ok-openings.ensures.left clean_4) in
     let same_5 = unchanged_then (state g.S.Store c.args.conn.now) (state g.S.Store c.load_rows-4.new.conn) (state g.S.Store c.load_rows-5.new.conn) same_4 (c.in_ok-candidates.ensures.left clean_5) in
-    rw is (part_failed c.in_err-entries.field-0.0 (λ told. (c.load_rows-5.new.conn, still (state g.S.Store c.args.conn.now) (state g.S.Store c.load_rows-5.new.conn) same_5, told)) (λ none all was r holds.
+    rw is (part_failed c.in_err-entries.field-0.0 (λ told. (c.load_rows-5.new.conn, still (state g.S.Store c.args.conn.now) (state g.S.Store c.load_rows-5.new.conn) same_5, load_entry, entry_loads, told)) (λ none all was r holds.
     let was_1 = still_there (state g.S.Store c.args.conn.now) (state g.S.Store c.load_rows.new.conn) all was (c.in_ok-sessions.ensures.rows clean_1 all was) in
     let was_2 = still_there (state g.S.Store c.load_rows.new.conn) (state g.S.Store c.load_rows-2.new.conn) all was_1 (c.in_ok-papers.ensures.rows clean_2 all was_1) in
     let was_3 = still_there (state g.S.Store c.load_rows-2.new.conn) (state g.S.Store c.load_rows-3.new.conn) all was_2 (c.in_ok-halls.ensures.rows clean_3 all was_2) in
@@ -146,7 +148,7 @@ returns-in_err-arrangements-clause-bad g c = λ clean.
     let same_4 = unchanged_then (state g.S.Store c.args.conn.now) (state g.S.Store c.load_rows-3.new.conn) (state g.S.Store c.load_rows-4.new.conn) same_3 (c.in_ok-openings.ensures.left clean_4) in
     let same_5 = unchanged_then (state g.S.Store c.args.conn.now) (state g.S.Store c.load_rows-4.new.conn) (state g.S.Store c.load_rows-5.new.conn) same_4 (c.in_ok-candidates.ensures.left clean_5) in
     let same_6 = unchanged_then (state g.S.Store c.args.conn.now) (state g.S.Store c.load_rows-5.new.conn) (state g.S.Store c.load_rows-6.new.conn) same_5 (c.in_ok-entries.ensures.left clean_6) in
-    rw is (part_failed c.in_err-arrangements.field-0.0 (λ told. (c.load_rows-6.new.conn, still (state g.S.Store c.args.conn.now) (state g.S.Store c.load_rows-6.new.conn) same_6, told)) (λ none all was r holds.
+    rw is (part_failed c.in_err-arrangements.field-0.0 (λ told. (c.load_rows-6.new.conn, still (state g.S.Store c.args.conn.now) (state g.S.Store c.load_rows-6.new.conn) same_6, load_arrangement, arrangement_loads, told)) (λ none all was r holds.
     let was_1 = still_there (state g.S.Store c.args.conn.now) (state g.S.Store c.load_rows.new.conn) all was (c.in_ok-sessions.ensures.rows clean_1 all was) in
     let was_2 = still_there (state g.S.Store c.load_rows.new.conn) (state g.S.Store c.load_rows-2.new.conn) all was_1 (c.in_ok-papers.ensures.rows clean_2 all was_1) in
     let was_3 = still_there (state g.S.Store c.load_rows-2.new.conn) (state g.S.Store c.load_rows-3.new.conn) all was_2 (c.in_ok-halls.ensures.rows clean_3 all was_2) in
@@ -172,7 +174,7 @@ returns-in_err-appeals-clause-bad g c = λ clean.
     let same_5 = unchanged_then (state g.S.Store c.args.conn.now) (state g.S.Store c.load_rows-4.new.conn) (state g.S.Store c.load_rows-5.new.conn) same_4 (c.in_ok-candidates.ensures.left clean_5) in
     let same_6 = unchanged_then (state g.S.Store c.args.conn.now) (state g.S.Store c.load_rows-5.new.conn) (state g.S.Store c.load_rows-6.new.conn) same_5 (c.in_ok-entries.ensures.left clean_6) in
     let same_7 = unchanged_then (state g.S.Store c.args.conn.now) (state g.S.Store c.load_rows-6.new.conn) (state g.S.Store c.load_rows-7.new.conn) same_6 (c.in_ok-arrangements.ensures.left clean_7) in
-    rw is (part_failed c.in_err-appeals.field-0.0 (λ told. (c.load_rows-7.new.conn, still (state g.S.Store c.args.conn.now) (state g.S.Store c.load_rows-7.new.conn) same_7, told)) (λ none all was r holds.
+    rw is (part_failed c.in_err-appeals.field-0.0 (λ told. (c.load_rows-7.new.conn, still (state g.S.Store c.args.conn.now) (state g.S.Store c.load_rows-7.new.conn) same_7, load_appeal, appeal_loads, told)) (λ none all was r holds.
     let was_1 = still_there (state g.S.Store c.args.conn.now) (state g.S.Store c.load_rows.new.conn) all was (c.in_ok-sessions.ensures.rows clean_1 all was) in
     let was_2 = still_there (state g.S.Store c.load_rows.new.conn) (state g.S.Store c.load_rows-2.new.conn) all was_1 (c.in_ok-papers.ensures.rows clean_2 all was_1) in
     let was_3 = still_there (state g.S.Store c.load_rows-2.new.conn) (state g.S.Store c.load_rows-3.new.conn) all was_2 (c.in_ok-halls.ensures.rows clean_3 all was_2) in
@@ -292,3 +294,88 @@ returns-in_err-appeals-clause-left g c = λ clean.
     let same_6 = unchanged_then (state g.S.Store c.args.conn.now) (state g.S.Store c.load_rows-5.new.conn) (state g.S.Store c.load_rows-6.new.conn) same_5 (c.in_ok-entries.ensures.left clean_6) in
     let same_7 = unchanged_then (state g.S.Store c.args.conn.now) (state g.S.Store c.load_rows-6.new.conn) (state g.S.Store c.load_rows-7.new.conn) same_6 (c.in_ok-arrangements.ensures.left clean_7) in
     rw is (left_then (state g.S.Store c.args.conn.now) (state g.S.Store c.load_rows-7.new.conn) (state g.S.Store c.load_rows-8.new.conn) same_7 (c.in_err-appeals.ensures.left clean))
+
+pub returns-clause-survives : goal.returns-clause-survives
+returns-clause-survives g c =
+    let alive_2 = both_survive (state g.S.Store c.args.conn.now) (state g.S.Store c.load_rows.new.conn) (state g.S.Store c.load_rows-2.new.conn) c.load_rows.ensures.survives c.load_rows-2.ensures.survives in
+    let alive_3 = both_survive (state g.S.Store c.args.conn.now) (state g.S.Store c.load_rows-2.new.conn) (state g.S.Store c.load_rows-3.new.conn) alive_2 c.load_rows-3.ensures.survives in
+    let alive_4 = both_survive (state g.S.Store c.args.conn.now) (state g.S.Store c.load_rows-3.new.conn) (state g.S.Store c.load_rows-4.new.conn) alive_3 c.load_rows-4.ensures.survives in
+    let alive_5 = both_survive (state g.S.Store c.args.conn.now) (state g.S.Store c.load_rows-4.new.conn) (state g.S.Store c.load_rows-5.new.conn) alive_4 c.load_rows-5.ensures.survives in
+    let alive_6 = both_survive (state g.S.Store c.args.conn.now) (state g.S.Store c.load_rows-5.new.conn) (state g.S.Store c.load_rows-6.new.conn) alive_5 c.load_rows-6.ensures.survives in
+    let alive_7 = both_survive (state g.S.Store c.args.conn.now) (state g.S.Store c.load_rows-6.new.conn) (state g.S.Store c.load_rows-7.new.conn) alive_6 c.load_rows-7.ensures.survives in
+    both_survive (state g.S.Store c.args.conn.now) (state g.S.Store c.load_rows-7.new.conn) (state g.S.Store c.load_rows-8.new.conn) alive_7 c.load_rows-8.ensures.survives
+
+pub returns-in_err-papers-clause-survives : goal.returns-in_err-papers-clause-survives
+returns-in_err-papers-clause-survives g c =
+    both_survive (state g.S.Store c.args.conn.now) (state g.S.Store c.load_rows.new.conn) (state g.S.Store c.load_rows-2.new.conn) c.load_rows.ensures.survives c.load_rows-2.ensures.survives
+
+pub returns-in_err-halls-clause-survives : goal.returns-in_err-halls-clause-survives
+returns-in_err-halls-clause-survives g c =
+    let alive_2 = both_survive (state g.S.Store c.args.conn.now) (state g.S.Store c.load_rows.new.conn) (state g.S.Store c.load_rows-2.new.conn) c.load_rows.ensures.survives c.load_rows-2.ensures.survives in
+    both_survive (state g.S.Store c.args.conn.now) (state g.S.Store c.load_rows-2.new.conn) (state g.S.Store c.load_rows-3.new.conn) alive_2 c.load_rows-3.ensures.survives
+
+pub returns-in_err-openings-clause-survives : goal.returns-in_err-openings-clause-survives
+returns-in_err-openings-clause-survives g c =
+    let alive_2 = both_survive (state g.S.Store c.args.conn.now) (state g.S.Store c.load_rows.new.conn) (state g.S.Store c.load_rows-2.new.conn) c.load_rows.ensures.survives c.load_rows-2.ensures.survives in
+    let alive_3 = both_survive (state g.S.Store c.args.conn.now) (state g.S.Store c.load_rows-2.new.conn) (state g.S.Store c.load_rows-3.new.conn) alive_2 c.load_rows-3.ensures.survives in
+    both_survive (state g.S.Store c.args.conn.now) (state g.S.Store c.load_rows-3.new.conn) (state g.S.Store c.load_rows-4.new.conn) alive_3 c.load_rows-4.ensures.survives
+
+pub returns-in_err-candidates-clause-survives : goal.returns-in_err-candidates-clause-survives
+returns-in_err-candidates-clause-survives g c =
+    let alive_2 = both_survive (state g.S.Store c.args.conn.now) (state g.S.Store c.load_rows.new.conn) (state g.S.Store c.load_rows-2.new.conn) c.load_rows.ensures.survives c.load_rows-2.ensures.survives in
+    let alive_3 = both_survive (state g.S.Store c.args.conn.now) (state g.S.Store c.load_rows-2.new.conn) (state g.S.Store c.load_rows-3.new.conn) alive_2 c.load_rows-3.ensures.survives in
+    let alive_4 = both_survive (state g.S.Store c.args.conn.now) (state g.S.Store c.load_rows-3.new.conn) (state g.S.Store c.load_rows-4.new.conn) alive_3 c.load_rows-4.ensures.survives in
+    both_survive (state g.S.Store c.args.conn.now) (state g.S.Store c.load_rows-4.new.conn) (state g.S.Store c.load_rows-5.new.conn) alive_4 c.load_rows-5.ensures.survives
+
+pub returns-in_err-entries-clause-survives : goal.returns-in_err-entries-clause-survives
+returns-in_err-entries-clause-survives g c =
+    let alive_2 = both_survive (state g.S.Store c.args.conn.now) (state g.S.Store c.load_rows.new.conn) (state g.S.Store c.load_rows-2.new.conn) c.load_rows.ensures.survives c.load_rows-2.ensures.survives in
+    let alive_3 = both_survive (state g.S.Store c.args.conn.now) (state g.S.Store c.load_rows-2.new.conn) (state g.S.Store c.load_rows-3.new.conn) alive_2 c.load_rows-3.ensures.survives in
+    let alive_4 = both_survive (state g.S.Store c.args.conn.now) (state g.S.Store c.load_rows-3.new.conn) (state g.S.Store c.load_rows-4.new.conn) alive_3 c.load_rows-4.ensures.survives in
+    let alive_5 = both_survive (state g.S.Store c.args.conn.now) (state g.S.Store c.load_rows-4.new.conn) (state g.S.Store c.load_rows-5.new.conn) alive_4 c.load_rows-5.ensures.survives in
+    both_survive (state g.S.Store c.args.conn.now) (state g.S.Store c.load_rows-5.new.conn) (state g.S.Store c.load_rows-6.new.conn) alive_5 c.load_rows-6.ensures.survives
+
+pub returns-in_err-arrangements-clause-survives : goal.returns-in_err-arrangements-clause-survives
+returns-in_err-arrangements-clause-survives g c =
+    let alive_2 = both_survive (state g.S.Store c.args.conn.now) (state g.S.Store c.load_rows.new.conn) (state g.S.Store c.load_rows-2.new.conn) c.load_rows.ensures.survives c.load_rows-2.ensures.survives in
+    let alive_3 = both_survive (state g.S.Store c.args.conn.now) (state g.S.Store c.load_rows-2.new.conn) (state g.S.Store c.load_rows-3.new.conn) alive_2 c.load_rows-3.ensures.survives in
+    let alive_4 = both_survive (state g.S.Store c.args.conn.now) (state g.S.Store c.load_rows-3.new.conn) (state g.S.Store c.load_rows-4.new.conn) alive_3 c.load_rows-4.ensures.survives in
+    let alive_5 = both_survive (state g.S.Store c.args.conn.now) (state g.S.Store c.load_rows-4.new.conn) (state g.S.Store c.load_rows-5.new.conn) alive_4 c.load_rows-5.ensures.survives in
+    let alive_6 = both_survive (state g.S.Store c.args.conn.now) (state g.S.Store c.load_rows-5.new.conn) (state g.S.Store c.load_rows-6.new.conn) alive_5 c.load_rows-6.ensures.survives in
+    both_survive (state g.S.Store c.args.conn.now) (state g.S.Store c.load_rows-6.new.conn) (state g.S.Store c.load_rows-7.new.conn) alive_6 c.load_rows-7.ensures.survives
+
+pub returns-in_err-appeals-clause-survives : goal.returns-in_err-appeals-clause-survives
+returns-in_err-appeals-clause-survives g c =
+    let alive_2 = both_survive (state g.S.Store c.args.conn.now) (state g.S.Store c.load_rows.new.conn) (state g.S.Store c.load_rows-2.new.conn) c.load_rows.ensures.survives c.load_rows-2.ensures.survives in
+    let alive_3 = both_survive (state g.S.Store c.args.conn.now) (state g.S.Store c.load_rows-2.new.conn) (state g.S.Store c.load_rows-3.new.conn) alive_2 c.load_rows-3.ensures.survives in
+    let alive_4 = both_survive (state g.S.Store c.args.conn.now) (state g.S.Store c.load_rows-3.new.conn) (state g.S.Store c.load_rows-4.new.conn) alive_3 c.load_rows-4.ensures.survives in
+    let alive_5 = both_survive (state g.S.Store c.args.conn.now) (state g.S.Store c.load_rows-4.new.conn) (state g.S.Store c.load_rows-5.new.conn) alive_4 c.load_rows-5.ensures.survives in
+    let alive_6 = both_survive (state g.S.Store c.args.conn.now) (state g.S.Store c.load_rows-5.new.conn) (state g.S.Store c.load_rows-6.new.conn) alive_5 c.load_rows-6.ensures.survives in
+    let alive_7 = both_survive (state g.S.Store c.args.conn.now) (state g.S.Store c.load_rows-6.new.conn) (state g.S.Store c.load_rows-7.new.conn) alive_6 c.load_rows-7.ensures.survives in
+    both_survive (state g.S.Store c.args.conn.now) (state g.S.Store c.load_rows-7.new.conn) (state g.S.Store c.load_rows-8.new.conn) alive_7 c.load_rows-8.ensures.survives
+
+pub returns-clause-understood : goal.returns-clause-understood
+returns-clause-understood g c = λ clean.
+    let clean_7 = c.load_rows-8.ensures.early clean in
+    let clean_6 = c.load_rows-7.ensures.early clean_7 in
+    let clean_5 = c.load_rows-6.ensures.early clean_6 in
+    let clean_4 = c.load_rows-5.ensures.early clean_5 in
+    let clean_3 = c.load_rows-4.ensures.early clean_4 in
+    let clean_2 = c.load_rows-3.ensures.early clean_3 in
+    let clean_1 = c.load_rows-2.ensures.early clean_2 in
+    let at_0 = state g.S.Store c.args.conn.now in
+    let at_1 = state g.S.Store c.load_rows.new.conn in
+    let at_2 = state g.S.Store c.load_rows-2.new.conn in
+    let at_3 = state g.S.Store c.load_rows-3.new.conn in
+    let at_4 = state g.S.Store c.load_rows-4.new.conn in
+    let at_5 = state g.S.Store c.load_rows-5.new.conn in
+    let at_6 = state g.S.Store c.load_rows-6.new.conn in
+    let at_7 = state g.S.Store c.load_rows-7.new.conn in
+    let same_1 = c.in_ok-sessions.ensures.left clean_1 in
+    let same_2 = unchanged_then at_0 at_1 at_2 same_1 (c.in_ok-papers.ensures.left clean_2) in
+    let same_3 = unchanged_then at_0 at_2 at_3 same_2 (c.in_ok-halls.ensures.left clean_3) in
+    let same_4 = unchanged_then at_0 at_3 at_4 same_3 (c.in_ok-openings.ensures.left clean_4) in
+    let same_5 = unchanged_then at_0 at_4 at_5 same_4 (c.in_ok-candidates.ensures.left clean_5) in
+    let same_6 = unchanged_then at_0 at_5 at_6 same_5 (c.in_ok-entries.ensures.left clean_6) in
+    let same_7 = unchanged_then at_0 at_6 at_7 same_6 (c.in_ok-arrangements.ensures.left clean_7) in
+    (c.in_ok-sessions.ensures.understood clean_1, (understood_before load_paper at_0 at_1 same_1 (c.in_ok-papers.ensures.understood clean_2), (understood_before load_hall at_0 at_2 same_2 (c.in_ok-halls.ensures.understood clean_3), (understood_before load_candidate at_0 at_4 same_4 (c.in_ok-candidates.ensures.understood clean_5), (understood_before load_opening at_0 at_3 same_3 (c.in_ok-openings.ensures.understood clean_4), (understood_before load_entry at_0 at_5 same_5 (c.in_ok-entries.ensures.understood clean_6), (understood_before load_arrangement at_0 at_6 same_6 (c.in_ok-arrangements.ensures.understood clean_7), (understood_before load_appeal at_0 at_7 same_7 (c.in_ok-appeals.ensures.understood clean), tt))))))))

@@ -1,18 +1,16 @@
-use Rattle.std.proofs.Common.{inl, inr, map, sym, subst}
-use Rattle.std.specs.List.Sorted.{IsPermutation}
+use Rattle.std.proofs.Common.{inl, inr, sym, subst}
 use Rattle.sqlite.specs.Held.{state}
 use Rattle.std.proofs.lemmas.Result.{IfOk-weaker, IfErr-weaker}
-use Rattle.exam_rows.proofs.Inserting.{shown_entries}
 use Rattle.exam_rows.specs.Loaded.{AreRowsOf}
-use Rattle.exam_rows.proofs.Leaving.{reads_only}
-use Rattle.exam_rows.proofs.Refusing.{rows_shown}
+use Rattle.exam_rows.proofs.Leaving.{reads_only, understood_still}
+use Rattle.exam_rows.proofs.Refusing.{rows_held, rows_shown}
 use Rattle.exam_rows.proofs.table.load_rows.Goals as goal
 
 pub returns-clause-rows : goal.returns-clause-rows
 returns-clause-rows g c = λ clean.
     IfOk-weaker c.read_rows.result _ _ (λ table read all was.
     let it = c.in_ok-rows.ensures.rows clean all was in
-    (shown_entries (λ e. g.T.Table.row_of e.0 e.1) (all g.T.Table.tree) c.in_ok-rows.rows.items table.entries it.0 (subst (λ rows. IsPermutation rows (map (λ e. g.T.Table.row_of e.0 e.1) table.entries)) c.as_slice.ensures.value read), it.1)) c.read_rows.ensures.rows
+    (rows_held c.in_ok-rows.rows.items (all g.T.Table.tree) table.entries it.0 (subst (λ rows. AreRowsOf g.T.Key.Ord.cmp g.T.Table.IsRow g.T.Table.row_of rows table.entries) c.as_slice.ensures.value read), it.1)) c.read_rows.ensures.rows
 
 pub returns-clause-bad : goal.returns-clause-bad
 returns-clause-bad g c = λ clean match.
@@ -29,3 +27,6 @@ returns-clause-bad g c = λ clean match.
 
 pub returns-clause-left : goal.returns-clause-left
 returns-clause-left g c = λ clean. reads_only (state g.S.Store c.args.conn.now) (state g.S.Store c.shown.new.conn) c.read_rows.result (c.in_ok-rows.ensures.left clean)
+
+pub returns-clause-understood : goal.returns-clause-understood
+returns-clause-understood g c = λ clean. understood_still c.read_rows.result (c.in_ok-rows.ensures.understood clean)

@@ -1,5 +1,6 @@
 use Rattle.std.proofs.Common.{◌≡◌, ◌∷◌, [], ◌++◌, ◌+◌, Err, inl, inr, take, drop, sym, ap, ◌∙◌, rules}
 use Rattle.std.proofs.lemmas.List.{take_more, take-append-drop}
+use Rattle.sqlite_trees.proofs.ListLemmas.{all-permutation}
 use Rattle.exam_rows.proofs.Inserting.{one_read}
 use Rattle.exam_rows.proofs.Reading.{found}
 use Rattle.exam_rows.proofs.Refusing.{no_form, no_twice}
@@ -10,7 +11,12 @@ rows-preserved g c =
     let done = take c.rows.row-index c.args.rows.now in
     let row = c.row-item.result in
     let more : take (c.rows.row-index + 1) c.args.rows.now ≡ done ++ row ∷ [] = search (rules, take_more) in
-    one_read (λ e. g.T.Table.row_of e.0 e.1) done _ row (c.in_ok-key.key, c.in_ok-key.value) c.rows.table.entries c.add_row.new.table.entries more (found (c.in_ok-key.key, c.in_ok-key.value) c.in_ok-key.ensures.read).1 c.rows.invariant c.in_ok-add_row.ensures.ok
+    let read = found (c.in_ok-key.key, c.in_ok-key.value) c.in_ok-key.ensures.read in
+    record {
+      rises = c.add_row.ensures.rises;
+      forms = all-permutation (λ e. g.T.Table.IsRow e.0 e.1) _ _ c.in_ok-add_row.ensures.ok (read.0, c.rows.invariant.forms);
+      same = one_read (λ e. g.T.Table.row_of e.0 e.1) done _ row (c.in_ok-key.key, c.in_ok-key.value) c.rows.table.entries c.add_row.new.table.entries more read.1 c.rows.invariant.same c.in_ok-add_row.ensures.ok;
+    }
 
 pub returns-in_err-key-clause-bad : goal.returns-in_err-key-clause-bad
 returns-in_err-key-clause-bad g c =
@@ -38,6 +44,6 @@ returns-in_err-add_row-clause-bad g c =
         twice.0,
         λ match entries table.
             no_twice g.met.T.Key.Ord.total match c.in_ok-key.key c.in_ok-key.value rows done (drop (c.rows.row-index + 1) rows) c.rows.table.entries entries
-            (sym (take-append-drop (c.rows.row-index + 1) rows) ∙ ap (λ l. l ++ drop (c.rows.row-index + 1) rows) (more ∙ ap (λ r. done ++ r ∷ []) read.1)) c.rows.invariant twice.1 table.rises table.same,
+            (sym (take-append-drop (c.rows.row-index + 1) rows) ∙ ap (λ l. l ++ drop (c.rows.row-index + 1) rows) (more ∙ ap (λ r. done ++ r ∷ []) read.1)) c.rows.invariant.same twice.1 table.rises table.same,
       )
     ])

@@ -1,6 +1,6 @@
-use Rattle.std.proofs.Common.{map, take}
-use Rattle.std.specs.List.Sorted.{IsPermutation}
+use Rattle.std.proofs.Common.{take}
+use Rattle.exam_rows.specs.Loaded.{AreRowsOf}
 use Rattle.exam_rows.proofs.table.read_rows.Given as goal
 
 abbrev pub invariant-rows : goal.invariant-rows
-invariant-rows g l = IsPermutation (take l.row-index l.rows) (map (λ e. g.T.Table.row_of e.0 e.1) l.table.entries)
+invariant-rows g l = AreRowsOf g.T.Key.Ord.cmp g.T.Table.IsRow g.T.Table.row_of (take l.row-index l.rows) l.table.entries

@@ -11,7 +11,7 @@ pub loop-key-init : goal.loop-key-init
 loop-key-init c = let start : c.into_iter-key-iterator.result ≡ c.entries_from-key-items.result = search rules in (
   tt,
   tt,
-  λ s. ap (λ o. with_member c.args.number o (listed c.args.members.now.entries s)) (ap (first_in (relations_of c.args.facts.now) c.args.number s) start ∙ ap head_of (c.entries_from-key-items.ensures s)),
+  λ s. ap (λ o. with_member c.args.number o (listed c.args.members.now.entries s)) (ap (first_in (relations_of c.args.facts.now) c.args.number s) start ∙ ap head_of (c.entries_from-key-items.ensures.live s)),
 )
 
 -- a list where one is appended or none

@@ -13,7 +13,7 @@ returns-clause-made g c = λ text.
     let key = c.args.key.now in
     let it = c.args.appeal.now in
     makes_by old new appeal.put_text (appeal.row (pos key.0) key.1 it.session (pos (kind_of it.subject)) (target_of it.subject) (pos (needs_of it.subject)) (pos (extra_of it.subject)) it.reason (pos (state_of it.status)) (answer_of it.status) (day_text it.lodged)) c.run.result _
-    (λ count. appeal.puts old new (pos key.0) key.1 it.session (pos (kind_of it.subject)) (target_of it.subject) (pos (needs_of it.subject)) (pos (extra_of it.subject)) it.reason (pos (state_of it.status)) (answer_of it.status) (day_text it.lodged) (Ok count)) (appeal.put_fails old new (pos key.0) key.1 it.session (pos (kind_of it.subject)) (target_of it.subject) (pos (needs_of it.subject)) (pos (extra_of it.subject)) it.reason (pos (state_of it.status)) (answer_of it.status) (day_text it.lodged))
+    (λ count. appeal.puts old new (pos key.0) key.1 it.session (pos (kind_of it.subject)) (target_of it.subject) (pos (needs_of it.subject)) (pos (extra_of it.subject)) it.reason (pos (state_of it.status)) (answer_of it.status) (day_text it.lodged) (Ok count)) (appeal.put_answers old new (pos key.0) key.1 it.session (pos (kind_of it.subject)) (target_of it.subject) (pos (needs_of it.subject)) (pos (extra_of it.subject)) it.reason (pos (state_of it.status)) (answer_of it.status) (day_text it.lodged))
     (rw (
       c.from.ensures,
       c.get.ensures.value,

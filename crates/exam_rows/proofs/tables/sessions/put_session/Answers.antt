@@ -9,5 +9,5 @@ returns-clause-made g c =
     let old = state g.S.Store c.args.tx.now.conn.now in
     let new = state g.S.Store c.run.new.tx.conn.now in
     makes_by old new session.put_text (session.row c.args.code.now c.args.day.now (pos c.args.start)) c.run.result _
-    (λ count. session.puts old new c.args.code.now c.args.day.now (pos c.args.start) (Ok count)) (session.put_fails old new c.args.code.now c.args.day.now (pos c.args.start))
+    (λ count. session.puts old new c.args.code.now c.args.day.now (pos c.args.start) (Ok count)) (session.put_answers old new c.args.code.now c.args.day.now (pos c.args.start))
     (rw (c.as_bytes.ensures.value, c.from.ensures, c.get.ensures.value, passed c.args.start (omega (arith, c.get.ensures.range))) at c.run.ensures.ran) (rw (c.as_bytes.ensures.value, c.from.ensures, c.get.ensures.value, passed c.args.start (omega (arith, c.get.ensures.range))) at c.run.ensures.failed) c.run.ensures.kept c.run.ensures.survives c.run.ensures.told

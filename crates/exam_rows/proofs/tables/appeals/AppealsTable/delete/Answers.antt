@@ -10,5 +10,5 @@ returns-clause-made g c =
     let old = state g.S.Store c.args.tx.now.conn.now in
     let new = state g.S.Store c.run.new.tx.conn.now in
     makes_by old new appeal.delete_text (Int (pos c.args.key.now.0) ∷ Text c.args.key.now.1 ∷ []) c.run.result _
-    (λ count. appeal.deletes old new (pos c.args.key.now.0) c.args.key.now.1 (Ok count)) (appeal.delete_fails old new (pos c.args.key.now.0) c.args.key.now.1)
+    (λ count. appeal.deletes old new (pos c.args.key.now.0) c.args.key.now.1 (Ok count)) (appeal.delete_answers old new (pos c.args.key.now.0) c.args.key.now.1)
     (rw (c.from.ensures, c.get.ensures.value, passed c.args.key.now.0 (omega (arith, c.get.ensures.range)), c.as_bytes.ensures.value) at c.run.ensures.ran) (rw (c.from.ensures, c.get.ensures.value, passed c.args.key.now.0 (omega (arith, c.get.ensures.range)), c.as_bytes.ensures.value) at c.run.ensures.failed) c.run.ensures.kept c.run.ensures.survives c.run.ensures.told

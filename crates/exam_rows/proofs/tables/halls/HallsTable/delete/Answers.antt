@@ -10,5 +10,5 @@ returns-clause-made g c =
     let old = state g.S.Store c.args.tx.now.conn.now in
     let new = state g.S.Store c.run.new.tx.conn.now in
     makes_by old new hall.delete_text (Text c.args.code.now ∷ []) c.run.result _
-    (λ count. hall.deletes old new c.args.code.now (Ok count)) (hall.delete_fails old new c.args.code.now)
+    (λ count. hall.deletes old new c.args.code.now (Ok count)) (hall.delete_answers old new c.args.code.now)
     (rw (c.as_bytes.ensures.value) at c.run.ensures.ran) (rw (c.as_bytes.ensures.value) at c.run.ensures.failed) c.run.ensures.kept c.run.ensures.survives c.run.ensures.told

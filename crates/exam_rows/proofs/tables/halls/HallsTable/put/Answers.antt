@@ -10,5 +10,5 @@ returns-clause-made g c =
     let old = state g.S.Store c.args.tx.now.conn.now in
     let new = state g.S.Store c.run.new.tx.conn.now in
     makes_by old new hall.put_text (hall.row c.args.code.now c.args.hall.now.title (pos (features_sum c.args.hall.now.features))) c.run.result _
-    (λ count. hall.puts old new c.args.code.now c.args.hall.now.title (pos (features_sum c.args.hall.now.features)) (Ok count)) (hall.put_fails old new c.args.code.now c.args.hall.now.title (pos (features_sum c.args.hall.now.features)))
+    (λ count. hall.puts old new c.args.code.now c.args.hall.now.title (pos (features_sum c.args.hall.now.features)) (Ok count)) (hall.put_answers old new c.args.code.now c.args.hall.now.title (pos (features_sum c.args.hall.now.features)))
     (rw (c.as_bytes.ensures.value, c.as_bytes-2.ensures.value, c.as_str.ensures.value, c.from.ensures, c.sum.ensures.value, passed (features_sum c.args.hall.now.features) (omega (arith, c.sum.ensures.range, c.sum.ensures.value))) at c.run.ensures.ran) (rw (c.as_bytes.ensures.value, c.as_bytes-2.ensures.value, c.as_str.ensures.value, c.from.ensures, c.sum.ensures.value, passed (features_sum c.args.hall.now.features) (omega (arith, c.sum.ensures.range, c.sum.ensures.value))) at c.run.ensures.failed) c.run.ensures.kept c.run.ensures.survives c.run.ensures.told

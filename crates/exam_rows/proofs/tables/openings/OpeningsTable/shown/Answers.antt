@@ -2,7 +2,7 @@ use Rattle.std.proofs.lemmas.Result.{IfOk-weaker}
 use Rattle.sqlite.specs.Held.{state}
 use Rattle.exam_tables.proofs.OfOpening as opening
 use Rattle.exam_tables.proofs.Quiet.{opening_is_query}
-use Rattle.exam_rows.proofs.Leaving.{query_reads}
+use Rattle.exam_rows.proofs.Leaving.{query_reads, query_survives, query_understood, fails_to_load}
 use Rattle.exam_rows.proofs.tables.openings.OpeningsTable.shown.Goals as goal
 
 pub returns-clause-rows : goal.returns-clause-rows
@@ -14,3 +14,12 @@ returns-clause-rows g c = λ clean.
 pub returns-clause-left : goal.returns-clause-left
 returns-clause-left g c = λ clean.
     query_reads (λ rows. rows.items) opening.load_text opening_is_query (state g.S.Store c.args.conn.now) (state g.S.Store c.all_rows.new.conn) c.all_rows.result (c.all_rows.ensures.shown clean) (c.all_rows.ensures.failed clean)
+
+pub returns-clause-survives : goal.returns-clause-survives
+returns-clause-survives g c = query_survives opening.load_text opening_is_query (state g.S.Store c.args.conn.now) (state g.S.Store c.all_rows.new.conn) c.all_rows.ensures.survives
+
+pub returns-clause-failed : goal.returns-clause-failed
+returns-clause-failed g c = λ clean. fails_to_load opening.load_text opening.load_fails (state g.S.Store c.args.conn.now) (state g.S.Store c.all_rows.new.conn) c.all_rows.result (c.all_rows.ensures.failed clean)
+
+pub returns-clause-understood : goal.returns-clause-understood
+returns-clause-understood g c = λ clean. query_understood (λ rows. rows.items) opening.load_text (state g.S.Store c.args.conn.now) (state g.S.Store c.all_rows.new.conn) c.all_rows.result (c.all_rows.ensures.shown clean)

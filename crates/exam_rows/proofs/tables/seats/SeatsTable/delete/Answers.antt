@@ -10,5 +10,5 @@ returns-clause-made g c =
     let old = state g.S.Store c.args.tx.now.conn.now in
     let new = state g.S.Store c.run.new.tx.conn.now in
     makes_by old new seat.delete_text (Text c.args.key.now.0 ∷ Int (pos c.args.key.now.1) ∷ []) c.run.result _
-    (λ count. seat.deletes old new c.args.key.now.0 (pos c.args.key.now.1) (Ok count)) (seat.delete_fails old new c.args.key.now.0 (pos c.args.key.now.1))
+    (λ count. seat.deletes old new c.args.key.now.0 (pos c.args.key.now.1) (Ok count)) (seat.delete_answers old new c.args.key.now.0 (pos c.args.key.now.1))
     (rw (c.as_bytes.ensures.value, c.from.ensures, c.get.ensures.value, passed c.args.key.now.1 (omega (arith, c.get.ensures.range))) at c.run.ensures.ran) (rw (c.as_bytes.ensures.value, c.from.ensures, c.get.ensures.value, passed c.args.key.now.1 (omega (arith, c.get.ensures.range))) at c.run.ensures.failed) c.run.ensures.kept c.run.ensures.survives c.run.ensures.told

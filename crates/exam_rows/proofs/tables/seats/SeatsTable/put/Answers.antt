@@ -9,5 +9,5 @@ returns-clause-made g c =
     let old = state g.S.Store c.args.tx.now.conn.now in
     let new = state g.S.Store c.run.new.tx.conn.now in
     makes_by old new seat.put_text (seat.row c.args.key.now.0 (pos c.args.key.now.1) c.args.hall.now) c.run.result _
-    (λ count. seat.puts old new c.args.key.now.0 (pos c.args.key.now.1) c.args.hall.now (Ok count)) (seat.put_fails old new c.args.key.now.0 (pos c.args.key.now.1) c.args.hall.now)
+    (λ count. seat.puts old new c.args.key.now.0 (pos c.args.key.now.1) c.args.hall.now (Ok count)) (seat.put_answers old new c.args.key.now.0 (pos c.args.key.now.1) c.args.hall.now)
     (rw (c.as_bytes.ensures.value, c.from.ensures, c.get.ensures.value, passed c.args.key.now.1 (omega (arith, c.get.ensures.range)), c.as_bytes-2.ensures.value) at c.run.ensures.ran) (rw (c.as_bytes.ensures.value, c.from.ensures, c.get.ensures.value, passed c.args.key.now.1 (omega (arith, c.get.ensures.range)), c.as_bytes-2.ensures.value) at c.run.ensures.failed) c.run.ensures.kept c.run.ensures.survives c.run.ensures.told
