@@ -116,16 +116,18 @@ Reports contents (Ok done) before status after = (status ≡ 0) × (after ≡ be
 Reports contents (Err failed) before status after =
     (status ≡ 1) × AppendsBeginning (contents before) (contents after) (fault_text failed)
 
+-- what a writer of this type has taken, where that is known
+abbrev pub Contents : Type 0 → Type 0
+Contents W = W → Option (List ℕ)
+
 -- the exit status of a request for help, whose text goes to standard output; a fault is told as any other
-abbrev pub ReportsHelp : {O E : Type 0} → (O → Option (List ℕ)) → (E → Option (List ℕ)) → List ℕ → O → E → ℕ → O → E
-    → Type 0
+abbrev pub ReportsHelp : {O E : Type 0} → Contents O → Contents E → List ℕ → O → E → ℕ → O → E → Type 0
 ReportsHelp contents errors text before untold status after told =
     (result : Result (Unit {0}) JobFault) × Prints contents text before result after
     × Reports errors result untold status told
 
 -- the exit status of words that are no line, and what is told of them
-abbrev pub ReportsNoLine : {O E : Type 0} → (O → Option (List ℕ)) → (E → Option (List ℕ)) → LineFault → O → E → ℕ → O → E
-    → Type 0
+abbrev pub ReportsNoLine : {O E : Type 0} → Contents O → Contents E → LineFault → O → E → ℕ → O → E → Type 0
 ReportsNoLine contents errors (line.Help text) before untold status after told =
     ReportsHelp contents errors (string_bytes text) before untold status after told
 ReportsNoLine contents errors line.NotUnderstood before untold status after told =
