@@ -54,7 +54,7 @@ pub fn print_after<O: Write>(
     let mut store = Store::in_memory(alloc)?;
     let outcomes = follow_all(alloc, &mut store, orders)?;
     let printed = print_asked(alloc, &mut store, words, out);
-    store.is_seated();
+    store.show_seated();
     one_step_has_one_result();
     Ok(EndOfDay {
         store,

@@ -25,7 +25,7 @@ pub fn shortage_sheet<W: Write>(
         × Writes W.contents result writer.old writer.new (Ok (spec.shortage_text view.now.code report)) }
 {
     // There is a sheet also where memory does not last for it.
-    view.has_shortage();
+    view.show_shortage();
     let shortage = view.shortage(alloc)?;
     let text = shortage_text(alloc, view.code(), &shortage)?;
     send(writer, text.as_slice())

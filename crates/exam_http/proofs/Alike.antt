@@ -115,7 +115,7 @@ module _ {S T : Type 0} (g : Ghosts S) (h : Ghosts T) (today : ℕ) (request : R
   chosen : (own : Option OwnRows) (c : Choice) → choice_of request own ≡ c → own_named one.office request ≡ own → own_named other.office request ≡ own
       → Does g today own one c first one_after → Does h today own other c second other_after → AreAlike first second
   chosen own (choice.Fault fault) e left right a b = inr (inr (a.0 ∙ sym b.0))
-  chosen own (choice.OtherMethod place) e left right a b = inr (inr (a.0 ∙ sym b.0))
+  chosen own (choice.OtherMethod route) e left right a b = inr (inr (a.0 ∙ sym b.0))
   chosen own (choice.Refused refused) e left right a b = inr (inr (a.0 ∙ sym b.0))
   chosen own choice.ShowSeats e left right a b = shown seats_body own first second a.0 b.0
   chosen own choice.ShowClashes e left right a b = shown clashes_body own first second a.0 b.0

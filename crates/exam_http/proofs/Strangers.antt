@@ -19,15 +19,15 @@ use Rattle.exam_http.specs.Answering.{Answers, Does, own_named}
 -- nothing is shown, and nothing is done
 abbrev IsPlain : Choice → Type 0
 IsPlain (choice.Fault fault) = ⊤
-IsPlain (choice.OtherMethod place) = ⊤
+IsPlain (choice.OtherMethod route) = ⊤
 IsPlain (choice.Refused refusal) = ⊤
 IsPlain other = ⊥
 
 plain_by : (request : Request) (found : Option Target) → IsPlain (choice_by request None found)
 plain_by request None = tt
-plain_by request (Some t) = by (is_allowed t.place request.method)
+plain_by request (Some t) = by (is_allowed t.route request.method)
   where
-    by : (v : Bool) → IsPlain (cond v (choice.Refused UnknownCandidate) (choice.OtherMethod t.place))
+    by : (v : Bool) → IsPlain (cond v (choice.Refused UnknownCandidate) (choice.OtherMethod t.route))
     by true = tt
     by false = tt
 
@@ -35,7 +35,7 @@ module _ {S T : Type 0} (g : Ghosts S) (h : Ghosts T) (today later : ℕ) (one o
   told_alike : (own own_2 : Option OwnRows) (c : Choice) → IsPlain c → Does g today own one c first one_after → Does h later own_2 other c second other_after
       → AreAlike first second × (one_after ≡ one)
   told_alike own own_2 (choice.Fault fault) plain a b = (inr (inr (a.0 ∙ sym b.0)), a.1)
-  told_alike own own_2 (choice.OtherMethod place) plain a b = (inr (inr (a.0 ∙ sym b.0)), a.1)
+  told_alike own own_2 (choice.OtherMethod route) plain a b = (inr (inr (a.0 ∙ sym b.0)), a.1)
   told_alike own own_2 (choice.Refused refused) plain a b = (inr (inr (a.0 ∙ sym b.0)), a.1)
   told_alike own own_2 choice.ShowSeats plain a b = absurd plain
   told_alike own own_2 choice.ShowClashes plain a b = absurd plain
@@ -44,7 +44,7 @@ module _ {S T : Type 0} (g : Ghosts S) (h : Ghosts T) (today later : ℕ) (one o
 
   unchanged : (own : Option OwnRows) (c : Choice) → IsPlain c → Does g today own one c first one_after → one_after ≡ one
   unchanged own (choice.Fault fault) plain a = a.1
-  unchanged own (choice.OtherMethod place) plain a = a.1
+  unchanged own (choice.OtherMethod route) plain a = a.1
   unchanged own (choice.Refused refused) plain a = a.1
   unchanged own choice.ShowSeats plain a = absurd plain
   unchanged own choice.ShowClashes plain a = absurd plain

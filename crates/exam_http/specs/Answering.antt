@@ -46,7 +46,7 @@ Shows body (Some own) told = told ≡ ok_told (body own)
 -- retraction are applied to it, and anything else leaves it as it is.
 abbrev pub Does : {S : Type 0} → Ghosts S → ℕ → Option OwnRows → OfficeIn S → Choice → Told → OfficeIn S → Type 0
 Does g today own old (choice.Fault fault) told new = (told ≡ error_told (fault_number fault)) × (new ≡ old)
-Does g today own old (choice.OtherMethod place) told new = (told ≡ method_told place) × (new ≡ old)
+Does g today own old (choice.OtherMethod route) told new = (told ≡ method_told route) × (new ≡ old)
 Does g today own old (choice.Refused refusal) told new = (told ≡ refusal_told refusal) × (new ≡ old)
 Does g today own old choice.ShowSeats told new = Shows seats_body own told × (new ≡ old)
 Does g today own old choice.ShowClashes told new = Shows clashes_body own told × (new ≡ old)

@@ -85,7 +85,7 @@ fn done<S: Alter>(
 {
     match choice {
         Choice::Fault(fault) => Answer::error(fault.number()),
-        Choice::OtherMethod(place) => Answer::other_method(place),
+        Choice::OtherMethod(route) => Answer::other_method(route),
         Choice::Refused(refusal) => Answer::refusal(refusal),
         Choice::ShowSeats => seats(alloc, &own),
         Choice::ShowClashes => clashes(alloc, &own),

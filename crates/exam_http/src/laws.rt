@@ -13,7 +13,7 @@ use sqlite::Alter;
 
 /// Two offices that show the candidate whom a request names the same answer the request the same on a day,
 /// unless one of them fails: nobody learns anything of another candidate. The office of a store is good and in
-/// order (`Office::is_good`, `Office::is_in_order`).
+/// order (`Office::show_good`, `Office::show_order`).
 pub fn own_rows_decide_an_answer<S: Alter, T: Alter>()
     ensures { (today : ℕ) (request : Request) (one one_after : OfficeIn S) (other other_after : OfficeIn T)
         (first second : Told) → IsGood one.office → IsInOrder one.office → IsGood other.office

@@ -1,4 +1,3 @@
 pub mod Given
-pub mod Told
 pub mod Shown
 pub mod Imported

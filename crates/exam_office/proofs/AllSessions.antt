@@ -25,9 +25,6 @@ use Rattle.exam_office.specs.Repairs.{IsRepaired}
 -- ---- where nothing fits
 
 module _ {C H : Type 0} (g : Seating C H) (nothing : (c : C) (h : H) → g.fits c h ≡ false) where
-  nobody : Plan C H
-  nobody c = None
-
   no_fit : (c : C) (h : H) → IsTrue (g.fits c h) → ⊥
   no_fit c h fit = let e : true ≡ false = sym fit ∙ nothing c h in cc
 

@@ -215,11 +215,6 @@ module _ (before : State) (good : IsGood before) (today : ℕ) (l : Lodging) whe
   lodging_limited t ok is e (inl memory) = inl memory
   lodging_limited t ok is e (inr past) = inr (subst (λ (x : Refusal). Step (command.Lodge l) today before (Err x) before) (sym past.0) (lodging_past t ok past.1 is))
 
-  pub lodging_refused : (e : Refusal) → spec.standing_refusal before.relations before.seats today l ≡ Some e → Step (command.Lodge l) today before (Err e) before
-  lodging_refused e refused =
-      let new : Relations = spec.with_lodging before.relations today l in
-      refused_step (command.Lodge l) today before e (ap (λ o. unless (option_or o (first_refusal (spec.one_too_many before.relations today l ∷ []))) new) refused)
-
 -- ---- a retraction
 
 count_same : (r : Relations) (k : ℕ × Code) (a b : Appeal) → AreInOrder r → row_at appeal_cmp r.appeals k ≡ Some b → within_limits (with_appeals r (put_row appeal_cmp r.appeals k a)) ≡ within_limits r
@@ -292,6 +287,3 @@ module _ (before : State) (good : IsGood before) (c : ℕ) (reference : Code) wh
       let plans_new : ArePlansRepaired new before after = subst (λ u. ArePlansRepaired u before after) is plans in
       accepted_step (command.Retract c reference) today before after new (ap (λ o. unless o new) ok) (facts ∙ is) order_after up_new good plans_new
       (all_stay before after good new (retraction_settled new order ok refl).seated up_new plans_new (λ d. c ≡ d))
-
-  pub retraction_refused : (today : ℕ) (e : Refusal) → spec.retraction_refusal before.relations c reference ≡ Some e → Step (command.Retract c reference) today before (Err e) before
-  retraction_refused today e refused = refused_step (command.Retract c reference) today before e (ap (λ o. unless o (spec.with_retraction before.relations c reference)) refused)

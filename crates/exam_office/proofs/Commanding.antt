@@ -1,5 +1,5 @@
 -- A withdrawal, a reinstatement and the closing of a hall are steps.
-use Rattle.std.proofs.Common.{◌≡◌, ℕ, not, Bool, true, false, cond, [], ◌∷◌, None, Some, Ok, Err, refl, ap, sym, subst, ◌∙◌, ◌⊎◌, inl, inr}
+use Rattle.std.proofs.Common.{◌≡◌, ℕ, not, Bool, true, false, cond, [], ◌∷◌, None, Some, Ok, refl, ap, sym, subst, ◌∙◌, ◌⊎◌, inl, inr}
 use Rattle.std.specs.Option.{option_or}
 use Rattle.exam_types.specs.declared.refusal.Refusal.{Refusal}
 use Rattle.exam_types.specs.declared.refusal.Refusal.TheVariants as refusal
@@ -9,7 +9,7 @@ use Rattle.exam_rules.specs.Seatings.{seating, plan_of}
 use Rattle.exam_rules.specs.Names.{ListsRise}
 use Rattle.exam_office.specs.declared.command.Command.TheVariants as command
 use Rattle.exam_office.specs.declared.command.Reply.TheVariants as reply
-use Rattle.exam_office.specs.Changes.{unless, first_refusal, too_many, no_entry, with_live, withdrawal_refusal, revival_refusal, reinstatement_refusal, without_opening, closing_refusal}
+use Rattle.exam_office.specs.Changes.{unless, no_entry, with_live, withdrawal_refusal, revival_refusal, reinstatement_refusal, without_opening, closing_refusal}
 use Rattle.exam_office.specs.Good.{IsGood, refers}
 use Rattle.exam_office.specs.Limits.{within_limits}
 use Rattle.exam_office.specs.Orders.{IsInOrder}
@@ -21,7 +21,7 @@ use Rattle.exam_office.proofs.Keeping.{others_stay}
 use Rattle.exam_office.proofs.LiveMarks.{fits_same, withdrawal_within}
 use Rattle.exam_office.proofs.Referring.{live_refers, closing_refers}
 use Rattle.exam_office.proofs.Staying.{kept_stays}
-use Rattle.exam_office.proofs.Stepping.{accepted_step, refused_step}
+use Rattle.exam_office.proofs.Stepping.{accepted_step}
 
 -- the plans of all sessions are repaired for these facts
 abbrev pub ArePlansRepaired : Relations → State → State → Type 0
@@ -65,9 +65,6 @@ module _ (before : State) (good : IsGood before) (c : ℕ) (p : Code) where
       accepted_step (command.Withdraw c p) today before after new (ap (λ o. unless o new) ok) (facts ∙ is) order (subst DoListsRise is up) good (subst (λ u. ArePlansRepaired u before after) is plans)
       (others_seated false after (subst (λ u. ArePlansRepaired u before after) is plans))
 
-  pub withdrawal_refused : (today : ℕ) (e : Refusal) → withdrawal_refusal before.relations c p ≡ Some e → Step (command.Withdraw c p) today before (Err e) before
-  withdrawal_refused today e refused = refused_step (command.Withdraw c p) today before e (ap (λ o. unless o (with_live before.relations c p false)) refused)
-
   -- ---- a reinstatement
 
   limits_refusal : (b : Bool) → within_limits (with_live before.relations c p true) ≡ b → reinstatement_refusal before.relations c p ≡ option_or (revival_refusal before.relations c p) (cond (not b) (Some refusal.TooMany) None)
@@ -84,17 +81,6 @@ module _ (before : State) (good : IsGood before) (c : ℕ) (p : Code) where
       (ap (λ o. unless o new) (limits_refusal true (ap within_limits (sym is) ∙ within)) ∙ ap (λ o. unless (option_or o None) new) ok)
       (facts ∙ is) order (subst DoListsRise is up) good (subst (λ u. ArePlansRepaired u before after) is plans)
       (others_seated true after (subst (λ u. ArePlansRepaired u before after) is plans))
-
-  pub reinstatement_refused : (today : ℕ) (e : Refusal) → revival_refusal before.relations c p ≡ Some e → Step (command.Reinstate c p) today before (Err e) before
-  reinstatement_refused today e refused =
-      let new : Relations = with_live before.relations c p true in
-      refused_step (command.Reinstate c p) today before e (ap (λ o. unless (option_or o (first_refusal (too_many new ∷ []))) new) refused)
-
-  pub reinstatement_past : (today : ℕ) (t : Relations) → revival_refusal before.relations c p ≡ None → IsMarked before c p true t → within_limits t ≡ false → Step (command.Reinstate c p) today before (Err refusal.TooMany) before
-  reinstatement_past today t ok is past =
-      let new : Relations = with_live before.relations c p true in
-      refused_step (command.Reinstate c p) today before refusal.TooMany
-      (ap (λ o. unless o new) (limits_refusal false (ap within_limits (sym is) ∙ past)) ∙ ap (λ o. unless (option_or o (Some refusal.TooMany)) new) ok)
 
 -- ---- the closing of a hall
 
@@ -116,6 +102,3 @@ module _ (before : State) (good : IsGood before) (s : Code) (h : Code) where
       accepted_step (command.CloseHall s h) today before after new (ap (λ o. unless o new) ok) (facts ∙ is) order (subst DoListsRise is up) good (subst (λ u. ArePlansRepaired u before after) is plans)
       (λ q. subst (λ (u : Relations). SeatsOn (command.CloseHall s h) (seating u q) (plan_of before.seats q) (plan_of after.seats q)) is
       (kept_stays (seating t q) None (plan_of before.seats q) (plan_of after.seats q) (plans q).repair))
-
-  pub closing_refused : (today : ℕ) (e : Refusal) → closing_refusal before.relations s h ≡ Some e → Step (command.CloseHall s h) today before (Err e) before
-  closing_refused today e refused = refused_step (command.CloseHall s h) today before e (ap (λ o. unless o (without_opening before.relations s h)) refused)

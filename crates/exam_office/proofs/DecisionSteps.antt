@@ -1,5 +1,5 @@
 -- A decision is a step.
-use Rattle.std.proofs.Common.{◌≡◌, ℕ, true, None, Some, Ok, Err, ap, sym, subst, ◌∙◌}
+use Rattle.std.proofs.Common.{◌≡◌, ℕ, true, None, Ok, ap, sym, subst, ◌∙◌}
 use Rattle.exam_types.specs.declared.refusal.Refusal.{Refusal}
 use Rattle.exam_types.specs.declared.refusal.Refusal.TheVariants as refusal
 use Rattle.exam_plan.specs.Matching.{Keeps}
@@ -21,7 +21,7 @@ use Rattle.exam_office.specs.Steps.{Step}
 use Rattle.exam_office.proofs.Commanding.{DoListsRise, IsLimitRefusal, within_memory}
 use Rattle.exam_office.proofs.DecidedFacts.{decision_candidates, decision_desks, decision_fits, decision_refers, decision_single, decision_within}
 use Rattle.exam_office.proofs.Keeping.{others_stay}
-use Rattle.exam_office.proofs.Stepping.{accepted_step, refused_step}
+use Rattle.exam_office.proofs.Stepping.{accepted_step}
 
 module _ (before : State) (good : IsGood before) (d : Decision) where
   -- the facts before, with the decision
@@ -55,6 +55,3 @@ module _ (before : State) (good : IsGood before) (d : Decision) where
       let new : Relations = with_decision before.relations d in
       accepted_step (command.Decide d) today before after new (ap (λ o. unless o new) ok) (facts ∙ is) order (subst DoListsRise is up) good (subst (λ u. ArePlansDecided u after) is plans)
       (others_seated after (subst (λ u. ArePlansDecided u after) is plans))
-
-  pub decision_refused : (today : ℕ) (e : Refusal) → decision_refusal before.relations today d ≡ Some e → Step (command.Decide d) today before (Err e) before
-  decision_refused today e refused = refused_step (command.Decide d) today before e (ap (λ o. unless o (with_decision before.relations d)) refused)

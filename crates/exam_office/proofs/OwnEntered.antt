@@ -51,25 +51,7 @@ live_turn r c k e rows rest before after own split pushed so_far s = by (is_live
     by true is (inr left) = inl (rw pushed (Contains-append_right before (session_of_paper r k.1) s (session_held r s k.1 (of_session r s c k e is).1)))
     by false is (inr left) = inr (left ∙ ap (λ xs. live_papers_in r (leading (is_row_of c) xs) s c) split ∙ passed r c k e rest s own is)
 
-pub other_turn : (r : Relations) (c : ℕ) (k : ℕ × Code) (e : Entry) (rows rest : List ((ℕ × Code) × Entry)) (before : List Code) → nat_eq k.0 c ≡ true → rows ≡ (k, e) ∷ rest
-    → e.live ≡ false → EnteredLeft r c before rows → EnteredLeft r c before rest
-other_turn r c k e rows rest before own split withdrawn so_far s = by (is_live_entry r s c (k, e)) refl (so_far s)
-  where
-    by : (b : Bool) → is_live_entry r s c (k, e) ≡ b → Contains before s ⊎ (live_papers r s c ≡ live_papers_in r (leading (is_row_of c) rows) s c)
-        → Contains before s ⊎ (live_papers r s c ≡ live_papers_in r (leading (is_row_of c) rest) s c)
-    by b is (inl had) = inl had
-    by true is (inr left) = absurd (let live = (of_session r s c k e is).0 in cc (live, withdrawn))
-    by false is (inr left) = inr (left ∙ ap (λ xs. live_papers_in r (leading (is_row_of c) xs) s c) split ∙ passed r c k e rest s own is)
-
 -- ---- at the end
-
--- no entry of the candidate is left
-pub none_left : (r : Relations) (c : ℕ) (held : List Code) (rows : List ((ℕ × Code) × Entry)) → leading (is_row_of c) rows ≡ [] → EnteredLeft r c held rows → HoldsEntered r c held
-none_left r c held rows end so_far s = by (so_far s)
-  where
-    by : Contains held s ⊎ (live_papers r s c ≡ live_papers_in r (leading (is_row_of c) rows) s c) → Contains held s ⊎ (live_papers r s c ≡ [])
-    by (inl had) = inl had
-    by (inr left) = inr (left ∙ ap (λ xs. live_papers_in r xs s c) end)
 
 -- who has no live paper in a session is no member
 no_entry : (r : Relations) (s : Code) (c : ℕ) (rows : List ((ℕ × Code) × Entry)) → live_papers_in r rows s c ≡ [] → list_any (is_live_entry r s c) rows ≡ false

@@ -1,5 +1,5 @@
 -- An accepted command is a step, and a refused one too.
-use Rattle.std.proofs.Common.{◌≡◌, ℕ, nat_eq, not, Bool, true, false, cond, List, [], ◌∷◌, None, Some, Ok, Err, refl, ap, sym, subst, ◌∙◌}
+use Rattle.std.proofs.Common.{◌≡◌, ℕ, nat_eq, not, Bool, true, cond, List, [], ◌∷◌, None, Some, Ok, Err, refl, ap, sym, subst, ◌∙◌}
 use Rattle.std.specs.Option.{option_or}
 use Rattle.std.proofs.Math.Path.{fun_ext}
 use Rattle.exam_types.specs.declared.refusal.Refusal.{Refusal}
@@ -32,12 +32,6 @@ limits_refusal r rows b e = ap (λ t. cond (not t) (Some refusal.TooMany) None) 
 
 pub import_accepted : (r : Relations) (rows : List Row) → rows_refusal r rows ≡ None → within_limits (with_rows r rows) ≡ true → imported r rows ≡ Ok (with_rows r rows)
 import_accepted r rows ok within = ap (λ o. unless (option_or o (first_refusal (too_many (with_rows r rows) ∷ []))) (with_rows r rows)) ok ∙ ap (λ o. unless o (with_rows r rows)) (limits_refusal r rows true within)
-
-pub import_past : (r : Relations) (rows : List Row) → rows_refusal r rows ≡ None → within_limits (with_rows r rows) ≡ false → imported r rows ≡ Err refusal.TooMany
-import_past r rows ok past = ap (λ o. unless (option_or o (first_refusal (too_many (with_rows r rows) ∷ []))) (with_rows r rows)) ok ∙ ap (λ o. unless o (with_rows r rows)) (limits_refusal r rows false past)
-
-pub import_refused : (r : Relations) (rows : List Row) (e : Refusal) → rows_refusal r rows ≡ Some e → imported r rows ≡ Err e
-import_refused r rows e refused = ap (λ o. unless (option_or o (first_refusal (too_many (with_rows r rows) ∷ []))) (with_rows r rows)) refused
 
 -- ---- the plans
 

@@ -29,13 +29,6 @@ module _ (r : Relations) (s : Code) (plan : List (Option ℕ)) where
   abbrev pub written : ℕ → ℕ → Option Code
   written i c = option_and_then (λ k. cond (nat_lt k i) (option_map (hall_at r s) (plan_at plan k)) None) (index_of r s c)
 
-  pub written_none : (c : ℕ) → written 0 c ≡ None
-  written_none c = inner (index_of r s c)
-    where
-      inner : (o : Option ℕ) → option_and_then (λ k. cond (nat_lt k 0) (option_map (hall_at r s) (plan_at plan k)) None) o ≡ None
-      inner None = refl
-      inner (Some k) = ap (λ t. cond t (option_map (hall_at r s) (plan_at plan k)) None) (le-ltb k 0 (omega arith))
-
   pub written_all : (i : ℕ) → length (members r s) ≤ i → (c : ℕ) → written i c ≡ named_plan r s (plan_at plan) c
   written_all i past c = inner (index_of r s c) refl
     where

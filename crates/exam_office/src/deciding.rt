@@ -227,7 +227,7 @@ fn with_earlier_superseded(facts: &Facts, number: Number, appeal: &Appeal) -> Re
     }) }
     ensures memory { IfErr result (λ e. e ≡ NoMemory) }
 {
-    facts.are_in_order();
+    facts.show_order();
     match earlier_grant(facts, number, appeal) {
         Some((key, earlier)) => with_superseded_appeal(facts, *key, earlier),
         None => copied_facts(facts),

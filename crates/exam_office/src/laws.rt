@@ -23,8 +23,8 @@ ghost use Rattle.exam_office.specs.Replies.{import_reply};
 ghost use Rattle.exam_office.specs.State.{State};
 ghost use Rattle.exam_office.specs.Steps.{NoneLacksMemory, Run, Step};
 
-/// A good office whose tables are in order seats every session as promised: `Office::is_seated`. Every
-/// `Office` is good (`Office::is_good`) and in order (`Office::is_in_order`).
+/// A good office whose tables are in order seats every session as promised: `Office::show_seated`. Every
+/// `Office` is good (`Office::show_good`) and in order (`Office::show_order`).
 pub fn good_office_is_seated()
     ensures { (office : State) (s : Code) → IsGood office → AreInOrder office.relations → IsSeated office s }
 {}
@@ -47,7 +47,7 @@ pub fn one_list_gives_one_office()
 {}
 
 /// An accepted import, repeated at once, is accepted, makes the same facts, and answers that all of its keys
-/// have the same row. Every `Facts` is in order (`Facts::are_in_order`), and the rows of every `Import` agree
+/// have the same row. Every `Facts` is in order (`Facts::show_order`), and the rows of every `Import` agree
 /// (`Import::rows`).
 pub fn repeated_import_makes_the_same_facts()
     ensures { (r t : Relations) (rows : List Row) → AreInOrder r → is_consistent rows ≡ true
@@ -57,7 +57,7 @@ pub fn repeated_import_makes_the_same_facts()
 {}
 
 /// The same of two steps, on whatever days: the office stays as it is. Every `Office` is in order
-/// (`Office::is_in_order`), and the rows of every `Import` agree (`Import::rows`).
+/// (`Office::show_order`), and the rows of every `Import` agree (`Import::rows`).
 pub fn repeated_import_changes_nothing()
     ensures { (import : ImportRows) (day later : ℕ) (before mid after : State) (first : Reply)
         (second : Result Reply Refusal)
@@ -68,7 +68,7 @@ pub fn repeated_import_changes_nothing()
 {}
 
 /// The same at any later moment, on any day and after any commands between, of which none is an import or the
-/// closing of a hall. Every `Office` is good (`Office::is_good`).
+/// closing of a hall. Every `Office` is good (`Office::show_good`).
 pub fn import_repeated_later_changes_nothing()
     ensures { (import : ImportRows) (day later : ℕ) (before mid late after : State) (first : Reply)
         (done : List (Command × ℕ)) (replies : List (Result Reply Refusal)) (second : Result Reply Refusal)
@@ -81,7 +81,7 @@ pub fn import_repeated_later_changes_nothing()
 
 /// After an accepted lodging the same lodging, at any later moment, on any day and after any commands
 /// between, changes nothing and answers where the appeal stands by then. Every `Office` is in order
-/// (`Office::is_in_order`).
+/// (`Office::show_order`).
 pub fn repeated_lodging_changes_nothing()
     ensures { (lodging : Lodging) (day later : ℕ) (before mid late after : State) (first : Reply)
         (done : List (Command × ℕ)) (replies : List (Result Reply Refusal)) (second : Result Reply Refusal)
@@ -119,8 +119,8 @@ pub fn repeated_decision_changes_nothing()
         × (after ≡ late) }
 {}
 
-/// A lodging and a retraction leave every plan as it is. Every `Office` is good (`Office::is_good`) and in
-/// order (`Office::is_in_order`).
+/// A lodging and a retraction leave every plan as it is. Every `Office` is good (`Office::show_good`) and in
+/// order (`Office::show_order`).
 pub fn lodging_and_retracting_move_nobody()
     ensures lodging { (lodging : Lodging) (day : ℕ) (before after : State) (first : Reply)
         → IsGood before → IsInOrder before → IsInOrder after

@@ -126,7 +126,7 @@ impl Office {
     }
 
     /// An office is good. Does nothing.
-    pub fn is_good(&self)
+    pub fn show_good(&self)
         ensures { IsGood self.now }
     {
         // The read of a field shows what the type keeps.
@@ -134,21 +134,21 @@ impl Office {
     }
 
     /// The keys of every table and of the seats rise. Does nothing.
-    pub fn is_in_order(&self)
+    pub fn show_order(&self)
         ensures { IsInOrder self.now }
     {
-        self.facts().are_in_order();
+        self.facts().show_order();
         // The length of a map tells that its keys rise.
         let _ = self.seats().len();
     }
 
     /// In every session whoever sits is a member and has a fitting hall and a desk of their own, and no lawful
     /// plan seats more. Does nothing.
-    pub fn is_seated(&self)
+    pub fn show_seated(&self)
         ensures { (s : Code) → IsSeated self.now s }
     {
-        self.is_good();
-        self.is_in_order();
+        self.show_good();
+        self.show_order();
     }
 }
 

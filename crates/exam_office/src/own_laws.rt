@@ -1,5 +1,5 @@
 //! Laws of what a candidate is answered and shown: their own rows decide it, and nobody else's. Every
-//! `Office` is good (`Office::is_good`) and in order (`Office::is_in_order`), as the laws ask.
+//! `Office` is good (`Office::show_good`) and in order (`Office::show_order`), as the laws ask.
 ghost use Rattle.std.specs.Prelude.{◌≡◌, ◌≢◌, ℕ, Result};
 ghost use Rattle.exam_types.specs.declared.refusal.Refusal.{Refusal};
 ghost use Rattle.exam_rules.specs.Relations.{Code};

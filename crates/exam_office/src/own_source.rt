@@ -204,7 +204,7 @@ fn standing_before(
     ensures most { result ≤ most_members }
 {
     // That the tables rise is for the proof alone.
-    facts.are_in_order();
+    facts.show_order();
     let members = lists.members_of(session);
     let own = (sitting_among(facts, members, session, number), number);
     let mut count = 0;

@@ -57,13 +57,13 @@ pub fn run(
     ensures err { OnErr result (office.new ≡ office.old) }
 {
     // What an office promises is shown here for a refusal, and once more after the commands.
-    office.is_seated();
+    office.show_seated();
     // Room for all replies first, so that nothing fails once a command is carried out.
     let mut replies = Vec::with_capacity(alloc, commands.len())?;
     for (command, today) in commands {
         replies.push_reserved(step(alloc, office, command, *today));
     }
-    office.is_seated();
+    office.show_seated();
     Ok(replies)
 }
 
@@ -97,6 +97,8 @@ pub fn next_office(
     }
 }
 
+// Each of these takes the day, as each contract speaks of a step on it, also where the day decides nothing.
+
 /// The office after an import.
 fn with_import(
     alloc: Global,
@@ -110,7 +112,7 @@ fn with_import(
         ⊎ steps.Step (variant.Import import.now) today office.now (Err e) office.now) }
 {
     let _ = today;
-    office.is_good();
+    office.show_good();
     let (facts, reply) = imported(office.facts(), import)?;
     Ok((resettled(alloc, facts, office, None)?, reply))
 }
@@ -129,7 +131,7 @@ fn with_withdrawal(
         ⊎ steps.Step (variant.Withdraw number paper) today office.now (Err e) office.now) }
 {
     let _ = today;
-    office.is_good();
+    office.show_good();
     let facts = withdrawn(office.facts(), number, paper)?;
     Ok((resettled(alloc, facts, office, None)?, Reply::Withdrawn))
 }
@@ -148,7 +150,7 @@ fn with_reinstatement(
         ⊎ steps.Step (variant.Reinstate number paper) today office.now (Err e) office.now) }
 {
     let _ = today;
-    office.is_good();
+    office.show_good();
     let facts = reinstated(office.facts(), number, paper)?;
     Ok((resettled(alloc, facts, office, None)?, Reply::Reinstated))
 }
@@ -167,7 +169,7 @@ fn with_closed_hall(
         ⊎ steps.Step (variant.CloseHall session hall) today office.now (Err e) office.now) }
 {
     let _ = today;
-    office.is_good();
+    office.show_good();
     let facts = closed(office.facts(), session, hall)?;
     Ok((resettled(alloc, facts, office, None)?, Reply::Closed))
 }
@@ -184,7 +186,7 @@ fn with_lodging(
     ensures refusal { IfErr result (λ e. (e ≡ NoMemory)
         ⊎ steps.Step (variant.Lodge lodging.now) today office.now (Err e) office.now) }
 {
-    office.is_good();
+    office.show_good();
     let facts = lodged(office.facts(), office.seats(), today, lodging)?;
     let state = stored_state(&facts, lodging.number, lodging.reference);
     Ok((resettled(alloc, facts, office, None)?, Reply::Lodged(state)))
@@ -204,8 +206,8 @@ fn with_retraction(
         ⊎ steps.Step (variant.Retract number reference) today office.now (Err e) office.now) }
 {
     let _ = today;
-    office.is_good();
-    office.is_in_order();
+    office.show_good();
+    office.show_order();
     let facts = retracted(office.facts(), number, reference)?;
     Ok((resettled(alloc, facts, office, None)?, Reply::Retracted))
 }
@@ -222,8 +224,8 @@ fn with_decision(
     ensures refusal { IfErr result (λ e. (e ≡ NoMemory)
         ⊎ steps.Step (variant.Decide decision.now) today office.now (Err e) office.now) }
 {
-    office.is_good();
-    office.is_in_order();
+    office.show_good();
+    office.show_order();
     let facts = decided(office.facts(), decision, today)?;
     let next = resettled(alloc, facts, office, appellant(decision))?;
     let reply = reply_to(office, &next, decision);
@@ -255,6 +257,6 @@ fn resettled(
     }
     let seats = repaired(alloc, &facts, &lists, office.seats(), first)?;
     let next = Office::holding(facts, lists, seats);
-    next.is_in_order();
+    next.show_order();
     Ok(next)
 }

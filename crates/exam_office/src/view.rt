@@ -200,7 +200,7 @@ impl SessionView {
     }
 
     /// Every view shows some shortage. Does nothing.
-    pub fn has_shortage(&self)
+    pub fn show_shortage(&self)
         ensures { (report : views.Report) × views.ShowsShortage self.now report }
     {
         // The read of a field shows what the type keeps.

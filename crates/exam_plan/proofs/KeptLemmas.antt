@@ -1,5 +1,5 @@
 -- Who stays in a plan: the loops that put out, and that what stays is lawful.
-use Rattle.std.proofs.Common.{◌≡◌, ℕ, zero, suc, ◌+◌, ◌<◌, ◌≤◌, Bool, true, false, cond, ◌||◌, ◌&&◌, IsTrue, List, [], ◌∷◌, length, get_or, set, take, Option, None, Some, IsSome, IfSome, nat_eq, nat_lt, refl, sym, ap, ◌∙◌, inl, inr, subst, arith}
+use Rattle.std.proofs.Common.{◌≡◌, ℕ, zero, suc, ◌+◌, ◌<◌, ◌≤◌, Bool, true, false, cond, ◌||◌, ◌&&◌, IsTrue, List, [], length, get_or, set, take, Option, None, Some, IsSome, IfSome, nat_eq, nat_lt, refl, sym, ap, ◌∙◌, inl, inr, subst, arith}
 use Rattle.std.specs.Prelude.{All}
 use Rattle.std.specs.List.{range_with_len, list_any}
 use Rattle.std.specs.Option.{option_eq}
@@ -65,12 +65,6 @@ module _ (R : ℕ → Option ℕ → Option ℕ) (before m : List (Option ℕ)) 
     | inr g ↦ (let e : plan_at before c ≡ None = plan_at-get_or before c ∙ get_or_past before c None (omega arith) in f.left c g ∙ e ∙ sym (none c) ∙ ap (R c) (sym e))
   ]
 
-pub from_start : (R : ℕ → Option ℕ → Option ℕ) (before : List (Option ℕ)) (i : ℕ) → ((c : ℕ) → R c None ≡ None) → length before ≤ i → IsFilteredFrom R before before i
-from_start R before i none long = record {
-  done = λ c l. (let e : plan_at before c ≡ None = plan_at-get_or before c ∙ get_or_past before c None (omega arith) in e ∙ sym (none c) ∙ ap (R c) (sym e));
-  left = λ c l. refl;
-}
-
 pub places_none : (m : List (Option ℕ)) (n c : ℕ) → All (λ place. IfSome place (λ k. k < n)) m → All (λ place. IfSome place (λ k. k < n)) (set m c None)
 places_none m n c all = All-set (λ (o : Option ℕ). IfSome o (λ k. k < n)) m c None tt all
 
@@ -78,10 +72,6 @@ places_none m n c all = All-set (λ (o : Option ℕ). IfSome o (λ k. k < n)) m 
 
 eqb_flip : (a b : ℕ) → nat_eq a b ≡ nat_eq b a
 eqb_flip a b = elim (cases_eq a b) [ inl e ↦ eq-eqb a b e ∙ sym (eq-eqb b a (sym e)) | inr n ↦ ne_eqb a b n ∙ sym (ne_eqb b a (λ e. n (sym e))) ]
-
-pub any_flip : (h : ℕ) (xs : List ℕ) → list_any (λ y. nat_eq y h) xs ≡ list_any (nat_eq h) xs
-any_flip h [] = refl
-any_flip h (x ∷ xs) = ap (λ b. b || list_any (λ y. nat_eq y h) xs) (eqb_flip x h) ∙ ap (λ b. nat_eq h x || b) (any_flip h xs)
 
 any_range : (c a n : ℕ) → a ≤ c → c < a + n → list_any (nat_eq c) (range_with_len a n) ≡ true
 any_range c a zero l m = absurd (omega arith)

@@ -1,5 +1,5 @@
 -- The chain that takes the least hall and the least occupant each time is the least chain.
-use Rattle.std.proofs.Common.{◌≡◌, ◌≢◌, ℕ, zero, suc, ◌+◌, ◌-◌, ◌<◌, ◌≤◌, IsTrue, List, [], ◌∷◌, ◌++◌, map, length, Some, ◌⊎◌, refl, sym, ap, ◌∙◌, inl, inr, subst, arith}
+use Rattle.std.proofs.Common.{◌≡◌, ◌≢◌, ℕ, zero, suc, ◌<◌, ◌≤◌, IsTrue, List, [], ◌∷◌, ◌++◌, map, length, Some, ◌⊎◌, refl, sym, ap, ◌∙◌, inl, inr, subst, arith}
 use Rattle.std.specs.Prelude.{All, AllPairs}
 use Rattle.std.specs.declared.cmp.Ordering.{Ordering}
 use Rattle.std.specs.declared.cmp.Ordering.TheVariants.{Less, Equal, Greater}
@@ -36,20 +36,7 @@ less_is x y l = sym (nat_cmp_is x y Less l)
 equal_is : (x y : ℕ) → x ≡ y → nat_cmp x y ≡ Equal
 equal_is x y e = sym (nat_cmp_is x y Equal e)
 
-not_greater : (o : Ordering) → o ≡ Less → o ≢ Greater
-not_greater o e f = cc
-
 module _ (p : Problem) (q : Plan ℕ ℕ) where
-  reaches_more : (i n h : ℕ) → Reaches p q i h → Reaches p q (n + i) h
-  reaches_more i zero h r = subst (λ (m : ℕ). Reaches p q m h) (let e : i ≡ zero + i = omega arith in e) r
-  reaches_more i (suc n) h r = subst (λ (m : ℕ). Reaches p q m h) (let e : suc (n + i) ≡ suc n + i = omega arith in e) (inl (reaches_more i n h r))
-
-  pub reaches_le : (i j h : ℕ) → i ≤ j → Reaches p q i h → Reaches p q j h
-  reaches_le i j h l r = subst (λ (m : ℕ). Reaches p q m h) (let e : (j - i) + i ≡ j = omega arith in e) (reaches_more i (j - i) h r)
-
-  can_reach_le : (i j c : ℕ) → i ≤ j → CanReach p q i c → CanReach p q j c
-  can_reach_le i j c l r = (r.0, r.1, reaches_le i j r.0 l r.2)
-
   -- a chain reaches a free desk over as many halls as it has hops
   pub leads_reach : (c : ℕ) (hops : List (ℕ × ℕ)) (last : ℕ) → Leads (seating_of p) q c hops last → CanReach p q (length hops) c
   leads_reach c [] last leads = (last, leads.0, leads.1)
@@ -108,9 +95,6 @@ module _ (p : Problem) (q : Plan ℕ ℕ) where
     | inl e ↦ rw (equal_is h k e) (λ z. cc)
     | inr s ↦ elim s [ inl m ↦ rw (less_is h k m) (λ z. cc) | inr m ↦ absurd (omega arith) ]
   ]
-
-  some_same : (h k : ℕ) → Some h ≡ Some k → h ≡ k
-  some_same h k e = cc
 
   rest_least : (j c : ℕ) (hops : List (ℕ × ℕ)) (last : ℕ) (hops' : List (ℕ × ℕ)) (last' : ℕ) → TakesLeast p q j c hops last → Leads (seating_of p) q c hops' last' → length hops' ≡ j
       → rest_cmp hops last hops' last' ≢ Greater

@@ -36,10 +36,6 @@ module _ (p : Problem) (q : Plan ℕ ℕ) where
   abbrev pub moved : ℕ → List (ℕ × ℕ) → ℕ → Plan ℕ ℕ
   moved c hops last = augmented (seating_of p) q c hops last
 
-  path_starts : (c : ℕ) (hops : List (ℕ × ℕ)) → IsPath c hops → c < length p.fit
-  path_starts c [] l = l
-  path_starts c (hop ∷ hops) l = l.0
-
   pub moved-fresh : (c : ℕ) (hops : List (ℕ × ℕ)) (last d : ℕ) → c ≢ d → IsFresh d hops → moved c hops last d ≡ q d
   moved-fresh c [] last d away fresh = ap (λ t. cond t (Some last) (q d)) (ne_eqb c d away)
   moved-fresh c (hop ∷ hops) last d away fresh = ap (λ t. cond t (Some hop.0) (moved hop.1 hops last d)) (ne_eqb c d away) ∙ moved-fresh hop.1 hops last d fresh.0 fresh.1
@@ -85,10 +81,6 @@ module _ (p : Problem) (q : Plan ℕ ℕ) where
       anything c (hop ∷ hops) last = (tt, anything hop.1 hops last)
 
   -- ---- the moves of a chain
-
-  pub fits_of : (c : ℕ) (hops : List (ℕ × ℕ)) (last : ℕ) → Leads (seating_of p) q c hops last → AllMoves (λ d k. IsTrue ((seating_of p).fits d k)) c hops last
-  fits_of c [] last leads = leads.0
-  fits_of c (hop ∷ hops) last leads = (leads.0, fits_of hop.1 hops last leads.3)
 
   pub ends_free : (c : ℕ) (hops : List (ℕ × ℕ)) (last : ℕ) → Leads (seating_of p) q c hops last → HasFreeDesk (seating_of p) q last
   ends_free c [] last leads = leads.1

@@ -1,13 +1,13 @@
 -- What a head and the bytes behind it say of the whole input.
-use Rattle.std.proofs.Common.{◌≡◌, ◌+◌, ◌-◌, ◌≤◌, ◌<◌, ℕ, List, [], ◌++◌, length, take, drop, true, false, Option, Some, None, refl, sym, ap, subst, ◌∙◌, arith, append-nil, append_assoc}
-use Rattle.std.specs.Prelude.{IfSome, Result, Ok, Err, nat_lt, ⊤}
+use Rattle.std.proofs.Common.{◌≡◌, ◌+◌, ◌-◌, ◌≤◌, ◌<◌, ℕ, List, [], ◌++◌, length, take, drop, true, false, Option, refl, sym, ap, subst, ◌∙◌, arith, append-nil, append_assoc}
+use Rattle.std.specs.Prelude.{Result, Ok, Err, nat_lt}
 use Rattle.std.specs.Io.KnownBytes.{Consumes, IsAtEnd, Keeps}
 use Rattle.std.proofs.lemmas.Bool.{le-ltb, lt-ltb}
 use Rattle.std.proofs.lemmas.List.{drop-append-le, drop-take, length-append, length-drop, length-take, length-take-le, take-append-le, take-take}
 use Rattle.exam_request.specs.Asked.{Asks, FindsMessage, request_with}
 use Rattle.exam_request.specs.Head.{Judges, LiesIn, Said, said_at}
 use Rattle.exam_send.specs.Given.{Gave}
-use Rattle.exam_request.specs.Input.{HeadRead, More, ReadsHead, head_of}
+use Rattle.exam_request.specs.Input.{HeadRead, More, head_of}
 use Rattle.exam_request.specs.declared.fault.Fault.{Fault}
 use Rattle.exam_request.specs.declared.fault.Fault.TheVariants.{Length}
 use Rattle.exam_request.specs.declared.head.HeadSpans.{HeadSpans}
@@ -71,20 +71,6 @@ bad_head_in old new buf n filled e r h j few is =
     let asks = bad_head old new (take filled buf) n e h (subst (λ x. Judges x (Err e)) (sym front) j) in
     subst (λ x. FindsMessage old new buf x) (sym is)
     (gave_all (λ input. Asks input (Err e)) old new (take filled buf) 12288 (omega (arith, length-take filled buf)) h.consumed asks)
-
--- what is said by few bytes is said by few bytes
-gave_other : (P Q : List ℕ → Type 0) (old new : Option (List ℕ)) → ((input : List ℕ) → P input → Q input) → Gave 8192 old new P → Gave 12288 old new Q
-gave_other P Q old new f g = record { given = g.given; few = omega (arith, g.few); consumed = g.consumed; says = f g.given g.says; known = whole old g.known }
-  where
-    whole : (o : Option (List ℕ)) → IfSome o P → IfSome o Q
-    whole None k = tt
-    whole (Some input) k = f input k
-
--- a stop of the head's end is one of the message
-pub head_stops : (old new : Option (List ℕ)) (before after : List ℕ) (stop : Stop) → ReadsHead old new before (Err stop) → FindsMessage old new after (Err stop)
-head_stops old new before after Failed g = gave_other (λ input. ⊤) (λ input. ⊤) old new (λ input k. k) g
-head_stops old new before after (Faulty e) g =
-    gave_other (λ input. head_of input ≡ Err e) (λ input. Asks input (Err e)) old new (λ input k. rw k refl) g
 
 -- a read failed
 pub fails : (old mid new : Option (List ℕ)) (buffer after : List ℕ) (filled : ℕ) (r : Result Message Stop) → Consumes old mid (take filled buffer) → Keeps mid new → filled ≤ 12288

@@ -13,8 +13,8 @@ use Rattle.exam_request.specs.Posted.{posted_of}
 use Rattle.exam_request.specs.Targets.{Target, reading}
 use Rattle.exam_request.specs.declared.choice.Choice.TheVariants as choice
 use Rattle.exam_request.specs.declared.posted.Posted.{Posted}
-use Rattle.exam_request.specs.declared.routes.Place.{Place}
-use Rattle.exam_request.specs.declared.routes.Place.TheVariants.{Appeal, Appeals, Clashes, Seats}
+use Rattle.exam_request.specs.declared.routes.Route.{Route}
+use Rattle.exam_request.specs.declared.routes.Route.TheVariants.{Appeal, Appeals, Clashes, Seats}
 
 -- a stranger is refused as for an unknown candidate
 refused : (request : Request) (t : Target) (own : Option OwnRows) → IsStranger request own → choice_of_known request t own ≡ choice.Refused UnknownCandidate
@@ -23,9 +23,9 @@ refused request t (Some own) h = rw h refl
 
 alike_by : (request : Request) (one other : Option OwnRows) → IsStranger request one → IsStranger request other → (found : Option Target) → choice_by request one found ≡ choice_by request other found
 alike_by request one other h k None = refl
-alike_by request one other h k (Some t) = by (is_allowed t.place request.method)
+alike_by request one other h k (Some t) = by (is_allowed t.route request.method)
   where
-    by : (v : Bool) → cond v (choice_of_known request t one) (choice.OtherMethod t.place) ≡ cond v (choice_of_known request t other) (choice.OtherMethod t.place)
+    by : (v : Bool) → cond v (choice_of_known request t one) (choice.OtherMethod t.route) ≡ cond v (choice_of_known request t other) (choice.OtherMethod t.route)
     by true = refused request t one h ∙ sym (refused request t other k)
     by false = refl
 
@@ -43,15 +43,15 @@ by_posting number None command e = cc e
 by_posting number (Some posted) command e = let is : Lodge (lodged number posted) ≡ command = cc e in subst (IsBy number) is refl
 
 -- what is done at a route
-by_place : (place : Place) (request : Request) (number : ℕ) (reference : List ℕ) (command : Command) → done_at place request number reference ≡ choice.Do command → IsBy number command
-by_place Seats request number reference command e = cc e
-by_place Clashes request number reference command e = cc e
-by_place Appeals request number reference command e = by (bytes_eq request.method (codes "POST")) (posted_of request.body) e
+by_route : (route : Route) (request : Request) (number : ℕ) (reference : List ℕ) (command : Command) → done_at route request number reference ≡ choice.Do command → IsBy number command
+by_route Seats request number reference command e = cc e
+by_route Clashes request number reference command e = cc e
+by_route Appeals request number reference command e = by (bytes_eq request.method (codes "POST")) (posted_of request.body) e
   where
     by : (v : Bool) (posted : Option Posted) → cond v (lodged_or_fault number posted) choice.ShowAppeals ≡ choice.Do command → IsBy number command
     by true posted e = by_posting number posted command e
     by false posted e = cc e
-by_place Appeal request number reference command e = by (is_reference reference) e
+by_route Appeal request number reference command e = by (is_reference reference) e
   where
     by : (v : Bool) → cond v (choice.Do (Retract number reference)) (choice.Refused UnknownAppeal) ≡ choice.Do command → IsBy number command
     by true e = let is : Retract number reference ≡ command = cc e in subst (IsBy number) is refl
@@ -62,14 +62,14 @@ by_known request t None command e = cc e
 by_known request t (Some own) command e = by (has_code request.code own.code) refl e
   where
     by : (v : Bool) → has_code request.code own.code ≡ v → cond v (choice_own request own.number t) (choice.Refused UnknownCandidate) ≡ choice.Do command → (has_code request.code own.code ≡ true) × IsBy own.number command
-    by true shown e = (shown, by_place t.place request own.number t.reference command e)
+    by true shown e = (shown, by_route t.route request own.number t.reference command e)
     by false shown e = cc e
 
 own_by : (request : Request) (own : Option OwnRows) (command : Command) (found : Option Target) → choice_by request own found ≡ choice.Do command → IsOwnCommand request own command
 own_by request own command None e = cc e
-own_by request own command (Some t) e = by (is_allowed t.place request.method) e
+own_by request own command (Some t) e = by (is_allowed t.route request.method) e
   where
-    by : (v : Bool) → cond v (choice_of_known request t own) (choice.OtherMethod t.place) ≡ choice.Do command → IsOwnCommand request own command
+    by : (v : Bool) → cond v (choice_of_known request t own) (choice.OtherMethod t.route) ≡ choice.Do command → IsOwnCommand request own command
     by true e = by_known request t own command e
     by false e = cc e
 

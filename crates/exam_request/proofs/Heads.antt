@@ -1,8 +1,8 @@
 -- When bytes are a head, by what the parser answers.
-use Rattle.std.proofs.Common.{◌≡◌, ◌∙◌, ◌≤◌, ℕ, List, [], length, take, drop, refl, sym, ap, subst, arith, inl, inr, append-nil}
+use Rattle.std.proofs.Common.{◌≡◌, ◌∙◌, ◌≤◌, ℕ, List, [], length, take, drop, refl, sym, ap, subst, arith, inl, inr}
 use Rattle.std.specs.Prelude.{Result, Err}
 use Rattle.std.proofs.lemmas.List.{length-map, length-take, drop_all}
-use Rattle.httparse.specs.Grammar.{ReadsRequest, RequestHead, print_request}
+use Rattle.httparse.specs.Grammar.{ReadsRequest, RequestHead}
 use Rattle.httparse.specs.Spans.{IsRequestAt, IsRequestOf, header_bytes, name_and_value}
 use Rattle.httparse.specs.declared.spans.HeaderSpan.{HeaderSpan}
 use Rattle.httparse.specs.declared.spans.RequestSpans.{RequestSpans}
@@ -26,7 +26,3 @@ whole_head head headers r answer lines of room all said =
 -- these bytes are no head
 pub no_head : (head : List ℕ) → ((h : RequestHead) → IsHead head h → ⊥) → Judges head (Err Head)
 no_head head none = inl (none, refl)
-
--- a head of these bytes has their length
-pub length_of_head : (head : List ℕ) (h : RequestHead) → ReadsRequest head h [] → length head ≡ length (print_request h)
-length_of_head head h reads = ap length (reads.1 ∙ append-nil (print_request h))

@@ -11,8 +11,8 @@ use Rattle.matchit.specs.Seek.{cuts, first, has_slash, longest_from, or_else, ow
 use Rattle.matchit.proofs.OnLiterals.{matchit_on_literals}
 use Rattle.matchit.proofs.RouteLemmas.{text-of}
 use Rattle.exam_request.specs.Targets.{Target, at_candidates, at_number, at_reference, behind, is_empty, part, reading, rest_after}
-use Rattle.exam_request.specs.declared.routes.Place.{Place}
-use Rattle.exam_request.specs.declared.routes.Place.TheVariants.{Appeal, Appeals, Clashes, Seats}
+use Rattle.exam_request.specs.declared.routes.Route.{Route}
+use Rattle.exam_request.specs.declared.routes.Route.TheVariants.{Appeal, Appeals, Clashes, Seats}
 use Rattle.exam_request.proofs.Cuts.{Cut, IsCut, IsWhole, cut, cuts_none, cuts_slash}
 use Rattle.exam_request.proofs.Walking.{beginning, beside, by_byte, led_by, or_else-none, own-led_by, seek-drop, seek-empty, step-hit, step-miss}
 
@@ -179,28 +179,28 @@ module _ {K : Type 0} where
   exactly b w text k h = beginning (b ∷ w) (([], k) ∷ []) text h ∙ ends (b ∷ w) text k
 
   -- the rows behind "/candidates/{number}/"
-  abbrev pub under_number : (Place → K) → RowsOf K
+  abbrev pub under_number : (Route → K) → RowsOf K
   under_number key =
       (codes "appeals/" ++ param_token ∷ [], key Appeal) ∷ (codes "appeals", key Appeals) ∷ (codes "clashes", key Clashes) ∷ (codes "seats", key Seats) ∷ []
 
-  abbrev pub all_routes : (Place → K) → RowsOf K
+  abbrev pub all_routes : (Route → K) → RowsOf K
   all_routes key = led_by (codes "/candidates/") (led_by (param_token ∷ 47 ∷ []) (under_number key))
 
   -- the rows behind "/candidates/{number}/appeals"
-  abbrev behind_appeals : (Place → K) → RowsOf K
+  abbrev behind_appeals : (Route → K) → RowsOf K
   behind_appeals key = (47 ∷ param_token ∷ [], key Appeal) ∷ ([], key Appeals) ∷ []
 
-  abbrev keyed : (Place → K) → Option Target → Option K
-  keyed key t = option_map (λ x. key x.place) t
+  abbrev keyed : (Route → K) → Option Target → Option K
+  keyed key t = option_map (λ x. key x.route) t
 
-  referred : (key : Place → K) (n p : List ℕ) → cond (is_empty p || has_slash p) None (Some (key Appeal)) ≡ keyed key (at_reference n p)
+  referred : (key : Route → K) (n p : List ℕ) → cond (is_empty p || has_slash p) None (Some (key Appeal)) ≡ keyed key (at_reference n p)
   referred key n p = by (is_empty p || has_slash p)
     where
-      by : (v : Bool) → cond v None (Some (key Appeal)) ≡ keyed key (cond v None (Some (record { place = Appeal; number = n; reference = p })))
+      by : (v : Bool) → cond v None (Some (key Appeal)) ≡ keyed key (cond v None (Some (record { route = Appeal; number = n; reference = p })))
       by true = refl
       by false = refl
 
-  after_appeals : (key : Place → K) (n : List ℕ) (r : Option (List ℕ)) → ((rest : List ℕ) → r ≡ Some rest → IsText rest) → (r ≡ Some [] → ⊥)
+  after_appeals : (key : Route → K) (n : List ℕ) (r : Option (List ℕ)) → ((rest : List ℕ) → r ≡ Some rest → IsText rest) → (r ≡ Some [] → ⊥)
       → option_and_then (first (behind_appeals key)) r ≡ keyed key (option_and_then (at_reference n) (option_and_then (rest_after (47 ∷ [])) r))
   unfolding seek
   after_appeals key n None texts more = refl
@@ -216,14 +216,14 @@ module _ {K : Type 0} where
           rw other (seek-empty 0 p)
 
   -- a text behind "/candidates/{number}/"
-  behind_slash : (key : Place → K) (n text : List ℕ) → IsText text → first (under_number key) text ≡ keyed key (at_number n text)
+  behind_slash : (key : Route → K) (n text : List ℕ) → IsText text → first (under_number key) text ≡ keyed key (at_number n text)
   unfolding matchit_on_literals
   behind_slash key n text h = by (bytes_eq text (codes "seats")) refl (bytes_eq text (codes "clashes")) refl (bytes_eq text (codes "appeals")) refl
     where
       by : (s : Bool) → bytes_eq text (codes "seats") ≡ s → (c : Bool) → bytes_eq text (codes "clashes") ≡ c → (a : Bool) → bytes_eq text (codes "appeals") ≡ a
           → first (under_number key) text
-          ≡ keyed key (cond s (Some (record { place = Seats; number = n; reference = [] })) (cond c (Some (record { place = Clashes; number = n; reference = [] }))
-          (cond a (Some (record { place = Appeals; number = n; reference = [] })) (option_and_then (at_reference n) (rest_after (codes "appeals/") text)))))
+          ≡ keyed key (cond s (Some (record { route = Seats; number = n; reference = [] })) (cond c (Some (record { route = Clashes; number = n; reference = [] }))
+          (cond a (Some (record { route = Appeals; number = n; reference = [] })) (option_and_then (at_reference n) (rest_after (codes "appeals/") text)))))
       by true s c ec a ea = let is = (bytes_decides text (codes "seats")).0 s in rw is refl
       by false s true c a ea = let is = (bytes_decides text (codes "clashes")).0 c in rw is refl
       by false s false c true a = let is = (bytes_decides text (codes "appeals")).0 a in rw is refl
@@ -238,7 +238,7 @@ module _ {K : Type 0} where
           one ∙ ap (or_else (first (led_by (codes "appeals") (behind_appeals key)) text)) others ∙ or_else-none (first (led_by (codes "appeals") (behind_appeals key)) text) ∙ appeals ∙ left ∙ ap (λ r. keyed key (option_and_then (at_reference n) r)) (sym (rest_after-append (codes "appeals") (47 ∷ []) text))
 
   -- what the walk finds is the reading
-  pub walk_reads : (key : Place → K) (target : List ℕ) → IsText target → first (all_routes key) target ≡ keyed key (reading target)
+  pub walk_reads : (key : Route → K) (target : List ℕ) → IsText target → first (all_routes key) target ≡ keyed key (reading target)
   walk_reads key target h =
       beginning (codes "/candidates/") (led_by (param_token ∷ 47 ∷ []) (under_number key)) target (text-of (codes "/candidates/") refl)
       ∙ by (rest_after (codes "/candidates/") target) (λ rest e. text_rest (codes "/candidates/") target rest h e)

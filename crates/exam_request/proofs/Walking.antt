@@ -51,10 +51,6 @@ module _ {K : Type 0} where
   or_else-none None = refl
   or_else-none (Some k) = refl
 
-  pub or_else-assoc : (a b c : Option K) → or_else (or_else a b) c ≡ or_else a (or_else b c)
-  or_else-assoc None b c = refl
-  or_else-assoc (Some k) b c = refl
-
   pub param_step-empty : (p : List ℕ) → (param_step {K = K} [] p).1 ≡ []
   unfolding param_step
   param_step-empty p =

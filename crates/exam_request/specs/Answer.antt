@@ -10,7 +10,7 @@ use Rattle.exam_types.specs.declared.refusal.Refusal.TheVariants.{PastClosing}
 use Rattle.exam_request.specs.Json.{number, object_text, text}
 use Rattle.exam_request.specs.Methods.{allow_text}
 use Rattle.exam_office.specs.Words.{state_word}
-use Rattle.exam_request.specs.declared.routes.Place.{Place}
+use Rattle.exam_request.specs.declared.routes.Route.{Route}
 
 -- the status of the answer to a refusal or a fault
 abbrev pub status_number : ℕ → ℕ
@@ -41,7 +41,7 @@ phrase_text n =
 -- what an answer tells: its status, in an answer 405 the route whose methods are allowed, and its body
 pub record Told : Type 0 where
   pub status : ℕ
-  pub allow : Option Place
+  pub allow : Option Route
   pub body : List ℕ
 
 -- the first line
@@ -53,19 +53,19 @@ abbrev pub header_line : List ℕ → List ℕ → List ℕ
 header_line name value = name ++ (codes ": " ++ (value ++ codes "\r\n"))
 
 -- the line of the methods, where there is one
-abbrev pub allow_line : Option Place → List ℕ
+abbrev pub allow_line : Option Route → List ℕ
 allow_line None = []
-allow_line (Some place) = header_line (codes "Allow") (allow_text place)
+allow_line (Some route) = header_line (codes "Allow") (allow_text route)
 
 -- the lines of the head and an empty line, for a body of this length
-abbrev pub head_text : ℕ → Option Place → ℕ → List ℕ
+abbrev pub head_text : ℕ → Option Route → ℕ → List ℕ
 head_text status allow count =
     status_line status ++ (header_line (codes "Content-Type") (codes "application/json")
     ++ (header_line (codes "Content-Length") (decimal count) ++ (allow_line allow
     ++ (header_line (codes "Connection") (codes "close") ++ codes "\r\n"))))
 
 -- the head, and this body behind it
-abbrev pub text_with : ℕ → Option Place → List ℕ → List ℕ
+abbrev pub text_with : ℕ → Option Route → List ℕ → List ℕ
 text_with status allow body = head_text status allow (length body) ++ body
 
 -- all of an answer
@@ -85,8 +85,8 @@ abbrev pub error_told : ℕ → Told
 error_told n = record { status = status_number n; allow = None; body = error_body n }
 
 -- the answer to a method that is none of the route's
-abbrev pub method_told : Place → Told
-method_told place = record { status = 405; allow = Some place; body = error_body 38 }
+abbrev pub method_told : Route → Told
+method_told route = record { status = 405; allow = Some route; body = error_body 38 }
 
 -- `{"day":"YYYY-MM-DD","error":13}`
 abbrev pub closing_body : ℕ → List ℕ

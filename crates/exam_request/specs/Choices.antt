@@ -16,8 +16,8 @@ use Rattle.exam_request.specs.declared.choice.Choice.{Choice}
 use Rattle.exam_request.specs.declared.choice.Choice.TheVariants as choice
 use Rattle.exam_request.specs.declared.fault.Fault.TheVariants as fault
 use Rattle.exam_request.specs.declared.posted.Posted.{Posted}
-use Rattle.exam_request.specs.declared.routes.Place.{Place}
-use Rattle.exam_request.specs.declared.routes.Place.TheVariants.{Appeal, Appeals, Clashes, Seats}
+use Rattle.exam_request.specs.declared.routes.Route.{Route}
+use Rattle.exam_request.specs.declared.routes.Route.TheVariants.{Appeal, Appeals, Clashes, Seats}
 
 -- the candidate whom a target names, if its number is one
 abbrev pub number_named : Option Target → Option ℕ
@@ -57,7 +57,7 @@ retraction number reference =
     if is_reference reference then choice.Do (Retract number reference) else choice.Refused UnknownAppeal
 
 -- what is done at a route for the candidate who has shown their code, by one of the route's methods
-abbrev pub done_at : Place → Request → ℕ → List ℕ → Choice
+abbrev pub done_at : Route → Request → ℕ → List ℕ → Choice
 done_at Seats request number reference = choice.ShowSeats
 done_at Clashes request number reference = choice.ShowClashes
 done_at Appeals request number reference =
@@ -66,7 +66,7 @@ done_at Appeal request number reference = retraction number reference
 
 -- the same, by the target
 abbrev pub choice_own : Request → ℕ → Target → Choice
-choice_own request number target = done_at target.place request number target.reference
+choice_own request number target = done_at target.route request number target.reference
 
 -- nobody is told apart from the unknown who does not show the code
 abbrev pub choice_for : Request → Target → OwnRows → Choice
@@ -82,8 +82,8 @@ choice_of_known request target (Some own) = choice_for request target own
 -- the method must be one of the route's
 abbrev pub choice_at : Request → Option OwnRows → Target → Choice
 choice_at request own target =
-    if is_allowed target.place request.method then choice_of_known request target own
-    else choice.OtherMethod target.place
+    if is_allowed target.route request.method then choice_of_known request target own
+    else choice.OtherMethod target.route
 
 -- the target must have a route
 abbrev pub choice_by : Request → Option OwnRows → Option Target → Choice
@@ -109,7 +109,7 @@ ShowsCode request (Some own) = has_code request.code own.code ≡ true
 -- the request posts, at the route of appeals, a body that is a text
 abbrev pub PostsText : Request → Target → Type 0
 PostsText request target =
-    (target.place ≡ Appeals) × (bytes_eq request.method (codes "POST") ≡ true) × IsReadable request.body
+    (target.route ≡ Appeals) × (bytes_eq request.method (codes "POST") ≡ true) × IsReadable request.body
 
 -- a text is posted with the candidate's code; for no other request is memory taken
 abbrev pub ReadsText : Request → Option OwnRows → Type 0

@@ -4,18 +4,18 @@ use Rattle.std.specs.Prelude.{true, false, Option, Some, None, codes, option_and
 use Rattle.std.specs.Str.{bytes_eq}
 use Rattle.matchit.specs.Seek.{has_slash}
 use Rattle.exam_request.specs.declared.routes.Found.{Found}
-use Rattle.exam_request.specs.declared.routes.Place.{Place}
-use Rattle.exam_request.specs.declared.routes.Place.TheVariants.{Appeal, Appeals, Clashes, Seats}
+use Rattle.exam_request.specs.declared.routes.Route.{Route}
+use Rattle.exam_request.specs.declared.routes.Route.TheVariants.{Appeal, Appeals, Clashes, Seats}
 
 -- a route with what stands for its names; the reference is empty where the route has none
 pub record Target : Type 0 where
-  pub place : Place
+  pub route : Route
   pub number : List ℕ
   pub reference : List ℕ
 
 -- what the program found, as a target
 abbrev pub shown : Found → Target
-shown f = record { place = f.place; number = f.number.now; reference = f.reference.now }
+shown f = record { route = f.route; number = f.number.now; reference = f.reference.now }
 
 -- the bytes before the first slash
 abbrev pub part : List ℕ → List ℕ
@@ -42,16 +42,16 @@ is_empty (b ∷ rest) = false
 abbrev pub at_reference : List ℕ → List ℕ → Option Target
 at_reference number text =
     if is_empty text || has_slash text then None
-    else Some (record { place = Appeal; number = number; reference = text })
+    else Some (record { route = Appeal; number = number; reference = text })
 
 -- what stands behind the slash after the number
 abbrev pub at_number : List ℕ → List ℕ → Option Target
 at_number number text =
-    if bytes_eq text (codes "seats") then Some (record { place = Seats; number = number; reference = [] })
+    if bytes_eq text (codes "seats") then Some (record { route = Seats; number = number; reference = [] })
     else if bytes_eq text (codes "clashes") then
-    Some (record { place = Clashes; number = number; reference = [] })
+    Some (record { route = Clashes; number = number; reference = [] })
     else if bytes_eq text (codes "appeals") then
-    Some (record { place = Appeals; number = number; reference = [] })
+    Some (record { route = Appeals; number = number; reference = [] })
     else option_and_then (at_reference number) (rest_after (codes "appeals/") text)
 
 -- what stands behind `/candidates/`: a number and more
@@ -64,7 +64,7 @@ abbrev pub reading : List ℕ → Option Target
 reading target = option_and_then at_candidates (rest_after (codes "/candidates/") target)
 
 -- where the reference stands in a target with a number of this length
-abbrev pub reference_in : Place → ℕ → List ℕ → List ℕ
+abbrev pub reference_in : Route → ℕ → List ℕ → List ℕ
 reference_in Seats number target = []
 reference_in Clashes number target = []
 reference_in Appeals number target = []
@@ -75,7 +75,7 @@ abbrev pub IsPart : List ℕ → Type 0
 IsPart text = (0 < length text) × (has_slash text ≡ false)
 
 -- what stands behind the number in the text of a target
-abbrev pub behind_number : Place → List ℕ → List ℕ
+abbrev pub behind_number : Route → List ℕ → List ℕ
 behind_number Seats reference = codes "/seats"
 behind_number Clashes reference = codes "/clashes"
 behind_number Appeals reference = codes "/appeals"
@@ -83,10 +83,10 @@ behind_number Appeal reference = codes "/appeals/" ++ reference
 
 -- the text of a target with these parts
 abbrev pub target_text : Target → List ℕ
-target_text t = codes "/candidates/" ++ t.number ++ behind_number t.place t.reference
+target_text t = codes "/candidates/" ++ t.number ++ behind_number t.route t.reference
 
 -- a part where the route has a reference, and nothing where it has none
-abbrev pub IsReferenceOf : Place → List ℕ → Type 0
+abbrev pub IsReferenceOf : Route → List ℕ → Type 0
 IsReferenceOf Seats reference = reference ≡ []
 IsReferenceOf Clashes reference = reference ≡ []
 IsReferenceOf Appeals reference = reference ≡ []
@@ -94,4 +94,4 @@ IsReferenceOf Appeal reference = IsPart reference
 
 -- the parts may stand in a target of this route
 abbrev pub HasParts : Target → Type 0
-HasParts t = IsPart t.number × IsReferenceOf t.place t.reference
+HasParts t = IsPart t.number × IsReferenceOf t.route t.reference

@@ -6,7 +6,7 @@ ghost use Rattle.exam_request.specs.Answer as spec;
 ghost use Rattle.exam_send.specs.Sending.{AppendsPart};
 
 use crate::methods::allowed;
-use crate::routes::Place;
+use crate::routes::Route;
 use crate::status::{phrase_of, status_of};
 use arrayvec::ArrayVec;
 use exam_office::{AppealState, state_word};
@@ -44,7 +44,7 @@ impl Body {
 #[derive(Drop)]
 pub struct Answer {
     status: StatusCode,
-    allow: Option<Place>,
+    allow: Option<Route>,
     body: Body,
 }
 
@@ -81,12 +81,12 @@ impl Answer {
     }
 
     /// The answer to a method that is none of the route's.
-    pub fn other_method(place: Place) -> Answer
-        ensures { result ≡ spec.method_told place }
+    pub fn other_method(route: Route) -> Answer
+        ensures { result ≡ spec.method_told route }
     {
         Answer {
             status: StatusCode::METHOD_NOT_ALLOWED,
-            allow: Some(place),
+            allow: Some(route),
             body: Body::Short(error_body(38)),
         }
     }
@@ -134,7 +134,7 @@ pub fn write_answer<W: Write>(answer: &Answer, writer: &mut W) -> Result<(), Wri
 }
 
 /// The head of an answer with a body of this length.
-fn head(status: StatusCode, allow: Option<Place>, count: usize) -> Short
+fn head(status: StatusCode, allow: Option<Route>, count: usize) -> Short
     ensures { result.items ≡ spec.head_text status allow count }
 {
     let mut out = Short::new();
@@ -169,13 +169,13 @@ fn put_length(out: &mut Short, count: usize)
     put_header(out, b"Content-Length", buffer.format(count).as_bytes());
 }
 
-fn put_allow(out: &mut Short, allow: Option<Place>)
+fn put_allow(out: &mut Short, allow: Option<Route>)
     requires { array_vec_len out.old + 18 ≤ 256 }
     ensures text { out.new.items ≡ out.old.items ++ spec.allow_line allow }
     ensures len { array_vec_len out.new ≤ array_vec_len out.old + 18 }
 {
-    if let Some(place) = allow {
-        put_header(out, b"Allow", allowed(place));
+    if let Some(route) = allow {
+        put_header(out, b"Allow", allowed(route));
     }
 }
 

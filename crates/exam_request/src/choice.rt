@@ -14,7 +14,7 @@ use crate::fault::Fault;
 use crate::methods::{allows, is_posting};
 use crate::posted::{Posted, posted_in};
 use crate::reading::Asked;
-use crate::routes::{Found, Place};
+use crate::routes::{Found, Route};
 use crate::secret::is_secret;
 use exam_office::{Command, Lodging, Own};
 use exam_types::{AccessCode, Number, Reference, Refusal};
@@ -26,7 +26,7 @@ pub enum Choice {
     /// The request is not served.
     Fault(Fault),
     /// The route has another method.
-    OtherMethod(Place),
+    OtherMethod(Route),
     /// The request is refused.
     Refused(Refusal),
     /// The candidate is shown their seats.
@@ -82,8 +82,8 @@ fn choose_at(
         × spec.ShowsCode (request_of asked.now) (option_map (λ o. shown o.now) own.entry)
         × spec.PostsText (request_of asked.now) (targets.shown found.entry)) }
 {
-    if !allows(found.place, asked.method) {
-        return Ok(Choice::OtherMethod(found.place));
+    if !allows(found.route, asked.method) {
+        return Ok(Choice::OtherMethod(found.route));
     }
     match own {
         Some(own) => choose_for(alloc, asked, found, own),
@@ -131,12 +131,12 @@ fn choose_own(
     ensures memory { IfErr result (λ e. (e ≡ NoMemory)
         × spec.PostsText (request_of asked.now) (targets.shown found.entry)) }
 {
-    match found.place {
-        Place::Seats => Ok(Choice::ShowSeats),
-        Place::Clashes => Ok(Choice::ShowClashes),
-        Place::Appeals if is_posting(asked.method) => lodging(alloc, number, asked.body),
-        Place::Appeals => Ok(Choice::ShowAppeals),
-        Place::Appeal => Ok(retraction(number, found.reference)),
+    match found.route {
+        Route::Seats => Ok(Choice::ShowSeats),
+        Route::Clashes => Ok(Choice::ShowClashes),
+        Route::Appeals if is_posting(asked.method) => lodging(alloc, number, asked.body),
+        Route::Appeals => Ok(Choice::ShowAppeals),
+        Route::Appeal => Ok(retraction(number, found.reference)),
     }
 }
 
@@ -179,7 +179,7 @@ pub fn strangers_are_told_alike()
         → spec.choice_of request one ≡ spec.choice_of request other }
 {}
 
-/// Whoever does not show the code is not told want of memory either: no text of theirs is read.
+/// No text of whoever does not show the code is read, so the choice for them wants no memory.
 pub fn texts_of_strangers_are_not_read()
     ensures { (request : Request) (own : Option OwnRows) → spec.IsStranger request own
         → spec.ReadsText request own → ⊥ }

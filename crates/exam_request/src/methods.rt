@@ -3,29 +3,29 @@ ghost use Rattle.std.specs.Prelude.{◌≡◌, ◌≤◌, codes, length};
 ghost use Rattle.std.specs.Str.{bytes_eq};
 ghost use Rattle.exam_request.specs.Methods.{allow_text, is_allowed};
 
-use crate::routes::Place;
+use crate::routes::Route;
 use http::Method;
 
 /// Whether a method, as its bytes, is one of the route's.
-pub fn allows(place: Place, method: &[u8]) -> bool
-    ensures { result ≡ is_allowed place method.now }
+pub fn allows(route: Route, method: &[u8]) -> bool
+    ensures { result ≡ is_allowed route method.now }
 {
-    match place {
-        Place::Seats | Place::Clashes => is(Method::GET, method),
-        Place::Appeals => is(Method::GET, method) || is(Method::POST, method),
-        Place::Appeal => is(Method::DELETE, method),
+    match route {
+        Route::Seats | Route::Clashes => is(Method::GET, method),
+        Route::Appeals => is(Method::GET, method) || is(Method::POST, method),
+        Route::Appeal => is(Method::DELETE, method),
     }
 }
 
 /// The methods of the route, as the line `Allow` has them (RFC 9110, section 10.2.1).
-pub fn allowed(place: Place) -> &'static [u8]
-    ensures value { result.now ≡ allow_text place }
+pub fn allowed(route: Route) -> &'static [u8]
+    ensures value { result.now ≡ allow_text route }
     ensures short { length result.now ≤ 9 }
 {
-    match place {
-        Place::Seats | Place::Clashes => b"GET",
-        Place::Appeals => b"GET, POST",
-        Place::Appeal => b"DELETE",
+    match route {
+        Route::Seats | Route::Clashes => b"GET",
+        Route::Appeals => b"GET, POST",
+        Route::Appeal => b"DELETE",
     }
 }
 

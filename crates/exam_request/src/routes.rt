@@ -13,7 +13,7 @@ use std::alloc::Global;
 
 /// A route of the server.
 #[derive(Clone, Copy, Debug, PartialEq, Eq)]
-pub enum Place {
+pub enum Route {
     Seats,
     Clashes,
     Appeals,
@@ -23,33 +23,33 @@ pub enum Place {
 /// The route of a target with its number, and with its reference, which is empty where the route has none.
 #[derive(Clone, Copy)]
 pub struct Found<'t> {
-    pub place: Place,
+    pub route: Route,
     pub number: &'t [u8],
     pub reference: &'t [u8],
 }
 
 /// One more route, where it conflicts with none.
-fn add(router: &mut Router<Place>, route: &str, place: Place) -> Result<(), InsertError>
-    requires { IsFree route.now router.old }
-    ensures rows { OnOk result (router.new ≡ with_route route.now place router.old) }
+fn add(router: &mut Router<Route>, pattern: &str, route: Route) -> Result<(), InsertError>
+    requires { IsFree pattern.now router.old }
+    ensures rows { OnOk result (router.new ≡ with_route pattern.now route router.old) }
     ensures memory { IfErr result (λ e. e ≡ OutOfMemory) }
 {
-    router.insert(route, place)
+    router.insert(pattern, route)
 }
 
 /// The routes of the server.
-pub fn server_routes(alloc: Global) -> Result<Router<Place>, InsertError>
+pub fn server_routes(alloc: Global) -> Result<Router<Route>, InsertError>
     ensures table { IfOk result (λ r. r ≡ table) }
     ensures memory { IfErr result (λ e. e ≡ OutOfMemory) }
 {
     let mut router = Router::new(alloc);
-    add(&mut router, "/candidates/{number}/seats", Place::Seats)?;
-    add(&mut router, "/candidates/{number}/clashes", Place::Clashes)?;
-    add(&mut router, "/candidates/{number}/appeals", Place::Appeals)?;
+    add(&mut router, "/candidates/{number}/seats", Route::Seats)?;
+    add(&mut router, "/candidates/{number}/clashes", Route::Clashes)?;
+    add(&mut router, "/candidates/{number}/appeals", Route::Appeals)?;
     add(
         &mut router,
         "/candidates/{number}/appeals/{ref}",
-        Place::Appeal,
+        Route::Appeal,
     )?;
     Ok(router)
 }
@@ -71,38 +71,38 @@ fn part_at(bytes: &[u8], start: usize) -> &[u8]
 }
 
 /// The reference behind a number of this length, or nothing where the route has none.
-fn reference_at(place: Place, bytes: &[u8], number: usize) -> &[u8]
+fn reference_at(route: Route, bytes: &[u8], number: usize) -> &[u8]
     requires { number ≤ length bytes.now }
-    ensures { result.now ≡ reference_in place number bytes.now }
+    ensures { result.now ≡ reference_in route number bytes.now }
 {
-    match place {
-        Place::Appeal => part_at(bytes, number + 21),
+    match route {
+        Route::Appeal => part_at(bytes, number + 21),
         _ => b"",
     }
 }
 
 /// What a target says.
-pub fn find<'t>(router: &Router<Place>, target: &'t str) -> Option<Found<'t>>
+pub fn find<'t>(router: &Router<Route>, target: &'t str) -> Option<Found<'t>>
     requires { router.now ≡ table }
     ensures { option_map shown result ≡ reading target.now }
 {
     let Ok(found) = router.at(target) else {
         return None;
     };
-    let place = *found.value;
+    let route = *found.value;
     let bytes = target.as_bytes();
     let number = part_at(bytes, 12);
     Some(Found {
-        place,
+        route,
         number,
-        reference: reference_at(place, bytes, number.len()),
+        reference: reference_at(route, bytes, number.len()),
     })
 }
 
 /// What the router keeps finds what the reading says, and nothing else.
 pub fn routes_read()
     ensures { (target : List ℕ) → IsText target
-        → option_map (λ r. r.value) (first table target) ≡ option_map (λ t. t.place) (reading target) }
+        → option_map (λ r. r.value) (first table target) ≡ option_map (λ t. t.route) (reading target) }
 {}
 
 /// A reading is the parts of the target's text, each of one or more bytes without a slash, and each such text

@@ -107,9 +107,6 @@ pub record IsWalked {K X : Type 0} (cmp : K → K → Ordering) (same : X → X 
   pub deletes_are : to_delete cmp old new ≡ deletes ++ to_delete cmp old_left new_left
 
 module _ {K X : Type 0} {cmp : K → K → Ordering} (total : IsTotalOrder cmp) (same : X → X → Bool) (old new : List (K × X)) where
-  pub walk_begins : KeysRise cmp old → KeysRise cmp new → IsWalked cmp same old new old new [] []
-  walk_begins old_rises new_rises = record { old_rises = old_rises; new_rises = new_rises; puts_are = refl; deletes_are = refl }
-
   pub walk_deletes : (e : K × X) (more old_left new_left puts : List (K × X)) (deletes : List K) → old_left ≡ e ∷ more → first_cmp cmp old_left new_left ≡ Less
       → IsWalked cmp same old new old_left new_left puts deletes → IsWalked cmp same old new more new_left puts (deletes ++ e.0 ∷ [])
   walk_deletes e more old_left new_left puts deletes is less walked = step (subst (λ l. first_cmp cmp l new_left ≡ Less) is less) (subst (λ l. IsWalked cmp same old new l new_left puts deletes) is walked)

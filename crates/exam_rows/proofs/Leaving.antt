@@ -1,11 +1,9 @@
 -- What calls that only read leave.
-use Rattle.std.proofs.Common.{◌≡◌, ◌≢◌, ◌⊎◌, ℕ, List, [], inl, inr, Result, Ok, Err, IfOk, IfErr, OnOk, IsTrue, refl, sym, ap, subst, ◌∙◌}
+use Rattle.std.proofs.Common.{◌≡◌, ◌⊎◌, ℕ, List, [], inl, inr, Result, Ok, Err, IfOk, IfErr, OnOk, IsTrue, refl, sym, ap, subst, ◌∙◌}
 use Rattle.sqlite_value.specs.Order.{Row}
-use Rattle.sqlite_trees.specs.declared.store.Store.{Ghosts}
 use Rattle.sqlite.specs.declared.error.Error.{Error}
 use Rattle.sqlite.specs.declared.error.Error.TheVariants.{SqliteFailure}
 use Rattle.sqlite.specs.declared.error.ErrorCode.TheVariants.{OutOfMemory}
-use Rattle.sqlite.specs.Held.{Held, state}
 use Rattle.sqlite.specs.State.{State, CommitsShowing, Shown, FailsToQuery, IsUnchanged, Survives}
 use Rattle.sqlite.proofs.Callers.{unchanged_then}
 use Rattle.sqlite.proofs.StateLemmas.{survives_then, survives_weaker}
@@ -15,8 +13,7 @@ use Rattle.exam_tables.specs.Refusals.{is_failure}
 use Rattle.exam_tables.specs.Tables.{store_schema}
 use Rattle.exam_tables.proofs.Quiet.{IsQuery, shown_unchanged, failed_unchanged, commits_nothing}
 use Rattle.exam_rows.specs.Faults.{refusal_of}
-use Rattle.exam_rows.specs.Inside.{IsOurs}
-use Rattle.exam_rows.specs.Loaded.{FailsThen, FailsToLoad, IsLeft, IsStill, IsUnderstood, OnlyReads}
+use Rattle.exam_rows.specs.Loaded.{FailsToLoad, IsLeft, IsStill, IsUnderstood, OnlyReads}
 use Rattle.exam_rows.proofs.Steps.{failure}
 
 -- a query leaves the database as it is, or fails
@@ -34,11 +31,6 @@ left_then old mid new first (inr back) = inr (record {
   unmarked = back.unmarked;
   counts = record { changes = back.counts.changes ∙ first.1.changes; last_rowid = back.counts.last_rowid ∙ first.1.last_rowid };
 })
-
--- one call after another
-pub reads_then : {A E : Type 0} (old mid new : State) (result : Result A E) → IsUnchanged old mid → OnlyReads mid new result → OnlyReads old new result
-reads_then old mid new (Ok value) first next = unchanged_then old mid new first next
-reads_then old mid new (Err e) first next = left_then old mid new first next
 
 -- what is made of what was read
 pub reads_only : {A E : Type 0} (old new : State) (result : Result A E) → IsUnchanged old new → OnlyReads old new result
@@ -72,10 +64,6 @@ pub fails_to_load : {V : Type 0} (text : List ℕ) → ((old new : State) → ol
     → IfErr result (λ e. (error : Error) × (e ≡ refusal_of error) × FailsToQuery text [] old new error) → IfErr result (FailsToLoad text old new)
 fails_to_load text known old new (Ok value) failed = tt
 fails_to_load text known old new (Err e) failed = (failed, λ ours. not_bad_store e failed.0 failed.1 (known old new ours.1.schema_is failed.0 failed.2))
-
--- a bad store is told of no query that failed where the ten tables are there
-pub not_bad : {S : Type 0} (g : Ghosts S) (old new : Held S) (e : Refusal) → FailsThen g old new e → IsOurs (state g old).now → e ≢ BadStore
-not_bad g old new e (mid, same, text, one, fails) ours = fails.1 (subst IsOurs (sym same.now) ours)
 
 -- a text whose rows were shown is understood
 pub shown_understood : (text : List ℕ) (old new : State) (rows : List Row) → Shown text [] old new rows → IsUnderstood old.now text

@@ -1,5 +1,5 @@
 -- The rows of a table after what differs was put and deleted.
-use Rattle.std.proofs.Common.{◌≡◌, ◌&&◌, ◌||◌, ◌==◌, ℕ, pos, Bool, true, false, not, cond, List, [], ◌∷◌, ◌++◌, map, filter, Bor, Ordering, Less, Equal, Greater, refl, sym, ap, ap₂, subst, ◌∙◌}
+use Rattle.std.proofs.Common.{◌≡◌, ◌&&◌, ◌||◌, ℕ, pos, Bool, true, false, not, cond, List, [], ◌∷◌, ◌++◌, map, filter, Bor, Ordering, Less, Equal, Greater, refl, sym, ap, ap₂, subst, ◌∙◌}
 use Rattle.std.specs.Bool.{Decides, one_answer}
 use Rattle.std.specs.Cmp.{Equal-is, tied_itself, nat_cmp_total}
 use Rattle.std.specs.Cmp.Lexicographic.{nat_list_cmp_total}
@@ -37,9 +37,6 @@ meant rows = map (λ row. Null ∷ row) rows
 
 set_here : (all : Trees) (tree : ℕ) (rows : List Row) → with_tree all tree rows tree ≡ rows
 set_here all tree rows = rw (eq-eqb tree tree refl)
-
-set_elsewhere : (all : Trees) (tree u : ℕ) (rows : List Row) → (u == tree) ≡ false → with_tree all tree rows u ≡ all u
-set_elsewhere all tree u rows other = rw other
 
 -- Rows that are put in turn are put into the tree of their table, and no other tree changes.
 pub with_rows_is : (tree : ℕ) (key : List ℕ) (rows : List Row) (all : Trees) (u : ℕ) → with_rows tree key rows all u ≡ with_tree all tree (put_all key (meant rows) (all tree)) u
@@ -117,13 +114,6 @@ module _ {K X : Type 0} {cmp : K → K → Ordering} {key : List ℕ} {row : K �
       without_rows_is tree key gone (with_rows tree key rows all) tree ∙ set_here (with_rows tree key rows all) tree _
       ∙ ap₂ (delete_all key) (map-map (λ r. Null ∷ r) (λ (k : Bor K). key_of k.now) deletes ∙ sym (map-map (λ k. Null ∷ key_of k) (λ (k : Bor K). k.now) deletes)) put_is in
       subst (HoldsRows row new) (sym is) saved
-
--- No other tree changes.
-pub put_elsewhere : (tree : ℕ) (key : List ℕ) (rows : List Row) (all : Trees) (u : ℕ) → (u == tree) ≡ false → with_rows tree key rows all u ≡ all u
-put_elsewhere tree key rows all u other = with_rows_is tree key rows all u ∙ set_elsewhere all tree u _ other
-
-pub delete_elsewhere : (tree : ℕ) (key : List ℕ) (rows : List Row) (all : Trees) (u : ℕ) → (u == tree) ≡ false → without_rows tree key rows all u ≡ all u
-delete_elsewhere tree key rows all u other = without_rows_is tree key rows all u ∙ set_elsewhere all tree u _ other
 
 -- ---- the keys of the nine tables
 

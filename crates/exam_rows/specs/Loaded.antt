@@ -15,8 +15,7 @@ use Rattle.sqlite_value.specs.Order.{Row}
 use Rattle.exam_types.specs.declared.refusal.Refusal.{Refusal}
 use Rattle.exam_types.specs.declared.refusal.Refusal.TheVariants.{NoMemory, BadStore}
 use Rattle.exam_tables.specs.Content.{same_key}
-use Rattle.exam_tables.specs.Texts.{load_texts, load_session, load_paper, load_hall, load_candidate, load_opening}
-use Rattle.exam_tables.specs.Texts.{load_entry, load_arrangement, load_appeal}
+use Rattle.exam_tables.specs.Texts.{load_texts}
 use Rattle.exam_rules.specs.Orders.{KeysRise}
 use Rattle.exam_rows.specs.Faults.{refusal_of}
 use Rattle.exam_rows.specs.Inside.{IsOurs}
@@ -45,12 +44,6 @@ IsUnderstood db text = (c : Compiled) × (understood db.schema text ≡ Ok c)
 
 abbrev pub AreUnderstood : Database → List (List ℕ) → Type 0
 AreUnderstood db = AllByRecursion (IsUnderstood db)
-
--- the texts that load the tables of facts
-abbrev pub fact_texts : List (List ℕ)
-fact_texts =
-    load_session ∷ load_paper ∷ load_hall ∷ load_candidate ∷ load_opening ∷ load_entry ∷ load_arrangement ∷ load_appeal
-    ∷ []
 
 -- the refusal tells the error that the query of this text gave
 abbrev pub Told : List ℕ → State → State → Refusal → Type 0

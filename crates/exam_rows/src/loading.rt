@@ -6,7 +6,8 @@ ghost use Rattle.exam_rules.specs.Relations.{relations_of};
 ghost use Rattle.exam_rows.specs.Faults.{is_store_refusal};
 ghost use Rattle.exam_rows.specs.Held.{HoldsRelations};
 ghost use Rattle.exam_rows.specs.Inside.{Contains};
-ghost use Rattle.exam_rows.specs.Loaded.{AreUnderstood, FailsThen, IsLoadRefusal, OnlyReads, fact_texts};
+ghost use Rattle.exam_rows.specs.Loaded.{AreUnderstood, FailsThen, IsLoadRefusal, OnlyReads};
+ghost use Rattle.exam_tables.specs.Texts.{fact_texts};
 
 use crate::table::load_rows;
 use crate::tables::appeals::Appeals;

@@ -1,5 +1,5 @@
 -- The problem by indices is the seating by numbers and codes.
-use Rattle.std.proofs.Common.{◌≡◌, ℕ, zero, suc, ◌+◌, ◌<◌, ◌≤◌, Bool, true, false, cond, not, ◌&&◌, ◌||◌, IsTrue, List, [], ◌∷◌, length, map, filter, get_or, nat_eq, Contains, Option, None, Some, IsSome, Result, Ok, Err, OnOk, refl, sym, ap, subst, ◌∙◌, inl, inr, arith}
+use Rattle.std.proofs.Common.{◌≡◌, ℕ, zero, suc, ◌+◌, ◌<◌, ◌≤◌, Bool, true, false, cond, not, ◌&&◌, ◌||◌, IsTrue, List, [], ◌∷◌, length, map, filter, get_or, nat_eq, Contains, Option, None, Some, IsSome, refl, sym, ap, subst, ◌∙◌, inl, inr, arith}
 use Rattle.std.specs.declared.cmp.Ordering.{Ordering}
 use Rattle.std.specs.declared.cmp.Ordering.TheVariants.{Less, Equal, Greater}
 use Rattle.std.specs.Ordering.{nat_cmp, ordering_then, is_eq, MatchOrdering}
@@ -201,11 +201,6 @@ halls_rise s (o ∷ es) up = inner (same_code o.0.0 s) refl (halls_rise s es (so
         → IsStrictlySortedBy code_cmp (map (λ (o : (Code × Code) × Opening). o.0.1) (cond b (o ∷ filter (λ o. same_code o.0.0 s) es) (filter (λ o. same_code o.0.0 s) es)))
     inner true t rest = (above es t (sorted_head opening_cmp o.0 (keys_of es) up), rest)
     inner false t rest = rest
-
--- a fact that holds anyway
-pub on_ok : {T E : Type 0} (result : Result T E) (P : Type 0) → P → OnOk result P
-on_ok (Ok x) P h = h
-on_ok (Err e) P h = tt
 
 module _ (r : Relations) (s : Code) where
   opened : (h : Code) → IsSome (opened_room r s h) → IsSome (row_at opening_cmp r.openings (s, h))

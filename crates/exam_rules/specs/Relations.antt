@@ -4,7 +4,7 @@ use Rattle.std.specs.Prelude.{ℕ, ◌==◌, Bool, List, [], ◌∷◌, Option, 
 use Rattle.std.specs.declared.cmp.Ordering.{Ordering}
 use Rattle.std.specs.Ordering.{nat_cmp, ordering_then}
 use Rattle.std.specs.Cmp.Lexicographic.{slice_cmp, pointwise}
-use Rattle.std.specs.Map.{lookup, set_value, remove_entry}
+use Rattle.std.specs.Map.{lookup, remove_entry}
 use Rattle.std.specs.BTreeMap.{is_at, insert_entry}
 use Rattle.exam_rules.specs.declared.rows.Session.{Session}
 use Rattle.exam_rules.specs.declared.rows.Paper.{Paper}
@@ -89,10 +89,6 @@ module _ {K X : Type 0} (cmp : K → K → Ordering) where
   -- with this row at the key, in place of the one that it had, if any
   abbrev pub put_row : List (K × X) → K → X → List (K × X)
   put_row rows k x = insert_entry cmp rows k x
-
-  -- with another row at a key that is there
-  abbrev pub set_row : List (K × X) → K → X → List (K × X)
-  set_row rows k x = set_value (is_at (cmp k)) rows x
 
   abbrev pub remove_row : List (K × X) → K → List (K × X)
   remove_row rows k = remove_entry (is_at (cmp k)) rows

@@ -39,7 +39,7 @@ impl Facts {
     }
 
     /// The keys of every table rise. Does nothing: it is for proofs alone.
-    pub fn are_in_order(&self)
+    pub fn show_order(&self)
         ensures { AreInOrder (relations_of self.now) }
     {
         // The length of a map tells that its keys rise.

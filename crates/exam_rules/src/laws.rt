@@ -15,7 +15,7 @@ ghost use Rattle.exam_rules.specs.Orders.{AreInOrder};
 ghost use Rattle.exam_rules.specs.Names.{ListsRise, SeatsInOpenHalls, named_plan, indexed_plan, named_chain};
 ghost use Rattle.exam_rules.specs.Names.{index_of, hall_index, number_at, hall_at};
 
-/// Where the tables are in order, numbers and codes rise. `Facts::are_in_order` tells that they are, of any
+/// Where the tables are in order, numbers and codes rise. `Facts::show_order` tells that they are, of any
 /// facts.
 pub fn lists_rise()
     ensures { (r : Relations) (s : Code) → AreInOrder r → ListsRise r s }

@@ -1,4 +1,4 @@
-//! The facts of an office, and the written rules over them.
+//! The facts of an office, and the office's rules over them.
 #![tactic(auto)]
 
 mod appeals;

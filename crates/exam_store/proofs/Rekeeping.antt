@@ -22,7 +22,7 @@ use Rattle.exam_rows.specs.Rows.{session_row, paper_row, hall_row, candidate_row
 use Rattle.exam_rows.specs.Writes as writes
 use Rattle.exam_store.specs.Saves.{TurnsTables}
 use Rattle.exam_rows.proofs.SavedTrees.{all_saved, saved_are}
-use Rattle.exam_rows.specs.Versions.{HasVersion, new_tables, IsBlank, IsMade}
+use Rattle.exam_rows.specs.Versions.{HasVersion, new_tables, IsMade}
 use Rattle.exam_rows.proofs.EachTree.{sessions_after, papers_after, halls_after, openings_after, candidates_after, entries_after, arrangements_after, appeals_after, seats_after, version_after}
 use Rattle.exam_rows.proofs.SavedRows.{table_saved, sessions_match, papers_match, halls_match, openings_match, candidates_match, entries_match, arrangements_match, appeals_match, seats_match}
 
@@ -64,10 +64,6 @@ keeps_empty db made =
 has_tables : store_schema ≡ no_schema → ⊥
 unfolding store_schema
 has_tables is = let e = ap (λ (s : Schema). length s.tables) is in absurd cc
-
--- a database with the ten tables is not blank
-pub not_blank : (db : Database) → IsOurs db → IsBlank db → ⊥
-not_blank db ours blank = has_tables (sym ours.1.schema_is ∙ blank)
 
 -- the rows of an office whose values have their forms are its rows
 held_office : (all : Trees) (office : State) → HoldsFormed all office → HoldsOffice all office

@@ -69,6 +69,6 @@ fn show_good(office: &Office)
     ensures good { IsGood office.now }
     ensures rises { KeysRise seat_cmp office.now.seats }
 {
-    office.is_good();
-    office.is_in_order();
+    office.show_good();
+    office.show_order();
 }

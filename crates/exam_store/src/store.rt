@@ -168,22 +168,22 @@ impl<S: Alter> Store<S> {
         ensures same { OnErr result (self.new ≡ self.old) }
     {
         // What an office promises is shown here for a refusal, and once more after the commands.
-        self.is_seated();
+        self.show_seated();
         // Room for all replies first, so that nothing fails once a command is applied.
         let mut replies = Vec::with_capacity(alloc, commands.len())?;
         'commands: for (command, today) in commands {
             replies.push_reserved(self.apply(alloc, command, *today));
         }
-        self.is_seated();
+        self.show_seated();
         Ok(replies)
     }
 
     /// In every session whoever sits has a fitting hall and a desk of their own, and no lawful plan seats
     /// more. Does nothing.
-    pub fn is_seated(&self)
+    pub fn show_seated(&self)
         ensures { (s : Code) → IsSeated self.now.office s }
     {
-        self.office.is_seated();
+        self.office.show_seated();
     }
 
     /// One session with its plan. Refused as an unknown session where there is no such session.

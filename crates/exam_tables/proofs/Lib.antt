@@ -19,8 +19,6 @@ pub mod OfOpening
 pub mod OfPaper
 pub mod OfSeat
 pub mod OfSession
-pub mod OpenShape
-pub mod Opens
 pub mod Queries
 pub mod QueryFails
 pub mod Quiet

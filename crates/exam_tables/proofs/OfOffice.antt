@@ -1,16 +1,12 @@
 -- The table office: what its texts mean, and what they do.
 use Rattle.std.proofs.Common.{◌≡◌, ◌⊎◌, IsTrue, ℕ, ℤ, pos, List, [], ◌∷◌, codes, map, length, false, Result, OnOk, refl}
-use Rattle.std.specs.List.{AllByRecursion, list_all}
+use Rattle.std.specs.List.{AllByRecursion}
 use Rattle.std.specs.List.Sorted.{IsPermutation}
 use Rattle.sqlite_value.specs.declared.value.Value.TheVariants.{Null, Int}
-use Rattle.sqlite_value.specs.declared.keys.Collation.TheVariants.{Binary}
 use Rattle.sqlite_value.specs.Order.{Row}
-use Rattle.sqlite_value.specs.Keys.{first_key}
 use Rattle.sqlite_trees.specs.Tree.{Trees, with_tree}
-use Rattle.sqlite_sql.specs.Term.{Term, lit, col, op2, holds}
-use Rattle.sqlite_sql.specs.declared.ops.BinaryOp.TheVariants.{Compare}
-use Rattle.sqlite_sql.specs.declared.ops.CompareOp.TheVariants.{Eq}
-use Rattle.sqlite_schema.specs.declared.command.Command.TheVariants.{Insert, Delete, Select}
+use Rattle.sqlite_sql.specs.Term.{Term, lit, col}
+use Rattle.sqlite_schema.specs.declared.command.Command.TheVariants.{Insert, Select}
 use Rattle.sqlite_schema.specs.declared.command.Source.TheVariants.{Values}
 use Rattle.sqlite_tied.specs.Compute.{everything}
 use Rattle.sqlite.specs.declared.error.Error.{Error}
@@ -19,7 +15,7 @@ use Rattle.sqlite.specs.declared.error.ErrorCode.TheVariants.{OutOfMemory}
 use Rattle.sqlite.specs.Listing.{understood, reads_listing}
 use Rattle.sqlite.specs.State.{State, Executes, FailsToQuery, Shown, IsUnchanged}
 use Rattle.sqlite.proofs.Callers.{IsPlain, command_of}
-use Rattle.exam_tables.specs.Content.{ContainsIn, places, bare, put, delete, same_key}
+use Rattle.exam_tables.specs.Content.{ContainsIn, put}
 use Rattle.exam_tables.specs.Plain.{one_table}
 use Rattle.exam_tables.specs.Refusals.{is_failure}
 use Rattle.exam_tables.specs.Tables.{store_schema, stored_office}
@@ -28,7 +24,6 @@ use Rattle.exam_tables.proofs.QueryFails.{query_fails}
 use Rattle.exam_tables.proofs.Fits.{Fits, fits_given}
 use Rattle.exam_tables.proofs.Keys.{cast_int, cast_null}
 use Rattle.exam_tables.proofs.Inserts.{insert_by}
-use Rattle.exam_tables.proofs.Deletes.{delete_by}
 use Rattle.exam_tables.proofs.Loads.{shown_by}
 use Rattle.exam_tables.proofs.TableFacts.{office_keyed}
 
@@ -60,28 +55,6 @@ pub puts : (old new : State) (version : ℤ) (r : Result ℕ Error) → Executes
     → OnOk r ((all : Trees) → ContainsIn store_schema old.now all → ContainsIn store_schema new.now (with_tree all 0 (put (1 ∷ []) (Null ∷ Int (pos 1) ∷ Int version ∷ []) (all 0))))
 puts old new version r h =
     insert_by store_schema 0 stored_office (1 ∷ []) (0 ∷ []) office_keyed put_text terms 3 put_is put_plain old new (Int version ∷ []) r (Int (pos 1)) (columns (pos 1) version) (row (pos 1) version) (fits (pos 1) version) refl h
-
-abbrev pub delete_text : List ℕ
-delete_text = codes "DELETE FROM office WHERE one = ?1"
-
-abbrev key_terms : List Term
-key_terms = op2 (Compare Eq Binary) (col 1 0) (col 0 0) ∷ []
-
-delete_is : command_of (understood store_schema delete_text) ≡ Delete 0 (record { lets = []; body = one_table 0 key_terms (col 1 0 ∷ []) [] })
-unfolding understood everything store_schema
-delete_is = refl
-
-delete_plain : IsPlain (understood store_schema delete_text)
-unfolding understood everything store_schema
-delete_plain = (refl, refl)
-
-key_means : (params r : Row) → list_all (holds (params ∷ r ∷ [])) key_terms ≡ same_key (1 ∷ []) (bare (places stored_office) r) (Null ∷ params)
-unfolding first_key
-key_means params r = refl
-
-pub deletes : (old new : State) (one : ℤ) (r : Result ℕ Error) → Executes delete_text (Int one ∷ []) old new r
-    → OnOk r ((all : Trees) → ContainsIn store_schema old.now all → ContainsIn store_schema new.now (with_tree all 0 (delete (1 ∷ []) (Null ∷ Int one ∷ []) (all 0))))
-deletes old new one r h = delete_by store_schema 0 stored_office (1 ∷ []) (0 ∷ []) office_keyed key_terms delete_text delete_is delete_plain (λ db. refl) old new (Int one ∷ []) r (key_means (Int one ∷ [])) h
 
 abbrev pub load_text : List ℕ
 load_text = load_office

@@ -1,5 +1,5 @@
 -- What a table holds: its rows in any order, read by columns, with NULL in place of their rowids.
-use Rattle.std.specs.Prelude.{◌≡◌, ℕ, Bool, not, ◌==◌, if◌then◌else◌, List, [], ◌∷◌, map, filter, length}
+use Rattle.std.specs.Prelude.{◌≡◌, ℕ, Bool, not, List, [], ◌∷◌, map, filter, length}
 use Rattle.std.specs.Prelude.{IsPermutation}
 use Rattle.std.specs.List.{range_with_len, AllByRecursion}
 use Rattle.sqlite_value.specs.declared.value.Value.TheVariants.{Null}
@@ -32,12 +32,6 @@ pub record Holds (places : List ℕ) (kept rows : List Row) : Type 0 where
 pub record ContainsIn (schema : Schema) (db : Database) (all : Trees) : Type 0 where
   pub schema_is : db.schema ≡ schema
   pub rows : AllByRecursion (λ t. Holds (places t) (db.trees t.tree) (all t.tree)) schema.tables
-
--- what the trees of these tables hold
-abbrev pub contents : List Table → Trees → Trees
-contents [] db tree = []
-contents (t ∷ tables) db tree =
-    if tree == t.tree then map (bare (places t)) (db tree) else contents tables db tree
 
 -- the row takes the place of the row with its key
 abbrev pub put : List ℕ → Row → List Row → List Row

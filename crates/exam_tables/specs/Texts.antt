@@ -1,6 +1,6 @@
 -- The texts that put a row of a table, whether its key is there or not, that delete one by its key, and that
 -- load all rows.
-use Rattle.std.specs.Prelude.{ℕ, List, [], ◌∷◌, codes}
+use Rattle.std.specs.Prelude.{ℕ, List, [], ◌∷◌, ◌++◌, codes}
 
 abbrev pub put_session : List ℕ
 put_session = codes "INSERT INTO session (code, day, start) VALUES (?1, ?2, ?3) ON CONFLICT (code) DO UPDATE SET day = excluded.day, start = excluded.start"
@@ -86,8 +86,12 @@ load_appeal = codes "SELECT number, ref, session, kind, target, needs, extra, re
 abbrev pub load_seat : List ℕ
 load_seat = codes "SELECT session, number, hall FROM seat"
 
+-- what loads the tables of facts
+abbrev pub fact_texts : List (List ℕ)
+fact_texts =
+    load_session ∷ load_paper ∷ load_hall ∷ load_candidate ∷ load_opening ∷ load_entry ∷ load_arrangement ∷ load_appeal
+    ∷ []
+
 -- what loads the ten tables
 abbrev pub load_texts : List (List ℕ)
-load_texts =
-    load_office ∷ load_session ∷ load_paper ∷ load_hall ∷ load_candidate ∷ load_opening ∷ load_entry
-    ∷ load_arrangement ∷ load_appeal ∷ load_seat ∷ []
+load_texts = load_office ∷ fact_texts ++ load_seat ∷ []

@@ -13,7 +13,7 @@ use Rattle.exam_types.specs.Days.{IsDay, date_text, day_of, day_text, is_day, mo
 use Rattle.exam_types.specs.Digits.{digits, digits_value, is_digit, number_of}
 use Rattle.exam_types.proofs.DayFacts.{civil_of, date_parts, month_day_is, month_is, number_of_civil, year_is}
 use Rattle.std.proofs.lemmas.Slice.Eq.{bytes_eq-Decides}
-use Rattle.exam_types.proofs.DigitFacts.{digits-value, digits_are, value-digits}
+use Rattle.exam_types.proofs.DigitFacts.{digits-value, value-digits}
 
 month_short : (y m : ℕ) → month_days y m ≤ 31
 month_short y m = grind arith
@@ -30,9 +30,6 @@ parts_small n is =
     let last : month_day_of n ≤ month_days (year_of n) (month_of n) = civil.2.1 in
     let short = month_short (year_of n) (month_of n) in
     (omega arith, omega arith, omega arith)
-
-pub number_of-digits : (k n : ℕ) → n < 10 ^ k → number_of (digits k n) ≡ Some n
-number_of-digits k n small = rw (digits_are k n, value-digits k n small) refl
 
 spelled : (b : Bool) (n v : ℕ) → (if b then Some v else None) ≡ Some n → (b ≡ true) × (v ≡ n)
 spelled true n v e = (refl, cc)

@@ -3,16 +3,11 @@ use Rattle.std.proofs.Common.{◌≡◌, ◌∙◌, ◌<◌, ◌≤◌, ◌+◌,
 use Rattle.std.specs.List.{list_all}
 use Rattle.std.proofs.lemmas.List.Sums.{fold-append}
 use Rattle.std.proofs.lemmas.List.Folds.{list_all-append}
-use Rattle.std.proofs.lemmas.List.{length-append}
 use Rattle.exam_types.specs.Digits.{digits, digits_value, is_digit}
 
 -- a front, and the digit behind it
 value-snoc : (front : List ℕ) (b : ℕ) → digits_value (front ++ b ∷ []) ≡ digits_value front * 10 + (b - 48)
 value-snoc front b = fold-append (λ (n b : ℕ). n * 10 + (b - 48)) 0 front (b ∷ [])
-
-pub length-digits : (k n : ℕ) → length (digits k n) ≡ k
-length-digits zero n = refl
-length-digits (suc k) n = length-append (digits k (n / 10)) ((48 + n % 10) ∷ []) ∙ ap (λ m. m + 1) (length-digits k (n / 10)) ∙ omega arith
 
 digit_is : (d : ℕ) → d < 10 → is_digit (48 + d) ≡ true
 digit_is d small = grind arith

@@ -1,9 +1,9 @@
 -- Equal feature sets, and the one set with a sum.
-use Rattle.std.proofs.Common.{◌≡◌, ◌∙◌, ℕ, List, Bool, true, false, Some, None, refl, sym, ap}
+use Rattle.std.proofs.Common.{◌≡◌, ◌∙◌, ℕ, Bool, true, false, Some, None, refl, sym, ap}
 use Rattle.std.specs.Prelude.{◌&&◌, ◌↔◌}
 use Rattle.std.specs.Cmp.{booleans_Decides}
 use Rattle.std.proofs.Math.Bool.{beq}
-use Rattle.exam_types.specs.Features.{Features, same_features, features_sum, summed_features, features_text, named_features}
+use Rattle.exam_types.specs.Features.{Features, same_features, features_sum, summed_features}
 
 left : (x y : Bool) → (x && y) ≡ true → x ≡ true
 left true y e = refl
@@ -90,41 +90,3 @@ exact_sum read f sum is e = (λ some. same_sum read f some e, λ has. ap Some (i
 -- and where the set that is read has another sum, no set has this one
 pub no_sum : (read f : Features) (sum : ℕ) → read ≡ summed_features sum → (features_sum read ≡ sum → ⊥) → (None ≡ Some f) ↔ (features_sum f ≡ sum)
 no_sum read f sum is never = (λ none. cc none, λ has. absurd (never (ap features_sum (is ∙ set_of_sum f sum has) ∙ has)))
-
-spelled : (a b c d e : Bool) → named_features (features_text (of_flags a b c d e)) ≡ of_flags a b c d e
-spelled true true true true true = refl
-spelled true true true true false = refl
-spelled true true true false true = refl
-spelled true true true false false = refl
-spelled true true false true true = refl
-spelled true true false true false = refl
-spelled true true false false true = refl
-spelled true true false false false = refl
-spelled true false true true true = refl
-spelled true false true true false = refl
-spelled true false true false true = refl
-spelled true false true false false = refl
-spelled true false false true true = refl
-spelled true false false true false = refl
-spelled true false false false true = refl
-spelled true false false false false = refl
-spelled false true true true true = refl
-spelled false true true true false = refl
-spelled false true true false true = refl
-spelled false true true false false = refl
-spelled false true false true true = refl
-spelled false true false true false = refl
-spelled false true false false true = refl
-spelled false true false false false = refl
-spelled false false true true true = refl
-spelled false false true true false = refl
-spelled false false true false true = refl
-spelled false false true false false = refl
-spelled false false false true true = refl
-spelled false false false true false = refl
-spelled false false false false true = refl
-spelled false false false false false = refl
-
--- a text is that of one set alone, which its parts name
-pub set_of_text : (f : Features) (text : List ℕ) → features_text f ≡ text → named_features text ≡ f
-set_of_text f text e = ap named_features (sym e) ∙ spelled f.step_free f.screen f.reader f.small_room f.computer

@@ -14,15 +14,18 @@ use Rattle.exam_office.specs.State.{State as Office, empty_state}
 use Rattle.exam_rows.specs.Versions.{IsBlank}
 use Rattle.exam_store.specs.Found.{Finds}
 
--- The connection at which the files were opened finds the database that they held, and opening it finds the office.
+-- the connection has the database that the files held
+abbrev pub IsOver : {S : Type 0} → Ghosts S → Image → Held S → Type 0
+IsOver g image conn = HasCleanDisk (state g conn) → FindsIn image (state g conn)
+
+-- over the database that the files held, opening found the office
 abbrev pub OpensIn : {S : Type 0} → Ghosts S → Image → Held S → Office → Type 0
-OpensIn {S} g image now office =
-    (was : Held S) × (HasCleanDisk (state g was) → FindsIn image (state g was)) × Finds (state g was) (state g now) office
+OpensIn {S} g image now office = (was : Held S) × IsOver g image was × Finds (state g was) (state g now) office
 
 -- the same, or there was nothing, and the office is the empty one
 abbrev pub MakesIn : {S : Type 0} → Ghosts S → Image → Held S → Office → Type 0
 MakesIn {S} g image now office =
-    (was : Held S) × (HasCleanDisk (state g was) → FindsIn image (state g was))
+    (was : Held S) × IsOver g image was
     × (IsBlank (state g was).now → office ≡ empty_state)
     × ((IsBlank (state g was).now → ⊥) → Finds (state g was) (state g now) office)
 

@@ -1,7 +1,6 @@
 //! The database and the import file at a path.
 ghost use Rattle.std.specs.Prelude.{◌≡◌, ◌≢◌, false, IfOk, IfErr, IsTrue};
 ghost use Rattle.sqlite.specs.State.{HasCleanDisk};
-ghost use Rattle.sqlite.specs.Start.{FindsIn};
 ghost use Rattle.sqlite.specs.Files.{file_state, over_files, IsBlankAs};
 ghost use Rattle.sqlite_store.specs.FileStore.{view};
 ghost use Rattle.sqlite_wal.specs.Files.{image_at};
@@ -11,7 +10,7 @@ ghost use Rattle.exam_office.specs.State.{empty_state};
 ghost use Rattle.exam_store.specs.Found.{Finds};
 ghost use Rattle.exam_store.specs.Kept.{KeepsOurs};
 ghost use Rattle.exam_job.specs.Reading.{IsReadFault};
-ghost use Rattle.examoffice.specs.Opening.{MakesIn, OpensIn, opening_refusal};
+ghost use Rattle.examoffice.specs.Opening.{IsOver, MakesIn, OpensIn, opening_refusal};
 
 use exam_job::JobFault;
 use exam_store::Store;
@@ -21,7 +20,8 @@ use std::alloc::Global;
 use std::fs::File;
 use std::io::ErrorKind;
 
-/// What holds the tables of a file. `S` stands for what the file held as it was opened, so that a contract can speak of it.
+/// What holds the tables of a file. `S` stands for what the file held as it was opened, so that a contract can
+/// speak of it.
 pub type OfficeFile<S> = FileStore<FileFrom<S>>;
 
 /// Opens the office at the path, or makes an empty one where nothing is.
@@ -127,7 +127,7 @@ fn open_database<S: Start>(
     path: &str,
     start: S,
 ) -> Result<Connection<OfficeFile<S>>, Refusal>
-    ensures found { IfOk result (λ conn. HasCleanDisk (file_state conn) → FindsIn (image_at S.Start) (file_state conn)) }
+    ensures found { IfOk result (IsOver over_files (image_at S.Start)) }
     ensures plain { IfOk result (λ conn. HasCleanDisk (file_state conn) → IsBlankAs false (image_at S.Start)
         → (view conn.store).has_sums ≡ false) }
     ensures told { IfErr result (λ refusal. IsTrue (is_store_refusal refusal)) }

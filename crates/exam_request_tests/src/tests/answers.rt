@@ -1,7 +1,7 @@
 //! Answers, byte for byte.
 use super::owns::{decided_rows, own_rows};
 use exam_office::AppealState;
-use exam_request::{Answer, Place, appeals_body, clashes_body, seats_body, write_answer};
+use exam_request::{Answer, Route, appeals_body, clashes_body, seats_body, write_answer};
 use exam_types::{Day, Refusal};
 use std::alloc::Global;
 use std::test::Fail;
@@ -28,7 +28,7 @@ fn an_unknown_candidate_is_told_so(rt: HostRuntime) -> Result<(), Fail> {
 
 #[test]
 fn another_method_is_told_which_are_allowed(rt: HostRuntime) -> Result<(), Fail> {
-    let answer = written(rt.alloc(), &Answer::other_method(Place::Appeals))?;
+    let answer = written(rt.alloc(), &Answer::other_method(Route::Appeals))?;
     let text =
         b"HTTP/1.1 405 Method Not Allowed\r\nContent-Type: application/json\r\nContent-Length: 12\r\nAllow: GET, POST\r\nConnection: close\r\n\r\n{\"error\":38}";
     assert_eq!(rt; answer.as_slice(), text.as_slice());

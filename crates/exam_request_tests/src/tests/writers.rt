@@ -1,7 +1,7 @@
 //! Answers to writers that take little at a time, take nothing, or fail.
 use super::owns::own_rows;
 use arrayvec::ArrayVec;
-use exam_request::{Answer, Place, seats_body, write_answer};
+use exam_request::{Answer, Route, seats_body, write_answer};
 use exam_types::{Day, Refusal};
 use std::io;
 use std::io::Write;
@@ -75,7 +75,7 @@ fn expect_each_cut<R: Abort>(rt: &R, answer: &Answer, whole: &[u8]) {
 #[test]
 fn an_answer_is_cut_where_its_writer_stops(rt: HostRuntime) -> Result<(), Fail> {
     let day = Day::parse(b"2027-05-30").ok_or("day")?;
-    expect_each_cut(&rt, &Answer::other_method(Place::Appeals), OTHER_METHOD);
+    expect_each_cut(&rt, &Answer::other_method(Route::Appeals), OTHER_METHOD);
     expect_each_cut(
         &rt,
         &Answer::refusal(Refusal::PastClosing { day }),

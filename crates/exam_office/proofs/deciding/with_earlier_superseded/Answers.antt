@@ -13,7 +13,7 @@ returns-in-Some-clause-ok c =
     let a : Appeal = c.args.appeal.now in
     let found : find (is_earlier c.args.number a.session a.subject) rows ≡ Some (c.in-Some.key.now, c.in-Some.earlier.now) = sym c.in-Some.ensures in
     let rewritten : map (giving_way c.args.number a.session a.subject) rows ≡ put_row appeal_cmp rows c.in-Some.key.now (record c.in-Some.earlier.now { status = superseded c.in-Some.earlier.now.status }) =
-    one_given c.args.number a.session a.subject rows (c.in-Some.key.now, c.in-Some.earlier.now) c.are_in_order.ensures.appeals c.requires found in
+    one_given c.args.number a.session a.subject rows (c.in-Some.key.now, c.in-Some.earlier.now) c.show_order.ensures.appeals c.requires found in
     subst (λ given. IfOk c.with_superseded_appeal.result (λ changed. relations_of changed ≡ record (relations_of c.args.facts.now) { appeals = given })) (sym rewritten) c.with_superseded_appeal.ensures.ok
 
 pub returns-in-None-clause-ok : goal.returns-in-None-clause-ok

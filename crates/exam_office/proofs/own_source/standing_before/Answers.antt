@@ -13,7 +13,7 @@ loop-key-init c = (
       ∙ ap (before_among (relations_of c.args.facts.now) c.args.session.now c.args.hall.now (c.sitting_among.result, c.args.number)) (c.into_iter-key-iterator.ensures.into_iter_gives ∙ c.seats_of-key-items.ensures.value)
       ∙ ap (λ p. before_among (relations_of c.args.facts.now) c.args.session.now c.args.hall.now (p, c.args.number) (filter (λ (e : (Code × ℕ) × Code). same_code e.0.0 c.args.session.now) c.args.seats.now.entries)) c.sitting_among.ensures
       ∙ counted_before (relations_of c.args.facts.now) c.args.seats.now.entries c.args.session.now c.seats_of-key-items.ensures.rising (c.requires.good.best c.args.session.now).lawful c.args.hall.now
-      (lists_rise (relations_of c.args.facts.now) c.args.session.now c.are_in_order.ensures).numbers c.args.number,
+      (lists_rise (relations_of c.args.facts.now) c.args.session.now c.show_order.ensures).numbers c.args.number,
 )
 
 pub overflow_add-count : goal.overflow_add-count

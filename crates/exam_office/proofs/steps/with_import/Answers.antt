@@ -12,13 +12,13 @@ use Rattle.exam_office.proofs.steps.with_import.Goals as goal
 pub resettled-requires-clause-refer : goal.resettled-requires-clause-refer
 resettled-requires-clause-refer c =
     ap refers (c.in_ok-facts.ensures.ok ∙ ap (λ r. with_rows r c.args.import.now.rows) c.facts.ensures)
-    ∙ import_refers c.args.office.now.relations c.args.import.now.rows c.is_good.ensures.refer (ap (λ r. rows_refusal r c.args.import.now.rows) (sym c.facts.ensures) ∙ c.in_ok-facts.ensures.checked)
+    ∙ import_refers c.args.office.now.relations c.args.import.now.rows c.show_good.ensures.refer (ap (λ r. rows_refusal r c.args.import.now.rows) (sym c.facts.ensures) ∙ c.in_ok-facts.ensures.checked)
 
 pub resettled-requires-clause-single : goal.resettled-requires-clause-single
 resettled-requires-clause-single c =
     subst (λ appeals. IsDistinct same_single_key (filter_map single_key appeals))
     (sym (ap (λ (r : Relations). r.appeals) (c.in_ok-facts.ensures.ok ∙ ap (λ r. with_rows r c.args.import.now.rows) c.facts.ensures) ∙ import_appeals c.args.office.now.relations c.args.import.now.rows))
-    c.is_good.ensures.single
+    c.show_good.ensures.single
 
 pub returns-clause-ok : goal.returns-clause-ok
 returns-clause-ok c =
@@ -27,4 +27,4 @@ returns-clause-ok c =
     (c.in_ok-facts.ensures.ok ∙ ap (λ r. with_rows r c.args.import.now.rows) c.facts.ensures)
     c.in_ok-resettled.ensures.limits c.in_ok-resettled.ensures.relations c.in_ok-resettled.ensures.order
     (c.in_ok-facts.ensures.reply ∙ ap (λ r. import_reply r c.args.import.now.rows) c.facts.ensures)
-    c.in_ok-resettled.ensures.rising c.is_good.ensures c.in_ok-resettled.ensures.plans
+    c.in_ok-resettled.ensures.rising c.show_good.ensures c.in_ok-resettled.ensures.plans

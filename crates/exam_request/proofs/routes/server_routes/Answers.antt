@@ -1,7 +1,7 @@
 use Rattle.std.proofs.Common.{◌∙◌, ap, codes, refl, subst, sym}
 use Rattle.matchit.proofs.OnLiterals.{matchit_on_literals}
 use Rattle.exam_request.specs.Table.{IsFree, with_route}
-use Rattle.exam_request.specs.declared.routes.Place.TheVariants.{Appeal, Appeals, Clashes, Seats}
+use Rattle.exam_request.specs.declared.routes.Route.TheVariants.{Appeal, Appeals, Clashes, Seats}
 use Rattle.exam_request.proofs.routes.server_routes.Goals as goal
 
 pub add-requires : goal.add-requires

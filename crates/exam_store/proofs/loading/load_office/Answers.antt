@@ -2,11 +2,11 @@ use Rattle.std.proofs.Common.{◌≡◌, ◌++◌, [], ◌∷◌, Err, inl, inr,
 use Rattle.std.proofs.lemmas.Result.{IfOk-weaker, IfErr-weaker}
 use Rattle.sqlite.specs.Held.{state}
 use Rattle.sqlite.specs.Effect.{Database}
-use Rattle.exam_tables.specs.Texts.{load_office, load_seat}
+use Rattle.exam_tables.specs.Texts.{fact_texts, load_office, load_seat}
 use Rattle.exam_rows.proofs.LoadTexts.{office_loads, seat_loads}
 use Rattle.sqlite.proofs.Callers.{unchanged_then}
 use Rattle.exam_store.specs.Refused.{HoldsFormed}
-use Rattle.exam_rows.specs.Loaded.{AreUnderstood, IsUnderstood, fact_texts}
+use Rattle.exam_rows.specs.Loaded.{AreUnderstood, IsUnderstood}
 use Rattle.exam_rows.proofs.Leaving.{both_survive, left_then, reads_only, still, still_itself, still_then, understood_before, understood_still}
 use Rattle.exam_rows.proofs.Refusing.{always_ok, part_failed, still_there}
 use Rattle.exam_rows.proofs.SavedRows.{seats_match}
