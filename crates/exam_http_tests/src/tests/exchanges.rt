@@ -122,58 +122,38 @@ const AGAINST_B: &str =
 const AGAINST_A: &str =
     "{\"hall\":\"A\",\"kind\":\"hall\",\"reason\":\"\",\"ref\":\"HA1\",\"session\":\"S1\"}";
 
+const POST: &str = "POST /candidates/0000001/appeals";
+
+const OPEN: &str = "{\"state\":\"open\"}";
+
+const RETRACTED: &str = "{\"state\":\"retracted\"}";
+
 #[test]
-fn an_appeal_is_lodged_and_taken_back_once(rt: HostRuntime) -> Result<(), Fail> {
-    let post = "POST /candidates/0000001/appeals";
-    let delete = "DELETE /candidates/0000001/appeals/HA1";
-    let open = "{\"state\":\"open\"}";
-    let retracted = "{\"state\":\"retracted\"}";
+fn an_appeal_is_lodged_once(rt: HostRuntime) -> Result<(), Fail> {
+    let (on, after) = ("2027-05-30", "2027-05-31");
     let late = "{\"day\":\"2027-05-30\",\"error\":13}";
+    let taken = "{\"error\":14}";
+    let unread = "{\"error\":36}";
     let exchanges = [
-        (
-            "2027-05-31",
-            post,
-            "CODE0001",
-            AGAINST_B,
-            "409 Conflict",
-            late,
-        ),
-        ("2027-05-30", post, "CODE0001", AGAINST_B, "200 OK", open),
-        ("2027-05-31", post, "CODE0001", AGAINST_B, "200 OK", open),
-        (
-            "2027-05-31",
-            post,
-            "CODE0001",
-            AGAINST_A,
-            "409 Conflict",
-            "{\"error\":14}",
-        ),
-        (
-            "2027-05-31",
-            post,
-            "CODE0001",
-            "{}",
-            "400 Bad Request",
-            "{\"error\":36}",
-        ),
-        (
-            "2027-05-31",
-            delete,
-            "CODE0002",
-            "",
-            "404 Not Found",
-            UNKNOWN,
-        ),
-        ("2027-05-31", delete, "CODE0001", "", "200 OK", retracted),
-        ("2027-05-31", delete, "CODE0001", "", "200 OK", retracted),
-        (
-            "2027-05-31",
-            post,
-            "CODE0001",
-            AGAINST_B,
-            "200 OK",
-            retracted,
-        ),
+        (after, POST, "CODE0001", AGAINST_B, "409 Conflict", late),
+        (on, POST, "CODE0001", AGAINST_B, "200 OK", OPEN),
+        (after, POST, "CODE0001", AGAINST_B, "200 OK", OPEN),
+        (after, POST, "CODE0001", AGAINST_A, "409 Conflict", taken),
+        (after, POST, "CODE0001", "{}", "400 Bad Request", unread),
+    ];
+    exchange(&rt, FIRST_IN_B, &exchanges)
+}
+
+#[test]
+fn an_appeal_is_taken_back_once(rt: HostRuntime) -> Result<(), Fail> {
+    let (on, after) = ("2027-05-30", "2027-05-31");
+    let delete = "DELETE /candidates/0000001/appeals/HA1";
+    let exchanges = [
+        (on, POST, "CODE0001", AGAINST_B, "200 OK", OPEN),
+        (after, delete, "CODE0002", "", "404 Not Found", UNKNOWN),
+        (after, delete, "CODE0001", "", "200 OK", RETRACTED),
+        (after, delete, "CODE0001", "", "200 OK", RETRACTED),
+        (after, POST, "CODE0001", AGAINST_B, "200 OK", RETRACTED),
     ];
     exchange(&rt, FIRST_IN_B, &exchanges)
 }

@@ -8,21 +8,41 @@ use std::process::Abort;
 use std::str;
 use std::test::Fail;
 
-/// Each table with all its columns, by its key.
-const ALL_TABLES: [&str; 10] = [
-    "SELECT one, version FROM office",
-    "SELECT code, day, start FROM session ORDER BY code",
-    "SELECT code, title, session, minutes, requires FROM paper ORDER BY code",
-    "SELECT code, title, features FROM hall ORDER BY code",
-    "SELECT session, hall, desks, until, reserved FROM opening ORDER BY session, hall",
-    "SELECT number, name, code FROM candidate ORDER BY number",
-    "SELECT number, paper, live FROM entry ORDER BY number, paper",
-    "SELECT number, needs, extra FROM arrangement ORDER BY number",
-    "SELECT number, ref, session, kind, target, needs, extra, reason, state, answer, lodged FROM appeal ORDER BY number, ref",
-    "SELECT session, number, hall FROM seat ORDER BY session, number",
-];
+const OFFICES: &str = "SELECT one, version FROM office";
+
+const SESSIONS: &str = "SELECT code, day, start FROM session ORDER BY code";
+
+const PAPERS: &str = "SELECT code, title, session, minutes, requires FROM paper ORDER BY code";
+
+const HALLS: &str = "SELECT code, title, features FROM hall ORDER BY code";
+
+const OPENINGS: &str =
+    "SELECT session, hall, desks, until, reserved FROM opening ORDER BY session, hall";
+
+const CANDIDATES: &str = "SELECT number, name, code FROM candidate ORDER BY number";
+
+const ENTRIES: &str = "SELECT number, paper, live FROM entry ORDER BY number, paper";
+
+const ARRANGEMENTS: &str = "SELECT number, needs, extra FROM arrangement ORDER BY number";
+
+const APPEALS: &str =
+    "SELECT number, ref, session, kind, target, needs, extra, reason, state, answer, lodged FROM appeal ORDER BY number, ref";
 
 const SEATS: &str = "SELECT session, number, hall FROM seat ORDER BY session, number";
+
+/// Each table with all its columns, by its key.
+const ALL_TABLES: [&str; 10] = [
+    OFFICES,
+    SESSIONS,
+    PAPERS,
+    HALLS,
+    OPENINGS,
+    CANDIDATES,
+    ENTRIES,
+    ARRANGEMENTS,
+    APPEALS,
+    SEATS,
+];
 
 /// Appends a column as text.
 fn push_column(alloc: Global, text: &mut String, row: &Row, at: usize) -> Result<(), Fail> {
@@ -95,71 +115,77 @@ fn expect_rows<R: Abort + AllocGlobal>(
     opened(rt.alloc(), conn)
 }
 
+/// The words of an import, its file, what is printed, and the query of its table with the rows that it shows then.
+type KeptImport<'a> = (&'a str, &'a str, &'a str, &'a str, &'a str);
+
+/// Each kind, with keys that are new and keys that are there, and values at the ends of their ranges.
+const KEPT_IMPORTS: [KeptImport<'static>; 8] = [
+    (
+        "import sessions f",
+        "session,date,start\nS1,2027-06-02,23:59\nS2,2000-01-11,00:00\n",
+        "added 1 changed 1 same 0\n",
+        SESSIONS,
+        "S1|2027-06-02|1439|\nS2|2000-01-11|0|\n",
+    ),
+    (
+        "import papers f",
+        "paper,title,session,minutes,requires\nMA-1,Algebra,S2,600,screen+computer\nPH-2,Optics,S1,1,-\n",
+        "added 1 changed 1 same 0\n",
+        PAPERS,
+        "MA-1|Algebra|S2|600|18|\nPH-2|Optics|S1|1|0|\n",
+    ),
+    (
+        "import halls f",
+        "hall,title,features\nA,Great Hall,step-free+screen+reader+small-room+computer\nC,Hall C,reader\n",
+        "added 1 changed 1 same 0\n",
+        HALLS,
+        "A|Great Hall|31|\nB|Hall B|0|\nC|Hall C|4|\n",
+    ),
+    (
+        "import openings f",
+        "session,hall,desks,until,reserved\nS1,A,2000,24:00,yes\nS2,C,1,00:00,no\n",
+        "added 1 changed 1 same 0\n",
+        OPENINGS,
+        "S1|A|2000|1440|1|\nS1|B|1|720|0|\nS2|C|1|0|0|\n",
+    ),
+    (
+        "import candidates f",
+        "number,name,code\n0000005,Ed Pole,NEWCODE5\n9999999,Zoe Ziv,ABCDEFGH12345678\n",
+        "added 1 changed 1 same 0\n",
+        CANDIDATES,
+        "1|Bo Berg|CODE0001|\n2|Ada Lin|CODE0002|\n3|Cy Dahl|CODE0003|\n4|Di Roe|CODE0004|\n5|Ed Pole|NEWCODE5|\n9999999|Zoe Ziv|ABCDEFGH12345678|\n",
+    ),
+    (
+        "import entries f",
+        "number,paper\n0000002,MA-1\n0000002,PH-2\n",
+        "added 2 changed 0 same 0\n",
+        ENTRIES,
+        "2|MA-1|1|\n2|PH-2|1|\n",
+    ),
+    (
+        "import arrangements f",
+        "number,needs,extra\n0000002,reader+small-room,100\n0000003,-,0\n",
+        "added 2 changed 0 same 0\n",
+        ARRANGEMENTS,
+        "2|12|100|\n3|0|0|\n",
+    ),
+    (
+        "import arrangements f",
+        "number,needs,extra\n0000003,screen,5\n",
+        "added 0 changed 1 same 0\n",
+        ARRANGEMENTS,
+        "2|12|100|\n3|2|5|\n",
+    ),
+];
+
 #[test]
 fn each_import_is_kept_in_its_table(rt: HostRuntime) -> Result<(), Fail> {
     let mut store = base_office(&rt)?;
-    for (words, file, reply, table, rows) in [
-        (
-            "import sessions f",
-            "session,date,start\nS1,2027-06-02,23:59\nS2,2000-01-11,00:00\n",
-            "added 1 changed 1 same 0\n",
-            ALL_TABLES[1],
-            "S1|2027-06-02|1439|\nS2|2000-01-11|0|\n",
-        ),
-        (
-            "import papers f",
-            "paper,title,session,minutes,requires\nMA-1,Algebra,S2,600,screen+computer\nPH-2,Optics,S1,1,-\n",
-            "added 1 changed 1 same 0\n",
-            ALL_TABLES[2],
-            "MA-1|Algebra|S2|600|18|\nPH-2|Optics|S1|1|0|\n",
-        ),
-        (
-            "import halls f",
-            "hall,title,features\nA,Great Hall,step-free+screen+reader+small-room+computer\nC,Hall C,reader\n",
-            "added 1 changed 1 same 0\n",
-            ALL_TABLES[3],
-            "A|Great Hall|31|\nB|Hall B|0|\nC|Hall C|4|\n",
-        ),
-        (
-            "import openings f",
-            "session,hall,desks,until,reserved\nS1,A,2000,24:00,yes\nS2,C,1,00:00,no\n",
-            "added 1 changed 1 same 0\n",
-            ALL_TABLES[4],
-            "S1|A|2000|1440|1|\nS1|B|1|720|0|\nS2|C|1|0|0|\n",
-        ),
-        (
-            "import candidates f",
-            "number,name,code\n0000005,Ed Pole,NEWCODE5\n9999999,Zoe Ziv,ABCDEFGH12345678\n",
-            "added 1 changed 1 same 0\n",
-            ALL_TABLES[5],
-            "1|Bo Berg|CODE0001|\n2|Ada Lin|CODE0002|\n3|Cy Dahl|CODE0003|\n4|Di Roe|CODE0004|\n5|Ed Pole|NEWCODE5|\n9999999|Zoe Ziv|ABCDEFGH12345678|\n",
-        ),
-        (
-            "import entries f",
-            "number,paper\n0000002,MA-1\n0000002,PH-2\n",
-            "added 2 changed 0 same 0\n",
-            ALL_TABLES[6],
-            "2|MA-1|1|\n2|PH-2|1|\n",
-        ),
-        (
-            "import arrangements f",
-            "number,needs,extra\n0000002,reader+small-room,100\n0000003,-,0\n",
-            "added 2 changed 0 same 0\n",
-            ALL_TABLES[7],
-            "2|12|100|\n3|0|0|\n",
-        ),
-        (
-            "import arrangements f",
-            "number,needs,extra\n0000003,screen,5\n",
-            "added 0 changed 1 same 0\n",
-            ALL_TABLES[7],
-            "2|12|100|\n3|2|5|\n",
-        ),
-    ] {
+    for (words, file, reply, table, rows) in KEPT_IMPORTS {
         expect_done(&rt, &mut store, words, file, reply)?;
         store = expect_rows(&rt, store, table, rows)?;
     }
-    expect_rows(&rt, store, ALL_TABLES[0], "1|1|\n")?;
+    expect_rows(&rt, store, OFFICES, "1|1|\n")?;
     Ok(())
 }
 
@@ -243,7 +269,7 @@ fn creating_on_a_good_office_keeps_it(rt: HostRuntime) -> Result<(), Fail> {
 }
 
 /// Every kind and state of appeals, all features and each of them alone.
-const APPEALS: [&str; 9] = [
+const KEPT_APPEALS: [&str; 9] = [
     "1|HALLOPEN|S1|1|A|0|0||1|NULL|2000-01-01|\n",
     "1|HALLNOT|S1|1|B|0|0|Too loud|3|So it is|2199-12-31|\n",
     "1|HALLTWO|S1|1|B|0|0|Too cold|4|NULL|2027-05-01|\n",
@@ -283,19 +309,19 @@ fn insert_of(alloc: Global, row: &str) -> Result<String, Fail> {
 fn appeals_of_all_kinds_and_states_are_kept(rt: HostRuntime) -> Result<(), Fail> {
     let alloc = rt.alloc();
     let mut conn = base_office(&rt)?.close();
-    for row in APPEALS {
+    for row in KEPT_APPEALS {
         conn.execute(insert_of(alloc, row)?.as_str(), &[])?;
     }
-    let before = rows_of(alloc, &mut conn, ALL_TABLES[8])?;
+    let before = rows_of(alloc, &mut conn, APPEALS)?;
     let mut store = opened(alloc, conn)?;
     let added = "added 1 changed 0 same 0\n";
     expect_done(&rt, &mut store, "import entries f", ONE_ENTRY, added)?;
     let mut conn = store.close();
     assert_eq!(rt;
-        rows_of(alloc, &mut conn, ALL_TABLES[8])?.as_str(),
+        rows_of(alloc, &mut conn, APPEALS)?.as_str(),
         before.as_str()
     );
-    for row in APPEALS {
+    for row in KEPT_APPEALS {
         assert!(rt; before.as_str().contains(row), "{row}");
     }
     Ok(())
