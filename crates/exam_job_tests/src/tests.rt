@@ -1,6 +1,7 @@
 //! Short days at a small office, through all layers over a database in memory.
 mod closing;
 mod kept_rows;
+mod line_faults;
 mod outputs;
 mod reopening;
 
