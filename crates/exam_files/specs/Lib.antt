@@ -1,3 +1,12 @@
+-- The definitions that contracts of this crate cite. Each file says:
+--
+-- - ImportFiles: the rows that a file of a kind denotes, or its refusal, over the records that csv
+--   gives; each column by what exam_types says of its value
+-- - Doors, Attendances, Clashes, Exports, Registers, Shortages, Places, Padding: the texts of the
+--   sheets
+-- - OfficeSheets: what each sheet prints, in the office's words
+-- - Writing: what a sheet leaves: all of its text, nothing, or a beginning that is not all
+-- - Left: what a reader of csv has yet to give
 pub mod Attendances
 pub mod Clashes
 pub mod Doors

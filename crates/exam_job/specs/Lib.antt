@@ -1,3 +1,10 @@
+-- The definitions that contracts of this crate cite. Each file says:
+--
+-- - Printed: the lines that the program prints: of replies, refusals, faults and words that are no
+--   line
+-- - Reading, Sheets: what is read of an import file; the sheets of an office, and what goes out of
+--   one
+-- - Jobs: what a line does to the office in a store, what it prints, the exit status
 pub mod Printed
 pub mod Reading
 pub mod Sheets

@@ -1,3 +1,37 @@
+-- The definitions that contracts of this crate cite. Each file says:
+--
+-- - Imports: the rows of an import; the key of a row; when two rows have the same key and when they
+--   are the same row; when a row contradicts an earlier one; the first row of each key
+-- - SameRows: when the contents of two rows of a table are the same, column by column
+-- - State: an office as its relations and seats; the empty office
+-- - Limits: the seven limits of an office, by the table to which each belongs
+-- - Singles: what may be there once only: a granted clash or arrangement appeal, and an open appeal of each
+--   kind, of a candidate for a session
+-- - Good: a good office: references, limits, appeals that stand alone, every session's plan best;
+--   the same table by table, and the first table that is bad
+-- - Changes: the checks of a command in their order, the first refusal, the facts after it
+-- - Appeals: kinds, closing days and states of appeals; what is stored of one; whether one of a
+--   kind is open
+-- - Lodgings: the checks of a lodging and of a retraction in their order, and the facts after them
+-- - Decisions: the same of a decision: which grants give way, and who is seated first
+-- - Moves: how many others sit, over all sessions, in another hall than before
+-- - Replies: whether the stored row is the same, another or not there; the counts over the first
+--   rows of the keys of a file; what each command answers
+-- - Repairs: the new plan of a session: the repair of the old one for the new facts, and best
+-- - Steps: one command and its change: the facts change or the refusal names why not, every session
+--   has its next plan, the reply; whom each command seats for certain, and whom it names; a run
+--   over commands with their days, each of which may also run out of memory and change nothing
+-- - Orders: that the keys of every table and of the seats rise
+-- - Words: the words for the kinds, the states and the subjects of appeals
+-- - Examples: worked plans, computed by the check
+-- - Headline: what an office promises of every session: whoever sits is a member and has a hall
+--   that fits them and a desk of their own in it, and no lawful plan seats more
+-- - Between: commands of which none is an import or the closing of a hall
+-- - Views: a session as it is shown: its row, the halls, its openings, members, papers, clashes and
+--   appeals, and its seating problem with a best plan; the seats and the shortages that such a view
+--   shows; and the same said of the office, by numbers and codes
+-- - Own, Entered: what the office shows of one candidate; the sessions for whose papers they have
+--   live entries
 pub mod Appeals
 pub mod Lodgings
 pub mod Decisions

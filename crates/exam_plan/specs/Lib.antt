@@ -1,3 +1,16 @@
+-- The definitions that contracts of this crate cite. Each file says:
+--
+-- - Matching: a seating problem (members, fits, desks, the two orders); a plan, where each
+--   candidate sits or nowhere; lawful; best, over all lawful plans; unseated; deficiency
+--   certificate; contested; desk number; keeps
+-- - Chains: an augmenting chain, the order of chains (shorter first, then in list order), the least
+--   chain, the plan after moving along
+-- - Repair: who stays (by fit, then the least numbers within the desks); a turn takes the least of
+--   all chains, if there is one; the sweep's turns
+-- - Problems: the same at indices: lists of desks, fits and ranks, and the plan that a list is
+-- - Naming: a seating by indices beside one by names: the name of each index and the index of each
+--   name; plans and chains by indices read by names, and plans by names read by indices
+-- - Searches: what the searches of the code keep: used by private functions alone
 pub mod Matching
 pub mod Chains
 pub mod Repair

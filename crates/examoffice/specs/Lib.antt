@@ -1,1 +1,5 @@
+-- The definitions that contracts of this crate cite. Each file says:
+--
+-- - Opening: what is opened of the files, by what they held; the refusal for each error
+--   of an opening
 pub mod Opening
