@@ -1,0 +1,76 @@
+//! A day at the office, over memory. The program reads a script from standard input. A line that begins with `office`
+//! is a command line: the program carries it out and prints it, and then what the command prints. It prints every
+//! other line as it is.
+#![tactic(auto)]
+
+use anyhow::Result;
+use exam_job::{JobFault, print_fault, print_line_fault, run_job};
+use exam_line::{Job, Line, parse_line};
+use exam_store::Store;
+use sqlite::MemStore;
+use std::alloc::{AllocError, Global};
+use std::fs::File;
+use std::io::{Read, empty};
+
+/// The words before those of each command line. The file is never opened: the office is in memory.
+const PROGRAM: [&str; 5] = ["examoffice", "--db", "office.db", "--today", "2027-05-01"];
+
+fn main(rt: HostRuntime) -> Result<()> {
+    let mut store = Store::in_memory(rt.alloc())?;
+    for line in rt.lines(rt.alloc()) {
+        follow(&rt, &mut store, line?.as_str())?;
+    }
+    Ok(())
+}
+
+/// Follows one line of the script.
+fn follow(rt: &HostRuntime, store: &mut Store<MemStore>, line: &str) -> Result<()> {
+    let Some(command) = line.strip_prefix("office ") else {
+        println!(rt; "{line}")?;
+        return Ok(());
+    };
+    println!(rt; "$ {line}")?;
+    let words = words_of(rt.alloc(), command)?;
+    run_words(rt, store, words.as_slice());
+    Ok(())
+}
+
+/// The words of a command, behind the program's name and options.
+fn words_of(alloc: Global, command: &str) -> Result<Vec<String>, AllocError> {
+    let mut words = Vec::new(alloc);
+    for word in PROGRAM.into_iter().chain(command.split(' ')) {
+        words.push(String::from_str(alloc, word)?)?;
+    }
+    Ok(words)
+}
+
+/// Carries out the command that the words say. The status is not printed: the lines tell it.
+fn run_words(rt: &HostRuntime, store: &mut Store<MemStore>, words: &[String]) {
+    let _ = match parse_line(rt.alloc(), words) {
+        Ok(line) => run_line(rt, store, &line),
+        Err(fault) => print_line_fault(&fault, &mut rt.stdout(), &mut rt.stdout()),
+    };
+}
+
+/// Carries out a command over the file that it imports, or over none.
+fn run_line(rt: &HostRuntime, store: &mut Store<MemStore>, line: &Line<'_>) -> u8 {
+    match &line.job {
+        Job::Import { file, .. } => match File::open(rt, *file) {
+            Ok(mut file) => run_over(rt, store, line, &mut file),
+            Err(_) => print_fault(&JobFault::File, &mut rt.stdout()),
+        },
+        _ => run_over(rt, store, line, &mut empty()),
+    }
+}
+
+/// Faults go to standard output too, so that they come in the order of the commands.
+fn run_over<R: Read>(
+    rt: &HostRuntime,
+    store: &mut Store<MemStore>,
+    line: &Line<'_>,
+    file: &mut R,
+) -> u8 {
+    let mut out = rt.stdout();
+    let mut faults = rt.stdout();
+    run_job(rt.alloc(), line, store, file, &mut out, &mut faults)
+}
