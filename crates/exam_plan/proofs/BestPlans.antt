@@ -14,14 +14,14 @@ use Rattle.exam_plan.proofs.Optimality.{IsClosedSet, drawn_in, closed_is_greates
 use Rattle.exam_plan.proofs.Moves.{lawful-moved, size-moved}
 use Rattle.exam_plan.proofs.LawLemmas.{count_none}
 use Rattle.exam_plan.proofs.ShortOfDesks.{routed}
-use Rattle.exam_plan.proofs.Contested.{IsClosure, closure}
+use Rattle.exam_plan.proofs.Contested.{IsClosure, closure, marks_of}
 
 module _ (p : Problem) (good : IsProblem p) where
   -- a marked hall with a free desk
   abbrev is_free : Plan ℕ ℕ → List Bool → ℕ → Bool
   is_free q marks h = get_or marks h false && nat_lt (length (occupants (seating_of p) q h)) (get_or p.desk_counts h 0)
 
-  same_drawn : (marks : List Bool) (o : Option ℕ) → is_drawn marks o ≡ drawn_in (λ h. get_or marks h false) o
+  same_drawn : (marks : List Bool) (o : Option ℕ) → is_drawn (marks_of marks) o ≡ drawn_in (λ h. get_or marks h false) o
   same_drawn marks None = refl
   same_drawn marks (Some h) = refl
 

@@ -1,16 +1,14 @@
 -- The closed set of a best plan, found in the logic: whom some best plan leaves out, and their halls, are a
 -- certificate of every best plan.
-use Rattle.std.proofs.Common.{◌≡◌, ◌⊎◌, ℕ, zero, suc, ◌<◌, ◌≤◌, ◌↔◌, Bool, true, false, not, ◌&&◌, ◌||◌, IsTrue, List, [], ◌∷◌, map, length, get_or, count_by, nat_eq, refl, sym, ap, ◌∙◌, inl, inr, subst, arith}
+use Rattle.std.proofs.Common.{◌≡◌, ◌⊎◌, ℕ, zero, suc, ◌<◌, ◌≤◌, ◌↔◌, Bool, true, false, not, ◌&&◌, ◌||◌, IsTrue, List, map, length, get_or, count_by, refl, sym, ap, ◌∙◌, inl, inr, subst, arith}
 use Rattle.std.specs.Prelude.{Contains, filter}
-use Rattle.std.specs.List.{range_with_len, list_any, AllByRecursion}
+use Rattle.std.specs.List.{range_with_len, list_any}
 use Rattle.std.specs.List.Sorted.{IsStrictlySortedBy}
 use Rattle.std.specs.Ordering.{nat_cmp}
-use Rattle.std.specs.Cmp.{nat_cmp_is}
 use Rattle.std.specs.Cmp.Lexicographic.{pointwise}
-use Rattle.std.specs.declared.cmp.Ordering.TheVariants.{Less, Equal, Greater}
 use Rattle.std.proofs.Math.Bool.{beq}
 use Rattle.std.proofs.Math.ListN.{replicate}
-use Rattle.std.proofs.lemmas.Bool.{cases_eq, cases_lt, cases_Bool, or_cases, or_left, or_right, and_parts, and_from, eq-eqb, ne_eqb}
+use Rattle.std.proofs.lemmas.Bool.{cases_lt, cases_Bool, or_cases, or_left, or_right, and_parts, and_from}
 use Rattle.std.proofs.lemmas.List.{get_or_past, get_or-replicate, length-replicate}
 use Rattle.std.proofs.lemmas.List.Folds.{list_any_at, Any-from_list_any}
 use Rattle.std.proofs.lemmas.List.FromFn.{get_or-map-range_with_len, length-map-range_with_len}
@@ -21,14 +19,19 @@ use Rattle.exam_plan.proofs.Seatings.{below-member, fits_member, fits_below}
 use Rattle.exam_plan.proofs.Marks.{unmarked-lt, marks_agree, marks_differ}
 use Rattle.exam_plan.proofs.DrawLemmas.{draws_more, closed_after}
 use Rattle.exam_plan.proofs.ShortOfDesks.{is_certificate, exactly_contested}
-use Rattle.exam_plan.proofs.LawLemmas.{everybody, listed_in, in_listed, later_all}
+use Rattle.exam_plan.proofs.LawLemmas.{everybody}
+use Rattle.exam_plan.proofs.Rising.{rising_are_same, same_tests}
 
 -- ---- the search, in the logic
+
+-- the halls that the list marks
+abbrev pub marks_of : List Bool → ℕ → Bool
+marks_of marks h = get_or marks h false
 
 module _ (p : Problem) (good : IsProblem p) (q : Plan ℕ ℕ) where
   -- a candidate who is drawn in by the marks, and whom the hall fits
   abbrev draws_in : List Bool → ℕ → ℕ → Bool
-  draws_in marks h c = is_drawn marks (q c) && (seating_of p).fits c h
+  draws_in marks h c = is_drawn (marks_of marks) (q c) && (seating_of p).fits c h
 
   abbrev is_next : List Bool → ℕ → Bool
   is_next marks h = get_or marks h false || list_any (draws_in marks h) (range_with_len 0 (length p.fit))
@@ -39,19 +42,19 @@ module _ (p : Problem) (good : IsProblem p) (q : Plan ℕ ℕ) where
   next_at : (marks : List Bool) (h : ℕ) → h < length p.desk_counts → get_or (next_marks marks) h false ≡ is_next marks h
   next_at marks h l = get_or-map-range_with_len (is_next marks) 0 (length p.desk_counts) h h false l (omega arith)
 
-  marked_below : (marks : List Bool) (h : ℕ) → IsMarked marks h → h < length marks
+  marked_below : (marks : List Bool) (h : ℕ) → IsMarked (marks_of marks) h → h < length marks
   marked_below marks h t = elim (cases_lt h (length marks)) [
     | inl l ↦ l
     | inr g ↦ absurd (let z : false ≡ true = sym (get_or_past marks h false g) ∙ t in cc)
   ]
 
-  next_exact : (marks : List Bool) → length marks ≡ length p.desk_counts → MarksAll (next_marks marks) (λ h. IsMarked marks h ⊎ ((c : ℕ) × IsTrue (is_drawn marks (q c)) × IsTrue ((seating_of p).fits c h)))
+  next_exact : (marks : List Bool) → length marks ≡ length p.desk_counts → MarksAll (marks_of (next_marks marks)) (λ h. IsMarked (marks_of marks) h ⊎ ((c : ℕ) × IsTrue (is_drawn (marks_of marks) (q c)) × IsTrue ((seating_of p).fits c h)))
   next_exact marks long h = (
     (λ t. let many = length-map-range_with_len (is_next marks) 0 (length p.desk_counts) in
         let below = marked_below (next_marks marks) h t in
         elim (or_cases (get_or marks h false) (list_any (draws_in marks h) (range_with_len 0 (length p.fit))) (sym (next_at marks h (omega (arith, many, below))) ∙ t)) [
           | inl m ↦ inl m
-          | inr a ↦ inr (let w = Any-from_list_any (draws_in marks h) (range_with_len 0 (length p.fit)) a in let b = and_parts (is_drawn marks (q w.1)) ((seating_of p).fits w.1 h) w.4 in (w.1, b.0, b.1))
+          | inr a ↦ inr (let w = Any-from_list_any (draws_in marks h) (range_with_len 0 (length p.fit)) a in let b = and_parts (is_drawn (marks_of marks) (q w.1)) ((seating_of p).fits w.1 h) w.4 in (w.1, b.0, b.1))
         ]),
     (λ s. elim s [
       | inl m ↦ next_at marks h (let l = marked_below marks h m in omega (arith, l, long)) ∙ or_left (get_or marks h false) (list_any (draws_in marks h) (range_with_len 0 (length p.fit))) m
@@ -59,21 +62,21 @@ module _ (p : Problem) (good : IsProblem p) (q : Plan ℕ ℕ) where
     ]),
   )
     where
-      drawn_one : (marks : List Bool) (h c : ℕ) → IsTrue (is_drawn marks (q c)) → IsTrue ((seating_of p).fits c h) → list_any (draws_in marks h) (range_with_len 0 (length p.fit)) ≡ true
+      drawn_one : (marks : List Bool) (h c : ℕ) → IsTrue (is_drawn (marks_of marks) (q c)) → IsTrue ((seating_of p).fits c h) → list_any (draws_in marks h) (range_with_len 0 (length p.fit)) ≡ true
       drawn_one marks h c d f =
           let m = below-member (length p.fit) c (fits_member p c h f) in
-          list_any_at (draws_in marks h) (range_with_len 0 (length p.fit)) m.0 c m.1 (ap (draws_in marks h) m.2 ∙ and_from (is_drawn marks (q c)) ((seating_of p).fits c h) d f)
+          list_any_at (draws_in marks h) (range_with_len 0 (length p.fit)) m.0 c m.1 (ap (draws_in marks h) m.2 ∙ and_from (is_drawn (marks_of marks) (q c)) ((seating_of p).fits c h) d f)
 
   -- marks of halls to which the unseated lead, and of all of them
   pub record IsClosure (marks : List Bool) : Type 0 where
-    pub drawn : (h : ℕ) → IsMarked marks h → (j : ℕ) × Draws p q j h
-    pub closed : (c h : ℕ) → IsTrue (is_drawn marks (q c)) → IsTrue ((seating_of p).fits c h) → IsMarked marks h
+    pub drawn : (h : ℕ) → IsMarked (marks_of marks) h → (j : ℕ) × Draws p q j h
+    pub closed : (c h : ℕ) → IsTrue (is_drawn (marks_of marks) (q c)) → IsTrue ((seating_of p).fits c h) → IsMarked (marks_of marks) h
 
   abbrev AreReached : List Bool → Type 0
-  AreReached marks = (h : ℕ) → IsMarked marks h → (j : ℕ) × Draws p q j h
+  AreReached marks = (h : ℕ) → IsMarked (marks_of marks) h → (j : ℕ) × Draws p q j h
 
   shut : (marks : List Bool) → length marks ≡ length p.desk_counts → AreReached marks → pointwise beq (next_marks marks) marks ≡ true → IsClosure marks
-  shut marks long drawn same = record { drawn = drawn; closed = closed_after p q marks (next_marks marks) (marks_agree (next_marks marks) marks same) (next_exact marks long) }
+  shut marks long drawn same = record { drawn = drawn; closed = closed_after p q (marks_of marks) (marks_of (next_marks marks)) (λ h t. ap (λ xs. get_or xs h false) (sym (marks_agree (next_marks marks) marks same)) ∙ t) (next_exact marks long) }
 
   long_next : (marks : List Bool) → length (next_marks marks) ≡ length p.desk_counts
   long_next marks = length-map-range_with_len (is_next marks) 0 (length p.desk_counts)
@@ -89,7 +92,7 @@ module _ (p : Problem) (good : IsProblem p) (q : Plan ℕ ℕ) where
   ]
   spread (suc rounds) marks long drawn few = elim (cases_Bool (pointwise beq (next_marks marks) marks)) [
     | inl same ↦ (marks, shut marks long drawn same)
-    | inr differ ↦ spread rounds (next_marks marks) (long_next marks) (draws_more p q marks (next_marks marks) drawn (next_exact marks long)) (let less = fewer_left marks long differ in omega (arith, less, few))
+    | inr differ ↦ spread rounds (next_marks marks) (long_next marks) (draws_more p q (marks_of marks) (marks_of (next_marks marks)) drawn (next_exact marks long)) (let less = fewer_left marks long differ in omega (arith, less, few))
   ]
 
   pub closure : (found : List Bool) × IsClosure found
@@ -104,71 +107,23 @@ module _ (p : Problem) (good : IsProblem p) (q : Plan ℕ ℕ) where
   -- one pair of lists for every best plan
   pub some_certificate : IsBest (seating_of p) q → (candidates : List ℕ) × (halls : List ℕ) × ((c : ℕ) → Contains candidates c ↔ IsContested (seating_of p) c)
       × ((r : Plan ℕ ℕ) → IsBest (seating_of p) r → IsCertificate (seating_of p) r candidates halls)
-  some_certificate best = (candidates, halls, exactly_contested p good q best closure.0 closure.1.drawn closure.1.closed candidates halls refl refl, of_every)
+  some_certificate best = (candidates, halls, exactly_contested p good q best (marks_of closure.0) closure.1.drawn closure.1.closed candidates halls refl refl, of_every)
     where
       candidates : List ℕ
-      candidates = filter (λ c. is_drawn closure.0 (q c)) (range_with_len 0 (length p.fit))
+      candidates = filter (λ c. is_drawn (marks_of closure.0) (q c)) (range_with_len 0 (length p.fit))
 
       halls : List ℕ
       halls = filter (λ h. get_or closure.0 h false) (range_with_len 0 (length p.desk_counts))
 
       of_every : (r : Plan ℕ ℕ) → IsBest (seating_of p) r → IsCertificate (seating_of p) r candidates halls
       of_every r also =
-          let cert = is_certificate p good q best closure.0 closure.1.drawn closure.1.closed candidates halls refl refl in
+          let cert = is_certificate p good q best (marks_of closure.0) closure.1.drawn closure.1.closed candidates halls refl refl in
           let more = best.greatest r also.lawful in
           let fewer = also.greatest q best.lawful in
           let a = everybody p q in
           let b = everybody p r in
           let x = cert.excess in
           record { members = cert.members; rising = cert.rising; halls_rising = cert.halls_rising; halls_of = cert.halls_of; excess = omega (arith, more, fewer, a, b, x) }
-
--- ---- lists that rise and have the same elements
-
-less_means : (x y : ℕ) → nat_cmp x y ≡ Less → x < y
-less_means x y e = elim (cases_lt x y) [
-  | inl l ↦ l
-  | inr g ↦ elim (cases_eq x y) [
-    | inl s ↦ absurd (let z : Equal ≡ nat_cmp x y = nat_cmp_is x y Equal s in cc)
-    | inr n ↦ absurd (let z : Greater ≡ nat_cmp x y = nat_cmp_is x y Greater (omega arith) in cc)
-  ]
-]
-
-less_than_all : (x y : ℕ) (ys : List ℕ) → x < y → AllByRecursion (λ z. nat_cmp y z ≡ Less) ys → AllByRecursion (λ z. nat_cmp x z ≡ Less) ys
-less_than_all x y [] l a = tt
-less_than_all x y (z ∷ zs) l a = (sym (nat_cmp_is x z Less (let m = less_means y z a.0 in omega (arith, l, m))), less_than_all x y zs l a.1)
-
--- the first of a rising list is in no list whose first is greater
-not_first : (x y : ℕ) (xs ys : List ℕ) → x < y → AllByRecursion (λ z. nat_cmp y z ≡ Less) ys → ((z : ℕ) → list_any (nat_eq z) (x ∷ xs) ≡ list_any (nat_eq z) (y ∷ ys)) → ⊥
-not_first x y xs ys l later same =
-    let here : list_any (nat_eq x) (x ∷ xs) ≡ true = ap (λ b. b || list_any (nat_eq x) xs) (eq-eqb x x refl) in
-    let away : list_any (nat_eq x) (y ∷ ys) ≡ false = later_all x (y ∷ ys) (sym (nat_cmp_is x y Less l), less_than_all x y ys l later) in
-    let z : true ≡ false = sym here ∙ same x ∙ away in cc
-
-rising_are_same : (xs ys : List ℕ) → IsStrictlySortedBy nat_cmp xs → IsStrictlySortedBy nat_cmp ys → ((z : ℕ) → list_any (nat_eq z) xs ≡ list_any (nat_eq z) ys) → xs ≡ ys
-unfolding IsStrictlySortedBy
-rising_are_same [] [] s t same = refl
-rising_are_same [] (y ∷ ys) s t same = absurd (let e : list_any (nat_eq y) (y ∷ ys) ≡ true = ap (λ b. b || list_any (nat_eq y) ys) (eq-eqb y y refl) in let z : false ≡ true = same y ∙ e in cc)
-rising_are_same (x ∷ xs) [] s t same = absurd (let e : list_any (nat_eq x) (x ∷ xs) ≡ true = ap (λ b. b || list_any (nat_eq x) xs) (eq-eqb x x refl) in let z : true ≡ false = sym e ∙ same x in cc)
-rising_are_same (x ∷ xs) (y ∷ ys) s t same = elim (cases_eq x y) [
-  | inl e ↦ ap (λ z. z ∷ xs) e ∙ ap (λ zs. y ∷ zs) (rising_are_same xs ys s.1 t.1 (λ z. elim (cases_eq z x) [
-    | inl at ↦ later_all z xs (subst (λ (w : ℕ). AllByRecursion (λ v. nat_cmp w v ≡ Less) xs) (sym at) s.0) ∙ sym (later_all z ys (subst (λ (w : ℕ). AllByRecursion (λ v. nat_cmp w v ≡ Less) ys) (sym e ∙ sym at) t.0))
-    | inr n ↦ sym (ap (λ b. b || list_any (nat_eq z) xs) (ne_eqb z x n)) ∙ same z ∙ ap (λ b. b || list_any (nat_eq z) ys) (ne_eqb z y (λ w. n (w ∙ sym e)))
-  ]))
-  | inr n ↦ elim (cases_lt x y) [
-    | inl l ↦ absurd (not_first x y xs ys l t.0 same)
-    | inr g ↦ absurd (not_first y x ys xs (omega arith) s.0 (λ z. sym (same z)))
-  ]
-]
-
--- what one list has and the other has is tested alike
-same_tests : (xs ys : List ℕ) → ((z : ℕ) → Contains xs z → Contains ys z) → ((z : ℕ) → Contains ys z → Contains xs z) → (z : ℕ) → list_any (nat_eq z) xs ≡ list_any (nat_eq z) ys
-same_tests xs ys there back z = at (list_any (nat_eq z) xs) (list_any (nat_eq z) ys) refl refl
-  where
-    at : (a b : Bool) → list_any (nat_eq z) xs ≡ a → list_any (nat_eq z) ys ≡ b → a ≡ b
-    at true true d e = refl
-    at false false d e = refl
-    at true false d e = let t = listed_in ys z (there z (in_listed xs z d)) in let f : false ≡ true = sym e ∙ t in cc
-    at false true d e = let t = listed_in xs z (back z (in_listed ys z e)) in let f : false ≡ true = sym d ∙ t in cc
 
 pub every_certificate : (p : Problem) (q : Plan ℕ ℕ) (candidates halls : List ℕ) → IsProblem p → IsBest (seating_of p) q
     → IsStrictlySortedBy nat_cmp candidates → ((c : ℕ) → Contains candidates c ↔ IsContested (seating_of p) c)

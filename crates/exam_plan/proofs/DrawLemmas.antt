@@ -1,27 +1,29 @@
 -- The steps of the search forwards from the unseated candidates.
-use Rattle.std.proofs.Common.{◌≡◌, ℕ, suc, ◌+◌, ◌<◌, ◌≤◌, ◌↔◌, Bool, true, false, not, cond, IsTrue, List, [], ◌∷◌, ◌++◌, length, get_or, Option, None, Some, is_some, is_none, ◌⊎◌, refl, sym, ap, ◌∙◌, inl, inr, subst, arith, append-nil}
+use Rattle.std.proofs.Common.{◌≡◌, ℕ, zero, suc, ◌+◌, ◌<◌, ◌≤◌, ◌↔◌, Bool, true, false, not, ◌||◌, cond, IsTrue, List, [], ◌∷◌, ◌++◌, length, get_or, Option, None, Some, is_some, is_none, ◌⊎◌, refl, sym, ap, ◌∙◌, inl, inr, subst, arith, append-nil}
 use Rattle.std.specs.Prelude.{filter}
 use Rattle.std.specs.List.{range_with_len}
-use Rattle.std.proofs.lemmas.Bool.{cases_lt}
+use Rattle.std.proofs.lemmas.Bool.{cases_lt, or_cases, or_left, or_right}
 use Rattle.std.proofs.lemmas.List.{length-append}
 use Rattle.std.proofs.lemmas.List.Elements.{filter-append}
 use Rattle.std.proofs.lemmas.List.Sums.{length-filter, count_by-le-length}
 use Rattle.std.proofs.lemmas.List.FromFn.{length-range_with_len}
+use Rattle.exam_plan.specs.HallSets.{holds}
 use Rattle.exam_plan.specs.Matching.{Plan}
-use Rattle.exam_plan.specs.Problems.{Problem, plan_at, seating_of}
+use Rattle.exam_plan.specs.Problems.{Problem, IsProblem, plan_at, seating_of}
 use Rattle.exam_plan.specs.Searches.{IsMarked, MarksAll, Draws, is_drawn}
 use Rattle.exam_plan.proofs.Counting.{bit, range_next}
+use Rattle.exam_plan.proofs.Seatings.{fits_member, fits_below}
 use Rattle.exam_plan.proofs.Steps.{plan_at-get_or}
 
-module _ (p : Problem) (m : List (Option ℕ)) (marks : List Bool) where
+module _ (p : Problem) (m : List (Option ℕ)) (marks : ℕ → Bool) where
   -- what is marked after so many candidates
-  abbrev pub IsSpread : List Bool → ℕ → Type 0
+  abbrev pub IsSpread : (ℕ → Bool) → ℕ → Type 0
   IsSpread next i = (h : ℕ) → IsMarked next h ↔ (IsMarked marks h ⊎ ((c : ℕ) × (c < i) × IsTrue (is_drawn marks (plan_at m c)) × IsTrue ((seating_of p).fits c h)))
 
   at_place : (i : ℕ) (b : Bool) → b ≡ is_drawn marks (get_or m i None) → is_drawn marks (plan_at m i) ≡ b
   at_place i b told = ap (is_drawn marks) (plan_at-get_or m i) ∙ sym told
 
-  pub spread_more : (next after : List Bool) (i : ℕ) (b : Bool) → IsSpread next i → b ≡ is_drawn marks (get_or m i None) → b ≡ true
+  pub spread_more : (next after : ℕ → Bool) (i : ℕ) (b : Bool) → IsSpread next i → b ≡ is_drawn marks (get_or m i None) → b ≡ true
       → MarksAll after (λ h. IsMarked next h ⊎ IsTrue ((seating_of p).fits i h)) → IsSpread after (i + 1)
   spread_more next after i b w told holds row h = (
     (λ t. elim ((row h).0 t) [
@@ -37,7 +39,7 @@ module _ (p : Problem) (m : List (Option ℕ)) (marks : List Bool) where
     ])),
   )
 
-  pub spread_skip : (next : List Bool) (i : ℕ) (b : Bool) → IsSpread next i → b ≡ is_drawn marks (get_or m i None) → b ≡ false → IsSpread next (i + 1)
+  pub spread_skip : (next : ℕ → Bool) (i : ℕ) (b : Bool) → IsSpread next i → b ≡ is_drawn marks (get_or m i None) → b ≡ false → IsSpread next (i + 1)
   spread_skip next i b w told fails h = (
     (λ t. elim ((w h).0 t) [ inl k ↦ inl k | inr c ↦ inr (c.0, (let l : c.0 < i = c.1 in omega arith), c.2, c.3) ]),
     (λ s. (w h).1 (elim s [
@@ -49,8 +51,27 @@ module _ (p : Problem) (m : List (Option ℕ)) (marks : List Bool) where
     ])),
   )
 
+-- a candidate past the last row is fitted by no hall
+pub spread_all : (p : Problem) (m : List (Option ℕ)) (marks next : ℕ → Bool) (n : ℕ) → length p.fit ≤ n → IsSpread p m marks next n
+    → MarksAll next (λ h. IsMarked marks h ⊎ ((c : ℕ) × IsTrue (is_drawn marks (plan_at m c)) × IsTrue ((seating_of p).fits c h)))
+spread_all p m marks next n all w h = (
+  (λ t. elim ((w h).0 t) [ inl a ↦ inl a | inr c ↦ inr (c.0, c.2, c.3) ]),
+  (λ s. (w h).1 (elim s [ inl a ↦ inl a | inr c ↦ inr (c.0, (let l = fits_member p c.0 h c.2 in omega arith), c.1, c.2) ])),
+)
+
+-- the halls of a set, and those of a row
+pub union_marks : (p : Problem) (c next row after : ℕ) → ((h : ℕ) → holds row h ≡ (seating_of p).fits c h) → ((h : ℕ) → holds after h ≡ holds next h || holds row h) → MarksAll (holds after) (λ h. IsMarked (holds next) h ⊎ IsTrue ((seating_of p).fits c h))
+union_marks p c next row after fits union h = (
+  (λ t. elim (or_cases (holds next h) (holds row h) (sym (union h) ∙ t)) [ inl a ↦ inl a | inr r ↦ inr (sym (fits h) ∙ r) ]),
+  (λ s. union h ∙ elim s [ inl a ↦ or_left (holds next h) (holds row h) a | inr f ↦ or_right (holds next h) (holds row h) (fits h ∙ f) ]),
+)
+
 module _ (p : Problem) (q : Plan ℕ ℕ) where
-  pub draws_more : (marks next : List Bool) → ((h : ℕ) → IsMarked marks h → (j : ℕ) × Draws p q j h)
+  pub draws_below : IsProblem p → (j h : ℕ) → Draws p q j h → h < length p.desk_counts
+  draws_below good zero h d = absurd d
+  draws_below good (suc j) h d = fits_below p good d.0 h d.2
+
+  pub draws_more : (marks next : ℕ → Bool) → ((h : ℕ) → IsMarked marks h → (j : ℕ) × Draws p q j h)
       → MarksAll next (λ h. IsMarked marks h ⊎ ((c : ℕ) × IsTrue (is_drawn marks (q c)) × IsTrue ((seating_of p).fits c h))) → (h : ℕ) → IsMarked next h → (j : ℕ) × Draws p q j h
   draws_more marks next drawn wide h t = elim ((wide h).0 t) [ inl a ↦ drawn h a | inr c ↦ at c.0 (q c.0) refl c.1 c.2 ]
     where
@@ -58,9 +79,9 @@ module _ (p : Problem) (q : Plan ℕ ℕ) where
       at c None e d f = (suc 0, (c, inl e, f))
       at c (Some k) e d f = let r = drawn k (sym (ap (is_drawn marks) e) ∙ d) in (suc r.0, (c, inr (k, e, r.1), f))
 
-  pub closed_after : (marks next : List Bool) → next ≡ marks → MarksAll next (λ h. IsMarked marks h ⊎ ((c : ℕ) × IsTrue (is_drawn marks (q c)) × IsTrue ((seating_of p).fits c h)))
+  pub closed_after : (marks next : ℕ → Bool) → ((h : ℕ) → next h ≡ true → marks h ≡ true) → MarksAll next (λ h. IsMarked marks h ⊎ ((c : ℕ) × IsTrue (is_drawn marks (q c)) × IsTrue ((seating_of p).fits c h)))
       → (c h : ℕ) → IsTrue (is_drawn marks (q c)) → IsTrue ((seating_of p).fits c h) → IsMarked marks h
-  closed_after marks next same wide c h d f = subst (λ (z : List Bool). IsMarked z h) same ((wide h).1 (inr (c, d, f)))
+  closed_after marks next same wide c h d f = same h ((wide h).1 (inr (c, d, f)))
 
 -- ---- lists of the indices that pass
 

@@ -1,14 +1,12 @@
 -- Laws of matchings that follow from the definitions.
 use Rattle.std.proofs.Common.{◌≡◌, ◌≢◌, ℕ, zero, suc, ◌+◌, ◌<◌, ◌≤◌, Bool, true, false, cond, ◌||◌, IsTrue, List, [], ◌∷◌, ◌++◌, map, length, get_or, Option, None, Some, is_some, is_none, nat_eq, refl, sym, ap, ◌∙◌, inl, inr, subst, arith}
-use Rattle.std.specs.Prelude.{All, AllPairs, Contains, sum_by}
-use Rattle.std.specs.List.{list_any, AllByRecursion}
+use Rattle.std.specs.Prelude.{All, AllPairs, sum_by}
+use Rattle.std.specs.List.{list_any}
 use Rattle.std.specs.List.Sorted.{IsStrictlySortedBy}
 use Rattle.std.specs.Ordering.{nat_cmp}
-use Rattle.std.specs.Cmp.{nat_cmp_total, nat_cmp_is}
-use Rattle.std.proofs.lemmas.List.Folds.{list_any_at, Any-from_list_any}
+use Rattle.std.specs.Cmp.{nat_cmp_total}
 use Rattle.std.specs.FinMap.{nat_cmp-IsAntisymmetric}
-use Rattle.std.specs.declared.cmp.Ordering.TheVariants.{Less, Equal}
-use Rattle.std.proofs.lemmas.Bool.{cases_eq, eq-eqb, ne_eqb, eqb-true, lt-ltb}
+use Rattle.std.proofs.lemmas.Bool.{cases_eq, eq-eqb, ne_eqb, lt-ltb}
 use Rattle.std.proofs.lemmas.List.Elements.{All-head, All-tail}
 use Rattle.std.proofs.lemmas.List.Sums.{sum_by-cons}
 use Rattle.exam_plan.specs.Matching.{Plan, SamePlan, occupants, unseated, size, IsLawful, IsBest, IsCertificate}
@@ -19,6 +17,7 @@ use Rattle.exam_plan.proofs.Counting.{bit, count_below, count_below-same, count_
 use Rattle.exam_plan.proofs.Seatings.{length-occupants, length-unseated, size-count, member-below, IfSome-at}
 use Rattle.exam_plan.proofs.Moves.{Avoids, AreDistinct, route_of, ends_free, lawful-moved, size-moved}
 use Rattle.exam_plan.proofs.KeptLemmas.{lesser_count, fitting_stays}
+use Rattle.exam_plan.proofs.Rising.{later_all, listed_in, in_listed}
 use Rattle.exam_plan.proofs.LeastChains as least
 
 pub one_least_chain : (p : Problem) (q : Plan ℕ ℕ) (c : ℕ) (a b : Chain ℕ ℕ) → IsLeastChain (seating_of p) q c a → IsLeastChain (seating_of p) q c b → a ≡ b
@@ -105,13 +104,6 @@ best_repaired p first q r best s = sweep_stays p q best (sweep_order (seating_of
 
 -- ---- a certificate shows that a plan is best
 
-apart_if_less : (x y : ℕ) → nat_cmp x y ≡ Less → x ≢ y
-apart_if_less x y l e = let z : nat_cmp x y ≡ Equal = sym (nat_cmp_is x y Equal e) in let b : Less ≡ Equal = sym l ∙ z in cc
-
-pub later_all : (x : ℕ) (xs : List ℕ) → AllByRecursion (λ y. nat_cmp x y ≡ Less) xs → list_any (nat_eq x) xs ≡ false
-later_all x [] a = refl
-later_all x (y ∷ ys) a = ap (λ b. b || list_any (nat_eq x) ys) (ne_eqb x y (apart_if_less x y a.0)) ∙ later_all x ys a.1
-
 pub count_none : (n : ℕ) → count_below (λ c. false) n ≡ 0
 count_none zero = refl
 count_none (suc n) = let e = count_none n in omega (arith, e)
@@ -160,12 +152,6 @@ everybody p q =
     either : (o : Option ℕ) → bit (is_some o) + bit (is_none o) ≡ bit true
     either None = refl
     either (Some h) = refl
-
-pub listed_in : (xs : List ℕ) (x : ℕ) → Contains xs x → list_any (nat_eq x) xs ≡ true
-listed_in xs x m = list_any_at (nat_eq x) xs m.0 x m.1 (eq-eqb x (get_or xs m.0 x) (sym m.2))
-
-pub in_listed : (xs : List ℕ) (x : ℕ) → list_any (nat_eq x) xs ≡ true → Contains xs x
-in_listed xs x t = let a = Any-from_list_any (nat_eq x) xs t in let same : x ≡ a.1 = eqb-true x a.1 a.4 in subst (λ (z : ℕ). Contains xs z) (sym same) (a.0, a.2, a.3)
 
 pub certified_best : (p : Problem) (q : Plan ℕ ℕ) (xs hs : List ℕ) → IsProblem p → IsLawful (seating_of p) q → IsCertificate (seating_of p) q xs hs → IsBest (seating_of p) q
 certified_best p q xs hs good lawful cert = record { lawful = lawful; greatest = λ other also. greatest other also }

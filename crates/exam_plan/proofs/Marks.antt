@@ -46,8 +46,3 @@ marks_differ xs ys e same = let t : pointwise beq xs ys ≡ true = (slice_eq-Dec
 
 pub marks_agree : (xs ys : List Bool) → pointwise beq xs ys ≡ true → xs ≡ ys
 marks_agree xs ys e = (slice_eq-Decides booleans_Decides xs ys _ refl).0 e
-
--- the step of a loop that widens as long as it can
-pub widens : (xs ys s : List Bool) (r : Bool) → s ≡ xs → length ys ≡ length s → IsWider s ys → r ≡ pointwise beq ys xs → r ≡ false → count_by not ys < count_by not xs
-widens xs ys s r same long wider told fails =
-    unmarked-lt xs ys (long ∙ ap length same) (λ h t. wider h (ap (λ z. get_or z h false) same ∙ t)) (marks_differ ys xs (sym told ∙ fails))

@@ -1,57 +1,21 @@
 -- The closed set of a best plan: a deficiency certificate, and exactly the contested candidates.
 use Rattle.std.proofs.Common.{◌≡◌, ◌≢◌, ℕ, zero, suc, ◌+◌, ◌<◌, ◌≤◌, ◌↔◌, Bool, true, false, cond, IsTrue, List, [], ◌∷◌, ◌++◌, length, get_or, Option, None, Some, IsSome, IfSome, is_some, is_none, nat_eq, ◌⊎◌, refl, sym, ap, ◌∙◌, inl, inr, subst, arith, zero-add}
-use Rattle.std.specs.Prelude.{All, Contains, filter, sum_by}
-use Rattle.std.specs.List.{range_with_len, AllByRecursion}
+use Rattle.std.specs.Prelude.{Contains, filter, sum_by}
+use Rattle.std.specs.List.{range_with_len}
 use Rattle.std.specs.List.Sorted.{IsStrictlySortedBy}
 use Rattle.std.specs.Ordering.{nat_cmp}
-use Rattle.std.specs.Cmp.{nat_cmp_is}
-use Rattle.std.specs.declared.cmp.Ordering.TheVariants.{Less}
 use Rattle.std.proofs.lemmas.Bool.{cases_eq, cases_lt, cases_Bool, eq-eqb, ne_eqb}
-use Rattle.std.proofs.lemmas.List.Elements.{All-filter, All-contains, All-from_get_or, filter_passes, filter-append, All-contains_itself, Contains-push, Contains-append_left}
-use Rattle.std.proofs.lemmas.List.Kept.{IsStrictlySortedBy-filter}
-use Rattle.std.proofs.lemmas.List.FromFn.{length-range_with_len, get_or-range_with_len}
+use Rattle.std.proofs.lemmas.List.Elements.{All-contains_itself}
 use Rattle.std.proofs.lemmas.List.Sums.{length-filter, sum_by-append}
 use Rattle.exam_plan.specs.Matching.{Plan, occupants, unseated, size, IsLawful, IsBest, IsCertificate, IsContested}
 use Rattle.exam_plan.specs.Chains.{HasFreeDesk, augmented}
 use Rattle.exam_plan.specs.Problems.{Problem, IsProblem, seating_of}
 use Rattle.exam_plan.specs.Searches.{IsMarked, Draws, is_drawn}
-use Rattle.exam_plan.proofs.Counting.{bit, count_below, count_below-add, count_below-point, count_by-range, sum_below, sits_within, sits_at, range_more}
+use Rattle.exam_plan.proofs.Counting.{bit, count_below, count_below-add, count_below-point, count_by-range, sum_below, sits_within, sits_at}
+use Rattle.exam_plan.proofs.Rising.{next_filter, passing, passes_in, filter_sorted}
 use Rattle.exam_plan.proofs.Seatings.{length-occupants, length-unseated, size-count, member-below, below-member, fits_member, fits_below}
 use Rattle.exam_plan.proofs.Optimality.{IsClosedSet, drawn_in, set_desks, closed_is_greater}
 use Rattle.exam_plan.proofs.Moves.{IsFresh, Avoids, AreDistinct, IsPath, IsRoute, path_of, moved-fresh, exchange, moved_cases, route_fits, lawful-moved, size-moved}
-
--- ---- the indices that pass
-
-range_below : (n : ℕ) → All (λ x. x < n) (range_with_len 0 n)
-range_below n = All-from_get_or (λ x. x < n) (range_with_len 0 n) 0 (λ i l. let long = length-range_with_len 0 n in let e = get_or-range_with_len 0 n i 0 (omega (arith, l, long)) in omega (arith, e, l, long))
-
-pub passing : (P : ℕ → Bool) (n x : ℕ) → Contains (filter P (range_with_len 0 n)) x → (x < n) × (P x ≡ true)
-passing P n x c = (
-  All-contains (λ y. y < n) (filter P (range_with_len 0 n)) x (All-filter P (λ y. y < n) (range_with_len 0 n) (range_below n)) c,
-  All-contains (λ y. P y ≡ true) (filter P (range_with_len 0 n)) x (filter_passes P (range_with_len 0 n)) c,
-)
-
-next_filter : (P : ℕ → Bool) (n : ℕ) (b : Bool) → P n ≡ b → filter P (range_with_len 0 (suc n)) ≡ filter P (range_with_len 0 n) ++ cond b (n ∷ []) []
-next_filter P n b e = ap (filter P) (range_more 0 n ∙ ap (λ k. range_with_len 0 n ++ k ∷ []) (zero-add n)) ∙ filter-append P (range_with_len 0 n) (n ∷ []) ∙ ap (λ t. filter P (range_with_len 0 n) ++ cond t (n ∷ []) []) e
-
-pub passes_in : (P : ℕ → Bool) (n x : ℕ) → x < n → P x ≡ true → Contains (filter P (range_with_len 0 n)) x
-passes_in P zero x l e = absurd (omega arith)
-passes_in P (suc n) x l e = elim (cases_eq x n) [
-  | inl s ↦ subst (λ (xs : List ℕ). Contains xs x) (sym (next_filter P n true (ap P (sym s) ∙ e))) (subst (λ (z : ℕ). Contains (filter P (range_with_len 0 n) ++ z ∷ []) x) s (Contains-push (filter P (range_with_len 0 n)) x))
-  | inr a ↦ subst (λ (xs : List ℕ). Contains xs x) (sym (next_filter P n (P n) refl)) (Contains-append_left (filter P (range_with_len 0 n)) (cond (P n) (n ∷ []) []) x (passes_in P n x (omega arith) e))
-]
-
-later : (a b n : ℕ) → a < b → AllByRecursion (λ y. nat_cmp a y ≡ Less) (range_with_len b n)
-later a b zero l = tt
-later a b (suc n) l = (sym (nat_cmp_is a b Less l), later a (b + 1) n (omega arith))
-
-range_sorted : (a n : ℕ) → IsStrictlySortedBy nat_cmp (range_with_len a n)
-unfolding IsStrictlySortedBy
-range_sorted a zero = tt
-range_sorted a (suc n) = (later a (a + 1) n (omega arith), range_sorted (a + 1) n)
-
-pub filter_sorted : (P : ℕ → Bool) (n : ℕ) → IsStrictlySortedBy nat_cmp (filter P (range_with_len 0 n))
-filter_sorted P n = IsStrictlySortedBy-filter nat_cmp P (range_with_len 0 n) (range_sorted 0 n)
 
 pub sum_by-passing : (f : ℕ → ℕ) (D : ℕ → Bool) (n : ℕ) → sum_by f (filter D (range_with_len 0 n)) ≡ sum_below f D n
 sum_by-passing f D zero = refl
@@ -186,7 +150,7 @@ module _ (p : Problem) (q : Plan ℕ ℕ) where
 
 -- ---- the search's closed set
 
-module _ (p : Problem) (good : IsProblem p) (q : Plan ℕ ℕ) (best : IsBest (seating_of p) q) (marks : List Bool)
+module _ (p : Problem) (good : IsProblem p) (q : Plan ℕ ℕ) (best : IsBest (seating_of p) q) (marks : ℕ → Bool)
     (drawn : (h : ℕ) → IsMarked marks h → (j : ℕ) × Draws p q j h) (closed : (c h : ℕ) → IsTrue (is_drawn marks (q c)) → IsTrue ((seating_of p).fits c h) → IsMarked marks h) where
   marked_full : (h : ℕ) → IsMarked marks h → HasFreeDesk (seating_of p) q h → ⊥
   marked_full h m free =
@@ -196,11 +160,11 @@ module _ (p : Problem) (good : IsProblem p) (q : Plan ℕ ℕ) (best : IsBest (s
       let s = size-moved p q best.lawful r.0 r.2 r.1 h r.3 r.4 in
       let g = best.greatest (augmented (seating_of p) q r.0 r.1 h) l in omega (arith, s, g)
 
-  same_drawn : (o : Option ℕ) → is_drawn marks o ≡ drawn_in (λ h. get_or marks h false) o
+  same_drawn : (o : Option ℕ) → is_drawn marks o ≡ drawn_in marks o
   same_drawn None = refl
   same_drawn (Some h) = refl
 
-  pub closed_set : IsClosedSet p q (λ h. get_or marks h false)
+  pub closed_set : IsClosedSet p q marks
   closed_set = record {
     full = λ h l t. elim (cases_lt (length (occupants (seating_of p) q h)) (get_or p.desk_counts h 0)) [
       | inl free ↦ absurd (marked_full h t free)
@@ -222,11 +186,11 @@ module _ (p : Problem) (good : IsProblem p) (q : Plan ℕ ℕ) (best : IsBest (s
       at (suc j) (c, inl e, fit) = (c, ap (is_drawn marks) e, fit)
       at (suc j) (c, inr (k, sits, d), fit) = (c, ap (is_drawn marks) sits ∙ draws_marked j k d, fit)
 
-  drawn_bits : (o : Option ℕ) → bit (is_none o) + bit (sits_within (λ h. get_or marks h false) o) ≡ bit (is_drawn marks o)
+  drawn_bits : (o : Option ℕ) → bit (is_none o) + bit (sits_within marks o) ≡ bit (is_drawn marks o)
   drawn_bits None = refl
-  drawn_bits (Some h) = zero-add (bit (get_or marks h false))
+  drawn_bits (Some h) = zero-add (bit (marks h))
 
-  module _ (xs hs : List ℕ) (xs_is : xs ≡ filter (λ c. is_drawn marks (q c)) (range_with_len 0 (length p.fit))) (hs_is : hs ≡ filter (λ h. get_or marks h false) (range_with_len 0 (length p.desk_counts))) where
+  module _ (xs hs : List ℕ) (xs_is : xs ≡ filter (λ c. is_drawn marks (q c)) (range_with_len 0 (length p.fit))) (hs_is : hs ≡ filter marks (range_with_len 0 (length p.desk_counts))) where
     in_xs : (c : ℕ) → Contains xs c → (c < length p.fit) × IsTrue (is_drawn marks (q c))
     in_xs c m = passing (λ d. is_drawn marks (q d)) (length p.fit) c (subst (λ (ys : List ℕ). Contains ys c) xs_is m)
 
@@ -236,10 +200,10 @@ module _ (p : Problem) (good : IsProblem p) (q : Plan ℕ ℕ) (best : IsBest (s
     xs_excess : length xs ≡ sum_by (seating_of p).desks hs + length (unseated (seating_of p) q)
     xs_excess =
         let a : length xs ≡ count_below (λ c. is_drawn marks (q c)) (length p.fit) = ap length xs_is ∙ length-filter (λ c. is_drawn marks (q c)) (range_with_len 0 (length p.fit)) ∙ count_by-range (λ c. is_drawn marks (q c)) (length p.fit) in
-        let b = count_below-add (λ c. is_none (q c)) (λ c. sits_within (λ h. get_or marks h false) (q c)) (λ c. is_drawn marks (q c)) (length p.fit) (λ c l. drawn_bits (q c)) in
-        let s = set_desks p good q best.lawful (λ h. get_or marks h false) closed_set in
-        let f : sum_by (seating_of p).desks hs ≡ sum_below (λ h. get_or p.desk_counts h 0) (λ h. get_or marks h false) (length p.desk_counts) =
-        ap (sum_by (seating_of p).desks) hs_is ∙ sum_by-passing (λ h. get_or p.desk_counts h 0) (λ h. get_or marks h false) (length p.desk_counts) in
+        let b = count_below-add (λ c. is_none (q c)) (λ c. sits_within marks (q c)) (λ c. is_drawn marks (q c)) (length p.fit) (λ c l. drawn_bits (q c)) in
+        let s = set_desks p good q best.lawful marks closed_set in
+        let f : sum_by (seating_of p).desks hs ≡ sum_below (λ h. get_or p.desk_counts h 0) marks (length p.desk_counts) =
+        ap (sum_by (seating_of p).desks) hs_is ∙ sum_by-passing (λ h. get_or p.desk_counts h 0) marks (length p.desk_counts) in
         let u = length-unseated p q in
         omega (arith, a, b, s, f, u)
 
@@ -247,11 +211,11 @@ module _ (p : Problem) (good : IsProblem p) (q : Plan ℕ ℕ) (best : IsBest (s
     is_certificate = record {
       members = λ k d l. below-member (length p.fit) (get_or xs k d) (in_xs (get_or xs k d) (All-contains_itself xs k d l)).0;
       rising = subst (IsStrictlySortedBy nat_cmp) (sym xs_is) (filter_sorted (λ c. is_drawn marks (q c)) (length p.fit));
-      halls_rising = subst (IsStrictlySortedBy nat_cmp) (sym hs_is) (filter_sorted (λ h. get_or marks h false) (length p.desk_counts));
+      halls_rising = subst (IsStrictlySortedBy nat_cmp) (sym hs_is) (filter_sorted marks (length p.desk_counts));
       halls_of = λ h. (
-        (λ m. let r = passing (λ k. get_or marks k false) (length p.desk_counts) h (subst (λ (ys : List ℕ). Contains ys h) hs_is m) in let w = fitted h r.1 in
+        (λ m. let r = passing marks (length p.desk_counts) h (subst (λ (ys : List ℕ). Contains ys h) hs_is m) in let w = fitted h r.1 in
             (w.0, xs_has w.0 (fits_member p w.0 h w.2) w.1, w.2)),
-        (λ w. subst (λ (ys : List ℕ). Contains ys h) (sym hs_is) (passes_in (λ k. get_or marks k false) (length p.desk_counts) h (fits_below p good w.0 h w.2) (closed w.0 h (in_xs w.0 w.1).1 w.2))),
+        (λ w. subst (λ (ys : List ℕ). Contains ys h) (sym hs_is) (passes_in marks (length p.desk_counts) h (fits_below p good w.0 h w.2) (closed w.0 h (in_xs w.0 w.1).1 w.2))),
       );
       excess = xs_excess;
     }
@@ -262,7 +226,7 @@ module _ (p : Problem) (good : IsProblem p) (q : Plan ℕ ℕ) (best : IsBest (s
       (λ w. let l = member-below (length p.fit) c w.0 in elim (cases_Bool (is_drawn marks (q c))) [
         | inl t ↦ xs_has c l t
         | inr f ↦ absurd (let other = w.1.0 in let ob : IsBest (seating_of p) other = w.1.1 in
-            let less = closed_is_greater p good q best.lawful (λ h. get_or marks h false) closed_set other ob.lawful c l (sym (same_drawn (q c)) ∙ f) w.1.2 in
+            let less = closed_is_greater p good q best.lawful marks closed_set other ob.lawful c l (sym (same_drawn (q c)) ∙ f) w.1.2 in
             let more = ob.greatest q best.lawful in omega (arith, less, more))
       ]),
     )

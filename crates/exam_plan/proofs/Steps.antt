@@ -1,21 +1,19 @@
 -- The steps of the searches' loops.
-use Rattle.std.proofs.Common.{◌≡◌, ◌≢◌, ℕ, zero, suc, ◌+◌, ◌<◌, ◌≤◌, ◌↔◌, Bool, true, false, cond, IsTrue, List, [], ◌∷◌, ◌++◌, length, get_or, set, take, Option, None, Some, IfSome, is_some, nat_eq, nat_lt, ◌⊎◌, refl, sym, ap, ◌∙◌, inl, inr, subst, arith, Vec, Global}
-use Rattle.std.specs.Prelude.{find, All}
+use Rattle.std.proofs.Common.{◌≡◌, ◌≢◌, ℕ, zero, suc, ◌+◌, ◌<◌, ◌≤◌, ◌↔◌, Bool, true, false, not, ◌&&◌, ◌||◌, cond, IsTrue, List, [], ◌∷◌, ◌++◌, length, get_or, set, take, replicate, Option, None, Some, IfSome, is_some, nat_eq, nat_lt, ◌⊎◌, refl, sym, ap, ◌∙◌, inl, inr, subst, arith}
+use Rattle.std.specs.Prelude.{All, MatchOption}
 use Rattle.std.proofs.lemmas.List.Elements.{All-get_or, All-set}
-use Rattle.std.specs.List.{list_any, AllByRecursion}
-use Rattle.std.specs.List.Sorted.{IsStrictlySortedBy}
 use Rattle.std.specs.Option.{option_map_or}
-use Rattle.std.specs.Ordering.{nat_cmp}
-use Rattle.std.specs.declared.cmp.Ordering.TheVariants.{Less}
-use Rattle.std.proofs.lemmas.Bool.{cases_eq, cases_lt, cases_Bool, or_cases, or_left, or_right, eq-eqb, ne_eqb, eqb-true, ltb-true, lt-ltb}
-use Rattle.std.proofs.lemmas.List.{get_or-set_same, get_or-set_other, get_or_append_left, length-append}
-use Rattle.std.proofs.Math.Seq.{get_or-append_seam, take-append_seam}
+use Rattle.std.proofs.lemmas.Bool.{cases_eq, cases_lt, or_cases, or_left, or_right, and_parts, and_from, eq-eqb, ne_eqb, eqb-true, ltb-true, lt-ltb}
+use Rattle.std.proofs.lemmas.List.{get_or-set_same, get_or-set_other, get_or_past, get_or-replicate, length-replicate, length-append}
+use Rattle.std.proofs.Math.Seq.{take-append_seam}
+use Rattle.exam_plan.specs.HallSets.{holds}
 use Rattle.exam_plan.specs.Matching.{Plan, occupants}
 use Rattle.exam_plan.specs.Chains.{HasFreeDesk}
-use Rattle.exam_plan.specs.Problems.{Problem, plan_at, seating_of}
-use Rattle.exam_plan.specs.Searches.{IsMarked, MarksAll, IsTouching, Reaches, CanReach, AreLayers, AreClosed, IsLeastHall, IsLeastMover, IsAdvanced, count_at}
-use Rattle.exam_plan.proofs.Counting.{bit, count_below, count_below-same, count_by-range, count_below-more, count_below-le-bound, sits_at}
-use Rattle.exam_plan.proofs.Seatings.{length-occupants}
+use Rattle.exam_plan.specs.Problems.{Problem, IsProblem, IsPlan, plan_at, seating_of}
+use Rattle.exam_plan.specs.Searches.{IsMarked, MarksAll, IsTouching, Reaches, CanReach, AreLayers, AreOnward, LeadsTo, IsLeastHall, IsLeastMover, IsAdvanced, count_at}
+use Rattle.exam_plan.proofs.Counting.{bit, count_below, count_below-same, count_by-range, count_below-more, count_below-lt, count_below-le-bound, sits_at}
+use Rattle.exam_plan.proofs.HallBits.{holds_empty}
+use Rattle.exam_plan.proofs.Seatings.{length-occupants, fits_below}
 
 -- ---- reading a plan
 
@@ -80,16 +78,6 @@ counted_none i counts m halls counted here h below =
     let b : bit (sits_at h (plan_at m i)) ≡ 0 = ap (λ o. bit (sits_at h o)) sits in
     omega (arith, more, b, counted h below)
 
-pub marked_push : (free : List Bool) (b : Bool) (i : ℕ) (P : ℕ → Type 0) → length free ≡ i → ((h : ℕ) → h < i → IsMarked free h ↔ P h) → ((b ≡ true) ↔ P i)
-    → (h : ℕ) → h < i + 1 → IsMarked (free ++ b ∷ []) h ↔ P h
-marked_push free b i P long marked here h below = elim (cases_lt h i) [
-  | inl l ↦ (let e : get_or (free ++ b ∷ []) h false ≡ get_or free h false = get_or_append_left free (b ∷ []) false h (omega arith) in
-      ((λ t. (marked h l).0 (sym e ∙ t)), (λ t. e ∙ (marked h l).1 t)))
-  | inr g ↦ (let same : h ≡ i = omega arith in
-      let e : get_or (free ++ b ∷ []) h false ≡ b = ap (λ t. get_or (free ++ b ∷ []) t false) (same ∙ sym long) ∙ get_or-append_seam free b [] false in
-      ((λ t. subst P (sym same) (here.0 (sym e ∙ t))), (λ t. e ∙ here.1 (subst P same t))))
-]
-
 pub is_free : (p : Problem) (m : List (Option ℕ)) (h a d : ℕ) → length m ≡ length p.fit → a ≡ count_at (plan_at m) h (length m) → d ≡ get_or p.desk_counts h 0
     → (nat_lt a d ≡ true) ↔ HasFreeDesk (seating_of p) (plan_at m) h
 is_free p m h a d whole counted desks =
@@ -97,155 +85,6 @@ is_free p m h a d whole counted desks =
     let e = count_at-below (plan_at m) h (length m) in
     let f : count_below (λ c. sits_at h (plan_at m c)) (length m) ≡ count_below (λ c. sits_at h (plan_at m c)) (length p.fit) = ap (count_below (λ c. sits_at h (plan_at m c))) whole in
     ((λ t. let l = ltb-true a d t in omega (arith, o, e, f, l)), (λ l. lt-ltb a d (let k : length (occupants (seating_of p) (plan_at m) h) < get_or p.desk_counts h 0 = l in omega (arith, o, e, f, k))))
-
--- ---- rows
-
-pub found_in : (P : ℕ → Bool) (row : List ℕ) (h : ℕ) → find P row ≡ Some h → (list_any (nat_eq h) row ≡ true) × (P h ≡ true)
-found_in P [] h e = cc
-found_in P (x ∷ xs) h e = elim (cases_Bool (P x)) [
-  | inl t ↦ (let f : Some x ≡ Some h = sym (ap (λ b. cond b (Some x) (find P xs)) t) ∙ e in let s : x ≡ h = cc in
-      (or_left (nat_eq h x) (list_any (nat_eq h) xs) (eq-eqb h x (sym s)), sym (ap P s) ∙ t))
-  | inr t ↦ (let f : find P xs ≡ Some h = sym (ap (λ b. cond b (Some x) (find P xs)) t) ∙ e in let r = found_in P xs h f in
-      (or_right (nat_eq h x) (list_any (nat_eq h) xs) r.0, r.1))
-]
-
-pub found_none : (P : ℕ → Bool) (row : List ℕ) → find P row ≡ None → (k : ℕ) → list_any (nat_eq k) row ≡ true → P k ≡ false
-found_none P [] e k t = cc
-found_none P (x ∷ xs) e k t = elim (cases_Bool (P x)) [
-  | inl s ↦ absurd (let f : Some x ≡ None = sym (ap (λ b. cond b (Some x) (find P xs)) s) ∙ e in cc)
-  | inr s ↦ (let f : find P xs ≡ None = sym (ap (λ b. cond b (Some x) (find P xs)) s) ∙ e in
-      elim (or_cases (nat_eq k x) (list_any (nat_eq k) xs) t) [ inl a ↦ ap P (eqb-true k x a) ∙ s | inr a ↦ found_none P xs f k a ])
-]
-
-below_all : (x k : ℕ) (xs : List ℕ) → AllByRecursion (λ y. nat_cmp x y ≡ Less) xs → list_any (nat_eq k) xs ≡ true → x < k
-below_all x k [] all t = absurd (let z : false ≡ true = t in cc)
-below_all x k (y ∷ ys) all t = elim (or_cases (nat_eq k y) (list_any (nat_eq k) ys) t) [
-  | inl e ↦ (let l : x < y = less_from x y all.0 in let s : k ≡ y = eqb-true k y e in omega arith)
-  | inr e ↦ below_all x k ys all.1 e
-]
-  where
-    less_from : (a b : ℕ) → nat_cmp a b ≡ Less → a < b
-    less_from a b e = elim (cases_Bool (nat_lt a b)) [
-      | inl t ↦ ltb-true a b t
-      | inr t ↦ absurd (elim (cases_Bool (nat_eq a b)) [ inl s ↦ (let z = rw (t, s) at e in cc) | inr s ↦ (let z = rw (t, s) at e in cc) ])
-    ]
-
-pub found_first : (P : ℕ → Bool) (row : List ℕ) (h : ℕ) → IsStrictlySortedBy nat_cmp row → find P row ≡ Some h → (k : ℕ) → list_any (nat_eq k) row ≡ true → P k ≡ true → h ≤ k
-unfolding IsStrictlySortedBy
-found_first P [] h sorted e k t m = absurd (let z : false ≡ true = t in cc)
-found_first P (x ∷ xs) h sorted e k t m = elim (cases_Bool (P x)) [
-  | inl s ↦ (let f : Some x ≡ Some h = sym (ap (λ b. cond b (Some x) (find P xs)) s) ∙ e in let same : x ≡ h = cc in
-      elim (or_cases (nat_eq k x) (list_any (nat_eq k) xs) t) [
-        | inl a ↦ (let g : k ≡ x = eqb-true k x a in omega arith)
-        | inr a ↦ (let g : x < k = below_all x k xs sorted.0 a in omega arith)
-      ])
-  | inr s ↦ (let f : find P xs ≡ Some h = sym (ap (λ b. cond b (Some x) (find P xs)) s) ∙ e in
-      elim (or_cases (nat_eq k x) (list_any (nat_eq k) xs) t) [
-        | inl a ↦ absurd (let z : true ≡ false = sym m ∙ ap P (eqb-true k x a) ∙ s in cc)
-        | inr a ↦ found_first P xs h sorted.1 f k a m
-      ])
-]
-
-none_or_some : (o : Option ℕ) → (o ≡ None) ⊎ ((h : ℕ) × (o ≡ Some h))
-none_or_some None = inl refl
-none_or_some (Some h) = inr (h, refl)
-
-pub touch_test : (p : Problem) (marks : List Bool) (c : ℕ) (row : List ℕ) (r : Bool) → row ≡ get_or p.fit c [] → r ≡ is_some (find (λ h. get_or marks h false) row) → (r ≡ true) ↔ IsTouching p marks c
-touch_test p marks c row r read told =
-    elim (none_or_some (find (λ h. get_or marks h false) row)) [
-      | inl n ↦ (
-        (λ t. absurd (let z : false ≡ true = sym (ap is_some n) ∙ sym told ∙ t in cc)),
-        (λ w. absurd (let f : get_or marks w.0 false ≡ false = found_none (λ h. get_or marks h false) row n w.0 (ap (list_any (nat_eq w.0)) read ∙ w.1) in let z : false ≡ true = sym f ∙ w.2 in cc)),
-      )
-      | inr s ↦ (let r = found_in (λ h. get_or marks h false) row s.0 s.1 in
-          ((λ t. (s.0, ap (list_any (nat_eq s.0)) (sym read) ∙ r.0, r.1)), (λ w. told ∙ ap is_some s.1)))
-    ]
-
--- ---- widening
-
-module _ (p : Problem) (m : List (Option ℕ)) (marks : List Bool) where
-  -- what is marked after so many candidates
-  abbrev pub IsWidened : List Bool → ℕ → Type 0
-  IsWidened next i = (h : ℕ) → IsMarked next h ↔ (IsMarked marks h ⊎ ((d : ℕ) × (d < i) × (plan_at m d ≡ Some h) × IsTouching p marks d))
-
-  pub widened_skip : (next : List Bool) (i : ℕ) → IsWidened next i → ((h : ℕ) → get_or m i None ≡ Some h → IsTouching p marks i → ⊥) → IsWidened next (i + 1)
-  widened_skip next i w away h = (
-    (λ t. elim ((w h).0 t) [ inl a ↦ inl a | inr d ↦ inr (d.0, (let l : d.0 < i = d.1 in omega arith), d.2, d.3) ]),
-    (λ s. (w h).1 (elim s [
-      | inl a ↦ inl a
-      | inr d ↦ elim (cases_lt d.0 i) [
-        | inl l ↦ inr (d.0, l, d.2, d.3)
-        | inr g ↦ (let b : d.0 < i + 1 = d.1 in let e : d.0 ≡ i = omega arith in absurd (away h (sym (plan_at-get_or m i) ∙ ap (plan_at m) (sym e) ∙ d.2) (subst (λ (z : ℕ). IsTouching p marks z) e d.3)))
-      ]
-    ])),
-  )
-
-  pub widened_set : (next : List Bool) (i k : ℕ) → IsWidened next i → get_or m i None ≡ Some k → IsTouching p marks i → k < length next → IsWidened (set next k true) (i + 1)
-  widened_set next i k w here touch inside h = elim (cases_eq h k) [
-    | inl e ↦ (let new : get_or (set next k true) h false ≡ true = ap (λ t. get_or (set next k true) t false) e ∙ get_or-set_same next k true false inside in
-        ((λ t. inr (i, omega arith, plan_at-get_or m i ∙ here ∙ ap Some (sym e), touch)), (λ s. new)))
-    | inr n ↦ (let new : get_or (set next k true) h false ≡ get_or next h false = rw get_or-set_other refl in (
-      (λ t. elim ((w h).0 (sym new ∙ t)) [ inl a ↦ inl a | inr d ↦ inr (d.0, (let l : d.0 < i = d.1 in omega arith), d.2, d.3) ]),
-      (λ s. new ∙ (w h).1 (elim s [
-        | inl a ↦ inl a
-        | inr d ↦ elim (cases_lt d.0 i) [
-          | inl l ↦ inr (d.0, l, d.2, d.3)
-          | inr g ↦ (let b : d.0 < i + 1 = d.1 in let e : d.0 ≡ i = omega arith in
-              absurd (n (some_same h k (sym d.2 ∙ ap (plan_at m) e ∙ plan_at-get_or m i ∙ here))))
-        ]
-      ])),
-    ))
-  ]
-    where
-      some_same : (a b : ℕ) → Some a ≡ Some b → a ≡ b
-      some_same a b e = cc
-
--- ---- layers
-
-module _ (p : Problem) (q : Plan ℕ ℕ) where
-  -- a list that marks what one more hop reaches
-  abbrev pub IsNext : List Bool → List Bool → Type 0
-  IsNext marks next = MarksAll next (λ h. IsMarked marks h ⊎ ((d : ℕ) × (q d ≡ Some h) × IsTouching p marks d))
-
-  pub touching_reach : (marks : List Bool) (j c : ℕ) → MarksAll marks (Reaches p q j) → IsTouching p marks c → CanReach p q j c
-  touching_reach marks j c layer t = (t.0, t.1, (layer t.0).0 t.2)
-
-  pub reach_touching : (marks : List Bool) (j c : ℕ) → MarksAll marks (Reaches p q j) → CanReach p q j c → IsTouching p marks c
-  reach_touching marks j c layer t = (t.0, t.1, (layer t.0).1 t.2)
-
-  pub next_layer : (marks next : List Bool) (j n : ℕ) → MarksAll marks (Reaches p q j) → IsNext marks next → n ≡ suc j → MarksAll next (Reaches p q n)
-  next_layer marks next j n layer wide e = subst (λ (z : ℕ). MarksAll next (Reaches p q z)) (sym e)
-      (λ h. (
-        (λ t. elim ((wide h).0 t) [ inl a ↦ inl ((layer h).0 a) | inr d ↦ inr (d.0, d.1, touching_reach marks j d.0 layer d.2) ]),
-        (λ r. (wide h).1 (elim r [ inl a ↦ inl ((layer h).1 a) | inr d ↦ inr (d.0, d.1, reach_touching marks j d.0 layer d.2) ])),
-      ))
-
-  pub layers_push : (layers : List (Vec Bool Global)) (last : Vec Bool Global) → AreLayers p q layers → MarksAll last.items (Reaches p q (length layers)) → AreLayers p q (layers ++ last ∷ [])
-  layers_push layers last are layer j d below = elim (cases_lt j (length layers)) [
-    | inl l ↦ subst (λ (v : Vec Bool Global). MarksAll v.items (Reaches p q j)) (sym (get_or_append_left layers (last ∷ []) d j l)) (are j d l)
-    | inr g ↦ (let long : length (layers ++ last ∷ []) ≡ length layers + length (last ∷ []) = length-append layers (last ∷ []) in
-        let one : length (last ∷ []) ≡ 1 = refl in
-        let e : j ≡ length layers = omega (arith, below, g, long, one) in
-        subst (λ (z : ℕ). MarksAll (get_or (layers ++ last ∷ []) z d).items (Reaches p q z)) (sym e)
-        (subst (λ (v : Vec Bool Global). MarksAll v.items (Reaches p q (length layers))) (sym (get_or-append_seam layers last [] d)) layer))
-  ]
-
-  pub far_push : (n m c : ℕ) → m ≡ n + 1 → ((j : ℕ) → j < n → CanReach p q j c → ⊥) → (CanReach p q n c → ⊥) → (j : ℕ) → j < m → CanReach p q j c → ⊥
-  far_push n m c e far here j l r = elim (cases_lt j n) [
-    | inl k ↦ far j k r
-    | inr g ↦ here (let s : j ≡ n = omega arith in subst (λ (z : ℕ). CanReach p q z c) s r)
-  ]
-
-  -- a list that no further hop widens is closed
-  pub closed_from : (marks next : List Bool) (j : ℕ) → MarksAll marks (Reaches p q j) → IsNext marks next → next ≡ marks → AreClosed p q marks
-  closed_from marks next j layer wide same = record {
-    full = λ h free. (layer h).1 (free_reaches j h free);
-    stays = λ d h k sits fit marked. subst (λ (z : List Bool). IsMarked z h) same ((wide h).1 (inr (d, sits, (k, fit, marked))));
-  }
-    where
-      free_reaches : (j h : ℕ) → HasFreeDesk (seating_of p) q h → Reaches p q j h
-      free_reaches zero h free = free
-      free_reaches (suc j) h free = inl (free_reaches j h free)
 
 -- ---- places
 
@@ -260,55 +99,403 @@ same_within [] i d e l = absurd (omega arith)
 same_within (y ∷ ys) zero d e l = refl
 same_within (y ∷ ys) (suc i) d e l = same_within ys i d e (omega arith)
 
+pub places_set : (m : List (Option ℕ)) (n c h : ℕ) → All (λ place. IfSome place (λ k. k < n)) m → h < n → All (λ place. IfSome place (λ k. k < n)) (set m c (Some h))
+places_set m n c h all below = All-set (λ (o : Option ℕ). IfSome o (λ k. k < n)) m c (Some h) below all
+
+-- who sits, sits in a hall that exists
+pub sits_below : (p : Problem) (m : List (Option ℕ)) → IsPlan p m → (d h : ℕ) → plan_at m d ≡ Some h → h < length p.desk_counts
+sits_below p m plan d h sits = elim (cases_lt d (length m)) [
+  | inl l ↦ place_below m (length p.desk_counts) d h plan.exist l (sym (plan_at-get_or m d) ∙ sits)
+  | inr g ↦ absurd (let z : None ≡ Some h = sym (get_or_past m d None g) ∙ sym (plan_at-get_or m d) ∙ sits in cc)
+]
+
+-- what was found, or that nothing was
+pub first_none : (o : Option ℕ) (N : Type 0) (S : ℕ → Type 0) → MatchOption o N S → is_some o ≡ false → N
+first_none None N S m e = m
+first_none (Some h) N S m e = cc
+
+pub first_some : (o : Option ℕ) (N : Type 0) (S : ℕ → Type 0) → MatchOption o N S → is_some o ≡ true → (h : ℕ) × S h
+first_some None N S m e = cc
+first_some (Some h) N S m e = (h, m)
+
+-- ---- sets
+
+-- where a set holds no hall that another lacks, it is within the other
+pub within_other : (a b rest : ℕ) → ((h : ℕ) → holds rest h ≡ holds a h && not (holds b h)) → ((h : ℕ) → holds rest h ≡ false) → (h : ℕ) → holds a h ≡ true → holds b h ≡ true
+within_other a b rest is none h held = at (holds b h) refl
+  where
+    at : (t : Bool) → holds b h ≡ t → holds b h ≡ true
+    at true e = e
+    at false e = let z : true ≡ false = sym (ap (λ s. s && not (holds b h)) held ∙ ap not e) ∙ sym (is h) ∙ none h in cc
+
+-- a hall of what one set has beyond another
+pub beyond : (a b rest h : ℕ) → holds rest h ≡ holds a h && not (holds b h) → holds rest h ≡ true → (holds a h ≡ true) × (holds b h ≡ false)
+beyond a b rest h is held = at (holds a h) (holds b h) (sym is ∙ held)
+  where
+    at : (x y : Bool) → x && not y ≡ true → (x ≡ true) × (y ≡ false)
+    at true false e = (refl, refl)
+    at true true e = cc
+    at false y e = cc
+
+pub bit_le : (x y : Bool) → (x ≡ true → y ≡ true) → bit x ≤ bit y
+bit_le false y f = omega arith
+bit_le true y f = let e : bit y ≡ 1 = ap bit (f refl) in omega arith
+
+-- a set that has all halls of another and one more has more of them
+pub holds_more : (a b n k : ℕ) → ((h : ℕ) → holds a h ≡ true → holds b h ≡ true) → k < n → holds b k ≡ true → holds a k ≡ false → count_below (holds a) n < count_below (holds b) n
+holds_more a b n k wider below held away =
+    let one : bit (holds b k) ≡ 1 = ap bit held in
+    let none : bit (holds a k) ≡ 0 = ap bit away in
+    count_below-lt (holds a) (holds b) n k (λ h l. bit_le (holds a h) (holds b h) (wider h)) below (omega arith)
+
+-- ---- a candidate's row
+
+module _ (p : Problem) (c row : ℕ) (fits : (h : ℕ) → holds row h ≡ (seating_of p).fits c h) where
+  pub touch_test : (marked : ℕ) (r : Bool) → ((r ≡ true) ↔ ((h : ℕ) × (holds row h ≡ true) × (holds marked h ≡ true))) → (r ≡ true) ↔ IsTouching p (holds marked) c
+  touch_test marked r told = (
+    (λ t. let w = told.0 t in (w.0, sym (fits w.0) ∙ w.1, w.2)),
+    (λ w. told.1 (w.0, fits w.0 ∙ w.1, w.2)),
+  )
+
+-- ---- the halls that fit some occupant
+
+module _ (p : Problem) (m : List (Option ℕ)) where
+  -- what is noted after so many candidates
+  abbrev pub IsNoted : List ℕ → ℕ → Type 0
+  IsNoted sets i =
+      (h k : ℕ) → h < length p.desk_counts → IsMarked (holds (get_or sets h 0)) k ↔ ((d : ℕ) × (d < i) × (plan_at m d ≡ Some h) × IsTrue ((seating_of p).fits d k))
+
+  pub noted_skip : (sets : List ℕ) (i : ℕ) → IsNoted sets i → ((h : ℕ) → get_or m i None ≡ Some h → ⊥) → IsNoted sets (i + 1)
+  noted_skip sets i w away h k l = (
+    (λ t. let d = (w h k l).0 t in (d.0, (let b : d.0 < i = d.1 in omega arith), d.2, d.3)),
+    (λ d. elim (cases_lt d.0 i) [
+      | inl b ↦ (w h k l).1 (d.0, b, d.2, d.3)
+      | inr g ↦ (let b : d.0 < i + 1 = d.1 in let e : d.0 ≡ i = omega arith in absurd (away h (sym (plan_at-get_or m i) ∙ ap (plan_at m) (sym e) ∙ d.2)))
+    ]),
+  )
+
+  pub noted_set : (sets : List ℕ) (i hall old row new : ℕ) → IsNoted sets i → get_or m i None ≡ Some hall → hall < length sets → old ≡ get_or sets hall old → ((k : ℕ) → holds row k ≡ (seating_of p).fits i k)
+      → ((k : ℕ) → holds new k ≡ holds old k || holds row k) → IsNoted (set sets hall new) (i + 1)
+  noted_set sets i hall old row new w here inside read fits union h k l = elim (cases_eq h hall) [
+    | inl e ↦ (let at : get_or (set sets hall new) h 0 ≡ new = ap (λ t. get_or (set sets hall new) t 0) e ∙ get_or-set_same sets hall new 0 inside in
+        let was : get_or sets h 0 ≡ old = ap (λ t. get_or sets t 0) e ∙ same_within sets hall 0 old inside ∙ sym read in (
+          (λ t. elim (or_cases (holds old k) (holds row k) (sym (union k) ∙ ap (λ s. holds s k) (sym at) ∙ t)) [
+            | inl o ↦ (let d = (w h k l).0 (ap (λ s. holds s k) was ∙ o) in (d.0, (let b : d.0 < i = d.1 in omega arith), d.2, d.3))
+            | inr r ↦ (i, omega arith, plan_at-get_or m i ∙ here ∙ ap Some (sym e), sym (fits k) ∙ r)
+          ]),
+          (λ d. ap (λ s. holds s k) at ∙ union k ∙ elim (cases_lt d.0 i) [
+            | inl b ↦ or_left (holds old k) (holds row k) (ap (λ s. holds s k) (sym was) ∙ (w h k l).1 (d.0, b, d.2, d.3))
+            | inr g ↦ (let b : d.0 < i + 1 = d.1 in let s : d.0 ≡ i = omega arith in or_right (holds old k) (holds row k) (fits k ∙ ap (λ z. (seating_of p).fits z k) (sym s) ∙ d.3))
+          ]),
+        ))
+    | inr n ↦ (let at : get_or (set sets hall new) h 0 ≡ get_or sets h 0 = rw get_or-set_other refl in (
+      (λ t. let d = (w h k l).0 (ap (λ s. holds s k) (sym at) ∙ t) in (d.0, (let b : d.0 < i = d.1 in omega arith), d.2, d.3)),
+      (λ d. ap (λ s. holds s k) at ∙ elim (cases_lt d.0 i) [
+        | inl b ↦ (w h k l).1 (d.0, b, d.2, d.3)
+        | inr g ↦ absurd (let b : d.0 < i + 1 = d.1 in let e : d.0 ≡ i = omega arith in n (some_same h hall (sym d.2 ∙ ap (plan_at m) e ∙ plan_at-get_or m i ∙ here)))
+      ]),
+    ))
+  ]
+    where
+      some_same : (a b : ℕ) → Some a ≡ Some b → a ≡ b
+      some_same a b e = cc
+
+  pub noted_all : (sets : List ℕ) (n : ℕ) → length m ≤ n → IsNoted sets n → AreOnward p (plan_at m) sets
+  noted_all sets n all w h k l = (
+    (λ t. let d = (w h k l).0 t in (d.0, d.2, d.3)),
+    (λ d. (w h k l).1 (
+      d.0,
+      (elim (cases_lt d.0 n) [
+        | inl b ↦ b
+        | inr g ↦ absurd (let z : None ≡ Some h = sym (get_or_past m d.0 None (omega arith)) ∙ sym (plan_at-get_or m d.0) ∙ d.1 in cc)
+      ]),
+      d.1,
+      d.2,
+    )),
+  )
+
+-- what no occupant stands before, after so many candidates
+abbrev pub AreFirstsBelow : List (Option ℕ) → List ℕ → ℕ → Type 0
+AreFirstsBelow m firsts i = (d h : ℕ) → d < i → plan_at m d ≡ Some h → get_or firsts h 0 ≤ d
+
+pub firsts_skip : (m : List (Option ℕ)) (firsts : List ℕ) (i : ℕ) → AreFirstsBelow m firsts i → ((h : ℕ) → get_or m i None ≡ Some h → ⊥) → AreFirstsBelow m firsts (i + 1)
+firsts_skip m firsts i w away d h l sits = elim (cases_lt d i) [
+  | inl b ↦ w d h b sits
+  | inr g ↦ (let e : d ≡ i = omega arith in absurd (away h (sym (plan_at-get_or m i) ∙ ap (plan_at m) (sym e) ∙ sits)))
+]
+
+pub firsts_set : (m : List (Option ℕ)) (firsts : List ℕ) (i hall old new : ℕ) → AreFirstsBelow m firsts i → get_or m i None ≡ Some hall → hall < length firsts → old ≡ get_or firsts hall old → new ≤ old → new ≤ i
+    → AreFirstsBelow m (set firsts hall new) (i + 1)
+firsts_set m firsts i hall old new w here inside read less also d h l sits = elim (cases_eq h hall) [
+  | inl e ↦ (let at : get_or (set firsts hall new) h 0 ≡ new = ap (λ t. get_or (set firsts hall new) t 0) e ∙ get_or-set_same firsts hall new 0 inside in
+      let was : get_or firsts h 0 ≡ old = ap (λ t. get_or firsts t 0) e ∙ same_within firsts hall 0 old inside ∙ sym read in
+      elim (cases_lt d i) [ inl b ↦ (let f = w d h b sits in omega (arith, at, was, f, less)) | inr g ↦ omega (arith, at, also, g) ])
+  | inr n ↦ (let at : get_or (set firsts hall new) h 0 ≡ get_or firsts h 0 = rw get_or-set_other refl in
+      elim (cases_lt d i) [
+        | inl b ↦ (let f = w d h b sits in omega (arith, at, f))
+        | inr g ↦ absurd (let e : d ≡ i = omega arith in n (some_same h hall (sym sits ∙ ap (plan_at m) e ∙ plan_at-get_or m i ∙ here)))
+      ])
+]
+  where
+    some_same : (a b : ℕ) → Some a ≡ Some b → a ≡ b
+    some_same a b e = cc
+
+pub firsts_all : (m : List (Option ℕ)) (firsts : List ℕ) (n : ℕ) → length m ≤ n → AreFirstsBelow m firsts n → (d h : ℕ) → plan_at m d ≡ Some h → get_or firsts h 0 ≤ d
+firsts_all m firsts n all w d h sits = elim (cases_lt d n) [
+  | inl b ↦ w d h b sits
+  | inr g ↦ absurd (let z : None ≡ Some h = sym (get_or_past m d None (omega arith)) ∙ sym (plan_at-get_or m d) ∙ sits in cc)
+]
+
+pub noted_none : (p : Problem) (m : List (Option ℕ)) (n : ℕ) (sets : List ℕ) → sets ≡ replicate n 0 → IsNoted p m sets 0
+noted_none p m n sets same h k l = (
+  (λ t. absurd (let z : false ≡ true = sym (none_at h k) ∙ t in cc)),
+  (λ d. absurd (let b : d.0 < 0 = d.1 in omega arith)),
+)
+  where
+    z : ℕ
+    z = 0
+
+    zero_at : (h : ℕ) → get_or sets h 0 ≡ 0
+    zero_at h = elim (cases_lt h n) [
+      | inl b ↦ ap (λ xs. get_or xs h 0) same ∙ get_or-replicate n h 0 0 b
+      | inr g ↦ ap (λ xs. get_or xs h 0) same ∙ get_or_past (replicate n 0) h 0 (let e : length (replicate n z) ≡ n = length-replicate n z in omega (arith, e, g))
+    ]
+
+    none_at : (h k : ℕ) → holds (get_or sets h 0) k ≡ false
+    none_at h k = ap (λ s. holds s k) (zero_at h) ∙ holds_empty k
+
+-- ---- steps over the halls
+
+-- the halls so far that a set has, or that meet it
+abbrev pub IsWidened : List ℕ → ℕ → ℕ → ℕ → Type 0
+IsWidened sets marked i next = (h : ℕ) → IsMarked (holds next) h ↔ (IsMarked (holds marked) h ⊎ ((h < i) × ((k : ℕ) × IsMarked (holds (get_or sets h 0)) k × IsMarked (holds marked) k)))
+
+pub widened_skip : (sets : List ℕ) (marked i next : ℕ) → IsWidened sets marked i next → (((k : ℕ) × IsMarked (holds (get_or sets i 0)) k × IsMarked (holds marked) k) → ⊥) → IsWidened sets marked (i + 1) next
+widened_skip sets marked i next w away h = (
+  (λ t. elim ((w h).0 t) [ inl a ↦ inl a | inr d ↦ inr ((let l : h < i = d.0 in omega arith), d.1) ]),
+  (λ s. (w h).1 (elim s [
+    | inl a ↦ inl a
+    | inr d ↦ elim (cases_lt h i) [
+      | inl l ↦ inr (l, d.1)
+      | inr g ↦ (let l : h < i + 1 = d.0 in let e : h ≡ i = omega arith in absurd (away (subst (λ (z : ℕ). (k : ℕ) × IsMarked (holds (get_or sets z 0)) k × IsMarked (holds marked) k) e d.1)))
+    ]
+  ])),
+)
+
+pub widened_with : (sets : List ℕ) (marked i next new : ℕ) → IsWidened sets marked i next → ((k : ℕ) × IsMarked (holds (get_or sets i 0)) k × IsMarked (holds marked) k) → ((h : ℕ) → holds new h ≡ nat_eq h i || holds next h) → IsWidened sets marked (i + 1) new
+widened_with sets marked i next new w meets with h = (
+  (λ t. elim (or_cases (nat_eq h i) (holds next h) (sym (with h) ∙ t)) [
+    | inl e ↦ (let s : h ≡ i = eqb-true h i e in inr (omega arith, subst (λ (z : ℕ). (k : ℕ) × IsMarked (holds (get_or sets z 0)) k × IsMarked (holds marked) k) (sym s) meets))
+    | inr n ↦ elim ((w h).0 n) [ inl a ↦ inl a | inr d ↦ inr ((let l : h < i = d.0 in omega arith), d.1) ]
+  ]),
+  (λ s. with h ∙ elim s [
+    | inl a ↦ or_right (nat_eq h i) (holds next h) ((w h).1 (inl a))
+    | inr d ↦ elim (cases_lt h i) [
+      | inl l ↦ or_right (nat_eq h i) (holds next h) ((w h).1 (inr (l, d.1)))
+      | inr g ↦ (let l : h < i + 1 = d.0 in or_left (nat_eq h i) (holds next h) (eq-eqb h i (omega arith)))
+    ]
+  ]),
+)
+
+-- the halls that a set has, and those that the sets of such halls so far have
+abbrev pub IsFollowed : List ℕ → ℕ → ℕ → ℕ → Type 0
+IsFollowed sets marked i next = (k : ℕ) → IsMarked (holds next) k ↔ (IsMarked (holds marked) k ⊎ ((h : ℕ) × (h < i) × IsMarked (holds marked) h × IsMarked (holds (get_or sets h 0)) k))
+
+pub followed_skip : (sets : List ℕ) (marked i next : ℕ) → IsFollowed sets marked i next → (IsMarked (holds marked) i → ⊥) → IsFollowed sets marked (i + 1) next
+followed_skip sets marked i next w away k = (
+  (λ t. elim ((w k).0 t) [ inl a ↦ inl a | inr d ↦ inr (d.0, (let l : d.0 < i = d.1 in omega arith), d.2, d.3) ]),
+  (λ s. (w k).1 (elim s [
+    | inl a ↦ inl a
+    | inr d ↦ elim (cases_lt d.0 i) [
+      | inl l ↦ inr (d.0, l, d.2, d.3)
+      | inr g ↦ (let l : d.0 < i + 1 = d.1 in let e : d.0 ≡ i = omega arith in absurd (away (subst (λ (z : ℕ). IsMarked (holds marked) z) e d.2)))
+    ]
+  ])),
+)
+
+pub followed_union : (sets : List ℕ) (marked i next one new : ℕ) → IsFollowed sets marked i next → IsMarked (holds marked) i → one ≡ get_or sets i 0 → ((k : ℕ) → holds new k ≡ holds next k || holds one k) → IsFollowed sets marked (i + 1) new
+followed_union sets marked i next one new w held read union k = (
+  (λ t. elim (or_cases (holds next k) (holds one k) (sym (union k) ∙ t)) [
+    | inl n ↦ elim ((w k).0 n) [ inl a ↦ inl a | inr d ↦ inr (d.0, (let l : d.0 < i = d.1 in omega arith), d.2, d.3) ]
+    | inr o ↦ inr (i, omega arith, held, ap (λ s. holds s k) (sym read) ∙ o)
+  ]),
+  (λ s. union k ∙ elim s [
+    | inl a ↦ or_left (holds next k) (holds one k) ((w k).1 (inl a))
+    | inr d ↦ elim (cases_lt d.0 i) [
+      | inl l ↦ or_left (holds next k) (holds one k) ((w k).1 (inr (d.0, l, d.2, d.3)))
+      | inr g ↦ (let l : d.0 < i + 1 = d.1 in let e : d.0 ≡ i = omega arith in or_right (holds next k) (holds one k) (ap (λ s. holds s k) read ∙ ap (λ z. holds (get_or sets z 0) k) (sym e) ∙ d.3))
+    ]
+  ]),
+)
+
+-- ---- layers
+
+module _ (p : Problem) (q : Plan ℕ ℕ) where
+  -- a set of what one more hop reaches
+  abbrev pub IsNext : (ℕ → Bool) → (ℕ → Bool) → Type 0
+  IsNext marks next = MarksAll next (λ h. IsMarked marks h ⊎ ((d : ℕ) × (q d ≡ Some h) × IsTouching p marks d))
+
+  pub widened_next : (sets : List ℕ) (marked next n : ℕ) → AreOnward p q sets → n ≡ length p.desk_counts → ((d h : ℕ) → q d ≡ Some h → h < length p.desk_counts) → IsWidened sets marked n next → IsNext (holds marked) (holds next)
+  widened_next sets marked next n onward halls exist w h = (
+    (λ t. elim ((w h).0 t) [
+      | inl a ↦ inl a
+      | inr d ↦ inr (let l : h < n = d.0 in let o = (onward h d.1.0 (omega arith)).0 d.1.1 in (o.0, o.1, (d.1.0, o.2, d.1.2)))
+    ]),
+    (λ s. (w h).1 (elim s [
+      | inl a ↦ inl a
+      | inr d ↦ (let l = exist d.0 h d.1 in inr (omega arith, (d.2.0, (onward h d.2.0 l).1 (d.0, d.1, d.2.1), d.2.2)))
+    ])),
+  )
+
+  pub touching_reach : (marks : ℕ → Bool) (j c : ℕ) → MarksAll marks (Reaches p q j) → IsTouching p marks c → CanReach p q j c
+  touching_reach marks j c layer t = (t.0, t.1, (layer t.0).0 t.2)
+
+  pub reach_touching : (marks : ℕ → Bool) (j c : ℕ) → MarksAll marks (Reaches p q j) → CanReach p q j c → IsTouching p marks c
+  reach_touching marks j c layer t = (t.0, t.1, (layer t.0).1 t.2)
+
+  pub next_layer : (marks next : ℕ → Bool) (j n : ℕ) → MarksAll marks (Reaches p q j) → IsNext marks next → n ≡ suc j → MarksAll next (Reaches p q n)
+  next_layer marks next j n layer wide e = subst (λ (z : ℕ). MarksAll next (Reaches p q z)) (sym e)
+      (λ h. (
+        (λ t. elim ((wide h).0 t) [ inl a ↦ inl ((layer h).0 a) | inr d ↦ inr (d.0, d.1, touching_reach marks j d.0 layer d.2) ]),
+        (λ r. (wide h).1 (elim r [ inl a ↦ inl ((layer h).1 a) | inr d ↦ inr (d.0, d.1, reach_touching marks j d.0 layer d.2) ])),
+      ))
+
+  pub layers_set : (layers : List ℕ) (n last m : ℕ) → AreLayers p q n layers → n < length layers → MarksAll (holds last) (Reaches p q n) → m ≡ n + 1 → AreLayers p q m (set layers n last)
+  layers_set layers n last m are room layer more j below = elim (cases_lt j n) [
+    | inl l ↦ (let away : j ≢ n = λ e. absurd (omega arith) in let at : get_or (set layers n last) j 0 ≡ get_or layers j 0 = rw get_or-set_other refl in
+        subst (λ (s : ℕ). MarksAll (holds s) (Reaches p q j)) (sym at) (are j l))
+    | inr g ↦ (let e : j ≡ n = omega arith in
+        let at : get_or (set layers n last) j 0 ≡ last = ap (λ t. get_or (set layers n last) t 0) e ∙ get_or-set_same layers n last 0 room in
+        subst (λ (s : ℕ). MarksAll (holds s) (Reaches p q j)) (sym at) (subst (λ (z : ℕ). MarksAll (holds last) (Reaches p q z)) (sym e) layer))
+  ]
+
+  pub far_push : (n m c : ℕ) → m ≡ n + 1 → ((j : ℕ) → j < n → CanReach p q j c → ⊥) → (CanReach p q n c → ⊥) → (j : ℕ) → j < m → CanReach p q j c → ⊥
+  far_push n m c e far here j l r = elim (cases_lt j n) [
+    | inl k ↦ far j k r
+    | inr g ↦ here (let s : j ≡ n = omega arith in subst (λ (z : ℕ). CanReach p q z c) s r)
+  ]
+
+  free_reaches : (j h : ℕ) → HasFreeDesk (seating_of p) q h → Reaches p q j h
+  free_reaches zero h free = free
+  free_reaches (suc j) h free = inl (free_reaches j h free)
+
+  pub reaches_below : ((d h : ℕ) → q d ≡ Some h → h < length p.desk_counts) → (j h : ℕ) → Reaches p q j h → h < length p.desk_counts
+  reaches_below exist zero h free = elim (cases_lt h (length p.desk_counts)) [
+    | inl l ↦ l
+    | inr g ↦ absurd (let z : get_or p.desk_counts h 0 ≡ 0 = get_or_past p.desk_counts h 0 g in let f : length (occupants (seating_of p) q h) < get_or p.desk_counts h 0 = free in omega (arith, z, f))
+  ]
+  reaches_below exist (suc j) h (inl r) = reaches_below exist j h r
+  reaches_below exist (suc j) h (inr d) = exist d.0 h d.1
+
+  -- a further hop widens by a hall that exists
+  pub layer_grows : ((d h : ℕ) → q d ≡ Some h → h < length p.desk_counts) → (reached next rest j : ℕ) → MarksAll (holds reached) (Reaches p q j) → IsNext (holds reached) (holds next)
+      → ((h : ℕ) → holds rest h ≡ holds next h && not (holds reached h)) → (k : ℕ) → holds rest k ≡ true → count_below (holds reached) (length p.desk_counts) < count_below (holds next) (length p.desk_counts)
+  layer_grows exist reached next rest j layer wide is k held =
+      let parts = beyond next reached rest k (is k) held in
+      holds_more reached next (length p.desk_counts) k (λ h t. (wide h).1 (inl t))
+      (elim ((wide k).0 parts.0) [ inl a ↦ reaches_below exist j k ((layer k).0 a) | inr d ↦ exist d.0 k d.1 ]) parts.0 parts.1
+
+  -- where no further hop widens a set that does not touch the candidate, the candidate leads to no free desk
+  pub leads_nowhere : (marks next : ℕ → Bool) (j c : ℕ) → MarksAll marks (Reaches p q j) → IsNext marks next → ((h : ℕ) → next h ≡ true → marks h ≡ true) → (IsTouching p marks c → ⊥)
+      → (i h : ℕ) → LeadsTo p q c i h → HasFreeDesk (seating_of p) q h → ⊥
+  leads_nowhere marks next j c layer wide same away i h leads free = avoid i h leads ((layer h).1 (free_reaches j h free))
+    where
+      avoid : (i h : ℕ) → LeadsTo p q c i h → IsMarked marks h → ⊥
+      avoid zero h fit m = away (h, fit, m)
+      avoid (suc i) h (k, lead, d) m = avoid i k lead (same k ((wide k).1 (inr (d.0, d.1, (h, d.2, m)))))
+
+-- ---- to which halls a candidate leads
+
+module _ (p : Problem) (q : Plan ℕ ℕ) (c : ℕ) where
+  pub leads_below : IsProblem p → (j h : ℕ) → LeadsTo p q c j h → h < length p.desk_counts
+  leads_below good zero h fit = fits_below p good c h fit
+  leads_below good (suc j) h (k, lead, d) = fits_below p good d.0 h d.2
+
+  module _ (sets : List ℕ) (onward : AreOnward p q sets) (n : ℕ) (halls : n ≡ length p.desk_counts) (dead led next more rest : ℕ)
+      (apart : (h : ℕ) → IsMarked (holds led) h → IsMarked (holds dead) h → ⊥) (leads : (h : ℕ) → IsMarked (holds led) h → (j : ℕ) × LeadsTo p q c j h)
+      (follows : IsFollowed sets led n next) (more_is : (h : ℕ) → holds more h ≡ holds next h && not (holds dead h)) (rest_is : (h : ℕ) → holds rest h ≡ holds more h && not (holds led h)) where
+    next_or_dead : (h : ℕ) → IsMarked (holds next) h → IsMarked (holds more) h ⊎ IsMarked (holds dead) h
+    next_or_dead h t = at (holds dead h) refl
+      where
+        at : (b : Bool) → holds dead h ≡ b → IsMarked (holds more) h ⊎ IsMarked (holds dead) h
+        at true e = inr e
+        at false e = inl (more_is h ∙ and_from (holds next h) (not (holds dead h)) t (ap not e))
+
+    still_led : (h : ℕ) → IsMarked (holds led) h → IsMarked (holds more) h
+    still_led h t = elim (next_or_dead h ((follows h).1 (inl t))) [ inl m ↦ m | inr d ↦ absurd (apart h t d) ]
+
+    pub more_apart : (h : ℕ) → IsMarked (holds more) h → IsMarked (holds dead) h → ⊥
+    more_apart h m d = let b = beyond next dead more h (more_is h) m in let z : true ≡ false = sym d ∙ b.1 in cc
+
+    pub more_leads : (h : ℕ) → IsMarked (holds more) h → (j : ℕ) × LeadsTo p q c j h
+    more_leads h m = elim ((follows h).0 (beyond next dead more h (more_is h) m).0) [
+      | inl t ↦ leads h t
+      | inr w ↦ (let l : w.0 < n = w.1 in let r = leads w.0 w.2 in let o = (onward w.0 h (omega arith)).0 w.3 in (suc r.0, (w.0, r.1, o)))
+    ]
+
+    pub more_fits : ((h : ℕ) → IsTrue ((seating_of p).fits c h) → IsMarked (holds led) h ⊎ IsMarked (holds dead) h) → (h : ℕ) → IsTrue ((seating_of p).fits c h) → IsMarked (holds more) h ⊎ IsMarked (holds dead) h
+    more_fits fitting h f = elim (fitting h f) [ inl t ↦ inl (still_led h t) | inr d ↦ inr d ]
+
+    pub more_grows : IsProblem p → (k : ℕ) → holds rest k ≡ true → count_below (holds led) (length p.desk_counts) < count_below (holds more) (length p.desk_counts)
+    more_grows good k held =
+        let b = beyond more led rest k (rest_is k) held in
+        let r = more_leads k b.0 in
+        holds_more led more (length p.desk_counts) k still_led (leads_below good r.0 k r.1) b.0 b.1
+
+    pub led_closed : ((h : ℕ) → holds rest h ≡ false) → ((d h : ℕ) → q d ≡ Some h → h < length p.desk_counts)
+        → (d h k : ℕ) → q d ≡ Some h → IsMarked (holds led) h → IsTrue ((seating_of p).fits d k) → IsMarked (holds led) k ⊎ IsMarked (holds dead) k
+    led_closed none exist d h k sits t f =
+        let l = exist d h sits in
+        elim (next_or_dead k ((follows k).1 (inr (h, omega arith, t, (onward h k l).1 (d, sits, f))))) [
+          | inl m ↦ inl (within_other more led rest rest_is none k m)
+          | inr e ↦ inr e
+        ]
+
 -- ---- moving along a chain
 
-module _ (p : Problem) (q : Plan ℕ ℕ) (layers : List (Vec Bool Global)) (are : AreLayers p q layers) where
-  -- the layer that was read marks what it should
-  pub layer_at : (j : ℕ) (v : Vec Bool Global) (s : List Bool) → j < length layers → v ≡ get_or layers j v → s ≡ v.items → MarksAll s (Reaches p q j)
-  layer_at j v s below read shown = subst (λ (z : List Bool). MarksAll z (Reaches p q j)) (ap (λ (u : Vec Bool Global). u.items) (sym read) ∙ sym shown) (are j v below)
+module _ (p : Problem) (q : Plan ℕ ℕ) where
+  -- the layer that was read holds what it should
+  pub layer_at : (layers : List ℕ) (n j v : ℕ) → AreLayers p q n layers → j < n → j < length layers → v ≡ get_or layers j v → MarksAll (holds v) (Reaches p q j)
+  layer_at layers n j v are below inside read = subst (λ (z : ℕ). MarksAll (holds z) (Reaches p q j)) (same_within layers j 0 v inside ∙ sym read) (are j below)
 
-  module _ (c : ℕ) (row : List ℕ) (is : row ≡ get_or p.fit c []) (j : ℕ) (s : List Bool) (marks : MarksAll s (Reaches p q j)) where
-    -- a hall that was found is the least
-    pub hall_found : (h : ℕ) → IsStrictlySortedBy nat_cmp row → find (λ k. get_or s k false) row ≡ Some h → IsLeastHall p q j c h
-    hall_found h sorted found =
-        let r = found_in (λ k. get_or s k false) row h found in (
-          ap (list_any (nat_eq h)) (sym is) ∙ r.0,
-          (marks h).0 r.1,
-          λ k fit reach. found_first (λ k. get_or s k false) row h sorted found k (ap (list_any (nat_eq k)) is ∙ fit) ((marks k).1 reach),
+  module _ (c row layer both j : ℕ) (fits : (h : ℕ) → holds row h ≡ (seating_of p).fits c h) (marks : MarksAll (holds layer) (Reaches p q j)) (common : (h : ℕ) → holds both h ≡ holds row h && holds layer h) where
+    -- the least hall of both is the least that fits and reaches
+    pub hall_found : (h : ℕ) → holds both h ≡ true → ((k : ℕ) → holds both k ≡ true → h ≤ k) → IsLeastHall p q j c h
+    hall_found h held least =
+        let parts = and_parts (holds row h) (holds layer h) (sym (common h) ∙ held) in (
+          sym (fits h) ∙ parts.0,
+          (marks h).0 parts.1,
+          λ k fit reach. least k (common k ∙ and_from (holds row k) (holds layer k) (fits k ∙ fit) ((marks k).1 reach)),
         )
 
-    pub hall_not_found : find (λ k. get_or s k false) row ≡ None → CanReach p q j c → ⊥
-    hall_not_found none r = let f = found_none (λ k. get_or s k false) row none r.0 (ap (list_any (nat_eq r.0)) is ∙ r.1) in let t = (marks r.0).1 r.2 in let z : false ≡ true = sym f ∙ t in cc
+    pub hall_not_found : ((h : ℕ) → holds both h ≡ false) → CanReach p q j c → ⊥
+    hall_not_found none r =
+        let t = common r.0 ∙ and_from (holds row r.0) (holds layer r.0) (fits r.0 ∙ r.1) ((marks r.0).1 r.2) in
+        let z : false ≡ true = sym (none r.0) ∙ t in cc
 
   -- a full hall that reaches a free desk has someone who can move on
-  pub mover_of : (j c h : ℕ) (s : List Bool) → MarksAll s (Reaches p q j) → IsLeastHall p q (suc j) c h → ((i : ℕ) → i < suc j → CanReach p q i c → ⊥) → (d : ℕ) × (q d ≡ Some h) × IsTouching p s d
+  pub mover_of : (j c h : ℕ) (s : ℕ → Bool) → MarksAll s (Reaches p q j) → IsLeastHall p q (suc j) c h → ((i : ℕ) → i < suc j → CanReach p q i c → ⊥) → (d : ℕ) × (q d ≡ Some h) × IsTouching p s d
   mover_of j c h s marks least far = elim least.1 [
     | inl r ↦ absurd (far j (omega arith) (h, least.0, r))
     | inr d ↦ (d.0, d.1, reach_touching p q s j d.0 marks d.2)
   ]
 
-  pub mover_found : (j h d : ℕ) (s : List Bool) → MarksAll s (Reaches p q j) → q d ≡ Some h → IsTouching p s d → ((e : ℕ) → q e ≡ Some h → IsTouching p s e → d ≤ e) → IsLeastMover p q j h d
+  pub mover_found : (j h d : ℕ) (s : ℕ → Bool) → MarksAll s (Reaches p q j) → q d ≡ Some h → IsTouching p s d → ((e : ℕ) → q e ≡ Some h → IsTouching p s e → d ≤ e) → IsLeastMover p q j h d
   mover_found j h d s marks sits touch least = (sits, touching_reach p q s j d marks touch, λ e also reach. least e also (reach_touching p q s j e marks reach))
 
   pub mover_far : (n j c h d : ℕ) → n ≡ suc j → IsTrue ((seating_of p).fits c h) → q d ≡ Some h → ((i : ℕ) → i < n → CanReach p q i c → ⊥) → (i : ℕ) → i < j → CanReach p q i d → ⊥
   mover_far n j c h d e fit sits far i l r = far (suc i) (omega arith) (h, fit, inr (d, sits, r))
 
-  module _ (m : List (Option ℕ)) (whole : (d : ℕ) → q d ≡ plan_at m d) where
-    pub advanced_last : (n c h : ℕ) → n ≡ 0 → c < length m → IsLeastHall p q n c h → IsAdvanced p q n c (plan_at (set m c (Some h)))
-    advanced_last n c h e below least = subst (λ (z : ℕ). IsAdvanced p q z c (plan_at (set m c (Some h)))) (sym e) (
-      [],
-      h,
-      subst (λ (z : ℕ). IsLeastHall p q z c h) e least,
-      λ d. plan_at-set m c d (Some h) below ∙ sym (ap (λ t. cond (nat_eq c d) (Some h) t) (whole d)),
-    )
-
-  pub advanced_more : (m : List (Option ℕ)) (n j c h d : ℕ) → n ≡ suc j → c < length m → IsLeastHall p q n c h → IsLeastMover p q j h d → IsAdvanced p q j d (plan_at m) → IsAdvanced p q n c (plan_at (set m c (Some h)))
-  advanced_more m n j c h d e below least mover rest = subst (λ (z : ℕ). IsAdvanced p q z c (plan_at (set m c (Some h)))) (sym e) (
-    (h, d) ∷ rest.0,
-    rest.1,
-    (subst (λ (z : ℕ). IsLeastHall p q z c h) e least, mover, rest.2),
-    λ k. plan_at-set m c k (Some h) below ∙ ap (λ t. cond (nat_eq c k) (Some h) t) (rest.3 k),
+  pub advanced_last : (m : List (Option ℕ)) (n c h : ℕ) → ((d : ℕ) → q d ≡ plan_at m d) → n ≡ 0 → c < length m → IsLeastHall p q n c h → IsAdvanced p q n c h (plan_at (set m c (Some h)))
+  advanced_last m n c h whole e below least = subst (λ (z : ℕ). IsAdvanced p q z c h (plan_at (set m c (Some h)))) (sym e) (
+    [],
+    subst (λ (z : ℕ). IsLeastHall p q z c h) e least,
+    λ d. plan_at-set m c d (Some h) below ∙ sym (ap (λ t. cond (nat_eq c d) (Some h) t) (whole d)),
   )
 
-pub places_set : (m : List (Option ℕ)) (n c h : ℕ) → All (λ place. IfSome place (λ k. k < n)) m → h < n → All (λ place. IfSome place (λ k. k < n)) (set m c (Some h))
-places_set m n c h all below = All-set (λ (o : Option ℕ). IfSome o (λ k. k < n)) m c (Some h) below all
+  pub advanced_more : (m : List (Option ℕ)) (n j c h d last : ℕ) → n ≡ suc j → c < length m → IsLeastHall p q n c h → IsLeastMover p q j h d → IsAdvanced p q j d last (plan_at m) → IsAdvanced p q n c last (plan_at (set m c (Some h)))
+  advanced_more m n j c h d last e below least mover rest = subst (λ (z : ℕ). IsAdvanced p q z c last (plan_at (set m c (Some h)))) (sym e) (
+    (h, d) ∷ rest.0,
+    (subst (λ (z : ℕ). IsLeastHall p q z c h) e least, mover, rest.1),
+    λ k. plan_at-set m c k (Some h) below ∙ ap (λ t. cond (nat_eq c k) (Some h) t) (rest.2 k),
+  )

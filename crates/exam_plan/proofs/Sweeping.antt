@@ -1,32 +1,31 @@
 -- A sweep so far, and at its end.
 use Rattle.std.proofs.Common.{◌≡◌, ℕ, zero, suc, ◌+◌, ◌<◌, ◌≤◌, Bool, true, false, not, cond, IsTrue, List, [], ◌∷◌, ◌++◌, length, get_or, Option, None, Some, IsSome, IfSome, is_some, nat_eq, refl, sym, ap, ◌∙◌, inl, inr, subst, arith, zero-add, append-nil, append_assoc}
-use Rattle.std.specs.Prelude.{filter}
-use Rattle.std.specs.Prelude.{replicate}
+use Rattle.std.specs.Prelude.{filter, Contains, ◌↔◌}
 use Rattle.std.specs.Option.{option_eq}
 use Rattle.std.specs.List.{range_with_len}
 use Rattle.std.proofs.lemmas.Bool.{cases_eq, cases_lt, eq-eqb, ne_eqb, eqb-true}
-use Rattle.std.proofs.lemmas.List.{get_or_past, get_or-replicate}
-use Rattle.std.proofs.lemmas.List.Elements.{filter-append, All-get_or}
-use Rattle.exam_plan.specs.Matching.{Seating, Plan, occupants, IsLawful, IsBest}
+use Rattle.std.proofs.lemmas.List.Elements.{filter-append}
+use Rattle.exam_plan.specs.Matching.{Seating, Plan, occupants, IsLawful, IsBest, IsContested}
 use Rattle.exam_plan.specs.Repair.{Turn, Sweeps, IsSweep}
-use Rattle.exam_plan.specs.Problems.{Problem, IsProblem, IsPlan, seating_of, plan_at}
-use Rattle.exam_plan.specs.Searches.{IsMarked, AreClosed, IsSettled}
+use Rattle.exam_plan.specs.Problems.{Problem, IsProblem, seating_of}
+use Rattle.exam_plan.specs.Searches.{IsMarked, AreClosed, IsSettled, IsTraced, LeadsTo, Draws, is_drawn}
 use Rattle.exam_plan.proofs.Counting.{range_more, range_next}
-use Rattle.exam_plan.proofs.Seatings.{fits_member}
+use Rattle.exam_plan.proofs.Seatings.{fits_member, fits_below}
 use Rattle.exam_plan.proofs.Optimality.{drawn_in, closed_is_greatest}
-use Rattle.exam_plan.proofs.Steps.{plan_at-get_or}
+use Rattle.exam_plan.proofs.Rising.{passing, passes_in}
+use Rattle.exam_plan.proofs.ShortOfDesks.{is_certificate, exactly_contested}
 
 -- the candidates who have had their turn: the first, and all others below i
 abbrev pub done : Problem → Option ℕ → ℕ → List ℕ
 done p None i = range_with_len 0 i
 done p (Some c) i = filter (nat_eq c) (range_with_len 0 (length p.fit)) ++ filter (λ d. not (nat_eq c d)) (range_with_len 0 i)
 
-pub record IsSwept (p : Problem) (first : Option ℕ) (before q : Plan ℕ ℕ) (live : List Bool) (i : ℕ) : Type 0 where
+pub record IsSwept (p : Problem) (first : Option ℕ) (before q : Plan ℕ ℕ) (dead : ℕ → Bool) (i : ℕ) : Type 0 where
   pub lawful : IsLawful (seating_of p) q
-  pub closed : AreClosed p q live
+  pub closed : AreClosed p q dead
   pub kept : (d : ℕ) → IsSome (before d) → IsSome (q d)
-  pub firstly : IfSome first (λ c. IsSettled p q live c)
-  pub settled : (d : ℕ) → d < i → IsSettled p q live d
+  pub firstly : IfSome first (λ c. IsSettled p q dead c)
+  pub settled : (d : ℕ) → d < i → IsSettled p q dead d
   pub turns : Sweeps (seating_of p) before (done p first i) q
 
 none_below : (c n : ℕ) → n ≤ c → filter (nat_eq c) (range_with_len 0 n) ≡ []
@@ -49,8 +48,8 @@ module _ (g : Seating ℕ ℕ) where
   Sweeps-push before [] mid c after same turn = (after, subst (λ (b : Plan ℕ ℕ). Turn g b c after) (λ i d. same d i) turn, λ d. refl)
   Sweeps-push before (x ∷ cs) mid c after s turn = (s.0, s.1, Sweeps-push s.0 cs mid c after s.2 turn)
 
-module _ (p : Problem) (before : Plan ℕ ℕ) (live : List Bool) where
-  pub swept_none : IsLawful (seating_of p) before → AreClosed p before live → IsSwept p None before before live 0
+module _ (p : Problem) (before : Plan ℕ ℕ) (dead : ℕ → Bool) where
+  pub swept_none : IsLawful (seating_of p) before → AreClosed p before dead → IsSwept p None before before dead 0
   swept_none lawful closed = record {
     lawful = lawful;
     closed = closed;
@@ -60,8 +59,8 @@ module _ (p : Problem) (before : Plan ℕ ℕ) (live : List Bool) where
     turns = λ d. refl;
   }
 
-  pub swept_first : (c : ℕ) (q : Plan ℕ ℕ) → c < length p.fit → IsLawful (seating_of p) q → AreClosed p q live → ((d : ℕ) → IsSome (before d) → IsSome (q d))
-      → IsSettled p q live c → Turn (seating_of p) before c q → IsSwept p (Some c) before q live 0
+  pub swept_first : (c : ℕ) (q : Plan ℕ ℕ) → c < length p.fit → IsLawful (seating_of p) q → AreClosed p q dead → ((d : ℕ) → IsSome (before d) → IsSome (q d))
+      → IsSettled p q dead c → Turn (seating_of p) before c q → IsSwept p (Some c) before q dead 0
   swept_first c q below lawful closed kept settled turn = record {
     lawful = lawful;
     closed = closed;
@@ -71,12 +70,12 @@ module _ (p : Problem) (before : Plan ℕ ℕ) (live : List Bool) where
     turns = subst (λ (cs : List ℕ). Sweeps (seating_of p) before cs q) (sym (append-nil (filter (nat_eq c) (range_with_len 0 (length p.fit))) ∙ one_of c (length p.fit) below)) (q, turn, λ d. refl);
   }
 
-module _ (p : Problem) (first : Option ℕ) (before q : Plan ℕ ℕ) (live : List Bool) (i : ℕ) (swept : IsSwept p first before q live i) where
+module _ (p : Problem) (first : Option ℕ) (before q : Plan ℕ ℕ) (dead : ℕ → Bool) (i : ℕ) (swept : IsSwept p first before q dead i) where
   -- those before i, and i itself
-  settled_more : (r : Plan ℕ ℕ) (lives : List Bool) → ((d : ℕ) → d < i → IsSettled p r lives d) → IsSettled p r lives i → (d : ℕ) → d < i + 1 → IsSettled p r lives d
-  settled_more r lives below here d l = elim (cases_lt d i) [
+  settled_more : (r : Plan ℕ ℕ) (deaths : ℕ → Bool) → ((d : ℕ) → d < i → IsSettled p r deaths d) → IsSettled p r deaths i → (d : ℕ) → d < i + 1 → IsSettled p r deaths d
+  settled_more r deaths below here d l = elim (cases_lt d i) [
     | inl k ↦ below d k
-    | inr k ↦ (let e : i ≡ d = omega arith in subst (λ (z : ℕ). IsSettled p r lives z) e here)
+    | inr k ↦ (let e : i ≡ d = omega arith in subst (λ (z : ℕ). IsSettled p r deaths z) e here)
   ]
 
   done_more : (o : Option ℕ) → (o ≡ Some i → ⊥) → done p o (i + 1) ≡ done p o i ++ i ∷ []
@@ -98,58 +97,87 @@ module _ (p : Problem) (first : Option ℕ) (before q : Plan ℕ ℕ) (live : Li
       some_same : (a b : ℕ) → Some a ≡ Some b → a ≡ b
       some_same a b e = cc
 
-  pub swept_more : (r : Plan ℕ ℕ) (lives : List Bool) → (first ≡ Some i → ⊥) → IsLawful (seating_of p) r → AreClosed p r lives → ((d : ℕ) → IsSome (q d) → IsSome (r d))
-      → IsSettled p r lives i → ((d : ℕ) → IsSettled p q live d → IsSettled p r lives d) → Turn (seating_of p) q i r → IsSwept p first before r lives (i + 1)
-  swept_more r lives away lawful closed kept settled others turn = record {
+  pub swept_more : (r : Plan ℕ ℕ) (deaths : ℕ → Bool) → (first ≡ Some i → ⊥) → IsLawful (seating_of p) r → AreClosed p r deaths → ((d : ℕ) → IsSome (q d) → IsSome (r d))
+      → IsSettled p r deaths i → ((d : ℕ) → IsSettled p q dead d → IsSettled p r deaths d) → Turn (seating_of p) q i r → IsSwept p first before r deaths (i + 1)
+  swept_more r deaths away lawful closed kept settled others turn = record {
     lawful = lawful;
     closed = closed;
     kept = λ d s. kept d (swept.kept d s);
     firstly = firstly first swept.firstly;
-    settled = settled_more r lives (λ d l. others d (swept.settled d l)) settled;
+    settled = settled_more r deaths (λ d l. others d (swept.settled d l)) settled;
     turns = subst (λ (cs : List ℕ). Sweeps (seating_of p) before cs r) (sym (done_more first away)) (Sweeps-push (seating_of p) before (done p first i) q i r swept.turns turn);
   }
     where
-      firstly : (o : Option ℕ) → IfSome o (λ c. IsSettled p q live c) → IfSome o (λ c. IsSettled p r lives c)
+      firstly : (o : Option ℕ) → IfSome o (λ c. IsSettled p q dead c) → IfSome o (λ c. IsSettled p r deaths c)
       firstly None s = tt
       firstly (Some c) s = others c s
 
-  pub swept_skip : first ≡ Some i → IsSwept p first before q live (i + 1)
+  pub swept_skip : first ≡ Some i → IsSwept p first before q dead (i + 1)
   swept_skip same = record {
     lawful = swept.lawful;
     closed = swept.closed;
     kept = swept.kept;
     firstly = swept.firstly;
-    settled = settled_more q live swept.settled (let P : Option ℕ → Type 0 = λ o. IfSome o (λ c. IsSettled p q live c) in subst P same swept.firstly);
+    settled = settled_more q dead swept.settled (let P : Option ℕ → Type 0 = λ o. IfSome o (λ c. IsSettled p q dead c) in subst P same swept.firstly);
     turns = subst (λ (cs : List ℕ). Sweeps (seating_of p) before cs q) (sym (done_same first same)) swept.turns;
   }
 
-module _ (p : Problem) (good : IsProblem p) (first : Option ℕ) (before q : Plan ℕ ℕ) (live : List Bool) (n : ℕ) (all : n ≡ length p.fit) (swept : IsSwept p first before q live n) where
-  marked_or_not : (b : Bool) → (b ≡ true → ⊥) → not b ≡ true
-  marked_or_not true n = absurd (n refl)
-  marked_or_not false n = refl
+module _ (p : Problem) (good : IsProblem p) (first : Option ℕ) (before q : Plan ℕ ℕ) (dead : ℕ → Bool) (n : ℕ) (all : n ≡ length p.fit) (swept : IsSwept p first before q dead n) where
+  drawn_dead : (c k : ℕ) (o : Option ℕ) → q c ≡ o → is_drawn dead (q c) ≡ true → IsTrue ((seating_of p).fits c k) → IsMarked dead k
+  drawn_dead c k None e drawn fit = elim (swept.settled c (let l = fits_member p c k fit in omega arith)) [
+    | inl s ↦ absurd (let z : false ≡ true = sym (ap is_some e) ∙ s in cc)
+    | inr within ↦ within k fit
+  ]
+  drawn_dead c k (Some h) e drawn fit = swept.closed.stays c h k e (sym (ap (is_drawn dead) e) ∙ drawn) fit
 
-  not_marked : (b : Bool) → not b ≡ true → b ≡ true → ⊥
-  not_marked true n e = cc
-  not_marked false n e = cc
+  same_test : (o : Option ℕ) → drawn_in dead o ≡ is_drawn dead o
+  same_test None = refl
+  same_test (Some h) = refl
+
+  -- who is unseated or sits in a dead hall fits dead halls alone
+  pub swept_closed : (c k : ℕ) → IsTrue (is_drawn dead (q c)) → IsTrue ((seating_of p).fits c k) → IsMarked dead k
+  swept_closed c k drawn fit = drawn_dead c k (q c) refl drawn fit
 
   pub swept_best : IsBest (seating_of p) q
   swept_best = record {
     lawful = swept.lawful;
-    greatest = λ other also. closed_is_greatest p good q swept.lawful (λ h. not (get_or live h false)) (record {
+    greatest = λ other also. closed_is_greatest p good q swept.lawful dead (record {
       full = λ h l t. elim (cases_lt (length (occupants (seating_of p) q h)) (get_or p.desk_counts h 0)) [
-        | inl free ↦ absurd (not_marked (get_or live h false) t (swept.closed.full h free))
+        | inl free ↦ absurd (swept.closed.full h t free)
         | inr k ↦ k
       ];
-      stays = λ c k drawn fit. marked_or_not (get_or live k false) (λ m. drawn_case c k (q c) refl drawn fit m);
+      stays = λ c k drawn fit. swept_closed c k (sym (same_test (q c)) ∙ drawn) fit;
     }) other also;
   }
+
+  -- ---- the dead halls are those that fit a contested candidate
+
+  traced_draws : (c : ℕ) → q c ≡ None → (j h : ℕ) → LeadsTo p q c j h → Draws p q (suc j) h
+  traced_draws c none zero h fit = (c, inl none, fit)
+  traced_draws c none (suc j) h (k, lead, d) = (d.0, inr (k, d.1, traced_draws c none j k lead), d.2)
+
+  pub swept_drawn : ((h : ℕ) → IsMarked dead h → IsTraced p q dead h) → (h : ℕ) → IsMarked dead h → (j : ℕ) × Draws p q j h
+  swept_drawn traced h m = let t = traced h m in (suc t.1, traced_draws t.0 t.2 t.1 h t.4)
+
+  pub swept_dead : ((h : ℕ) → IsMarked dead h → IsTraced p q dead h) → (listed : List ℕ) → ((h : ℕ) → Contains listed h ↔ IsMarked dead h)
+      → (h : ℕ) → Contains listed h ↔ ((c : ℕ) × IsContested (seating_of p) c × IsTrue ((seating_of p).fits c h))
+  swept_dead traced listed is h =
+      let drawn = swept_drawn traced in
+      let cert = is_certificate p good q swept_best dead drawn swept_closed xs hs refl refl in
+      let exact = exactly_contested p good q swept_best dead drawn swept_closed xs hs refl refl in (
+        (λ m. let d = (is h).0 m in let w = (cert.halls_of h).0 (passes_in dead (length p.desk_counts) h (exists h d (drawn h d)) d) in (w.0, (exact w.0).0 w.1, w.2)),
+        (λ w. (is h).1 (passing dead (length p.desk_counts) h ((cert.halls_of h).1 (w.0, (exact w.0).1 w.1, w.2))).1),
+      )
     where
-      drawn_case : (c k : ℕ) (o : Option ℕ) → q c ≡ o → drawn_in (λ h. not (get_or live h false)) (q c) ≡ true → IsTrue ((seating_of p).fits c k) → IsMarked live k → ⊥
-      drawn_case c k None e drawn fit m = elim (swept.settled c (let l = fits_member p c k fit in omega arith)) [
-        | inl s ↦ absurd (let z : false ≡ true = sym (ap is_some e) ∙ s in cc)
-        | inr away ↦ away (k, fit, m)
-      ]
-      drawn_case c k (Some h) e drawn fit m = not_marked (get_or live h false) (sym (ap (drawn_in (λ h. not (get_or live h false))) e) ∙ drawn) (swept.closed.stays c h k e fit m)
+      xs : List ℕ
+      xs = filter (λ c. is_drawn dead (q c)) (range_with_len 0 (length p.fit))
+
+      hs : List ℕ
+      hs = filter dead (range_with_len 0 (length p.desk_counts))
+
+      exists : (h : ℕ) → IsMarked dead h → ((j : ℕ) × Draws p q j h) → h < length p.desk_counts
+      exists h m (zero, d) = absurd d
+      exists h m (suc j, d) = fits_below p good d.0 h d.2
 
   pub swept_turns : IsSweep (seating_of p) first before q
   swept_turns = order first (subst (λ (m : ℕ). Sweeps (seating_of p) before (done p first m) q) all swept.turns)
@@ -157,26 +185,6 @@ module _ (p : Problem) (good : IsProblem p) (first : Option ℕ) (before q : Pla
       order : (o : Option ℕ) → Sweeps (seating_of p) before (done p o (length p.fit)) q → IsSweep (seating_of p) o before q
       order None s = s
       order (Some c) s = s
-
--- ---- at the start every hall is live
-
-pub all_live : (p : Problem) (m : List (Option ℕ)) (live : List Bool) → IsPlan p m → ((h : ℕ) → h < length p.desk_counts → IsMarked live h) → AreClosed p (plan_at m) live
-all_live p m live plan marked = record {
-  full = λ h free. marked h (elim (cases_lt h (length p.desk_counts)) [
-    | inl l ↦ l
-    | inr g ↦ absurd (let z : get_or p.desk_counts h 0 ≡ 0 = get_or_past p.desk_counts h 0 g in let f : length (occupants (seating_of p) (plan_at m) h) < get_or p.desk_counts h 0 = free in omega (arith, z, f))
-  ]);
-  stays = λ d h k sits fit mark. marked h (below d h sits);
-}
-  where
-    below : (d h : ℕ) → plan_at m d ≡ Some h → h < length p.desk_counts
-    below d h sits = elim (cases_lt d (length m)) [
-      | inl l ↦ (let P : Option ℕ → Type 0 = λ o. IfSome o (λ k. k < length p.desk_counts) in subst P (sym (plan_at-get_or m d) ∙ sits) (All-get_or P m d None l plan.exist))
-      | inr g ↦ absurd (let z : None ≡ Some h = sym (get_or_past m d None g) ∙ sym (plan_at-get_or m d) ∙ sits in cc)
-    ]
-
-pub all_marked : (live : List Bool) (n m : ℕ) → live ≡ replicate n true → n ≡ m → (h : ℕ) → h < m → IsMarked live h
-all_marked live n m e same h l = ap (λ xs. get_or xs h false) e ∙ get_or-replicate n h true false (omega arith)
 
 pub not_first : (o : Option ℕ) (i : ℕ) (b : Bool) → b ≡ not (option_eq nat_eq o (Some i)) → b ≡ true → o ≡ Some i → ⊥
 not_first o i b told shown is = let z : b ≡ false = told ∙ ap (λ t. not (option_eq nat_eq t (Some i))) is ∙ ap not (eq-eqb i i refl) in let y : false ≡ true = sym z ∙ shown in cc

@@ -14,6 +14,7 @@
 pub mod Matching
 pub mod Chains
 pub mod Repair
+pub mod HallSets
 pub mod Problems
 pub mod Searches
 pub mod Naming

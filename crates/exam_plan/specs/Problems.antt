@@ -1,11 +1,12 @@
 -- Candidates and halls as indices.
-use Rattle.std.specs.Prelude.{◌≡◌, ℕ, ◌<◌, ◌≤◌, Bool, nat_lt, nat_eq, List, [], length, map, All, Option}
+use Rattle.std.specs.Prelude.{◌≡◌, ℕ, ◌<◌, ◌≤◌, Bool, true, nat_lt, nat_eq, List, [], length, map, All, Option}
 use Rattle.std.specs.Prelude.{IfSome, slice_get, slice_index, slice_index_or}
 use Rattle.std.specs.List.{list_any}
 use Rattle.std.specs.List.Sorted.{IsStrictlySortedBy}
 use Rattle.std.specs.Option.{option_flatten}
 use Rattle.std.specs.Ordering.{nat_cmp}
 use Rattle.std.specs.List.{range_with_len, IsDistinct}
+use Rattle.exam_plan.specs.HallSets.{most_halls, holds, halls_below}
 use Rattle.exam_plan.specs.Matching.{Seating, Plan, desk_number}
 
 -- the desks of each hall, the halls that fit each candidate, and the candidates' places in the order of desks
@@ -25,6 +26,12 @@ pub record IsProblem (p : Problem) : Type 0 where
   pub distinct : IsDistinct nat_eq p.rank
   pub rising : All (IsStrictlySortedBy nat_cmp) p.fit
   pub exist : All (All (λ h. h < length p.desk_counts)) p.fit
+
+-- what is kept of a problem whose rows are sets: not too many halls, and no hall in a row that does not exist
+pub record AreMasks (desks rows rank : List ℕ) : Type 0 where
+  pub problem : IsProblem (record { desk_counts = desks; fit = map (halls_below (length desks)) rows; rank = rank })
+  pub few_halls : length desks ≤ most_halls
+  pub within : All (λ row. (h : ℕ) → holds row h ≡ true → h < length desks) rows
 
 abbrev pub seating_of : Problem → Seating ℕ ℕ
 seating_of p = record {

@@ -1,27 +1,32 @@
--- The searches: from which halls a free desk can be reached, and which halls are closed.
-use Rattle.std.specs.Prelude.{◌≡◌, ◌⊎◌, ◌↔◌, ℕ, zero, suc, ◌-◌, ◌<◌, ◌≤◌, Bool, true, false, IsTrue, List, []}
-use Rattle.std.specs.Prelude.{◌∷◌, length, All, Option, None, Some, IsSome, slice_index_or, nat_eq, count_by}
-use Rattle.std.specs.Prelude.{Vec}
-use Rattle.std.specs.List.{range_with_len}
+-- The searches: from which halls a free desk can be reached, and to which halls a candidate leads. A set of
+-- halls is a test of halls here.
+use Rattle.std.specs.Prelude.{◌≡◌, ◌⊎◌, ◌↔◌, ℕ, zero, suc, ◌+◌, ◌<◌, ◌≤◌, Bool, true, false, IsTrue, List, [], ◌∷◌}
+use Rattle.std.specs.Prelude.{length, Option, None, Some, IsSome, slice_index, nat_eq, count_by, Contains}
+use Rattle.std.specs.Prelude.{vec_capacity}
+use Rattle.std.specs.List.{range_with_len, IsDistinct}
 use Rattle.std.specs.Option.{option_map_or}
-use Rattle.std.specs.Global.{Global}
-use Rattle.exam_plan.specs.declared.chains.Found.{Found}
-use Rattle.exam_plan.specs.declared.chains.Found.TheVariants.{Chain, Closed}
-use Rattle.exam_plan.specs.Matching.{Plan}
+use Rattle.exam_plan.specs.declared.turns.Progress.{Progress}
+use Rattle.exam_plan.specs.HallSets.{holds, halls_below}
+use Rattle.exam_plan.specs.Matching.{Plan, IsLawful}
 use Rattle.exam_plan.specs.Chains.{HasFreeDesk, augmented}
-use Rattle.exam_plan.specs.Problems.{Problem, seating_of}
+use Rattle.exam_plan.specs.Repair.{Turn}
+use Rattle.exam_plan.specs.Problems.{Problem, IsPlan, seating_of, plan_at}
 
--- the hall is marked
-abbrev pub IsMarked : List Bool → ℕ → Type 0
-IsMarked marks h = slice_index_or marks h false ≡ true
+-- the hall is in the set
+abbrev pub IsMarked : (ℕ → Bool) → ℕ → Type 0
+IsMarked set h = set h ≡ true
 
--- exactly these halls are marked
-abbrev pub MarksAll : List Bool → (ℕ → Type 0) → Type 0
-MarksAll marks P = (h : ℕ) → IsMarked marks h ↔ P h
+-- exactly these halls are in the set
+abbrev pub MarksAll : (ℕ → Bool) → (ℕ → Type 0) → Type 0
+MarksAll set P = (h : ℕ) → IsMarked set h ↔ P h
 
--- a marked hall fits the candidate
-abbrev pub IsTouching : Problem → List Bool → ℕ → Type 0
-IsTouching p marks c = (k : ℕ) × IsTrue ((seating_of p).fits c k) × IsMarked marks k
+-- a hall of the set fits the candidate
+abbrev pub IsTouching : Problem → (ℕ → Bool) → ℕ → Type 0
+IsTouching p set c = (k : ℕ) × IsTrue ((seating_of p).fits c k) × IsMarked set k
+
+-- each hall that fits the candidate is in the set
+abbrev pub IsWithin : Problem → (ℕ → Bool) → ℕ → Type 0
+IsWithin p set c = (k : ℕ) → IsTrue ((seating_of p).fits c k) → IsMarked set k
 
 module _ (p : Problem) (plan : Plan ℕ ℕ) where
   -- someone may go from the hall, over at most so many halls, to a free desk
@@ -34,11 +39,19 @@ module _ (p : Problem) (plan : Plan ℕ ℕ) where
   abbrev pub CanReach : ℕ → ℕ → Type 0
   CanReach j c = (k : ℕ) × IsTrue ((seating_of p).fits c k) × Reaches j k
 
-  -- the j-th list marks the halls that reach a free desk over at most j halls
-  abbrev pub AreLayers : List (Vec Bool Global) → Type 0
-  AreLayers layers =
-      (j : ℕ) (d : Vec Bool Global) → j < length layers
-      → MarksAll (slice_index_or layers j d).items (Reaches j)
+  -- each set below n holds the halls that reach a free desk over at most as many halls as it has sets before it
+  abbrev pub AreLayers : ℕ → List ℕ → Type 0
+  AreLayers n layers = (j : ℕ) → j < n → MarksAll (holds (slice_index layers j)) (Reaches j)
+
+  -- the set of each hall holds the halls that fit some occupant
+  abbrev pub AreOnward : List ℕ → Type 0
+  AreOnward sets =
+      (h k : ℕ) → h < length p.desk_counts → IsMarked (holds (slice_index sets h)) k
+      ↔ ((d : ℕ) × (plan d ≡ Some h) × IsTrue ((seating_of p).fits d k))
+
+  -- no occupant of a hall stands before the hall's number
+  abbrev pub AreFirsts : List ℕ → Type 0
+  AreFirsts firsts = (d h : ℕ) → plan d ≡ Some h → slice_index firsts h ≤ d
 
   -- the least hall of those that fit the candidate and reach a free desk
   abbrev pub IsLeastHall : ℕ → ℕ → ℕ → Type 0
@@ -58,49 +71,78 @@ module _ (p : Problem) (plan : Plan ℕ ℕ) where
   TakesLeast (suc j) c (hop ∷ hops) last =
       IsLeastHall (suc j) c hop.0 × IsLeastMover j hop.0 hop.1 × TakesLeast j hop.1 hops last
 
-  -- the plan after everybody has moved along such a chain
-  abbrev pub IsAdvanced : ℕ → ℕ → Plan ℕ ℕ → Type 0
-  IsAdvanced j c after =
-      (hops : List (ℕ × ℕ)) × (last : ℕ) × TakesLeast j c hops last
+  -- the plan after everybody has moved along such a chain to the last hall
+  abbrev pub IsAdvanced : ℕ → ℕ → ℕ → Plan ℕ ℕ → Type 0
+  IsAdvanced j c last after =
+      (hops : List (ℕ × ℕ)) × TakesLeast j c hops last
       × ((d : ℕ) → after d ≡ augmented (seating_of p) plan c hops last d)
 
-  -- the halls without a mark are full, and fit whom they hold only among themselves
-  pub record AreClosed (marks : List Bool) : Type 0 where
-    pub full : (h : ℕ) → HasFreeDesk (seating_of p) plan h → IsMarked marks h
-    pub stays : (d h k : ℕ) → plan d ≡ Some h → IsTrue ((seating_of p).fits d k)
-        → IsMarked marks k → IsMarked marks h
+  -- the candidate leads to the hall: it fits, or it fits an occupant of such a hall, so many times
+  abbrev pub LeadsTo : ℕ → ℕ → ℕ → Type 0
+  LeadsTo c zero h = IsTrue ((seating_of p).fits c h)
+  LeadsTo c (suc j) h = (k : ℕ) × LeadsTo c j k × ((d : ℕ) × (plan d ≡ Some k) × IsTrue ((seating_of p).fits d h))
 
-  -- seated, or no marked hall fits
-  abbrev pub IsSettled : List Bool → ℕ → Type 0
-  IsSettled marks c = IsSome (plan c) ⊎ (IsTouching p marks c → ⊥)
+  -- what a search from the candidate found: how many hops the least chain has, or that there is no chain
+  abbrev pub IsFound : List ℕ → ℕ → Option ℕ → Type 0
+  IsFound layers c (Some hops) =
+      (hops < length layers) × AreLayers (hops + 1) layers × CanReach hops c
+      × ((j : ℕ) → j < hops → CanReach j c → ⊥)
+  IsFound layers c None = (j h : ℕ) → LeadsTo c j h → HasFreeDesk (seating_of p) plan h → ⊥
 
-  -- what a search from the candidate found: how long the least chain is, or that there is none
-  abbrev pub IsFound : ℕ → Found → Type 0
-  IsFound c (Chain layers) =
-      (0 < length layers.items) × AreLayers layers.items × CanReach (length layers.items - 1) c
-      × ((j : ℕ) → j < length layers.items - 1 → CanReach j c → ⊥)
-  IsFound c (Closed reached) =
-      AreClosed reached.items × (IsTouching p reached.items c → ⊥)
-      × ((h : ℕ) → IsMarked reached.items h → (j : ℕ) × Reaches j h)
+  -- the halls of the set are full, and fit whom they hold only among themselves
+  pub record AreClosed (dead : ℕ → Bool) : Type 0 where
+    pub full : (h : ℕ) → IsMarked dead h → HasFreeDesk (seating_of p) plan h → ⊥
+    pub stays : (d h k : ℕ) → plan d ≡ Some h → IsMarked dead h → IsTrue ((seating_of p).fits d k)
+        → IsMarked dead k
 
--- each list has a mark for each hall
-abbrev pub IsSized : ℕ → Found → Type 0
-IsSized halls (Chain layers) = All (λ layer. length layer.items ≡ halls) layers.items
-IsSized halls (Closed reached) = length reached.items ≡ halls
+  -- seated, or each hall that fits is in the set
+  abbrev pub IsSettled : (ℕ → Bool) → ℕ → Type 0
+  IsSettled dead c = IsSome (plan c) ⊎ IsWithin p dead c
 
--- how many of the candidates below n sit in the hall
-abbrev pub count_at : Plan ℕ ℕ → ℕ → ℕ → ℕ
-count_at plan h n = count_by (λ c. option_map_or (nat_eq h) (plan c) false) (range_with_len 0 n)
+  -- an unseated candidate whose fitting halls are in the set leads to the hall
+  abbrev pub IsTraced : (ℕ → Bool) → ℕ → Type 0
+  IsTraced dead h = (c : ℕ) × (j : ℕ) × (plan c ≡ None) × IsWithin p dead c × LeadsTo c j h
 
--- unseated, or in a marked hall
-abbrev pub is_drawn : List Bool → Option ℕ → Bool
-is_drawn marks None = true
-is_drawn marks (Some h) = slice_index_or marks h false
-
-module _ (p : Problem) (plan : Plan ℕ ℕ) where
   -- over at most so many halls an unseated candidate leads to the hall
   abbrev pub Draws : ℕ → ℕ → Type 0
   Draws zero h = ⊥
   Draws (suc j) h =
       (c : ℕ) × ((plan c ≡ None) ⊎ ((k : ℕ) × (plan c ≡ Some k) × Draws j k))
       × IsTrue ((seating_of p).fits c h)
+
+-- how many of the candidates below n sit in the hall
+abbrev pub count_at : Plan ℕ ℕ → ℕ → ℕ → ℕ
+count_at plan h n = count_by (λ c. option_map_or (nat_eq h) (plan c) false) (range_with_len 0 n)
+
+-- unseated, or in a hall of the set
+abbrev pub is_drawn : (ℕ → Bool) → Option ℕ → Bool
+is_drawn set None = true
+is_drawn set (Some h) = set h
+
+-- What a sweep keeps beside its plan: the occupants of each hall, the halls with a free desk, the dead halls, and
+-- their list. A dead hall is full, its occupants fit dead halls alone, and an unseated candidate leads to it.
+pub record IsKept (p : Problem) (sweep : Progress) : Type 0 where
+  pub plan : IsPlan p sweep.plan.items
+  pub lawful : IsLawful (seating_of p) (plan_at sweep.plan.items)
+  pub halls : length sweep.counts.items ≡ length p.desk_counts
+  pub counts : (h : ℕ) → h < length p.desk_counts
+      → slice_index sweep.counts.items h ≡ count_at (plan_at sweep.plan.items) h (length p.fit)
+  pub free : MarksAll (holds sweep.free) (HasFreeDesk (seating_of p) (plan_at sweep.plan.items))
+  pub closed : AreClosed p (plan_at sweep.plan.items) (holds sweep.dead)
+  pub traced : (h : ℕ) → IsMarked (holds sweep.dead) h → IsTraced p (plan_at sweep.plan.items) (holds sweep.dead) h
+  pub listed : (h : ℕ) → Contains sweep.listed.items h ↔ IsMarked (holds sweep.dead) h
+  pub once : IsDistinct nat_eq sweep.listed.items
+  pub many : length sweep.listed.items ≡ length (halls_below (length p.desk_counts) sweep.dead)
+  pub room : length p.desk_counts ≤ vec_capacity sweep.listed
+  pub onward : length sweep.onward.items ≡ length p.desk_counts
+  pub firsts : length sweep.firsts.items ≡ length p.desk_counts
+  pub layers : length sweep.layers.items ≡ length p.desk_counts + 1
+
+-- a sweep after the candidate's turn: nobody loses a desk, and who was settled is
+pub record IsNextTurn (p : Problem) (before : Progress) (c : ℕ) (after : Progress) : Type 0 where
+  pub kept : IsKept p after
+  pub seated : (d : ℕ) → IsSome (plan_at before.plan.items d) → IsSome (plan_at after.plan.items d)
+  pub turn : Turn (seating_of p) (plan_at before.plan.items) c (plan_at after.plan.items)
+  pub settled : IsSettled p (plan_at after.plan.items) (holds after.dead) c
+  pub others : (d : ℕ) → IsSettled p (plan_at before.plan.items) (holds before.dead) d
+      → IsSettled p (plan_at after.plan.items) (holds after.dead) d

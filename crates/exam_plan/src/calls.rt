@@ -1,13 +1,13 @@
 //! The calls on a problem and a plan.
-ghost use Rattle.std.specs.Prelude.{◌≡◌, ◌<◌, ℕ, length, IfOk, IsOk, IfErr, IfSome, IsSome, Contains, ◌↔◌};
+ghost use Rattle.std.specs.Prelude.{◌≡◌, ◌<◌, ℕ, length, IfOk, IsOk, IfErr, IfSome, IsSome, IsTrue, Contains, nat_eq, ◌↔◌};
+ghost use Rattle.std.specs.List.{IsDistinct};
 ghost use Rattle.exam_plan.specs.Matching.{IsLawful, IsBest, SamePlan, IsCertificate, IsContested, unseated};
 ghost use Rattle.exam_plan.specs.Problems.{IsPlan, seating_of, plan_at, desk_numbers};
 ghost use Rattle.exam_plan.specs.Repair.{kept_part, IsSweep};
 
 use crate::problem::{Plan, Problem};
 use crate::report::Shortage;
-use crate::turns::take_turn;
-use crate::{contest, keeping, numbering};
+use crate::{contest, keeping, numbering, turns};
 use exam_types::Refusal;
 use std::alloc::Global;
 
@@ -28,11 +28,45 @@ pub fn keep_lawful(problem: &Problem, mut plan: Plan) -> Result<Plan, Refusal>
 }
 
 /// Gives each unseated candidate one turn, the first candidate first and then numbers rising: a turn moves
-/// everybody along the least chain to a free desk, where there is a chain.
+/// everybody along the least chain to a free desk, where there is a chain. Beside the plan there are the dead
+/// halls: those that fit the candidates whom some best plan leaves out, each once, as the failed turns reached them.
+pub fn sweep_dead(
+    alloc: Global,
+    problem: &Problem,
+    plan: Plan,
+    first: Option<usize>,
+) -> Result<(Plan, Vec<usize>), Refusal>
+    requires plan { IsPlan problem.now plan.items }
+    requires lawful { IsLawful (seating_of problem.now) (plan_at plan.items) }
+    requires first { IfSome first (λ c. c < length problem.now.fit) }
+    ensures plan { IfOk result (λ (new, dead). IsPlan problem.now new.items) }
+    ensures best { IfOk result (λ (new, dead). IsBest (seating_of problem.now) (plan_at new.items)) }
+    ensures kept { IfOk result (λ (new, dead). (c : ℕ) → IsSome (plan_at plan.items c)
+        → IsSome (plan_at new.items c)) }
+    ensures chains { IfOk result (λ (new, dead).
+        IsSweep (seating_of problem.now) first (plan_at plan.items) (plan_at new.items)) }
+    ensures dead { IfOk result (λ (new, dead). (h : ℕ) → Contains dead.items h
+        ↔ ((c : ℕ) × IsContested (seating_of problem.now) c × IsTrue ((seating_of problem.now).fits c h))) }
+    ensures once { IfOk result (λ (new, dead). IsDistinct nat_eq dead.items) }
+    ensures memory { IfErr result (λ e. e ≡ Refusal.NoMemory) }
+{
+    let mut sweep = turns::start(alloc, problem, plan)?;
+    if let Some(candidate) = first {
+        turns::take_turn(problem, &mut sweep, candidate);
+    }
+    for candidate in 0..problem.candidate_count() {
+        if first != Some(candidate) {
+            turns::take_turn(problem, &mut sweep, candidate);
+        }
+    }
+    Ok((sweep.plan, sweep.listed))
+}
+
+/// The plan of `sweep_dead`.
 pub fn sweep(
     alloc: Global,
     problem: &Problem,
-    mut plan: Plan,
+    plan: Plan,
     first: Option<usize>,
 ) -> Result<Plan, Refusal>
     requires plan { IsPlan problem.now plan.items }
@@ -46,16 +80,8 @@ pub fn sweep(
         IsSweep (seating_of problem.now) first (plan_at plan.items) (plan_at new.items)) }
     ensures memory { IfErr result (λ e. e ≡ Refusal.NoMemory) }
 {
-    let mut live = vec![in alloc; true; problem.hall_count()]?;
-    if let Some(candidate) = first {
-        live = take_turn(alloc, problem, &mut plan, live, candidate)?;
-    }
-    for candidate in 0..problem.candidate_count() {
-        if first != Some(candidate) {
-            live = take_turn(alloc, problem, &mut plan, live, candidate)?;
-        }
-    }
-    Ok(plan)
+    let (swept, _) = sweep_dead(alloc, problem, plan, first)?;
+    Ok(swept)
 }
 
 /// The candidates whom some best plan leaves out, with all halls that fit any of them.
@@ -70,11 +96,11 @@ pub fn shortage(alloc: Global, problem: &Problem, plan: &Plan) -> Result<Shortag
         ↔ IsContested (seating_of problem.now) c) }
     ensures memory { IfErr result (λ e. e ≡ Refusal.NoMemory) }
 {
-    let marked = contest::contested_halls(alloc, problem, plan.as_slice())?;
+    let contested = contest::contested_halls(problem, plan.as_slice());
     Ok(Shortage {
         unseated: contest::unseated_count(problem, plan.as_slice()),
-        halls: contest::marked_indices(alloc, marked.as_slice())?,
-        candidates: contest::drawn_in(alloc, plan.as_slice(), marked.as_slice())?,
+        halls: contest::listed(alloc, problem.hall_count(), contested)?,
+        candidates: contest::drawn_in(alloc, plan.as_slice(), contested)?,
     })
 }
 

@@ -1,193 +1,226 @@
 //! Augmenting chains, found backwards from the free desks.
-ghost use Rattle.std.specs.Prelude.{◌≡◌, ◌⊎◌, ◌↔◌, ◌<◌, ◌≤◌, ◌+◌, ℕ, true, false, IsTrue, length, All, Some};
-ghost use Rattle.std.specs.Prelude.{IfSome, IfOk, IfErr, MatchOption, find, slice_index, slice_index_or};
-ghost use Rattle.exam_plan.specs.Problems.{seating_of, plan_at};
+ghost use Rattle.std.specs.Prelude.{◌≡◌, ◌⊎◌, ◌↔◌, ◌<◌, ◌≤◌, ◌+◌, ℕ, IsTrue, IsNone, IsSome, length, Some, IfSome};
+ghost use Rattle.std.specs.Prelude.{MatchOption, slice_index, slice_set};
+ghost use Rattle.exam_plan.specs.HallSets.{most_halls, holds};
+ghost use Rattle.exam_plan.specs.Problems.{IsPlan, seating_of, plan_at};
 ghost use Rattle.exam_plan.specs.Chains.{HasFreeDesk};
-ghost use Rattle.exam_plan.specs.Searches.{IsMarked, MarksAll, IsTouching, AreLayers, CanReach, IsAdvanced};
-ghost use Rattle.exam_plan.specs.Searches.{IsFound, IsSized, count_at};
+ghost use Rattle.exam_plan.specs.Searches.{IsMarked, MarksAll, IsTouching, Reaches, AreLayers, AreOnward, AreFirsts, CanReach};
+ghost use Rattle.exam_plan.specs.Searches.{IsAdvanced, IsFound, LeadsTo};
 
-use crate::problem::Problem;
-use exam_types::Refusal;
-use std::alloc::Global;
+use crate::hall_set::HallSet;
+use crate::problem::{Plan, Problem};
 
-/// How many sit in each of the halls.
-fn occupancy(alloc: Global, halls: usize, plan: &[Option<usize>]) -> Result<Vec<usize>, Refusal>
-    requires { All (λ place. IfSome place (λ h. h < halls)) plan.now }
-    ensures sized { IfOk result (λ counts. length counts.items ≡ halls) }
-    ensures counts { IfOk result (λ counts. (h : ℕ) → h < halls
-        → slice_index counts.items h ≡ count_at (plan_at plan.now) h (length plan.now)) }
-    ensures memory { IfErr result (λ e. e ≡ Refusal.NoMemory) }
+/// Notes for each hall which halls fit some occupant, and a number that no occupant stands before.
+fn note_onward(problem: &Problem, plan: &Plan, onward: &mut Vec<HallSet>, firsts: &mut Vec<usize>)
+    requires plan { IsPlan problem.now plan.now.items }
+    requires halls { length onward.old.items ≡ length problem.now.desk_counts }
+    requires firsts { length firsts.old.items ≡ length problem.now.desk_counts }
+    ensures halls { length onward.new.items ≡ length problem.now.desk_counts }
+    ensures firsts { length firsts.new.items ≡ length problem.now.desk_counts }
+    ensures exact { AreOnward problem.now (plan_at plan.now.items) onward.new.items }
+    ensures first { AreFirsts problem.now (plan_at plan.now.items) firsts.new.items }
 {
-    let mut counts = vec![in alloc; 0usize; halls]?;
-    for place in plan {
-        if let Some(hall) = *place {
-            counts[hall] += 1;
-        }
-    }
-    Ok(counts)
-}
-
-/// Marks the halls with a free desk.
-fn free_halls(
-    alloc: Global,
-    problem: &Problem,
-    plan: &[Option<usize>],
-) -> Result<Vec<bool>, Refusal>
-    requires whole { length plan.now ≡ length problem.now.fit }
-    requires exist { All (λ place. IfSome place (λ h. h < length problem.now.desk_counts)) plan.now }
-    ensures sized { IfOk result (λ free. length free.items ≡ length problem.now.desk_counts) }
-    ensures free { IfOk result (λ free.
-        MarksAll free.items (HasFreeDesk (seating_of problem.now) (plan_at plan.now))) }
-    ensures memory { IfErr result (λ e. e ≡ Refusal.NoMemory) }
-{
-    let counts = occupancy(alloc, problem.hall_count(), plan)?;
-    let mut free = Vec::new(alloc);
-    for (hall, count) in counts.iter().enumerate() {
-        free.push(*count < problem.desk_count(hall) as usize)?;
-    }
-    Ok(free)
-}
-
-/// The first hall of the row that is marked.
-fn first_marked(row: &[usize], marked: &[bool]) -> Option<usize>
-    requires { All (λ h. h < length marked.now) row.now }
-    ensures { result ≡ find (λ h. slice_index_or marked.now h false) row.now }
-{
-    for hall in row {
-        if marked[*hall] {
-            return Some(*hall);
-        }
-    }
-    None
-}
-
-/// Whether a marked hall fits the candidate.
-pub fn is_touching(problem: &Problem, candidate: usize, marked: &[bool]) -> bool
-    requires candidate { candidate < length problem.now.fit }
-    requires marked { length marked.now ≡ length problem.now.desk_counts }
-    ensures { IsTrue result ↔ IsTouching problem.now marked.now candidate }
-{
-    first_marked(problem.row(candidate), marked).is_some()
-}
-
-/// Marks also the halls with an occupant whom a marked hall fits.
-fn widened(
-    alloc: Global,
-    problem: &Problem,
-    plan: &[Option<usize>],
-    marked: &[bool],
-) -> Result<Vec<bool>, Refusal>
-    requires whole { length plan.now ≡ length problem.now.fit }
-    requires exist { All (λ place. IfSome place (λ h. h < length problem.now.desk_counts)) plan.now }
-    requires marked { length marked.now ≡ length problem.now.desk_counts }
-    ensures long { IfOk result (λ next. length next.items ≡ length marked.now) }
-    ensures wider { IfOk result (λ next. (h : ℕ) → slice_index_or marked.now h false ≡ true
-        → slice_index_or next.items h false ≡ true) }
-    ensures exact { IfOk result (λ next.
-        MarksAll next.items (λ h. IsMarked marked.now h
-        ⊎ ((d : ℕ) × (plan_at plan.now d ≡ Some h) × IsTouching problem.now marked.now d))) }
-    ensures memory { IfErr result (λ e. e ≡ Refusal.NoMemory) }
-{
-    let mut next = Vec::from_slice(alloc, marked)?;
+    onward.fill(HallSet::empty());
+    firsts.fill(problem.candidate_count());
     for (candidate, place) in plan.iter().enumerate() {
         if let Some(hall) = *place {
-            if is_touching(problem, candidate, marked) {
-                next[hall] = true;
-            }
+            onward[hall] = onward[hall].union(problem.fitting(candidate));
+            firsts[hall] = firsts[hall].min(candidate);
         }
     }
-    Ok(next)
 }
 
-/// What a search for a chain found.
-#[derive(Drop)]
-pub enum Found {
-    /// The halls from which a free desk is reached over at most 0, 1, 2 .. halls, up to the length of the
-    /// least chain.
-    Chain(Vec<Vec<bool>>),
-    /// There is no chain; the halls from which a free desk is reached.
-    Closed(Vec<bool>),
-}
-
-/// Searches for a chain from the candidate to a free desk.
-pub fn search_chain(
-    alloc: Global,
-    problem: &Problem,
-    plan: &[Option<usize>],
-    candidate: usize,
-) -> Result<Found, Refusal>
-    requires whole { length plan.now ≡ length problem.now.fit }
-    requires exist { All (λ place. IfSome place (λ h. h < length problem.now.desk_counts)) plan.now }
-    requires candidate { candidate < length problem.now.fit }
-    ensures sized { IfOk result (λ found. IsSized (length problem.now.desk_counts) found) }
-    ensures found { IfOk result (λ found. IsFound problem.now (plan_at plan.now) candidate found) }
-    ensures memory { IfErr result (λ e. e ≡ Refusal.NoMemory) }
+/// Whether a hall of the set fits the candidate.
+fn is_touching(problem: &Problem, candidate: usize, marked: HallSet) -> bool
+    requires { candidate < length problem.now.fit }
+    ensures touching { IsTrue result ↔ IsTouching problem.now (holds marked) candidate }
+    ensures few { length problem.now.desk_counts ≤ most_halls }
 {
-    let mut layers = Vec::new(alloc);
-    let mut reached = free_halls(alloc, problem, plan)?;
-    'widening: while !is_touching(problem, candidate, reached.as_slice()) {
-        let next = widened(alloc, problem, plan, reached.as_slice())?;
-        if next == reached {
-            return Ok(Found::Closed(reached));
+    problem.fitting(candidate).meets(marked)
+}
+
+/// The halls of the set, and those with an occupant whom a hall of the set fits.
+fn widened(onward: &[HallSet], marked: HallSet) -> HallSet
+    requires { length onward.now ≤ most_halls }
+    ensures { (h : ℕ) → IsMarked (holds result) h ↔ (IsMarked (holds marked) h
+        ⊎ ((h < length onward.now) × ((k : ℕ) × IsMarked (holds (slice_index onward.now h)) k
+        × IsMarked (holds marked) k))) }
+{
+    let mut next = marked;
+    for (hall, fitting) in onward.iter().enumerate() {
+        if fitting.meets(marked) {
+            next = next.with(hall);
         }
-        layers.push(reached)?;
+    }
+    next
+}
+
+/// Goes backwards from the free desks, layer by layer, up to a hall that fits the candidate: the number of hops.
+fn layer_until(
+    problem: &Problem,
+    plan: &Plan,
+    onward: &[HallSet],
+    free: HallSet,
+    candidate: usize,
+    layers: &mut Vec<HallSet>,
+) -> Option<usize>
+    requires plan { IsPlan problem.now plan.now.items }
+    requires free { MarksAll (holds free) (HasFreeDesk (seating_of problem.now) (plan_at plan.now.items)) }
+    requires candidate { candidate < length problem.now.fit }
+    requires halls { length onward.now ≡ length problem.now.desk_counts }
+    requires onward { AreOnward problem.now (plan_at plan.now.items) onward.now }
+    requires room { length layers.old.items ≡ length problem.now.desk_counts + 1 }
+    ensures room { length layers.new.items ≡ length layers.old.items }
+    ensures found { IsFound problem.now (plan_at plan.now.items) layers.new.items candidate result }
+{
+    let mut hops = 0;
+    let mut reached = free;
+    'widening: while !is_touching(problem, candidate, reached) {
+        let next = widened(onward, reached);
+        if next.minus(reached).first().is_none() {
+            return None;
+        }
+        layers[hops] = reached;
+        hops += 1;
         reached = next;
     }
-    layers.push(reached)?;
-    Ok(Found::Chain(layers))
+    layers[hops] = reached;
+    Some(hops)
 }
 
-/// The first occupant of the hall whom a marked hall fits.
+/// Searches for a chain from the candidate to a free desk: how many hops the least chain has, and its layers.
+pub fn search_chain(
+    problem: &Problem,
+    plan: &Plan,
+    free: HallSet,
+    candidate: usize,
+    onward: &mut Vec<HallSet>,
+    firsts: &mut Vec<usize>,
+    layers: &mut Vec<HallSet>,
+) -> Option<usize>
+    requires plan { IsPlan problem.now plan.now.items }
+    requires free { MarksAll (holds free) (HasFreeDesk (seating_of problem.now) (plan_at plan.now.items)) }
+    requires candidate { candidate < length problem.now.fit }
+    requires halls { length onward.old.items ≡ length problem.now.desk_counts }
+    requires firsts { length firsts.old.items ≡ length problem.now.desk_counts }
+    requires room { length layers.old.items ≡ length problem.now.desk_counts + 1 }
+    ensures halls { length onward.new.items ≡ length onward.old.items }
+    ensures firsts { length firsts.new.items ≡ length firsts.old.items }
+    ensures room { length layers.new.items ≡ length layers.old.items }
+    ensures onward { IsNone result → AreOnward problem.now (plan_at plan.now.items) onward.new.items }
+    ensures first { IfSome result (λ hops. 0 < hops
+        → AreFirsts problem.now (plan_at plan.now.items) firsts.new.items) }
+    ensures found { IsFound problem.now (plan_at plan.now.items) layers.new.items candidate result }
+{
+    if is_touching(problem, candidate, free) {
+        layers[0] = free;
+        return Some(0);
+    }
+    note_onward(problem, plan, onward, firsts);
+    layer_until(problem, plan, onward.as_slice(), free, candidate, layers)
+}
+
+/// The halls of the set, and those that fit an occupant of a hall of the set.
+fn followed(onward: &[HallSet], marked: HallSet) -> HallSet
+    ensures { (k : ℕ) → IsMarked (holds result) k ↔ (IsMarked (holds marked) k
+        ⊎ ((h : ℕ) × (h < length onward.now) × IsMarked (holds marked) h
+        × IsMarked (holds (slice_index onward.now h)) k)) }
+{
+    let mut next = marked;
+    for (hall, fitting) in onward.iter().enumerate() {
+        if marked.contains(hall) {
+            next = next.union(*fitting);
+        }
+    }
+    next
+}
+
+/// The halls to which the candidate leads, those aside that are known to be dead.
+pub fn led_to(
+    problem: &Problem,
+    plan: &Plan,
+    onward: &[HallSet],
+    dead: HallSet,
+    candidate: usize,
+) -> HallSet
+    requires plan { IsPlan problem.now plan.now.items }
+    requires candidate { candidate < length problem.now.fit }
+    requires halls { length onward.now ≡ length problem.now.desk_counts }
+    requires onward { AreOnward problem.now (plan_at plan.now.items) onward.now }
+    ensures apart { (h : ℕ) → IsMarked (holds result) h → IsMarked (holds dead) h → ⊥ }
+    ensures led { (h : ℕ) → IsMarked (holds result) h
+        → (j : ℕ) × LeadsTo problem.now (plan_at plan.now.items) candidate j h }
+    ensures fitting { (h : ℕ) → IsTrue ((seating_of problem.now).fits candidate h)
+        → IsMarked (holds result) h ⊎ IsMarked (holds dead) h }
+    ensures closed { (d h k : ℕ) → plan_at plan.now.items d ≡ Some h → IsMarked (holds result) h
+        → IsTrue ((seating_of problem.now).fits d k) → IsMarked (holds result) k ⊎ IsMarked (holds dead) k }
+{
+    let mut led = problem.fitting(candidate).minus(dead);
+    'following: loop {
+        let more = followed(onward, led).minus(dead);
+        if more.minus(led).first().is_none() {
+            return led;
+        }
+        led = more;
+    }
+}
+
+/// The first occupant of the hall whom a hall of the set fits, where none stands before the number.
 fn first_mover(
     problem: &Problem,
-    plan: &[Option<usize>],
-    marked: &[bool],
+    plan: &Plan,
+    marked: HallSet,
     hall: usize,
+    from: usize,
 ) -> Option<usize>
-    requires whole { length plan.now ≡ length problem.now.fit }
-    requires marked { length marked.now ≡ length problem.now.desk_counts }
+    requires whole { length plan.now.items ≡ length problem.now.fit }
+    requires from { (e : ℕ) → plan_at plan.now.items e ≡ Some hall → from ≤ e }
     ensures below { IfSome result (λ c. c < length problem.now.fit) }
     ensures first { MatchOption result
-        ((e : ℕ) → plan_at plan.now e ≡ Some hall → IsTouching problem.now marked.now e → ⊥)
-        (λ d. (plan_at plan.now d ≡ Some hall) × IsTouching problem.now marked.now d
-        × ((e : ℕ) → plan_at plan.now e ≡ Some hall → IsTouching problem.now marked.now e → d ≤ e)) }
+        ((e : ℕ) → plan_at plan.now.items e ≡ Some hall → IsTouching problem.now (holds marked) e → ⊥)
+        (λ d. (plan_at plan.now.items d ≡ Some hall) × IsTouching problem.now (holds marked) d
+        × ((e : ℕ) → plan_at plan.now.items e ≡ Some hall → IsTouching problem.now (holds marked) e → d ≤ e)) }
 {
-    for (candidate, place) in plan.iter().enumerate() {
-        if *place == Some(hall) && is_touching(problem, candidate, marked) {
+    for candidate in from..plan.len() {
+        if plan[candidate] == Some(hall) && is_touching(problem, candidate, marked) {
             return Some(candidate);
         }
     }
     None
 }
 
-/// Moves everybody along the least chain from the candidate, who has so many hops to go.
+/// Moves everybody along the least chain from the candidate, who has so many hops to go: the last hall.
 pub fn advance(
     problem: &Problem,
-    plan: &mut [Option<usize>],
-    layers: &[Vec<bool>],
+    plan: &mut Plan,
+    firsts: &[usize],
+    layers: &[HallSet],
     hops: usize,
     candidate: usize,
-)
-    requires whole { length plan.old ≡ length problem.now.fit }
-    requires exist { All (λ place. IfSome place (λ h. h < length problem.now.desk_counts)) plan.old }
-    requires sized { All (λ layer. length layer.items ≡ length problem.now.desk_counts) layers.now }
+) -> usize
+    requires plan { IsPlan problem.now plan.old.items }
     requires candidate { candidate < length problem.now.fit }
     requires hops { hops < length layers.now }
-    requires layers { AreLayers problem.now (plan_at plan.old) layers.now }
-    requires reach { CanReach problem.now (plan_at plan.old) hops candidate }
-    requires far { (j : ℕ) → j < hops → CanReach problem.now (plan_at plan.old) j candidate → ⊥ }
-    ensures whole { length plan.new ≡ length problem.now.fit }
-    ensures exist { All (λ place. IfSome place (λ h. h < length problem.now.desk_counts)) plan.new }
-    ensures moved { IsAdvanced problem.now (plan_at plan.old) hops candidate (plan_at plan.new) }
+    requires layers { AreLayers problem.now (plan_at plan.old.items) (hops + 1) layers.now }
+    requires reach { CanReach problem.now (plan_at plan.old.items) hops candidate }
+    requires far { (j : ℕ) → j < hops → CanReach problem.now (plan_at plan.old.items) j candidate → ⊥ }
+    requires halls { length firsts.now ≡ length problem.now.desk_counts }
+    requires first { 0 < hops → AreFirsts problem.now (plan_at plan.old.items) firsts.now }
+    ensures plan { IsPlan problem.now plan.new.items }
+    ensures last { result < length problem.now.desk_counts }
+    ensures moved { IsAdvanced problem.now (plan_at plan.old.items) hops candidate result
+        (plan_at plan.new.items) }
 {
-    let Some(hall) = first_marked(problem.row(candidate), layers[hops].as_slice()) else {
+    let Some(hall) = problem.fitting(candidate).common(layers[hops]).first() else {
         unreachable!()
     };
+    let mut last = hall;
     if hops > 0 {
-        let Some(mover) = first_mover(problem, plan, layers[hops - 1].as_slice(), hall) else {
+        let Some(mover) = first_mover(problem, plan, layers[hops - 1], hall, firsts[hall]) else {
             unreachable!()
         };
-        advance(problem, plan, layers, hops - 1, mover);
+        last = advance(problem, plan, firsts, layers, hops - 1, mover);
     }
     plan[candidate] = Some(hall);
+    last
 }

@@ -1,115 +1,83 @@
 //! Who is contested when desks are short: the search forwards from the unseated candidates.
-ghost use Rattle.std.specs.Prelude.{◌≡◌, ◌⊎◌, ◌<◌, ◌≤◌, ℕ, true, false, IsTrue, length, All, IfSome, IfOk};
-ghost use Rattle.std.specs.Prelude.{IfErr, filter, slice_index_or};
+ghost use Rattle.std.specs.Prelude.{◌≡◌, ◌⊎◌, ℕ, IsTrue, length, IfOk, IfErr, filter};
 ghost use Rattle.std.specs.List.{range_with_len};
+ghost use Rattle.exam_plan.specs.HallSets.{holds, halls_below};
 ghost use Rattle.exam_plan.specs.Matching.{unseated};
 ghost use Rattle.exam_plan.specs.Problems.{IsProblem, seating_of, plan_at};
 ghost use Rattle.exam_plan.specs.Searches.{IsMarked, MarksAll, Draws, is_drawn};
 
+use crate::hall_set::HallSet;
 use crate::problem::Problem;
 use exam_types::Refusal;
 use std::alloc::Global;
 
-/// Whether a candidate at this place is unseated or sits in a marked hall.
-fn is_drawn_in(place: Option<usize>, marked: &[bool]) -> bool
-    requires { IfSome place (λ h. h < length marked.now) }
-    ensures { result ≡ is_drawn marked.now place }
+/// Whether a candidate at this place is unseated or sits in a hall of the set.
+fn is_drawn_in(place: Option<usize>, marked: HallSet) -> bool
+    ensures { result ≡ is_drawn (holds marked) place }
 {
     match place {
-        Some(hall) => marked[hall],
+        Some(hall) => marked.contains(hall),
         None => true,
     }
 }
 
-/// Marks the halls that fit the candidate.
-fn mark_row(problem: &Problem, marked: &mut [bool], candidate: usize)
-    requires candidate { candidate < length problem.now.fit }
-    requires marked { length marked.old ≡ length problem.now.desk_counts }
-    ensures { MarksAll marked.new (λ h. IsMarked marked.old h
-        ⊎ IsTrue ((seating_of problem.now).fits candidate h)) }
+/// The halls of the set, and those that fit an unseated candidate or an occupant of a hall of the set.
+fn spread(problem: &Problem, plan: &[Option<usize>], marked: HallSet) -> HallSet
+    requires { length plan.now ≡ length problem.now.fit }
+    ensures spread { MarksAll (holds result) (λ h. IsMarked (holds marked) h
+        ⊎ ((c : ℕ) × IsTrue (is_drawn (holds marked) (plan_at plan.now c))
+        × IsTrue ((seating_of problem.now).fits c h))) }
+    ensures problem { IsProblem problem.now }
 {
-    for hall in problem.row(candidate) {
-        marked[*hall] = true;
-    }
-}
-
-/// Marks also the halls that fit an unseated candidate or an occupant of a marked hall.
-fn spread(
-    alloc: Global,
-    problem: &Problem,
-    plan: &[Option<usize>],
-    marked: &[bool],
-) -> Result<Vec<bool>, Refusal>
-    requires whole { length plan.now ≡ length problem.now.fit }
-    requires exist { All (λ place. IfSome place (λ h. h < length problem.now.desk_counts)) plan.now }
-    requires marked { length marked.now ≡ length problem.now.desk_counts }
-    ensures long { IfOk result (λ next. length next.items ≡ length marked.now) }
-    ensures wider { IfOk result (λ next. (h : ℕ) → slice_index_or marked.now h false ≡ true
-        → slice_index_or next.items h false ≡ true) }
-    ensures exact { IfOk result (λ next.
-        MarksAll next.items (λ h. IsMarked marked.now h
-        ⊎ ((c : ℕ) × IsTrue (is_drawn marked.now (plan_at plan.now c))
-        × IsTrue ((seating_of problem.now).fits c h)))) }
-    ensures memory { IfErr result (λ e. e ≡ Refusal.NoMemory) }
-{
-    let mut next = Vec::from_slice(alloc, marked)?;
-    for (candidate, place) in plan.iter().enumerate() {
-        if is_drawn_in(*place, marked) {
-            mark_row(problem, next.as_mut_slice(), candidate);
+    let mut next = marked;
+    for candidate in 0..problem.candidate_count() {
+        if is_drawn_in(plan[candidate], marked) {
+            next = next.union(problem.fitting(candidate));
         }
     }
-    Ok(next)
+    next
 }
 
-/// Marks the halls that are contested: those that fit an unseated candidate or an occupant of such a hall.
-pub fn contested_halls(
-    alloc: Global,
-    problem: &Problem,
-    plan: &[Option<usize>],
-) -> Result<Vec<bool>, Refusal>
-    requires whole { length plan.now ≡ length problem.now.fit }
-    requires exist { All (λ place. IfSome place (λ h. h < length problem.now.desk_counts)) plan.now }
-    ensures sized { IfOk result (λ marked. length marked.items ≡ length problem.now.desk_counts) }
-    ensures drawn { IfOk result (λ marked. (h : ℕ) → IsMarked marked.items h
-        → (j : ℕ) × Draws problem.now (plan_at plan.now) j h) }
-    ensures closed { IfOk result (λ marked. (c h : ℕ) → IsTrue (is_drawn marked.items (plan_at plan.now c))
-        → IsTrue ((seating_of problem.now).fits c h) → IsMarked marked.items h) }
-    ensures memory { IfErr result (λ e. e ≡ Refusal.NoMemory) }
+/// The halls that fit a contested candidate.
+pub fn contested_halls(problem: &Problem, plan: &[Option<usize>]) -> HallSet
+    requires { length plan.now ≡ length problem.now.fit }
+    ensures drawn { (h : ℕ) → IsMarked (holds result) h
+        → (j : ℕ) × Draws problem.now (plan_at plan.now) j h }
+    ensures closed { (c h : ℕ) → IsTrue (is_drawn (holds result) (plan_at plan.now c))
+        → IsTrue ((seating_of problem.now).fits c h) → IsMarked (holds result) h }
 {
-    let mut marked = vec![in alloc; false; problem.hall_count()]?;
+    let mut marked = HallSet::empty();
     'spreading: loop {
-        let next = spread(alloc, problem, plan, marked.as_slice())?;
-        if next == marked {
-            return Ok(marked);
+        let next = spread(problem, plan, marked);
+        if next.minus(marked).first().is_none() {
+            return marked;
         }
         marked = next;
     }
 }
 
-/// The indices that are marked.
-pub fn marked_indices(alloc: Global, marked: &[bool]) -> Result<Vec<usize>, Refusal>
-    ensures indices { IfOk result (λ indices. indices.items
-        ≡ filter (λ h. slice_index_or marked.now h false) (range_with_len 0 (length marked.now))) }
+/// The halls of the set, rising.
+pub fn listed(alloc: Global, halls: usize, set: HallSet) -> Result<Vec<usize>, Refusal>
+    ensures listed { IfOk result (λ indices. indices.items ≡ halls_below halls set) }
     ensures memory { IfErr result (λ e. e ≡ Refusal.NoMemory) }
 {
-    let mut indices = Vec::new(alloc);
-    for (index, is_marked) in marked.iter().enumerate() {
-        if *is_marked {
-            indices.push(index)?;
+    let mut listed = Vec::new(alloc);
+    for hall in 0..halls {
+        if set.contains(hall) {
+            listed.push(hall)?;
         }
     }
-    Ok(indices)
+    Ok(listed)
 }
 
-/// The candidates who are unseated or sit in a marked hall.
+/// The candidates who are unseated or sit in a hall of the set.
 pub fn drawn_in(
     alloc: Global,
     plan: &[Option<usize>],
-    marked: &[bool],
+    marked: HallSet,
 ) -> Result<Vec<usize>, Refusal>
-    requires { All (λ place. IfSome place (λ h. h < length marked.now)) plan.now }
     ensures candidates { IfOk result (λ candidates. candidates.items
-        ≡ filter (λ c. is_drawn marked.now (plan_at plan.now c)) (range_with_len 0 (length plan.now))) }
+        ≡ filter (λ c. is_drawn (holds marked) (plan_at plan.now c)) (range_with_len 0 (length plan.now))) }
     ensures memory { IfErr result (λ e. e ≡ Refusal.NoMemory) }
 {
     let mut candidates = Vec::new(alloc);

@@ -11,7 +11,7 @@ fn fits(problem: &Problem, candidate: usize, hall: usize) -> bool
     requires { candidate < length problem.now.fit }
     ensures { result ≡ (seating_of problem.now).fits candidate hall }
 {
-    problem.row(candidate).contains(&hall)
+    problem.fitting(candidate).contains(hall)
 }
 
 /// Puts out those whose hall does not fit.

@@ -5,6 +5,7 @@
 mod calls;
 mod chains;
 mod contest;
+mod hall_set;
 mod keeping;
 mod laws;
 mod numbering;
@@ -12,7 +13,8 @@ mod problem;
 mod report;
 mod turns;
 
-pub use calls::{desks, keep_lawful, shortage, sweep};
+pub use calls::{desks, keep_lawful, shortage, sweep, sweep_dead};
+pub use hall_set::{HallSet, MOST_HALLS};
 pub use laws::{
     best_plan_is_its_repair, best_sizes_agree, certificate_shows_best, contested_are_a_certificate,
     desk_number_is_within_the_hall, desk_numbers_are_distinct, least_chain_is_one,

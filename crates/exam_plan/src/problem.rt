@@ -1,11 +1,13 @@
 //! The seating problem of a session, by indices.
-ghost use Rattle.std.specs.Prelude.{◌≡◌, ℕ, [], ◌<◌, length, map, All, IfOk, IsOk, IfErr, slice_index};
-ghost use Rattle.std.specs.Prelude.{slice_index_or};
-ghost use Rattle.std.specs.List.Sorted.{IsStrictlySortedBy};
-ghost use Rattle.std.specs.Ordering.{nat_cmp};
-ghost use Rattle.exam_plan.specs.Problems.{IsProblem};
+ghost use Rattle.std.specs.Prelude.{◌≡◌, ℕ, ◌<◌, ◌≤◌, ◌^◌, length, map, nat_eq, All, IsTrue, IfOk, IfErr};
+ghost use Rattle.std.specs.Prelude.{slice_index};
+ghost use Rattle.std.specs.List.{list_any, IsDistinct};
+ghost use Rattle.exam_plan.specs.HallSets.{most_halls, holds, halls_below};
+ghost use Rattle.exam_plan.specs.Problems.{IsProblem, most_members, seating_of};
 
+use crate::hall_set::HallSet;
 use exam_types::Refusal;
+use std::alloc::Global;
 use std::marker::Model;
 
 /// The most candidates that a problem may have, and so the most members of a session.
@@ -19,49 +21,98 @@ pub type Plan = Vec<Option<usize>>;
 #[derive(Drop)]
 pub struct Problem {
     desk_counts: Vec<u32>,
-    fit: Vec<Vec<usize>>,
+    fit: Vec<HallSet>,
     rank: Vec<u32>,
 }
 
 impl Model for Problem {
-    ghost use Rattle.std.specs.Prelude.{map};
+    ghost use Rattle.std.specs.Prelude.{length, map};
+    ghost use Rattle.exam_plan.specs.HallSets.{halls_below};
     ghost use Rattle.exam_plan.specs.Problems as problems;
 
     ghost Value = { problems.Problem };
 
     ghost view = { λ a. record {
       desk_counts = a.desk_counts.items;
-      fit = map (λ row. row.items) a.fit.items;
+      fit = map (halls_below (length a.desk_counts.items)) a.fit.items;
       rank = a.rank.items;
     } };
 
-    ghost invariant = { λ a. problems.IsProblem (record {
-      desk_counts = a.desk_counts.items;
-      fit = map (λ row. row.items) a.fit.items;
-      rank = a.rank.items;
-    }) };
+    ghost invariant = { λ a. problems.AreMasks a.desk_counts.items a.fit.items a.rank.items };
+}
+
+/// The set of the halls of a row.
+fn set_of(row: &[usize]) -> HallSet
+    requires { All (λ h. h < most_halls) row.now }
+    ensures { (h : ℕ) → holds result h ≡ list_any (nat_eq h) row.now }
+{
+    let mut set = HallSet::empty();
+    for hall in row {
+        set = set.with(*hall);
+    }
+    set
 }
 
 impl Problem {
     /// The problem with these desks in each hall, these fitting halls of each candidate, and these places
     /// of the candidates in the order of desks.
-    pub fn new(desks: Vec<u32>, fit: Vec<Vec<usize>>, rank: Vec<u32>) -> Result<Problem, Refusal>
-        requires { IsProblem (record {
+    pub fn new(
+        alloc: Global,
+        desks: Vec<u32>,
+        fit: Vec<Vec<usize>>,
+        rank: Vec<u32>,
+    ) -> Result<Problem, Refusal>
+        requires problem { IsProblem (record {
           desk_counts = desks.items;
           fit = map (λ row. row.items) fit.items;
           rank = rank.items;
         }) }
+        requires few_halls { length desks.items ≤ most_halls }
         ensures problem { IfOk result (λ p. p ≡ record {
           desk_counts = desks.items;
           fit = map (λ row. row.items) fit.items;
           rank = rank.items;
         }) }
-        ensures accepted { IsOk result }
         ensures memory { IfErr result (λ e. e ≡ Refusal.NoMemory) }
     {
+        let mut sets = Vec::with_capacity(alloc, fit.len())?;
+        for row in fit.iter() {
+            sets.push(set_of(row.as_slice()))?;
+        }
         Ok(Problem {
             desk_counts: desks,
-            fit,
+            fit: sets,
+            rank,
+        })
+    }
+
+    /// The problem with these desks in each hall, these fitting halls of each candidate, hall h at bit h, and
+    /// these places of the candidates in the order of desks.
+    pub fn from_masks(
+        alloc: Global,
+        desks: Vec<u32>,
+        fit: Vec<u128>,
+        rank: Vec<u32>,
+    ) -> Result<Problem, Refusal>
+        requires few_halls { length desks.items ≤ most_halls }
+        requires few { length fit.items ≤ most_members }
+        requires ranked { length rank.items ≡ length fit.items }
+        requires distinct { IsDistinct nat_eq rank.items }
+        requires exist { All (λ mask. mask < 2 ^ length desks.items) fit.items }
+        ensures problem { IfOk result (λ p. p ≡ record {
+          desk_counts = desks.items;
+          fit = map (halls_below (length desks.items)) fit.items;
+          rank = rank.items;
+        }) }
+        ensures memory { IfErr result (λ e. e ≡ Refusal.NoMemory) }
+    {
+        let mut sets = Vec::with_capacity(alloc, fit.len())?;
+        for mask in fit.iter() {
+            sets.push(HallSet::of_mask(*mask))?;
+        }
+        Ok(Problem {
+            desk_counts: desks,
+            fit: sets,
             rank,
         })
     }
@@ -76,7 +127,8 @@ impl Problem {
 
     /// How many halls there are.
     pub fn hall_count(&self) -> usize
-        ensures { result ≡ length self.now.desk_counts }
+        ensures count { result ≡ length self.now.desk_counts }
+        ensures few { length self.now.desk_counts ≤ most_halls }
     {
         self.desk_counts.len()
     }
@@ -89,14 +141,15 @@ impl Problem {
         self.desk_counts[hall]
     }
 
-    /// The halls that fit the candidate, rising.
-    pub fn row(&self, candidate: usize) -> &[usize]
+    /// The halls that fit the candidate.
+    pub fn fitting(&self, candidate: usize) -> HallSet
         requires { candidate < length self.now.fit }
-        ensures row { result.now ≡ slice_index_or self.now.fit candidate [] }
-        ensures exist { All (λ h. h < length self.now.desk_counts) result.now }
-        ensures rising { IsStrictlySortedBy nat_cmp result.now }
+        ensures fits { (h : ℕ) → holds result h ≡ (seating_of self.now).fits candidate h }
+        ensures exist { (h : ℕ) → IsTrue (holds result h) → h < length self.now.desk_counts }
+        ensures few { length self.now.desk_counts ≤ most_halls }
+        ensures problem { IsProblem self.now }
     {
-        self.fit[candidate].as_slice()
+        self.fit[candidate]
     }
 
     /// The candidate's place in the order of desks.

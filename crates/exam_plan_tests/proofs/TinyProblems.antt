@@ -10,7 +10,7 @@ use Rattle.std.proofs.lemmas.List.Elements.{All-filter, All-from_get_or, All-map
 use Rattle.std.proofs.lemmas.List.FromFn.{length-range_with_len, get_or-range_with_len}
 use Rattle.exam_plan.specs.Problems.{IsProblem, most_members}
 use Rattle.exam_plan.proofs.Counting.{range_next}
-use Rattle.exam_plan.proofs.ShortOfDesks.{filter_sorted}
+use Rattle.exam_plan.proofs.Rising.{filter_sorted}
 
 apart : (a b n : ℕ) → a < b → AllByRecursion (λ y. nat_eq a y ≡ false) (range_with_len b n)
 apart a b zero l = tt

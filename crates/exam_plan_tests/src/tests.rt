@@ -6,7 +6,7 @@ ghost use Rattle.std.specs.Ordering.{nat_cmp};
 ghost use Rattle.exam_plan.specs.Matching.{IsBest};
 ghost use Rattle.exam_plan.specs.Problems.{IsPlan, most_members, seating_of, plan_at};
 
-use exam_plan::{Plan, Problem, desks, keep_lawful, shortage, sweep};
+use exam_plan::{Plan, Problem, desks, keep_lawful, shortage, sweep, sweep_dead};
 use exam_types::Refusal;
 use std::alloc::Global;
 use std::test::Fail;
@@ -58,7 +58,12 @@ fn problem_of(alloc: Global, desks: [u32; 3], fits: &[[bool; 3]]) -> Result<Prob
 {
     let rows = rows_of(alloc, fits)?;
     let ranks = ranks_of(alloc, fits.len())?;
-    Problem::new(Vec::from_slice(alloc, desks.as_slice())?, rows, ranks)
+    Problem::new(
+        alloc,
+        Vec::from_slice(alloc, desks.as_slice())?,
+        rows,
+        ranks,
+    )
 }
 
 /// The plan that a sweep makes of nothing.
@@ -80,12 +85,32 @@ fn third_candidate_is_short_of_a_desk(rt: HostRuntime) -> Result<(), Fail> {
     let problem = problem_of(rt.alloc(), [1, 1, 0], &fits)?;
     let plan = swept(rt.alloc(), &problem)?;
     assert_eq!(rt; plan.as_slice(), [Some(1), Some(0), None].as_slice());
+    let nobody = vec![in rt.alloc(); None; problem.candidate_count()]?;
+    let (_, dead) = sweep_dead(rt.alloc(), &problem, keep_lawful(&problem, nobody)?, None)?;
+    assert_eq!(rt; dead.as_slice(), [0, 1].as_slice());
     let short = shortage(rt.alloc(), &problem, &plan)?;
     assert_eq!(rt; short.unseated, 1);
     assert_eq!(rt; short.halls.as_slice(), [0, 1].as_slice());
     assert_eq!(rt; short.candidates.as_slice(), [0, 1, 2].as_slice());
     let numbers = desks(rt.alloc(), &problem, &plan)?;
     assert_eq!(rt; numbers.as_slice(), [Some(1), Some(1), None].as_slice());
+    Ok(())
+}
+
+#[test]
+fn dead_halls_are_listed_once(rt: HostRuntime) -> Result<(), Fail> {
+    let fits = [
+        [YES, YES, NO],
+        [YES, NO, NO],
+        [YES, YES, NO],
+        [YES, YES, NO],
+    ];
+    let problem = problem_of(rt.alloc(), [1, 1, 0], &fits)?;
+    let nobody = vec![in rt.alloc(); None; problem.candidate_count()]?;
+    let start = keep_lawful(&problem, nobody)?;
+    let (plan, dead) = sweep_dead(rt.alloc(), &problem, start, None)?;
+    assert_eq!(rt; plan.as_slice(), [Some(1), Some(0), None, None].as_slice());
+    assert_eq!(rt; dead.as_slice(), [0, 1].as_slice());
     Ok(())
 }
 

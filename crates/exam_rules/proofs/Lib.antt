@@ -2,6 +2,7 @@ pub mod Barring
 pub mod Following
 pub mod Naming
 pub mod Places
+pub mod HallMasks
 pub mod PlanLists
 pub mod Ranking
 pub mod Sitters

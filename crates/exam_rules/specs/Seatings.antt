@@ -16,6 +16,7 @@ use Rattle.exam_rules.specs.declared.rows.Arrangement.{Arrangement}
 use Rattle.exam_rules.specs.declared.fit.Terms.{Terms}
 use Rattle.exam_rules.specs.declared.fit.Room.{Room}
 use Rattle.exam_plan.specs.Matching.{Seating, Plan}
+use Rattle.exam_plan.specs.HallSets.{most_halls}
 use Rattle.exam_plan.specs.Problems.{Problem, most_members, seating_of}
 use Rattle.exam_rules.specs.Relations.{Code, Relations, pair_cmp, code_cmp, same_code, opening_cmp, seat_cmp}
 use Rattle.exam_rules.specs.Relations.{row_at}
@@ -132,9 +133,13 @@ problem_of r s = record {
 abbrev pub indexed_seating : Relations → Code → Seating ℕ ℕ
 indexed_seating r s = seating_of (problem_of r s)
 
--- refused as every call on a session, or for more members than any session may have
+-- more members, or more open halls, than any session may have
+abbrev pub IsTooLarge : Relations → Code → Type 0
+IsTooLarge r s = (most_members < length (members r s)) ⊎ (most_halls < length (open_halls r s))
+
+-- refused as every call on a session, or for more members or open halls than any session may have
 abbrev pub IsProblemRefusal : Relations → Code → Refusal → Type 0
-IsProblemRefusal r s e = IsSessionRefusal r s e ⊎ ((e ≡ TooMany) × (most_members < length (members r s)))
+IsProblemRefusal r s e = IsSessionRefusal r s e ⊎ ((e ≡ TooMany) × IsTooLarge r s)
 
 -- ---- of the code
 

@@ -1,7 +1,8 @@
 //! When a member ends, and which halls fit.
-ghost use Rattle.std.specs.Prelude.{◌≡◌, ◌≤◌, ◌&&◌, not, map, IfOk, IfErr};
+ghost use Rattle.std.specs.Prelude.{◌≡◌, ◌<◌, ◌≤◌, ◌^◌, ◌&&◌, not, length, map, IfOk, IfErr};
 ghost use Rattle.std.specs.List.{list_any};
 ghost use Rattle.std.specs.Option.{option_map, option_and_then};
+ghost use Rattle.exam_plan.specs.HallSets.{most_halls, halls_below};
 ghost use Rattle.exam_types.specs.declared.refusal.Refusal.TheVariants.{NoMemory};
 ghost use Rattle.exam_rules.specs.Relations.{relations_of, code_cmp, row_at, same_code};
 ghost use Rattle.exam_rules.specs.Sessions as spec;
@@ -168,24 +169,24 @@ pub fn fits(facts: &Facts, session: &SessionCode, number: Number, hall: &HallCod
         && !is_barred(facts, session, number, hall)
 }
 
-/// The places of the halls that suit the member and that no appeal bars.
+/// The places of the halls that suit the member and that no appeal bars, each place at its bit.
 fn suiting_places(
-    alloc: Global,
     terms: &Option<Terms>,
     barred: &[HallCode],
     halls: &[(HallCode, Option<Room>)],
-) -> Result<Vec<usize>, Refusal>
-    ensures ok { IfOk result (λ places. places.items
-        ≡ seatings.positions (seatings.is_suiting terms.now barred.now) 0 halls.now) }
-    ensures memory { IfErr result (λ e. e ≡ NoMemory) }
+) -> u128
+    requires { length halls.now ≤ most_halls }
+    ensures places { halls_below (length halls.now) result
+        ≡ seatings.positions (seatings.is_suiting terms.now barred.now) 0 halls.now }
+    ensures exist { result < 2 ^ length halls.now }
 {
-    let mut places = Vec::new(alloc);
+    let mut places = 0;
     for (place, hall) in halls.iter().enumerate() {
         if is_suiting(terms, barred, hall) {
-            places.push(place)?;
+            places |= 1 << place;
         }
     }
-    Ok(places)
+    places
 }
 
 fn is_suiting(terms: &Option<Terms>, barred: &[HallCode], hall: &(HallCode, Option<Room>)) -> bool
@@ -201,7 +202,7 @@ fn is_listed(codes: &[HallCode], hall: &HallCode) -> bool
 }
 
 /// The places of the halls that fit the candidate, whose sitting paper this is, among the halls with their
-/// rooms.
+/// rooms, each place at its bit.
 pub fn fitting_places(
     alloc: Global,
     facts: &Facts,
@@ -209,20 +210,22 @@ pub fn fitting_places(
     number: Number,
     sat: Option<PaperCode>,
     halls: &[(HallCode, Option<Room>)],
-) -> Result<Vec<usize>, Refusal>
+) -> Result<u128, Refusal>
     requires sat { sat ≡ spec.sitting (relations_of facts.now) session.now number }
     requires halls { halls.now
         ≡ seatings.with_rooms (relations_of facts.now) session.now (map (λ hall. hall.0) halls.now) }
-    ensures ok { IfOk result (λ places. places.items
+    requires few { length halls.now ≤ most_halls }
+    ensures ok { IfOk result (λ places. halls_below (length halls.now) places
         ≡ seatings.fitting_places (relations_of facts.now) session.now number
         (map (λ hall. hall.0) halls.now)) }
+    ensures exist { IfOk result (λ places. places < 2 ^ length halls.now) }
     ensures memory { IfErr result (λ e. e ≡ NoMemory) }
 {
     // Who sits no paper is no member.
     if sat.is_none() {
-        return Ok(Vec::new(alloc));
+        return Ok(0);
     }
     let terms = sitting_terms(facts, session, number, sat);
     let barred = barred_halls(alloc, facts, session, number)?;
-    suiting_places(alloc, &terms, &barred, halls)
+    Ok(suiting_places(&terms, &barred, halls))
 }

@@ -1,8 +1,9 @@
 //! The seating problem of a session.
-ghost use Rattle.std.specs.Prelude.{◌≡◌, ◌⊎◌, ◌<◌, ◌≤◌, ℕ, All, length, map, count_by, IsTrue, IfOk, IfErr, OnOk};
+ghost use Rattle.std.specs.Prelude.{◌≡◌, ◌⊎◌, ◌<◌, ◌≤◌, ◌^◌, ℕ, All, length, map, count_by, IsTrue, IfOk, IfErr, OnOk};
 ghost use Rattle.std.specs.Prelude.{IsSorted};
 ghost use Rattle.std.specs.Ordering.{is_lt, nat_cmp};
 ghost use Rattle.std.specs.List.Sorted.{IsStrictlySortedBy};
+ghost use Rattle.exam_plan.specs.HallSets.{most_halls, halls_below};
 ghost use Rattle.exam_plan.specs.Problems.{most_members};
 ghost use Rattle.exam_rules.specs.Names.{ListsRise};
 ghost use Rattle.exam_rules.specs.Lists as listing;
@@ -17,7 +18,7 @@ use crate::facts::Facts;
 use crate::fit::{Room, fitting_places, opened_room};
 use crate::lists::{Entrant, SessionLists};
 use crate::sessions::{members, sitting, sitting_beside};
-use exam_plan::{MOST_MEMBERS, Problem};
+use exam_plan::{MOST_HALLS, MOST_MEMBERS, Problem};
 use exam_types::{HallCode, Number, PaperCode, Refusal, SessionCode};
 use std::alloc::Global;
 
@@ -94,21 +95,23 @@ fn rooms(
     Ok(rooms)
 }
 
-/// Of each candidate, by number and sitting paper, the places of the halls that fit.
+/// Of each candidate, by number and sitting paper, the places of the halls that fit, each place at its bit.
 fn fit_rows(
     alloc: Global,
     facts: &Facts,
     session: &SessionCode,
     keys: &[DeskKey],
     halls: &[(HallCode, Option<Room>)],
-) -> Result<Vec<Vec<usize>>, Refusal>
+) -> Result<Vec<u128>, Refusal>
     requires keys { All (λ (key : _ × ℕ).
         key.0 ≡ spec.sitting (relations_of facts.now) session.now key.1) keys.now }
     requires halls { halls.now
         ≡ seatings.with_rooms (relations_of facts.now) session.now (map (λ hall. hall.0) halls.now) }
-    ensures ok { IfOk result (λ rows. map (λ row. row.items) rows.items
+    requires few { length halls.now ≤ most_halls }
+    ensures ok { IfOk result (λ rows. map (halls_below (length halls.now)) rows.items
         ≡ map (λ key. seatings.fitting_places (relations_of facts.now) session.now key.1
         (map (λ hall. hall.0) halls.now)) keys.now) }
+    ensures exist { IfOk result (λ rows. All (λ row. row < 2 ^ length halls.now) rows.items) }
     ensures memory { IfErr result (λ e. e ≡ NoMemory) }
 {
     let mut rows = Vec::with_capacity(alloc, keys.len())?;
@@ -181,20 +184,22 @@ fn place_in(sorted: &[DeskKey], key: &DeskKey) -> u32
     sorted.partition_point(|other| *other < *key) as u32
 }
 
-/// Of each member the places of the halls that fit.
+/// Of each member the places of the halls that fit, each place at its bit.
 fn fit_table(
     alloc: Global,
     facts: &Facts,
     session: &SessionCode,
     keys: &[DeskKey],
     halls: &[HallCode],
-) -> Result<Vec<Vec<usize>>, Refusal>
-    requires { keys.now
+) -> Result<Vec<u128>, Refusal>
+    requires keys { keys.now
         ≡ map (seatings.desk_key (relations_of facts.now) session.now)
         (spec.members (relations_of facts.now) session.now) }
-    ensures ok { IfOk result (λ rows. map (λ row. row.items) rows.items
+    requires few { length halls.now ≤ most_halls }
+    ensures ok { IfOk result (λ rows. map (halls_below (length halls.now)) rows.items
         ≡ map (λ c. seatings.fitting_places (relations_of facts.now) session.now c halls.now)
         (spec.members (relations_of facts.now) session.now)) }
+    ensures exist { IfOk result (λ rows. All (λ row. row < 2 ^ length halls.now) rows.items) }
     ensures memory { IfErr result (λ e. e ≡ NoMemory) }
 {
     let rooms = rooms(alloc, facts, session, halls)?;
@@ -235,6 +240,9 @@ pub fn listed_problem(
     }
     let keys = desk_keys(alloc, facts, session, &numbers)?;
     let halls = open_halls(alloc, facts, session)?;
+    if halls.len() > MOST_HALLS {
+        return Err(Refusal::TooMany);
+    }
     problem_over(alloc, facts, session, numbers, &keys, halls)
 }
 
@@ -253,16 +261,16 @@ pub fn indexed_problem(
     ensures ok { IfOk result (λ listed. listed.problem
         ≡ seatings.problem_of (relations_of facts.now) session.now) }
     ensures refusal { IfErr result (λ e. (e ≡ NoMemory)
-        ⊎ ((e ≡ TooMany)
-        × (most_members < length (spec.members (relations_of facts.now) session.now)))) }
+        ⊎ ((e ≡ TooMany) × seatings.IsTooLarge (relations_of facts.now) session.now)) }
 {
     let entrants = lists.members_of(session);
-    if entrants.len() > MOST_MEMBERS {
+    let halls = lists.halls_of(session);
+    if entrants.len() > MOST_MEMBERS || halls.len() > MOST_HALLS {
         return Err(Refusal::TooMany);
     }
     let keys = entrant_keys(alloc, facts, session, entrants)?;
     let numbers = numbers_of(alloc, entrants)?;
-    let halls = Vec::from_slice(alloc, lists.halls_of(session))?;
+    let halls = Vec::from_slice(alloc, halls)?;
     problem_over(alloc, facts, session, numbers, &keys, halls)
 }
 
@@ -288,6 +296,7 @@ fn problem_over(
     halls: Vec<HallCode>,
 ) -> Result<ListedProblem, Refusal>
     requires few { length numbers.items ≤ most_members }
+    requires few_halls { length halls.items ≤ most_halls }
     requires numbers { numbers.items ≡ spec.members (relations_of facts.now) session.now }
     requires keys { keys.now ≡ map (seatings.desk_key (relations_of facts.now) session.now)
         (spec.members (relations_of facts.now) session.now) }
@@ -304,7 +313,7 @@ fn problem_over(
     let desks = desk_counts(alloc, facts, session, &halls)?;
     let fit = fit_table(alloc, facts, session, keys, &halls)?;
     let rank = ranks(alloc, keys)?;
-    let problem = Problem::new(desks, fit, rank)?;
+    let problem = Problem::from_masks(alloc, desks, fit, rank)?;
     Ok(ListedProblem {
         numbers,
         halls,
@@ -314,7 +323,7 @@ fn problem_over(
 
 /// The seating problem of the session: the i-th candidate is the i-th of `members`, the j-th hall the j-th of
 /// `open_halls`. Refused where there is no such session, or not enough memory. Where the limits hold no
-/// session has too many members, so that refusal is for other facts.
+/// session has too many members or open halls, so that refusal is for other facts.
 pub fn problem(alloc: Global, facts: &Facts, session: &SessionCode) -> Result<Problem, Refusal>
     ensures ok { IfOk result (λ p. p ≡ seatings.problem_of (relations_of facts.now) session.now) }
     // The premise of the laws that carry what is so by indices over to numbers and codes.

@@ -109,8 +109,11 @@ fn expect_row<R: Abort + AllocGlobal>(
 ) -> Result<(), Fail> {
     let problem = problem(rt.alloc(), facts, &session("S1")?)?;
     assert!(rt; place < problem.candidate_count());
-    assert_eq!(rt; problem.row(place), halls);
     assert_eq!(rt; problem.rank(place), rank);
+    let fitting = problem.fitting(place);
+    for hall in 0..problem.hall_count() {
+        assert_eq!(rt; fitting.contains(hall), halls.contains(&hall), "{hall}");
+    }
     Ok(())
 }
 

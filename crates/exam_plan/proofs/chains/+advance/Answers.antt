@@ -1,53 +1,43 @@
-use Rattle.std.proofs.Common.{◌≡◌, ℕ, suc, ◌-◌, ◌<◌, false, refl, length, get_or, sym, ◌∙◌, arith, subst}
-use Rattle.exam_plan.specs.Problems.{plan_at}
-use Rattle.exam_plan.specs.Searches.{MarksAll, Reaches, IsLeastHall}
-use Rattle.exam_plan.proofs.Steps.{layer_at, hall_found, hall_not_found, mover_of, mover_found, mover_far, advanced_last, advanced_more, places_set, touching_reach, found_in}
-use Rattle.exam_plan.proofs.Seatings.{listed_below}
+use Rattle.std.proofs.Common.{◌≡◌, ℕ, suc, ◌+◌, ◌-◌, ◌<◌, length, refl, sym, ◌∙◌, arith, subst}
+use Rattle.std.proofs.lemmas.Bool.{and_parts}
+use Rattle.std.proofs.lemmas.List.{length-set}
+use Rattle.exam_plan.specs.HallSets.{holds}
+use Rattle.exam_plan.specs.Problems.{IsPlan, plan_at}
+use Rattle.exam_plan.specs.Searches.{IsLeastHall}
+use Rattle.exam_plan.proofs.Steps.{layer_at, hall_found, mover_of, mover_found, mover_far, advanced_last, advanced_more, places_set, touching_reach}
 use Rattle.exam_plan.proofs.chains.+advance.Goals as goal
 use Rattle.exam_plan.proofs.chains.+advance.Goals.{then-hops-gt0+in-Some-first_mover, else-hops-gt0}
-
-pub unreachable-requires : goal.unreachable-requires
-unreachable-requires t c =
-    let q = plan_at c.args.plan.now in
-    let marks : MarksAll c.as_slice.result.now (Reaches c.args.problem.now (plan_at c.args.plan.now) c.args.hops) = layer_at c.args.problem.now (plan_at c.args.plan.now) c.args.layers.now c.requires.layers c.args.hops c.index-layers-hops.result c.as_slice.result.now c.requires.hops c.index-layers-hops.is c.as_slice.ensures.value in
-    hall_not_found c.args.problem.now (plan_at c.args.plan.now) c.args.layers.now c.requires.layers c.args.candidate c.row.result.now c.row.ensures.row c.args.hops c.as_slice.result.now marks (sym c.first_marked.ensures ∙ c.in_default.is) c.requires.reach
 
 pub unreachable-requires-in_default-first_mover : goal.unreachable-requires-in_default-first_mover
 unreachable-requires-in_default-first_mover t c =
     let back : c.args.hops ≡ suc (c.args.hops - 1) = omega (arith, c.if-hops-gt0.true) in
-    let marks : MarksAll c.as_slice.result.now (Reaches c.args.problem.now (plan_at c.args.plan.now) c.args.hops) = layer_at c.args.problem.now (plan_at c.args.plan.now) c.args.layers.now c.requires.layers c.args.hops c.index-layers-hops.result c.as_slice.result.now c.requires.hops c.index-layers-hops.is c.as_slice.ensures.value in
-    let near : MarksAll c.as_slice-then-hops-gt0.result.now (Reaches c.args.problem.now (plan_at c.args.plan.now) (c.args.hops - 1)) = layer_at c.args.problem.now (plan_at c.args.plan.now) c.args.layers.now c.requires.layers (c.args.hops - 1) c.index-layers-hops-then-hops-gt0.result c.as_slice-then-hops-gt0.result.now (omega (arith, c.requires.hops)) c.index-layers-hops-then-hops-gt0.is c.as_slice-then-hops-gt0.ensures.value in
-    let least : IsLeastHall c.args.problem.now (plan_at c.args.plan.now) c.args.hops c.args.candidate c.in-Some.hall = hall_found c.args.problem.now (plan_at c.args.plan.now) c.args.layers.now c.requires.layers c.args.candidate c.row.result.now c.row.ensures.row c.args.hops c.as_slice.result.now marks c.in-Some.hall c.row.ensures.rising (sym c.first_marked.ensures ∙ c.in-Some.is) in
-    let someone = mover_of c.args.problem.now (plan_at c.args.plan.now) c.args.layers.now c.requires.layers (c.args.hops - 1) c.args.candidate c.in-Some.hall c.as_slice-then-hops-gt0.result.now near
-    (subst (λ (z : ℕ). IsLeastHall c.args.problem.now (plan_at c.args.plan.now) z c.args.candidate c.in-Some.hall) back least)
+    let marks = layer_at c.args.problem.now (plan_at c.args.plan.now.items) c.args.layers.now (c.args.hops + 1) c.args.hops c.index-layers-hops.result c.requires.layers (omega arith) c.requires.hops c.index-layers-hops.is in
+    let near = layer_at c.args.problem.now (plan_at c.args.plan.now.items) c.args.layers.now (c.args.hops + 1) (c.args.hops - 1) c.index-layers-hops-then-hops-gt0.result c.requires.layers (omega (arith, c.if-hops-gt0.true)) (omega (arith, c.requires.hops)) c.index-layers-hops-then-hops-gt0.is in
+    let least = hall_found c.args.problem.now (plan_at c.args.plan.now.items) c.args.candidate c.fitting.result c.index-layers-hops.result c.common.result c.args.hops c.fitting.ensures.fits marks c.common.ensures c.in-Some.hall c.in-Some.ensures.1 c.in-Some.ensures.2 in
+    let someone = mover_of c.args.problem.now (plan_at c.args.plan.now.items) (c.args.hops - 1) c.args.candidate c.in-Some.hall (holds c.index-layers-hops-then-hops-gt0.result) near
+    (subst (λ (z : ℕ). IsLeastHall c.args.problem.now (plan_at c.args.plan.now.items) z c.args.candidate c.in-Some.hall) back least)
     (λ i l. c.requires.far i (omega (arith, back, l))) in
     c.in_default-first_mover.ensures.first someone.0 someone.1 someone.2
 
-pub advance-requires : goal.advance-requires
-advance-requires t c =
+pub advance-last-requires : goal.advance-last-requires
+advance-last-requires t c =
     let back : c.args.hops ≡ suc (c.args.hops - 1) = omega (arith, c.if-hops-gt0.true) in
-    let marks : MarksAll c.as_slice.result.now (Reaches c.args.problem.now (plan_at c.args.plan.now) c.args.hops) = layer_at c.args.problem.now (plan_at c.args.plan.now) c.args.layers.now c.requires.layers c.args.hops c.index-layers-hops.result c.as_slice.result.now c.requires.hops c.index-layers-hops.is c.as_slice.ensures.value in
-    let near : MarksAll c.as_slice-then-hops-gt0.result.now (Reaches c.args.problem.now (plan_at c.args.plan.now) (c.args.hops - 1)) = layer_at c.args.problem.now (plan_at c.args.plan.now) c.args.layers.now c.requires.layers (c.args.hops - 1) c.index-layers-hops-then-hops-gt0.result c.as_slice-then-hops-gt0.result.now (omega (arith, c.requires.hops)) c.index-layers-hops-then-hops-gt0.is c.as_slice-then-hops-gt0.ensures.value in
-    let least : IsLeastHall c.args.problem.now (plan_at c.args.plan.now) c.args.hops c.args.candidate c.in-Some.hall = hall_found c.args.problem.now (plan_at c.args.plan.now) c.args.layers.now c.requires.layers c.args.candidate c.row.result.now c.row.ensures.row c.args.hops c.as_slice.result.now marks c.in-Some.hall c.row.ensures.rising (sym c.first_marked.ensures ∙ c.in-Some.is) in
+    let marks = layer_at c.args.problem.now (plan_at c.args.plan.now.items) c.args.layers.now (c.args.hops + 1) c.args.hops c.index-layers-hops.result c.requires.layers (omega arith) c.requires.hops c.index-layers-hops.is in
+    let near = layer_at c.args.problem.now (plan_at c.args.plan.now.items) c.args.layers.now (c.args.hops + 1) (c.args.hops - 1) c.index-layers-hops-then-hops-gt0.result c.requires.layers (omega (arith, c.if-hops-gt0.true)) (omega (arith, c.requires.hops)) c.index-layers-hops-then-hops-gt0.is in
+    let least = hall_found c.args.problem.now (plan_at c.args.plan.now.items) c.args.candidate c.fitting.result c.index-layers-hops.result c.common.result c.args.hops c.fitting.ensures.fits marks c.common.ensures c.in-Some.hall c.in-Some.ensures.1 c.in-Some.ensures.2 in
     let first = c.in-Some-first_mover.ensures.first in (
       omega (arith, c.decreases, c.if-hops-gt0.true),
       (
-        c.requires.whole,
+        c.requires.plan,
         (
-          c.requires.exist,
+          c.in-Some-first_mover.ensures.below,
           (
-            c.requires.sized,
+            omega (arith, c.requires.hops),
             (
-              c.in-Some-first_mover.ensures.below,
+              (λ j l. c.requires.layers j (omega (arith, l, back))),
               (
-                omega (arith, c.requires.hops),
-                (
-                  c.requires.layers,
-                  (
-                    touching_reach c.args.problem.now (plan_at c.args.plan.now) c.as_slice-then-hops-gt0.result.now (c.args.hops - 1) c.in-Some-first_mover.mover near first.1,
-                    mover_far c.args.problem.now (plan_at c.args.plan.now) c.args.layers.now c.requires.layers c.args.hops (c.args.hops - 1) c.args.candidate c.in-Some.hall c.in-Some-first_mover.mover back least.0 first.0 c.requires.far,
-                  ),
-                ),
+                touching_reach c.args.problem.now (plan_at c.args.plan.now.items) (holds c.index-layers-hops-then-hops-gt0.result) (c.args.hops - 1) c.in-Some-first_mover.mover near first.1,
+                (mover_far c.args.problem.now (plan_at c.args.plan.now.items) c.args.hops (c.args.hops - 1) c.args.candidate c.in-Some.hall c.in-Some-first_mover.mover back least.0 first.0 c.requires.far, (c.requires.halls, λ l. c.requires.first c.if-hops-gt0.true)),
               ),
             ),
           ),
@@ -55,26 +45,29 @@ advance-requires t c =
       ),
     )
 
-pub returns-clause-exist : goal.returns-clause-exist
-returns-clause-exist t c =
-    let below : c.in-Some.hall < length c.args.problem.now.desk_counts = listed_below (length c.args.problem.now.desk_counts) c.row.result.now c.in-Some.hall c.row.ensures.exist
-    (found_in (λ k. get_or c.as_slice.result.now k false) c.row.result.now c.in-Some.hall (sym c.first_marked.ensures ∙ c.in-Some.is)).0 in
-    places_set c.if-hops-gt0.plan (length c.args.problem.now.desk_counts) c.args.candidate c.in-Some.hall
-    (elim c.if-hops-gt0.branch [ then-hops-gt0+in-Some-first_mover w ↦ rw w.plan-is w.advance.ensures.exist | else-hops-gt0 w ↦ rw w.plan-is c.requires.exist ]) below
+pub returns-clause-plan : goal.returns-clause-plan
+returns-clause-plan t c =
+    let held = and_parts (holds c.fitting.result c.in-Some.hall) (holds c.index-layers-hops.result c.in-Some.hall) (sym (c.common.ensures c.in-Some.hall) ∙ c.in-Some.ensures.1) in
+    let below : c.in-Some.hall < length c.args.problem.now.desk_counts = c.fitting.ensures.exist c.in-Some.hall held.0 in
+    let was : IsPlan c.args.problem.now c.if-hops-gt0.plan.items = elim c.if-hops-gt0.branch [ then-hops-gt0+in-Some-first_mover w ↦ rw w.plan-is w.advance-last.ensures.plan | else-hops-gt0 w ↦ rw w.plan-is c.requires.plan ] in
+    record {
+      whole = simp length-set was.whole;
+      exist = places_set c.if-hops-gt0.plan.items (length c.args.problem.now.desk_counts) c.args.candidate c.in-Some.hall was.exist below;
+    }
 
 pub returns-clause-moved : goal.returns-clause-moved
 returns-clause-moved t c =
-    let marks : MarksAll c.as_slice.result.now (Reaches c.args.problem.now (plan_at c.args.plan.now) c.args.hops) = layer_at c.args.problem.now (plan_at c.args.plan.now) c.args.layers.now c.requires.layers c.args.hops c.index-layers-hops.result c.as_slice.result.now c.requires.hops c.index-layers-hops.is c.as_slice.ensures.value in
-    let least : IsLeastHall c.args.problem.now (plan_at c.args.plan.now) c.args.hops c.args.candidate c.in-Some.hall = hall_found c.args.problem.now (plan_at c.args.plan.now) c.args.layers.now c.requires.layers c.args.candidate c.row.result.now c.row.ensures.row c.args.hops c.as_slice.result.now marks c.in-Some.hall c.row.ensures.rising (sym c.first_marked.ensures ∙ c.in-Some.is) in
+    let marks = layer_at c.args.problem.now (plan_at c.args.plan.now.items) c.args.layers.now (c.args.hops + 1) c.args.hops c.index-layers-hops.result c.requires.layers (omega arith) c.requires.hops c.index-layers-hops.is in
+    let least = hall_found c.args.problem.now (plan_at c.args.plan.now.items) c.args.candidate c.fitting.result c.index-layers-hops.result c.common.result c.args.hops c.fitting.ensures.fits marks c.common.ensures c.in-Some.hall c.in-Some.ensures.1 c.in-Some.ensures.2 in
     elim c.if-hops-gt0.branch [
       | then-hops-gt0+in-Some-first_mover w ↦ (
           let back : c.args.hops ≡ suc (c.args.hops - 1) = omega (arith, w.if-hops-gt0.true) in
-          let near : MarksAll w.as_slice-then-hops-gt0.result.now (Reaches c.args.problem.now (plan_at c.args.plan.now) (c.args.hops - 1)) = layer_at c.args.problem.now (plan_at c.args.plan.now) c.args.layers.now c.requires.layers (c.args.hops - 1) w.index-layers-hops-then-hops-gt0.result w.as_slice-then-hops-gt0.result.now (omega (arith, c.requires.hops)) w.index-layers-hops-then-hops-gt0.is w.as_slice-then-hops-gt0.ensures.value in
+          let near = layer_at c.args.problem.now (plan_at c.args.plan.now.items) c.args.layers.now (c.args.hops + 1) (c.args.hops - 1) w.index-layers-hops-then-hops-gt0.result c.requires.layers (omega (arith, w.if-hops-gt0.true)) (omega (arith, c.requires.hops)) w.index-layers-hops-then-hops-gt0.is in
           let first = w.in-Some-first_mover.ensures.first in
-          rw w.plan-is (advanced_more c.args.problem.now (plan_at c.args.plan.now) c.args.layers.now c.requires.layers w.advance.new.plan c.args.hops (c.args.hops - 1) c.args.candidate c.in-Some.hall w.in-Some-first_mover.mover back
-          (omega (arith, w.advance.ensures.whole, c.requires.candidate)) least
-          (mover_found c.args.problem.now (plan_at c.args.plan.now) c.args.layers.now c.requires.layers (c.args.hops - 1) c.in-Some.hall w.in-Some-first_mover.mover w.as_slice-then-hops-gt0.result.now near first.0 first.1 first.2)
-          w.advance.ensures.moved))
-      | else-hops-gt0 w ↦ rw w.plan-is (advanced_last c.args.problem.now (plan_at c.args.plan.now) c.args.layers.now c.requires.layers c.args.plan.now (λ d. refl) c.args.hops c.args.candidate c.in-Some.hall (omega (arith, w.if-hops-gt0.false))
-          (omega (arith, c.requires.whole, c.requires.candidate)) least)
+          rw (w.plan-is, w.last-is) (advanced_more c.args.problem.now (plan_at c.args.plan.now.items) w.advance-last.new.plan.items c.args.hops (c.args.hops - 1) c.args.candidate c.in-Some.hall w.in-Some-first_mover.mover w.advance-last.result back
+          (omega (arith, w.advance-last.ensures.plan.whole, c.requires.candidate)) least
+          (mover_found c.args.problem.now (plan_at c.args.plan.now.items) (c.args.hops - 1) c.in-Some.hall w.in-Some-first_mover.mover (holds w.index-layers-hops-then-hops-gt0.result) near first.0 first.1 first.2)
+          w.advance-last.ensures.moved))
+      | else-hops-gt0 w ↦ rw (w.plan-is, w.last-is) (advanced_last c.args.problem.now (plan_at c.args.plan.now.items) c.args.plan.now.items c.args.hops c.args.candidate c.in-Some.hall (λ d. refl) (omega (arith, w.if-hops-gt0.false))
+          (omega (arith, c.requires.plan.whole, c.requires.candidate)) least)
     ]

@@ -1,6 +1,5 @@
-use Rattle.std.proofs.Common.{ap, ◌∙◌, is_some}
 use Rattle.exam_plan.proofs.Steps.{touch_test}
 use Rattle.exam_plan.proofs.chains.is_touching.Goals as goal
 
-pub returns : goal.returns
-returns c = touch_test c.args.problem.now c.args.marked.now c.args.candidate c.row.result.now c.is_some.result c.row.ensures.row (c.is_some.ensures ∙ ap is_some c.first_marked.ensures)
+pub returns-clause-touching : goal.returns-clause-touching
+returns-clause-touching c = touch_test c.args.problem.now c.args.candidate c.fitting.result c.fitting.ensures.fits c.args.marked c.meets.result c.meets.ensures

@@ -1,13 +1,12 @@
-use Rattle.std.proofs.Common.{◌≡◌, ℕ, length, not, count_by}
+use Rattle.std.proofs.Common.{◌-◌, ℕ, length}
+use Rattle.exam_plan.specs.HallSets.{holds}
 use Rattle.exam_plan.specs.Problems.{plan_at}
 use Rattle.exam_plan.specs.Searches.{IsMarked, Draws}
+use Rattle.exam_plan.proofs.Counting.{count_below}
 use Rattle.exam_plan.proofs.contest.contested_halls.Given as goal
 
 abbrev pub invariant-spreading : goal.invariant-spreading
-invariant-spreading l = record {
-  long : length l.marked.items ≡ length l.problem.desk_counts;
-  drawn : (h : ℕ) → IsMarked l.marked.items h → (j : ℕ) × Draws l.problem (plan_at l.plan) j h;
-}
+invariant-spreading l = (h : ℕ) → IsMarked (holds l.marked) h → (j : ℕ) × Draws l.problem (plan_at l.plan) j h
 
 abbrev pub decreases-spreading : goal.decreases-spreading
-decreases-spreading l = count_by not l.marked.items
+decreases-spreading l = length l.problem.desk_counts - count_below (holds l.marked) (length l.problem.desk_counts)

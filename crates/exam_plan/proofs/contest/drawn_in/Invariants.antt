@@ -2,8 +2,9 @@ use Rattle.std.proofs.Common.{◌≡◌}
 use Rattle.std.specs.Prelude.{filter}
 use Rattle.std.specs.List.{range_with_len}
 use Rattle.exam_plan.specs.Problems.{plan_at}
+use Rattle.exam_plan.specs.HallSets.{holds}
 use Rattle.exam_plan.specs.Searches.{is_drawn}
 use Rattle.exam_plan.proofs.contest.drawn_in.Given as goal
 
 abbrev pub invariant-loop-candidate : goal.invariant-loop-candidate
-invariant-loop-candidate l = l.candidates.items ≡ filter (λ c. is_drawn l.marked (plan_at l.plan c)) (range_with_len 0 l.candidate)
+invariant-loop-candidate l = l.candidates.items ≡ filter (λ c. is_drawn (holds l.marked) (plan_at l.plan c)) (range_with_len 0 l.candidate)

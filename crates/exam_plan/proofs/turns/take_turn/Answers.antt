@@ -1,70 +1,104 @@
-use Rattle.std.proofs.Common.{◌≡◌, ℕ, ◌-◌, ◌<◌, List, Option, None, is_some, Bool, true, false, length, take, drop, ◌++◌, sym, ap, ◌∙◌, arith, subst, inl, inr}
+use Rattle.std.proofs.Common.{◌≡◌, ◌+◌, ◌<◌, ◌≤◌, ◌++◌, ℕ, List, None, is_some, length, get_or, set, refl, sym, ap, ◌∙◌, inl, inr, subst, arith, rules}
+use Rattle.std.proofs.lemmas.List.{length-set}
+use Rattle.exam_plan.specs.HallSets.{holds, halls_below}
 use Rattle.exam_plan.specs.Problems.{plan_at}
-use Rattle.exam_plan.specs.Searches.{IsSettled, IsTouching, IsFound, CanReach}
-use Rattle.exam_plan.specs.declared.chains.Found.TheVariants.{Chain, Closed}
-use Rattle.exam_plan.proofs.Steps.{written_back}
-use Rattle.exam_plan.proofs.TurnLemmas.{IsTurned, turned, stays_put, still_settled, seated_at, none_of, found_for, advanced_for}
+use Rattle.exam_plan.specs.Searches.{IsMarked, IsSettled, AreOnward, count_at}
+use Rattle.exam_plan.proofs.Steps.{count_at-le, same_within, within_other, leads_below}
+use Rattle.exam_plan.proofs.Listing.{room_left, after_lists, after_once, after_many}
+use Rattle.exam_plan.proofs.TurnLemmas.{IsTurned, turned, stays_put, counts_after, free_after, both_closed, both_within, both_traced, both_settled, seated_at, none_of}
 use Rattle.exam_plan.proofs.turns.take_turn.Goals as goal
-use Rattle.exam_plan.proofs.turns.take_turn.Goals.{then-is_some-via-then-is_some, then-is_some-via-else-is_some+then-not-is_touching}
+use Rattle.exam_plan.proofs.turns.take_turn.Goals.{then-is_some-via-then-is_some, then-is_some-via-else-is_some+then-is_empty}
 
-settled : (c : goal.Joined-then-is_some) → IsSettled c.args.problem.now (plan_at c.args.plan.now.items) c.args.live.items c.args.candidate
+settled : (c : goal.Joined-then-is_some) → IsSettled c.args.problem.now (plan_at c.args.sweep.now.plan.items) (holds c.args.sweep.now.dead) c.args.candidate
 settled c = elim c.then-is_some.branch [
-  | then-is_some-via-then-is_some w ↦ inl (ap is_some (seated_at c.args.plan.now.items c.args.candidate c.index.result.now (omega (arith, c.requires.plan.whole, c.requires.candidate)) c.index.ensures) ∙ sym c.is_some.ensures ∙ w.if-is_some.true)
-  | then-is_some-via-else-is_some+then-not-is_touching w ↦ inr (λ t. let R : List Bool → Type 0 = λ marks. IsTouching c.args.problem.now marks c.args.candidate in
-      let z : false ≡ true = sym w.if-not-is_touching.true ∙ w.is_touching.ensures.1 (subst R (sym w.as_slice.ensures.value) t) in cc)
+  | then-is_some-via-then-is_some w ↦ inl (ap is_some (seated_at c.args.sweep.now.plan.items c.args.candidate c.index.result.now (omega (arith, c.requires.kept.plan.whole, c.requires.candidate)) c.index.ensures) ∙ sym c.is_some.ensures ∙ w.if-is_some.true)
+  | then-is_some-via-else-is_some+then-is_empty w ↦ inr (λ k fit. within_other w.fitting.result c.args.sweep.now.dead w.minus.result w.minus.ensures (w.is_empty.ensures.0 w.if-is_empty.true) k (w.fitting.ensures.fits k ∙ fit))
 ]
 
-pub returns-then-is_some-clause-turn : goal.returns-then-is_some-clause-turn
-returns-then-is_some-clause-turn c = stays_put c.args.problem.now (plan_at c.args.plan.now.items) c.args.live.items c.requires.closed c.args.candidate (settled c)
+pub returns-then-is_some : goal.returns-then-is_some
+returns-then-is_some c = record {
+  kept = c.requires.kept;
+  seated = λ d s. s;
+  turn = stays_put c.args.problem.now (plan_at c.args.sweep.now.plan.items) (holds c.args.sweep.now.dead) c.requires.kept.closed c.args.candidate (settled c);
+  settled = settled c;
+  others = λ d s. s;
+}
 
-pub returns-then-is_some-clause-settled : goal.returns-then-is_some-clause-settled
-returns-then-is_some-clause-settled c = settled c
+pub overflow_add-index_mut : goal.overflow_add-index_mut
+overflow_add-index_mut c =
+    let counted = c.requires.kept.counts c.advance-last.result c.advance-last.ensures.last in
+    let read : get_or c.args.sweep.now.counts.items c.advance-last.result c.index_mut.result.now ≡ get_or c.args.sweep.now.counts.items c.advance-last.result 0 = same_within c.args.sweep.now.counts.items c.advance-last.result c.index_mut.result.now 0 (omega (arith, c.advance-last.ensures.last, c.requires.kept.halls)) in
+    let le = count_at-le (plan_at c.args.sweep.now.plan.items) c.advance-last.result (length c.args.problem.now.fit) in
+    let few : length c.args.problem.now.fit ≤ 4096 = c.fitting.ensures.problem.few in
+    let l : c.index_mut.result.now ≤ 4096 = omega (arith, counted, read, le, few, c.index_mut.ensures.value) in
+    search rules
 
-pub advance-requires-clause-far : goal.advance-requires-clause-far
-advance-requires-clause-far c j l r =
-    let found = found_for c.args.problem.now c.args.plan.now.items c.as_slice-2.result.now c.args.candidate c.in_ok-layers.field-0 (Chain c.in-Chain.layers) c.as_slice-2.ensures.value c.in-Chain.is c.in_ok-layers.ensures.found in
-    let many : c.len-hops.result ≡ length c.in-Chain.layers.items = c.len-hops.ensures ∙ sym c.as_slice-in-Chain.ensures.len ∙ ap length c.as_slice-in-Chain.ensures.value in
-    let R : List (Option ℕ) → Type 0 = λ m. CanReach c.args.problem.now (plan_at m) j c.args.candidate in
-    found.3 j (omega (arith, l, many)) (subst R c.as_mut_slice.ensures.value r)
+pub led_to-led-requires-clause-onward : goal.led_to-led-requires-clause-onward
+led_to-led-requires-clause-onward c = subst (λ (s : List ℕ). AreOnward c.args.problem.now (plan_at c.args.sweep.now.plan.items) s) (sym c.as_slice-onward.ensures.value) (c.in-None.ensures.onward refl)
 
-facts : (c : goal.After-drop-layers) → IsTurned c.args.problem.now (plan_at c.args.plan.now.items) c.args.live.items c.args.candidate
-    (plan_at (take c.args.plan.now.len (c.advance.new.plan ++ drop (length c.advance.new.plan) c.args.plan.now.items)))
-facts c =
-    let found = found_for c.args.problem.now c.args.plan.now.items c.as_slice-2.result.now c.args.candidate c.in_ok-layers.field-0 (Chain c.in-Chain.layers) c.as_slice-2.ensures.value c.in-Chain.is c.in_ok-layers.ensures.found in
-    let many : c.len-hops.result ≡ length c.in-Chain.layers.items = c.len-hops.ensures ∙ sym c.as_slice-in-Chain.ensures.len ∙ ap length c.as_slice-in-Chain.ensures.value in
-    let below : c.args.candidate < length c.args.plan.now.items = omega (arith, c.requires.plan.whole, c.requires.candidate) in
-    let unseated : plan_at c.args.plan.now.items c.args.candidate ≡ None = seated_at c.args.plan.now.items c.args.candidate c.index.result.now below c.index.ensures ∙ none_of c.index.result.now c.is_some.result c.is_some.ensures c.if-is_some.false in
-    let long : length c.advance.new.plan ≡ c.args.plan.now.len = c.advance.ensures.whole ∙ sym c.requires.plan.whole ∙ sym (ap length c.as_mut_slice.ensures.value) ∙ c.as_mut_slice.ensures.len in
-    let back : take c.args.plan.now.len (c.advance.new.plan ++ drop (length c.advance.new.plan) c.args.plan.now.items) ≡ c.advance.new.plan = written_back c.args.plan.now.len c.advance.new.plan (drop (length c.advance.new.plan) c.args.plan.now.items) long in
-    let T : List (Option ℕ) → Type 0 = λ m. IsTurned c.args.problem.now (plan_at c.args.plan.now.items) c.args.live.items c.args.candidate (plan_at m) in
-    subst T (sym back)
-    (turned c.args.problem.now (plan_at c.args.plan.now.items) c.args.live.items c.requires.closed c.requires.lawful c.args.candidate unseated (c.len-hops.result - 1) (plan_at c.advance.new.plan)
-    (advanced_for c.args.problem.now c.args.plan.now.items c.as_mut_slice.result.now (c.len-hops.result - 1) c.args.candidate (plan_at c.advance.new.plan) c.as_mut_slice.ensures.value c.advance.ensures.moved)
-    (λ j l. found.3 j (omega (arith, l, many))))
+pub list_halls-requires : goal.list_halls-requires
+list_halls-requires c =
+    let many : length c.args.sweep.now.listed.items ≡ length (halls_below c.hall_count.result c.args.sweep.now.dead) = c.requires.kept.many ∙ ap (λ n. length (halls_below n c.args.sweep.now.dead)) (sym c.hall_count.ensures.count) in
+    let room = room_left c.hall_count.result c.args.sweep.now.dead c.led_to-led.result (length c.args.sweep.now.listed.items) c.led_to-led.ensures.apart many in
+    omega (arith, room, c.requires.kept.room, c.hall_count.ensures.count)
 
-pub returns-in-Chain-clause-lawful : goal.returns-in-Chain-clause-lawful
-returns-in-Chain-clause-lawful c = (facts c).lawful
+pub returns-in-Some : goal.returns-in-Some
+returns-in-Some c =
+    let unseated : plan_at c.args.sweep.now.plan.items c.args.candidate ≡ None = (seated_at c.args.sweep.now.plan.items c.args.candidate c.index.result.now (omega (arith, c.requires.kept.plan.whole, c.requires.candidate)) c.index.ensures ∙ none_of c.index.result.now c.is_some.result c.is_some.ensures c.if-is_some.false) in
+    let t : IsTurned c.args.problem.now (plan_at c.args.sweep.now.plan.items) (holds c.args.sweep.now.dead) c.args.candidate c.advance-last.result (plan_at c.advance-last.new.plan.items) =
+    turned c.args.problem.now (plan_at c.args.sweep.now.plan.items) (holds c.args.sweep.now.dead) c.requires.kept.closed c.requires.kept.lawful c.args.candidate unseated c.in-Some.hops c.advance-last.result (plan_at c.advance-last.new.plan.items) c.advance-last.ensures.moved c.in-Some.ensures.found.3 in
+    let counts = counts_after c.args.problem.now (plan_at c.args.sweep.now.plan.items) (plan_at c.advance-last.new.plan.items) c.advance-last.result t.occupied c.args.sweep.now.counts.items c.index_mut.result.now c.requires.kept.halls c.advance-last.ensures.last c.requires.kept.counts c.index_mut.ensures.value in
+    let long : length (set c.args.sweep.now.counts.items c.advance-last.result (c.index_mut.result.now + 1)) ≡ length c.args.problem.now.desk_counts = simp length-set c.requires.kept.halls in
+    let now : c.index-in-Some.result.now ≡ count_at (plan_at c.advance-last.new.plan.items) c.advance-last.result (length c.args.problem.now.fit) =
+    c.index-in-Some.ensures ∙ same_within (set c.args.sweep.now.counts.items c.advance-last.result (c.index_mut.result.now + 1)) c.advance-last.result c.index-in-Some.result.now 0 (omega (arith, long, c.advance-last.ensures.last)) ∙ counts c.advance-last.result c.advance-last.ensures.last in
+    record {
+      kept = record {
+        plan = c.advance-last.ensures.plan;
+        lawful = t.lawful;
+        halls = long;
+        counts = counts;
+        free = free_after c.args.problem.now (plan_at c.args.sweep.now.plan.items) (plan_at c.advance-last.new.plan.items) c.advance-last.result t.occupied c.args.sweep.now.free c.still_free-sweep.result c.index-in-Some.result.now (get_or c.args.problem.now.desk_counts c.advance-last.result 0) c.requires.kept.free t.was_free now refl c.still_free-sweep.ensures;
+        closed = t.closed;
+        traced = λ h m. t.traced h (c.requires.kept.traced h m);
+        listed = c.requires.kept.listed;
+        once = c.requires.kept.once;
+        many = c.requires.kept.many;
+        room = c.requires.kept.room;
+        onward = c.in-Some.ensures.halls ∙ c.requires.kept.onward;
+        firsts = c.in-Some.ensures.firsts ∙ c.requires.kept.firsts;
+        layers = c.in-Some.ensures.room ∙ c.requires.kept.layers;
+      };
+      seated = t.kept;
+      turn = t.turn;
+      settled = t.settled;
+      others = t.others;
+    }
 
-pub returns-in-Chain-clause-kept : goal.returns-in-Chain-clause-kept
-returns-in-Chain-clause-kept c = (facts c).kept
-
-pub returns-in-Chain-clause-turn : goal.returns-in-Chain-clause-turn
-returns-in-Chain-clause-turn c = (facts c).turn
-
-pub returns-in-Chain-clause-closed : goal.returns-in-Chain-clause-closed
-returns-in-Chain-clause-closed c = (facts c).closed
-
-pub returns-in-Chain-clause-settled : goal.returns-in-Chain-clause-settled
-returns-in-Chain-clause-settled c = (facts c).settled
-
-pub returns-in-Chain-clause-others : goal.returns-in-Chain-clause-others
-returns-in-Chain-clause-others c = (facts c).others
-
-away : (c : goal.After-drop-live-in-Closed-1) → IsFound c.args.problem.now (plan_at c.args.plan.now.items) c.args.candidate (Closed c.in-Closed.reached)
-away c = found_for c.args.problem.now c.args.plan.now.items c.as_slice-2.result.now c.args.candidate c.in_ok-layers.field-0 (Closed c.in-Closed.reached) c.as_slice-2.ensures.value c.in-Closed.is c.in_ok-layers.ensures.found
-
-pub returns-in-Closed-clause-turn : goal.returns-in-Closed-clause-turn
-returns-in-Closed-clause-turn c = stays_put c.args.problem.now (plan_at c.args.plan.now.items) c.in-Closed.reached.items (away c).0 c.args.candidate (inr (away c).1)
-
-pub returns-in-Closed-clause-others : goal.returns-in-Closed-clause-others
-returns-in-Closed-clause-others c = still_settled c.args.problem.now (plan_at c.args.plan.now.items) c.args.live.items c.requires.closed c.in-Closed.reached.items (away c).2
+pub returns-in-None : goal.returns-in-None
+returns-in-None c =
+    let unseated : plan_at c.args.sweep.now.plan.items c.args.candidate ≡ None = (seated_at c.args.sweep.now.plan.items c.args.candidate c.index.result.now (omega (arith, c.requires.kept.plan.whole, c.requires.candidate)) c.index.ensures ∙ none_of c.index.result.now c.is_some.result c.is_some.ensures c.if-is_some.false) in
+    let within : (h : ℕ) → IsMarked (holds c.led_to-led.result) h → h < length c.args.problem.now.desk_counts = λ h m. (let l = c.led_to-led.ensures.led h m in leads_below c.args.problem.now (plan_at c.args.sweep.now.plan.items) c.args.candidate c.fitting.ensures.problem l.0 h l.1) in
+    let grown : c.list_halls.new.listed.items ≡ c.args.sweep.now.listed.items ++ halls_below (length c.args.problem.now.desk_counts) c.led_to-led.result =
+    c.list_halls.ensures.listed ∙ ap (λ n. c.args.sweep.now.listed.items ++ halls_below n c.led_to-led.result) c.hall_count.ensures.count in
+    record {
+      kept = record {
+        plan = c.requires.kept.plan;
+        lawful = c.requires.kept.lawful;
+        halls = c.requires.kept.halls;
+        counts = c.requires.kept.counts;
+        free = c.requires.kept.free;
+        closed = both_closed c.args.problem.now (plan_at c.args.sweep.now.plan.items) c.args.candidate unseated c.args.sweep.now.dead c.led_to-led.result c.union-sweep.result c.union-sweep.ensures c.in-None.ensures.found c.led_to-led.ensures.led c.led_to-led.ensures.fitting c.led_to-led.ensures.closed c.requires.kept.closed;
+        traced = both_traced c.args.problem.now (plan_at c.args.sweep.now.plan.items) c.args.candidate unseated c.args.sweep.now.dead c.led_to-led.result c.union-sweep.result c.union-sweep.ensures c.in-None.ensures.found c.led_to-led.ensures.led c.led_to-led.ensures.fitting c.led_to-led.ensures.closed c.requires.kept.closed c.requires.kept.traced;
+        listed = after_lists (length c.args.problem.now.desk_counts) c.args.sweep.now.dead c.led_to-led.result c.union-sweep.result c.union-sweep.ensures c.led_to-led.ensures.apart within c.args.sweep.now.listed.items c.list_halls.new.listed.items c.requires.kept.listed grown;
+        once = after_once (length c.args.problem.now.desk_counts) c.args.sweep.now.dead c.led_to-led.result c.union-sweep.result c.union-sweep.ensures c.led_to-led.ensures.apart within c.args.sweep.now.listed.items c.list_halls.new.listed.items c.requires.kept.listed grown c.requires.kept.once;
+        many = after_many (length c.args.problem.now.desk_counts) c.args.sweep.now.dead c.led_to-led.result c.union-sweep.result c.union-sweep.ensures c.led_to-led.ensures.apart within c.args.sweep.now.listed.items c.list_halls.new.listed.items c.requires.kept.listed grown c.requires.kept.many;
+        room = omega (arith, c.list_halls.ensures.room, c.requires.kept.room);
+        onward = c.in-None.ensures.halls ∙ c.requires.kept.onward;
+        firsts = c.in-None.ensures.firsts ∙ c.requires.kept.firsts;
+        layers = c.in-None.ensures.room ∙ c.requires.kept.layers;
+      };
+      seated = λ d s. s;
+      turn = stays_put c.args.problem.now (plan_at c.args.sweep.now.plan.items) (holds c.union-sweep.result) (both_closed c.args.problem.now (plan_at c.args.sweep.now.plan.items) c.args.candidate unseated c.args.sweep.now.dead c.led_to-led.result c.union-sweep.result c.union-sweep.ensures c.in-None.ensures.found c.led_to-led.ensures.led c.led_to-led.ensures.fitting c.led_to-led.ensures.closed c.requires.kept.closed) c.args.candidate (inr (both_within c.args.problem.now (plan_at c.args.sweep.now.plan.items) c.args.candidate unseated c.args.sweep.now.dead c.led_to-led.result c.union-sweep.result c.union-sweep.ensures c.in-None.ensures.found c.led_to-led.ensures.led c.led_to-led.ensures.fitting c.led_to-led.ensures.closed c.requires.kept.closed));
+      settled = inr (both_within c.args.problem.now (plan_at c.args.sweep.now.plan.items) c.args.candidate unseated c.args.sweep.now.dead c.led_to-led.result c.union-sweep.result c.union-sweep.ensures c.in-None.ensures.found c.led_to-led.ensures.led c.led_to-led.ensures.fitting c.led_to-led.ensures.closed c.requires.kept.closed);
+      others = both_settled c.args.problem.now (plan_at c.args.sweep.now.plan.items) c.args.candidate unseated c.args.sweep.now.dead c.led_to-led.result c.union-sweep.result c.union-sweep.ensures c.in-None.ensures.found c.led_to-led.ensures.led c.led_to-led.ensures.fitting c.led_to-led.ensures.closed c.requires.kept.closed;
+    }

@@ -1,9 +1,10 @@
-use Rattle.std.proofs.Common.{◌≡◌, ℕ, List, map, is_some, true, false, IfOk, Option, subst, ap, ◌∙◌, arith}
+use Rattle.std.proofs.Common.{◌≡◌, ℕ, List, map, is_some, true, false, length, Option, ap, pow_pos, ◌∙◌, arith}
 use Rattle.exam_rules.specs.declared.fit.Room.{Room}
 use Rattle.exam_rules.specs.Relations.{Code, relations_of}
 use Rattle.exam_rules.specs.Sessions.{has_live_entry, barred_halls}
 use Rattle.exam_rules.specs.Seatings.{positions, is_suiting, sitting_terms}
 use Rattle.exam_rules.proofs.Places.{fits_nowhere, fits_by_rooms}
+use Rattle.exam_rules.proofs.HallMasks.{no_places}
 use Rattle.exam_rules.proofs.Sitters.{members_sit}
 use Rattle.exam_rules.proofs.fit.fitting_places.Goals as goal
 
@@ -11,15 +12,17 @@ pub returns-then-is_none-clause-ok : goal.returns-then-is_none-clause-ok
 returns-then-is_none-clause-ok c =
     let inside : is_some c.args.sat ≡ has_live_entry (relations_of c.args.facts.now) c.args.session.now c.args.number = ap is_some c.requires.sat ∙ members_sit (relations_of c.args.facts.now) c.args.session.now c.args.number in
     let outside : has_live_entry (relations_of c.args.facts.now) c.args.session.now c.args.number ≡ false = grind arith in
-    c.new.ensures.items ∙ fits_nowhere (relations_of c.args.facts.now) c.args.session.now c.args.number outside (map (λ (row : Code × Option Room). row.0) c.args.halls.now)
+    no_places (length c.args.halls.now) ∙ fits_nowhere (relations_of c.args.facts.now) c.args.session.now c.args.number outside (map (λ (row : Code × Option Room). row.0) c.args.halls.now)
+
+pub returns-then-is_none-clause-exist : goal.returns-then-is_none-clause-exist
+returns-then-is_none-clause-exist c = pow_pos (length c.args.halls.now)
 
 pub returns-clause-ok : goal.returns-clause-ok
 returns-clause-ok c =
     let sits : is_some c.args.sat ≡ has_live_entry (relations_of c.args.facts.now) c.args.session.now c.args.number = ap is_some c.requires.sat ∙ members_sit (relations_of c.args.facts.now) c.args.session.now c.args.number in
     let inside : has_live_entry (relations_of c.args.facts.now) c.args.session.now c.args.number ≡ true = grind arith in
     let barred : c.deref.result.now ≡ barred_halls (relations_of c.args.facts.now) c.args.session.now c.args.number = c.deref.ensures.value ∙ c.in_ok-barred.ensures.ok in
-    subst (λ (t : List ℕ). IfOk c.suiting_places.result (λ places. places.items ≡ t))
-    (ap (λ terms. positions (is_suiting terms c.deref.result.now) 0 c.args.halls.now) c.sitting_terms-terms.ensures
+    c.suiting_places.ensures.places
+    ∙ ap (λ terms. positions (is_suiting terms c.deref.result.now) 0 c.args.halls.now) c.sitting_terms-terms.ensures
     ∙ ap (λ codes. positions (is_suiting (sitting_terms (relations_of c.args.facts.now) c.args.session.now c.args.number) codes) 0 c.args.halls.now) barred
-    ∙ fits_by_rooms (relations_of c.args.facts.now) c.args.session.now c.args.number inside c.args.halls.now c.requires.halls)
-    c.suiting_places.ensures.ok
+    ∙ fits_by_rooms (relations_of c.args.facts.now) c.args.session.now c.args.number inside c.args.halls.now c.requires.halls

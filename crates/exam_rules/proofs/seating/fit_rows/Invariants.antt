@@ -1,10 +1,10 @@
-use Rattle.std.proofs.Common.{◌≡◌, ◌++◌, map, drop}
+use Rattle.std.proofs.Common.{map, length}
 use Rattle.exam_rules.specs.Relations.{relations_of}
 use Rattle.exam_rules.specs.Seatings.{fitting_places}
+use Rattle.exam_rules.proofs.HallMasks.{AreMasksOf}
 use Rattle.exam_rules.proofs.seating.fit_rows.Given as goal
 
 -- a row for each candidate so far
 abbrev pub invariant-loop-key : goal.invariant-loop-key
 invariant-loop-key l =
-    map (λ row. row.items) l.rows.items ++ map (λ key. fitting_places (relations_of l.facts) l.session key.1 (map (λ hall. hall.0) l.halls)) (drop l.key-index l.keys)
-    ≡ map (λ key. fitting_places (relations_of l.facts) l.session key.1 (map (λ hall. hall.0) l.halls)) l.keys
+    AreMasksOf (length l.halls) (λ key. fitting_places (relations_of l.facts) l.session key.1 (map (λ hall. hall.0) l.halls)) l.keys l.key-index l.rows.items

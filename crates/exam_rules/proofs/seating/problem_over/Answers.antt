@@ -1,10 +1,13 @@
-use Rattle.std.proofs.Common.{◌≡◌, ◌≤◌, ℕ, List, Option, length, map, ap, sym, subst, ◌∙◌, arith}
+use Rattle.std.proofs.Common.{◌≡◌, ◌≤◌, ◌<◌, ◌^◌, nat_eq, ℕ, List, Option, length, map, ap, sym, subst, ◌∙◌, arith}
+use Rattle.std.specs.Prelude.{All}
+use Rattle.std.specs.List.{IsDistinct}
 use Rattle.std.proofs.lemmas.List.{length-map}
-use Rattle.exam_plan.specs.Problems.{IsProblem, most_members}
+use Rattle.exam_plan.specs.HallSets.{most_halls, halls_below}
+use Rattle.exam_plan.specs.Problems.{most_members}
 use Rattle.exam_rules.specs.Relations.{Code, Relations, relations_of}
 use Rattle.exam_rules.specs.Sessions.{members}
 use Rattle.exam_rules.specs.Seatings.{desks, open_halls, fitting_places, desk_key, rank, ranks_of}
-use Rattle.exam_rules.proofs.Ranking.{is_problem, parts_are, ranks_of_members}
+use Rattle.exam_rules.proofs.Ranking.{ranks_distinct, parts_are, ranks_of_members}
 use Rattle.exam_rules.proofs.seating.problem_over.Goals as goal
 
 -- fit rows over the members, where the halls are the open ones
@@ -22,20 +25,49 @@ ranks-requires c =
     let same : length c.args.numbers.items ≡ length (members (relations_of c.args.facts.now) c.args.session.now) = ap length c.requires.numbers in
     omega arith
 
-pub new-requires : goal.new-requires
-new-requires c =
-    let same : length c.args.numbers.items ≡ length (members (relations_of c.args.facts.now) c.args.session.now) = ap length c.requires.numbers in
-    let few : length (members (relations_of c.args.facts.now) c.args.session.now) ≤ most_members = omega arith in
-    subst IsProblem (sym (parts_are (relations_of c.args.facts.now) c.args.session.now c.in_ok-desks.desks.items (map (λ row. row.items) c.in_ok-fit.fit.items) c.in_ok-rank.rank.items
-    (c.in_ok-desks.ensures.ok ∙ ap (map (desks (relations_of c.args.facts.now) c.args.session.now)) (c.deref.ensures.value ∙ c.requires.halls))
-    (c.in_ok-fit.ensures.ok ∙ fit_of_halls (relations_of c.args.facts.now) c.args.session.now c.deref-2.result.now (c.deref-2.ensures.value ∙ c.requires.halls))
-    (c.in_ok-rank.ensures.ok ∙ ranks_of_keys (relations_of c.args.facts.now) c.args.session.now c.args.keys.now c.requires.keys)))
-    (is_problem (relations_of c.args.facts.now) c.args.session.now c.requires.rising few)
+-- the desks are as many as the halls
+desks_long : (r : Relations) (s : Code) (counts : List ℕ) (halls : List Code) → counts ≡ map (desks r s) halls → length counts ≡ length halls
+desks_long r s counts halls e = ap length e ∙ length-map halls (desks r s)
+
+pub fit_table-requires : goal.fit_table-requires
+fit_table-requires c = record {
+  keys = c.requires.keys;
+  few = subst (λ (halls : List Code). length halls ≤ most_halls) (sym c.deref-2.ensures.value) c.requires.few_halls;
+}
+
+-- the rows of the problem
+rows_are : (r : Relations) (s : Code) (counts masks : List ℕ) (halls : List Code) → halls ≡ open_halls r s → counts ≡ map (desks r s) halls
+    → map (halls_below (length halls)) masks ≡ map (λ n. fitting_places r s n halls) (members r s)
+    → map (halls_below (length counts)) masks ≡ map (λ n. fitting_places r s n (open_halls r s)) (members r s)
+rows_are r s counts masks halls h d m = ap (λ n. map (halls_below n) masks) (desks_long r s counts halls d) ∙ m ∙ fit_of_halls r s halls h
+
+-- there is a row of each member
+rows_long : (r : Relations) (s : Code) (n : ℕ) (masks : List ℕ) (halls : List Code) → map (halls_below n) masks ≡ map (λ m. fitting_places r s m halls) (members r s) → length masks ≡ length (members r s)
+rows_long r s n masks halls e = sym (length-map masks (halls_below n)) ∙ ap length e ∙ length-map (members r s) (λ m. fitting_places r s m halls)
+
+pub from_masks-requires : goal.from_masks-requires
+from_masks-requires c =
+    let r = relations_of c.args.facts.now in
+    let s = c.args.session.now in
+    let long : length c.in_ok-desks.desks.items ≡ length c.deref-2.result.now = desks_long r s c.in_ok-desks.desks.items c.deref-2.result.now (c.in_ok-desks.ensures.ok ∙ ap (map (desks r s)) (c.deref.ensures.value ∙ sym c.deref-2.ensures.value)) in
+    let halls : length c.deref-2.result.now ≡ length c.args.halls.items = ap length c.deref-2.ensures.value in
+    let rows : length c.in_ok-fit.fit.items ≡ length (members r s) = rows_long r s (length c.deref-2.result.now) c.in_ok-fit.fit.items c.deref-2.result.now c.in_ok-fit.ensures.ok in
+    let same : length c.args.numbers.items ≡ length (members r s) = ap length c.requires.numbers in
+    let ranked : c.in_ok-rank.rank.items ≡ map (rank r s) (members r s) = c.in_ok-rank.ensures.ok ∙ ranks_of_keys r s c.args.keys.now c.requires.keys in record {
+      few_halls = subst (λ n. n ≤ most_halls) (sym (long ∙ halls)) c.requires.few_halls;
+      few = subst (λ n. n ≤ most_members) (same ∙ sym rows) c.requires.few;
+      ranked = ap length ranked ∙ length-map (members r s) (rank r s) ∙ sym rows;
+      distinct = subst (IsDistinct nat_eq) (sym ranked) (ranks_distinct r s c.requires.rising);
+      exist = subst (λ n. All (λ mask. mask < 2 ^ n) c.in_ok-fit.fit.items) (sym long) c.in_ok-fit.ensures.exist;
+    }
 
 pub returns-clause-ok : goal.returns-clause-ok
 returns-clause-ok c =
+    let r = relations_of c.args.facts.now in
+    let s = c.args.session.now in
     c.in_ok-problem.ensures.problem
-    ∙ parts_are (relations_of c.args.facts.now) c.args.session.now c.in_ok-desks.desks.items (map (λ row. row.items) c.in_ok-fit.fit.items) c.in_ok-rank.rank.items
-    (c.in_ok-desks.ensures.ok ∙ ap (map (desks (relations_of c.args.facts.now) c.args.session.now)) (c.deref.ensures.value ∙ c.requires.halls))
-    (c.in_ok-fit.ensures.ok ∙ fit_of_halls (relations_of c.args.facts.now) c.args.session.now c.deref-2.result.now (c.deref-2.ensures.value ∙ c.requires.halls))
-    (c.in_ok-rank.ensures.ok ∙ ranks_of_keys (relations_of c.args.facts.now) c.args.session.now c.args.keys.now c.requires.keys)
+    ∙ parts_are r s c.in_ok-desks.desks.items (map (halls_below (length c.in_ok-desks.desks.items)) c.in_ok-fit.fit.items) c.in_ok-rank.rank.items
+    (c.in_ok-desks.ensures.ok ∙ ap (map (desks r s)) (c.deref.ensures.value ∙ c.requires.halls))
+    (rows_are r s c.in_ok-desks.desks.items c.in_ok-fit.fit.items c.deref-2.result.now (c.deref-2.ensures.value ∙ c.requires.halls)
+    (c.in_ok-desks.ensures.ok ∙ ap (map (desks r s)) (c.deref.ensures.value ∙ sym c.deref-2.ensures.value)) c.in_ok-fit.ensures.ok)
+    (c.in_ok-rank.ensures.ok ∙ ranks_of_keys r s c.args.keys.now c.requires.keys)

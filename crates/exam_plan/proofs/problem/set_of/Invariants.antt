@@ -1,0 +1,7 @@
+use Rattle.std.proofs.Common.{◌≡◌, ℕ, take, nat_eq}
+use Rattle.std.specs.List.{list_any}
+use Rattle.exam_plan.specs.HallSets.{holds}
+use Rattle.exam_plan.proofs.problem.set_of.Given as goal
+
+abbrev pub invariant-loop-hall : goal.invariant-loop-hall
+invariant-loop-hall l = (h : ℕ) → holds l.set h ≡ list_any (nat_eq h) (take l.hall-index l.row)
