@@ -1,13 +1,12 @@
 -- Who stays in a plan: the loops that put out, and that what stays is lawful.
-use Rattle.std.proofs.Common.{◌≡◌, ℕ, zero, suc, ◌+◌, ◌<◌, ◌≤◌, Bool, true, false, cond, ◌||◌, ◌&&◌, IsTrue, List, length, get_or, set, take, Option, None, Some, IsSome, IfSome, nat_eq, nat_lt, refl, sym, ap, ◌∙◌, inl, inr, subst, arith}
+use Rattle.std.proofs.Common.{◌≡◌, ℕ, zero, suc, ◌+◌, ◌<◌, ◌≤◌, Bool, true, false, cond, ◌||◌, ◌&&◌, IsTrue, List, length, get_or, set, Option, None, Some, IsSome, IfSome, nat_eq, nat_lt, refl, sym, ap, ◌∙◌, inl, inr, subst, arith}
 use Rattle.std.specs.Prelude.{All}
 use Rattle.std.specs.List.{range_with_len, list_any}
-use Rattle.std.specs.Option.{option_eq}
 use Rattle.std.specs.Ordering.{nat_cmp, is_lt}
 use Rattle.std.specs.Cmp.{nat_cmp_is}
 use Rattle.std.specs.declared.cmp.Ordering.TheVariants.{Less, Equal, Greater}
 use Rattle.std.proofs.lemmas.Bool.{cases_eq, cases_lt, cases_Bool, cases_order, or_left, or_right, eq-eqb, ne_eqb, eqb-true, and_parts, and_right, lt-ltb, le-ltb, ltb-true}
-use Rattle.std.proofs.lemmas.List.{get_or_past, get_or-take, length-take}
+use Rattle.std.proofs.lemmas.List.{get_or_past}
 use Rattle.std.proofs.lemmas.List.Elements.{All-set}
 use Rattle.exam_plan.specs.Matching.{Seating, Plan, is_hall, IsLawful}
 use Rattle.exam_plan.specs.Problems.{Problem, seating_of, plan_at}
@@ -15,17 +14,12 @@ use Rattle.exam_plan.specs.Repair.{is_member, where_fitting, fitting_part, lesse
 use Rattle.exam_plan.specs.Searches.{count_at}
 use Rattle.exam_plan.proofs.Counting.{bit, count_below, count_below-same, count_by-range, sits_at}
 use Rattle.exam_plan.proofs.Seatings.{is_hall-sits_at, length-occupants, below-member}
-use Rattle.exam_plan.proofs.Steps.{plan_at-get_or, plan_at-set, count_at-below, count_at-more}
+use Rattle.exam_plan.proofs.Steps.{plan_at-get_or, plan_at-set, count_at-below}
 
 -- the candidates below i went through the rule, and the others stand as they were
 pub record IsFilteredBelow (R : ℕ → Option ℕ → Option ℕ) (before m : List (Option ℕ)) (i : ℕ) : Type 0 where
   pub done : (c : ℕ) → c < i → plan_at m c ≡ R c (plan_at before c)
   pub left : (c : ℕ) → i ≤ c → plan_at m c ≡ plan_at before c
-
--- the same for the candidates from i on
-pub record IsFilteredFrom (R : ℕ → Option ℕ → Option ℕ) (before m : List (Option ℕ)) (i : ℕ) : Type 0 where
-  pub done : (c : ℕ) → i ≤ c → plan_at m c ≡ R c (plan_at before c)
-  pub left : (c : ℕ) → c < i → plan_at m c ≡ plan_at before c
 
 module _ (R : ℕ → Option ℕ → Option ℕ) (before m : List (Option ℕ)) where
   pub below_stays : (i : ℕ) → IsFilteredBelow R before m i → R i (plan_at before i) ≡ plan_at before i → IsFilteredBelow R before m (i + 1)
@@ -39,21 +33,6 @@ module _ (R : ℕ → Option ℕ → Option ℕ) (before m : List (Option ℕ)) 
     done = λ c l. plan_at-set m i c None inside ∙ elim (cases_eq i c) [
       | inl s ↦ ap (λ b. cond b None (plan_at m c)) (eq-eqb i c s) ∙ sym (subst (λ (z : ℕ). R z (plan_at before z) ≡ None) s e)
       | inr n ↦ ap (λ b. cond b None (plan_at m c)) (ne_eqb i c n) ∙ f.done c (omega arith)
-    ];
-    left = λ c l. plan_at-set m i c None inside ∙ ap (λ b. cond b None (plan_at m c)) (ne_eqb i c (λ s. absurd (omega arith))) ∙ f.left c (omega arith);
-  }
-
-  pub from_stays : (i j : ℕ) → j ≡ i + 1 → IsFilteredFrom R before m j → R i (plan_at before i) ≡ plan_at before i → IsFilteredFrom R before m i
-  from_stays i j n f e = record {
-    done = λ c l. elim (cases_eq i c) [ inl s ↦ f.left c (omega arith) ∙ sym (subst (λ (z : ℕ). R z (plan_at before z) ≡ plan_at before z) s e) | inr a ↦ f.done c (omega arith) ];
-    left = λ c l. f.left c (omega arith);
-  }
-
-  pub from_out : (i j : ℕ) → j ≡ i + 1 → i < length m → IsFilteredFrom R before m j → R i (plan_at before i) ≡ None → IsFilteredFrom R before (set m i None) i
-  from_out i j n inside f e = record {
-    done = λ c l. plan_at-set m i c None inside ∙ elim (cases_eq i c) [
-      | inl s ↦ ap (λ b. cond b None (plan_at m c)) (eq-eqb i c s) ∙ sym (subst (λ (z : ℕ). R z (plan_at before z) ≡ None) s e)
-      | inr a ↦ ap (λ b. cond b None (plan_at m c)) (ne_eqb i c a) ∙ f.done c (omega arith)
     ];
     left = λ c l. plan_at-set m i c None inside ∙ ap (λ b. cond b None (plan_at m c)) (ne_eqb i c (λ s. absurd (omega arith))) ∙ f.left c (omega arith);
   }
@@ -118,16 +97,9 @@ lesser_count p q c h l = count_by-range (λ d. is_lt (nat_cmp d c) && is_hall (s
     (λ d m. ap (λ b. bit (b && is_hall (seating_of p) h (q d))) (less_test d c) ∙ ap (λ b. bit (nat_lt d c && b)) (is_hall-sits_at p h (q d)))
     ∙ count_lesser (λ d. sits_at h (q d)) c (length p.fit) l
 
--- the count that the loop makes is that of the lesser occupants
-pub counted_lesser : (p : Problem) (before m front : List (Option ℕ)) (c h x : ℕ) → c ≤ length p.fit → front ≡ take c m → c ≤ length m → ((d : ℕ) → d < c → plan_at m d ≡ plan_at before d)
-    → x ≡ count_at (plan_at front) h (length front) → x ≡ lesser_occupants (seating_of p) (plan_at before) c h
-counted_lesser p before m front c h x l cut inside same counted =
-    let taken : length (take c m) ≡ c = omega (arith, length-take c m, inside) in
-    counted ∙ count_at-below (plan_at front) h (length front)
-    ∙ ap (count_below (λ d. sits_at h (plan_at front d))) (ap length cut ∙ taken)
-    ∙ count_below-same (λ d. sits_at h (plan_at front d)) (λ d. sits_at h (plan_at before d)) c
-    (λ d k. ap (λ o. bit (sits_at h o)) (plan_at-get_or front d ∙ ap (λ xs. get_or xs d None) cut ∙ get_or-take c m d None k ∙ sym (plan_at-get_or m d) ∙ same d k))
-    ∙ sym (lesser_count p (plan_at before) c h l)
+-- the candidates met before one are those with a lesser number
+pub counted_lesser : (p : Problem) (q : Plan ℕ ℕ) (c h x : ℕ) → c ≤ length p.fit → x ≡ count_at q h c → x ≡ lesser_occupants (seating_of p) q c h
+counted_lesser p q c h x l counted = counted ∙ count_at-below q h c ∙ sym (lesser_count p q c h l)
 
 pub room_out : (g : Seating ℕ ℕ) (q : Plan ℕ ℕ) (c h d x : ℕ) → d ≡ g.desks h → x ≡ lesser_occupants g q c h → d ≤ x → where_room g q c (Some h) ≡ None
 room_out g q c h d x desks lesser l = ap (λ b. cond b (Some h) None) (le-ltb (lesser_occupants g q c h) (g.desks h) (omega (arith, desks, lesser, l)))
@@ -194,7 +166,7 @@ kept_lawful p q = record {
 -- ---- the steps, by what was read
 
 module _ (R : ℕ → Option ℕ → Option ℕ) (before m : List (Option ℕ)) where
-  below_read : (i : ℕ) (o : Option ℕ) → IsFilteredBelow R before m i → get_or m i None ≡ o → plan_at before i ≡ o
+  pub below_read : (i : ℕ) (o : Option ℕ) → IsFilteredBelow R before m i → get_or m i None ≡ o → plan_at before i ≡ o
   below_read i o f e = sym (f.left i (omega arith)) ∙ plan_at-get_or m i ∙ e
 
   pub below_stays_at : (i : ℕ) (o : Option ℕ) → IsFilteredBelow R before m i → get_or m i None ≡ o → R i o ≡ o → IsFilteredBelow R before m (i + 1)
@@ -203,15 +175,6 @@ module _ (R : ℕ → Option ℕ → Option ℕ) (before m : List (Option ℕ)) 
   pub below_out_at : (i : ℕ) (o : Option ℕ) → i < length m → IsFilteredBelow R before m i → get_or m i None ≡ o → R i o ≡ None → IsFilteredBelow R before (set m i None) (i + 1)
   below_out_at i o inside f e r = below_out R before m i inside f (ap (R i) (below_read i o f e) ∙ r)
 
-  from_read : (i j : ℕ) (o : Option ℕ) → j ≡ i + 1 → IsFilteredFrom R before m j → get_or m i None ≡ o → plan_at before i ≡ o
-  from_read i j o n f e = sym (f.left i (omega arith)) ∙ plan_at-get_or m i ∙ e
-
-  pub from_stays_at : (i j : ℕ) (o : Option ℕ) → j ≡ i + 1 → IsFilteredFrom R before m j → get_or m i None ≡ o → R i o ≡ o → IsFilteredFrom R before m i
-  from_stays_at i j o n f e r = from_stays R before m i j n f (let s = from_read i j o n f e in ap (R i) s ∙ r ∙ sym s)
-
-  pub from_out_at : (i j : ℕ) (o : Option ℕ) → j ≡ i + 1 → i < length m → IsFilteredFrom R before m j → get_or m i None ≡ o → R i o ≡ None → IsFilteredFrom R before (set m i None) i
-  from_out_at i j o n inside f e r = from_out R before m i j n inside f (ap (R i) (from_read i j o n f e) ∙ r)
-
 pub kept_after : (p : Problem) (before mid after : Plan ℕ ℕ) → ((c : ℕ) → mid c ≡ fitting_part (seating_of p) before c) → ((c : ℕ) → after c ≡ room_part (seating_of p) mid c) → (c : ℕ) → after c ≡ kept_part (seating_of p) before c
 kept_after p before mid after fit room c =
     let same : mid ≡ fitting_part (seating_of p) before = λ i d. fit d i in
@@ -219,15 +182,3 @@ kept_after p before mid after fit room c =
 
 pub lawful_after : (p : Problem) (before after : Plan ℕ ℕ) → ((c : ℕ) → after c ≡ kept_part (seating_of p) before c) → IsLawful (seating_of p) after
 lawful_after p before after kept = let same : kept_part (seating_of p) before ≡ after = λ i d. (sym (kept d)) i in subst (λ (q : Plan ℕ ℕ). IsLawful (seating_of p) q) same (kept_lawful p before)
-
--- ---- counting who sits in a hall
-
-pub counts_more : (m : List (Option ℕ)) (h i n : ℕ) (b : Bool) → n ≡ count_at (plan_at m) h i → b ≡ option_eq nat_eq (get_or m i None) (Some h) → n + bit b ≡ count_at (plan_at m) h (i + 1)
-counts_more m h i n b counted told =
-    let more = count_at-more (plan_at m) h i in
-    let s : bit (sits_at h (plan_at m i)) ≡ bit b = ap (λ o. bit (sits_at h o)) (plan_at-get_or m i) ∙ same_test (get_or m i None) ∙ ap bit (sym told) in
-    omega (arith, more, s, counted)
-  where
-    same_test : (o : Option ℕ) → bit (sits_at h o) ≡ bit (option_eq nat_eq o (Some h))
-    same_test None = refl
-    same_test (Some k) = ap bit (eqb_flip h k)

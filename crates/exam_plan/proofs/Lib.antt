@@ -19,7 +19,7 @@ pub mod TurnLemmas
 pub mod Sweeping
 pub mod SweepSteps
 pub mod KeptLemmas
-pub mod DeskLemmas
+pub mod DeskOrder
 pub mod DrawLemmas
 pub mod ShortOfDesks
 pub mod LawLemmas

@@ -51,7 +51,7 @@ all_differ x [] j a l e = absurd (omega arith)
 all_differ x (y ∷ ys) zero a l e = let z : true ≡ false = sym (eq-eqb x y e) ∙ a.0 in cc
 all_differ x (y ∷ ys) (suc j) a l e = all_differ x ys j a.1 (omega arith) e
 
-differ_at : (xs : List ℕ) (i j : ℕ) → IsDistinct nat_eq xs → i < j → j < length xs → get_or xs i 0 ≢ get_or xs j 0
+pub differ_at : (xs : List ℕ) (i j : ℕ) → IsDistinct nat_eq xs → i < j → j < length xs → get_or xs i 0 ≢ get_or xs j 0
 unfolding IsDistinct
 differ_at [] i j d l m e = absurd (omega arith)
 differ_at (x ∷ xs) zero zero d l m e = absurd (omega arith)
@@ -61,14 +61,14 @@ differ_at (x ∷ xs) (suc i) (suc j) d l m e = differ_at xs i j d.1 (omega arith
 
 module _ (p : Problem) (q : Plan ℕ ℕ) (h : ℕ) where
   -- those of the hall who rank below
-  below_count : (r : ℕ) → count_by (λ d. nat_lt (get_or p.rank d 0) r) (occupants (seating_of p) q h)
+  pub below_count : (r : ℕ) → count_by (λ d. nat_lt (get_or p.rank d 0) r) (occupants (seating_of p) q h)
       ≡ sum_below (λ d. bit (nat_lt (get_or p.rank d 0) r)) (λ d. is_hall (seating_of p) h (q d)) (length p.fit)
   below_count r = sum_by-passing (λ d. bit (nat_lt (get_or p.rank d 0) r)) (λ d. is_hall (seating_of p) h (q d)) (length p.fit)
 
   sits : (c : ℕ) → q c ≡ Some h → is_hall (seating_of p) h (q c) ≡ true
   sits c e = ap (is_hall (seating_of p) h) e ∙ eq-eqb h h refl
 
-  number_at : (c : ℕ) → q c ≡ Some h → desk_number (seating_of p) (ranks_before p) q c ≡ Some (count_by (λ d. nat_lt (get_or p.rank d 0) (get_or p.rank c 0)) (occupants (seating_of p) q h) + 1)
+  pub number_at : (c : ℕ) → q c ≡ Some h → desk_number (seating_of p) (ranks_before p) q c ≡ Some (count_by (λ d. nat_lt (get_or p.rank d 0) (get_or p.rank c 0)) (occupants (seating_of p) q h) + 1)
   number_at c e = ap (option_map (λ k. count_by (λ d. ranks_before p d c) (occupants (seating_of p) q k) + 1)) e
 
   same_number : (m n : ℕ) → Some m ≡ Some n → m ≡ n

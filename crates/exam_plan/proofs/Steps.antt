@@ -47,36 +47,39 @@ count_at-le q h n = let e = count_at-below q h n in let f = count_below-le-bound
 pub count_at-more : (q : Plan ℕ ℕ) (h n : ℕ) → count_at q h (n + 1) ≡ count_at q h n + bit (sits_at h (q n))
 count_at-more q h n = let a = count_at-below q h (n + 1) in let b = count_at-below q h n in let e = count_below-more (λ c. sits_at h (q c)) n in omega (arith, a, b, e)
 
-pub counted_some : (halls i k x : ℕ) (counts : List ℕ) (m : List (Option ℕ)) → length counts ≡ halls → ((h : ℕ) → h < halls → get_or counts h 0 ≡ count_at (plan_at m) h i)
-    → get_or m i None ≡ Some k → x ≡ get_or counts k x → (h : ℕ) → h < halls → get_or (set counts k (x + 1)) h 0 ≡ count_at (plan_at m) h (i + 1)
-counted_some halls i k x counts m long counted here read h below =
-    let sits : plan_at m i ≡ Some k = plan_at-get_or m i ∙ here in
-    let more = count_at-more (plan_at m) h i in
-    let b : bit (sits_at h (plan_at m i)) ≡ bit (nat_eq h k) = ap (λ o. bit (sits_at h o)) sits in
+pub same_within : (xs : List ℕ) (i d e : ℕ) → i < length xs → get_or xs i d ≡ get_or xs i e
+same_within [] i d e l = absurd (omega arith)
+same_within (y ∷ ys) zero d e l = refl
+same_within (y ∷ ys) (suc i) d e l = same_within ys i d e (omega arith)
+
+-- a count a hall, once one more is counted in the hall k
+pub one_counted : (halls k x : ℕ) (counts : List ℕ) (before after : ℕ → ℕ) → halls ≤ length counts → ((h : ℕ) → h < halls → get_or counts h 0 ≡ before h)
+    → ((h : ℕ) → after h ≡ before h + bit (nat_eq h k)) → x ≡ get_or counts k x → (h : ℕ) → h < halls → get_or (set counts k (x + 1)) h 0 ≡ after h
+one_counted halls k x counts before after long counted more read h below =
+    let step = more h in
     let was = counted h below in
     elim (cases_eq h k) [
       | inl e ↦ (let inside : k < length counts = omega arith in
           let new : get_or (set counts k (x + 1)) h 0 ≡ x + 1 = ap (λ t. get_or (set counts k (x + 1)) t 0) e ∙ get_or-set_same counts k (x + 1) 0 inside in
           let one : bit (nat_eq h k) ≡ 1 = ap bit (eq-eqb h k e) in
-          let old : get_or counts h 0 ≡ x = ap (λ t. get_or counts t 0) e ∙ same_default counts k 0 x inside ∙ sym read in
-          omega (arith, more, b, was, new, one, old))
+          let old : get_or counts h 0 ≡ x = ap (λ t. get_or counts t 0) e ∙ same_within counts k 0 x inside ∙ sym read in
+          omega (arith, step, was, new, one, old))
       | inr n ↦ (let new : get_or (set counts k (x + 1)) h 0 ≡ get_or counts h 0 = rw get_or-set_other refl in
           let none : bit (nat_eq h k) ≡ 0 = ap bit (ne_eqb h k n) in
-          omega (arith, more, b, was, new, none))
+          omega (arith, step, was, new, none))
     ]
-  where
-    same_default : (xs : List ℕ) (i d e : ℕ) → i < length xs → get_or xs i d ≡ get_or xs i e
-    same_default [] i d e l = absurd (omega arith)
-    same_default (y ∷ ys) zero d e l = refl
-    same_default (y ∷ ys) (suc i) d e l = same_default ys i d e (omega arith)
 
-pub counted_none : (i : ℕ) (counts : List ℕ) (m : List (Option ℕ)) (halls : ℕ) → ((h : ℕ) → h < halls → get_or counts h 0 ≡ count_at (plan_at m) h i)
-    → get_or m i None ≡ None → (h : ℕ) → h < halls → get_or counts h 0 ≡ count_at (plan_at m) h (i + 1)
-counted_none i counts m halls counted here h below =
-    let sits : plan_at m i ≡ None = plan_at-get_or m i ∙ here in
-    let more = count_at-more (plan_at m) h i in
-    let b : bit (sits_at h (plan_at m i)) ≡ 0 = ap (λ o. bit (sits_at h o)) sits in
-    omega (arith, more, b, counted h below)
+-- a count a hall of the candidates met so far, and one more of them who sits somewhere, or nowhere
+module _ (q : Plan ℕ ℕ) (halls i : ℕ) (counts : List ℕ) (counted : (h : ℕ) → h < halls → get_or counts h 0 ≡ count_at q h i) where
+  pub met_some : (k x : ℕ) → halls ≤ length counts → q i ≡ Some k → x ≡ get_or counts k x → (h : ℕ) → h < halls → get_or (set counts k (x + 1)) h 0 ≡ count_at q h (i + 1)
+  met_some k x long sits = one_counted halls k x counts (λ h. count_at q h i) (λ h. count_at q h (i + 1)) long counted
+      (λ h. count_at-more q h i ∙ ap (λ o. count_at q h i + bit (sits_at h o)) sits)
+
+  pub met_none : q i ≡ None → (h : ℕ) → h < halls → get_or counts h 0 ≡ count_at q h (i + 1)
+  met_none sits h below =
+      let more = count_at-more q h i in
+      let b : bit (sits_at h (q i)) ≡ 0 = ap (λ o. bit (sits_at h o)) sits in
+      omega (arith, more, b, counted h below)
 
 pub is_free : (p : Problem) (m : List (Option ℕ)) (h a d : ℕ) → length m ≡ length p.fit → a ≡ count_at (plan_at m) h (length m) → d ≡ get_or p.desk_counts h 0
     → (nat_lt a d ≡ true) ↔ HasFreeDesk (seating_of p) (plan_at m) h
@@ -93,11 +96,6 @@ place_below m n i k all below here = subst (λ (o : Option ℕ). IfSome o (λ h.
 
 pub length_push : {X : Type 0} (xs : List X) (x : X) (i : ℕ) → length xs ≡ i → length (xs ++ x ∷ []) ≡ i + 1
 length_push xs x i e = let long : length (xs ++ x ∷ []) ≡ length xs + length (x ∷ []) = length-append xs (x ∷ []) in let one : length (x ∷ []) ≡ 1 = refl in omega (arith, long, one, e)
-
-pub same_within : (xs : List ℕ) (i d e : ℕ) → i < length xs → get_or xs i d ≡ get_or xs i e
-same_within [] i d e l = absurd (omega arith)
-same_within (y ∷ ys) zero d e l = refl
-same_within (y ∷ ys) (suc i) d e l = same_within ys i d e (omega arith)
 
 pub places_set : (m : List (Option ℕ)) (n c h : ℕ) → All (λ place. IfSome place (λ k. k < n)) m → h < n → All (λ place. IfSome place (λ k. k < n)) (set m c (Some h))
 places_set m n c h all below = All-set (λ (o : Option ℕ). IfSome o (λ k. k < n)) m c (Some h) below all

@@ -10,11 +10,14 @@
 -- - Problems: the same at indices: lists of desks, fits and ranks, and the plan that a list is
 -- - Naming: a seating by indices beside one by names: the name of each index and the index of each
 --   name; plans and chains by indices read by names, and plans by names read by indices
+-- - HallSets: a set of halls as a number, and its halls below a bound
+-- - DeskOrder: the order in which desks are numbered: used by private functions alone
 -- - Searches: what the searches of the code keep: used by private functions alone
 pub mod Matching
 pub mod Chains
 pub mod Repair
 pub mod HallSets
 pub mod Problems
+pub mod DeskOrder
 pub mod Searches
 pub mod Naming

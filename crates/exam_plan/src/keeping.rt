@@ -2,7 +2,6 @@
 ghost use Rattle.std.specs.Prelude.{◌≡◌, ◌<◌, ℕ, length, All, IfSome};
 ghost use Rattle.exam_plan.specs.Problems.{seating_of, plan_at};
 ghost use Rattle.exam_plan.specs.Repair.{fitting_part, room_part};
-ghost use Rattle.exam_plan.specs.Searches.{count_at};
 
 use crate::problem::Problem;
 
@@ -30,19 +29,6 @@ pub fn put_out_unfit(problem: &Problem, plan: &mut [Option<usize>])
     }
 }
 
-/// How many sit in the hall.
-fn occupants_of(plan: &[Option<usize>], hall: usize) -> usize
-    ensures { result ≡ count_at (plan_at plan.now) hall (length plan.now) }
-{
-    let mut count = 0;
-    for place in plan {
-        if *place == Some(hall) {
-            count += 1;
-        }
-    }
-    count
-}
-
 /// Puts out those with as many lesser candidates in their hall as it has desks.
 pub fn put_out_crowded(problem: &Problem, plan: &mut [Option<usize>])
     requires whole { length plan.old ≡ length problem.now.fit }
@@ -50,10 +36,11 @@ pub fn put_out_crowded(problem: &Problem, plan: &mut [Option<usize>])
     ensures exist { All (λ place. IfSome place (λ h. h < length problem.now.desk_counts)) plan.new }
     ensures kept { (c : ℕ) → plan_at plan.new c ≡ room_part (seating_of problem.now) (plan_at plan.old) c }
 {
-    // from the last candidate down, so that the lesser ones still stand as they were
-    for candidate in (0..plan.len()).rev() {
+    let mut met = problem.no_counts();
+    for candidate in 0..plan.len() {
         if let Some(hall) = plan[candidate] {
-            if problem.desk_count(hall) as usize <= occupants_of(&plan[..candidate], hall) {
+            met[hall] += 1;
+            if (problem.desk_count(hall) as usize) < met[hall] {
                 plan[candidate] = None;
             }
         }

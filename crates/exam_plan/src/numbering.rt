@@ -1,28 +1,27 @@
 //! Desk numbers.
-ghost use Rattle.std.specs.Prelude.{◌≡◌, ◌<◌, ◌≤◌, ℕ, length, map, nat_lt, count_by, IfOk, IfErr};
-ghost use Rattle.std.specs.Prelude.{slice_index};
-ghost use Rattle.exam_plan.specs.Matching.{occupants};
-ghost use Rattle.exam_plan.specs.Problems.{most_members, seating_of, plan_at, desk_numbers as numbers_of};
+ghost use Rattle.std.specs.Prelude.{◌≡◌, ◌<◌, ℕ, length, map, All, IfSome, IfOk, IfErr, IsSorted};
+ghost use Rattle.std.specs.List.{range_with_len};
+ghost use Rattle.std.specs.List.Sorted.{IsPermutation};
+ghost use Rattle.exam_plan.specs.DeskOrder.{behind_rank, rank_cmp};
+ghost use Rattle.exam_plan.specs.Problems.{desk_numbers as numbers_of};
 
 use crate::problem::Problem;
 use exam_types::Refusal;
 use std::alloc::Global;
 
-/// How many in the hall have a rank below this one.
-fn ranked_below(problem: &Problem, plan: &[Option<usize>], hall: usize, rank: u32) -> u32
-    requires whole { length plan.now ≡ length problem.now.fit }
-    requires few { length plan.now ≤ most_members }
-    ensures few { result ≤ length plan.now }
-    ensures count { result ≡ count_by (λ d. nat_lt (slice_index problem.now.rank d) rank)
-        (occupants (seating_of problem.now) (plan_at plan.now) hall) }
+/// The candidates, each behind their rank, in the order of desks.
+fn in_desk_order(alloc: Global, problem: &Problem) -> Result<Vec<(u32, usize)>, Refusal>
+    ensures all { IfOk result (λ order. IsPermutation
+        (map (behind_rank problem.now) (range_with_len 0 (length problem.now.fit))) order.items) }
+    ensures rising { IfOk result (λ order. IsSorted rank_cmp order.items) }
+    ensures memory { IfErr result (λ e. e ≡ Refusal.NoMemory) }
 {
-    let mut count = 0;
-    for (candidate, place) in plan.iter().enumerate() {
-        if *place == Some(hall) && problem.rank(candidate) < rank {
-            count += 1;
-        }
+    let mut order = Vec::with_capacity(alloc, problem.candidate_count())?;
+    for candidate in 0..problem.candidate_count() {
+        order.push((problem.rank(candidate), candidate))?;
     }
-    count
+    order.sort_unstable();
+    Ok(order)
 }
 
 /// The desk number of each candidate who is seated.
@@ -31,17 +30,19 @@ pub fn desk_numbers(
     problem: &Problem,
     plan: &[Option<usize>],
 ) -> Result<Vec<Option<u32>>, Refusal>
-    requires { length plan.now ≡ length problem.now.fit }
+    requires whole { length plan.now ≡ length problem.now.fit }
+    requires exist { All (λ place. IfSome place (λ h. h < length problem.now.desk_counts)) plan.now }
     ensures numbers { IfOk result (λ numbers. numbers.items ≡ numbers_of problem.now plan.now) }
     ensures memory { IfErr result (λ e. e ≡ Refusal.NoMemory) }
 {
-    let mut numbers = Vec::with_capacity(alloc, problem.candidate_count())?;
-    for (candidate, place) in plan.iter().enumerate() {
-        let number = match *place {
-            Some(hall) => Some(ranked_below(problem, plan, hall, problem.rank(candidate)) + 1),
-            None => None,
-        };
-        numbers.push(number)?;
+    let order = in_desk_order(alloc, problem)?;
+    let mut numbers = vec![in alloc; None; problem.candidate_count()]?;
+    let mut taken = problem.no_counts();
+    for (_, candidate) in &order {
+        if let Some(hall) = plan[*candidate] {
+            taken[hall] += 1;
+            numbers[*candidate] = Some(taken[hall] as u32);
+        }
     }
     Ok(numbers)
 }

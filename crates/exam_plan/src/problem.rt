@@ -5,7 +5,7 @@ ghost use Rattle.std.specs.List.{list_any, IsDistinct};
 ghost use Rattle.exam_plan.specs.HallSets.{most_halls, holds, halls_below};
 ghost use Rattle.exam_plan.specs.Problems.{IsProblem, most_members, seating_of};
 
-use crate::hall_set::HallSet;
+use crate::hall_set::{HallSet, MOST_HALLS};
 use exam_types::Refusal;
 use std::alloc::Global;
 use std::marker::Model;
@@ -131,6 +131,15 @@ impl Problem {
         ensures few { length self.now.desk_counts ≤ most_halls }
     {
         self.desk_counts.len()
+    }
+
+    /// A count for each hall, none yet.
+    pub(crate) fn no_counts(&self) -> [usize; MOST_HALLS]
+        ensures none { (h : ℕ) → h < length self.now.desk_counts → slice_index result h ≡ 0 }
+        ensures room { length self.now.desk_counts ≤ length result }
+    {
+        prove!(self.desk_counts.len() <= MOST_HALLS);
+        [0; MOST_HALLS]
     }
 
     /// How many desks the hall has.

@@ -1,8 +1,8 @@
-use Rattle.std.proofs.Common.{rules, ◌≡◌, ◌≤◌, ◌<◌, get_or, arith}
+use Rattle.std.proofs.Common.{rules, ◌≡◌, ◌≤◌, ◌<◌, ◌∙◌, get_or, arith}
 use Rattle.std.proofs.lemmas.List.{length-set}
 use Rattle.exam_plan.specs.Problems.{plan_at}
 use Rattle.exam_plan.specs.Searches.{count_at}
-use Rattle.exam_plan.proofs.Steps.{count_at-le, counted_some, counted_none, place_below, same_within}
+use Rattle.exam_plan.proofs.Steps.{plan_at-get_or, count_at-le, met_some, met_none, place_below, same_within}
 use Rattle.exam_plan.proofs.turns.occupancy.Goals as goal
 use Rattle.exam_plan.proofs.turns.occupancy.Goals.{in-Some, in_default}
 
@@ -19,11 +19,12 @@ pub loop-place-preserved : goal.loop-place-preserved
 loop-place-preserved c = elim c.match-place.branch [
   | in-Some w ↦ record {
     long = rw w.counts-is (simp length-set c.loop-place.invariant.long);
-    counts = rw w.counts-is (counted_some c.args.halls c.loop-place.place-index w.in-Some.hall w.index_mut.result.now c.loop-place.counts.items c.args.plan.now
-        c.loop-place.invariant.long c.loop-place.invariant.counts w.in-Some.is w.index_mut.ensures.value);
+    counts = rw w.counts-is (met_some (plan_at c.args.plan.now) c.args.halls c.loop-place.place-index c.loop-place.counts.items c.loop-place.invariant.counts w.in-Some.hall w.index_mut.result.now
+        (omega (arith, c.loop-place.invariant.long)) (plan_at-get_or c.args.plan.now c.loop-place.place-index ∙ w.in-Some.is) w.index_mut.ensures.value);
   }
   | in_default w ↦ record {
     long = rw w.counts-is c.loop-place.invariant.long;
-    counts = rw w.counts-is (counted_none c.loop-place.place-index c.loop-place.counts.items c.args.plan.now c.args.halls c.loop-place.invariant.counts w.in_default.is);
+    counts = rw w.counts-is (met_none (plan_at c.args.plan.now) c.args.halls c.loop-place.place-index c.loop-place.counts.items c.loop-place.invariant.counts
+        (plan_at-get_or c.args.plan.now c.loop-place.place-index ∙ w.in_default.is));
   }
 ]

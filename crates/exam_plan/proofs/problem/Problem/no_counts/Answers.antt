@@ -1,0 +1,9 @@
+use Rattle.std.proofs.Common.{◌≤◌, length, arith, subst}
+use Rattle.std.proofs.lemmas.List.{get_or-replicate}
+use Rattle.exam_plan.specs.Problems.{Problem}
+use Rattle.exam_plan.proofs.problem.Problem.no_counts.Goals as goal
+
+pub returns-clause-none : goal.returns-clause-none
+returns-clause-none c h below =
+    let few : length c.args.self.now.desk_counts ≤ 128 = subst (λ (p : Problem). length p.desk_counts ≤ 128) c.self.view_is c.self.invariant.few_halls in
+    get_or-replicate 128 h 0 0 (omega (arith, below, few))
