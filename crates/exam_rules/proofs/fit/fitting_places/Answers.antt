@@ -1,4 +1,4 @@
-use Rattle.std.proofs.Common.{◌≡◌, ℕ, List, map, is_some, true, false, length, Option, ap, pow_pos, ◌∙◌, arith}
+use Rattle.std.proofs.Common.{◌≡◌, map, is_some, true, false, length, Option, ap, pow_pos, ◌∙◌, arith}
 use Rattle.exam_rules.specs.declared.fit.Room.{Room}
 use Rattle.exam_rules.specs.Relations.{Code, relations_of}
 use Rattle.exam_rules.specs.Sessions.{has_live_entry, barred_halls}
