@@ -4,6 +4,7 @@ use Rattle.std.specs.Map.{keys_of, remove_entry}
 use Rattle.std.specs.BTreeMap.{is_at}
 use Rattle.std.proofs.lemmas.Bool.{and_parts, le-leb, leb-true}
 use Rattle.std.proofs.lemmas.List.{length-map}
+use Rattle.exam_plan.specs.HallSets.{most_halls}
 use Rattle.exam_rules.specs.declared.rows.Opening.{Opening}
 use Rattle.exam_rules.specs.Relations.{Code, Relations, same_code, opening_cmp, remove_row}
 use Rattle.exam_rules.specs.Seatings.{open_halls}
@@ -43,8 +44,8 @@ module _ (r : Relations) (s : Code) (h : Code) where
 
   openings_still_within : openings_within r ≡ true → openings_within (without_opening r s h) ≡ true
   openings_still_within within =
-      all_more (λ t. nat_le (length (open_halls r t)) 128) (λ t. nat_le (length (open_halls (without_opening r s h) t)) 128) (keys_of r.sessions)
-      (λ t most. let few = leb-true (length (open_halls r t)) 128 most in let fewer = halls_fewer t in le-leb (length (open_halls (without_opening r s h) t)) 128 (omega (arith, few, fewer)))
+      all_more (λ t. nat_le (length (open_halls r t)) most_halls) (λ t. nat_le (length (open_halls (without_opening r s h) t)) most_halls) (keys_of r.sessions)
+      (λ t most. let few = leb-true (length (open_halls r t)) most_halls most in let fewer = halls_fewer t in le-leb (length (open_halls (without_opening r s h) t)) most_halls (omega (arith, few, fewer)))
       within
 
   -- it passes no limit

@@ -9,7 +9,7 @@ use Rattle.std.proofs.lemmas.Bool.{and_parts, and_from, and_right, eqb-true, ne_
 use Rattle.std.proofs.lemmas.List.Sums.{length-filter}
 use Rattle.exam_plan.specs.Matching.{Plan, IsLawful, Keeps, is_hall, occupants}
 use Rattle.exam_plan.specs.Repair.{is_member as is_member_of, where_fitting, fitting_part, lesser_occupants, where_room, kept_part, IsRepair}
-use Rattle.exam_plan.proofs.LawLemmas.{listed_in}
+use Rattle.exam_plan.proofs.Rising.{listed_in}
 use Rattle.exam_rules.specs.Relations.{Code, Relations, same_code}
 use Rattle.exam_rules.specs.Sessions.{members, has_live_entry}
 use Rattle.exam_rules.specs.Seatings.{seating, fits, desks}

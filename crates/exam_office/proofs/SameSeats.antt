@@ -11,10 +11,11 @@ use Rattle.std.specs.Ordering.{nat_cmp}
 use Rattle.std.proofs.lemmas.Bool.{and_parts, leb-true}
 use Rattle.std.proofs.lemmas.Bool.Decides.{Decides-and, Decides-eqb}
 use Rattle.std.proofs.lemmas.Map.Lookups.{CmpEqualImpliesEq, exact_pairs, exact_bytes, exact_unsigned, btree_map_from_get}
+use Rattle.exam_plan.specs.HallSets.{most_halls}
 use Rattle.exam_plan.specs.Problems.{most_members}
 use Rattle.exam_rules.specs.Relations.{Code, Relations, same_code, code_cmp, seat_cmp, has_row}
 use Rattle.exam_rules.specs.Sessions.{members}
-use Rattle.exam_rules.specs.Seatings.{plan_of}
+use Rattle.exam_rules.specs.Seatings.{plan_of, open_halls}
 use Rattle.exam_rules.proofs.Naming.{same_code_exact, same_code_itself}
 use Rattle.exam_office.specs.Limits.{within_limits, sessions_within, papers_within, halls_within, openings_within, candidates_within, members_within, appeals_within}
 use Rattle.exam_office.proofs.AllSessions.{known_among}
@@ -49,15 +50,32 @@ pub few_within : (r : Relations) → IsTrue (members_within r) → (s : Code) �
 few_within r within s known =
     leb-true (length (members r s)) most_members (all_at (λ t. nat_le (length (members r t)) most_members) (keys_of r.sessions) s within (sym (known_among s r.sessions) ∙ known))
 
-pub within_members : (r : Relations) → IsTrue (within_limits r) → IsTrue (members_within r)
-within_members r limits =
-    let from_members = members_within r && appeals_within r in
-    let from_openings = openings_within r && (candidates_within r && from_members) in
-    let past_sessions = and_parts (sessions_within r) (papers_within r && (halls_within r && from_openings)) limits in
-    let past_halls = and_parts (halls_within r) from_openings (and_parts (papers_within r) (halls_within r && from_openings) past_sessions.1).1 in
-    let past_openings = and_parts (openings_within r) (candidates_within r && from_members) past_halls.1 in
-    (and_parts (members_within r) (appeals_within r) (and_parts (candidates_within r) from_members past_openings.1).1).0
+-- within its limit no session has too many open halls
+pub few_halls_within : (r : Relations) → IsTrue (openings_within r) → (s : Code) → IsTrue (has_row code_cmp r.sessions s) → length (open_halls r s) ≤ most_halls
+few_halls_within r within s known =
+    leb-true (length (open_halls r s)) most_halls (all_at (λ t. nat_le (length (open_halls r t)) most_halls) (keys_of r.sessions) s within (sym (known_among s r.sessions) ∙ known))
 
--- within all limits too
-pub few_members : (r : Relations) → IsTrue (within_limits r) → (s : Code) → IsTrue (has_row code_cmp r.sessions s) → length (members r s) ≤ most_members
-few_members r limits = few_within r (within_members r limits)
+-- the limits of openings and of members are among all limits
+module _ (r : Relations) (limits : IsTrue (within_limits r)) where
+  abbrev from_members : Bool
+  from_members = members_within r && appeals_within r
+
+  past_halls : IsTrue (openings_within r) × IsTrue (candidates_within r && from_members)
+  past_halls =
+      let from_openings = openings_within r && (candidates_within r && from_members) in
+      let past_sessions = and_parts (sessions_within r) (papers_within r && (halls_within r && from_openings)) limits in
+      let past_papers = and_parts (papers_within r) (halls_within r && from_openings) past_sessions.1 in
+      and_parts (openings_within r) (candidates_within r && from_members) (and_parts (halls_within r) from_openings past_papers.1).1
+
+  pub within_openings : IsTrue (openings_within r)
+  within_openings = past_halls.0
+
+  pub within_members : IsTrue (members_within r)
+  within_members = (and_parts (members_within r) (appeals_within r) (and_parts (candidates_within r) from_members past_halls.1).1).0
+
+  -- within all limits too
+  pub few_members : (s : Code) → IsTrue (has_row code_cmp r.sessions s) → length (members r s) ≤ most_members
+  few_members = few_within r within_members
+
+  pub few_halls : (s : Code) → IsTrue (has_row code_cmp r.sessions s) → length (open_halls r s) ≤ most_halls
+  few_halls = few_halls_within r within_openings

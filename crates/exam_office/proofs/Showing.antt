@@ -11,6 +11,7 @@ use Rattle.std.proofs.lemmas.List.FromFn.{length-range_with_len, get_or-range_wi
 use Rattle.exam_types.specs.declared.refusal.Refusal.{Refusal}
 use Rattle.exam_types.specs.declared.refusal.Refusal.TheVariants.{NoMemory, TooMany}
 use Rattle.exam_plan.specs.Matching.{IsBest, IsCertificate, IsContested, desk_number, unseated}
+use Rattle.exam_plan.specs.HallSets.{most_halls}
 use Rattle.exam_plan.specs.Problems.{most_members, Problem, IsProblem, IsPlan, seating_of, plan_at, ranks_before, desk_numbers}
 use Rattle.exam_plan.proofs.Contested.{some_certificate}
 use Rattle.exam_plan.proofs.Steps.{plan_at-get_or}
@@ -19,7 +20,7 @@ use Rattle.exam_rules.specs.declared.rows.Candidate.{Candidate}
 use Rattle.exam_rules.specs.declared.rows.Opening.{Opening}
 use Rattle.exam_rules.specs.Relations.{Code, Relations, code_cmp, same_code, row_at}
 use Rattle.exam_rules.specs.Sessions.{members, sitting, finish, clashes}
-use Rattle.exam_rules.specs.Seatings.{indexed_seating, seating, problem_of, plan_of, open_halls, desks, fitting_places, stands_before}
+use Rattle.exam_rules.specs.Seatings.{indexed_seating, seating, problem_of, plan_of, open_halls, desks, fitting_places, stands_before, IsTooLarge}
 use Rattle.exam_rules.specs.Names.{naming, ListsRise, number_at, hall_at, index_of, named_plan, indexed_plan}
 use Rattle.exam_rules.proofs.Naming.{renames, order_same, numbers_rise, codes_rise, fit_open, index_known}
 use Rattle.exam_rules.proofs.Ranking.{is_problem}
@@ -40,10 +41,10 @@ pub on_err : {T E : Type 0} (result : Result T E) (P Q : E → Type 0) → ((e :
 on_err (Ok x) P Q f h = tt
 on_err (Err e) P Q f h = f e h
 
--- the refusals of a problem of which the lists are known, where the session has few members
-pub memory_alone : (r : Relations) (s : Code) → length (members r s) ≤ most_members → (e : Refusal) → (e ≡ NoMemory) ⊎ ((e ≡ TooMany) × (most_members < length (members r s))) → e ≡ NoMemory
-memory_alone r s few e (inl memory) = memory
-memory_alone r s few e (inr many) = absurd (omega (arith, many.1))
+-- the refusals of a problem of which the lists are known, where the session has few members and open halls
+pub memory_alone : (r : Relations) (s : Code) → length (members r s) ≤ most_members → length (open_halls r s) ≤ most_halls → (e : Refusal) → (e ≡ NoMemory) ⊎ ((e ≡ TooMany) × IsTooLarge r s) → e ≡ NoMemory
+memory_alone r s few few_halls e (inl memory) = memory
+memory_alone r s few few_halls e (inr many) = absurd (elim many.1 [ inl more ↦ omega arith | inr more ↦ omega arith ])
 
 -- ---- lists of members
 

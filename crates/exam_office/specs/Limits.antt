@@ -2,6 +2,7 @@
 use Rattle.std.specs.Prelude.{◌&&◌, nat_le, Bool, length}
 use Rattle.std.specs.List.{list_all}
 use Rattle.std.specs.Map.{keys_of}
+use Rattle.exam_plan.specs.HallSets.{most_halls}
 use Rattle.exam_plan.specs.Problems.{most_members}
 use Rattle.exam_rules.specs.Relations.{Relations}
 use Rattle.exam_rules.specs.Sessions.{members, appeal_count}
@@ -18,7 +19,7 @@ halls_within r = nat_le (length r.halls) 500
 
 -- of each session
 abbrev pub openings_within : Relations → Bool
-openings_within r = list_all (λ s. nat_le (length (open_halls r s)) 128) (keys_of r.sessions)
+openings_within r = list_all (λ s. nat_le (length (open_halls r s)) most_halls) (keys_of r.sessions)
 
 abbrev pub candidates_within : Relations → Bool
 candidates_within r = nat_le (length r.candidates) 20000

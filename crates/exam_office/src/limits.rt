@@ -13,7 +13,7 @@ const MOST_PAPERS: usize = 2_000;
 
 const MOST_HALLS: usize = 500;
 /// In a session.
-const MOST_OPENINGS: usize = 128;
+const MOST_OPENINGS: usize = exam_plan::MOST_HALLS;
 
 const MOST_CANDIDATES: usize = 20_000;
 /// Of a candidate.

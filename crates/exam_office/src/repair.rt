@@ -3,6 +3,7 @@ ghost use Rattle.std.specs.Prelude.{◌≡◌, ◌<◌, ◌≤◌, ◌&&◌, nat
 ghost use Rattle.std.specs.Option.{option_map, option_and_then, option_or};
 ghost use Rattle.exam_types.specs.declared.refusal.Refusal.TheVariants.{NoMemory};
 ghost use Rattle.exam_plan.specs.Matching.{Plan, SamePlan, IsBest};
+ghost use Rattle.exam_plan.specs.HallSets.{most_halls};
 ghost use Rattle.exam_plan.specs.Problems.{IsPlan, most_members, seating_of, plan_at};
 ghost use Rattle.exam_plan.specs.Repair.{IsRepair};
 ghost use Rattle.exam_rules.specs.Relations.{Code, Relations, relations_of, code_cmp, has_row, same_code};
@@ -31,6 +32,8 @@ pub fn repaired(
     requires lists { AreListsOf (relations_of facts.now) lists.now }
     requires few { (s : Code) → IsTrue (has_row code_cmp facts.now.sessions.entries s)
         → length (members (relations_of facts.now) s) ≤ most_members }
+    requires few_halls { (s : Code) → IsTrue (has_row code_cmp facts.now.sessions.entries s)
+        → length (open_halls (relations_of facts.now) s) ≤ most_halls }
     ensures ok { IfOk result (λ new. (s : Code)
         → IsRepaired (relations_of facts.now) first seats.now.entries new.entries s) }
     ensures memory { IfErr result (λ e. e ≡ NoMemory) }
@@ -54,6 +57,7 @@ fn repair_session(
 ) -> Result<(), Refusal>
     requires lists { AreListsOf (relations_of facts.now) lists.now }
     requires few { length (members (relations_of facts.now) session.now) ≤ most_members }
+    requires few_halls { length (open_halls (relations_of facts.now) session.now) ≤ most_halls }
     requires fresh { (c : ℕ) → plan_of repaired.old.entries session.now c ≡ None }
     ensures ok { OnOk result (IsRepaired
         (relations_of facts.now) first.now seats.now.entries repaired.new.entries session.now) }

@@ -72,6 +72,7 @@ fn first_bad_of_imports(facts: &Facts, lists: &SessionLists) -> Option<Table>
         (table.Sessions ∷ table.Papers ∷ table.Halls ∷ table.Openings ∷ table.Candidates ∷ table.Entries
         ∷ table.Arrangements ∷ []) result }
     ensures few { result ≡ None → IsTrue (spec.members_within (relations_of facts.now)) }
+    ensures few_halls { result ≡ None → IsTrue (spec.openings_within (relations_of facts.now)) }
 {
     if !limits::are_sessions_within(facts) {
         return Some(Table::Sessions);
@@ -106,6 +107,7 @@ fn first_bad_of_others(
 ) -> Result<Option<Table>, Refusal>
     requires lists { AreListsOf (relations_of facts.now) lists.now }
     requires few { IsTrue (spec.members_within (relations_of facts.now)) }
+    requires few_halls { IsTrue (spec.openings_within (relations_of facts.now)) }
     ensures ok { IfOk result (λ found. good.IsFirstBadOf
         (record { relations = relations_of facts.now; seats = seats.now.entries })
         (table.Appeals ∷ table.Seats ∷ []) found) }
@@ -163,6 +165,7 @@ fn are_seats_good(
 ) -> Result<bool, Refusal>
     requires lists { AreListsOf (relations_of facts.now) lists.now }
     requires few { IsTrue (spec.members_within (relations_of facts.now)) }
+    requires few_halls { IsTrue (spec.openings_within (relations_of facts.now)) }
     ensures ok { IfOk result (λ b. Decides b ((s : Code)
         → IsBest (seating (relations_of facts.now) s) (plan_of seats.now.entries s))) }
     ensures memory { IfErr result (λ e. e ≡ NoMemory) }

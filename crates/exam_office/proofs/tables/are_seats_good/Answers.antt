@@ -3,12 +3,15 @@ use Rattle.std.proofs.Math.Path.{fun_ext}
 use Rattle.exam_plan.specs.Matching.{IsBest}
 use Rattle.exam_rules.specs.Relations.{relations_of}
 use Rattle.exam_rules.specs.Seatings.{seating, plan_of}
-use Rattle.exam_office.proofs.SameSeats.{few_within}
+use Rattle.exam_office.proofs.SameSeats.{few_within, few_halls_within}
 use Rattle.exam_office.proofs.Staying.{best_stays}
 use Rattle.exam_office.proofs.tables.are_seats_good.Goals as goal
 
 pub repaired-requires-clause-few : goal.repaired-requires-clause-few
 repaired-requires-clause-few c = few_within (relations_of c.args.facts.now) c.requires.few
+
+pub repaired-requires-clause-few_halls : goal.repaired-requires-clause-few_halls
+repaired-requires-clause-few_halls c = few_halls_within (relations_of c.args.facts.now) c.requires.few_halls
 
 pub returns-clause-ok : goal.returns-clause-ok
 returns-clause-ok c = (
