@@ -1,5 +1,5 @@
 -- The small problems of the tests meet the conditions of a problem.
-use Rattle.std.proofs.Common.{◌≡◌, ℕ, zero, suc, ◌+◌, ◌<◌, ◌≤◌, Bool, false, List, [], ◌∷◌, ◌++◌, length, map, nat_eq, sym, ap, ◌∙◌, subst, arith, Vec, Global}
+use Rattle.std.proofs.Common.{◌≡◌, ℕ, zero, suc, ◌+◌, ◌<◌, ◌≤◌, Bool, false, List, [], ◌∷◌, ◌++◌, length, map, nat_eq, sym, ap, ◌∙◌, subst, arith, Vec, Global, Result, Ok, Err, IfOk}
 use Rattle.std.specs.Prelude.{All, filter}
 use Rattle.std.specs.List.{range_with_len, AllByRecursion, IsDistinct}
 use Rattle.std.specs.List.Sorted.{IsStrictlySortedBy}
@@ -20,6 +20,9 @@ range_distinct : (a n : ℕ) → IsDistinct nat_eq (range_with_len a n)
 unfolding IsDistinct
 range_distinct a zero = tt
 range_distinct a (suc n) = (apart a (a + 1) n (omega arith), range_distinct (a + 1) n)
+
+pub ranks_distinct : (ranks : List ℕ) (n : ℕ) → ranks ≡ range_with_len 0 n → IsDistinct nat_eq ranks
+ranks_distinct ranks n e = subst (IsDistinct nat_eq) (sym e) (range_distinct 0 n)
 
 pub ranks_more : (ranks : List ℕ) (i : ℕ) → ranks ≡ range_with_len 0 i → ranks ++ i ∷ [] ≡ range_with_len 0 (i + 1)
 ranks_more ranks i e = ap (λ rs. rs ++ i ∷ []) e ∙ sym (range_next i)
@@ -42,8 +45,12 @@ tiny_problem desks rows ranks n three count few ranked rising exist =
     record {
       few = omega (arith, mapped, count, few);
       ranked = omega (arith, mapped, count, many);
-      distinct = subst (IsDistinct nat_eq) (sym ranked) (range_distinct 0 n);
+      distinct = ranks_distinct ranks n ranked;
       rising = All-map (IsStrictlySortedBy nat_cmp) (λ (row : Vec ℕ Global). row.items) rows rising;
       exist = All-map (λ hs. All (λ h. h < length desks) hs) (λ (row : Vec ℕ Global). row.items) rows
           (λ k d l j e m. (let x = exist k d l j e m in omega (arith, x, three)));
     }
+
+pub if_ok : {T E : Type 0} (result : Result T E) (P Q : T → Type 0) → ((x : T) → P x → Q x) → IfOk result P → IfOk result Q
+if_ok (Ok x) P Q f h = f x h
+if_ok (Err e) P Q f h = tt

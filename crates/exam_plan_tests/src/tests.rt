@@ -1,8 +1,9 @@
 //! Worked examples, and a plain slow program that tries every plan of every tiny problem.
-ghost use Rattle.std.specs.Prelude.{◌≡◌, ◌<◌, ◌≤◌, ℕ, false, length, All, IfOk, filter, slice_index_or};
+ghost use Rattle.std.specs.Prelude.{◌≡◌, ◌<◌, ◌≤◌, ◌^◌, ℕ, false, length, All, IfOk, filter, slice_index_or};
 ghost use Rattle.std.specs.List.{range_with_len};
 ghost use Rattle.std.specs.List.Sorted.{IsStrictlySortedBy};
 ghost use Rattle.std.specs.Ordering.{nat_cmp};
+ghost use Rattle.exam_plan.specs.HallSets.{most_halls};
 ghost use Rattle.exam_plan.specs.Matching.{IsBest};
 ghost use Rattle.exam_plan.specs.Problems.{IsPlan, most_members, seating_of, plan_at};
 
@@ -66,6 +67,25 @@ fn problem_of(alloc: Global, desks: [u32; 3], fits: &[[bool; 3]]) -> Result<Prob
     )
 }
 
+/// A problem with a desk in each of so many halls.
+fn masked_problem(alloc: Global, halls: usize, masks: &[u128]) -> Result<Problem, Refusal>
+    requires few_halls { halls ≤ most_halls }
+    requires few { length masks.now ≤ most_members }
+    requires exist { All (λ mask. mask < 2 ^ halls) masks.now }
+    ensures count { IfOk result (λ p. length p.fit ≡ length masks.now) }
+{
+    let desks = vec![in alloc; 1u32; halls]?;
+    let rows = Vec::from_slice(alloc, masks)?;
+    let ranks = ranks_of(alloc, masks.len())?;
+    Problem::from_masks(alloc, desks, rows, ranks)
+}
+
+/// What a sweep makes of nothing: the plan, and the dead halls.
+fn swept_dead(alloc: Global, problem: &Problem) -> Result<(Plan, Vec<usize>), Refusal> {
+    let nobody = vec![in alloc; None; problem.candidate_count()]?;
+    sweep_dead(alloc, problem, keep_lawful(problem, nobody)?, None)
+}
+
 /// The plan that a sweep makes of nothing.
 fn swept(alloc: Global, problem: &Problem) -> Result<Plan, Refusal>
     ensures plan { IfOk result (λ plan. IsPlan problem.now plan.items) }
@@ -85,8 +105,8 @@ fn third_candidate_is_short_of_a_desk(rt: HostRuntime) -> Result<(), Fail> {
     let problem = problem_of(rt.alloc(), [1, 1, 0], &fits)?;
     let plan = swept(rt.alloc(), &problem)?;
     assert_eq!(rt; plan.as_slice(), [Some(1), Some(0), None].as_slice());
-    let nobody = vec![in rt.alloc(); None; problem.candidate_count()]?;
-    let (_, dead) = sweep_dead(rt.alloc(), &problem, keep_lawful(&problem, nobody)?, None)?;
+    let (same, dead) = swept_dead(rt.alloc(), &problem)?;
+    assert_eq!(rt; same.as_slice(), plan.as_slice());
     assert_eq!(rt; dead.as_slice(), [0, 1].as_slice());
     let short = shortage(rt.alloc(), &problem, &plan)?;
     assert_eq!(rt; short.unseated, 1);
@@ -106,9 +126,7 @@ fn dead_halls_are_listed_once(rt: HostRuntime) -> Result<(), Fail> {
         [YES, YES, NO],
     ];
     let problem = problem_of(rt.alloc(), [1, 1, 0], &fits)?;
-    let nobody = vec![in rt.alloc(); None; problem.candidate_count()]?;
-    let start = keep_lawful(&problem, nobody)?;
-    let (plan, dead) = sweep_dead(rt.alloc(), &problem, start, None)?;
+    let (plan, dead) = swept_dead(rt.alloc(), &problem)?;
     assert_eq!(rt; plan.as_slice(), [Some(1), Some(0), None, None].as_slice());
     assert_eq!(rt; dead.as_slice(), [0, 1].as_slice());
     Ok(())
@@ -150,6 +168,43 @@ fn least_of_two_short_chains_is_taken(rt: HostRuntime) -> Result<(), Fail> {
     let problem = problem_of(rt.alloc(), [1, 1, 1], &fits)?;
     let plan = swept(rt.alloc(), &problem)?;
     assert_eq!(rt; plan.as_slice(), [Some(2), Some(1), Some(0)].as_slice());
+    Ok(())
+}
+
+#[test]
+fn first_and_last_hall_are_told_apart(rt: HostRuntime) -> Result<(), Fail> {
+    let last = 1u128 << 127;
+    let problem = masked_problem(rt.alloc(), 128, [last, last | 1, 1, last].as_slice())?;
+    let first_row = problem.fitting(1);
+    assert!(rt; first_row.contains(0) && first_row.contains(127));
+    assert!(rt; !first_row.contains(1) && !first_row.contains(126) && !first_row.contains(128));
+    let (plan, dead) = swept_dead(rt.alloc(), &problem)?;
+    assert_eq!(rt;
+        plan.as_slice(),
+        [Some(127), Some(0), None, None].as_slice()
+    );
+    assert_eq!(rt; dead.as_slice(), [0, 127].as_slice());
+    let short = shortage(rt.alloc(), &problem, &swept(rt.alloc(), &problem)?)?;
+    assert_eq!(rt; short.unseated, 2);
+    assert_eq!(rt; short.halls.as_slice(), [0, 127].as_slice());
+    assert_eq!(rt; short.candidates.as_slice(), [0, 1, 2, 3].as_slice());
+    Ok(())
+}
+
+#[test]
+fn no_hall_and_no_candidate(rt: HostRuntime) -> Result<(), Fail> {
+    let nowhere = masked_problem(rt.alloc(), 0, [0u128, 0].as_slice())?;
+    let (plan, dead) = swept_dead(rt.alloc(), &nowhere)?;
+    assert_eq!(rt; plan.as_slice(), [None, None].as_slice());
+    assert_eq!(rt; dead.len(), 0);
+    let short = shortage(rt.alloc(), &nowhere, &swept(rt.alloc(), &nowhere)?)?;
+    assert_eq!(rt; short.halls.len(), 0);
+    assert_eq!(rt; short.candidates.as_slice(), [0, 1].as_slice());
+
+    let empty = masked_problem(rt.alloc(), 2, [].as_slice())?;
+    let (plan, dead) = swept_dead(rt.alloc(), &empty)?;
+    assert_eq!(rt; plan.len(), 0);
+    assert_eq!(rt; dead.len(), 0);
     Ok(())
 }
 
@@ -205,13 +260,39 @@ fn tried(desks: &[u32; 3], fits: &[[bool; 3]; 3]) -> (usize, [bool; 3]) {
     (most, left_out)
 }
 
+/// Whether the dead halls are those that fit a candidate whom some best plan of the candidates so far leaves out,
+/// once the first has had a turn, then the second, then the third: each turn's new halls rising.
+fn are_dead(desks: &[u32; 3], fits: &[[bool; 3]; 3], dead: &[usize]) -> bool {
+    let mut so_far = [[false; 3]; 3];
+    let mut known = [false; 3];
+    let mut found = 0;
+    for turn in 0..3usize {
+        so_far[turn] = fits[turn];
+        let (_, left_out) = tried(desks, &so_far);
+        for hall in 0..3usize {
+            let is_short = (0..3usize).any(|candidate| left_out[candidate]
+                && so_far[candidate][hall]);
+            if is_short && !known[hall] {
+                if dead.get(found) != Some(&hall) {
+                    return false;
+                }
+                known[hall] = true;
+                found += 1;
+            }
+        }
+    }
+    dead.len() == found
+}
+
 fn agrees(alloc: Global, desks: [u32; 3], fits: &[[bool; 3]; 3]) -> Result<bool, Refusal> {
     let (most, left_out) = tried(&desks, fits);
     let problem = problem_of(alloc, desks, fits.as_slice())?;
     let plan = swept(alloc, &problem)?;
+    let (same_plan, dead) = swept_dead(alloc, &problem)?;
     let short = shortage(alloc, &problem, &plan)?;
     let seated = plan.iter().filter(|place| place.is_some()).count();
     let mut same = seated == most && short.unseated <= 3 && 3 - short.unseated == most;
+    same &= same_plan == plan && are_dead(&desks, fits, dead.as_slice());
     for candidate in 0..3usize {
         same &= short.candidates.as_slice().contains(&candidate) == left_out[candidate];
     }
