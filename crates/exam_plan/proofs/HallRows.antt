@@ -30,7 +30,8 @@ row_within desks rows rank c set h are below read held =
 
 -- ---- rows that come as masks
 
-within_masks : (n : ℕ) (rows : List ℕ) → All (λ mask. mask < 2 ^ n) rows → All (λ row. (h : ℕ) → holds row h ≡ true → h < n) rows
+-- a mask below a power of two has no hall past it
+pub within_masks : (n : ℕ) (rows : List ℕ) → All (λ mask. mask < 2 ^ n) rows → All (λ row. (h : ℕ) → holds row h ≡ true → h < n) rows
 within_masks n rows all = All-from_get_or (λ row. (h : ℕ) → holds row h ≡ true → h < n) rows 0 (λ i l h held. elim (cases_lt h n) [
   | inl k ↦ k
   | inr g ↦ absurd (let f = holds_past n (get_or rows i 0) h (All-get_or (λ mask. mask < 2 ^ n) rows i 0 l all) g in let z : false ≡ true = sym f ∙ held in cc)
@@ -44,7 +45,7 @@ rows_exist : (n : ℕ) (rows : List ℕ) → All (All (λ h. h < n)) (map (halls
 rows_exist n rows = All-from_get_or (λ hs. All (λ h. h < n) hs) (map (halls_below n) rows) [] (λ i l. let long : length (map (halls_below n) rows) ≡ length rows = length-map rows (halls_below n) in
     subst (λ hs. All (λ h. h < n) hs) (sym (get_or-map (halls_below n) rows i 0 [] (omega arith))) (All-filter (holds (get_or rows i 0)) (λ h. h < n) (range_with_len 0 n) (range_below n)))
 
-pub are_masks : (desks rows rank : List ℕ) → length desks ≤ most_halls → length rows ≤ most_members → length rank ≡ length rows → IsDistinct nat_eq rank → All (λ mask. mask < 2 ^ length desks) rows → AreMasks desks rows rank
+pub are_masks : (desks rows rank : List ℕ) → length desks ≤ most_halls → length rows ≤ most_members → length rank ≡ length rows → IsDistinct nat_eq rank → All (λ row. (h : ℕ) → holds row h ≡ true → h < length desks) rows → AreMasks desks rows rank
 are_masks desks rows rank few_halls few ranked distinct exist =
     let long : length (map (halls_below (length desks)) rows) ≡ length rows = length-map rows (halls_below (length desks)) in
     record {
@@ -56,7 +57,7 @@ are_masks desks rows rank few_halls few ranked distinct exist =
         exist = rows_exist (length desks) rows;
       };
       few_halls = few_halls;
-      within = within_masks (length desks) rows exist;
+      within = exist;
     }
 
 -- ---- rows that come as lists

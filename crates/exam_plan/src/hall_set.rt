@@ -7,10 +7,13 @@ use std::marker::Model;
 /// The most halls that a set tells apart, and so the most halls of a problem.
 pub const MOST_HALLS: usize = 128;
 
+/// The bits of a set of halls: hall h is in it where bit h is 1.
+pub type Mask = u128;
+
 /// A set of halls.
 #[derive(Clone, Copy)]
 pub struct HallSet {
-    bits: u128,
+    bits: Mask,
 }
 
 impl Model for HallSet {
@@ -34,10 +37,17 @@ impl HallSet {
     }
 
     /// The set of the halls whose bits are 1.
-    pub fn of_mask(mask: u128) -> HallSet
+    pub fn of_mask(mask: Mask) -> HallSet
         ensures { result ≡ mask }
     {
         HallSet { bits: mask }
+    }
+
+    /// The bits of the set.
+    pub fn mask(self) -> Mask
+        ensures { result ≡ self }
+    {
+        self.bits
     }
 
     /// Whether the hall is in the set.

@@ -14,7 +14,7 @@ mod report;
 mod turns;
 
 pub use calls::{desks, keep_lawful, shortage, sweep, sweep_dead};
-pub use hall_set::{HallSet, MOST_HALLS};
+pub use hall_set::{HallSet, MOST_HALLS, Mask};
 pub use laws::{
     best_plan_is_its_repair, best_sizes_agree, certificate_shows_best, contested_are_a_certificate,
     desk_number_is_within_the_hall, desk_numbers_are_distinct, least_chain_is_one,

@@ -1,11 +1,11 @@
 //! The seating problem of a session, by indices.
-ghost use Rattle.std.specs.Prelude.{◌≡◌, ℕ, ◌<◌, ◌≤◌, ◌^◌, length, map, nat_eq, All, IsTrue, IfOk, IfErr};
+ghost use Rattle.std.specs.Prelude.{◌≡◌, ℕ, ◌<◌, ◌≤◌, length, map, nat_eq, All, IsTrue, IfOk, IfErr};
 ghost use Rattle.std.specs.Prelude.{slice_index};
 ghost use Rattle.std.specs.List.{list_any, IsDistinct};
 ghost use Rattle.exam_plan.specs.HallSets.{most_halls, holds, halls_below};
 ghost use Rattle.exam_plan.specs.Problems.{IsProblem, most_members, seating_of};
 
-use crate::hall_set::{HallSet, MOST_HALLS};
+use crate::hall_set::{HallSet, MOST_HALLS, Mask};
 use exam_types::Refusal;
 use std::alloc::Global;
 use std::marker::Model;
@@ -91,14 +91,14 @@ impl Problem {
     pub fn from_masks(
         alloc: Global,
         desks: Vec<u32>,
-        fit: Vec<u128>,
+        fit: Vec<Mask>,
         rank: Vec<u32>,
     ) -> Result<Problem, Refusal>
         requires few_halls { length desks.items ≤ most_halls }
         requires few { length fit.items ≤ most_members }
         requires ranked { length rank.items ≡ length fit.items }
         requires distinct { IsDistinct nat_eq rank.items }
-        requires exist { All (λ mask. mask < 2 ^ length desks.items) fit.items }
+        requires exist { All (λ mask. (h : ℕ) → IsTrue (holds mask h) → h < length desks.items) fit.items }
         ensures problem { IfOk result (λ p. p ≡ record {
           desk_counts = desks.items;
           fit = map (halls_below (length desks.items)) fit.items;

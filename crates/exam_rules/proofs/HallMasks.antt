@@ -1,14 +1,11 @@
--- The places of halls, kept as the bits of a number.
-use Rattle.std.proofs.Common.{◌≡◌, ℕ, zero, suc, ◌+◌, ◌*◌, ◌%◌, ◌<◌, ◌≤◌, ◌^◌, Bool, true, false, cond, ◌||◌, List, [], ◌∷◌, ◌++◌, length, map, get_or, drop, drop-cons, append_assoc, append-nil, add-one, nat_eq, bit_or, pow-suc, refl, sym, ap, ◌∙◌, subst, arith}
+-- The places of halls, kept as sets.
+use Rattle.std.proofs.Common.{◌≡◌, ℕ, zero, suc, ◌+◌, ◌<◌, ◌≤◌, Bool, true, false, cond, ◌||◌, List, [], ◌∷◌, ◌++◌, length, map, get_or, drop, drop-cons, append_assoc, append-nil, add-one, nat_eq, refl, sym, ap, ◌∙◌, inl, inr, arith}
 use Rattle.std.specs.Prelude.{All, filter}
 use Rattle.std.specs.List.{range_with_len}
-use Rattle.std.specs.Int.Bits.{or_lt}
-use Rattle.std.proofs.lemmas.Nat.{one_shl}
-use Rattle.std.proofs.lemmas.Bool.{ne_eqb, eq-eqb}
+use Rattle.std.proofs.lemmas.Bool.{cases_Bool, or_cases, ne_eqb, eq-eqb, eqb-true}
 use Rattle.std.proofs.lemmas.List.{drop_all, map-append}
 use Rattle.std.proofs.lemmas.List.Elements.{All-push}
-use Rattle.exam_plan.specs.HallSets.{most_halls, holds, halls_below}
-use Rattle.exam_plan.proofs.HallBits.{holds_empty, holds_past, holds_with}
+use Rattle.exam_plan.specs.HallSets.{holds, halls_below}
 use Rattle.exam_plan.proofs.Rising.{next_filter}
 use Rattle.exam_rules.specs.Seatings.{positions}
 use Rattle.exam_rules.proofs.Ranking.{map_step, map_end}
@@ -21,10 +18,10 @@ same_below P Q (suc n) same =
     ∙ ap (λ t. t ++ cond (Q n) (n ∷ []) []) (same_below P Q n (λ h l. same h (omega arith)))
     ∙ sym (next_filter Q n (Q n) refl)
 
--- no place is at a bit of 0
-pub no_places : (n : ℕ) → halls_below n 0 ≡ []
-no_places zero = refl
-no_places (suc n) = next_filter (holds 0) n false (holds_empty n) ∙ ap (λ t. t ++ []) (no_places n)
+-- no place is in a set of none
+pub no_places : (n mask : ℕ) → ((h : ℕ) → holds mask h ≡ false) → halls_below n mask ≡ []
+no_places zero mask none = refl
+no_places (suc n) mask none = next_filter (holds mask) n false (none n) ∙ ap (λ t. t ++ []) (no_places n mask none)
 
 or_first : (a b : Bool) → a ≡ true → a || b ≡ true
 or_first true b e = refl
@@ -38,14 +35,14 @@ module _ {A : Type 0} (p : A → Bool) where
   -- the places so far, which make the whole with what is left
   pub record ArePlaces (xs : List A) (n mask : ℕ) : Type 0 where
     pub whole : halls_below n mask ++ positions p n (drop n xs) ≡ positions p 0 xs
-    pub within : mask < 2 ^ n
+    pub within : (h : ℕ) → holds mask h ≡ true → h < n
     pub short : n ≤ length xs
 
-  pub places_begin : (xs : List A) → ArePlaces xs 0 0
-  places_begin xs = record { whole = refl; within = omega arith; short = omega arith }
+  pub places_begin : (xs : List A) (mask : ℕ) → ((h : ℕ) → holds mask h ≡ false) → ArePlaces xs 0 mask
+  places_begin xs mask none = record { whole = refl; within = λ h held. absurd (let z : false ≡ true = sym (none h) ∙ held in cc); short = omega arith }
 
   step : (xs : List A) (n : ℕ) (d : A) (mask more : ℕ) (b : Bool) → n < length xs → p (get_or xs n d) ≡ b → ArePlaces xs n mask
-      → halls_below (suc n) more ≡ halls_below n mask ++ cond b (n ∷ []) [] → more < 2 ^ suc n → ArePlaces xs (suc n) more
+      → halls_below (suc n) more ≡ halls_below n mask ++ cond b (n ∷ []) [] → ((h : ℕ) → holds more h ≡ true → h < suc n) → ArePlaces xs (suc n) more
   step xs n d mask more b below e so_far here within = record {
     whole = ap (λ t. t ++ positions p (suc n) (drop (suc n) xs)) here ∙ rest b e;
     within = within;
@@ -61,31 +58,31 @@ module _ {A : Type 0} (p : A → Bool) where
           next false e = rw (e, add-one) refl
 
   -- one more place, which passes
-  pub places_more : (xs : List A) (n : ℕ) (d : A) (mask : ℕ) → length xs ≤ most_halls → n < length xs → p (get_or xs n d) ≡ true → ArePlaces xs n mask
-      → ArePlaces xs (suc n) (bit_or mask (1 * 2 ^ n % 2 ^ 128))
-  places_more xs n d mask few below e so_far =
-      let far : n < 128 = omega arith in
-      let tests : (h : ℕ) → holds (bit_or mask (1 * 2 ^ n % 2 ^ 128)) h ≡ nat_eq h n || holds mask h = λ h. holds_with mask n h far in
-      step xs n d mask (bit_or mask (1 * 2 ^ n % 2 ^ 128)) true below e so_far
-      (next_filter (holds (bit_or mask (1 * 2 ^ n % 2 ^ 128))) n true (tests n ∙ or_first (nat_eq n n) (holds mask n) (eq-eqb n n refl))
-      ∙ ap (λ t. t ++ n ∷ []) (same_below (holds (bit_or mask (1 * 2 ^ n % 2 ^ 128))) (holds mask) n (λ h l. tests h ∙ or_second (nat_eq h n) (holds mask h) (ne_eqb h n (λ s. omega arith)))))
-      (subst (λ t. bit_or mask t < 2 ^ suc n) (sym (one_shl n 128 far))
-      (or_lt (suc n) mask (2 ^ n) (omega (arith, so_far.within, pow-suc 2 n)) (omega (arith, so_far.within, pow-suc 2 n))))
+  pub places_more : (xs : List A) (n : ℕ) (d : A) (mask more : ℕ) → n < length xs → p (get_or xs n d) ≡ true → ((h : ℕ) → holds more h ≡ nat_eq h n || holds mask h) → ArePlaces xs n mask
+      → ArePlaces xs (suc n) more
+  places_more xs n d mask more below e tests so_far =
+      step xs n d mask more true below e so_far
+      (next_filter (holds more) n true (tests n ∙ or_first (nat_eq n n) (holds mask n) (eq-eqb n n refl))
+      ∙ ap (λ t. t ++ n ∷ []) (same_below (holds more) (holds mask) n (λ h l. tests h ∙ or_second (nat_eq h n) (holds mask h) (ne_eqb h n (λ s. omega arith)))))
+      (λ h held. elim (or_cases (nat_eq h n) (holds mask h) (sym (tests h) ∙ held)) [
+        | inl s ↦ (let same : h ≡ n = eqb-true h n s in omega arith)
+        | inr m ↦ (let l = so_far.within h m in omega (arith, l))
+      ])
 
   -- one more place, which does not
   pub places_same : (xs : List A) (n : ℕ) (d : A) (mask : ℕ) → n < length xs → p (get_or xs n d) ≡ false → ArePlaces xs n mask → ArePlaces xs (suc n) mask
   places_same xs n d mask below e so_far =
       step xs n d mask mask false below e so_far
-      (next_filter (holds mask) n false (holds_past n mask n so_far.within (omega arith)))
-      (omega (arith, so_far.within, pow-suc 2 n))
+      (next_filter (holds mask) n false (elim (cases_Bool (holds mask n)) [ inl t ↦ absurd (let l = so_far.within n t in omega (arith, l)) | inr f ↦ f ]))
+      (λ h held. let l = so_far.within h held in omega (arith, l))
 
   -- at the end of such a loop
-  pub places_end : (xs : List A) (n mask : ℕ) → length xs ≤ n → ArePlaces xs n mask → (halls_below (length xs) mask ≡ positions p 0 xs) × (mask < 2 ^ length xs)
+  pub places_end : (xs : List A) (n mask : ℕ) → length xs ≤ n → ArePlaces xs n mask → (halls_below (length xs) mask ≡ positions p 0 xs) × ((h : ℕ) → holds mask h ≡ true → h < length xs)
   places_end xs n mask over are =
       let same : n ≡ length xs = omega (arith, are.short) in
       let none : positions p n (drop n xs) ≡ [] = ap (positions p n) (drop_all n xs over) in (
         ap (λ t. halls_below t mask) (sym same) ∙ sym (append-nil (halls_below n mask)) ∙ ap (λ t. halls_below n mask ++ t) (sym none) ∙ are.whole,
-        subst (λ t. mask < 2 ^ t) same are.within,
+        (λ h held. let l = are.within h held in omega (arith, l, same)),
       )
 
 -- ---- a mask of each
@@ -93,17 +90,17 @@ module _ {A : Type 0} (p : A → Bool) where
 -- the masks so far, of rows that a function gives
 pub record AreMasksOf {A : Type 0} (n : ℕ) (f : A → List ℕ) (xs : List A) (i : ℕ) (masks : List ℕ) : Type 0 where
   pub whole : map (halls_below n) masks ++ map f (drop i xs) ≡ map f xs
-  pub within : All (λ mask. mask < 2 ^ n) masks
+  pub within : All (λ mask. (h : ℕ) → holds mask h ≡ true → h < n) masks
 
 module _ {A : Type 0} (n : ℕ) (f : A → List ℕ) (xs : List A) where
   pub masks_begin : AreMasksOf n f xs 0 []
   masks_begin = record { whole = refl; within = λ i d l. absurd (omega arith) }
 
-  pub masks_more : (i : ℕ) (d : A) (masks : List ℕ) (mask : ℕ) → i < length xs → halls_below n mask ≡ f (get_or xs i d) → mask < 2 ^ n → AreMasksOf n f xs i masks → AreMasksOf n f xs (i + 1) (masks ++ mask ∷ [])
+  pub masks_more : (i : ℕ) (d : A) (masks : List ℕ) (mask : ℕ) → i < length xs → halls_below n mask ≡ f (get_or xs i d) → ((h : ℕ) → holds mask h ≡ true → h < n) → AreMasksOf n f xs i masks → AreMasksOf n f xs (i + 1) (masks ++ mask ∷ [])
   masks_more i d masks mask below row within are = record {
     whole = map_step f xs i d (map (halls_below n) masks) (map (halls_below n) (masks ++ mask ∷ [])) (map f xs) below
         (map-append (halls_below n) masks (mask ∷ []) ∙ ap (λ t. map (halls_below n) masks ++ t ∷ []) row) are.whole;
-    within = All-push (λ m. m < 2 ^ n) masks mask are.within within;
+    within = All-push (λ m. (h : ℕ) → holds m h ≡ true → h < n) masks mask are.within within;
   }
 
   -- at the end of such a loop

@@ -1,8 +1,8 @@
 //! When a member ends, and which halls fit.
-ghost use Rattle.std.specs.Prelude.{◌≡◌, ◌<◌, ◌≤◌, ◌^◌, ◌&&◌, not, length, map, IfOk, IfErr};
+ghost use Rattle.std.specs.Prelude.{◌≡◌, ◌<◌, ◌≤◌, ◌&&◌, ℕ, not, length, map, IsTrue, IfOk, IfErr};
 ghost use Rattle.std.specs.List.{list_any};
 ghost use Rattle.std.specs.Option.{option_map, option_and_then};
-ghost use Rattle.exam_plan.specs.HallSets.{most_halls, halls_below};
+ghost use Rattle.exam_plan.specs.HallSets.{most_halls, holds, halls_below};
 ghost use Rattle.exam_types.specs.declared.refusal.Refusal.TheVariants.{NoMemory};
 ghost use Rattle.exam_rules.specs.Relations.{relations_of, code_cmp, row_at, same_code};
 ghost use Rattle.exam_rules.specs.Sessions as spec;
@@ -12,6 +12,7 @@ use crate::appeals::{barred_halls, is_barred};
 use crate::facts::Facts;
 use crate::rows::{Arrangement, Hall, Opening, Paper, Session};
 use crate::sessions::{arrangement_in_force, has_live_entry, sitting};
+use exam_plan::HallSet;
 use exam_types::{
     ClosingTime, Features, HallCode, Minute, Number, PaperCode, Refusal, SessionCode,
 };
@@ -169,21 +170,21 @@ pub fn fits(facts: &Facts, session: &SessionCode, number: Number, hall: &HallCod
         && !is_barred(facts, session, number, hall)
 }
 
-/// The places of the halls that suit the member and that no appeal bars, each place at its bit.
+/// The places of the halls that suit the member and that no appeal bars.
 fn suiting_places(
     terms: &Option<Terms>,
     barred: &[HallCode],
     halls: &[(HallCode, Option<Room>)],
-) -> u128
+) -> HallSet
     requires { length halls.now ≤ most_halls }
     ensures places { halls_below (length halls.now) result
         ≡ seatings.positions (seatings.is_suiting terms.now barred.now) 0 halls.now }
-    ensures exist { result < 2 ^ length halls.now }
+    ensures exist { (h : ℕ) → IsTrue (holds result h) → h < length halls.now }
 {
-    let mut places = 0;
+    let mut places = HallSet::empty();
     for (place, hall) in halls.iter().enumerate() {
         if is_suiting(terms, barred, hall) {
-            places |= 1 << place;
+            places = places.with(place);
         }
     }
     places
@@ -202,7 +203,7 @@ fn is_listed(codes: &[HallCode], hall: &HallCode) -> bool
 }
 
 /// The places of the halls that fit the candidate, whose sitting paper this is, among the halls with their
-/// rooms, each place at its bit.
+/// rooms.
 pub fn fitting_places(
     alloc: Global,
     facts: &Facts,
@@ -210,7 +211,7 @@ pub fn fitting_places(
     number: Number,
     sat: Option<PaperCode>,
     halls: &[(HallCode, Option<Room>)],
-) -> Result<u128, Refusal>
+) -> Result<HallSet, Refusal>
     requires sat { sat ≡ spec.sitting (relations_of facts.now) session.now number }
     requires halls { halls.now
         ≡ seatings.with_rooms (relations_of facts.now) session.now (map (λ hall. hall.0) halls.now) }
@@ -218,12 +219,12 @@ pub fn fitting_places(
     ensures ok { IfOk result (λ places. halls_below (length halls.now) places
         ≡ seatings.fitting_places (relations_of facts.now) session.now number
         (map (λ hall. hall.0) halls.now)) }
-    ensures exist { IfOk result (λ places. places < 2 ^ length halls.now) }
+    ensures exist { IfOk result (λ places. (h : ℕ) → IsTrue (holds places h) → h < length halls.now) }
     ensures memory { IfErr result (λ e. e ≡ NoMemory) }
 {
     // Who sits no paper is no member.
     if sat.is_none() {
-        return Ok(0);
+        return Ok(HallSet::empty());
     }
     let terms = sitting_terms(facts, session, number, sat);
     let barred = barred_halls(alloc, facts, session, number)?;

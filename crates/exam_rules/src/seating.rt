@@ -1,9 +1,9 @@
 //! The seating problem of a session.
-ghost use Rattle.std.specs.Prelude.{◌≡◌, ◌⊎◌, ◌<◌, ◌≤◌, ◌^◌, ℕ, All, length, map, count_by, IsTrue, IfOk, IfErr, OnOk};
+ghost use Rattle.std.specs.Prelude.{◌≡◌, ◌⊎◌, ◌<◌, ◌≤◌, ℕ, All, length, map, count_by, IsTrue, IfOk, IfErr, OnOk};
 ghost use Rattle.std.specs.Prelude.{IsSorted};
 ghost use Rattle.std.specs.Ordering.{is_lt, nat_cmp};
 ghost use Rattle.std.specs.List.Sorted.{IsStrictlySortedBy};
-ghost use Rattle.exam_plan.specs.HallSets.{most_halls, halls_below};
+ghost use Rattle.exam_plan.specs.HallSets.{most_halls, holds, halls_below};
 ghost use Rattle.exam_plan.specs.Problems.{most_members};
 ghost use Rattle.exam_rules.specs.Names.{ListsRise};
 ghost use Rattle.exam_rules.specs.Lists as listing;
@@ -18,7 +18,7 @@ use crate::facts::Facts;
 use crate::fit::{Room, fitting_places, opened_room};
 use crate::lists::{Entrant, SessionLists};
 use crate::sessions::{members, sitting, sitting_beside};
-use exam_plan::{MOST_HALLS, MOST_MEMBERS, Problem};
+use exam_plan::{MOST_HALLS, MOST_MEMBERS, Mask, Problem};
 use exam_types::{HallCode, Number, PaperCode, Refusal, SessionCode};
 use std::alloc::Global;
 
@@ -102,7 +102,7 @@ fn fit_rows(
     session: &SessionCode,
     keys: &[DeskKey],
     halls: &[(HallCode, Option<Room>)],
-) -> Result<Vec<u128>, Refusal>
+) -> Result<Vec<Mask>, Refusal>
     requires keys { All (λ (key : _ × ℕ).
         key.0 ≡ spec.sitting (relations_of facts.now) session.now key.1) keys.now }
     requires halls { halls.now
@@ -111,12 +111,13 @@ fn fit_rows(
     ensures ok { IfOk result (λ rows. map (halls_below (length halls.now)) rows.items
         ≡ map (λ key. seatings.fitting_places (relations_of facts.now) session.now key.1
         (map (λ hall. hall.0) halls.now)) keys.now) }
-    ensures exist { IfOk result (λ rows. All (λ row. row < 2 ^ length halls.now) rows.items) }
+    ensures exist { IfOk result (λ rows. All (λ row. (h : ℕ) → IsTrue (holds row h) → h < length halls.now) rows.items) }
     ensures memory { IfErr result (λ e. e ≡ NoMemory) }
 {
     let mut rows = Vec::with_capacity(alloc, keys.len())?;
     for key in keys {
-        rows.push(fitting_places(alloc, facts, session, key.1, key.0, halls)?)?;
+        let places = fitting_places(alloc, facts, session, key.1, key.0, halls)?;
+        rows.push(places.mask())?;
     }
     Ok(rows)
 }
@@ -191,7 +192,7 @@ fn fit_table(
     session: &SessionCode,
     keys: &[DeskKey],
     halls: &[HallCode],
-) -> Result<Vec<u128>, Refusal>
+) -> Result<Vec<Mask>, Refusal>
     requires keys { keys.now
         ≡ map (seatings.desk_key (relations_of facts.now) session.now)
         (spec.members (relations_of facts.now) session.now) }
@@ -199,7 +200,7 @@ fn fit_table(
     ensures ok { IfOk result (λ rows. map (halls_below (length halls.now)) rows.items
         ≡ map (λ c. seatings.fitting_places (relations_of facts.now) session.now c halls.now)
         (spec.members (relations_of facts.now) session.now)) }
-    ensures exist { IfOk result (λ rows. All (λ row. row < 2 ^ length halls.now) rows.items) }
+    ensures exist { IfOk result (λ rows. All (λ row. (h : ℕ) → IsTrue (holds row h) → h < length halls.now) rows.items) }
     ensures memory { IfErr result (λ e. e ≡ NoMemory) }
 {
     let rooms = rooms(alloc, facts, session, halls)?;

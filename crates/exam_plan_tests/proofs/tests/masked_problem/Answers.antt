@@ -3,6 +3,7 @@ use Rattle.std.specs.Prelude.{All}
 use Rattle.std.proofs.lemmas.List.{length-map}
 use Rattle.std.proofs.lemmas.List.FromFn.{length-range_with_len}
 use Rattle.exam_plan.specs.HallSets.{halls_below}
+use Rattle.exam_plan.proofs.HallRows.{within_masks}
 use Rattle.exam_plan_tests.proofs.TinyProblems.{ranks_distinct, if_ok}
 use Rattle.exam_plan_tests.proofs.tests.masked_problem.Goals as goal
 
@@ -15,7 +16,7 @@ from_masks-requires c =
       few = omega (arith, ap length rows, c.requires.few);
       ranked = ap length c.in_ok-ranks.ensures ∙ length-range_with_len 0 (length c.args.masks.now) ∙ sym (ap length rows);
       distinct = ranks_distinct c.in_ok-ranks.ranks.items (length c.args.masks.now) c.in_ok-ranks.ensures;
-      exist = subst (λ (n : ℕ). All (λ mask. mask < 2 ^ n) c.in_ok-rows.rows.items) (sym opened) (subst (All (λ mask. mask < 2 ^ c.args.halls)) (sym rows) c.requires.exist);
+      exist = within_masks (length c.in_ok-desks.desks.items) c.in_ok-rows.rows.items (subst (λ (n : ℕ). All (λ mask. mask < 2 ^ n) c.in_ok-rows.rows.items) (sym opened) (subst (All (λ mask. mask < 2 ^ c.args.halls)) (sym rows) c.requires.exist));
     }
 
 pub returns : goal.returns

@@ -1,4 +1,4 @@
-use Rattle.std.proofs.Common.{◌≡◌, map, is_some, true, false, length, Option, ap, pow_pos, ◌∙◌, arith}
+use Rattle.std.proofs.Common.{◌≡◌, map, is_some, true, false, length, Option, ap, sym, ◌∙◌, arith}
 use Rattle.exam_rules.specs.declared.fit.Room.{Room}
 use Rattle.exam_rules.specs.Relations.{Code, relations_of}
 use Rattle.exam_rules.specs.Sessions.{has_live_entry, barred_halls}
@@ -12,10 +12,10 @@ pub returns-then-is_none-clause-ok : goal.returns-then-is_none-clause-ok
 returns-then-is_none-clause-ok c =
     let inside : is_some c.args.sat ≡ has_live_entry (relations_of c.args.facts.now) c.args.session.now c.args.number = ap is_some c.requires.sat ∙ members_sit (relations_of c.args.facts.now) c.args.session.now c.args.number in
     let outside : has_live_entry (relations_of c.args.facts.now) c.args.session.now c.args.number ≡ false = grind arith in
-    no_places (length c.args.halls.now) ∙ fits_nowhere (relations_of c.args.facts.now) c.args.session.now c.args.number outside (map (λ (row : Code × Option Room). row.0) c.args.halls.now)
+    no_places (length c.args.halls.now) c.empty.result c.empty.ensures ∙ fits_nowhere (relations_of c.args.facts.now) c.args.session.now c.args.number outside (map (λ (row : Code × Option Room). row.0) c.args.halls.now)
 
 pub returns-then-is_none-clause-exist : goal.returns-then-is_none-clause-exist
-returns-then-is_none-clause-exist c = pow_pos (length c.args.halls.now)
+returns-then-is_none-clause-exist c = λ h held. absurd (let z : false ≡ true = sym (c.empty.ensures h) ∙ held in cc)
 
 pub returns-clause-ok : goal.returns-clause-ok
 returns-clause-ok c =

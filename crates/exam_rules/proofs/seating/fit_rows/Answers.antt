@@ -1,4 +1,5 @@
-use Rattle.std.proofs.Common.{ℕ, Option, map, length, ap, ◌∙◌}
+use Rattle.std.proofs.Common.{ℕ, Option, map, length, ap, sym, ◌∙◌}
+use Rattle.exam_plan.specs.HallSets.{holds, halls_below}
 use Rattle.exam_rules.specs.Relations.{Code, relations_of}
 use Rattle.exam_rules.specs.declared.fit.Room.{Room}
 use Rattle.exam_rules.specs.Seatings.{fitting_places}
@@ -13,9 +14,9 @@ pub loop-key-preserved : goal.loop-key-preserved
 loop-key-preserved c =
     rw c.in_ok-push.ensures.items (masks_more (length c.args.halls.now)
     (λ (key : Option Code × ℕ). fitting_places (relations_of c.args.facts.now) c.args.session.now key.1 (map (λ (hall : Code × Option Room). hall.0) c.args.halls.now)) c.args.keys.now
-    c.loop-key.key-index c.key-item.result c.loop-key.rows.items c.in_ok-fitting_places.field-0 c.loop-key-test.true
-    (c.in_ok-fitting_places.ensures.ok ∙ ap (λ (key : Option Code × ℕ). fitting_places (relations_of c.args.facts.now) c.args.session.now key.1 (map (λ (hall : Code × Option Room). hall.0) c.args.halls.now)) c.key-item.is)
-    c.in_ok-fitting_places.ensures.exist c.loop-key.invariant)
+    c.loop-key.key-index c.key-item.result c.loop-key.rows.items c.mask.result c.loop-key-test.true
+    (ap (halls_below (length c.args.halls.now)) c.mask.ensures ∙ c.in_ok-places.ensures.ok ∙ ap (λ (key : Option Code × ℕ). fitting_places (relations_of c.args.facts.now) c.args.session.now key.1 (map (λ (hall : Code × Option Room). hall.0) c.args.halls.now)) c.key-item.is)
+    (λ h held. c.in_ok-places.ensures.exist h (ap (λ m. holds m h) (sym c.mask.ensures) ∙ held)) c.loop-key.invariant)
 
 pub returns-clause-ok : goal.returns-clause-ok
 returns-clause-ok c =

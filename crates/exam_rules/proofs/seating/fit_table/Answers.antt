@@ -1,8 +1,8 @@
-use Rattle.std.proofs.Common.{◌≡◌, ◌≤◌, ◌<◌, ◌^◌, ℕ, List, Option, length, map, IfOk, refl, ap, sym, subst, ◌∙◌}
+use Rattle.std.proofs.Common.{◌≡◌, ◌≤◌, ◌<◌, ℕ, true, List, Option, length, map, IfOk, refl, ap, sym, subst, ◌∙◌}
 use Rattle.std.specs.Prelude.{All}
 use Rattle.std.proofs.lemmas.List.{length-map}
 use Rattle.std.proofs.lemmas.List.Elements.{All-map}
-use Rattle.exam_plan.specs.HallSets.{most_halls, halls_below}
+use Rattle.exam_plan.specs.HallSets.{most_halls, holds, halls_below}
 use Rattle.exam_rules.specs.Relations.{Code, relations_of}
 use Rattle.exam_rules.specs.Sessions.{members, sitting}
 use Rattle.exam_rules.specs.Seatings.{with_rooms, opened_room, fitting_places, desk_key}
@@ -35,4 +35,4 @@ pub returns-clause-exist : goal.returns-clause-exist
 returns-clause-exist c =
     let rooms : c.deref.result.now ≡ with_rooms (relations_of c.args.facts.now) c.args.session.now c.args.halls.now = c.deref.ensures.value ∙ c.in_ok-rooms.ensures.ok in
     let long : length c.deref.result.now ≡ length c.args.halls.now = ap length rooms ∙ length-map c.args.halls.now (λ h. (h, opened_room (relations_of c.args.facts.now) c.args.session.now h)) in
-    subst (λ n. IfOk c.fit_rows.result (λ rows. All (λ row. row < 2 ^ n) rows.items)) long c.fit_rows.ensures.exist
+    subst (λ n. IfOk c.fit_rows.result (λ rows. All (λ row. (h : ℕ) → holds row h ≡ true → h < n) rows.items)) long c.fit_rows.ensures.exist

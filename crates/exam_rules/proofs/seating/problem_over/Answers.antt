@@ -1,8 +1,8 @@
-use Rattle.std.proofs.Common.{◌≡◌, ◌≤◌, ◌<◌, ◌^◌, nat_eq, ℕ, List, Option, length, map, ap, sym, subst, ◌∙◌, arith}
+use Rattle.std.proofs.Common.{◌≡◌, ◌≤◌, ◌<◌, nat_eq, true, ℕ, List, Option, length, map, ap, sym, subst, ◌∙◌, arith}
 use Rattle.std.specs.Prelude.{All}
 use Rattle.std.specs.List.{IsDistinct}
 use Rattle.std.proofs.lemmas.List.{length-map}
-use Rattle.exam_plan.specs.HallSets.{most_halls, halls_below}
+use Rattle.exam_plan.specs.HallSets.{most_halls, holds, halls_below}
 use Rattle.exam_plan.specs.Problems.{most_members}
 use Rattle.exam_rules.specs.Relations.{Code, Relations, relations_of}
 use Rattle.exam_rules.specs.Sessions.{members}
@@ -58,7 +58,7 @@ from_masks-requires c =
       few = subst (λ n. n ≤ most_members) (same ∙ sym rows) c.requires.few;
       ranked = ap length ranked ∙ length-map (members r s) (rank r s) ∙ sym rows;
       distinct = subst (IsDistinct nat_eq) (sym ranked) (ranks_distinct r s c.requires.rising);
-      exist = subst (λ n. All (λ mask. mask < 2 ^ n) c.in_ok-fit.fit.items) (sym long) c.in_ok-fit.ensures.exist;
+      exist = subst (λ n. All (λ mask. (h : ℕ) → holds mask h ≡ true → h < n) c.in_ok-fit.fit.items) (sym long) c.in_ok-fit.ensures.exist;
     }
 
 pub returns-clause-ok : goal.returns-clause-ok
