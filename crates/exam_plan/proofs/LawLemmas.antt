@@ -102,6 +102,20 @@ sweep_stays p q best (c ∷ cs) r s =
 pub best_repaired : (p : Problem) (first : Option ℕ) (q r : Plan ℕ ℕ) → IsBest (seating_of p) q → IsRepair (seating_of p) first q r → SamePlan r q
 best_repaired p first q r best s = sweep_stays p q best (sweep_order (seating_of p) first) r (subst (λ (m : Plan ℕ ℕ). Sweeps (seating_of p) m (sweep_order (seating_of p) first) r) (kept_all p q best.lawful) s)
 
+sweeps_itself : (p : Problem) (q : Plan ℕ ℕ) → IsBest (seating_of p) q → (cs : List ℕ) → Sweeps (seating_of p) q cs q
+sweeps_itself p q best [] = λ c. refl
+sweeps_itself p q best (c ∷ cs) = (q, turn (q c) refl, sweeps_itself p q best cs)
+  where
+    turn : (o : Option ℕ) → q c ≡ o → TurnFrom (seating_of p) q c o q
+    turn (Some h) e = λ d. refl
+    turn None e = inr (best_has_no_chain p q best c e, λ d. refl)
+
+-- a best plan is its own repair
+pub best_stands : (p : Problem) (first : Option ℕ) (q : Plan ℕ ℕ) → IsBest (seating_of p) q → IsRepair (seating_of p) first q q
+best_stands p first q best =
+    subst (λ (m : Plan ℕ ℕ). Sweeps (seating_of p) m (sweep_order (seating_of p) first) q) (sym (kept_all p q best.lawful))
+    (sweeps_itself p q best (sweep_order (seating_of p) first))
+
 -- ---- a certificate shows that a plan is best
 
 pub count_none : (n : ℕ) → count_below (λ c. false) n ≡ 0
