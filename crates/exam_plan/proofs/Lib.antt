@@ -10,10 +10,12 @@ pub mod Counting
 pub mod Seatings
 pub mod Rising
 pub mod HallRows
+pub mod Tallying
 pub mod Optimality
 pub mod Moves
 pub mod Layers
 pub mod Steps
+pub mod Tables
 pub mod Listing
 pub mod TurnLemmas
 pub mod Sweeping

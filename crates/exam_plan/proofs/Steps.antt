@@ -1,10 +1,10 @@
 -- The steps of the searches' loops.
-use Rattle.std.proofs.Common.{◌≡◌, ◌≢◌, ℕ, zero, suc, ◌+◌, ◌<◌, ◌≤◌, ◌↔◌, Bool, true, false, not, ◌&&◌, ◌||◌, cond, IsTrue, List, [], ◌∷◌, ◌++◌, length, get_or, set, take, replicate, Option, None, Some, IfSome, is_some, nat_eq, nat_lt, ◌⊎◌, refl, sym, ap, ◌∙◌, inl, inr, subst, arith}
+use Rattle.std.proofs.Common.{◌≡◌, ◌≢◌, ℕ, zero, suc, ◌+◌, ◌<◌, ◌≤◌, ◌↔◌, Bool, true, false, not, ◌&&◌, ◌||◌, cond, IsTrue, List, [], ◌∷◌, ◌++◌, length, get_or, set, take, Option, None, Some, IfSome, is_some, nat_eq, nat_lt, ◌⊎◌, refl, sym, ap, ◌∙◌, inl, inr, subst, arith}
 use Rattle.std.specs.Prelude.{All, MatchOption}
 use Rattle.std.proofs.lemmas.List.Elements.{All-get_or, All-set}
 use Rattle.std.specs.Option.{option_map_or}
 use Rattle.std.proofs.lemmas.Bool.{cases_eq, cases_lt, or_cases, or_left, or_right, and_parts, and_from, eq-eqb, ne_eqb, eqb-true, ltb-true, lt-ltb}
-use Rattle.std.proofs.lemmas.List.{get_or-set_same, get_or-set_other, get_or_past, get_or-replicate, length-replicate, length-append}
+use Rattle.std.proofs.lemmas.List.{get_or-set_same, get_or-set_other, get_or_past, length-append}
 use Rattle.std.proofs.Math.Seq.{take-append_seam}
 use Rattle.exam_plan.specs.HallSets.{holds}
 use Rattle.exam_plan.specs.Matching.{Plan, occupants}
@@ -12,7 +12,6 @@ use Rattle.exam_plan.specs.Chains.{HasFreeDesk}
 use Rattle.exam_plan.specs.Problems.{Problem, IsProblem, IsPlan, plan_at, seating_of}
 use Rattle.exam_plan.specs.Searches.{IsMarked, MarksAll, IsTouching, Reaches, CanReach, AreLayers, AreOnward, LeadsTo, IsLeastHall, IsLeastMover, IsAdvanced, count_at}
 use Rattle.exam_plan.proofs.Counting.{bit, count_below, count_below-same, count_by-range, count_below-more, count_below-lt, count_below-le-bound, sits_at}
-use Rattle.exam_plan.proofs.HallBits.{holds_empty}
 use Rattle.exam_plan.proofs.Seatings.{length-occupants, fits_below}
 
 -- ---- reading a plan
@@ -154,113 +153,6 @@ module _ (p : Problem) (c row : ℕ) (fits : (h : ℕ) → holds row h ≡ (seat
     (λ t. let w = told.0 t in (w.0, sym (fits w.0) ∙ w.1, w.2)),
     (λ w. told.1 (w.0, fits w.0 ∙ w.1, w.2)),
   )
-
--- ---- the halls that fit some occupant
-
-module _ (p : Problem) (m : List (Option ℕ)) where
-  -- what is noted after so many candidates
-  abbrev pub IsNoted : List ℕ → ℕ → Type 0
-  IsNoted sets i =
-      (h k : ℕ) → h < length p.desk_counts → IsMarked (holds (get_or sets h 0)) k ↔ ((d : ℕ) × (d < i) × (plan_at m d ≡ Some h) × IsTrue ((seating_of p).fits d k))
-
-  pub noted_skip : (sets : List ℕ) (i : ℕ) → IsNoted sets i → ((h : ℕ) → get_or m i None ≡ Some h → ⊥) → IsNoted sets (i + 1)
-  noted_skip sets i w away h k l = (
-    (λ t. let d = (w h k l).0 t in (d.0, (let b : d.0 < i = d.1 in omega arith), d.2, d.3)),
-    (λ d. elim (cases_lt d.0 i) [
-      | inl b ↦ (w h k l).1 (d.0, b, d.2, d.3)
-      | inr g ↦ (let b : d.0 < i + 1 = d.1 in let e : d.0 ≡ i = omega arith in absurd (away h (sym (plan_at-get_or m i) ∙ ap (plan_at m) (sym e) ∙ d.2)))
-    ]),
-  )
-
-  pub noted_set : (sets : List ℕ) (i hall old row new : ℕ) → IsNoted sets i → get_or m i None ≡ Some hall → hall < length sets → old ≡ get_or sets hall old → ((k : ℕ) → holds row k ≡ (seating_of p).fits i k)
-      → ((k : ℕ) → holds new k ≡ holds old k || holds row k) → IsNoted (set sets hall new) (i + 1)
-  noted_set sets i hall old row new w here inside read fits union h k l = elim (cases_eq h hall) [
-    | inl e ↦ (let at : get_or (set sets hall new) h 0 ≡ new = ap (λ t. get_or (set sets hall new) t 0) e ∙ get_or-set_same sets hall new 0 inside in
-        let was : get_or sets h 0 ≡ old = ap (λ t. get_or sets t 0) e ∙ same_within sets hall 0 old inside ∙ sym read in (
-          (λ t. elim (or_cases (holds old k) (holds row k) (sym (union k) ∙ ap (λ s. holds s k) (sym at) ∙ t)) [
-            | inl o ↦ (let d = (w h k l).0 (ap (λ s. holds s k) was ∙ o) in (d.0, (let b : d.0 < i = d.1 in omega arith), d.2, d.3))
-            | inr r ↦ (i, omega arith, plan_at-get_or m i ∙ here ∙ ap Some (sym e), sym (fits k) ∙ r)
-          ]),
-          (λ d. ap (λ s. holds s k) at ∙ union k ∙ elim (cases_lt d.0 i) [
-            | inl b ↦ or_left (holds old k) (holds row k) (ap (λ s. holds s k) (sym was) ∙ (w h k l).1 (d.0, b, d.2, d.3))
-            | inr g ↦ (let b : d.0 < i + 1 = d.1 in let s : d.0 ≡ i = omega arith in or_right (holds old k) (holds row k) (fits k ∙ ap (λ z. (seating_of p).fits z k) (sym s) ∙ d.3))
-          ]),
-        ))
-    | inr n ↦ (let at : get_or (set sets hall new) h 0 ≡ get_or sets h 0 = rw get_or-set_other refl in (
-      (λ t. let d = (w h k l).0 (ap (λ s. holds s k) (sym at) ∙ t) in (d.0, (let b : d.0 < i = d.1 in omega arith), d.2, d.3)),
-      (λ d. ap (λ s. holds s k) at ∙ elim (cases_lt d.0 i) [
-        | inl b ↦ (w h k l).1 (d.0, b, d.2, d.3)
-        | inr g ↦ absurd (let b : d.0 < i + 1 = d.1 in let e : d.0 ≡ i = omega arith in n (some_same h hall (sym d.2 ∙ ap (plan_at m) e ∙ plan_at-get_or m i ∙ here)))
-      ]),
-    ))
-  ]
-    where
-      some_same : (a b : ℕ) → Some a ≡ Some b → a ≡ b
-      some_same a b e = cc
-
-  pub noted_all : (sets : List ℕ) (n : ℕ) → length m ≤ n → IsNoted sets n → AreOnward p (plan_at m) sets
-  noted_all sets n all w h k l = (
-    (λ t. let d = (w h k l).0 t in (d.0, d.2, d.3)),
-    (λ d. (w h k l).1 (
-      d.0,
-      (elim (cases_lt d.0 n) [
-        | inl b ↦ b
-        | inr g ↦ absurd (let z : None ≡ Some h = sym (get_or_past m d.0 None (omega arith)) ∙ sym (plan_at-get_or m d.0) ∙ d.1 in cc)
-      ]),
-      d.1,
-      d.2,
-    )),
-  )
-
--- what no occupant stands before, after so many candidates
-abbrev pub AreFirstsBelow : List (Option ℕ) → List ℕ → ℕ → Type 0
-AreFirstsBelow m firsts i = (d h : ℕ) → d < i → plan_at m d ≡ Some h → get_or firsts h 0 ≤ d
-
-pub firsts_skip : (m : List (Option ℕ)) (firsts : List ℕ) (i : ℕ) → AreFirstsBelow m firsts i → ((h : ℕ) → get_or m i None ≡ Some h → ⊥) → AreFirstsBelow m firsts (i + 1)
-firsts_skip m firsts i w away d h l sits = elim (cases_lt d i) [
-  | inl b ↦ w d h b sits
-  | inr g ↦ (let e : d ≡ i = omega arith in absurd (away h (sym (plan_at-get_or m i) ∙ ap (plan_at m) (sym e) ∙ sits)))
-]
-
-pub firsts_set : (m : List (Option ℕ)) (firsts : List ℕ) (i hall old new : ℕ) → AreFirstsBelow m firsts i → get_or m i None ≡ Some hall → hall < length firsts → old ≡ get_or firsts hall old → new ≤ old → new ≤ i
-    → AreFirstsBelow m (set firsts hall new) (i + 1)
-firsts_set m firsts i hall old new w here inside read less also d h l sits = elim (cases_eq h hall) [
-  | inl e ↦ (let at : get_or (set firsts hall new) h 0 ≡ new = ap (λ t. get_or (set firsts hall new) t 0) e ∙ get_or-set_same firsts hall new 0 inside in
-      let was : get_or firsts h 0 ≡ old = ap (λ t. get_or firsts t 0) e ∙ same_within firsts hall 0 old inside ∙ sym read in
-      elim (cases_lt d i) [ inl b ↦ (let f = w d h b sits in omega (arith, at, was, f, less)) | inr g ↦ omega (arith, at, also, g) ])
-  | inr n ↦ (let at : get_or (set firsts hall new) h 0 ≡ get_or firsts h 0 = rw get_or-set_other refl in
-      elim (cases_lt d i) [
-        | inl b ↦ (let f = w d h b sits in omega (arith, at, f))
-        | inr g ↦ absurd (let e : d ≡ i = omega arith in n (some_same h hall (sym sits ∙ ap (plan_at m) e ∙ plan_at-get_or m i ∙ here)))
-      ])
-]
-  where
-    some_same : (a b : ℕ) → Some a ≡ Some b → a ≡ b
-    some_same a b e = cc
-
-pub firsts_all : (m : List (Option ℕ)) (firsts : List ℕ) (n : ℕ) → length m ≤ n → AreFirstsBelow m firsts n → (d h : ℕ) → plan_at m d ≡ Some h → get_or firsts h 0 ≤ d
-firsts_all m firsts n all w d h sits = elim (cases_lt d n) [
-  | inl b ↦ w d h b sits
-  | inr g ↦ absurd (let z : None ≡ Some h = sym (get_or_past m d None (omega arith)) ∙ sym (plan_at-get_or m d) ∙ sits in cc)
-]
-
-pub noted_none : (p : Problem) (m : List (Option ℕ)) (n : ℕ) (sets : List ℕ) → sets ≡ replicate n 0 → IsNoted p m sets 0
-noted_none p m n sets same h k l = (
-  (λ t. absurd (let z : false ≡ true = sym (none_at h k) ∙ t in cc)),
-  (λ d. absurd (let b : d.0 < 0 = d.1 in omega arith)),
-)
-  where
-    z : ℕ
-    z = 0
-
-    zero_at : (h : ℕ) → get_or sets h 0 ≡ 0
-    zero_at h = elim (cases_lt h n) [
-      | inl b ↦ ap (λ xs. get_or xs h 0) same ∙ get_or-replicate n h 0 0 b
-      | inr g ↦ ap (λ xs. get_or xs h 0) same ∙ get_or_past (replicate n 0) h 0 (let e : length (replicate n z) ≡ n = length-replicate n z in omega (arith, e, g))
-    ]
-
-    none_at : (h k : ℕ) → holds (get_or sets h 0) k ≡ false
-    none_at h k = ap (λ s. holds s k) (zero_at h) ∙ holds_empty k
 
 -- ---- steps over the halls
 

@@ -11,12 +11,14 @@
 -- - Naming: a seating by indices beside one by names: the name of each index and the index of each
 --   name; plans and chains by indices read by names, and plans by names read by indices
 -- - HallSets: a set of halls as a number, and its halls below a bound
+-- - Tallies: a number for each hall by binary digits, each a set of halls: used by private functions alone
 -- - DeskOrder: the order in which desks are numbered: used by private functions alone
 -- - Searches: what the searches of the code keep: used by private functions alone
 pub mod Matching
 pub mod Chains
 pub mod Repair
 pub mod HallSets
+pub mod Tallies
 pub mod Problems
 pub mod DeskOrder
 pub mod Searches

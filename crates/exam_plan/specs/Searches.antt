@@ -1,12 +1,15 @@
 -- The searches: from which halls a free desk can be reached, and to which halls a candidate leads. A set of
 -- halls is a test of halls here.
 use Rattle.std.specs.Prelude.{◌≡◌, ◌⊎◌, ◌↔◌, ℕ, zero, suc, ◌+◌, ◌<◌, ◌≤◌, Bool, true, false, IsTrue, List, [], ◌∷◌}
-use Rattle.std.specs.Prelude.{length, Option, None, Some, IsSome, slice_index, nat_eq, count_by, Contains}
-use Rattle.std.specs.Prelude.{vec_capacity}
+use Rattle.std.specs.Prelude.{length, Option, None, Some, IsSome, slice_index, slice_index_or, nat_eq, count_by, Contains}
+use Rattle.std.specs.Prelude.{vec_capacity, ◌&&◌, if◌then◌else◌}
 use Rattle.std.specs.List.{range_with_len, IsDistinct}
 use Rattle.std.specs.Option.{option_map_or}
+use Rattle.exam_plan.specs.declared.onward.Onward.{Onward}
+use Rattle.exam_plan.specs.declared.tally.Tally.{Tally}
 use Rattle.exam_plan.specs.declared.turns.Progress.{Progress}
 use Rattle.exam_plan.specs.HallSets.{holds, halls_below}
+use Rattle.exam_plan.specs.Tallies.{digit_count, one_if, tallied}
 use Rattle.exam_plan.specs.Matching.{Plan, IsLawful}
 use Rattle.exam_plan.specs.Chains.{HasFreeDesk, augmented}
 use Rattle.exam_plan.specs.Repair.{Turn}
@@ -48,10 +51,6 @@ module _ (p : Problem) (plan : Plan ℕ ℕ) where
   AreOnward sets =
       (h k : ℕ) → h < length p.desk_counts → IsMarked (holds (slice_index sets h)) k
       ↔ ((d : ℕ) × (plan d ≡ Some h) × IsTrue ((seating_of p).fits d k))
-
-  -- no occupant of a hall stands before the hall's number
-  abbrev pub AreFirsts : List ℕ → Type 0
-  AreFirsts firsts = (d h : ℕ) → plan d ≡ Some h → slice_index firsts h ≤ d
 
   -- the least hall of those that fit the candidate and reach a free desk
   abbrev pub IsLeastHall : ℕ → ℕ → ℕ → Type 0
@@ -114,6 +113,59 @@ module _ (p : Problem) (plan : Plan ℕ ℕ) where
 abbrev pub count_at : Plan ℕ ℕ → ℕ → ℕ → ℕ
 count_at plan h n = count_by (λ c. option_map_or (nat_eq h) (plan c) false) (range_with_len 0 n)
 
+-- the candidate sits in the hall h, and the hall k fits them
+abbrev pub is_fitting_occupant : Problem → Plan ℕ ℕ → ℕ → ℕ → ℕ → Bool
+is_fitting_occupant p plan h k c = option_map_or (nat_eq h) (plan c) false && (seating_of p).fits c k
+
+-- how many of the candidates below n sit in the hall h and are fitted by the hall k
+abbrev pub fitting_count : Problem → Plan ℕ ℕ → ℕ → ℕ → ℕ → ℕ
+fitting_count p plan h k n = count_by (is_fitting_occupant p plan h k) (range_with_len 0 n)
+
+abbrev pub no_digits : Tally
+no_digits = record { digits = [] }
+
+-- how often the hall k was counted for the hall h
+abbrev pub tally_at : List Tally → ℕ → ℕ → ℕ
+tally_at tallies h k = tallied (slice_index_or tallies h no_digits).digits k
+
+-- for each hall a tally, a number and a set: the halls that were counted
+pub record IsShaped (p : Problem) (table : Onward) : Type 0 where
+  pub tallies : length table.tallies.items ≡ length p.desk_counts
+  pub digits : (h : ℕ) → h < length p.desk_counts
+      → length (slice_index_or table.tallies.items h no_digits).digits ≡ digit_count
+  pub sets : length table.sets.items ≡ length p.desk_counts
+  pub firsts : length table.firsts.items ≡ length p.desk_counts
+  pub counted : (h k : ℕ) → h < length p.desk_counts
+      → IsMarked (holds (slice_index table.sets.items h)) k ↔ 0 < tally_at table.tallies.items h k
+
+-- the table of the candidates below n: how many occupants of each hall each hall fits, and where to look for them
+pub record IsTable (p : Problem) (plan : Plan ℕ ℕ) (n : ℕ) (table : Onward) : Type 0 where
+  pub shaped : IsShaped p table
+  pub tallies : (h k : ℕ) → h < length p.desk_counts
+      → tally_at table.tallies.items h k ≡ fitting_count p plan h k n
+  pub firsts : (d h : ℕ) → d < n → plan d ≡ Some h → slice_index table.firsts.items h ≤ d
+
+-- the table of all candidates, once it is noted, and of none before
+abbrev pub IsOnward : Problem → Plan ℕ ℕ → Onward → Type 0
+IsOnward p plan table = IsTable p plan (if table.is_noted then length p.fit else 0) table
+
+-- a table after the candidate was added to the occupants of the hall
+pub record IsEntered (p : Problem) (before : Onward) (h c : ℕ) (after : Onward) : Type 0 where
+  pub shaped : IsShaped p after
+  pub noted : after.is_noted ≡ before.is_noted
+  pub more : (g k : ℕ) → g < length p.desk_counts → tally_at after.tallies.items g k
+      ≡ tally_at before.tallies.items g k + one_if (nat_eq g h && (seating_of p).fits c k)
+  pub lower : (g : ℕ) → slice_index after.firsts.items g ≤ slice_index before.firsts.items g
+  pub first : slice_index after.firsts.items h ≤ c
+
+-- a table after the candidate was taken from the occupants of the hall
+pub record IsLeft (p : Problem) (before : Onward) (h c : ℕ) (after : Onward) : Type 0 where
+  pub shaped : IsShaped p after
+  pub noted : after.is_noted ≡ before.is_noted
+  pub less : (g k : ℕ) → g < length p.desk_counts → tally_at after.tallies.items g k
+      + one_if (nat_eq g h && (seating_of p).fits c k) ≡ tally_at before.tallies.items g k
+  pub firsts : after.firsts.items ≡ before.firsts.items
+
 -- unseated, or in a hall of the set
 abbrev pub is_drawn : (ℕ → Bool) → Option ℕ → Bool
 is_drawn set None = true
@@ -134,8 +186,7 @@ pub record IsKept (p : Problem) (sweep : Progress) : Type 0 where
   pub once : IsDistinct nat_eq sweep.listed.items
   pub many : length sweep.listed.items ≡ length (halls_below (length p.desk_counts) sweep.dead)
   pub room : length p.desk_counts ≤ vec_capacity sweep.listed
-  pub onward : length sweep.onward.items ≡ length p.desk_counts
-  pub firsts : length sweep.firsts.items ≡ length p.desk_counts
+  pub onward : IsOnward p (plan_at sweep.plan.items) sweep.onward
   pub layers : length sweep.layers.items ≡ length p.desk_counts + 1
 
 -- a sweep after the candidate's turn: nobody loses a desk, and who was settled is

@@ -1,34 +1,15 @@
 //! Augmenting chains, found backwards from the free desks.
-ghost use Rattle.std.specs.Prelude.{◌≡◌, ◌⊎◌, ◌↔◌, ◌<◌, ◌≤◌, ◌+◌, ℕ, IsTrue, IsNone, IsSome, length, Some, IfSome};
+ghost use Rattle.std.specs.Prelude.{◌≡◌, ◌⊎◌, ◌↔◌, ◌<◌, ◌≤◌, ◌+◌, ℕ, true, IsTrue, IsNone, length, Some, IfSome};
 ghost use Rattle.std.specs.Prelude.{MatchOption, slice_index, slice_set};
 ghost use Rattle.exam_plan.specs.HallSets.{most_halls, holds};
 ghost use Rattle.exam_plan.specs.Problems.{IsPlan, seating_of, plan_at};
 ghost use Rattle.exam_plan.specs.Chains.{HasFreeDesk};
-ghost use Rattle.exam_plan.specs.Searches.{IsMarked, MarksAll, IsTouching, Reaches, AreLayers, AreOnward, AreFirsts, CanReach};
+ghost use Rattle.exam_plan.specs.Searches.{IsMarked, MarksAll, IsTouching, Reaches, AreLayers, AreOnward, IsOnward, CanReach};
 ghost use Rattle.exam_plan.specs.Searches.{IsAdvanced, IsFound, LeadsTo};
 
 use crate::hall_set::HallSet;
+use crate::onward::Onward;
 use crate::problem::{Plan, Problem};
-
-/// Notes for each hall which halls fit some occupant, and a number that no occupant stands before.
-fn note_onward(problem: &Problem, plan: &Plan, onward: &mut Vec<HallSet>, firsts: &mut Vec<usize>)
-    requires plan { IsPlan problem.now plan.now.items }
-    requires halls { length onward.old.items ≡ length problem.now.desk_counts }
-    requires firsts { length firsts.old.items ≡ length problem.now.desk_counts }
-    ensures halls { length onward.new.items ≡ length problem.now.desk_counts }
-    ensures firsts { length firsts.new.items ≡ length problem.now.desk_counts }
-    ensures exact { AreOnward problem.now (plan_at plan.now.items) onward.new.items }
-    ensures first { AreFirsts problem.now (plan_at plan.now.items) firsts.new.items }
-{
-    onward.fill(HallSet::empty());
-    firsts.fill(problem.candidate_count());
-    for (candidate, place) in plan.iter().enumerate() {
-        if let Some(hall) = *place {
-            onward[hall] = onward[hall].union(problem.fitting(candidate));
-            firsts[hall] = firsts[hall].min(candidate);
-        }
-    }
-}
 
 /// Whether a hall of the set fits the candidate.
 fn is_touching(problem: &Problem, candidate: usize, marked: HallSet) -> bool
@@ -94,30 +75,33 @@ pub fn search_chain(
     plan: &Plan,
     free: HallSet,
     candidate: usize,
-    onward: &mut Vec<HallSet>,
-    firsts: &mut Vec<usize>,
+    onward: &mut Onward,
     layers: &mut Vec<HallSet>,
 ) -> Option<usize>
     requires plan { IsPlan problem.now plan.now.items }
     requires free { MarksAll (holds free) (HasFreeDesk (seating_of problem.now) (plan_at plan.now.items)) }
     requires candidate { candidate < length problem.now.fit }
-    requires halls { length onward.old.items ≡ length problem.now.desk_counts }
-    requires firsts { length firsts.old.items ≡ length problem.now.desk_counts }
+    requires onward { IsOnward problem.now (plan_at plan.now.items) onward.old }
     requires room { length layers.old.items ≡ length problem.now.desk_counts + 1 }
-    ensures halls { length onward.new.items ≡ length onward.old.items }
-    ensures firsts { length firsts.new.items ≡ length firsts.old.items }
+    ensures onward { IsOnward problem.now (plan_at plan.now.items) onward.new }
     ensures room { length layers.new.items ≡ length layers.old.items }
-    ensures onward { IsNone result → AreOnward problem.now (plan_at plan.now.items) onward.new.items }
-    ensures first { IfSome result (λ hops. 0 < hops
-        → AreFirsts problem.now (plan_at plan.now.items) firsts.new.items) }
+    ensures none { IsNone result → onward.new.is_noted ≡ true }
+    ensures some { IfSome result (λ hops. 0 < hops → onward.new.is_noted ≡ true) }
     ensures found { IsFound problem.now (plan_at plan.now.items) layers.new.items candidate result }
 {
     if is_touching(problem, candidate, free) {
         layers[0] = free;
         return Some(0);
     }
-    note_onward(problem, plan, onward, firsts);
-    layer_until(problem, plan, onward.as_slice(), free, candidate, layers)
+    onward.note(problem, plan);
+    layer_until(
+        problem,
+        plan,
+        onward.sets.as_slice(),
+        free,
+        candidate,
+        layers,
+    )
 }
 
 /// The halls of the set, and those that fit an occupant of a hall of the set.
@@ -193,7 +177,7 @@ fn first_mover(
 pub fn advance(
     problem: &Problem,
     plan: &mut Plan,
-    firsts: &[usize],
+    onward: &mut Onward,
     layers: &[HallSet],
     hops: usize,
     candidate: usize,
@@ -204,9 +188,10 @@ pub fn advance(
     requires layers { AreLayers problem.now (plan_at plan.old.items) (hops + 1) layers.now }
     requires reach { CanReach problem.now (plan_at plan.old.items) hops candidate }
     requires far { (j : ℕ) → j < hops → CanReach problem.now (plan_at plan.old.items) j candidate → ⊥ }
-    requires halls { length firsts.now ≡ length problem.now.desk_counts }
-    requires first { 0 < hops → AreFirsts problem.now (plan_at plan.old.items) firsts.now }
+    requires onward { IsOnward problem.now (plan_at plan.old.items) onward.old }
+    requires noted { 0 < hops → onward.old.is_noted ≡ true }
     ensures plan { IsPlan problem.now plan.new.items }
+    ensures onward { IsOnward problem.now (plan_at plan.new.items) onward.new }
     ensures last { result < length problem.now.desk_counts }
     ensures moved { IsAdvanced problem.now (plan_at plan.old.items) hops candidate result
         (plan_at plan.new.items) }
@@ -216,11 +201,12 @@ pub fn advance(
     };
     let mut last = hall;
     if hops > 0 {
-        let Some(mover) = first_mover(problem, plan, layers[hops - 1], hall, firsts[hall]) else {
+        let Some(mover) = first_mover(problem, plan, layers[hops - 1], hall, onward.firsts[hall])
+        else {
             unreachable!()
         };
-        last = advance(problem, plan, firsts, layers, hops - 1, mover);
+        last = advance(problem, plan, onward, layers, hops - 1, mover);
     }
-    plan[candidate] = Some(hall);
+    onward.seat(problem, plan, candidate, hall);
     last
 }

@@ -9,8 +9,10 @@ mod hall_set;
 mod keeping;
 mod laws;
 mod numbering;
+mod onward;
 mod problem;
 mod report;
+mod tally;
 mod turns;
 
 pub use calls::{desks, keep_lawful, shortage, sweep, sweep_dead};

@@ -9,6 +9,7 @@ ghost use Rattle.exam_plan.specs.Searches.{MarksAll, IsKept, IsNextTurn, count_a
 
 use crate::chains;
 use crate::hall_set::HallSet;
+use crate::onward::Onward;
 use crate::problem::{Plan, Problem};
 use exam_types::Refusal;
 use std::alloc::Global;
@@ -26,10 +27,8 @@ pub struct Progress {
     dead: HallSet,
     /// The dead halls, search by search, and rising for each search.
     pub listed: Vec<usize>,
-    /// Room for the halls that fit some occupant of each hall.
-    onward: Vec<HallSet>,
-    /// Room for a number for each hall that no occupant stands before.
-    firsts: Vec<usize>,
+    /// Which halls fit some occupant of each hall.
+    onward: Onward,
     /// Room for the halls from which a free desk is reached over at most 0, 1, 2 .. halls.
     layers: Vec<HallSet>,
 }
@@ -85,8 +84,7 @@ pub fn start(alloc: Global, problem: &Problem, plan: Plan) -> Result<Progress, R
         free,
         dead: HallSet::empty(),
         listed: Vec::with_capacity(alloc, halls)?,
-        onward: vec![in alloc; HallSet::empty(); halls]?,
-        firsts: vec![in alloc; 0usize; halls]?,
+        onward: Onward::new(alloc, problem)?,
         layers: vec![in alloc; HallSet::empty(); halls + 1]?,
     })
 }
@@ -133,14 +131,13 @@ pub fn take_turn(problem: &Problem, sweep: &mut Progress, candidate: usize)
         sweep.free,
         candidate,
         &mut sweep.onward,
-        &mut sweep.firsts,
         &mut sweep.layers,
     ) {
         Some(hops) => {
             let last = chains::advance(
                 problem,
                 &mut sweep.plan,
-                sweep.firsts.as_slice(),
+                &mut sweep.onward,
                 sweep.layers.as_slice(),
                 hops,
                 candidate,
@@ -149,7 +146,7 @@ pub fn take_turn(problem: &Problem, sweep: &mut Progress, candidate: usize)
             sweep.free = still_free(problem, sweep.free, last, sweep.counts[last]);
         }
         None => {
-            let onward = sweep.onward.as_slice();
+            let onward = sweep.onward.sets.as_slice();
             let led = chains::led_to(problem, &sweep.plan, onward, sweep.dead, candidate);
             list_halls(&mut sweep.listed, problem.hall_count(), led);
             sweep.dead = sweep.dead.union(led);

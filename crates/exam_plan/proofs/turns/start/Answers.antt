@@ -1,4 +1,4 @@
-use Rattle.std.proofs.Common.{zero, ◌≡◌, ◌+◌, ℕ, List, Option, length, get_or, false, true, ap, sym, ◌∙◌, arith, subst}
+use Rattle.std.proofs.Common.{◌≡◌, ◌+◌, ℕ, List, Option, length, get_or, false, true, ap, sym, ◌∙◌, arith, subst}
 use Rattle.std.proofs.lemmas.List.{length-replicate}
 use Rattle.exam_plan.specs.HallSets.{holds}
 use Rattle.exam_plan.specs.Chains.{HasFreeDesk}
@@ -23,7 +23,6 @@ returns-clause-kept c = record {
   once = none_distinct c.in_ok-with_capacity.field-0.items c.in_ok-with_capacity.ensures.items;
   many = ap length c.in_ok-with_capacity.ensures.items ∙ sym (none_below (holds c.empty.result) (length c.args.problem.now.desk_counts) c.empty.ensures);
   room = omega (arith, c.in_ok-with_capacity.ensures.capacity, c.hall_count-halls.ensures.count);
-  onward = rw (c.in_ok-vec.ensures.items_if_clones_equal (λ y h. h)) (length-replicate c.hall_count-halls.result c.empty-2.result ∙ c.hall_count-halls.ensures.count);
-  firsts = rw (c.in_ok-vec-2.ensures.items_if_clones_equal (λ y h. h)) (length-replicate c.hall_count-halls.result zero ∙ c.hall_count-halls.ensures.count);
-  layers = rw (c.in_ok-vec-3.ensures.items_if_clones_equal (λ y h. h)) (length-replicate (c.hall_count-halls.result + 1) c.empty-3.result ∙ ap (λ n. n + 1) c.hall_count-halls.ensures.count);
+  onward = c.in_ok-new.ensures.kept (plan_at c.args.plan.items);
+  layers = rw (c.in_ok-vec.ensures.items_if_clones_equal (λ y h. h)) (length-replicate (c.hall_count-halls.result + 1) c.empty-2.result ∙ ap (λ n. n + 1) c.hall_count-halls.ensures.count);
 }

@@ -4,6 +4,7 @@ use Rattle.exam_plan.specs.HallSets.{holds, halls_below}
 use Rattle.exam_plan.specs.Problems.{plan_at}
 use Rattle.exam_plan.specs.Searches.{IsMarked, IsSettled, AreOnward, count_at}
 use Rattle.exam_plan.proofs.Steps.{count_at-le, same_within, within_other, leads_below}
+use Rattle.exam_plan.proofs.Tables.{onward_of}
 use Rattle.exam_plan.proofs.Listing.{room_left, after_lists, after_once, after_many}
 use Rattle.exam_plan.proofs.TurnLemmas.{IsTurned, turned, stays_put, counts_after, free_after, both_closed, both_within, both_traced, both_settled, seated_at, none_of}
 use Rattle.exam_plan.proofs.turns.take_turn.Goals as goal
@@ -34,7 +35,8 @@ overflow_add-index_mut c =
     search rules
 
 pub led_to-led-requires-clause-onward : goal.led_to-led-requires-clause-onward
-led_to-led-requires-clause-onward c = subst (λ (s : List ℕ). AreOnward c.args.problem.now (plan_at c.args.sweep.now.plan.items) s) (sym c.as_slice-onward.ensures.value) (c.in-None.ensures.onward refl)
+led_to-led-requires-clause-onward c = subst (λ (s : List ℕ). AreOnward c.args.problem.now (plan_at c.args.sweep.now.plan.items) s) (sym c.as_slice-onward.ensures.value)
+    (onward_of c.args.problem.now c.args.sweep.now.plan.items c.search_chain.new.onward c.requires.kept.plan.whole c.in-None.ensures.onward (c.in-None.ensures.none refl))
 
 pub list_halls-requires : goal.list_halls-requires
 list_halls-requires c =
@@ -64,8 +66,7 @@ returns-in-Some c =
         once = c.requires.kept.once;
         many = c.requires.kept.many;
         room = c.requires.kept.room;
-        onward = c.in-Some.ensures.halls ∙ c.requires.kept.onward;
-        firsts = c.in-Some.ensures.firsts ∙ c.requires.kept.firsts;
+        onward = c.advance-last.ensures.onward;
         layers = c.in-Some.ensures.room ∙ c.requires.kept.layers;
       };
       seated = t.kept;
@@ -93,8 +94,7 @@ returns-in-None c =
         once = after_once (length c.args.problem.now.desk_counts) c.args.sweep.now.dead c.led_to-led.result c.union-sweep.result c.union-sweep.ensures c.led_to-led.ensures.apart within c.args.sweep.now.listed.items c.list_halls.new.listed.items c.requires.kept.listed grown c.requires.kept.once;
         many = after_many (length c.args.problem.now.desk_counts) c.args.sweep.now.dead c.led_to-led.result c.union-sweep.result c.union-sweep.ensures c.led_to-led.ensures.apart within c.args.sweep.now.listed.items c.list_halls.new.listed.items c.requires.kept.listed grown c.requires.kept.many;
         room = omega (arith, c.list_halls.ensures.room, c.requires.kept.room);
-        onward = c.in-None.ensures.halls ∙ c.requires.kept.onward;
-        firsts = c.in-None.ensures.firsts ∙ c.requires.kept.firsts;
+        onward = c.in-None.ensures.onward;
         layers = c.in-None.ensures.room ∙ c.requires.kept.layers;
       };
       seated = λ d s. s;

@@ -1,0 +1,37 @@
+use Rattle.std.proofs.Common.{◌≡◌, ◌+◌, ◌<◌, ◌≤◌, ◌||◌, ℕ, length, get_or, refl, ap, ◌∙◌, arith}
+use Rattle.exam_plan.specs.declared.tally.Tally.{Tally}
+use Rattle.exam_plan.specs.HallSets.{holds}
+use Rattle.exam_plan.specs.Tallies.{one_if, tallied}
+use Rattle.exam_plan.specs.Searches.{no_digits, tally_at}
+use Rattle.exam_plan.proofs.Steps.{same_within}
+use Rattle.exam_plan.proofs.Tables.{read_within, entered, union_counted}
+use Rattle.exam_plan.proofs.onward.Onward.enter.Goals as goal
+
+pub count-requires : goal.count-requires
+count-requires c =
+    let same = c.index_mut.ensures.value ∙ read_within c.args.self.now.tallies.items c.args.hall c.index_mut.result.now no_digits (omega (arith, c.requires.hall, c.requires.shaped.tallies)) in
+    record {
+      whole = ap (λ (t : Tally). length t.digits) same ∙ c.requires.shaped.digits c.args.hall c.requires.hall;
+      room = λ h. (
+          let is : tallied c.index_mut.result.now.digits h ≡ tally_at c.args.self.now.tallies.items c.args.hall h = ap (λ (t : Tally). tallied t.digits h) same in
+          let few : length c.args.problem.now.fit ≤ 4096 = c.fitting-fitting.ensures.problem.few in
+          let le = c.requires.room h in
+          omega (arith, is, le, few));
+    }
+
+pub returns : goal.returns
+returns c =
+    let shaped = c.requires.shaped in
+    let in_tallies : c.args.hall < length c.args.self.now.tallies.items = omega (arith, c.requires.hall, shaped.tallies) in
+    let in_sets : c.args.hall < length c.args.self.now.sets.items = omega (arith, c.requires.hall, shaped.sets) in
+    let in_firsts : c.args.hall < length c.args.self.now.firsts.items = omega (arith, c.requires.hall, shaped.firsts) in
+    let more : (k : ℕ) → tallied c.count.new.self.digits k ≡ tally_at c.args.self.now.tallies.items c.args.hall k + one_if (holds c.fitting-fitting.result k) =
+    λ k. c.count.ensures.more k ∙ ap (λ (t : Tally). tallied t.digits k + one_if (holds c.fitting-fitting.result k))
+    (c.index_mut.ensures.value ∙ read_within c.args.self.now.tallies.items c.args.hall c.index_mut.result.now no_digits in_tallies) in
+    let read : c.index.result.now ≡ get_or c.args.self.now.sets.items c.args.hall 0 = c.index.ensures ∙ same_within c.args.self.now.sets.items c.args.hall c.index.result.now 0 in_sets in
+    let first : c.index-2.result.now ≡ get_or c.args.self.now.firsts.items c.args.hall 0 = c.index-2.ensures ∙ same_within c.args.self.now.firsts.items c.args.hall c.index-2.result.now 0 in_firsts in
+    entered c.args.problem.now c.args.self.now _ c.args.hall c.count.new.self c.union.result shaped c.requires.hall refl refl c.count.ensures.whole
+    (union_counted (get_or c.args.self.now.sets.items c.args.hall 0) c.fitting-fitting.result c.union.result (tally_at c.args.self.now.tallies.items c.args.hall) (tallied c.count.new.self.digits) (λ k. shaped.counted c.args.hall k c.requires.hall)
+    (λ k. c.union.ensures k ∙ ap (λ s. holds s k || holds c.fitting-fitting.result k) read) more)
+    c.args.candidate c.min.result (λ k. more k ∙ ap (λ b. tally_at c.args.self.now.tallies.items c.args.hall k + one_if b) (c.fitting-fitting.ensures.fits k))
+    refl (omega (arith, c.min.ensures, first)) (omega (arith, c.min.ensures)) refl
