@@ -1,5 +1,5 @@
 -- What the operations on numbers do to the sets that the numbers are.
-use Rattle.std.proofs.Common.{◌≡◌, ◌≢◌, ℕ, zero, suc, ◌-◌, ◌*◌, ◌/◌, ◌%◌, ◌^◌, ◌<◌, ◌≤◌, ◌↔◌, Bool, true, false, not, ◌&&◌, ◌||◌, min, max, nat_eq, bit_and, bit_or, refl, sym, ap, ◌∙◌, inl, inr, arith}
+use Rattle.std.proofs.Common.{◌≡◌, ◌≢◌, ℕ, zero, suc, ◌-◌, ◌*◌, ◌/◌, ◌%◌, ◌^◌, ◌<◌, ◌≤◌, ◌↔◌, Bool, true, false, not, ◌&&◌, ◌||◌, cond, min, max, nat_eq, bit_and, bit_or, refl, sym, ap, ◌∙◌, inl, inr, arith}
 use Rattle.std.specs.Int.{bit_at, bit_not, trailing_zeros, w128}
 use Rattle.std.specs.Int.Bits.{and_le_l, or_lt}
 use Rattle.std.proofs.lemmas.Bool.{cases_eq, cases_lt, cases_Bool, eq-eqb, ne_eqb, eqb-true}
@@ -128,3 +128,16 @@ with_within n k within below = or_lt 128 n (1 * 2 ^ k % 2 ^ 128) within (mod_bel
   where
     mod_below : (x : ℕ) → x % 2 ^ 128 < 2 ^ 128
     mod_below x = omega arith
+
+-- a set with one hall put in or taken out
+pub put_in : (a e z : Bool) → z ≡ false → (a || (e || z)) ≡ cond e true a
+put_in true true z none = refl
+put_in true false z none = refl
+put_in false true z none = refl
+put_in false false z none = none
+
+pub put_out : (a e z : Bool) → z ≡ false → (a && not (e || z)) ≡ cond e false a
+put_out true true z none = refl
+put_out true false z none = ap not none
+put_out false true z none = refl
+put_out false false z none = refl

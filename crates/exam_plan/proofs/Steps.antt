@@ -3,14 +3,14 @@ use Rattle.std.proofs.Common.{◌≡◌, ◌≢◌, ℕ, zero, suc, ◌+◌, ◌
 use Rattle.std.specs.Prelude.{All, MatchOption}
 use Rattle.std.proofs.lemmas.List.Elements.{All-get_or, All-set}
 use Rattle.std.specs.Option.{option_map_or}
-use Rattle.std.proofs.lemmas.Bool.{cases_eq, cases_lt, or_cases, or_left, or_right, and_parts, and_from, eq-eqb, ne_eqb, eqb-true, ltb-true, lt-ltb}
+use Rattle.std.proofs.lemmas.Bool.{cases_eq, cases_lt, cases_Bool, or_cases, or_left, or_right, and_parts, and_from, eq-eqb, ne_eqb, ltb-true, lt-ltb}
 use Rattle.std.proofs.lemmas.List.{get_or-set_same, get_or-set_other, get_or_past, length-append}
 use Rattle.std.proofs.Math.Seq.{take-append_seam}
 use Rattle.exam_plan.specs.HallSets.{holds}
 use Rattle.exam_plan.specs.Matching.{Plan, occupants}
 use Rattle.exam_plan.specs.Chains.{HasFreeDesk}
 use Rattle.exam_plan.specs.Problems.{Problem, IsProblem, IsPlan, plan_at, seating_of}
-use Rattle.exam_plan.specs.Searches.{IsMarked, MarksAll, IsTouching, Reaches, CanReach, AreLayers, AreOnward, LeadsTo, IsLeastHall, IsLeastMover, IsAdvanced, count_at}
+use Rattle.exam_plan.specs.Searches.{IsMarked, MarksAll, IsTouching, Reaches, CanReach, AreLayers, AreInward, AreOnward, LeadsTo, IsLeastHall, IsLeastMover, IsAdvanced, count_at}
 use Rattle.exam_plan.proofs.Counting.{bit, count_below, count_below-same, count_by-range, count_below-more, count_below-lt, count_below-le-bound, sits_at}
 use Rattle.exam_plan.proofs.Seatings.{length-occupants, fits_below}
 
@@ -156,36 +156,91 @@ module _ (p : Problem) (c row : ℕ) (fits : (h : ℕ) → holds row h ≡ (seat
 
 -- ---- steps over the halls
 
--- the halls so far that a set has, or that meet it
+-- a set without one of its halls
+module _ (rest k less : ℕ) (is : (h : ℕ) → holds less h ≡ cond (nat_eq h k) false (holds rest h)) where
+  pub one_gone : holds less k ≡ false
+  one_gone = is k ∙ ap (λ t. cond t false (holds rest k)) (eq-eqb k k refl)
+
+  pub others_stay : (h : ℕ) → h ≢ k → holds less h ≡ holds rest h
+  others_stay h away = is h ∙ ap (λ t. cond t false (holds rest h)) (ne_eqb h k away)
+
+  pub less_within : (h : ℕ) → holds less h ≡ true → holds rest h ≡ true
+  less_within h t = elim (cases_eq h k) [
+    | inl e ↦ absurd (let z : false ≡ true = sym one_gone ∙ ap (holds less) (sym e) ∙ t in cc)
+    | inr away ↦ sym (others_stay h away) ∙ t
+  ]
+
+  pub one_fewer : (n : ℕ) → k < n → holds rest k ≡ true → count_below (holds less) n < count_below (holds rest) n
+  one_fewer n below held = holds_more less rest n k less_within below held one_gone
+
+-- the halls that a set has, and those of the sets of the fresh halls that are no longer to come
+abbrev pub IsUnited : List ℕ → ℕ → ℕ → ℕ → ℕ → Type 0
+IsUnited sets marked fresh rest next = (h : ℕ) → IsMarked (holds next) h ↔ (IsMarked (holds marked) h ⊎ ((k : ℕ) × IsMarked (holds fresh) k × (holds rest k ≡ false) × IsMarked (holds (get_or sets k 0)) h))
+
+pub united_more : (sets : List ℕ) (marked fresh rest next k one more less : ℕ) → IsUnited sets marked fresh rest next → IsMarked (holds fresh) k → one ≡ get_or sets k 0 → ((h : ℕ) → holds more h ≡ holds next h || holds one h)
+    → ((h : ℕ) → holds less h ≡ cond (nat_eq h k) false (holds rest h)) → IsUnited sets marked fresh less more
+united_more sets marked fresh rest next k one more less w held read union gone h = (
+  (λ t. elim (or_cases (holds next h) (holds one h) (sym (union h) ∙ t)) [
+    | inl n ↦ elim ((w h).0 n) [
+      | inl a ↦ inl a
+      | inr d ↦ inr (d.0, d.1, still_gone d.0 d.2, d.3)
+    ]
+    | inr o ↦ inr (k, held, one_gone rest k less gone, ap (λ s. holds s h) (sym read) ∙ o)
+  ]),
+  (λ s. union h ∙ elim s [
+    | inl a ↦ or_left (holds next h) (holds one h) ((w h).1 (inl a))
+    | inr d ↦ elim (cases_eq d.0 k) [
+      | inl e ↦ or_right (holds next h) (holds one h) (ap (λ s. holds s h) read ∙ ap (λ j. holds (get_or sets j 0) h) (sym e) ∙ d.3)
+      | inr away ↦ or_left (holds next h) (holds one h) ((w h).1 (inr (d.0, d.1, sym (others_stay rest k less gone d.0 away) ∙ d.2, d.3)))
+    ]
+  ]),
+)
+  where
+    still_gone : (j : ℕ) → holds rest j ≡ false → holds less j ≡ false
+    still_gone j f = elim (cases_eq j k) [
+      | inl e ↦ ap (holds less) e ∙ one_gone rest k less gone
+      | inr away ↦ others_stay rest k less gone j away ∙ f
+    ]
+
+pub united_none : (sets : List ℕ) (marked fresh : ℕ) → IsUnited sets marked fresh fresh marked
+united_none sets marked fresh h = (
+  (λ t. inl t),
+  (λ s. elim s [ inl a ↦ a | inr d ↦ absurd (let z : true ≡ false = sym d.1 ∙ d.2 in cc) ]),
+)
+
+pub united_all : (sets : List ℕ) (marked fresh rest next : ℕ) → ((h : ℕ) → holds rest h ≡ false) → IsUnited sets marked fresh rest next
+    → (h : ℕ) → IsMarked (holds next) h ↔ (IsMarked (holds marked) h ⊎ ((k : ℕ) × IsMarked (holds fresh) k × IsMarked (holds (get_or sets k 0)) h))
+united_all sets marked fresh rest next none w h = (
+  (λ t. elim ((w h).0 t) [ inl a ↦ inl a | inr d ↦ inr (d.0, d.1, d.3) ]),
+  (λ s. (w h).1 (elim s [ inl a ↦ inl a | inr d ↦ inr (d.0, d.1, none d.0, d.2) ])),
+)
+
+-- the halls that a set has, and those of the sets of its fresh halls
 abbrev pub IsWidened : List ℕ → ℕ → ℕ → ℕ → Type 0
-IsWidened sets marked i next = (h : ℕ) → IsMarked (holds next) h ↔ (IsMarked (holds marked) h ⊎ ((h < i) × ((k : ℕ) × IsMarked (holds (get_or sets h 0)) k × IsMarked (holds marked) k)))
+IsWidened sets marked fresh next = (h : ℕ) → IsMarked (holds next) h ↔ (IsMarked (holds marked) h ⊎ ((k : ℕ) × IsMarked (holds fresh) k × IsMarked (holds (get_or sets k 0)) h))
 
-pub widened_skip : (sets : List ℕ) (marked i next : ℕ) → IsWidened sets marked i next → (((k : ℕ) × IsMarked (holds (get_or sets i 0)) k × IsMarked (holds marked) k) → ⊥) → IsWidened sets marked (i + 1) next
-widened_skip sets marked i next w away h = (
-  (λ t. elim ((w h).0 t) [ inl a ↦ inl a | inr d ↦ inr ((let l : h < i = d.0 in omega arith), d.1) ]),
-  (λ s. (w h).1 (elim s [
-    | inl a ↦ inl a
-    | inr d ↦ elim (cases_lt h i) [
-      | inl l ↦ inr (l, d.1)
-      | inr g ↦ (let l : h < i + 1 = d.0 in let e : h ≡ i = omega arith in absurd (away (subst (λ (z : ℕ). (k : ℕ) × IsMarked (holds (get_or sets z 0)) k × IsMarked (holds marked) k) e d.1)))
-    ]
-  ])),
-)
+-- fresh halls are of the set, and what the sets of its other halls have is in it
+pub record IsFresh (sets : List ℕ) (marked fresh : ℕ) : Type 0 where
+  pub within : (k : ℕ) → IsMarked (holds fresh) k → IsMarked (holds marked) k
+  pub settled : (k h : ℕ) → IsMarked (holds marked) k → holds fresh k ≡ false → IsMarked (holds (get_or sets k 0)) h → IsMarked (holds marked) h
 
-pub widened_with : (sets : List ℕ) (marked i next new : ℕ) → IsWidened sets marked i next → ((k : ℕ) × IsMarked (holds (get_or sets i 0)) k × IsMarked (holds marked) k) → ((h : ℕ) → holds new h ≡ nat_eq h i || holds next h) → IsWidened sets marked (i + 1) new
-widened_with sets marked i next new w meets with h = (
-  (λ t. elim (or_cases (nat_eq h i) (holds next h) (sym (with h) ∙ t)) [
-    | inl e ↦ (let s : h ≡ i = eqb-true h i e in inr (omega arith, subst (λ (z : ℕ). (k : ℕ) × IsMarked (holds (get_or sets z 0)) k × IsMarked (holds marked) k) (sym s) meets))
-    | inr n ↦ elim ((w h).0 n) [ inl a ↦ inl a | inr d ↦ inr ((let l : h < i = d.0 in omega arith), d.1) ]
-  ]),
-  (λ s. with h ∙ elim s [
-    | inl a ↦ or_right (nat_eq h i) (holds next h) ((w h).1 (inl a))
-    | inr d ↦ elim (cases_lt h i) [
-      | inl l ↦ or_right (nat_eq h i) (holds next h) ((w h).1 (inr (l, d.1)))
-      | inr g ↦ (let l : h < i + 1 = d.0 in or_left (nat_eq h i) (holds next h) (eq-eqb h i (omega arith)))
+pub all_fresh : (sets : List ℕ) (marked : ℕ) → IsFresh sets marked marked
+all_fresh sets marked = record {
+  within = λ k t. t;
+  settled = λ k h t f m. let z : true ≡ false = sym t ∙ f in cc;
+}
+
+pub next_fresh : (sets : List ℕ) (marked fresh next after : ℕ) → IsFresh sets marked fresh → IsWidened sets marked fresh next → ((h : ℕ) → holds after h ≡ holds next h && not (holds marked h)) → IsFresh sets next after
+next_fresh sets marked fresh next after was wide is = record {
+  within = λ k t. (beyond next marked after k (is k) t).0;
+  settled = λ k h t f m. elim (cases_Bool (holds marked k)) [
+    | inl a ↦ elim (cases_Bool (holds fresh k)) [
+      | inl b ↦ (wide h).1 (inr (k, b, m))
+      | inr b ↦ (wide h).1 (inl (was.settled k h a b m))
     ]
-  ]),
-)
+    | inr a ↦ absurd (let z : true ≡ false = sym (is k ∙ and_from (holds next k) (not (holds marked k)) t (ap not a)) ∙ f in cc)
+  ];
+}
 
 -- the halls that a set has, and those that the sets of such halls so far have
 abbrev pub IsFollowed : List ℕ → ℕ → ℕ → ℕ → Type 0
@@ -225,16 +280,20 @@ module _ (p : Problem) (q : Plan ℕ ℕ) where
   abbrev pub IsNext : (ℕ → Bool) → (ℕ → Bool) → Type 0
   IsNext marks next = MarksAll next (λ h. IsMarked marks h ⊎ ((d : ℕ) × (q d ≡ Some h) × IsTouching p marks d))
 
-  pub widened_next : (sets : List ℕ) (marked next n : ℕ) → AreOnward p q sets → n ≡ length p.desk_counts → ((d h : ℕ) → q d ≡ Some h → h < length p.desk_counts) → IsWidened sets marked n next → IsNext (holds marked) (holds next)
-  widened_next sets marked next n onward halls exist w h = (
+  widened_next : (sets : List ℕ) (marked fresh next : ℕ) → AreInward p q sets → ((k : ℕ) → IsMarked (holds marked) k → k < length p.desk_counts) → IsFresh sets marked fresh → IsWidened sets marked fresh next → IsNext (holds marked) (holds next)
+  widened_next sets marked fresh next inward exist was w h = (
     (λ t. elim ((w h).0 t) [
       | inl a ↦ inl a
-      | inr d ↦ inr (let l : h < n = d.0 in let o = (onward h d.1.0 (omega arith)).0 d.1.1 in (o.0, o.1, (d.1.0, o.2, d.1.2)))
+      | inr d ↦ inr (let m = was.within d.0 d.1 in let o = (inward h d.0 (exist d.0 m)).0 d.2 in (o.0, o.1, (d.0, o.2, m)))
     ]),
-    (λ s. (w h).1 (elim s [
-      | inl a ↦ inl a
-      | inr d ↦ (let l = exist d.0 h d.1 in inr (omega arith, (d.2.0, (onward h d.2.0 l).1 (d.0, d.1, d.2.1), d.2.2)))
-    ])),
+    (λ s. elim s [
+      | inl a ↦ (w h).1 (inl a)
+      | inr d ↦ (let m = (inward h d.2.0 (exist d.2.0 d.2.2)).1 (d.0, d.1, d.2.1) in
+          elim (cases_Bool (holds fresh d.2.0)) [
+            | inl b ↦ (w h).1 (inr (d.2.0, b, m))
+            | inr b ↦ (w h).1 (inl (was.settled d.2.0 h d.2.2 b m))
+          ])
+    ]),
   )
 
   pub touching_reach : (marks : ℕ → Bool) (j c : ℕ) → MarksAll marks (Reaches p q j) → IsTouching p marks c → CanReach p q j c
@@ -276,6 +335,13 @@ module _ (p : Problem) (q : Plan ℕ ℕ) where
   ]
   reaches_below exist (suc j) h (inl r) = reaches_below exist j h r
   reaches_below exist (suc j) h (inr d) = exist d.0 h d.1
+
+  pub layer_below : ((d h : ℕ) → q d ≡ Some h → h < length p.desk_counts) → (marks : ℕ → Bool) (j : ℕ) → MarksAll marks (Reaches p q j) → (k : ℕ) → IsMarked marks k → k < length p.desk_counts
+  layer_below exist marks j layer k m = reaches_below exist j k ((layer k).0 m)
+
+  pub next_of : ((d h : ℕ) → q d ≡ Some h → h < length p.desk_counts) → (sets : List ℕ) (reached fresh next j : ℕ) → AreInward p q sets → MarksAll (holds reached) (Reaches p q j) → IsFresh sets reached fresh → IsWidened sets reached fresh next
+      → IsNext (holds reached) (holds next)
+  next_of exist sets reached fresh next j inward layer was w = widened_next sets reached fresh next inward (layer_below exist (holds reached) j layer) was w
 
   -- a further hop widens by a hall that exists
   pub layer_grows : ((d h : ℕ) → q d ≡ Some h → h < length p.desk_counts) → (reached next rest j : ℕ) → MarksAll (holds reached) (Reaches p q j) → IsNext (holds reached) (holds next)

@@ -1,5 +1,5 @@
 -- The table of how many occupants of each hall each hall fits.
-use Rattle.std.proofs.Common.{◌≡◌, ◌≢◌, ℕ, zero, suc, ◌+◌, ◌<◌, ◌≤◌, ◌↔◌, Bool, true, false, ◌&&◌, ◌||◌, cond, IsTrue, List, [], ◌∷◌, length, get_or, set, Option, None, Some, nat_eq, refl, sym, ap, ◌∙◌, inl, inr, subst, arith}
+use Rattle.std.proofs.Common.{◌≡◌, ◌≢◌, ℕ, zero, suc, ◌+◌, ◌<◌, ◌≤◌, ◌↔◌, Bool, true, false, not, ◌&&◌, ◌||◌, cond, IsTrue, List, [], ◌∷◌, length, get_or, set, Option, None, Some, nat_eq, refl, sym, ap, ◌∙◌, inl, inr, subst, arith}
 use Rattle.std.specs.Option.{option_map_or}
 use Rattle.std.proofs.lemmas.Bool.{cases_eq, cases_lt, cases_Bool, and_parts, and_from, eq-eqb, ne_eqb, eqb-true, or_cases, or_left, or_right}
 use Rattle.std.proofs.lemmas.List.{get_or-set_same, get_or-set_other, get_or_past, length-set}
@@ -8,10 +8,11 @@ use Rattle.exam_plan.specs.declared.tally.Tally.{Tally}
 use Rattle.exam_plan.specs.HallSets.{holds}
 use Rattle.exam_plan.specs.Tallies.{one_if, tallied}
 use Rattle.exam_plan.specs.Matching.{Plan}
-use Rattle.exam_plan.specs.Problems.{Problem, plan_at, seating_of}
-use Rattle.exam_plan.specs.Searches.{IsMarked, AreOnward, IsShaped, IsTable, IsOnward, IsEntered, IsLeft, is_fitting_occupant, fitting_count, no_digits, tally_at}
+use Rattle.exam_plan.specs.Problems.{Problem, IsPlan, plan_at, seating_of}
+use Rattle.exam_plan.specs.Searches.{IsMarked, AreInward, AreOnward, IsShaped, IsTable, IsOnward, IsEntered, IsLeft, is_fitting_occupant, fitting_count, no_digits, tally_at}
 use Rattle.exam_plan.proofs.Counting.{bit, count_below, count_by-range, count_below-more, count_below-le-bound, count_below-point}
-use Rattle.exam_plan.proofs.Steps.{plan_at-get_or, plan_at-set}
+use Rattle.exam_plan.proofs.HallBits.{holds_empty}
+use Rattle.exam_plan.proofs.Steps.{plan_at-get_or, plan_at-set, one_gone, others_stay, sits_below}
 
 -- ---- counts
 
@@ -86,6 +87,19 @@ module _ (p : Problem) where
 
   pub onward_of : (m : List (Option ℕ)) (table : Onward) → length m ≡ length p.fit → IsOnward p (plan_at m) table → table.is_noted ≡ true → AreOnward p (plan_at m) table.sets.items
   onward_of m table whole t noted = table_onward m table whole (subst (λ (b : Bool). IsTable p (plan_at m) (cond b (length p.fit) 0) table) noted t)
+
+  -- the same the other way round
+  pub inward_of : (m : List (Option ℕ)) (table : Onward) → IsPlan p m → IsOnward p (plan_at m) table → table.is_noted ≡ true → AreInward p (plan_at m) table.inward.items
+  inward_of m table plan t noted h k l =
+      let o = onward_of m table plan.whole t noted in (
+        (λ marked. elim (cases_lt h (length p.desk_counts)) [
+          | inl b ↦ (o h k b).0 (sym (t.shaped.turned h k l) ∙ marked)
+          | inr g ↦ absurd (
+              let past : get_or table.sets.items h 0 ≡ 0 = get_or_past table.sets.items h 0 (let e = t.shaped.sets in omega (arith, e, g)) in
+              let z : false ≡ true = sym (holds_empty k) ∙ ap (λ s. holds s k) (sym past) ∙ sym (t.shaped.turned h k l) ∙ marked in cc)
+        ]),
+        (λ d. t.shaped.turned h k l ∙ (o h k (sits_below p m plan d.0 h d.1)).1 d),
+      )
 
   pub noted_table : (q : Plan ℕ ℕ) (table : Onward) → IsOnward p q table → table.is_noted ≡ true → IsTable p q (length p.fit) table
   noted_table q table t noted = subst (λ (b : Bool). IsTable p q (cond b (length p.fit) 0) table) noted t
@@ -202,6 +216,53 @@ module _ (p : Problem) where
       firsts = firsts_moved before after t (λ g. subst (λ (xs : List ℕ). get_or after.firsts.items g 0 ≤ get_or xs g 0) left.firsts (entered.lower g)) entered.first;
     }
 
+-- ---- sets that a hall is put into, or taken out of
+
+-- the sets of these halls have the hall, or lack it, but those that are still to come
+abbrev pub ArePut : List ℕ → ℕ → ℕ → Bool → ℕ → List ℕ → Type 0
+ArePut before halls hall inside rest sets = (k h : ℕ) → holds (get_or sets k 0) h ≡ cond (nat_eq h hall && (holds halls k && not (holds rest k))) inside (holds (get_or before k 0) h)
+
+pub put_none : (before : List ℕ) (halls hall : ℕ) (inside : Bool) → ArePut before halls hall inside halls before
+put_none before halls hall inside k h = sym (ap (λ t. cond t inside (holds (get_or before k 0) h)) (at (nat_eq h hall) (holds halls k)))
+  where
+    at : (a b : Bool) → a && (b && not b) ≡ false
+    at true true = refl
+    at true false = refl
+    at false b = refl
+
+pub put_all : (before : List ℕ) (halls hall : ℕ) (inside : Bool) (rest : ℕ) (sets : List ℕ) → ((h : ℕ) → holds rest h ≡ false) → ArePut before halls hall inside rest sets
+    → (k h : ℕ) → holds (get_or sets k 0) h ≡ cond (nat_eq h hall && holds halls k) inside (holds (get_or before k 0) h)
+put_all before halls hall inside rest sets none w k h = w k h ∙ ap (λ t. cond (nat_eq h hall && t) inside (holds (get_or before k 0) h)) (at (holds halls k) (holds rest k) (none k))
+  where
+    at : (a b : Bool) → b ≡ false → a && not b ≡ a
+    at true true e = cc
+    at true false e = refl
+    at false b e = refl
+
+pub put_more : (before : List ℕ) (halls hall : ℕ) (inside : Bool) (rest : ℕ) (sets : List ℕ) (i new less : ℕ) → ArePut before halls hall inside rest sets → i < length sets → holds halls i ≡ true → holds rest i ≡ true
+    → ((h : ℕ) → holds new h ≡ cond (nat_eq h hall) inside (holds (get_or sets i 0) h)) → ((h : ℕ) → holds less h ≡ cond (nat_eq h i) false (holds rest h)) → ArePut before halls hall inside less (set sets i new)
+put_more before halls hall inside rest sets i new less w below among held put gone k h = elim (cases_eq k i) [
+  | inl e ↦ (
+      let at : get_or (set sets i new) k 0 ≡ new = ap (λ t. get_or (set sets i new) t 0) e ∙ get_or-set_same sets i new 0 below in
+      let was : holds (get_or sets i 0) h ≡ holds (get_or before k 0) h = w i h ∙ ap (λ t. cond (nat_eq h hall && (holds halls i && not t)) inside (holds (get_or before i 0) h)) held ∙ ap (λ t. cond t inside (holds (get_or before i 0) h)) (none (nat_eq h hall) (holds halls i))
+      ∙ ap (λ j. holds (get_or before j 0) h) (sym e) in
+      let now : nat_eq h hall && (holds halls k && not (holds less k)) ≡ nat_eq h hall = ap (λ j. nat_eq h hall && (holds halls j && not (holds less j))) e ∙ ap (λ t. nat_eq h hall && (t && not (holds less i))) among
+      ∙ ap (λ t. nat_eq h hall && not t) (one_gone rest i less gone) ∙ all (nat_eq h hall) in
+      ap (λ s. holds s h) at ∙ put h ∙ ap (λ t. cond (nat_eq h hall) inside t) was ∙ sym (ap (λ t. cond t inside (holds (get_or before k 0) h)) now))
+  | inr away ↦ (
+      let at : get_or (set sets i new) k 0 ≡ get_or sets k 0 = rw get_or-set_other refl in
+      ap (λ s. holds s h) at ∙ w k h ∙ ap (λ t. cond (nat_eq h hall && (holds halls k && not t)) inside (holds (get_or before k 0) h)) (sym (others_stay rest i less gone k away)))
+]
+  where
+    none : (a b : Bool) → a && (b && not true) ≡ false
+    none true true = refl
+    none true false = refl
+    none false b = refl
+
+    all : (a : Bool) → a && not false ≡ a
+    all true = refl
+    all false = refl
+
 -- ---- one candidate more or less in a hall
 
 pub read_within : {X : Type 0} (xs : List X) (i : ℕ) (d e : X) → i < length xs → get_or xs i d ≡ get_or xs i e
@@ -221,7 +282,10 @@ same_length xs after i n new is long = ap length is ∙ (let e : length (set xs 
 -- the table with a new tally and a new set for the hall
 module _ (p : Problem) (before after : Onward) (h : ℕ) (tally : Tally) (fitting : ℕ) (shaped : IsShaped p before) (inside : h < length p.desk_counts)
     (tallies_are : after.tallies.items ≡ set before.tallies.items h tally) (sets_are : after.sets.items ≡ set before.sets.items h fitting)
-    (whole : length tally.digits ≡ 13) (counted : (k : ℕ) → IsMarked (holds fitting) k ↔ 0 < tallied tally.digits k) where
+    (whole : length tally.digits ≡ 13) (counted : (k : ℕ) → IsMarked (holds fitting) k ↔ 0 < tallied tally.digits k)
+    (changed : ℕ) (inside_now : Bool) (inward_long : length after.inward.items ≡ length before.inward.items)
+    (inward_is : (k g : ℕ) → holds (get_or after.inward.items k 0) g ≡ cond (nat_eq g h && holds changed k) inside_now (holds (get_or before.inward.items k 0) g))
+    (changes : (k : ℕ) → k < length p.desk_counts → cond (holds changed k) inside_now (holds (get_or before.sets.items h 0) k) ≡ holds fitting k) where
   in_tallies : h < length before.tallies.items
   in_tallies = (let e = shaped.tallies in omega (arith, e, inside))
 
@@ -251,6 +315,14 @@ module _ (p : Problem) (before after : Onward) (h : ℕ) (tally : Tally) (fittin
             (λ m. let n = (shaped.counted g k l).0 (ap (λ x. holds x k) (sym s) ∙ m) in omega (arith, n, t)),
             (λ n. ap (λ x. holds x k) s ∙ (shaped.counted g k l).1 (omega (arith, n, t))),
           ))
+    ];
+    inward = inward_long ∙ shaped.inward;
+    turned = λ g k l. elim (cases_eq g h) [
+      | inl e ↦ (let s = set_here before.sets.items after.sets.items h g fitting 0 sets_are (let t = shaped.sets in omega (arith, t, inside)) e in
+          inward_is k g ∙ ap (λ t. cond (t && holds changed k) inside_now (holds (get_or before.inward.items k 0) g)) (eq-eqb g h e) ∙ ap (λ t. cond (holds changed k) inside_now t) (shaped.turned g k l)
+          ∙ ap (λ j. cond (holds changed k) inside_now (holds (get_or before.sets.items j 0) k)) e ∙ changes k l ∙ ap (λ x. holds x k) (sym s))
+      | inr away ↦ (let s = set_there before.sets.items after.sets.items h g fitting 0 sets_are away in
+          inward_is k g ∙ ap (λ t. cond (t && holds changed k) inside_now (holds (get_or before.inward.items k 0) g)) (ne_eqb g h away) ∙ shaped.turned g k l ∙ ap (λ x. holds x k) (sym s))
     ];
   }
 
@@ -310,3 +382,33 @@ union_counted set_before row set_after before after counted is more k = (
     | inr f ↦ or_left (holds set_before k) (holds row k) ((counted k).1 (let m = more k in let o : one_if (holds row k) ≡ 0 = ap one_if f in omega (arith, l, m, o)))
   ]),
 )
+
+-- the changes of a set when a row is added, and when halls of a row are left out
+pub changes_in : (before row gained after : ℕ) → ((k : ℕ) → holds gained k ≡ holds row k && not (holds before k)) → ((k : ℕ) → holds after k ≡ holds before k || holds row k)
+    → (k : ℕ) → cond (holds gained k) true (holds before k) ≡ holds after k
+changes_in before row gained after is union k = ap (λ t. cond t true (holds before k)) (is k) ∙ at (holds before k) (holds row k) ∙ sym (union k)
+  where
+    at : (b r : Bool) → cond (r && not b) true b ≡ b || r
+    at true true = refl
+    at true false = refl
+    at false true = refl
+    at false false = refl
+
+pub changes_out : (before row lost after : ℕ) (old new : ℕ → ℕ) → ((k : ℕ) → holds lost k ≡ holds row k && not (holds after k)) → ((k : ℕ) → IsMarked (holds before) k ↔ 0 < old k) → ((k : ℕ) → IsMarked (holds after) k ↔ 0 < new k)
+    → ((k : ℕ) → new k + one_if (holds row k) ≡ old k) → (k : ℕ) → cond (holds lost k) false (holds before k) ≡ holds after k
+changes_out before row lost after old new is was now less k = ap (λ t. cond t false (holds before k)) (is k) ∙ at (holds row k) (holds after k) (holds before k) refl refl refl
+  where
+    at : (r a b : Bool) → holds row k ≡ r → holds after k ≡ a → holds before k ≡ b → cond (r && not a) false b ≡ a
+    at true false b e f g = refl
+    at true true true e f g = refl
+    at true true false e f g = absurd (
+        let some = (now k).0 f in let l = less k in
+        let z : false ≡ true = sym g ∙ (was k).1 (omega (arith, some, l)) in cc)
+    at false true true e f g = refl
+    at false false false e f g = refl
+    at false true false e f g = absurd (
+        let some = (now k).0 f in let l = less k in
+        let z : false ≡ true = sym g ∙ (was k).1 (omega (arith, some, l)) in cc)
+    at false false true e f g = absurd (
+        let some = (was k).0 g in let l = less k in let o : one_if (holds row k) ≡ 0 = ap one_if e in
+        let z : false ≡ true = sym f ∙ (now k).1 (omega (arith, some, l, o)) in cc)

@@ -52,6 +52,12 @@ module _ (p : Problem) (plan : Plan ℕ ℕ) where
       (h k : ℕ) → h < length p.desk_counts → IsMarked (holds (slice_index sets h)) k
       ↔ ((d : ℕ) × (plan d ≡ Some h) × IsTrue ((seating_of p).fits d k))
 
+  -- the set of each hall holds the halls with an occupant whom it fits
+  abbrev pub AreInward : List ℕ → Type 0
+  AreInward sets =
+      (h k : ℕ) → k < length p.desk_counts → IsMarked (holds (slice_index sets k)) h
+      ↔ ((d : ℕ) × (plan d ≡ Some h) × IsTrue ((seating_of p).fits d k))
+
   -- the least hall of those that fit the candidate and reach a free desk
   abbrev pub IsLeastHall : ℕ → ℕ → ℕ → Type 0
   IsLeastHall j c h =
@@ -128,7 +134,7 @@ no_digits = record { digits = [] }
 abbrev pub tally_at : List Tally → ℕ → ℕ → ℕ
 tally_at tallies h k = tallied (slice_index_or tallies h no_digits).digits k
 
--- for each hall a tally, a number and a set: the halls that were counted
+-- for each hall a tally, a number and a set: the halls that were counted; and the sets the other way round
 pub record IsShaped (p : Problem) (table : Onward) : Type 0 where
   pub tallies : length table.tallies.items ≡ length p.desk_counts
   pub digits : (h : ℕ) → h < length p.desk_counts
@@ -137,6 +143,9 @@ pub record IsShaped (p : Problem) (table : Onward) : Type 0 where
   pub firsts : length table.firsts.items ≡ length p.desk_counts
   pub counted : (h k : ℕ) → h < length p.desk_counts
       → IsMarked (holds (slice_index table.sets.items h)) k ↔ 0 < tally_at table.tallies.items h k
+  pub inward : length table.inward.items ≡ length p.desk_counts
+  pub turned : (h k : ℕ) → k < length p.desk_counts
+      → holds (slice_index table.inward.items k) h ≡ holds (slice_index table.sets.items h) k
 
 -- the table of the candidates below n: how many occupants of each hall each hall fits, and where to look for them
 pub record IsTable (p : Problem) (plan : Plan ℕ ℕ) (n : ℕ) (table : Onward) : Type 0 where

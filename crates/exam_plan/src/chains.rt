@@ -4,7 +4,7 @@ ghost use Rattle.std.specs.Prelude.{MatchOption, slice_index, slice_set};
 ghost use Rattle.exam_plan.specs.HallSets.{most_halls, holds};
 ghost use Rattle.exam_plan.specs.Problems.{IsPlan, seating_of, plan_at};
 ghost use Rattle.exam_plan.specs.Chains.{HasFreeDesk};
-ghost use Rattle.exam_plan.specs.Searches.{IsMarked, MarksAll, IsTouching, Reaches, AreLayers, AreOnward, IsOnward, CanReach};
+ghost use Rattle.exam_plan.specs.Searches.{IsMarked, MarksAll, IsTouching, Reaches, AreLayers, AreInward, AreOnward, IsOnward, CanReach};
 ghost use Rattle.exam_plan.specs.Searches.{IsAdvanced, IsFound, LeadsTo};
 
 use crate::hall_set::HallSet;
@@ -20,18 +20,17 @@ fn is_touching(problem: &Problem, candidate: usize, marked: HallSet) -> bool
     problem.fitting(candidate).meets(marked)
 }
 
-/// The halls of the set, and those with an occupant whom a hall of the set fits.
-fn widened(onward: &[HallSet], marked: HallSet) -> HallSet
-    requires { length onward.now ≤ most_halls }
+/// The halls of the set, and those with an occupant whom a fresh hall fits.
+fn widened(inward: &[HallSet], marked: HallSet, fresh: HallSet) -> HallSet
+    requires { (k : ℕ) → IsMarked (holds fresh) k → k < length inward.now }
     ensures { (h : ℕ) → IsMarked (holds result) h ↔ (IsMarked (holds marked) h
-        ⊎ ((h < length onward.now) × ((k : ℕ) × IsMarked (holds (slice_index onward.now h)) k
-        × IsMarked (holds marked) k))) }
+        ⊎ ((k : ℕ) × IsMarked (holds fresh) k × IsMarked (holds (slice_index inward.now k)) h)) }
 {
     let mut next = marked;
-    for (hall, fitting) in onward.iter().enumerate() {
-        if fitting.meets(marked) {
-            next = next.with(hall);
-        }
+    let mut rest = fresh;
+    'uniting: while let Some(hall) = rest.first() {
+        next = next.union(inward[hall]);
+        rest = rest.put(hall, false);
     }
     next
 }
@@ -40,7 +39,7 @@ fn widened(onward: &[HallSet], marked: HallSet) -> HallSet
 fn layer_until(
     problem: &Problem,
     plan: &Plan,
-    onward: &[HallSet],
+    inward: &[HallSet],
     free: HallSet,
     candidate: usize,
     layers: &mut Vec<HallSet>,
@@ -48,17 +47,19 @@ fn layer_until(
     requires plan { IsPlan problem.now plan.now.items }
     requires free { MarksAll (holds free) (HasFreeDesk (seating_of problem.now) (plan_at plan.now.items)) }
     requires candidate { candidate < length problem.now.fit }
-    requires halls { length onward.now ≡ length problem.now.desk_counts }
-    requires onward { AreOnward problem.now (plan_at plan.now.items) onward.now }
+    requires halls { length inward.now ≡ length problem.now.desk_counts }
+    requires inward { AreInward problem.now (plan_at plan.now.items) inward.now }
     requires room { length layers.old.items ≡ length problem.now.desk_counts + 1 }
     ensures room { length layers.new.items ≡ length layers.old.items }
     ensures found { IsFound problem.now (plan_at plan.now.items) layers.new.items candidate result }
 {
     let mut hops = 0;
     let mut reached = free;
+    let mut fresh = free;
     'widening: while !is_touching(problem, candidate, reached) {
-        let next = widened(onward, reached);
-        if next.minus(reached).first().is_none() {
+        let next = widened(inward, reached, fresh);
+        fresh = next.minus(reached);
+        if fresh.first().is_none() {
             return None;
         }
         layers[hops] = reached;
@@ -97,7 +98,7 @@ pub fn search_chain(
     layer_until(
         problem,
         plan,
-        onward.sets.as_slice(),
+        onward.inward.as_slice(),
         free,
         candidate,
         layers,

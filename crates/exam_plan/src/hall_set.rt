@@ -1,5 +1,5 @@
 //! Sets of halls, each hall by its number.
-ghost use Rattle.std.specs.Prelude.{◌≡◌, ◌↔◌, ◌<◌, ◌≤◌, ◌||◌, ◌&&◌, ℕ, false, not, nat_eq, IsTrue, MatchOption};
+ghost use Rattle.std.specs.Prelude.{◌≡◌, ◌↔◌, ◌<◌, ◌≤◌, ◌||◌, ◌&&◌, ℕ, false, not, nat_eq, if◌then◌else◌, IsTrue, MatchOption};
 ghost use Rattle.exam_plan.specs.HallSets.{most_halls, holds};
 
 use std::marker::Model;
@@ -64,6 +64,19 @@ impl HallSet {
     {
         HallSet {
             bits: self.bits | (1 << hall),
+        }
+    }
+
+    /// The set with the hall in it, or without it.
+    pub fn put(self, hall: usize, inside: bool) -> HallSet
+        requires { hall < most_halls }
+        ensures { (h : ℕ) → holds result h ≡ (if nat_eq h hall then inside else holds self h) }
+    {
+        let one = HallSet::empty().with(hall);
+        if inside {
+            self.union(one)
+        } else {
+            self.minus(one)
         }
     }
 

@@ -1,5 +1,7 @@
 //! Which halls fit some occupant of each hall, kept as people move.
-ghost use Rattle.std.specs.Prelude.{◌≡◌, ◌<◌, ◌≤◌, ℕ, true, length, Option, Some, IfOk, IfErr, IsTrue, slice_set};
+ghost use Rattle.std.specs.Prelude.{◌≡◌, ◌<◌, ◌≤◌, ◌&&◌, ℕ, true, nat_eq, if◌then◌else◌, length, Option, Some, IfOk, IfErr, IsTrue};
+ghost use Rattle.std.specs.Prelude.{slice_index, slice_set};
+ghost use Rattle.exam_plan.specs.HallSets.{most_halls, holds};
 ghost use Rattle.exam_plan.specs.Problems.{IsPlan, seating_of, plan_at};
 ghost use Rattle.exam_plan.specs.Searches.{IsOnward, IsShaped, IsEntered, IsLeft, tally_at};
 
@@ -17,10 +19,27 @@ pub struct Onward {
     tallies: Vec<Tally>,
     /// The halls that fit some occupant of each hall.
     pub sets: Vec<HallSet>,
+    /// The same the other way round: the halls with an occupant whom each hall fits.
+    pub inward: Vec<HallSet>,
     /// A number for each hall that no occupant stands before.
     pub firsts: Vec<usize>,
     /// Whether the plan's candidates are in the table.
     is_noted: bool,
+}
+
+/// Puts the hall into the sets of these halls, or takes it out of them.
+fn put_each(sets: &mut Vec<HallSet>, halls: HallSet, hall: usize, inside: bool)
+    requires hall { hall < most_halls }
+    requires exist { (k : ℕ) → IsTrue (holds halls k) → k < length sets.old.items }
+    ensures long { length sets.new.items ≡ length sets.old.items }
+    ensures put { (k h : ℕ) → holds (slice_index sets.new.items k) h
+        ≡ (if nat_eq h hall && holds halls k then inside else holds (slice_index sets.old.items k) h) }
+{
+    let mut rest = halls;
+    'putting: while let Some(next) = rest.first() {
+        sets[next] = sets[next].put(hall, inside);
+        rest = rest.put(next, false);
+    }
 }
 
 impl Onward {
@@ -33,6 +52,7 @@ impl Onward {
         Ok(Onward {
             tallies: vec![in alloc; Tally::none(); halls]?,
             sets: vec![in alloc; HallSet::empty(); halls]?,
+            inward: vec![in alloc; HallSet::empty(); halls]?,
             firsts: vec![in alloc; problem.candidate_count(); halls]?,
             is_noted: false,
         })
@@ -47,8 +67,10 @@ impl Onward {
         ensures { IsEntered problem.now self.old hall candidate self.new }
     {
         let fitting = problem.fitting(candidate);
+        let before = self.sets[hall];
         self.tallies[hall].count(fitting);
-        self.sets[hall] = self.sets[hall].union(fitting);
+        put_each(&mut self.inward, fitting.minus(before), hall, true);
+        self.sets[hall] = before.union(fitting);
         self.firsts[hall] = self.firsts[hall].min(candidate);
     }
 
@@ -61,8 +83,11 @@ impl Onward {
             → 0 < tally_at self.old.tallies.items hall k }
         ensures { IsLeft problem.now self.old hall candidate self.new }
     {
-        self.tallies[hall].discount(problem.fitting(candidate));
-        self.sets[hall] = self.tallies[hall].counted();
+        let fitting = problem.fitting(candidate);
+        self.tallies[hall].discount(fitting);
+        let left = self.tallies[hall].counted();
+        put_each(&mut self.inward, fitting.minus(left), hall, false);
+        self.sets[hall] = left;
     }
 
     /// Puts all seated candidates into the table, unless they are there.

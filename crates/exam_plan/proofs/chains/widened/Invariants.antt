@@ -1,5 +1,14 @@
-use Rattle.exam_plan.proofs.Steps.{IsWidened}
+use Rattle.std.proofs.Common.{◌≡◌, ℕ, true, length}
+use Rattle.exam_plan.specs.HallSets.{holds}
+use Rattle.exam_plan.proofs.Counting.{count_below}
+use Rattle.exam_plan.proofs.Steps.{IsUnited}
 use Rattle.exam_plan.proofs.chains.widened.Given as goal
 
-abbrev pub invariant-loop-hall : goal.invariant-loop-hall
-invariant-loop-hall l = IsWidened l.onward l.marked l.hall l.next
+abbrev pub invariant-uniting : goal.invariant-uniting
+invariant-uniting l = record {
+  fresh : (k : ℕ) → holds l.rest k ≡ true → holds l.fn.fresh k ≡ true;
+  united : IsUnited l.inward l.fn.marked l.fn.fresh l.rest l.next;
+}
+
+abbrev pub decreases-uniting : goal.decreases-uniting
+decreases-uniting l = count_below (holds l.rest) (length l.inward)

@@ -1,10 +1,10 @@
-use Rattle.std.proofs.Common.{◌≡◌, ◌+◌, ◌<◌, ◌≤◌, ◌||◌, ℕ, length, get_or, refl, ap, ◌∙◌, arith}
+use Rattle.std.proofs.Common.{◌≡◌, ◌+◌, ◌<◌, ◌≤◌, ◌||◌, ◌&&◌, not, true, ℕ, length, get_or, refl, ap, ◌∙◌, arith}
 use Rattle.exam_plan.specs.declared.tally.Tally.{Tally}
 use Rattle.exam_plan.specs.HallSets.{holds}
 use Rattle.exam_plan.specs.Tallies.{one_if, tallied}
 use Rattle.exam_plan.specs.Searches.{no_digits, tally_at}
-use Rattle.exam_plan.proofs.Steps.{same_within}
-use Rattle.exam_plan.proofs.Tables.{read_within, entered, union_counted}
+use Rattle.exam_plan.proofs.Steps.{beyond, same_within}
+use Rattle.exam_plan.proofs.Tables.{read_within, entered, union_counted, changes_in}
 use Rattle.exam_plan.proofs.onward.Onward.enter.Goals as goal
 
 pub count-requires : goal.count-requires
@@ -28,10 +28,19 @@ returns c =
     let more : (k : ℕ) → tallied c.count.new.self.digits k ≡ tally_at c.args.self.now.tallies.items c.args.hall k + one_if (holds c.fitting-fitting.result k) =
     λ k. c.count.ensures.more k ∙ ap (λ (t : Tally). tallied t.digits k + one_if (holds c.fitting-fitting.result k))
     (c.index_mut.ensures.value ∙ read_within c.args.self.now.tallies.items c.args.hall c.index_mut.result.now no_digits in_tallies) in
-    let read : c.index.result.now ≡ get_or c.args.self.now.sets.items c.args.hall 0 = c.index.ensures ∙ same_within c.args.self.now.sets.items c.args.hall c.index.result.now 0 in_sets in
-    let first : c.index-2.result.now ≡ get_or c.args.self.now.firsts.items c.args.hall 0 = c.index-2.ensures ∙ same_within c.args.self.now.firsts.items c.args.hall c.index-2.result.now 0 in_firsts in
+    let read : c.index-before.result.now ≡ get_or c.args.self.now.sets.items c.args.hall 0 = c.index-before.ensures ∙ same_within c.args.self.now.sets.items c.args.hall c.index-before.result.now 0 in_sets in
+    let first : c.index.result.now ≡ get_or c.args.self.now.firsts.items c.args.hall 0 = c.index.ensures ∙ same_within c.args.self.now.firsts.items c.args.hall c.index.result.now 0 in_firsts in
+    let union : (k : ℕ) → holds c.union.result k ≡ holds (get_or c.args.self.now.sets.items c.args.hall 0) k || holds c.fitting-fitting.result k = λ k. c.union.ensures k ∙ ap (λ s. holds s k || holds c.fitting-fitting.result k) read in
+    let gained : (k : ℕ) → holds c.minus.result k ≡ holds c.fitting-fitting.result k && not (holds (get_or c.args.self.now.sets.items c.args.hall 0) k) = λ k. c.minus.ensures k ∙ ap (λ s. holds c.fitting-fitting.result k && not (holds s k)) read in
     entered c.args.problem.now c.args.self.now _ c.args.hall c.count.new.self c.union.result shaped c.requires.hall refl refl c.count.ensures.whole
-    (union_counted (get_or c.args.self.now.sets.items c.args.hall 0) c.fitting-fitting.result c.union.result (tally_at c.args.self.now.tallies.items c.args.hall) (tallied c.count.new.self.digits) (λ k. shaped.counted c.args.hall k c.requires.hall)
-    (λ k. c.union.ensures k ∙ ap (λ s. holds s k || holds c.fitting-fitting.result k) read) more)
+    (union_counted (get_or c.args.self.now.sets.items c.args.hall 0) c.fitting-fitting.result c.union.result (tally_at c.args.self.now.tallies.items c.args.hall) (tallied c.count.new.self.digits) (λ k. shaped.counted c.args.hall k c.requires.hall) union more)
+    c.minus.result true c.put_each.ensures.long c.put_each.ensures.put
+    (λ k l. changes_in (get_or c.args.self.now.sets.items c.args.hall 0) c.fitting-fitting.result c.minus.result c.union.result gained union k)
     c.args.candidate c.min.result (λ k. more k ∙ ap (λ b. tally_at c.args.self.now.tallies.items c.args.hall k + one_if b) (c.fitting-fitting.ensures.fits k))
     refl (omega (arith, c.min.ensures, first)) (omega (arith, c.min.ensures)) refl
+
+pub put_each-requires : goal.put_each-requires
+put_each-requires c = record {
+  hall = omega (arith, c.requires.hall, c.fitting-fitting.ensures.few);
+  exist = λ k t. (let parts = beyond c.fitting-fitting.result c.index-before.result.now c.minus.result k (c.minus.ensures k) t in let below = c.fitting-fitting.ensures.exist k parts.0 in omega (arith, below, c.requires.shaped.inward));
+}

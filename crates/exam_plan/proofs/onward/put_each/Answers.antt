@@ -1,0 +1,42 @@
+use Rattle.std.proofs.Common.{rules, ◌<◌, ◌∙◌, length, cond, nat_eq, ap, arith}
+use Rattle.std.proofs.lemmas.List.{length-set}
+use Rattle.exam_plan.specs.HallSets.{holds}
+use Rattle.exam_plan.proofs.Steps.{same_within, less_within, one_fewer}
+use Rattle.exam_plan.proofs.Tables.{put_none, put_more, put_all}
+use Rattle.exam_plan.proofs.onward.put_each.Goals as goal
+
+pub putting-init : goal.putting-init
+putting-init c = record {
+  long = search rules;
+  within = λ k t. t;
+  put = put_none c.args.sets.now.items c.args.halls c.args.hall c.args.inside;
+}
+
+pub index-requires : goal.index-requires
+index-requires c =
+    let l : c.in-Some.next < length c.putting.sets.items = (let b = c.requires.exist c.in-Some.next (c.putting.invariant.within c.in-Some.next c.in-Some.ensures.1) in omega (arith, b, c.putting.invariant.long)) in
+    search rules
+
+pub index_mut-requires : goal.index_mut-requires
+index_mut-requires c =
+    let l : c.in-Some.next < length c.putting.sets.items = (let b = c.requires.exist c.in-Some.next (c.putting.invariant.within c.in-Some.next c.in-Some.ensures.1) in omega (arith, b, c.putting.invariant.long)) in
+    search rules
+
+pub putting-preserved : goal.putting-preserved
+putting-preserved c =
+    let among = c.putting.invariant.within c.in-Some.next c.in-Some.ensures.1 in
+    let below : c.in-Some.next < length c.putting.sets.items = (let b = c.requires.exist c.in-Some.next among in omega (arith, b, c.putting.invariant.long)) in
+    record {
+      long = simp length-set c.putting.invariant.long;
+      within = λ k t. c.putting.invariant.within k (less_within c.putting.rest c.in-Some.next c.put-rest.result c.put-rest.ensures k t);
+      put = put_more c.args.sets.now.items c.args.halls c.args.hall c.args.inside c.putting.rest c.putting.sets.items c.in-Some.next c.put.result c.put-rest.result c.putting.invariant.put below among c.in-Some.ensures.1
+          (λ h. c.put.ensures h ∙ ap (λ s. cond (nat_eq h c.args.hall) c.args.inside (holds s h)) (c.index.ensures ∙ same_within c.putting.sets.items c.in-Some.next c.index.result.now 0 below)) c.put-rest.ensures;
+    }
+
+pub putting-smaller : goal.putting-smaller
+putting-smaller c =
+    let below : c.in-Some.next < length c.putting.sets.items = (let b = c.requires.exist c.in-Some.next (c.putting.invariant.within c.in-Some.next c.in-Some.ensures.1) in omega (arith, b, c.putting.invariant.long)) in
+    simp length-set (one_fewer c.putting.rest c.in-Some.next c.put-rest.result c.put-rest.ensures (length c.putting.sets.items) below c.in-Some.ensures.1)
+
+pub returns-clause-put : goal.returns-clause-put
+returns-clause-put c = put_all c.args.sets.now.items c.args.halls c.args.hall c.args.inside c.putting.rest c.putting.sets.items c.in_default.ensures c.putting.invariant.put
