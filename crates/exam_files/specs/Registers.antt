@@ -1,13 +1,18 @@
 -- The text of an appeal register.
-use Rattle.std.specs.Prelude.{ℕ, List, ◌++◌, length, codes}
+use Rattle.std.specs.Prelude.{ℕ, Bool, true, List, ◌++◌, length, codes, Option, Result, Ok, Err}
 use Rattle.std.specs.Fmt.{decimal}
 use Rattle.std.specs.List.{flat_map}
 use Rattle.exam_office.specs.declared.view.AppealRow.{AppealRow}
 use Rattle.exam_office.specs.Views.{View}
 use Rattle.exam_office.specs.Words.{kind_word, state_word, subject_text}
+use Rattle.std.specs.Io.KnownBytes.{Appends}
+use Rattle.exam_send.specs.Sending.{AppendsBeginning}
+use Rattle.exam_office.specs.Sources.{is_source_refusal}
 use Rattle.exam_types.specs.Days.{day_text}
 use Rattle.exam_types.specs.Numbers.{number_text}
 use Rattle.exam_files.specs.Padding.{left_in}
+use Rattle.exam_files.specs.declared.sheet_fault.SheetFault.{SheetFault}
+use Rattle.exam_files.specs.declared.sheet_fault.SheetFault.TheVariants as faults
 
 abbrev pub appeal_line : AppealRow → List ℕ
 appeal_line row =
@@ -25,3 +30,15 @@ register_text code appeals = register_heading code (length appeals) ++ flat_map 
 
 abbrev pub appeal_register : View → List ℕ
 appeal_register view = register_text view.code view.appeals
+
+-- ---- streamed
+
+-- it went out whole, or after a fault a beginning of it
+abbrev pub Streams : {W : Type 0} → (W → Option (List ℕ)) → Result (Unit {0}) SheetFault → W → W → List ℕ → Type 0
+Streams contents (Ok done) old new text = Appends (contents old) (contents new) text
+Streams contents (Err fault) old new text = AppendsBeginning (contents old) (contents new) text
+
+-- the write failed, or the source or the memory did
+abbrev pub is_stream_fault : SheetFault → Bool
+is_stream_fault (faults.Refused e) = is_source_refusal e
+is_stream_fault faults.Write = true

@@ -15,6 +15,7 @@ mod sending;
 mod sheet_fault;
 mod sheet_text;
 mod shortages;
+mod streams;
 
 pub use attendances::attendance;
 pub use clashes::clash_list;
@@ -29,3 +30,4 @@ pub use laws::{
 pub use registers::appeal_register;
 pub use sheet_fault::SheetFault;
 pub use shortages::shortage_sheet;
+pub use streams::register_stream;

@@ -40,7 +40,11 @@ fn register_text(
     Ok(text)
 }
 
-fn push_heading(text: &mut Vec<u8>, code: SessionCode, count: usize) -> Result<(), Refusal>
+pub(crate) fn push_heading(
+    text: &mut Vec<u8>,
+    code: SessionCode,
+    count: usize,
+) -> Result<(), Refusal>
     ensures ok { OnOk result (text.new.items ≡ text.old.items ++ spec.register_heading code count) }
     ensures memory { IfErr result (λ e. e ≡ NoMemory) }
 {
@@ -62,7 +66,7 @@ fn push_appeals(text: &mut Vec<u8>, appeals: &[AppealRow]) -> Result<(), Refusal
     Ok(())
 }
 
-fn push_line(text: &mut Vec<u8>, appeal: &AppealRow) -> Result<(), Refusal>
+pub(crate) fn push_line(text: &mut Vec<u8>, appeal: &AppealRow) -> Result<(), Refusal>
     ensures ok { OnOk result (text.new.items ≡ text.old.items ++ spec.appeal_line appeal.now) }
     ensures memory { IfErr result (λ e. e ≡ NoMemory) }
 {

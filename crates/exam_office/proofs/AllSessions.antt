@@ -110,7 +110,7 @@ known_among {X} s (row ∷ rows) = inner (is_at (code_cmp s) row.0) (same_code s
     inner true false e rest = cc
     inner false true e rest = cc
 
-none_later : (s : Code) (keys : List Code) → AllByRecursion (λ y. code_cmp s y ≡ Less) keys → list_any (same_code s) keys ≡ false
+pub none_later : (s : Code) (keys : List Code) → AllByRecursion (λ y. code_cmp s y ≡ Less) keys → list_any (same_code s) keys ≡ false
 none_later s [] less = refl
 none_later s (k ∷ keys) less = ap (λ b. b || list_any (same_code s) keys) (texts_ties s k ∙ ap is_eq less.0) ∙ none_later s keys less.1
 

@@ -54,7 +54,7 @@ module _ (r : Relations) (appeals : Appeals) (s : Code) where
   seating_same same = record { members = refl; fits = λ c h. sym (fits_same c (same c) h); desks = λ h. refl }
 
 -- what is not granted counts for nothing
-not_granted : (mine here : Bool) → (mine && (here && false)) ≡ false
+pub not_granted : (mine here : Bool) → (mine && (here && false)) ≡ false
 not_granted true true = refl
 not_granted true false = refl
 not_granted false here = refl
@@ -122,7 +122,7 @@ kind_flips a b = refl
 number_flips : (c d : ℕ) → nat_eq c d ≡ nat_eq d c
 number_flips c d = key_flips (key.OfCandidate c) (key.OfCandidate d)
 
-code_flips : (s t : Code) → same_code s t ≡ same_code t s
+pub code_flips : (s t : Code) → same_code s t ≡ same_code t s
 code_flips s t = key_flips (key.OfSession s) (key.OfSession t)
 
 pub single_flips : (x y : SingleKey) → same_single_key x y ≡ same_single_key y x

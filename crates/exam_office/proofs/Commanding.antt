@@ -44,7 +44,7 @@ IsMarked before c p live t = t ≡ with_live before.relations c p live
 
 module _ (before : State) (good : IsGood before) (c : ℕ) (p : Code) where
   -- with another live mark everybody else stays
-  others_seated : (live : Bool) (after : State) → ArePlansRepaired (with_live before.relations c p live) before after
+  pub others_seated : (live : Bool) (after : State) → ArePlansRepaired (with_live before.relations c p live) before after
       → (s : Code) → SeatsOn (command.Withdraw c p) (seating (with_live before.relations c p live) s) (plan_of before.seats s) (plan_of after.seats s)
   others_seated live after plans s =
       others_stay before.relations (with_live before.relations c p live) s c refl (λ h. refl) (fits_same before.relations c p live s) None (plan_of before.seats s) (plan_of after.seats s) (good.best s).lawful (plans s).repair

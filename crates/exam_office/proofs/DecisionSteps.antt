@@ -43,7 +43,7 @@ module _ (before : State) (good : IsGood before) (d : Decision) where
   decided_memory up t is = within_memory t (ap within_limits is ∙ decision_within before.relations d up ∙ good.limits)
 
   -- everybody else who is a member stays
-  others_seated : (after : State) → ArePlansDecided (with_decision before.relations d) after
+  pub others_seated : (after : State) → ArePlansDecided (with_decision before.relations d) after
       → (s : Code) → Keeps (λ c. d.number ≡ c) (seating (with_decision before.relations d) s) (plan_of before.seats s) (plan_of after.seats s)
   others_seated after plans s =
       others_stay before.relations (with_decision before.relations d) s d.number (decision_candidates before.relations d) (decision_desks before.relations d s) (decision_fits before.relations d s)

@@ -19,7 +19,7 @@ use Rattle.exam_office.proofs.Staying.{kept_stays}
 
 -- ---- counts
 
-filtered : {A : Type 0} (m p : A → Bool) (xs : List A) → filter p (filter m xs) ≡ filter (λ x. m x && p x) xs
+pub filtered : {A : Type 0} (m p : A → Bool) (xs : List A) → filter p (filter m xs) ≡ filter (λ x. m x && p x) xs
 filtered m p [] = refl
 filtered m p (x ∷ xs) = inner (m x) (filtered m p xs)
   where

@@ -138,7 +138,7 @@ pub made : (o : Option Refusal) (r t : Relations) → unless o r ≡ Ok t → r 
 made None r t is = cc
 made (Some e) r t is = absurd (let differ : unless (Some e) r ≡ Ok t = is in cc)
 
-unrefused : (o : Option Refusal) (r t : Relations) → unless o r ≡ Ok t → o ≡ None
+pub unrefused : (o : Option Refusal) (r t : Relations) → unless o r ≡ Ok t → o ≡ None
 unrefused None r t is = refl
 unrefused (Some e) r t is = absurd (let differ : unless (Some e) r ≡ Ok t = is in cc)
 

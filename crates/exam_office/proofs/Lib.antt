@@ -43,3 +43,8 @@ pub mod OwnRetracting
 pub mod OwnLodging
 pub mod OwnView
 pub mod FirstBad
+pub mod Alike
+pub mod Untouched
+pub mod Gathering
+pub mod ChosenSessions
+pub mod Parting

@@ -29,7 +29,7 @@ use Rattle.exam_office.proofs.SameSeats.{within_members}
 
 module _ {K X : Type 0} (cmp : K → K → Ordering) (exact : CmpEqualImpliesEq cmp) where
   -- at another key there is what was there
-  put_elsewhere : (rows : List (K × X)) (k q : K) (v : X) → is_at (cmp q) k ≡ false → row_at cmp (put_row cmp rows k v) q ≡ row_at cmp rows q
+  pub put_elsewhere : (rows : List (K × X)) (k q : K) (v : X) → is_at (cmp q) k ≡ false → row_at cmp (put_row cmp rows k v) q ≡ row_at cmp rows q
   put_elsewhere [] k q v away = ap (λ b. cond b (Some v) None) away
   put_elsewhere (e ∷ es) k q v away = inner (cmp k e.0) refl (put_elsewhere es k q v away)
     where
@@ -70,7 +70,7 @@ module _ {K X : Type 0} (cmp : K → K → Ordering) (exact : CmpEqualImpliesEq 
       inner Equal any rest = or_right (p e) (list_any p es) (ap (λ b. b || list_any p es) (sym (none e.0)) ∙ any)
       inner Greater any rest = later (p e) any rest
 
-entries_exact : CmpEqualImpliesEq entry_cmp
+pub entries_exact : CmpEqualImpliesEq entry_cmp
 entries_exact = exact_pairs nat_cmp code_cmp exact_unsigned exact_bytes
 
 -- an entry of another candidate is another

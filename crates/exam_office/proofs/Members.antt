@@ -42,7 +42,7 @@ module _ (r : Relations) (s : Code) where
           ap (is_paper_of r s) (sym same) ∙ (and_parts entry.1.live (is_paper_of r s entry.0.1) (and_parts (entry.0.0 == c) (entry.1.live && is_paper_of r s entry.0.1) live).1).1
       inner false live rest is = rest is
 
-  sitting_paper : (c : ℕ) (p : Code) → sitting r s c ≡ Some p → is_paper_of r s p ≡ true
+  pub sitting_paper : (c : ℕ) (p : Code) → sitting r s c ≡ Some p → is_paper_of r s p ≡ true
   sitting_paper c p = inner (granted_paper r s c)
     where
       passed : (q : Code) (b : Bool) → is_live_paper r s c q ≡ b → option_or (cond b (Some q) None) (least_live_paper r s c) ≡ Some p → is_paper_of r s p ≡ true

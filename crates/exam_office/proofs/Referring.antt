@@ -66,10 +66,10 @@ pub record Grows (r t : Relations) : Type 0 where
   pub halls : (h : Code) → has_row code_cmp r.halls h ≡ true → has_row code_cmp t.halls h ≡ true
   pub candidates : (c : ℕ) → has_row nat_cmp r.candidates c ≡ true → has_row nat_cmp t.candidates c ≡ true
 
-grows_none : (r : Relations) → Grows r r
+pub grows_none : (r : Relations) → Grows r r
 grows_none r = record { sessions = λ s h. h; papers = λ p h. h; halls = λ h k. k; candidates = λ c h. h }
 
-grows_both : (r t u : Relations) → Grows r t → Grows t u → Grows r u
+pub grows_both : (r t u : Relations) → Grows r t → Grows t u → Grows r u
 grows_both r t u a b = record {
   sessions = λ s h. b.sessions s (a.sessions s h);
   papers = λ p h. b.papers p (a.papers p h);
@@ -77,7 +77,7 @@ grows_both r t u a b = record {
   candidates = λ c h. b.candidates c (a.candidates c h);
 }
 
-grows_row : (r : Relations) (x : Row) → Grows r (with_row r x)
+pub grows_row : (r : Relations) (x : Row) → Grows r (with_row r x)
 grows_row r (row.OfSession s x) = record { sessions = λ t h. has_put code_cmp r.sessions s t x h; papers = λ p h. h; halls = λ h k. k; candidates = λ c h. h }
 grows_row r (row.OfPaper p x) = record { sessions = λ s h. h; papers = λ q h. has_put code_cmp r.papers p q x h; halls = λ h k. k; candidates = λ c h. h }
 grows_row r (row.OfHall h x) = record { sessions = λ s k. k; papers = λ p k. k; halls = λ j k. has_put code_cmp r.halls h j x k; candidates = λ c k. k }
@@ -92,14 +92,14 @@ grows_row r (row.OfArrangement c x) = record { sessions = λ s h. h; papers = λ
 
 -- ---- the rows of r refer to what is there in t
 
-record RefersIn (t r : Relations) : Type 0 where
-  papers : list_all (λ x. has_row code_cmp t.sessions x.1.session) r.papers ≡ true
-  openings : list_all (λ x. has_row code_cmp t.sessions x.0.0 && has_row code_cmp t.halls x.0.1) r.openings ≡ true
-  entries : list_all (λ x. has_row nat_cmp t.candidates x.0.0 && has_row code_cmp t.papers x.0.1) r.entries ≡ true
-  arrangements : list_all (λ x. has_row nat_cmp t.candidates x.0) r.arrangements ≡ true
-  appeals : list_all (λ x. has_row nat_cmp t.candidates x.0.0 && good.appeal_refers t x.1) r.appeals ≡ true
+pub record RefersIn (t r : Relations) : Type 0 where
+  pub papers : list_all (λ x. has_row code_cmp t.sessions x.1.session) r.papers ≡ true
+  pub openings : list_all (λ x. has_row code_cmp t.sessions x.0.0 && has_row code_cmp t.halls x.0.1) r.openings ≡ true
+  pub entries : list_all (λ x. has_row nat_cmp t.candidates x.0.0 && has_row code_cmp t.papers x.0.1) r.entries ≡ true
+  pub arrangements : list_all (λ x. has_row nat_cmp t.candidates x.0) r.arrangements ≡ true
+  pub appeals : list_all (λ x. has_row nat_cmp t.candidates x.0.0 && good.appeal_refers t x.1) r.appeals ≡ true
 
-parted : (r : Relations) → good.refers r ≡ true → RefersIn r r
+pub parted : (r : Relations) → good.refers r ≡ true → RefersIn r r
 parted r every =
     let a = and_parts (good.papers_refer r) (good.openings_refer r && (good.entries_refer r && (good.arrangements_refer r && good.appeals_refer r))) every in
     let b = and_parts (good.openings_refer r) (good.entries_refer r && (good.arrangements_refer r && good.appeals_refer r)) a.1 in

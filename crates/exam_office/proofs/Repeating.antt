@@ -14,7 +14,7 @@ use Rattle.std.proofs.lemmas.Map.Lookups.{CmpEqualImpliesEq}
 use Rattle.exam_rules.specs.Relations.{row_at, put_row}
 use Rattle.exam_office.proofs.Distinct.{flips}
 
-sorted_from : {K : Type 0} (cmp : K → K → Ordering) (k : K) (ks : List K) → AllByRecursion (λ y. cmp k y ≡ Less) ks → IsStrictlySortedBy cmp ks → IsStrictlySortedBy cmp (k ∷ ks)
+pub sorted_from : {K : Type 0} (cmp : K → K → Ordering) (k : K) (ks : List K) → AllByRecursion (λ y. cmp k y ≡ Less) ks → IsStrictlySortedBy cmp ks → IsStrictlySortedBy cmp (k ∷ ks)
 unfolding IsStrictlySortedBy
 sorted_from cmp k ks above up = (above, up)
 
@@ -99,7 +99,7 @@ module _ {K X : Type 0} (cmp : K → K → Ordering) (o : IsTotalOrder cmp) wher
       inner Equal is rest = up
       inner Greater is rest = sorted_from cmp e.0 (keys_of (put_row cmp es k v)) (all_keys_put (λ y. cmp e.0 y ≡ Less) es k v above (o.antisymm e.0 k ∙ ap ordering_reverse is)) rest
 
-  past_all : (k q : K) (es : List (K × X)) → cmp q k ≡ Equal → AllByRecursion (λ y. cmp k y ≡ Less) (keys_of es) → row_at cmp es q ≡ None
+  pub past_all : (k q : K) (es : List (K × X)) → cmp q k ≡ Equal → AllByRecursion (λ y. cmp k y ≡ Less) (keys_of es) → row_at cmp es q ≡ None
   past_all k q [] tied above = refl
   past_all k q (e ∷ es) tied above = ap (λ r. cond (is_eq r) (Some e.1) (row_at cmp es q)) (o.congr q k e.0 tied ∙ above.0) ∙ past_all k q es tied above.1
 

@@ -5,13 +5,13 @@ use Rattle.std.proofs.Math.Path.{fun_ext}
 use Rattle.exam_plan.specs.Matching.{Seating, Plan, SamePlan, IsBest}
 use Rattle.exam_plan.specs.Chains.{augmented, seated}
 use Rattle.exam_plan.specs.Repair.{kept_part, sweep_order, TurnFrom, Sweeps, IsRepair}
-use Rattle.exam_plan.proofs.LawLemmas.{best_repaired}
+use Rattle.exam_plan.proofs.LawLemmas.{best_repaired, best_stands}
 use Rattle.exam_rules.specs.Relations.{Code, Relations}
 use Rattle.exam_rules.specs.Seatings.{indexed_seating, seating, problem_of}
 use Rattle.exam_rules.specs.Names.{naming, ListsRise, index_of, named_plan, indexed_plan}
 use Rattle.exam_rules.proofs.Naming.{renames}
 use Rattle.exam_rules.proofs.Following.{follows}
-use Rattle.exam_plan.proofs.KeptNames.{IsRepair-indexed, name_of_index}
+use Rattle.exam_plan.proofs.KeptNames.{IsRepair-indexed, IsRepair-named, name_of_index}
 use Rattle.exam_plan.proofs.Carrying.{IsBest-indexed}
 
 -- the repair of a best plan is that plan
@@ -22,6 +22,14 @@ best_stays r s up first before after best repair =
     let same : back.0 ≡ indexed_plan r s before = fun_ext (best_repaired (problem_of r s) (option_and_then (index_of r s) first) (indexed_plan r s before) back.0 indexed back.1) in
     λ c. back.2 c ∙ ap (λ p. named_plan r s p c) same
     ∙ name_of_index (naming r s) (renames r s up) (follows r s up) before best.lawful c
+
+-- and it is one
+pub best_is_repaired : (r : Relations) (s : Code) → ListsRise r s → (first : Option ℕ) (plan : Plan ℕ Code) → IsBest (seating r s) plan → IsRepair (seating r s) first plan plan
+best_is_repaired r s up first plan best =
+    let indexed : IsBest (indexed_seating r s) (indexed_plan r s plan) = IsBest-indexed (naming r s) (renames r s up) plan best in
+    subst (IsRepair (seating r s) first plan) (fun_ext (name_of_index (naming r s) (renames r s up) (follows r s up) plan best.lawful))
+    (IsRepair-named (naming r s) (renames r s up) (follows r s up) first plan (indexed_plan r s plan)
+    (best_stands (problem_of r s) (option_and_then (index_of r s) first) (indexed_plan r s plan) indexed))
 
 -- ---- nobody is put out by a sweep
 

@@ -15,7 +15,7 @@ use Rattle.exam_rules.specs.Sessions.{members}
 use Rattle.exam_rules.specs.Names.{ListsRise, number_at, hall_at, index_of, named_plan}
 use Rattle.exam_rules.proofs.Naming.{renames, index_known, index_below}
 
-then_eq : (a b : Ordering) → is_eq (ordering_then a b) ≡ (is_eq a && is_eq b)
+pub then_eq : (a b : Ordering) → is_eq (ordering_then a b) ≡ (is_eq a && is_eq b)
 then_eq Less b = refl
 then_eq Equal b = refl
 then_eq Greater b = refl

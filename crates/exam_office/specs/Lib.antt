@@ -47,8 +47,11 @@ pub mod Singles
 pub mod Steps
 pub mod Between
 pub mod Orders
+pub mod Touched
+pub mod Parts
 pub mod Headline
 pub mod Views
+pub mod Sources
 pub mod Moves
 pub mod Entered
 pub mod Own

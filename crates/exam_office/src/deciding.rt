@@ -12,13 +12,15 @@ ghost use Rattle.exam_office.specs.Appeals as appeals;
 ghost use Rattle.exam_office.specs.Changes.{first_refusal};
 ghost use Rattle.exam_office.specs.Decisions as spec;
 ghost use Rattle.exam_office.specs.Replies as replies;
+ghost use Rattle.exam_office.specs.Parts.{state_of};
 ghost use Rattle.exam_office.specs.Singles.{AreSingle};
 
 use crate::appeals::{is_open, is_same_kind, stored_state};
 use crate::command::{Decision, Outcome, Reply};
 use crate::copies::{copied_facts, put, with_stored_appeal};
 use crate::moves::moved;
-use crate::office::Office;
+use crate::office::{Office, Seats};
+use crate::part::Part;
 use exam_rules::{Appeal, Facts, Status, Subject, is_live_paper, is_member};
 use exam_types::{Day, Number, PaperCode, Reason, Reference, Refusal, SessionCode};
 
@@ -84,6 +86,43 @@ fn reply_about(before: &Office, after: &Office, decision: &Decision, appeal: &Ap
         state: stored_state(after.facts(), decision.number, decision.reference),
         seat,
         moved: moved(before.seats(), after.seats(), decision.number),
+    }
+}
+
+/// What a decision answers, from the part of an office before it and the facts and the plans after it.
+pub fn part_reply(part: &Part, facts: &Facts, plans: &Seats, decision: &Decision) -> Reply
+    ensures { result ≡ replies.decision_reply (state_of part.now)
+        (record { relations = relations_of facts.now; seats = plans.now.entries }) decision.now }
+{
+    match part
+        .facts
+        .appeals
+        .get(&(decision.number, decision.reference))
+    {
+        Some(appeal) => part_reply_about(part, facts, plans, decision, appeal),
+        None => Reply::Unchanged,
+    }
+}
+
+/// What the decision of this appeal answers, as it was stored before.
+fn part_reply_about(
+    part: &Part,
+    facts: &Facts,
+    plans: &Seats,
+    decision: &Decision,
+    appeal: &Appeal,
+) -> Reply
+    ensures { result ≡ replies.reply_to (state_of part.now)
+        (record { relations = relations_of facts.now; seats = plans.now.entries }) decision.now
+        (Some appeal.now) }
+{
+    if is_decided(decision.outcome, &decision.answer, &appeal.status) {
+        return Reply::Unchanged;
+    }
+    Reply::Decided {
+        state: stored_state(facts, decision.number, decision.reference),
+        seat: plans.get(&(appeal.session, decision.number)).copied(),
+        moved: moved(&part.plans, plans, decision.number),
     }
 }
 

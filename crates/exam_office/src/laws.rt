@@ -1,9 +1,11 @@
 //! Laws of offices, of imports and of appeals.
-ghost use Rattle.std.specs.Prelude.{◌≡◌, ◌⊎◌, ℕ, true, List, Result, Ok, Err, length};
+ghost use Rattle.std.specs.Prelude.{◌≡◌, ◌⊎◌, ℕ, true, false, List, Result, Ok, Err, length};
 ghost use Rattle.exam_types.specs.declared.refusal.Refusal.{Refusal};
 ghost use Rattle.exam_types.specs.declared.refusal.Refusal.TheVariants as refusal;
 ghost use Rattle.exam_rules.specs.Orders.{AreInOrder};
+ghost use Rattle.exam_plan.specs.Matching.{SamePlan};
 ghost use Rattle.exam_rules.specs.Relations.{Code, Relations};
+ghost use Rattle.exam_rules.specs.Seatings.{plan_of, seating};
 ghost use Rattle.exam_office.specs.declared.command.Command.{Command};
 ghost use Rattle.exam_office.specs.declared.command.Command.TheVariants as command;
 ghost use Rattle.exam_office.specs.declared.command.AppealState.TheVariants as state;
@@ -21,7 +23,8 @@ ghost use Rattle.exam_office.specs.Imports.{ImportRows, distinct_rows, is_consis
 ghost use Rattle.exam_office.specs.Orders.{IsInOrder};
 ghost use Rattle.exam_office.specs.Replies.{import_reply};
 ghost use Rattle.exam_office.specs.State.{State};
-ghost use Rattle.exam_office.specs.Steps.{NoneLacksMemory, Run, Step};
+ghost use Rattle.exam_office.specs.Steps.{NoneLacksMemory, Run, SameSeating, Step};
+ghost use Rattle.exam_office.specs.Touched.{touches};
 
 /// A good office whose tables are in order seats every session as promised: `Office::show_seated`. Every
 /// `Office` is good (`Office::show_good`) and in order (`Office::show_order`).
@@ -128,4 +131,14 @@ pub fn lodging_and_retracting_move_nobody()
     ensures retracting { (number : ℕ) (reference : Code) (day : ℕ) (before after : State) (first : Reply)
         → IsGood before → IsInOrder before → IsInOrder after
         → Step (command.Retract number reference) day before (Ok first) after → after.seats ≡ before.seats }
+{}
+
+/// An accepted command leaves every session that it does not touch with its members, fits and desks, and with
+/// its plan. Every `Office` is good (`Office::show_good`) and in order (`Office::show_order`).
+pub fn untouched_session_stays()
+    ensures { (done : Command) (today : ℕ) (before after : State) (reply : Reply) (s : Code)
+        → IsGood before → IsInOrder before → Step done today before (Ok reply) after
+        → touches before.relations done s ≡ false
+        → SameSeating (seating before.relations s) (seating after.relations s)
+        × SamePlan (plan_of after.seats s) (plan_of before.seats s) }
 {}

@@ -1,6 +1,7 @@
 //! The commands of the office, and what it shows of a session.
 #![tactic(auto)]
 
+mod appeal_source;
 mod appeals;
 mod changes;
 mod closing;
@@ -19,15 +20,19 @@ mod office;
 mod own;
 mod own_laws;
 mod own_source;
+mod part;
+mod part_steps;
 mod references;
 mod repair;
 mod retracting;
 mod steps;
 mod tables;
+mod touching;
 mod view;
 mod view_source;
 mod words;
 
+pub use appeal_source::{AppealSource, ListedAppeals};
 pub use appeals::state_of;
 pub use command::{AppealState, Command, Decision, Lodging, Outcome, Reply};
 pub use import::Import;
@@ -36,7 +41,7 @@ pub use laws::{
     good_office_is_seated, lodging_and_retracting_move_nobody, one_list_gives_one_office,
     one_step_has_one_result, repeated_decision_changes_nothing, repeated_import_changes_nothing,
     repeated_import_makes_the_same_facts, repeated_lodging_changes_nothing,
-    repeated_retraction_changes_nothing,
+    repeated_retraction_changes_nothing, untouched_session_stays,
 };
 pub use office::{Office, Seats};
 pub use own::{Own, OwnSession};
@@ -44,7 +49,10 @@ pub use own_laws::{
     lodging_and_retracting_show_others_nothing, own_rows_decide_a_lodging,
     own_rows_decide_a_retraction,
 };
+pub use part::Part;
+pub use part_steps::step_part;
 pub use steps::{next_office, run, step};
 pub use tables::{Table, first_bad_table};
+pub use touching::touched;
 pub use view::{AppealRow, Clash, Seat, SessionShortage, SessionView};
 pub use words::{kind_word, state_word, status_word, write_subject};

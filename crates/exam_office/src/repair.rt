@@ -1,5 +1,5 @@
 //! The repair of the plans after a change of the facts.
-ghost use Rattle.std.specs.Prelude.{◌≡◌, ◌<◌, ◌≤◌, ◌&&◌, nat_eq, position, All, slice_index_or, [], if◌then◌else◌, Some, ℕ, false, length, IsTrue, Option, None, IfOk, IfErr, OnOk, IfSome};
+ghost use Rattle.std.specs.Prelude.{◌≡◌, ◌<◌, Contains, ◌≤◌, ◌&&◌, nat_eq, position, All, slice_index_or, [], if◌then◌else◌, Some, ℕ, false, length, IsTrue, Option, None, IfOk, IfErr, OnOk, IfSome};
 ghost use Rattle.std.specs.Option.{option_map, option_and_then, option_or};
 ghost use Rattle.exam_types.specs.declared.refusal.Refusal.TheVariants.{NoMemory};
 ghost use Rattle.exam_plan.specs.Matching.{Plan, SamePlan, IsBest};
@@ -41,6 +41,32 @@ pub fn repaired(
     let mut repaired = BTreeMap::new(alloc);
     for (session, _) in &facts.sessions {
         repair_session(alloc, facts, lists, session, seats, &first, &mut repaired)?;
+    }
+    Ok(repaired)
+}
+
+/// The plans of these sessions, each repaired, the first candidate first where they are a member. Nobody is
+/// seated in another session.
+pub fn repaired_among(
+    alloc: Global,
+    facts: &Facts,
+    lists: &SessionLists,
+    sessions: &[SessionCode],
+    seats: &Seats,
+    first: Option<Number>,
+) -> Result<Seats, Refusal>
+    requires lists { AreListsOf (relations_of facts.now) lists.now }
+    requires few { (s : Code) → IsTrue (has_row code_cmp facts.now.sessions.entries s)
+        → length (members (relations_of facts.now) s) ≤ most_members }
+    ensures ok { IfOk result (λ new. (s : Code) → Contains sessions.now s
+        → IsRepaired (relations_of facts.now) first seats.now.entries new.entries s) }
+    ensures memory { IfErr result (λ e. e ≡ NoMemory) }
+{
+    let mut repaired = BTreeMap::new(alloc);
+    for (session, _) in &facts.sessions {
+        if sessions.contains(session) {
+            repair_session(alloc, facts, lists, session, seats, &first, &mut repaired)?;
+        }
     }
     Ok(repaired)
 }

@@ -1,0 +1,84 @@
+//! The appeal register of a session, from a source that gives the appeals one by one.
+ghost use Rattle.std.specs.Prelude.{◌≡◌, ◌⊎◌, ◌∷◌, ◌++◌, [], length, IsTrue, OnOk, OnErr, IfErr};
+ghost use Rattle.std.specs.Io.KnownBytes.{Appends};
+ghost use Rattle.exam_send.specs.Sending.{AppendsBeginning};
+ghost use Rattle.exam_office.specs.declared.view.AppealRow.{AppealRow as Row};
+ghost use Rattle.exam_files.specs.Registers as spec;
+
+use crate::registers::{push_heading, push_line};
+use crate::sending::send;
+use crate::sheet_fault::SheetFault;
+use exam_office::{AppealRow, AppealSource};
+use exam_types::{Refusal, SessionCode};
+use std::alloc::Global;
+use std::io::Write;
+
+/// Writes the register of a session with this count of appeals, each as the source gives it. It asks for no more
+/// than the count, and refuses as a bad store where the source ends sooner. After a fault a beginning of the
+/// sheet went out.
+pub fn register_stream<A: AppealSource, W: Write>(
+    alloc: Global,
+    session: &SessionCode,
+    count: u32,
+    source: &mut A,
+    writer: &mut W,
+) -> Result<(), SheetFault>
+    ensures sheet { A.IsHonest source.new → length (A.coming source.old) ≡ count
+        → spec.Streams W.contents result writer.old writer.new
+        (spec.register_text session.now (A.coming source.old)) }
+    ensures fault { IfErr result (λ e. IsTrue (spec.is_stream_fault e)) }
+{
+    send_heading(alloc, session, count, writer)?;
+    for _place in 0..count {
+        send_next(alloc, source, writer)?;
+    }
+    Ok(())
+}
+
+/// Writes the heading.
+fn send_heading<W: Write>(
+    alloc: Global,
+    session: &SessionCode,
+    count: u32,
+    writer: &mut W,
+) -> Result<(), SheetFault>
+    ensures sent { spec.Streams W.contents result writer.old writer.new
+        (spec.register_heading session.now count) }
+    ensures fault { IfErr result (λ e. IsTrue (spec.is_stream_fault e)) }
+{
+    let mut text = Vec::new(alloc);
+    push_heading(&mut text, *session, count as usize)?;
+    send(writer, text.as_slice())
+}
+
+/// Writes the line of the next appeal. Refused as a bad store where none is to come.
+fn send_next<A: AppealSource, W: Write>(
+    alloc: Global,
+    source: &mut A,
+    writer: &mut W,
+) -> Result<(), SheetFault>
+    ensures ok { A.IsHonest source.new → OnOk result ((row : Row)
+        × (A.coming source.old ≡ row ∷ A.coming source.new)
+        × Appends (W.contents writer.old) (W.contents writer.new) (spec.appeal_line row)) }
+    ensures err { A.IsHonest source.new → OnErr result (
+        Appends (W.contents writer.old) (W.contents writer.new) []
+        ⊎ ((row : Row) × (A.coming source.old ≡ row ∷ A.coming source.new)
+        × AppendsBeginning (W.contents writer.old) (W.contents writer.new) (spec.appeal_line row))) }
+    ensures honest { A.IsHonest source.new → A.IsHonest source.old }
+    ensures fault { IfErr result (λ e. IsTrue (spec.is_stream_fault e)) }
+{
+    match source.next()? {
+        Some(row) => send_row(alloc, &row, writer),
+        None => Err(SheetFault::Refused(Refusal::BadStore)),
+    }
+}
+
+/// Writes the line of an appeal.
+fn send_row<W: Write>(alloc: Global, row: &AppealRow, writer: &mut W) -> Result<(), SheetFault>
+    ensures sent { spec.Streams W.contents result writer.old writer.new (spec.appeal_line row.now) }
+    ensures fault { IfErr result (λ e. IsTrue (spec.is_stream_fault e)) }
+{
+    let mut text = Vec::new(alloc);
+    push_line(&mut text, row)?;
+    send(writer, text.as_slice())
+}

@@ -1,0 +1,488 @@
+-- A session that a command does not touch keeps its seating.
+use Rattle.std.proofs.Common.{◌≡◌, ℕ, ◌&&◌, ◌||◌, not, Bool, true, false, cond, List, [], ◌∷◌, map, filter, nat_eq, Option, None, Some, Ok, is_some, refl, ap, sym, subst, ◌∙◌}
+use Rattle.std.specs.List.{list_all, list_any}
+use Rattle.std.specs.List.Sorted.{IsStrictlySortedBy}
+use Rattle.std.specs.Map.{keys_of, remove_entry, lookup}
+use Rattle.std.specs.Option.{option_map_or, option_or}
+use Rattle.std.specs.BTreeMap.{insert_entry, is_at}
+use Rattle.std.specs.Cmp.{Equal-is, nat_cmp_total}
+use Rattle.std.specs.Cmp.Lexicographic.{nat_list_cmp_total}
+use Rattle.std.specs.declared.cmp.Ordering.{Ordering}
+use Rattle.std.specs.declared.cmp.Ordering.TheVariants.{Less, Equal, Greater}
+use Rattle.std.specs.Ordering.{nat_cmp, match_ordering}
+use Rattle.std.proofs.lemmas.Bool.{and_parts, eqb-true, not-false}
+use Rattle.std.proofs.lemmas.Map.Lookups.{CmpEqualImpliesEq, exact_pairs, exact_bytes, exact_unsigned}
+use Rattle.exam_types.specs.declared.refusal.Refusal.{Refusal}
+use Rattle.exam_types.specs.declared.refusal.Refusal.TheVariants as refusal
+use Rattle.exam_plan.specs.Matching.{SamePlan}
+use Rattle.exam_rules.specs.declared.rows.Appeal.{Appeal}
+use Rattle.exam_rules.specs.declared.rows.Entry.{Entry}
+use Rattle.exam_rules.specs.declared.rows.Paper.{Paper}
+use Rattle.exam_rules.specs.declared.rows.Status.{Status}
+use Rattle.exam_rules.specs.declared.rows.Status.TheVariants as status
+use Rattle.exam_rules.specs.declared.rows.Subject.{Subject}
+use Rattle.exam_rules.specs.Orders.{KeysRise}
+use Rattle.exam_rules.specs.Relations.{Code, Relations, appeal_cmp, code_cmp, entry_cmp, opening_cmp, has_row, put_row, remove_row, row_at, same_code}
+use Rattle.exam_rules.specs.Sessions.{has_live_entry, is_granted, is_granted_appeal, is_live, is_live_entry, is_member, is_paper_of}
+use Rattle.exam_rules.specs.Seatings.{plan_of, seating}
+use Rattle.exam_rules.proofs.Naming.{same_code_exact, same_code_itself}
+use Rattle.exam_office.specs.declared.command.Command.{Command}
+use Rattle.exam_office.specs.declared.command.Command.TheVariants as command
+use Rattle.exam_office.specs.declared.command.Decision.{Decision}
+use Rattle.exam_office.specs.declared.command.Outcome.{Outcome}
+use Rattle.exam_office.specs.declared.command.Outcome.TheVariants as outcome
+use Rattle.exam_office.specs.declared.command.Reply.{Reply}
+use Rattle.exam_office.specs.declared.import_row.Row.{Row}
+use Rattle.exam_office.specs.declared.import_row.Row.TheVariants as row
+use Rattle.exam_office.specs.Appeals.{appeal_at, decided, is_decided, is_open, superseded, supersedes}
+use Rattle.exam_office.specs.Changes.{closing_refusal, first_refusal, import_refusal, no_hall, no_paper, not_opened, reinstatement_refusal, row_checks, rows_refusal, too_many, with_live, with_row, with_rows, withdrawal_refusal, without_opening}
+use Rattle.exam_office.specs.Decisions.{decision_checks, decision_refusal, gives_way, giving_way, grant_checks, is_too_late, open_checks, with_decided, with_decision, with_outcome, with_superseded}
+use Rattle.exam_office.specs.Good.{IsGood, refers}
+use Rattle.exam_office.specs.Lodgings as lodgings
+use Rattle.exam_office.specs.Orders.{IsInOrder}
+use Rattle.exam_office.specs.State.{State}
+use Rattle.exam_office.specs.Steps.{SameSeating, Step, StepTo, change}
+use Rattle.exam_office.specs.Touched.{decision_touches, is_appeal_for, names, row_touches, touches}
+use Rattle.exam_office.proofs.Alike.{SpeakAlike, alike_itself, alike_seating}
+use Rattle.exam_office.proofs.AppealKeys.{appeals_exact}
+use Rattle.exam_office.proofs.Appealing.{code_flips, not_granted, put_seating_same, seating_same, with_appeals}
+use Rattle.exam_office.proofs.AppealSteps.{lodging_settled, retraction_settled}
+use Rattle.exam_office.proofs.Lasting.{made, new_facts, unrefused}
+use Rattle.exam_office.proofs.LiveMarks.{entries_exact, put_elsewhere, put_filtered}
+use Rattle.exam_office.proofs.PutAppeals.{put_passed_over}
+use Rattle.exam_office.proofs.PutRows.{mapped_filtered, put_keys}
+use Rattle.exam_office.proofs.Referring.{Grows, grows_both, grows_none, grows_row, neither, parted, passed, there}
+use Rattle.exam_office.proofs.Repeating.{put_found, put_rises}
+
+-- ---- rows at other keys
+
+neither_any : (a b : Bool) → (a || b) ≡ false → (a ≡ false) × (b ≡ false)
+neither_any true b e = absurd (let differ : true ≡ false = e in cc)
+neither_any false b e = (refl, e)
+
+module _ {K : Type 0} (cmp : K → K → Ordering) (exact : CmpEqualImpliesEq cmp) where
+  pub key_apart : (k q : K) → (k ≡ q → ⊥) → is_at (cmp k) q ≡ false
+  key_apart k q apart = inner (is_at (cmp k) q) refl
+    where
+      inner : (b : Bool) → is_at (cmp k) q ≡ b → b ≡ false
+      inner true at = absurd (apart (exact k q ((Equal-is (cmp k q)).0 at)))
+      inner false at = refl
+
+  pub removed_elsewhere : {X : Type 0} → (rows : List (K × X)) (k q : K) → is_at (cmp q) k ≡ false → row_at cmp (remove_row cmp rows k) q ≡ row_at cmp rows q
+  removed_elsewhere [] k q away = refl
+  removed_elsewhere {X} (e ∷ es) k q away = inner (is_at (cmp k) e.0) refl (removed_elsewhere es k q away)
+    where
+      inner : (b : Bool) → is_at (cmp k) e.0 ≡ b → row_at cmp (remove_row cmp es k) q ≡ row_at cmp es q
+          → row_at cmp (cond b es (e ∷ remove_row cmp es k)) q ≡ row_at cmp (e ∷ es) q
+      inner true here rest =
+          let past : is_at (cmp q) e.0 ≡ false = ap (λ z. is_at (cmp q) z) (sym (exact k e.0 ((Equal-is (cmp k e.0)).0 here))) ∙ away in
+          sym (ap (λ b. cond b (Some e.1) (row_at cmp es q)) past)
+      inner false here rest = ap (λ o. cond (is_at (cmp q) e.0) (Some e.1) o) rest
+
+-- numbers of which the new one does not pass
+numbers_filtered : {X : Type 0} (p : ℕ → Bool) (rows : List (ℕ × X)) (c : ℕ) (x : X) → p c ≡ false → filter p (keys_of (put_row nat_cmp rows c x)) ≡ filter p (keys_of rows)
+numbers_filtered p [] c x out = ap (λ b. cond b (c ∷ []) []) out
+numbers_filtered {X} p (e ∷ es) c x out = inner (nat_cmp c e.0) (numbers_filtered p es c x out)
+  where
+    inner : (o : Ordering) → filter p (keys_of (put_row nat_cmp es c x)) ≡ filter p (keys_of es)
+        → filter p (keys_of (match_ordering o ((c, x) ∷ e ∷ es) ((e.0, x) ∷ es) (e ∷ insert_entry nat_cmp es c x))) ≡ filter p (e.0 ∷ keys_of es)
+    inner Less rest = ap (λ b. cond b (c ∷ filter p (e.0 ∷ keys_of es)) (filter p (e.0 ∷ keys_of es))) out
+    inner Equal rest = refl
+    inner Greater rest = ap (λ ns. cond (p e.0) (e.0 ∷ ns) ns) rest
+
+openings_exact : CmpEqualImpliesEq opening_cmp
+openings_exact = exact_pairs code_cmp code_cmp exact_bytes exact_bytes
+
+-- a code that does not name the session is another
+other_code : (s t : Code) → same_code t s ≡ false → s ≡ t → ⊥
+other_code s t away same = let differ : true ≡ false = sym (same_code_itself s) ∙ ap (λ z. same_code z s) same ∙ away in cc
+
+-- ---- who has a live entry is a candidate
+
+module _ (r : Relations) (good : list_all (λ (x : (ℕ × Code) × Entry). has_row nat_cmp r.candidates x.0.0 && has_row code_cmp r.papers x.0.1) r.entries ≡ true) (s : Code) where
+  entered_among : (c : ℕ) (es : List ((ℕ × Code) × Entry)) → list_all (λ (x : (ℕ × Code) × Entry). has_row nat_cmp r.candidates x.0.0 && has_row code_cmp r.papers x.0.1) es ≡ true
+      → list_any (is_live_entry r s c) es ≡ true → has_row nat_cmp r.candidates c ≡ true
+  entered_among c [] every some = absurd (let differ : false ≡ true = some in cc)
+  entered_among c (e ∷ es) every some =
+      let both = and_parts (has_row nat_cmp r.candidates e.0.0 && has_row code_cmp r.papers e.0.1) (list_all (λ (x : (ℕ × Code) × Entry). has_row nat_cmp r.candidates x.0.0 && has_row code_cmp r.papers x.0.1) es) every in
+      inner (is_live_entry r s c e) refl some (entered_among c es both.1)
+    where
+      inner : (b : Bool) → is_live_entry r s c e ≡ b → (b || list_any (is_live_entry r s c) es) ≡ true → (list_any (is_live_entry r s c) es ≡ true → has_row nat_cmp r.candidates c ≡ true) → has_row nat_cmp r.candidates c ≡ true
+      inner true is any rest =
+          let known : has_row nat_cmp r.candidates e.0.0 ≡ true =
+          (and_parts (has_row nat_cmp r.candidates e.0.0) (has_row code_cmp r.papers e.0.1) (and_parts (has_row nat_cmp r.candidates e.0.0 && has_row code_cmp r.papers e.0.1) (list_all (λ (x : (ℕ × Code) × Entry). has_row nat_cmp r.candidates x.0.0 && has_row code_cmp r.papers x.0.1) es) every).0).0 in
+          ap (has_row nat_cmp r.candidates) (sym (eqb-true e.0.0 c (and_parts (nat_eq e.0.0 c) (e.1.live && is_paper_of r s e.0.1) is).0)) ∙ known
+      inner false is any rest = rest any
+
+  entered_known : (c : ℕ) → has_live_entry r s c ≡ true → has_row nat_cmp r.candidates c ≡ true
+  entered_known c some = entered_among c r.entries good some
+
+-- ---- imports
+
+module _ (r0 : Relations) (refer : refers r0 ≡ true) (s : Code) where
+  -- after some rows that do not touch the session
+  record IsSpared (r : Relations) : Type 0 where
+    alike : SpeakAlike r0 r s
+    grows : Grows r0 r
+    rising : KeysRise nat_cmp r.candidates
+
+  known : (c : ℕ) → has_live_entry r0 s c ≡ true → has_row nat_cmp r0.candidates c ≡ true
+  known = entered_known r0 (parted r0 refer).entries s
+
+  spared_row : (r : Relations) → IsSpared r → (x : Row) → row_touches r0 x s ≡ false → first_refusal (row_checks r0 x) ≡ None → SpeakAlike r0 (with_row r x) s
+  spared_row r so (row.OfSession named x) away ok = record {
+    session = put_elsewhere code_cmp exact_bytes r.sessions named s x (key_apart code_cmp exact_bytes s named (other_code s named away)) ∙ so.alike.session;
+    papers = so.alike.papers;
+    paper_rows = so.alike.paper_rows;
+    entries = so.alike.entries;
+    openings = so.alike.openings;
+    halls = so.alike.halls;
+    candidates = so.alike.candidates;
+    arrangements = so.alike.arrangements;
+    granted = so.alike.granted;
+  }
+  spared_row r so (row.OfPaper p x) away ok = record {
+    session = so.alike.session;
+    papers = λ q. papers q (is_at (code_cmp q) p) refl;
+    paper_rows = λ q of. put_elsewhere code_cmp exact_bytes r.papers p q x (key_apart code_cmp exact_bytes q p (other q of)) ∙ so.alike.paper_rows q of;
+    entries = so.alike.entries;
+    openings = so.alike.openings;
+    halls = so.alike.halls;
+    candidates = so.alike.candidates;
+    arrangements = so.alike.arrangements;
+    granted = so.alike.granted;
+  }
+    where
+      parts : (is_paper_of r0 s p ≡ false) × (names r0 x.session s ≡ false)
+      parts = neither_any (is_paper_of r0 s p) (names r0 x.session s) away
+
+      other : (q : Code) → is_paper_of r0 s q ≡ true → q ≡ p → ⊥
+      other q of same = let differ : true ≡ false = sym of ∙ ap (is_paper_of r0 s) same ∙ parts.0 in cc
+
+      -- the new session is there, and is another
+      moved : same_code x.session s ≡ false
+      moved = inner (same_code x.session s) refl
+        where
+          inner : (b : Bool) → same_code x.session s ≡ b → b ≡ false
+          inner true same =
+              let there_is : has_row code_cmp r0.sessions s ≡ true = ap (has_row code_cmp r0.sessions) (sym (same_code_exact x.session s same)) ∙ there (has_row code_cmp r0.sessions x.session) refusal.UnknownSession [] ok in
+              absurd (let differ : true ≡ false = sym (ap (λ b. b && has_row code_cmp r0.sessions s) same ∙ there_is) ∙ parts.1 in cc)
+          inner false same = refl
+
+      papers : (q : Code) (b : Bool) → is_at (code_cmp q) p ≡ b → option_map_or (λ (paper : Paper). same_code paper.session s) (row_at code_cmp (put_row code_cmp r.papers p x) q) false ≡ is_paper_of r0 s q
+      papers q true at =
+          let same : q ≡ p = exact_bytes q p ((Equal-is (code_cmp q p)).0 at) in
+          ap (λ z. option_map_or (λ (paper : Paper). same_code paper.session s) (row_at code_cmp (put_row code_cmp r.papers p x) z) false) same
+          ∙ ap (λ (o : Option Paper). option_map_or (λ (paper : Paper). same_code paper.session s) o false) (put_found code_cmp nat_list_cmp_total r.papers p x) ∙ moved ∙ sym parts.0 ∙ ap (is_paper_of r0 s) (sym same)
+      papers q false at = ap (λ (o : Option Paper). option_map_or (λ (paper : Paper). same_code paper.session s) o false) (put_elsewhere code_cmp exact_bytes r.papers p q x at) ∙ so.alike.papers q
+  spared_row r so (row.OfHall h x) away ok = record {
+    session = so.alike.session;
+    papers = so.alike.papers;
+    paper_rows = so.alike.paper_rows;
+    entries = so.alike.entries;
+    openings = so.alike.openings;
+    halls = λ k opened. put_elsewhere code_cmp exact_bytes r.halls h k x (key_apart code_cmp exact_bytes k h (λ same. let differ : true ≡ false = sym opened ∙ ap (λ z. has_row opening_cmp r0.openings (s, z)) same ∙ away in cc)) ∙ so.alike.halls k opened;
+    candidates = so.alike.candidates;
+    arrangements = so.alike.arrangements;
+    granted = so.alike.granted;
+  }
+  spared_row r so (row.OfOpening named h x) away ok = record {
+    session = so.alike.session;
+    papers = so.alike.papers;
+    paper_rows = so.alike.paper_rows;
+    entries = so.alike.entries;
+    openings = λ k. put_elsewhere opening_cmp openings_exact r.openings (named, h) (s, k) x (key_apart opening_cmp openings_exact (s, k) (named, h) (λ same. other (ap (λ (z : Code × Code). z.0) same))) ∙ so.alike.openings k;
+    halls = so.alike.halls;
+    candidates = so.alike.candidates;
+    arrangements = so.alike.arrangements;
+    granted = so.alike.granted;
+  }
+    where
+      there_is : has_row code_cmp r0.sessions named ≡ true
+      there_is = not-false (has_row code_cmp r0.sessions named) (passed (not (has_row code_cmp r0.sessions named)) refusal.UnknownSession (no_hall r0 h ∷ []) ok).0
+
+      other : s ≡ named → ⊥
+      other same =
+          let one : same_code named s ≡ true = ap (λ z. same_code named z) same ∙ same_code_itself named in
+          let differ : true ≡ false = sym (ap (λ b. b && has_row code_cmp r0.sessions s) one ∙ ap (has_row code_cmp r0.sessions) same ∙ there_is) ∙ away in cc
+  spared_row r so (row.OfCandidate c x) away ok = record {
+    session = so.alike.session;
+    papers = so.alike.papers;
+    paper_rows = so.alike.paper_rows;
+    entries = so.alike.entries;
+    openings = so.alike.openings;
+    halls = so.alike.halls;
+    candidates = candidates (has_live_entry r0 s c) refl ∙ so.alike.candidates;
+    arrangements = so.alike.arrangements;
+    granted = so.alike.granted;
+  }
+    where
+      candidates : (b : Bool) → has_live_entry r0 s c ≡ b → filter (has_live_entry r0 s) (keys_of (put_row nat_cmp r.candidates c x)) ≡ filter (has_live_entry r0 s) (keys_of r.candidates)
+      candidates true entered =
+          let stored = there_at (row_at nat_cmp r.candidates c) (so.grows.candidates c (known c entered)) in
+          ap (filter (has_live_entry r0 s)) (put_keys nat_cmp nat_cmp_total r.candidates c x stored.0 so.rising stored.1)
+        where
+          there_at : {A : Type 0} (o : Option A) → is_some o ≡ true → (a : A) × (o ≡ Some a)
+          there_at None some = absurd (let differ : false ≡ true = some in cc)
+          there_at (Some a) some = (a, refl)
+      candidates false out = numbers_filtered (has_live_entry r0 s) r.candidates c x out
+  spared_row r so (row.OfEntry c p) away ok = inner (has_row entry_cmp r.entries (c, p))
+    where
+      inner : (b : Bool) → SpeakAlike r0 (cond b r (record r { entries = put_row entry_cmp r.entries (c, p) (record { live = true }) })) s
+      inner true = so.alike
+      inner false = record {
+        session = so.alike.session;
+        papers = so.alike.papers;
+        paper_rows = so.alike.paper_rows;
+        entries = put_filtered entry_cmp entries_exact (λ (e : (ℕ × Code) × Entry). is_paper_of r0 s e.0.1) r.entries (c, p) (record { live = true }) (λ w. away) ∙ so.alike.entries;
+        openings = so.alike.openings;
+        halls = so.alike.halls;
+        candidates = so.alike.candidates;
+        arrangements = so.alike.arrangements;
+        granted = so.alike.granted;
+      }
+  spared_row r so (row.OfArrangement c x) away ok = record {
+    session = so.alike.session;
+    papers = so.alike.papers;
+    paper_rows = so.alike.paper_rows;
+    entries = so.alike.entries;
+    openings = so.alike.openings;
+    halls = so.alike.halls;
+    candidates = so.alike.candidates;
+    arrangements = λ d entered. put_elsewhere nat_cmp exact_unsigned r.arrangements c d x (key_apart nat_cmp exact_unsigned d c (other d entered)) ∙ so.alike.arrangements d entered;
+    granted = so.alike.granted;
+  }
+    where
+      other : (d : ℕ) → has_live_entry r0 s d ≡ true → d ≡ c → ⊥
+      other d entered same =
+          let member : is_member r0 s d ≡ true = ap (λ b. b && has_live_entry r0 s d) (known d entered) ∙ entered in
+          let differ : true ≡ false = sym member ∙ ap (is_member r0 s) same ∙ away in cc
+
+  spared_rises : (r : Relations) → KeysRise nat_cmp r.candidates → (x : Row) → KeysRise nat_cmp (with_row r x).candidates
+  spared_rises r up (row.OfSession named x) = up
+  spared_rises r up (row.OfPaper p x) = up
+  spared_rises r up (row.OfHall h x) = up
+  spared_rises r up (row.OfOpening named h x) = up
+  spared_rises r up (row.OfCandidate c x) = put_rises nat_cmp nat_cmp_total r.candidates c x up
+  spared_rises r up (row.OfEntry c p) = inner (has_row entry_cmp r.entries (c, p))
+    where
+      inner : (b : Bool) → KeysRise nat_cmp (cond b r (record r { entries = put_row entry_cmp r.entries (c, p) (record { live = true }) })).candidates
+      inner true = up
+      inner false = up
+  spared_rises r up (row.OfArrangement c x) = up
+
+  spared_rows : (r : Relations) → IsSpared r → (rows : List Row) → list_any (λ (x : Row). row_touches r0 x s) rows ≡ false → rows_refusal r0 rows ≡ None → SpeakAlike r0 (with_rows r rows) s
+  spared_rows r so [] away ok = so.alike
+  spared_rows r so (x ∷ rows) away ok =
+      let apart = neither_any (row_touches r0 x s) (list_any (λ (x : Row). row_touches r0 x s) rows) away in
+      let checked = neither (first_refusal (row_checks r0 x)) (rows_refusal r0 rows) ok in
+      let next : IsSpared (with_row r x) = record {
+        alike = spared_row r so x apart.0 checked.0;
+        grows = grows_both r0 r (with_row r x) so.grows (grows_row r x);
+        rising = spared_rises r so.rising x;
+      } in
+      spared_rows (with_row r x) next rows apart.1 checked.1
+
+  pub import_spares : KeysRise nat_cmp r0.candidates → (rows : List Row) → list_any (λ (x : Row). row_touches r0 x s) rows ≡ false → rows_refusal r0 rows ≡ None → SpeakAlike r0 (with_rows r0 rows) s
+  import_spares up rows away ok = spared_rows r0 (record { alike = alike_itself r0 s; grows = grows_none r0; rising = up }) rows away ok
+
+-- ---- entries and openings
+
+pub live_spares : (r : Relations) (c : ℕ) (p : Code) (live : Bool) (s : Code) → is_paper_of r s p ≡ false → SpeakAlike r (with_live r c p live) s
+live_spares r c p live s away = record {
+  session = refl;
+  papers = λ q. refl;
+  paper_rows = λ q of. refl;
+  entries = put_filtered entry_cmp entries_exact (λ (e : (ℕ × Code) × Entry). is_paper_of r s e.0.1) r.entries (c, p) (record { live = live }) (λ w. away);
+  openings = λ h. refl;
+  halls = λ h opened. refl;
+  candidates = refl;
+  arrangements = λ d entered. refl;
+  granted = λ d. refl;
+}
+
+pub closing_spares : (r : Relations) (named h s : Code) → same_code named s ≡ false → SpeakAlike r (without_opening r named h) s
+closing_spares r named h s away = record {
+  session = refl;
+  papers = λ q. refl;
+  paper_rows = λ q of. refl;
+  entries = refl;
+  openings = λ k. removed_elsewhere opening_cmp openings_exact r.openings (named, h) (s, k)
+      (key_apart opening_cmp openings_exact (s, k) (named, h) (λ same. other_code s named away (ap (λ (z : Code × Code). z.0) same)));
+  halls = λ k opened. refl;
+  candidates = refl;
+  arrangements = λ d entered. refl;
+  granted = λ d. refl;
+}
+
+-- ---- decisions
+
+-- what gave way is no grant
+never_granted : (st : Status) → is_granted (superseded st) ≡ false
+never_granted status.Pending = refl
+never_granted (status.Granted answer) = refl
+never_granted (status.Refused answer) = refl
+never_granted status.Retracted = refl
+never_granted (status.Superseded answer) = refl
+
+open_ungranted : (st : Status) → is_open st ≡ true → is_granted st ≡ false
+open_ungranted status.Pending open_yet = refl
+open_ungranted (status.Granted answer) open_yet = absurd (let differ : false ≡ true = open_yet in cc)
+open_ungranted (status.Refused answer) open_yet = refl
+open_ungranted status.Retracted open_yet = refl
+open_ungranted (status.Superseded answer) open_yet = refl
+
+module _ (c : ℕ) (own s : Code) (asked : Subject) (away : same_code own s ≡ false) where
+  abbrev given : (ℕ × Code) × Appeal → (ℕ × Code) × Appeal
+  given row = giving_way c own asked row
+
+  -- an appeal for the session does not give way
+  kept : (n : ℕ) (row : (ℕ × Code) × Appeal) → is_granted_appeal s n row ≡ true → given row ≡ row
+  kept n row is = inner (same_code row.1.session own) refl
+    where
+      here : same_code row.1.session s ≡ true
+      here = (and_parts (same_code row.1.session s) (is_granted row.1.status) (and_parts (nat_eq row.0.0 n) (same_code row.1.session s && is_granted row.1.status) is).1).0
+
+      no_way : (mine : Bool) → (mine && (false && supersedes asked row.1.subject)) ≡ false
+      no_way true = refl
+      no_way false = refl
+
+      inner : (b : Bool) → same_code row.1.session own ≡ b → given row ≡ row
+      inner true same =
+          let one : same_code own s ≡ true = ap (λ z. same_code z s) (sym (same_code_exact row.1.session own same)) ∙ here in
+          absurd (let differ : true ≡ false = sym one ∙ away in cc)
+      inner false other = ap (λ b. cond (nat_eq row.0.0 c && (b && supersedes asked row.1.subject)) (row.0, record row.1 { status = superseded row.1.status }) row) other
+          ∙ ap (λ b. cond b (row.0, record row.1 { status = superseded row.1.status }) row) (no_way (nat_eq row.0.0 c))
+
+  out : (n : ℕ) (row : (ℕ × Code) × Appeal) → is_granted_appeal s n row ≡ false → is_granted_appeal s n (given row) ≡ false
+  out n row is = inner (gives_way c own asked row)
+    where
+      inner : (b : Bool) → is_granted_appeal s n (cond b (row.0, record row.1 { status = superseded row.1.status }) row) ≡ false
+      inner true = ap (λ g. nat_eq row.0.0 n && (same_code row.1.session s && g)) (never_granted row.1.status) ∙ not_granted (nat_eq row.0.0 n) (same_code row.1.session s)
+      inner false = is
+
+  given_keyed : (row : (ℕ × Code) × Appeal) → (given row).0 ≡ row.0
+  given_keyed row = inner (gives_way c own asked row)
+    where
+      inner : (b : Bool) → (cond b (row.0, record row.1 { status = superseded row.1.status }) row).0 ≡ row.0
+      inner true = refl
+      inner false = refl
+
+  given_for : (row : (ℕ × Code) × Appeal) → (given row).1.session ≡ row.1.session
+  given_for row = inner (gives_way c own asked row)
+    where
+      inner : (b : Bool) → (cond b (row.0, record row.1 { status = superseded row.1.status }) row).1.session ≡ row.1.session
+      inner true = refl
+      inner false = refl
+
+  -- what stands at the key is for the same session
+  still_for : (rows : List ((ℕ × Code) × Appeal)) (k : ℕ × Code) (a b : Appeal) → row_at appeal_cmp rows k ≡ Some a → row_at appeal_cmp (map given rows) k ≡ Some b → b.session ≡ a.session
+  still_for [] k a b at then = absurd (let differ : None ≡ Some a = at in cc)
+  still_for (row ∷ rows) k a b at then = inner (is_at (appeal_cmp k) row.0) at (ap (λ q. cond (is_at (appeal_cmp k) q) (Some (given row).1) (row_at appeal_cmp (map given rows) k)) (sym (given_keyed row)) ∙ then) (still_for rows k a b)
+    where
+      inner : (here : Bool) → cond here (Some row.1) (row_at appeal_cmp rows k) ≡ Some a → cond here (Some (given row).1) (row_at appeal_cmp (map given rows) k) ≡ Some b
+          → (row_at appeal_cmp rows k ≡ Some a → row_at appeal_cmp (map given rows) k ≡ Some b → b.session ≡ a.session) → b.session ≡ a.session
+      inner true was is rest =
+          let old : row.1 ≡ a = cc in
+          let new : (given row).1 ≡ b = cc in
+          ap (λ (x : Appeal). x.session) (sym new) ∙ given_for row ∙ ap (λ (x : Appeal). x.session) old
+      inner false was is rest = rest was is
+
+  -- a grant for another session leaves what was granted for this one
+  grant_spares : (r : Relations) (k : ℕ × Code) (a v : Appeal) → row_at appeal_cmp r.appeals k ≡ Some a → a.session ≡ own → v.session ≡ own
+      → SameSeating (seating r s) (seating (with_appeals r (put_row appeal_cmp (map given r.appeals) k v)) s)
+  grant_spares r k a v at mine new = seating_same r (put_row appeal_cmp (map given r.appeals) k v) s (λ n.
+      ap (map (λ (x : (ℕ × Code) × Appeal). x.1.subject))
+      (put_passed_over appeal_cmp appeals_exact (is_granted_appeal s n) (map given r.appeals) k v
+      (elsewhere n v (ap (λ z. same_code z s) new ∙ away))
+      (λ b then. elsewhere n b (ap (λ z. same_code z s) (still_for r.appeals k a b at then ∙ mine) ∙ away))
+      ∙ mapped_filtered (is_granted_appeal s n) given (kept n) (out n) r.appeals))
+    where
+      none : (b g : Bool) → (b && (false && g)) ≡ false
+      none true g = refl
+      none false g = refl
+
+      elsewhere : (n : ℕ) (x : Appeal) → same_code x.session s ≡ false → is_granted_appeal s n (k, x) ≡ false
+      elsewhere n x other = ap (λ b. nat_eq k.0 n && (b && is_granted x.status)) other ∙ none (nat_eq k.0 n) (is_granted x.status)
+
+module _ (r : Relations) (today : ℕ) (d : Decision) (s : Code) where
+  abbrev key : ℕ × Code
+  key = (d.number, d.reference)
+
+  outcome_spares : (a : Appeal) → appeal_at r d.number d.reference ≡ Some a → is_open a.status ≡ true → (o : Outcome) → decision_touches r d o s ≡ false
+      → SameSeating (seating r s) (seating (with_appeals r (put_row appeal_cmp (with_superseded d.number a o r.appeals) key (record a { status = decided o d.answer }))) s)
+  outcome_spares a at open_yet outcome.Grant away =
+      grant_spares d.number a.session s a.subject (ap (λ stored. is_appeal_for stored s) (sym at) ∙ away) r key a (record a { status = status.Granted d.answer }) at refl refl
+  outcome_spares a at open_yet outcome.Refuse away =
+      put_seating_same r key (record a { status = status.Refused d.answer }) refl
+      (λ b is. let same : a ≡ b = (let both : Some a ≡ Some b = sym at ∙ is in cc) in ap (λ (x : Appeal). is_granted x.status) (sym same) ∙ open_ungranted a.status open_yet) s
+
+  pub decision_spares : decision_refusal r today d ≡ None → decision_touches r d d.outcome s ≡ false → SameSeating (seating r s) (seating (with_decision r d) s)
+  decision_spares ok away = inner (appeal_at r d.number d.reference) refl ok
+    where
+      same : SameSeating (seating r s) (seating r s)
+      same = record { members = refl; fits = λ c h. refl; desks = λ h. refl }
+
+      by_case : (a : Appeal) → appeal_at r d.number d.reference ≡ Some a → (b : Bool) → first_refusal (cond b [] (open_checks r today d a)) ≡ None → SameSeating (seating r s) (seating (cond b r (with_outcome r d a)) s)
+      by_case a at true checked = same
+      by_case a at false checked =
+          outcome_spares a at (there (is_open a.status) refusal.NotOpenAppeal ((is_too_late r a.session today, refusal.TooLate) ∷ grant_checks r d.number a d.outcome) checked) d.outcome away
+
+      inner : (o : Option Appeal) → appeal_at r d.number d.reference ≡ o → first_refusal (decision_checks r today d o) ≡ None → SameSeating (seating r s) (seating (with_decided r d o) s)
+      inner None none checked = same
+      inner (Some a) at checked = by_case a at (is_decided d.outcome d.answer a.status) checked
+
+-- ---- any command
+
+module _ (before : State) (good : IsGood before) (up : IsInOrder before) (today : ℕ) (s : Code) where
+  pub spared : (done : Command) (t : Relations) → change done today before ≡ Ok t → touches before.relations done s ≡ false → SameSeating (seating before.relations s) (seating t s)
+  spared (command.Import import) t is away =
+      let r = before.relations in
+      let none = unrefused (import_refusal r import.rows) (with_rows r import.rows) t is in
+      let checked = neither (rows_refusal r import.rows) (first_refusal (too_many (with_rows r import.rows) ∷ [])) none in
+      subst (λ u. SameSeating (seating r s) (seating u s)) (made (import_refusal r import.rows) (with_rows r import.rows) t is)
+      (alike_seating r (with_rows r import.rows) s (import_spares r good.refer s up.tables.candidates import.rows away checked.0))
+  spared (command.Withdraw c p) t is away =
+      let r = before.relations in
+      subst (λ u. SameSeating (seating r s) (seating u s)) (made (withdrawal_refusal r c p) (with_live r c p false) t is)
+      (alike_seating r (with_live r c p false) s (live_spares r c p false s away))
+  spared (command.Reinstate c p) t is away =
+      let r = before.relations in
+      subst (λ u. SameSeating (seating r s) (seating u s)) (made (reinstatement_refusal r c p) (with_live r c p true) t is)
+      (alike_seating r (with_live r c p true) s (live_spares r c p true s away))
+  spared (command.CloseHall named h) t is away =
+      let r = before.relations in
+      let none = unrefused (closing_refusal r named h) (without_opening r named h) t is in
+      let known : has_row code_cmp r.sessions named ≡ true = there (has_row code_cmp r.sessions named) refusal.UnknownSession (no_hall r h ∷ not_opened r named h ∷ []) none in
+      subst (λ u. SameSeating (seating r s) (seating u s)) (made (closing_refusal r named h) (without_opening r named h) t is)
+      (alike_seating r (without_opening r named h) s (closing_spares r named h s (unnamed r known (same_code named s) refl away)))
+    where
+      unnamed : (r : Relations) → has_row code_cmp r.sessions named ≡ true → (b : Bool) → same_code named s ≡ b → names r named s ≡ false → b ≡ false
+      unnamed r known true same out =
+          absurd (let differ : true ≡ false = sym (ap (λ b. b && has_row code_cmp r.sessions s) same ∙ ap (has_row code_cmp r.sessions) (sym (same_code_exact named s same)) ∙ known) ∙ out in cc)
+      unnamed r known false same out = refl
+  spared (command.Lodge l) t is away =
+      let r = before.relations in
+      let refused = lodgings.lodging_refusal r before.seats today l in
+      let none = unrefused refused (lodgings.with_lodging r today l) t is in
+      let standing = neither (lodgings.standing_refusal r before.seats today l) (first_refusal (lodgings.one_too_many r today l ∷ [])) none in
+      (lodging_settled before good today l t standing.0 (sym (made refused (lodgings.with_lodging r today l) t is))).seated s
+  spared (command.Retract c reference) t is away =
+      let r = before.relations in
+      let refused = lodgings.retraction_refusal r c reference in
+      let none = unrefused refused (lodgings.with_retraction r c reference) t is in
+      (retraction_settled before good c reference t up.tables none (sym (made refused (lodgings.with_retraction r c reference) t is))).seated s
+  spared (command.Decide d) t is away =
+      let r = before.relations in
+      let none = unrefused (decision_refusal r today d) (with_decision r d) t is in
+      subst (λ u. SameSeating (seating r s) (seating u s)) (made (decision_refusal r today d) (with_decision r d) t is)
+      (decision_spares r today d s none away)
+
+  -- and its plan
+  pub untouched_stays : (done : Command) (after : State) (reply : Reply) → Step done today before (Ok reply) after → touches before.relations done s ≡ false
+      → SameSeating (seating before.relations s) (seating after.relations s) × SamePlan (plan_of after.seats s) (plan_of before.seats s)
+  untouched_stays done after reply step away =
+      let changed = new_facts done today before reply after step in
+      let same = spared done after.relations changed away in
+      let to : StepTo done before (Ok reply) after (Ok after.relations) = subst (StepTo done before (Ok reply) after) changed step in
+      (same, (to.1 s).untouched same)

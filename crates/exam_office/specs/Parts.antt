@@ -1,0 +1,72 @@
+-- A part of an office: what one command reads of it, and how it is put back.
+use Rattle.std.specs.Prelude.{◌≡◌, ◌⊎◌, ℕ, Bool, true, false, None, Ok, Err}
+use Rattle.exam_types.specs.declared.refusal.Refusal.{Refusal}
+use Rattle.exam_types.specs.declared.refusal.Refusal.TheVariants.{NoMemory}
+use Rattle.exam_plan.specs.Matching.{SamePlan}
+use Rattle.exam_rules.specs.Relations.{Code, Relations, relations_of, same_code}
+use Rattle.exam_rules.specs.Seatings.{plan_of}
+use Rattle.exam_office.specs.declared.command.Command.{Command}
+use Rattle.exam_office.specs.declared.command.Command.TheVariants as command
+use Rattle.exam_office.specs.declared.command.Reply.{Reply}
+use Rattle.exam_office.specs.declared.part.Part.{Part}
+use Rattle.exam_office.specs.Appeals.{appeal_at}
+use Rattle.exam_office.specs.Good.{IsGood}
+use Rattle.exam_office.specs.Orders.{IsInOrder}
+use Rattle.exam_office.specs.Repairs.{IsRepaired}
+use Rattle.exam_office.specs.Replies.{reply_of}
+use Rattle.exam_office.specs.State.{State}
+use Rattle.exam_office.specs.Steps.{change, first_seated}
+use Rattle.exam_office.specs.Touched.{is_appeal_for, touches}
+
+-- its facts and its plans
+abbrev pub state_of : Part → State
+state_of part = record { relations = relations_of part.facts; seats = part.plans.entries }
+
+-- Of the session the command reads the plan: of each that it touches; a lodging, of the session named; a
+-- decision, of the appeal's, whatever its outcome.
+abbrev pub reads : Relations → Command → Code → Bool
+reads r (command.Import import) s = touches r (command.Import import) s
+reads r (command.Withdraw c p) s = touches r (command.Withdraw c p) s
+reads r (command.Reinstate c p) s = touches r (command.Reinstate c p) s
+reads r (command.CloseHall named h) s = touches r (command.CloseHall named h) s
+reads r (command.Lodge l) s = same_code l.session s
+reads r (command.Retract c reference) s = touches r (command.Retract c reference) s
+reads r (command.Decide d) s = is_appeal_for (appeal_at r d.number d.reference) s
+
+-- The part agrees with the office: it has its facts, its plans of the sessions that the command reads, and
+-- nobody seated in another.
+pub record Agrees (done : Command) (office part : State) : Type 0 where
+  pub facts : part.relations ≡ office.relations
+  pub read : (s : Code) → reads office.relations done s ≡ true
+      → SamePlan (plan_of part.seats s) (plan_of office.seats s)
+  pub others : (s : Code) → reads office.relations done s ≡ false → SamePlan (plan_of part.seats s) (λ c. None)
+
+-- there is a good office with which it agrees
+abbrev pub IsPartFor : Command → State → Type 0
+IsPartFor done part = (office : State) × IsGood office × IsInOrder office × Agrees done office part
+
+-- The office with the part put back: the facts of the part, its plans of the sessions that the command reads,
+-- and the office's own plan of every other.
+pub record IsPutBack (done : Command) (office part after : State) : Type 0 where
+  pub facts : after.relations ≡ part.relations
+  pub read : (s : Code) → reads office.relations done s ≡ true
+      → SamePlan (plan_of after.seats s) (plan_of part.seats s)
+  pub others : (s : Code) → reads office.relations done s ≡ false
+      → SamePlan (plan_of after.seats s) (plan_of office.seats s)
+  pub order : IsInOrder after
+
+-- ---- of the code
+
+-- What an accepted command makes of a part: the new facts, the repaired plans of the sessions that it touches,
+-- the plans as they were of the others that it reads, and what it answers.
+pub record IsMadeIn (done : Command) (today : ℕ) (old new : State) (reply : Reply) : Type 0 where
+  pub changed : change done today old ≡ Ok new.relations
+  pub repaired : (s : Code) → touches old.relations done s ≡ true
+      → IsRepaired new.relations (first_seated done) old.seats new.seats s
+  pub stays : (s : Code) → touches old.relations done s ≡ false → reads old.relations done s ≡ true
+      → SamePlan (plan_of new.seats s) (plan_of old.seats s)
+  pub told : reply ≡ reply_of done old new
+
+-- for want of memory, or as the change of the part is
+abbrev pub IsRefusedIn : Command → ℕ → State → Refusal → Type 0
+IsRefusedIn done today old e = (e ≡ NoMemory) ⊎ (change done today old ≡ Err e)

@@ -1,0 +1,24 @@
+//! A part of an office: the facts, and the plans of the sessions that one command reads.
+ghost use Rattle.exam_rules.specs.Orders.{KeysRise};
+ghost use Rattle.exam_rules.specs.Relations.{seat_cmp};
+
+use crate::office::Seats;
+use exam_rules::Facts;
+
+/// The facts of an office, and its plans of the sessions that one command reads.
+#[derive(Drop)]
+pub struct Part {
+    pub facts: Facts,
+    /// Who sits where in these sessions. Nobody is seated in another.
+    pub plans: Seats,
+}
+
+impl Part {
+    /// The keys of the seats rise. Does nothing.
+    pub fn show_order(&self)
+        ensures { KeysRise seat_cmp self.now.plans.entries }
+    {
+        // The length of a map tells that its keys rise.
+        let _ = self.plans.len();
+    }
+}

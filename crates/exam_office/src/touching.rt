@@ -1,0 +1,203 @@
+//! Which sessions a command touches.
+ghost use Rattle.std.specs.Prelude.{◌≡◌, ◌↔◌, ◌||◌, ℕ, Contains, IsTrue, IfOk, IfErr, OnOk};
+ghost use Rattle.std.specs.BTreeSet.{contains};
+ghost use Rattle.std.specs.List.{list_any};
+ghost use Rattle.std.specs.List.Sorted.{IsStrictlySortedBy};
+ghost use Rattle.exam_types.specs.declared.refusal.Refusal.TheVariants.{NoMemory};
+ghost use Rattle.exam_rules.specs.Relations.{Code, code_cmp, opening_cmp, has_row, relations_of, same_code};
+ghost use Rattle.exam_rules.specs.Sessions.{has_live_entry, is_member, is_paper_of};
+ghost use Rattle.exam_office.specs.Appeals.{appeal_at};
+ghost use Rattle.exam_office.specs.declared.import_row.Row.{Row as ImportRow};
+ghost use Rattle.exam_office.specs.Touched as spec;
+
+use crate::command::{Command, Decision, Outcome};
+use crate::import_row::Row;
+use exam_rules::{Facts, entries_from};
+use exam_types::{HallCode, Number, PaperCode, Refusal, SessionCode};
+use std::alloc::Global;
+use std::collections::BTreeSet;
+
+/// Codes of sessions, in order.
+type Codes = BTreeSet<SessionCode>;
+
+/// The sessions that a command touches, over the facts before it, codes rising: an accepted command leaves every
+/// other session as it is. What the command refers to and is not there gives no session.
+pub fn touched(alloc: Global, facts: &Facts, command: &Command) -> Result<Vec<SessionCode>, Refusal>
+    ensures rising { IfOk result (λ codes. IsStrictlySortedBy code_cmp codes.items) }
+    ensures exact { IfOk result (λ codes. (s : Code)
+        → Contains codes.items s ↔ IsTrue (spec.touches (relations_of facts.now) command.now s)) }
+    ensures memory { IfErr result (λ e. e ≡ NoMemory) }
+{
+    let mut codes = BTreeSet::new(alloc);
+    add_touched(facts, command, &mut codes)?;
+    let list = codes.iter().copied().collect(alloc)?;
+    Ok(list)
+}
+
+/// Adds the sessions that a command touches.
+fn add_touched(facts: &Facts, command: &Command, codes: &mut Codes) -> Result<(), Refusal>
+    ensures ok { OnOk result ((s : Code) → contains code_cmp codes.new s
+        ≡ (spec.touches (relations_of facts.now) command.now s || contains code_cmp codes.old s)) }
+    ensures memory { IfErr result (λ e. e ≡ NoMemory) }
+{
+    match command {
+        Command::Import(import) => add_rows(facts, import.rows(), codes),
+        Command::Withdraw(_, paper) | Command::Reinstate(_, paper) => {
+            add_paper(facts, paper, codes)
+        }
+        Command::CloseHall(session, _) => add_known(facts, session, codes),
+        Command::Lodge(_) | Command::Retract(_, _) => Ok(()),
+        Command::Decide(decision) => add_decision(facts, decision, codes),
+    }
+}
+
+/// Adds the sessions that these rows touch.
+fn add_rows(facts: &Facts, rows: &[Row], codes: &mut Codes) -> Result<(), Refusal>
+    ensures ok { OnOk result ((s : Code) → contains code_cmp codes.new s
+        ≡ (list_any (λ (x : ImportRow). spec.row_touches (relations_of facts.now) x s) rows.now
+        || contains code_cmp codes.old s)) }
+    ensures memory { IfErr result (λ e. e ≡ NoMemory) }
+{
+    for row in rows {
+        add_row(facts, row, codes)?;
+    }
+    Ok(())
+}
+
+/// Adds the sessions that a row touches.
+fn add_row(facts: &Facts, row: &Row, codes: &mut Codes) -> Result<(), Refusal>
+    ensures ok { OnOk result ((s : Code) → contains code_cmp codes.new s
+        ≡ (spec.row_touches (relations_of facts.now) row.now s || contains code_cmp codes.old s)) }
+    ensures memory { IfErr result (λ e. e ≡ NoMemory) }
+{
+    match row {
+        Row::OfSession(session, _) => add_session(session, codes),
+        Row::OfPaper(code, paper) => add_both(facts, code, &paper.session, codes),
+        Row::OfHall(hall, _) => add_hall(facts, hall, codes),
+        Row::OfOpening(session, _, _) => add_known(facts, session, codes),
+        Row::OfCandidate(_, _) => Ok(()),
+        Row::OfEntry(_, paper) => add_paper(facts, paper, codes),
+        Row::OfArrangement(number, _) => add_candidate(facts, *number, codes),
+    }
+}
+
+/// Adds a session.
+fn add_session(session: &SessionCode, codes: &mut Codes) -> Result<(), Refusal>
+    ensures ok { OnOk result ((s : Code) → contains code_cmp codes.new s
+        ≡ (same_code session.now s || contains code_cmp codes.old s)) }
+    ensures memory { IfErr result (λ e. e ≡ NoMemory) }
+{
+    codes.insert(*session)?;
+    Ok(())
+}
+
+/// Adds a session that is referred to, if it is there.
+fn add_known(facts: &Facts, session: &SessionCode, codes: &mut Codes) -> Result<(), Refusal>
+    ensures ok { OnOk result ((s : Code) → contains code_cmp codes.new s
+        ≡ (spec.names (relations_of facts.now) session.now s || contains code_cmp codes.old s)) }
+    ensures memory { IfErr result (λ e. e ≡ NoMemory) }
+{
+    if facts.sessions.contains_key(session) {
+        add_session(session, codes)
+    } else {
+        Ok(())
+    }
+}
+
+/// Adds the session of a paper, if it is there.
+fn add_paper(facts: &Facts, paper: &PaperCode, codes: &mut Codes) -> Result<(), Refusal>
+    ensures ok { OnOk result ((s : Code) → contains code_cmp codes.new s
+        ≡ (is_paper_of (relations_of facts.now) s paper.now || contains code_cmp codes.old s)) }
+    ensures memory { IfErr result (λ e. e ≡ NoMemory) }
+{
+    match facts.papers.get(paper) {
+        Some(row) => add_session(&row.session, codes),
+        None => Ok(()),
+    }
+}
+
+/// Adds the session of a paper, and its new one, if they are there.
+fn add_both(
+    facts: &Facts,
+    paper: &PaperCode,
+    session: &SessionCode,
+    codes: &mut Codes,
+) -> Result<(), Refusal>
+    ensures ok { OnOk result ((s : Code) → contains code_cmp codes.new s
+        ≡ ((is_paper_of (relations_of facts.now) s paper.now || spec.names (relations_of facts.now) session.now s)
+        || contains code_cmp codes.old s)) }
+    ensures memory { IfErr result (λ e. e ≡ NoMemory) }
+{
+    add_known(facts, session, codes)?;
+    add_paper(facts, paper, codes)
+}
+
+/// Adds the sessions that open a hall.
+fn add_hall(facts: &Facts, hall: &HallCode, codes: &mut Codes) -> Result<(), Refusal>
+    ensures ok { OnOk result ((s : Code) → contains code_cmp codes.new s
+        ≡ (has_row opening_cmp facts.now.openings.entries (s, hall.now) || contains code_cmp codes.old s)) }
+    ensures memory { IfErr result (λ e. e ≡ NoMemory) }
+{
+    for (key, _) in &facts.openings {
+        if key.1 == *hall {
+            add_session(&key.0, codes)?;
+        }
+    }
+    Ok(())
+}
+
+/// Adds the sessions of which a candidate is a member.
+fn add_candidate(facts: &Facts, number: Number, codes: &mut Codes) -> Result<(), Refusal>
+    ensures ok { OnOk result ((s : Code) → contains code_cmp codes.new s
+        ≡ (is_member (relations_of facts.now) s number || contains code_cmp codes.old s)) }
+    ensures memory { IfErr result (λ e. e ≡ NoMemory) }
+{
+    if facts.candidates.contains_key(&number) {
+        add_entered(facts, number, codes)
+    } else {
+        Ok(())
+    }
+}
+
+/// Adds the sessions for whose papers a number has live entries.
+fn add_entered(facts: &Facts, number: Number, codes: &mut Codes) -> Result<(), Refusal>
+    ensures ok { OnOk result ((s : Code) → contains code_cmp codes.new s
+        ≡ (has_live_entry (relations_of facts.now) s number || contains code_cmp codes.old s)) }
+    ensures memory { IfErr result (λ e. e ≡ NoMemory) }
+{
+    for (key, entry) in entries_from(facts, number) {
+        if key.0 != number {
+            break;
+        }
+        if entry.live {
+            add_paper(facts, &key.1, codes)?;
+        }
+    }
+    Ok(())
+}
+
+/// Adds the session of an appeal that is granted, if it is there.
+fn add_decision(facts: &Facts, decision: &Decision, codes: &mut Codes) -> Result<(), Refusal>
+    ensures ok { OnOk result ((s : Code) → contains code_cmp codes.new s
+        ≡ (spec.decision_touches (relations_of facts.now) decision.now decision.now.outcome s
+        || contains code_cmp codes.old s)) }
+    ensures memory { IfErr result (λ e. e ≡ NoMemory) }
+{
+    match decision.outcome {
+        Outcome::Grant => add_appeal(facts, decision, codes),
+        Outcome::Refuse => Ok(()),
+    }
+}
+
+/// Adds the session of the appeal that is decided, if it is there.
+fn add_appeal(facts: &Facts, decision: &Decision, codes: &mut Codes) -> Result<(), Refusal>
+    ensures ok { OnOk result ((s : Code) → contains code_cmp codes.new s
+        ≡ (spec.is_appeal_for (appeal_at (relations_of facts.now) decision.now.number decision.now.reference) s
+        || contains code_cmp codes.old s)) }
+    ensures memory { IfErr result (λ e. e ≡ NoMemory) }
+{
+    match facts.appeals.get(&(decision.number, decision.reference)) {
+        Some(appeal) => add_session(&appeal.session, codes),
+        None => Ok(()),
+    }
+}
