@@ -58,6 +58,8 @@ pub fn repaired_among(
     requires lists { AreListsOf (relations_of facts.now) lists.now }
     requires few { (s : Code) → IsTrue (has_row code_cmp facts.now.sessions.entries s)
         → length (members (relations_of facts.now) s) ≤ most_members }
+    requires few_halls { (s : Code) → IsTrue (has_row code_cmp facts.now.sessions.entries s)
+        → length (open_halls (relations_of facts.now) s) ≤ most_halls }
     ensures ok { IfOk result (λ new. (s : Code) → Contains sessions.now s
         → IsRepaired (relations_of facts.now) first seats.now.entries new.entries s) }
     ensures memory { IfErr result (λ e. e ≡ NoMemory) }
