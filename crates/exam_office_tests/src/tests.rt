@@ -14,3 +14,4 @@ mod replies;
 mod scenes;
 mod seating;
 mod setups;
+mod touching;

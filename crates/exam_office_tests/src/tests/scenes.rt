@@ -1,8 +1,9 @@
 //! What happens to an office, in words.
 use super::lines::{Line, hall, import_of, number, paper, session};
-use super::setups::{Fact, Grant, Sitting, office_of, reason, reference, subject_of};
+use super::setups::{Fact, Grant, Sitting, facts_of, office_of, reason, reference, subject_of};
 use exam_office::{
     AppealState, Command, Decision, Kind, Lodging, Office, Outcome, Reply, run, state_of, step,
+    touched,
 };
 use exam_types::{Day, HallCode, Refusal};
 use std::alloc::Global;
@@ -256,4 +257,28 @@ pub fn answers_of(
     }
     let mut office = office_of(alloc, facts, &[])?;
     Ok(run(alloc, &mut office, &commands)?)
+}
+
+/// The codes of the sessions that a command touches, a blank after each.
+fn touched_text(alloc: Global, facts: &[Fact], command: &Command) -> Result<String, Fail> {
+    let facts = facts_of(alloc, facts)?;
+    let mut text = Vec::new(alloc);
+    for code in &touched(alloc, &facts, command)? {
+        code.write_to(&mut text)?;
+        text.push(b' ')?;
+    }
+    Ok(String::from_utf8(text).ok().ok_or("text")?)
+}
+
+pub fn touched_by_import(
+    alloc: Global,
+    facts: &[Fact],
+    kind: Kind,
+    lines: &[Line],
+) -> Result<String, Fail> {
+    touched_text(alloc, facts, &Command::Import(import_of(alloc, kind, lines)?))
+}
+
+pub fn touched_by_order(alloc: Global, facts: &[Fact], order: Order) -> Result<String, Fail> {
+    touched_text(alloc, facts, &command_of(alloc, order)?)
 }
