@@ -11,3 +11,4 @@ pub mod Turns
 pub mod Listing
 pub mod InOrder
 pub mod NamedDesks
+pub mod Relisting

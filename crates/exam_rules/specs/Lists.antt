@@ -1,15 +1,16 @@
 -- The members and the open halls of all sessions, as lists by session.
-use Rattle.std.specs.Prelude.{◌≡◌, ℕ, ◌-◌, length, slice_get, nat_eq, Bool, false, List, [], ◌∷◌, ◌++◌, map, Option, None}
-use Rattle.std.specs.Prelude.{Vec, if◌then◌else◌}
+use Rattle.std.specs.Prelude.{◌≡◌, ℕ, ◌-◌, length, slice_get, nat_eq, nat_lt, Bool, true, false, List, [], ◌∷◌, ◌++◌, map}
+use Rattle.std.specs.Prelude.{filter, Option, None, Vec, if◌then◌else◌}
 use Rattle.std.specs.Global.{Global}
-use Rattle.std.specs.List.{filter_map}
+use Rattle.std.specs.List.{filter_map, cons_option}
 use Rattle.std.specs.Map.{keys_of}
 use Rattle.std.specs.Option.{option_map, option_map_or}
+use Rattle.std.specs.Ordering.{nat_cmp}
 use Rattle.exam_rules.specs.declared.rows.Entry.{Entry}
 use Rattle.exam_rules.specs.declared.lists.Entrant.{Entrant}
 use Rattle.exam_rules.specs.declared.lists.SessionLists.{SessionLists}
-use Rattle.exam_rules.specs.Relations.{Code, Relations, code_cmp, row_at}
-use Rattle.exam_rules.specs.Sessions.{members, least_live_paper}
+use Rattle.exam_rules.specs.Relations.{Code, Relations, code_cmp, entry_cmp, row_at, has_row, put_row}
+use Rattle.exam_rules.specs.Sessions.{members, is_paper_of, least_live_paper}
 use Rattle.exam_rules.specs.Seatings.{open_halls}
 use Rattle.exam_rules.specs.Names.{ListsRise}
 
@@ -49,3 +50,28 @@ pub record AreListsOf (r : Relations) (lists : SessionLists) : Type 0 where
   pub members : (s : Code) → listed lists.members.entries s ≡ entrants r s
   pub halls : (s : Code) → listed lists.halls.entries s ≡ open_halls r s
   pub rising : (s : Code) → ListsRise r s
+
+-- ---- one candidate listed anew
+
+-- The list without the candidate of this number, and with them, between the lesser and the greater numbers,
+-- where there is a paper.
+abbrev pub placed : ℕ → Option Code → List Entrant → List Entrant
+placed n paper list =
+    filter (λ (e : Entrant). nat_lt e.number n) list
+    ++ cons_option (option_map (entrant n) paper) (filter (λ (e : Entrant). nat_lt n e.number) list)
+
+-- the paper with which the number is listed: the least live one, where it is that of a candidate
+abbrev pub listed_paper : Relations → Code → ℕ → Option Code
+listed_paper r s c = if has_row nat_cmp r.candidates c then least_live_paper r s c else None
+
+-- One entry has been set: that of this candidate for some paper of the session. It is new, or stands in the
+-- place of the one before. The candidates, the papers and the openings are the same; of the rest nothing is
+-- said, since the lists do not show it.
+pub record SetsEntry (before after : Relations) (s : Code) (c : ℕ) : Type 0 where
+  pub paper : Code
+  pub entry : Entry
+  pub of_session : is_paper_of before s paper ≡ true
+  pub entries : after.entries ≡ put_row entry_cmp before.entries (c, paper) entry
+  pub candidates : after.candidates ≡ before.candidates
+  pub papers : after.papers ≡ before.papers
+  pub openings : after.openings ≡ before.openings

@@ -1,20 +1,22 @@
 //! The members and the open halls of all sessions, listed in one walk over the facts.
 ghost use Rattle.std.specs.Prelude.{◌≡◌, ◌≢◌, ◌++◌, ◌∷◌, [], length, All, Contains, IsNone, IfSome, IfOk};
-ghost use Rattle.std.specs.Prelude.{IfErr, OnOk, if◌then◌else◌};
+ghost use Rattle.std.specs.Prelude.{IfErr, OnOk, OnErr, IsTrue, false, filter, nat_lt, if◌then◌else◌};
 ghost use Rattle.std.specs.List.Sorted.{IsStrictlySortedBy, IsNonDecreasingBy};
 ghost use Rattle.std.specs.Ordering.{nat_cmp};
 ghost use Rattle.exam_types.specs.declared.refusal.Refusal.TheVariants.{NoMemory};
 ghost use Rattle.exam_rules.specs.Relations.{Code, Relations, relations_of, no_relations, code_cmp, same_code};
+ghost use Rattle.exam_rules.specs.Relations.{has_row};
 ghost use Rattle.exam_rules.specs.Sessions as spec;
 ghost use Rattle.exam_rules.specs.Seatings as seatings;
 ghost use Rattle.exam_rules.specs.Lists as listing;
 
 use crate::facts::Facts;
 use crate::rows::Entry;
-use crate::sessions::{entries_from, sitting, sitting_beside};
+use crate::sessions::{entries_from, least_live_paper, sitting, sitting_beside};
 use exam_types::{HallCode, Number, PaperCode, Refusal, SessionCode};
 use std::alloc::Global;
 use std::collections::BTreeMap;
+use std::mem::replace;
 
 /// Of each session a list, which is empty where the map has none.
 pub type BySession<T> = BTreeMap<SessionCode, Vec<T>>;
@@ -181,6 +183,103 @@ pub fn session_lists(alloc: Global, facts: &Facts) -> Result<SessionLists, Refus
     })
 }
 
+/// The paper with which the number is to be listed: the least live one in the session, where it is that of a
+/// candidate.
+fn listed_paper(facts: &Facts, session: &SessionCode, number: Number) -> Option<PaperCode>
+    ensures { result ≡ listing.listed_paper (relations_of facts.now) session.now number }
+{
+    if facts.candidates.contains_key(&number) {
+        least_live_paper(facts, session, number)
+    } else {
+        None
+    }
+}
+
+/// The entrants of lesser numbers.
+fn lesser(alloc: Global, entrants: &[Entrant], number: Number) -> Result<Vec<Entrant>, Refusal>
+    ensures ok { IfOk result (λ list. list.items
+        ≡ filter (λ (e : Entrant). nat_lt e.number number) entrants.now) }
+    ensures memory { IfErr result (λ e. e ≡ NoMemory) }
+{
+    let list = entrants
+        .iter()
+        .copied()
+        .filter(|entrant| entrant.number < number)
+        .collect(alloc)?;
+    Ok(list)
+}
+
+/// Appends the entrants of greater numbers.
+fn push_greater(
+    list: &mut Vec<Entrant>,
+    entrants: &[Entrant],
+    number: Number,
+) -> Result<(), Refusal>
+    ensures ok { OnOk result (list.new.items ≡ list.old.items
+        ++ filter (λ (e : Entrant). nat_lt number e.number) entrants.now) }
+    ensures memory { IfErr result (λ e. e ≡ NoMemory) }
+{
+    let greater = entrants
+        .iter()
+        .copied()
+        .filter(|entrant| number < entrant.number);
+    list.extend(greater)?;
+    Ok(())
+}
+
+/// The list made anew, with the candidate in their place, where there is a paper, and otherwise without them.
+fn placed(
+    alloc: Global,
+    entrants: &[Entrant],
+    number: Number,
+    paper: Option<PaperCode>,
+) -> Result<Vec<Entrant>, Refusal>
+    ensures ok { IfOk result (λ list. list.items ≡ listing.placed number paper entrants.now) }
+    ensures memory { IfErr result (λ e. e ≡ NoMemory) }
+{
+    let mut list = lesser(alloc, entrants, number)?;
+    if let Some(paper) = paper {
+        list.push(Entrant { number, paper })?;
+    }
+    push_greater(&mut list, entrants, number)?;
+    Ok(list)
+}
+
+/// Makes sure that the session has a list of its own, which is empty where it had none.
+fn keep_list(
+    alloc: Global,
+    members: &mut BySession<Entrant>,
+    session: SessionCode,
+) -> Result<(), Refusal>
+    ensures same { (s : Code) → listing.listed members.new.entries s ≡ listing.listed members.old.entries s }
+    ensures kept { OnOk result (IsTrue (has_row code_cmp members.new.entries session)) }
+    ensures memory { IfErr result (λ e. e ≡ NoMemory) }
+{
+    if members.contains_key(&session) {
+        return Ok(());
+    }
+    members.insert(session, Vec::new(alloc))?;
+    Ok(())
+}
+
+/// Puts the list in the place of the session's own, and gives that one. Takes no memory.
+fn exchange(
+    members: &mut BySession<Entrant>,
+    session: &SessionCode,
+    list: Vec<Entrant>,
+) -> Vec<Entrant>
+    requires { IsTrue (has_row code_cmp members.old.entries session.now) }
+    ensures old { result.items ≡ listing.listed members.old.entries session.now }
+    ensures members { (s : Code) → listing.listed members.new.entries s
+        ≡ (if same_code session.now s then list.items else listing.listed members.old.entries s) }
+    ensures kept { IsTrue (has_row code_cmp members.new.entries session.now) }
+{
+    match members.get_mut(session) {
+        Some(place) => replace(place, list),
+        None => list,
+    }
+}
+
 impl SessionLists {
     /// The lists where there are no facts. Takes no memory.
     pub fn empty(alloc: Global) -> Self
@@ -213,6 +312,46 @@ impl SessionLists {
         ensures { result.now ≡ listing.listed self.now.halls.entries session.now }
     {
         listed(&self.halls, session)
+    }
+
+    /// Lists the candidate anew among the members of the session, where of what the lists show only an entry of
+    /// theirs for a paper of the session has been set. Gives the list as it was, which `put_members` puts back;
+    /// after a refusal the lists are as they were.
+    pub fn relist(
+        &mut self,
+        alloc: Global,
+        facts: &Facts,
+        session: SessionCode,
+        number: Number,
+    ) -> Result<Vec<Entrant>, Refusal>
+        ensures ok { OnOk result ((before : Relations) → listing.AreListsOf before self.old
+            → listing.SetsEntry before (relations_of facts.now) session number
+            → listing.AreListsOf (relations_of facts.now) self.new) }
+        ensures old { IfOk result (λ list. list.items ≡ listing.listed self.old.members.entries session) }
+        ensures back { OnOk result (IsTrue (has_row code_cmp self.new.members.entries session)) }
+        ensures others { OnOk result ((s : Code) → same_code session s ≡ false
+            → listing.listed self.new.members.entries s ≡ listing.listed self.old.members.entries s) }
+        ensures halls { self.new.halls.entries ≡ self.old.halls.entries }
+        ensures err { OnErr result ((s : Code)
+            → listing.listed self.new.members.entries s ≡ listing.listed self.old.members.entries s) }
+        ensures memory { IfErr result (λ e. e ≡ NoMemory) }
+    {
+        // Candidates in order are members in order.
+        facts.show_order();
+        let paper = listed_paper(facts, &session, number);
+        let list = placed(alloc, self.members_of(&session), number, paper)?;
+        keep_list(alloc, &mut self.members, session)?;
+        Ok(exchange(&mut self.members, &session, list))
+    }
+
+    /// Puts the list in the place of the session's own. Takes no memory.
+    pub fn put_members(&mut self, session: &SessionCode, list: Vec<Entrant>)
+        requires { IsTrue (has_row code_cmp self.old.members.entries session.now) }
+        ensures members { (s : Code) → listing.listed self.new.members.entries s
+            ≡ (if same_code session.now s then list.items else listing.listed self.old.members.entries s) }
+        ensures halls { self.new.halls.entries ≡ self.old.halls.entries }
+    {
+        let _ = exchange(&mut self.members, session, list);
     }
 }
 

@@ -77,7 +77,7 @@ pub fn is_live_paper(
 }
 
 /// The least paper of the session for which the candidate has a live entry.
-fn least_live_paper(facts: &Facts, session: &SessionCode, number: Number) -> Option<PaperCode>
+pub fn least_live_paper(facts: &Facts, session: &SessionCode, number: Number) -> Option<PaperCode>
     ensures { result ≡ spec.least_live_paper (relations_of facts.now) session.now number }
 {
     for (key, row) in entries_from(facts, number) {
