@@ -1,10 +1,10 @@
 -- What an entry that is set changes in the lists: the place of its candidate in the list of its session.
-use Rattle.std.proofs.Common.{◌≡◌, ℕ, ◌<◌, ◌≤◌, ◌&&◌, Bool, true, false, cond, List, [], ◌∷◌, ◌++◌, filter, map, nat_eq, nat_lt, Option, None, Some, Vec, is_some, refl, ap, sym, subst, ◌∙◌, arith}
+use Rattle.std.proofs.Common.{◌≡◌, ℕ, ◌<◌, ◌≤◌, ◌&&◌, Bool, true, false, cond, List, [], ◌∷◌, ◌++◌, filter, map, nat_eq, nat_lt, Option, None, Some, Vec, is_some, refl, ap, sym, ◌∙◌, arith}
 use Rattle.std.specs.Global.{Global}
 use Rattle.std.specs.Option.{option_map, option_map_or}
-use Rattle.std.specs.List.{AllByRecursion, filter_map, cons_option}
+use Rattle.std.specs.List.{AllByRecursion, cons_option}
 use Rattle.std.specs.List.Sorted.{IsStrictlySortedBy}
-use Rattle.std.specs.Map.{keys_of, lookup}
+use Rattle.std.specs.Map.{keys_of}
 use Rattle.std.specs.BTreeMap.{is_at, insert_entry}
 use Rattle.std.specs.Cmp.Lexicographic.{texts_ties}
 use Rattle.std.specs.declared.cmp.Ordering.{Ordering}
@@ -22,7 +22,6 @@ use Rattle.exam_rules.specs.declared.lists.Entrant.{Entrant}
 use Rattle.exam_rules.specs.declared.lists.SessionLists.{SessionLists}
 use Rattle.exam_rules.specs.Relations.{Code, Relations, code_cmp, same_code, entry_cmp, row_at, has_row, put_row}
 use Rattle.exam_rules.specs.Sessions.{head_of, is_live_entry, is_paper_of, least_live_paper}
-use Rattle.exam_rules.specs.Seatings.{open_halls}
 use Rattle.exam_rules.specs.Orders.{AreInOrder}
 use Rattle.exam_rules.specs.Lists.{listed, entrant, entrants, placed, listed_paper, SetsEntry, AreListsOf}
 use Rattle.exam_rules.proofs.InOrder.{lists_rise}
@@ -258,3 +257,24 @@ module _ (before after : Relations) (s : Code) (c : ℕ) (sets : SetsEntry befor
       inner : (t : Code) (b : Bool) → same_code s t ≡ b → cond b list (listed old.members.entries t) ≡ entrants after t
       inner t true same = made ∙ ap (placed c (listed_paper after s c)) (are.members s) ∙ sym (listed_anew up.candidates) ∙ ap (entrants after) (same_code_exact s t same)
       inner t false other = are.members t ∙ sym (listed_elsewhere t other)
+
+-- ---- the lists as they were
+
+-- lists of the same members and halls
+pub lists_kept : (r : Relations) (was now : SessionLists) → AreListsOf r was → ((t : Code) → listed now.members.entries t ≡ listed was.members.entries t) → now.halls.entries ≡ was.halls.entries → AreListsOf r now
+lists_kept r was now are same halls = record {
+  numbers = are.numbers;
+  members = λ t. same t ∙ are.members t;
+  halls = λ t. ap (λ (rows : List (Code × Vec Code Global)). listed rows t) halls ∙ are.halls t;
+  rising = are.rising;
+}
+
+-- one list changed, and then put back
+pub lists_put_back : (r : Relations) (s : Code) (was changed back : SessionLists) (list : List Entrant) → AreListsOf r was → list ≡ listed was.members.entries s
+    → ((t : Code) → same_code s t ≡ false → listed changed.members.entries t ≡ listed was.members.entries t) → changed.halls.entries ≡ was.halls.entries
+    → ((t : Code) → listed back.members.entries t ≡ cond (same_code s t) list (listed changed.members.entries t)) → back.halls.entries ≡ changed.halls.entries → AreListsOf r back
+lists_put_back r s was changed back list are its_own others halls put halls_after = lists_kept r was back are (λ t. put t ∙ inner t (same_code s t) refl) (halls_after ∙ halls)
+  where
+    inner : (t : Code) (b : Bool) → same_code s t ≡ b → cond b list (listed changed.members.entries t) ≡ listed was.members.entries t
+    inner t true same = its_own ∙ ap (listed was.members.entries) (same_code_exact s t same)
+    inner t false other = others t other

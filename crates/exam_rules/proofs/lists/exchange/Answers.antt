@@ -1,4 +1,4 @@
-use Rattle.std.proofs.Common.{◌≡◌, Some, Vec, IsSome, List, refl, cond, ap, sym, subst, ◌∙◌}
+use Rattle.std.proofs.Common.{◌≡◌, Some, Vec, IsSome, refl, cond, ap, sym, subst, ◌∙◌}
 use Rattle.std.specs.Global.{Global}
 use Rattle.std.specs.Option.{option_copied_mut}
 use Rattle.exam_rules.specs.declared.lists.Entrant.{Entrant}

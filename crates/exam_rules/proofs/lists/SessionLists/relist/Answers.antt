@@ -1,7 +1,7 @@
-use Rattle.std.proofs.Common.{◌≡◌, List, cond, refl, ap, ◌∙◌}
+use Rattle.std.proofs.Common.{List, cond, refl, ap, ◌∙◌}
 use Rattle.exam_rules.specs.declared.lists.Entrant.{Entrant}
 use Rattle.exam_rules.specs.Relations.{relations_of, same_code}
-use Rattle.exam_rules.specs.Lists.{listed, placed, listed_paper}
+use Rattle.exam_rules.specs.Lists.{placed, listed_paper}
 use Rattle.exam_rules.proofs.Relisting.{relisted_lists}
 use Rattle.exam_rules.proofs.lists.SessionLists.relist.Goals as goal
 
