@@ -1,10 +1,12 @@
 //! Small offices, and what the calls answer on them. A test is data: the facts, and what is so of them. So
 //! the functions that own facts are few, and each is proved once.
+mod relisting;
 mod scenes;
 mod setups;
 
 use exam_rules::{clashes, problem, sitting};
 use exam_types::Refusal;
+use relisting::{Turn, relist_each};
 use scenes::{Scene, play};
 use setups::{Fact, Grant, number, school_with, session};
 use std::test::Fail;
@@ -110,4 +112,37 @@ fn an_unknown_session_is_refused(rt: HostRuntime) -> Result<(), Fail> {
     let refusal = clashes(rt.alloc(), &facts, &unknown).err();
     assert_eq!(rt; refusal, Some(Refusal::UnknownSession));
     Ok(())
+}
+
+#[test]
+fn one_entry_set_is_listed_as_all_anew(rt: HostRuntime) -> Result<(), Fail> {
+    // The paper ZZ-9 is of no session, so that nobody is listed at first. 4 is nobody's number.
+    let facts = [
+        Fact::Paper("AB-0", 60, "-"),
+        Fact::Entered(1, "ZZ-9"),
+        Fact::Entered(2, "ZZ-9"),
+        Fact::Entered(3, "ZZ-9"),
+    ];
+    let all = [(1, "MA-1"), (2, "MA-1"), (3, "MA-1")];
+    let other = [(1, "MA-1"), (2, "AB-0"), (3, "MA-1")];
+    let turns = [
+        turn(2, "MA-1", true, &[(2, "MA-1")]),
+        turn(1, "MA-1", true, &[(1, "MA-1"), (2, "MA-1")]),
+        turn(3, "MA-1", true, &all),
+        turn(2, "AB-0", true, &other),
+        turn(2, "MA-1", false, &other),
+        turn(2, "AB-0", false, &[(1, "MA-1"), (3, "MA-1")]),
+        turn(2, "MA-1", true, &all),
+        turn(4, "MA-1", true, &all),
+    ];
+    relist_each(&rt, &facts, &[], &turns)
+}
+
+fn turn<'a>(number: u32, paper: &'a str, live: bool, listed: &'a [(u32, &'a str)]) -> Turn<'a> {
+    Turn {
+        number,
+        paper,
+        live,
+        listed,
+    }
 }
