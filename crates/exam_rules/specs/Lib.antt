@@ -10,7 +10,8 @@
 --   something wanted
 -- - Seatings: when a hall suits a member and fits; desks; the order of desks; the seating problem
 --   of a session, at numbers and codes (seating) and at indices (problem_of, indexed_seating)
--- - Lists: of each session its members and its open halls as lists, an index beside the facts
+-- - Lists: of each session its members and its open halls as lists, an index beside the facts; a list in which
+--   one candidate is listed anew, and facts that differ in one entry
 -- - Names: the index of a number and of a code, and what an index names: the naming of a session,
 --   and its plans and chains read by it; that members and open halls rise
 -- - Orders: that the keys of every table rise
