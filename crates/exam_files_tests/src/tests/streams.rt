@@ -74,7 +74,10 @@ fn a_register_of_rows_in_memory_has_a_line_for_each(rt: HostRuntime) -> Result<(
     let mut source = ListedAppeals { rows: &rows };
     let (answer, text) = streamed(rt.alloc(), &mut source, 2, 1000)?;
     assert!(rt; answer == Ok(()));
-    assert!(rt; text.as_slice().starts_with(b"APPEALS session S1\nappeals 2\n0000001 HA1 "));
+    assert!(rt;
+        text.as_slice()
+            .starts_with(b"APPEALS session S1\nappeals 2\n0000001 HA1 ")
+    );
     assert!(rt; text.as_slice().ends_with(LINE));
     assert_eq!(rt; text.len(), 29 + 2 * LINE.len());
     Ok(())

@@ -276,7 +276,11 @@ pub fn touched_by_import(
     kind: Kind,
     lines: &[Line],
 ) -> Result<String, Fail> {
-    touched_text(alloc, facts, &Command::Import(import_of(alloc, kind, lines)?))
+    touched_text(
+        alloc,
+        facts,
+        &Command::Import(import_of(alloc, kind, lines)?),
+    )
 }
 
 pub fn touched_by_order(alloc: Global, facts: &[Fact], order: Order) -> Result<String, Fail> {

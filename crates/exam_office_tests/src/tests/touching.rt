@@ -51,16 +51,31 @@ fn ruling(reference: &'static str, outcome: Outcome) -> Order<'static> {
 
 #[test]
 fn an_import_touches_what_its_rows_name(rt: HostRuntime) -> Result<(), Fail> {
-    expect_import(&rt, Kind::Sessions, &[Line::Session("S2"), Line::Session("S9")], "S2 S9 ")?;
+    expect_import(
+        &rt,
+        Kind::Sessions,
+        &[Line::Session("S2"), Line::Session("S9")],
+        "S2 S9 ",
+    )?;
     expect_import(&rt, Kind::Openings, &[Line::Opening("S2", "B", 1)], "S2 ")?;
     expect_import(&rt, Kind::Openings, &[Line::Opening("S9", "B", 1)], "")?;
     expect_import(&rt, Kind::Candidates, &[Line::Candidate(1)], "")?;
-    expect_import(&rt, Kind::Entries, &[Line::Entry(3, "MB-1"), Line::Entry(3, "XX")], "S2 ")
+    expect_import(
+        &rt,
+        Kind::Entries,
+        &[Line::Entry(3, "MB-1"), Line::Entry(3, "XX")],
+        "S2 ",
+    )
 }
 
 #[test]
 fn a_paper_touches_its_old_session_and_its_new_one(rt: HostRuntime) -> Result<(), Fail> {
-    expect_import(&rt, Kind::Papers, &[Line::Paper("MA-1", "S2", "-")], "S1 S2 ")?;
+    expect_import(
+        &rt,
+        Kind::Papers,
+        &[Line::Paper("MA-1", "S2", "-")],
+        "S1 S2 ",
+    )?;
     expect_import(&rt, Kind::Papers, &[Line::Paper("MA-1", "S9", "-")], "S1 ")?;
     expect_import(&rt, Kind::Papers, &[Line::Paper("NEW", "S2", "-")], "S2 ")
 }
@@ -74,8 +89,18 @@ fn a_hall_touches_each_session_that_opens_it(rt: HostRuntime) -> Result<(), Fail
 
 #[test]
 fn an_arrangement_touches_each_session_of_its_candidate(rt: HostRuntime) -> Result<(), Fail> {
-    expect_import(&rt, Kind::Arrangements, &[Line::Arrangement(1, "screen", 0)], "S1 S2 ")?;
-    expect_import(&rt, Kind::Arrangements, &[Line::Arrangement(2, "screen", 0)], "")
+    expect_import(
+        &rt,
+        Kind::Arrangements,
+        &[Line::Arrangement(1, "screen", 0)],
+        "S1 S2 ",
+    )?;
+    expect_import(
+        &rt,
+        Kind::Arrangements,
+        &[Line::Arrangement(2, "screen", 0)],
+        "",
+    )
 }
 
 #[test]
