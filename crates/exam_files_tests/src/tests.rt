@@ -12,5 +12,4 @@ mod registers;
 mod sheets;
 mod shortage_sheets;
 mod slow;
-mod streams;
 mod writers;

@@ -24,6 +24,7 @@ pub trait AppealSource {
 }
 
 /// Rows in memory.
+#[derive(Drop)]
 pub struct ListedAppeals<'a> {
     pub rows: &'a [AppealRow],
 }
