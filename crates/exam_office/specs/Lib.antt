@@ -22,6 +22,9 @@
 --   has its next plan, the reply; whom each command seats for certain, and whom it names; a run
 --   over commands with their days, each of which may also run out of memory and change nothing
 -- - Orders: that the keys of every table and of the seats rise
+-- - Touched: which sessions a command touches
+-- - Parts: the facts and the plans that one command reads, and the office with them put back
+-- - Sources: appeals that come one by one
 -- - Words: the words for the kinds, the states and the subjects of appeals
 -- - Examples: worked plans, computed by the check
 -- - Headline: what an office promises of every session: whoever sits is a member and has a hall

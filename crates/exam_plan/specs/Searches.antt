@@ -180,9 +180,9 @@ abbrev pub is_drawn : (ℕ → Bool) → Option ℕ → Bool
 is_drawn set None = true
 is_drawn set (Some h) = set h
 
--- What a sweep keeps beside its plan: the occupants of each hall, the halls with a free desk, the table of who may move
--- on, the dead halls, and their list. A dead hall is full, its occupants fit dead halls alone, and an unseated candidate
--- leads to it.
+-- What a sweep keeps beside its plan: the occupants of each hall, the halls with a free desk, the table of who
+-- may move on, the dead halls, and their list. A dead hall is full, its occupants fit dead halls alone, and an
+-- unseated candidate leads to it.
 pub record IsKept (p : Problem) (sweep : Progress) : Type 0 where
   pub plan : IsPlan p sweep.plan.items
   pub lawful : IsLawful (seating_of p) (plan_at sweep.plan.items)
