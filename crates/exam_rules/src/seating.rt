@@ -111,7 +111,8 @@ fn fit_rows(
     ensures ok { IfOk result (λ rows. map (halls_below (length halls.now)) rows.items
         ≡ map (λ key. seatings.fitting_places (relations_of facts.now) session.now key.1
         (map (λ hall. hall.0) halls.now)) keys.now) }
-    ensures exist { IfOk result (λ rows. All (λ row. (h : ℕ) → IsTrue (holds row h) → h < length halls.now) rows.items) }
+    ensures exist { IfOk result (λ rows.
+        All (λ row. (h : ℕ) → IsTrue (holds row h) → h < length halls.now) rows.items) }
     ensures memory { IfErr result (λ e. e ≡ NoMemory) }
 {
     let mut rows = Vec::with_capacity(alloc, keys.len())?;
@@ -200,7 +201,8 @@ fn fit_table(
     ensures ok { IfOk result (λ rows. map (halls_below (length halls.now)) rows.items
         ≡ map (λ c. seatings.fitting_places (relations_of facts.now) session.now c halls.now)
         (spec.members (relations_of facts.now) session.now)) }
-    ensures exist { IfOk result (λ rows. All (λ row. (h : ℕ) → IsTrue (holds row h) → h < length halls.now) rows.items) }
+    ensures exist { IfOk result (λ rows.
+        All (λ row. (h : ℕ) → IsTrue (holds row h) → h < length halls.now) rows.items) }
     ensures memory { IfErr result (λ e. e ≡ NoMemory) }
 {
     let rooms = rooms(alloc, facts, session, halls)?;
