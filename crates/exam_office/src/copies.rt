@@ -1,5 +1,5 @@
 //! Copies of the facts, which a command changes before they take the place of the old ones.
-ghost use Rattle.std.specs.Prelude.{◌≡◌, IfOk, IfErr, OnOk};
+ghost use Rattle.std.specs.Prelude.{◌≡◌, IfOk, IfErr, OnOk, OnErr};
 ghost use Rattle.std.specs.BTreeMap.{insert_entry};
 ghost use Rattle.exam_types.specs.declared.refusal.Refusal.TheVariants.{NoMemory};
 ghost use Rattle.exam_rules.specs.Relations.{appeal_cmp, put_row, relations_of};
@@ -32,10 +32,11 @@ pub fn with_stored_appeal(
     Ok(changed)
 }
 
-/// Sets a key to a row.
+/// Sets a key to a row. After a refusal the rows are as before.
 pub fn put<K: Ord + Copy, V: Drop>(rows: &mut BTreeMap<K, V>, key: K, row: V) -> Result<(), Refusal>
     ensures ok { OnOk result (rows.new.entries ≡ insert_entry K.cmp rows.old.entries key row) }
     ensures memory { IfErr result (λ e. e ≡ NoMemory) }
+    ensures err { OnErr result (rows.new.entries ≡ rows.old.entries) }
 {
     rows.insert(key, row)?;
     Ok(())
