@@ -65,6 +65,12 @@ module _ (done : Command) (office part : State) (up : IsInOrder office) (agrees 
       (λ k here. ap (λ (q : Seats). row_at seat_cmp q k) back.0 ∙ agrees.read k.0 (read_if_new back.1 k here) k.1)
       elsewhere
 
+  pub seats_back : (o : Option Plans) (old : Plans) → o ≡ Some old → PlansBack done part.relations o new part.seats → (seats : Seats) → KeysRise seat_cmp seats
+      → ((k : Code × ℕ) → has_row seat_cmp new k ≡ false → row_at seat_cmp seats k ≡ row_at seat_cmp office.seats k) → seats_before o new seats ≡ office.seats
+  seats_back o old is back seats up_seats elsewhere =
+      subst (λ (p : Option Plans). seats_before p new seats ≡ office.seats) (sym is)
+      (seats_again old (subst (λ (p : Option Plans). PlansBack done part.relations p new part.seats) is back) seats up_seats elsewhere)
+
   pub seats_were : (o : Option Plans) → PlansBack done part.relations o new part.seats → seats_before o new (seats_put o office.seats new) ≡ office.seats
   seats_were None back = refl
   seats_were (Some old) back =
@@ -142,6 +148,11 @@ module _ (done : Command) (office part : State) (up : IsInOrder office) (agrees 
         untouched s out true touched =
             absurd (let differ : true ≡ false = sym (touched_read done office.relations s (ap (λ (r : Relations). touches r done s) (sym agrees.facts) ∙ touched)) ∙ out in cc)
         untouched s out false away = refl
+
+-- old seats stay where every seat does
+pub old_stay : (o : Option Plans) (seats later : Seats) → HasOld o seats → ((k : Code × ℕ) → has_row seat_cmp seats k ≡ true → has_row seat_cmp later k ≡ true) → HasOld o later
+old_stay None seats later has stays = tt
+old_stay (Some old) seats later has stays = λ k was. stays k (has k was)
 
 -- an accepted command leaves a good office
 good_after : (done : Command) (today : ℕ) (office after : State) (told : Reply) (old : Relations) → WasMade done old after.relations → IsTrue (within_limits after.relations) → Step done today office (Ok told) after → IsGood after

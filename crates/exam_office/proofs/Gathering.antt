@@ -99,30 +99,37 @@ or_swaps true true c = refl
 or_swaps true false c = refl
 or_swaps false b c = refl
 
+module _ (r : Relations) (s : Code) (rows : List Row) where
+  abbrev Touches : List Row → Type 0
+  Touches xs = list_any (λ (x : Row). row_touches r x s) xs ≡ (list_any (opens_named xs s) r.openings || list_any (λ (x : Row). names_session r x s) xs)
+
+  abbrev named : Bool
+  named = list_any (λ (x : Row). names_session r x s) rows
+
+  abbrev opened : Bool
+  opened = list_any (opens_named rows s) r.openings
+
+  other : Touches rows → (b : Bool) → (b || list_any (λ (x : Row). row_touches r x s) rows) ≡ (opened || (b || named))
+  other rest b = ap (λ t. b || t) rest ∙ or_same b opened named ∙ or_swaps b opened named
+
+  one_more : Touches rows → (x : Row) → Touches (x ∷ rows)
+  one_more rest (row.OfSession told z) = other rest (same_code told s)
+  one_more rest (row.OfPaper p z) = other rest (is_paper_of r s p || names r z.session s)
+  one_more rest (row.OfHall h z) =
+      ap (λ b. b || list_any (λ (x : Row). row_touches r x s) rows) (sym (opened_any s h r.openings))
+      ∙ ap (λ t. list_any (opens s h) r.openings || t) rest
+      ∙ or_same (list_any (opens s h) r.openings) opened named
+      ∙ ap (λ b. b || named) (sym (more_opens s h z rows r.openings))
+  one_more rest (row.OfOpening told h z) = other rest (names r told s)
+  one_more rest (row.OfCandidate c z) = rest
+  one_more rest (row.OfEntry c p) = other rest (is_paper_of r s p)
+  one_more rest (row.OfArrangement c z) = other rest (is_member r s c)
+
 -- what rows touch is what they name, and the sessions that open the halls that they name
 pub rows_touch : (r : Relations) (s : Code) (rows : List Row)
     → list_any (λ (x : Row). row_touches r x s) rows ≡ (list_any (opens_named rows s) r.openings || list_any (λ (x : Row). names_session r x s) rows)
 rows_touch r s [] = sym (ap (λ b. b || false) (none_opens s r.openings))
-rows_touch r s (x ∷ rows) = inner x
-  where
-    rest : list_any (λ (y : Row). row_touches r y s) rows ≡ (list_any (opens_named rows s) r.openings || list_any (λ (y : Row). names_session r y s) rows)
-    rest = rows_touch r s rows
-
-    other : (b : Bool) → (b || list_any (λ (y : Row). row_touches r y s) rows) ≡ (list_any (opens_named rows s) r.openings || (b || list_any (λ (y : Row). names_session r y s) rows))
-    other b = ap (λ t. b || t) rest ∙ or_same b (list_any (opens_named rows s) r.openings) (list_any (λ (y : Row). names_session r y s) rows) ∙ or_swaps b (list_any (opens_named rows s) r.openings) (list_any (λ (y : Row). names_session r y s) rows)
-
-    inner : (y : Row) → list_any (λ (z : Row). row_touches r z s) (y ∷ rows) ≡ (list_any (opens_named (y ∷ rows) s) r.openings || list_any (λ (z : Row). names_session r z s) (y ∷ rows))
-    inner (row.OfSession named z) = other (same_code named s)
-    inner (row.OfPaper p z) = other (is_paper_of r s p || names r z.session s)
-    inner (row.OfHall h z) =
-        ap (λ b. b || list_any (λ (y : Row). row_touches r y s) rows) (sym (opened_any s h r.openings))
-        ∙ ap (λ t. list_any (opens s h) r.openings || t) rest
-        ∙ or_same (list_any (opens s h) r.openings) (list_any (opens_named rows s) r.openings) (list_any (λ (y : Row). names_session r y s) rows)
-        ∙ ap (λ b. b || list_any (λ (y : Row). names_session r y s) rows) (sym (more_opens s h z rows r.openings))
-    inner (row.OfOpening named h z) = other (names r named s)
-    inner (row.OfCandidate c z) = rest
-    inner (row.OfEntry c p) = other (is_paper_of r s p)
-    inner (row.OfArrangement c z) = other (is_member r s c)
+rows_touch r s (x ∷ rows) = one_more r s rows (rows_touch r s rows) x
 
 -- ---- the entries of a candidate
 

@@ -155,7 +155,7 @@ module _ (done : Command) (today : ℕ) (office part : State) (good : IsGood off
     refused_late e (inl memory) = inl memory
     refused_late e (inr past) =
         inr (change_same done today office part agrees
-        ∙ past_limit today office good up.tables done past.1.0 here_early (ap within_limits (sym here_facts) ∙ past.1.1)
+        ∙ past_limit today office good up.tables done past.1 here_early (ap within_limits (sym here_facts) ∙ past.2)
         ∙ ap Err (sym past.0))
 
 pub refused_early : (done : Command) (today : ℕ) (part : State) (e : Refusal) → (e ≡ NoMemory) ⊎ (early_refusal done today part ≡ Some e) → IsRefusedIn done today part e

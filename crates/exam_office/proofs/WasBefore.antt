@@ -15,10 +15,10 @@ none_if None away = refl
 none_if (Some x) away = absurd (let differ : true ≡ false = away in cc)
 
 module _ (old new seats : Seats) (mixed : MixesPlans old new seats) (up : KeysRise seat_cmp seats) where
-  were : Seats
+  abbrev were : Seats
   were = taken_back seat_cmp seats old new
 
-  are : Seats
+  abbrev are : Seats
   are = without_old seat_cmp seats old new
 
   was_at : (k : Code × ℕ) (b : Bool) → has_row seat_cmp new k ≡ b → (has_row seat_cmp old k || b) ≡ true → row_at seat_cmp were k ≡ row_at seat_cmp old k

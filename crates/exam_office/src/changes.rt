@@ -13,27 +13,13 @@ ghost use Rattle.exam_office.specs.SameRows.{same_opening};
 ghost use Rattle.exam_office.specs.Undoing as undoing;
 
 use crate::command::Reply;
-use crate::copies::{copied_facts, put};
 use crate::import::Import;
 use crate::import_row::Row;
 use crate::references;
+use crate::rows::put;
 use crate::undo::{Undo, set_aside};
 use exam_rules::{Entry, Facts, Opening};
 use exam_types::{HallCode, Number, PaperCode, Refusal, SessionCode};
-
-/// The facts with the rows of an import, and what the import answers.
-pub fn imported(facts: &Facts, import: &Import) -> Result<(Facts, Reply), Refusal>
-    ensures ok { IfOk result (λ answer. relations_of answer.0
-        ≡ changes.with_rows (relations_of facts.now) import.now.rows) }
-    ensures reply { IfOk result (λ answer. answer.1
-        ≡ replies.import_reply (relations_of facts.now) import.now.rows) }
-    ensures checked { OnOk result (changes.rows_refusal (relations_of facts.now) import.now.rows ≡ None) }
-    ensures refusal { IfErr result (λ e. (e ≡ NoMemory)
-        ⊎ (changes.rows_refusal (relations_of facts.now) import.now.rows ≡ Some e)) }
-{
-    check_rows(facts, import.rows())?;
-    Ok((with_rows(facts, import.rows())?, count_rows(facts, import)))
-}
 
 /// Adds the rows of an import, and gives how this is taken back and what the import answers. Refused for the
 /// first row, in the order of the file, that refers to what is not there; and where there is not enough memory.
@@ -106,17 +92,6 @@ fn check_row(facts: &Facts, row: &Row) -> Result<(), Refusal>
         }
         Row::OfArrangement(number, _) => references::check_candidate(facts, number),
     }
-}
-
-/// The facts with each row in turn.
-fn with_rows(facts: &Facts, rows: &[Row]) -> Result<Facts, Refusal>
-    ensures ok { IfOk result (λ changed. relations_of changed
-        ≡ changes.with_rows (relations_of facts.now) rows.now) }
-    ensures memory { IfErr result (λ e. e ≡ NoMemory) }
-{
-    let mut changed = copied_facts(facts)?;
-    put_rows(&mut changed, rows)?;
-    Ok(changed)
 }
 
 /// Sets each row in turn. Also a refusal changes only the table of the rows.

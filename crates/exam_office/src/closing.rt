@@ -6,25 +6,11 @@ ghost use Rattle.exam_rules.specs.Relations.{relations_of};
 ghost use Rattle.exam_office.specs.Changes as changes;
 ghost use Rattle.exam_office.specs.Undoing as spec;
 
-use crate::copies::copied_facts;
 use crate::references::{check_hall, check_session};
 use crate::undo::Undo;
 use exam_rules::Facts;
 use exam_types::{HallCode, Refusal, SessionCode};
 use std::mem::replace;
-
-/// The facts without the opening of the hall for the session. Refused, in this order, as an unknown session,
-/// an unknown hall, or a hall not opened; and where there is not enough memory.
-pub fn closed(facts: &Facts, session: SessionCode, hall: HallCode) -> Result<Facts, Refusal>
-    ensures ok { IfOk result (λ changed. relations_of changed
-        ≡ changes.without_opening (relations_of facts.now) session hall) }
-    ensures checked { OnOk result (changes.closing_refusal (relations_of facts.now) session hall ≡ None) }
-    ensures refusal { IfErr result (λ e. (e ≡ NoMemory)
-        ⊎ (changes.closing_refusal (relations_of facts.now) session hall ≡ Some e)) }
-{
-    check_closing(facts, session, hall)?;
-    without_opening(facts, session, hall)
-}
 
 /// Closes the hall for the session, and gives how this is taken back. Refused, in this order, as an unknown
 /// session, an unknown hall, or a hall not opened; and where there is not enough memory. After a refusal the
@@ -67,15 +53,4 @@ fn check_closing(facts: &Facts, session: SessionCode, hall: HallCode) -> Result<
         return Err(Refusal::HallNotOpened);
     }
     Ok(())
-}
-
-/// The facts without the opening.
-fn without_opening(facts: &Facts, session: SessionCode, hall: HallCode) -> Result<Facts, Refusal>
-    ensures ok { IfOk result (λ changed. relations_of changed
-        ≡ changes.without_opening (relations_of facts.now) session hall) }
-    ensures memory { IfErr result (λ e. e ≡ NoMemory) }
-{
-    let mut changed = copied_facts(facts)?;
-    let _ = changed.openings.remove(&(session, hall));
-    Ok(changed)
 }

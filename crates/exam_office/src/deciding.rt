@@ -17,9 +17,9 @@ ghost use Rattle.exam_office.specs.Undoing as undoing;
 
 use crate::appeals::{is_open, is_same_kind, stored_state};
 use crate::command::{Command, Decision, Outcome, Reply};
-use crate::copies::{copied_facts, put, with_stored_appeal};
 use crate::moves::moved;
 use crate::office::Seats;
+use crate::rows::put;
 use crate::undo::Undo;
 use exam_rules::{Appeal, Facts, Status, Subject, appeals_from, is_live_paper, is_member};
 use exam_types::{Day, Number, PaperCode, Reason, Reference, Refusal, SessionCode};
@@ -28,29 +28,6 @@ use std::mem::replace;
 
 /// The appeals of the facts, by candidate and reference.
 type Appeals = BTreeMap<(Number, Reference), Appeal>;
-
-/// The facts with the appeal decided, and with an earlier grant of its kind superseded where it is granted;
-/// as they were where it is decided so already. Refused, in this order, as an unknown appeal, as one that is
-/// not open, or as too late; a grant where the candidate is no longer a member, or has no live entry for the
-/// paper; and where there is not enough memory. It passes no limit.
-pub fn decided(facts: &Facts, decision: &Decision, today: Day) -> Result<Facts, Refusal>
-    requires { AreSingle (relations_of facts.now) }
-    ensures ok { IfOk result (λ changed. relations_of changed
-        ≡ spec.with_decision (relations_of facts.now) decision.now) }
-    ensures checked { OnOk result
-        (spec.decision_refusal (relations_of facts.now) today decision.now ≡ None) }
-    ensures refusal { IfErr result (λ e. (e ≡ NoMemory)
-        ⊎ (spec.decision_refusal (relations_of facts.now) today decision.now ≡ Some e)) }
-{
-    let Some(appeal) = facts.appeals.get(&(decision.number, decision.reference)) else {
-        return Err(Refusal::UnknownAppeal);
-    };
-    if is_decided(decision.outcome, &decision.answer, &appeal.status) {
-        return copied_facts(facts);
-    }
-    check_appeal(facts, decision, today, appeal)?;
-    with_outcome(facts, decision, appeal)
-}
 
 /// Decides the appeal, supersedes an earlier grant of its kind where it is granted, and gives how this is taken
 /// back; nothing changes where it is decided so already. Refused, in this order, as an unknown appeal, as one
@@ -268,24 +245,6 @@ fn check_paper(
     }
 }
 
-/// The facts with this appeal decided, which is not decided so already.
-fn with_outcome(facts: &Facts, decision: &Decision, appeal: &Appeal) -> Result<Facts, Refusal>
-    requires { AreSingle (relations_of facts.now) }
-    ensures ok { IfOk result (λ changed. relations_of changed
-        ≡ spec.with_outcome (relations_of facts.now) decision.now appeal.now) }
-    ensures memory { IfErr result (λ e. e ≡ NoMemory) }
-{
-    let status = status_of(decision.outcome, &decision.answer)?;
-    let decided = with_status(appeal, status)?;
-    let mut changed = with_superseded(facts, decision.number, appeal, decision.outcome)?;
-    put(
-        &mut changed.appeals,
-        (decision.number, decision.reference),
-        decided,
-    )?;
-    Ok(changed)
-}
-
 fn status_of(outcome: Outcome, answer: &Reason) -> Result<Status, Refusal>
     ensures ok { IfOk result (λ status. status ≡ appeals.decided outcome answer.now) }
     ensures memory { IfErr result (λ e. e ≡ NoMemory) }
@@ -306,55 +265,6 @@ pub fn with_status(appeal: &Appeal, status: Status) -> Result<Appeal, Refusal>
         status,
         ..*appeal
     })
-}
-
-/// The facts without the decision: where it is a grant, with the earlier grant of its kind superseded.
-fn with_superseded(
-    facts: &Facts,
-    number: Number,
-    appeal: &Appeal,
-    outcome: Outcome,
-) -> Result<Facts, Refusal>
-    requires { AreSingle (relations_of facts.now) }
-    ensures ok { IfOk result (λ changed. relations_of changed ≡ record (relations_of facts.now) {
-      appeals = spec.with_superseded number appeal.now outcome facts.now.appeals.entries;
-    }) }
-    ensures memory { IfErr result (λ e. e ≡ NoMemory) }
-{
-    match outcome {
-        Outcome::Grant => with_earlier_superseded(facts, number, appeal),
-        Outcome::Refuse => copied_facts(facts),
-    }
-}
-
-fn with_earlier_superseded(facts: &Facts, number: Number, appeal: &Appeal) -> Result<Facts, Refusal>
-    requires { AreSingle (relations_of facts.now) }
-    ensures ok { IfOk result (λ changed. relations_of changed ≡ record (relations_of facts.now) {
-      appeals = spec.with_superseded number appeal.now outcomes.Grant facts.now.appeals.entries;
-    }) }
-    ensures memory { IfErr result (λ e. e ≡ NoMemory) }
-{
-    facts.show_order();
-    match earlier_grant(facts, number, appeal) {
-        Some((key, earlier)) => with_superseded_appeal(facts, *key, earlier),
-        None => copied_facts(facts),
-    }
-}
-
-/// The facts with this appeal superseded, if it was granted.
-fn with_superseded_appeal(
-    facts: &Facts,
-    key: (Number, Reference),
-    appeal: &Appeal,
-) -> Result<Facts, Refusal>
-    ensures ok { IfOk result (λ changed. relations_of changed ≡ record (relations_of facts.now) {
-      appeals = put_row appeal_cmp facts.now.appeals.entries key
-          (record appeal.now { status = appeals.superseded appeal.now.status });
-    }) }
-    ensures memory { IfErr result (λ e. e ≡ NoMemory) }
-{
-    let superseded = with_status(appeal, superseded_status(&appeal.status)?)?;
-    with_stored_appeal(facts, key, superseded)
 }
 
 fn superseded_status(status: &Status) -> Result<Status, Refusal>

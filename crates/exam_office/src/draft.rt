@@ -179,13 +179,16 @@ fn made(
     let made = make(alloc, part, lists, command, today)?;
     part.facts.show_order();
     part.show_order();
-    if let Some(_) = &made.plans {
-        if let Err(refusal) = put_seats(seats, &part.plans) {
-            take_back(part, lists, seats, made);
-            return Err(refusal);
-        }
+    match &made.plans {
+        Some(_) => match put_seats(seats, &part.plans) {
+            Ok(()) => Ok(made),
+            Err(refusal) => {
+                take_back(part, lists, seats, made);
+                Err(refusal)
+            }
+        },
+        None => Ok(made),
     }
-    Ok(made)
 }
 
 /// Takes the command back.

@@ -7,41 +7,11 @@ ghost use Rattle.exam_rules.specs.Sessions as sessions;
 ghost use Rattle.exam_office.specs.Changes as changes;
 ghost use Rattle.exam_office.specs.Undoing as spec;
 
-use crate::copies::{copied_facts, put};
 use crate::references::{check_candidate, check_paper};
-use crate::undo::{Undo, exchange};
+use crate::rows::exchange;
+use crate::undo::Undo;
 use exam_rules::{Entry, Facts};
 use exam_types::{Number, PaperCode, Refusal};
-
-/// The facts with the entry withdrawn. Refused, in this order, as an unknown candidate, an unknown paper, no
-/// entry, or withdrawn already; and where there is not enough memory.
-pub fn withdrawn(facts: &Facts, number: Number, paper: PaperCode) -> Result<Facts, Refusal>
-    ensures ok { IfOk result (λ changed. relations_of changed
-        ≡ changes.with_live (relations_of facts.now) number paper false) }
-    ensures checked { OnOk result (changes.withdrawal_refusal (relations_of facts.now) number paper ≡ None) }
-    ensures refusal { IfErr result (λ e. (e ≡ NoMemory)
-        ⊎ (changes.withdrawal_refusal (relations_of facts.now) number paper ≡ Some e)) }
-{
-    if !is_live(facts, number, paper)? {
-        return Err(Refusal::AlreadyWithdrawn);
-    }
-    with_live(facts, number, paper, false)
-}
-
-/// The facts with the entry live again. Refused, in this order, as an unknown candidate, an unknown paper, no
-/// entry, or not withdrawn; and where there is not enough memory. No limit is tested.
-pub fn reinstated(facts: &Facts, number: Number, paper: PaperCode) -> Result<Facts, Refusal>
-    ensures ok { IfOk result (λ changed. relations_of changed
-        ≡ changes.with_live (relations_of facts.now) number paper true) }
-    ensures checked { OnOk result (changes.revival_refusal (relations_of facts.now) number paper ≡ None) }
-    ensures refusal { IfErr result (λ e. (e ≡ NoMemory)
-        ⊎ (changes.revival_refusal (relations_of facts.now) number paper ≡ Some e)) }
-{
-    if is_live(facts, number, paper)? {
-        return Err(Refusal::NotWithdrawn);
-    }
-    with_live(facts, number, paper, true)
-}
 
 /// Withdraws the entry, and gives how this is taken back. Refused, in this order, as an unknown candidate, an
 /// unknown paper, no entry, or withdrawn already; after a refusal the facts are as before. Takes no memory.
@@ -102,15 +72,4 @@ fn is_live(facts: &Facts, number: Number, paper: PaperCode) -> Result<bool, Refu
         Some(entry) => Ok(entry.live),
         None => Err(Refusal::NoEntry),
     }
-}
-
-/// The facts with this live mark of the entry.
-fn with_live(facts: &Facts, number: Number, paper: PaperCode, live: bool) -> Result<Facts, Refusal>
-    ensures ok { IfOk result (λ changed. relations_of changed
-        ≡ changes.with_live (relations_of facts.now) number paper live) }
-    ensures memory { IfErr result (λ e. e ≡ NoMemory) }
-{
-    let mut changed = copied_facts(facts)?;
-    put(&mut changed.entries, (number, paper), Entry { live })?;
-    Ok(changed)
 }

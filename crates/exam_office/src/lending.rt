@@ -10,12 +10,26 @@ ghost use Rattle.exam_office.specs.Parts as spec;
 
 use crate::command::{Command, Decision};
 use crate::office::{Office, Seats};
+use crate::part::Part;
 use crate::repair::add_seat;
 use crate::touching::touched;
 use exam_rules::{Facts, SessionLists};
 use exam_types::{Number, Refusal, SessionCode};
 use std::alloc::Global;
 use std::collections::BTreeMap;
+
+/// A copy of the facts of the office, and its plans of the sessions that the command reads.
+pub fn part_for(alloc: Global, office: &Office, command: &Command) -> Result<Part, Refusal>
+    ensures agrees { IfOk result (λ part. spec.Agrees command.now office.now (spec.state_of part)) }
+    ensures good { IfOk result (λ part. spec.IsPartFor command.now (spec.state_of part)) }
+    ensures memory { IfErr result (λ e. e ≡ NoMemory) }
+{
+    office.show_good();
+    office.show_order();
+    let plans = read_plans(alloc, office, command)?;
+    let facts = office.facts().clone()?;
+    Ok(Part { facts, plans })
+}
 
 /// The plans of the sessions that the command reads, nobody seated in another.
 pub fn read_plans(alloc: Global, office: &Office, command: &Command) -> Result<Seats, Refusal>

@@ -7,7 +7,6 @@ mod before;
 mod changes;
 mod closing;
 mod command;
-mod copies;
 mod deciding;
 mod draft;
 mod entries;
@@ -29,6 +28,7 @@ mod references;
 mod relisting;
 mod repair;
 mod retracting;
+mod rows;
 mod seat_changes;
 mod steps;
 mod tables;
@@ -51,6 +51,7 @@ pub use laws::{
     repeated_import_makes_the_same_facts, repeated_lodging_changes_nothing,
     repeated_retraction_changes_nothing, untouched_session_stays,
 };
+pub use lending::part_for;
 pub use office::{Office, Seats};
 pub use own::{Own, OwnSession};
 pub use own_laws::{
@@ -62,6 +63,5 @@ pub use part_steps::step_part;
 pub use steps::{run, step};
 pub use tables::{Table, first_bad_table};
 pub use touching::touched;
-pub use undo::Undo;
 pub use view::{AppealRow, Clash, Seat, SessionShortage, SessionView};
 pub use words::{kind_word, state_word, status_word, write_subject};

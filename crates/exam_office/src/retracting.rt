@@ -5,31 +5,11 @@ ghost use Rattle.exam_rules.specs.Relations.{relations_of};
 ghost use Rattle.exam_office.specs.Lodgings as spec;
 ghost use Rattle.exam_office.specs.Undoing as undoing;
 
-use crate::copies::{copied_facts, with_stored_appeal};
 use crate::deciding::with_status;
-use crate::undo::{Undo, exchange};
+use crate::rows::exchange;
+use crate::undo::Undo;
 use exam_rules::{Appeal, Facts, Status};
 use exam_types::{Number, Reference, Refusal};
-
-/// The facts with the appeal retracted, if it is not so yet. Refused as an unknown appeal, or as one that is
-/// not open; and where there is not enough memory.
-pub fn retracted(facts: &Facts, number: Number, reference: Reference) -> Result<Facts, Refusal>
-    ensures ok { IfOk result (λ changed. relations_of changed
-        ≡ spec.with_retraction (relations_of facts.now) number reference) }
-    ensures checked { OnOk result
-        (spec.retraction_refusal (relations_of facts.now) number reference ≡ None) }
-    ensures refusal { IfErr result (λ e. (e ≡ NoMemory)
-        ⊎ (spec.retraction_refusal (relations_of facts.now) number reference ≡ Some e)) }
-{
-    let Some(appeal) = facts.appeals.get(&(number, reference)) else {
-        return Err(Refusal::UnknownAppeal);
-    };
-    match &appeal.status {
-        Status::Pending => with_retracted(facts, number, reference, appeal),
-        Status::Retracted => copied_facts(facts),
-        _ => Err(Refusal::NotOpenAppeal),
-    }
-}
 
 /// Retracts the appeal, if it is not so yet, and gives how this is taken back. Refused as an unknown appeal, or
 /// as one that is not open; and where there is not enough memory for a copy of its reason. After a refusal the
@@ -57,23 +37,4 @@ pub fn retract(facts: &mut Facts, number: Number, reference: Reference) -> Resul
         Status::Retracted => Ok(Undo::Nothing),
         _ => Err(Refusal::NotOpenAppeal),
     }
-}
-
-/// The facts with this appeal, retracted, under the reference.
-fn with_retracted(
-    facts: &Facts,
-    number: Number,
-    reference: Reference,
-    appeal: &Appeal,
-) -> Result<Facts, Refusal>
-    ensures ok { IfOk result (λ changed. relations_of changed
-        ≡ spec.with_retracted_appeal (relations_of facts.now) number reference appeal.now) }
-    ensures memory { IfErr result (λ e. e ≡ NoMemory) }
-{
-    let retracted = Appeal {
-        reason: appeal.reason.copy()?,
-        status: Status::Retracted,
-        ..*appeal
-    };
-    with_stored_appeal(facts, (number, reference), retracted)
 }

@@ -1,13 +1,14 @@
 //! How a change of the facts is taken back.
-ghost use Rattle.std.specs.Prelude.{◌≡◌, IsTrue, Some, IfOk, IfErr};
+ghost use Rattle.std.specs.Prelude.{◌≡◌, IfOk, IfErr};
 ghost use Rattle.exam_types.specs.declared.refusal.Refusal.TheVariants.{NoMemory};
-ghost use Rattle.exam_rules.specs.Orders.{AreInOrder, KeysRise};
-ghost use Rattle.exam_rules.specs.Relations.{Relations, has_row, put_row, relations_of, row_at};
+ghost use Rattle.exam_rules.specs.Orders.{AreInOrder};
+ghost use Rattle.exam_rules.specs.Relations.{Relations, relations_of};
 ghost use Rattle.exam_office.specs.TablesBefore.{WereTables};
 ghost use Rattle.exam_office.specs.Undoing as spec;
 
 use crate::before::{Before, TablesBefore};
 use crate::import_row::Kind;
+use crate::rows::exchange;
 use exam_rules::{Appeal, Arrangement, Candidate, Entry, Facts, Hall, Opening, Paper, Session};
 use exam_types::{HallCode, Number, PaperCode, Reference, Refusal, SessionCode};
 use std::collections::BTreeMap;
@@ -78,7 +79,11 @@ impl Undo {
                 entries: Before::Row(key),
                 ..same
             },
-            Undo::NewAppeal(key) | Undo::Appeal(key, _) => TablesBefore {
+            Undo::NewAppeal(key) => TablesBefore {
+                appeals: Before::Row(key),
+                ..same
+            },
+            Undo::Appeal(key, _) => TablesBefore {
                 appeals: Before::Row(key),
                 ..same
             },
@@ -115,21 +120,6 @@ impl Undo {
                 ..same
             },
         }
-    }
-}
-
-/// Sets a key that has a row to another one, and gives the row that it had. Takes no memory, as only a new key
-/// does.
-pub fn exchange<K: Ord + Copy, V: Drop>(rows: &mut BTreeMap<K, V>, key: K, row: V) -> V
-    requires { IsTrue (has_row K.cmp rows.old.entries key) }
-    ensures old { row_at K.cmp rows.old.entries key ≡ Some result }
-    ensures new { rows.new.entries ≡ put_row K.cmp rows.old.entries key row }
-    ensures rising { KeysRise K.cmp rows.old.entries }
-{
-    match rows.insert(key, row) {
-        Ok(old) => old.unwrap(),
-        // It does not come to this.
-        Err(refused) => refused.value.1,
     }
 }
 

@@ -11,7 +11,7 @@ use Rattle.exam_office.proofs.part_steps.make.Goals as goal
 pub settled-requires : goal.settled-requires
 settled-requires c =
     let ask = c.requires.part in
-    (relations_of c.args.part.now.facts, (c.requires.lists, was_made c.args.command.now c.args.today ask.0 (state_of c.args.part.now) ask.1 ask.2 ask.3 (relations_of c.change.new.facts) c.in_ok-facts.ensures.checked c.in_ok-facts.ensures.ok))
+    (relations_of c.args.part.now.facts, c.requires.lists, was_made c.args.command.now c.args.today ask.0 (state_of c.args.part.now) ask.1 ask.2 ask.3 (relations_of c.change.new.facts) c.in_ok-facts.ensures.checked c.in_ok-facts.ensures.ok)
 
 pub returns-in-Ok-clause-made : goal.returns-in-Ok-clause-made
 returns-in-Ok-clause-made c =
