@@ -82,9 +82,9 @@ module _ {K X : Type 0} (cmp : K → K → Ordering) (total : IsTotalOrder cmp) 
       same_rows cmp total exact (remove_row cmp (set_row cmp rows k o) k) (remove_row cmp rows k)
       (removed_rises (set_row cmp rows k o) k (set_rises rows k o up)) (removed_rises rows k up)
       (λ q. set_at (set_row cmp rows k o) k q None (set_rises rows k o up)
-          ∙ ap (cond (is_at (cmp q) k) None) (set_at rows k q o up)
-          ∙ either_way k q o (row_at cmp rows q) (is_at (cmp q) k)
-          ∙ sym (set_at rows k q None up))
+      ∙ ap (cond (is_at (cmp q) k) None) (set_at rows k q o up)
+      ∙ either_way k q o (row_at cmp rows q) (is_at (cmp q) k)
+      ∙ sym (set_at rows k q None up))
 
   -- at the first key of rows in order the later ones have nothing
   none_later : (e : K × X) (es : List (K × X)) (q : K) → KeysRise cmp (e ∷ es) → is_at (cmp q) e.0 ≡ true → row_at cmp es q ≡ None

@@ -142,9 +142,7 @@ fn decided_session(facts: &Facts, decision: &Decision) -> Option<SessionCode>
     ensures { result ≡ option_and_then (next.decided_session decision.now)
         (appeals.appeal_at (relations_of facts.now) decision.now.number decision.now.reference) }
 {
-    let appeal = facts
-        .appeals
-        .get(&(decision.number, decision.reference))?;
+    let appeal = facts.appeals.get(&(decision.number, decision.reference))?;
     if is_decided(decision.outcome, &decision.answer, &appeal.status) {
         None
     } else {

@@ -27,8 +27,15 @@ pub fn part_for(alloc: Global, office: &Office, command: &Command) -> Result<Par
     office.show_good();
     office.show_order();
     let plans = read_plans(alloc, office, command)?;
-    let facts = office.facts().clone()?;
+    let facts = copied_facts(office.facts())?;
     Ok(Part { facts, plans })
+}
+
+fn copied_facts(facts: &Facts) -> Result<Facts, Refusal>
+    ensures ok { IfOk result (λ copy. relations_of copy ≡ relations_of facts.now) }
+    ensures memory { IfErr result (λ e. e ≡ NoMemory) }
+{
+    Ok(facts.clone()?)
 }
 
 /// The plans of the sessions that the command reads, nobody seated in another.

@@ -56,7 +56,10 @@ pub fn stays_within(facts: &Facts, lists: &SessionLists, command: &Command) -> b
 fn may_pass_limit(command: &Command) -> bool
     ensures { result ≡ made.may_pass_limit command.now }
 {
-    matches!(command, Command::Import(_) | Command::Reinstate(_, _) | Command::Lodge(_))
+    matches!(
+        command,
+        Command::Import(_) | Command::Reinstate(_, _) | Command::Lodge(_)
+    )
 }
 
 pub fn are_sessions_within(facts: &Facts) -> bool

@@ -260,9 +260,7 @@ fn granted_plans(
     match decision.outcome {
         Outcome::Grant => {
             let first = Some(decision.number);
-            Ok(Some(repaired_among(
-                alloc, facts, lists, sessions, plans, first,
-            )?))
+            Ok(Some(repaired_among(alloc, facts, lists, sessions, plans, first)?))
         }
         Outcome::Refuse => Ok(None),
     }

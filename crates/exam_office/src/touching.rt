@@ -58,12 +58,7 @@ fn add_touched(
 }
 
 /// Adds the sessions that these rows touch. The openings are walked once for all halls that they name.
-fn add_import(
-    alloc: Global,
-    facts: &Facts,
-    rows: &[Row],
-    codes: &mut Codes,
-) -> Result<(), Refusal>
+fn add_import(alloc: Global, facts: &Facts, rows: &[Row], codes: &mut Codes) -> Result<(), Refusal>
     ensures ok { OnOk result ((s : Code) → contains code_cmp codes.new s
         ≡ (list_any (λ (x : ImportRow). spec.row_touches (relations_of facts.now) x s) rows.now
         || contains code_cmp codes.old s)) }
@@ -195,11 +190,7 @@ fn add_both(
 }
 
 /// Adds the sessions that open one of these halls.
-fn add_opened(
-    facts: &Facts,
-    halls: &BTreeSet<HallCode>,
-    codes: &mut Codes,
-) -> Result<(), Refusal>
+fn add_opened(facts: &Facts, halls: &BTreeSet<HallCode>, codes: &mut Codes) -> Result<(), Refusal>
     ensures ok { OnOk result ((s : Code) → contains code_cmp codes.new s
         ≡ (list_any (λ (o : (Code × Code) × OpeningRow). same_code o.0.0 s && contains code_cmp halls.now o.0.1)
         facts.now.openings.entries || contains code_cmp codes.old s)) }

@@ -21,7 +21,7 @@ returns-in-Err-clause-seats c =
     let ask = c.requires.office in
     c.take_back.ensures.seats
     ∙ seats_back c.args.command.now ask.0 (state_of c.args.part.now) ask.2 ask.4 (relations_of c.make.new.part.facts) c.make.new.part.plans.entries c.show_order-3.ensures c.in_ok-made.made.plans c.in-Some.field-0 c.in-Some.is c.in_ok-made.ensures.plans_back
-        c.put_seats.new.seats.entries c.put_seats.ensures.rises (λ k away. c.put_seats.ensures.others k away ∙ sym (ap (λ (q : Seats). row_at seat_cmp q k) ask.3))
+    c.put_seats.new.seats.entries c.put_seats.ensures.rises (λ k away. c.put_seats.ensures.others k away ∙ sym (ap (λ (q : Seats). row_at seat_cmp q k) ask.3))
     ∙ ask.3
 
 pub returns-in-Ok-clause-ok : goal.returns-in-Ok-clause-ok

@@ -28,10 +28,10 @@ returns-in-Ok-clause-ok c =
     let exact : (s : Code) → Contains sessions s ↔ IsTrue (touches part.relations done s) = λ s. subst (λ (list : List Code). Contains list s ↔ IsTrue (touches part.relations done s)) (sym c.deref.ensures.value) (c.in_ok-sessions.ensures.exact s) in
     let put : new.seats ≡ after_plans c.in-Ok.next part.seats = put_after c.in-Ok.next part.seats new.seats c.put_plans.result c.put_plans.ensures in
     let told : c.last_reply-reply.result ≡ last_reply done (newly_decided part.relations done) (first_reply done part.relations new.relations) new.relations part.seats new.seats =
-        c.last_reply-reply.ensures
-        ∙ ap (λ d. last_reply done d c.in_ok-facts.reply new.relations part.seats (after_plans c.in-Ok.next part.seats)) c.newly_decided-decided.ensures
-        ∙ ap (λ (first : Reply). last_reply done (newly_decided part.relations done) first new.relations part.seats (after_plans c.in-Ok.next part.seats)) c.in_ok-facts.ensures.reply
-        ∙ ap (λ (seats : Seats). last_reply done (newly_decided part.relations done) (first_reply done part.relations new.relations) new.relations part.seats seats) (sym put) in
+    c.last_reply-reply.ensures
+    ∙ ap (λ d. last_reply done d c.in_ok-facts.reply new.relations part.seats (after_plans c.in-Ok.next part.seats)) c.newly_decided-decided.ensures
+    ∙ ap (λ (first : Reply). last_reply done (newly_decided part.relations done) first new.relations part.seats (after_plans c.in-Ok.next part.seats)) c.in_ok-facts.ensures.reply
+    ∙ ap (λ (seats : Seats). last_reply done (newly_decided part.relations done) (first_reply done part.relations new.relations) new.relations part.seats seats) (sym put) in
     subst (λ (answer : Reply). IsMadeIn done c.args.today part new answer) (sym told)
     (is_made done c.args.today ask.0 part ask.1 ask.2 ask.3 new c.in_ok-facts.ensures.checked c.in_ok-facts.ensures.ok c.in-Ok.ensures.limits sessions exact c.in-Ok.next c.in-Ok.ensures.plans put)
 
