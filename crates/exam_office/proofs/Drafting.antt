@@ -1,12 +1,11 @@
 -- The seats of a draft: finished they are the plans put back, taken back they are those of the office.
-use Rattle.std.proofs.Common.{◌≡◌, ℕ, ◌&&◌, not, Bool, true, false, cond, IsTrue, List, Contains, Option, None, Some, Ok, is_some, refl, ap, sym, subst, ◌∙◌}
+use Rattle.std.proofs.Common.{◌≡◌, ℕ, ◌&&◌, not, Bool, true, false, cond, IsTrue, Option, None, Some, Ok, is_some, refl, ap, sym, subst, ◌∙◌}
 use Rattle.std.specs.Option.{option_or}
-use Rattle.exam_plan.specs.Matching.{IsBest, SamePlan}
 use Rattle.exam_rules.specs.declared.lists.SessionLists.{SessionLists}
 use Rattle.exam_rules.specs.Lists.{AreListsOf}
 use Rattle.exam_rules.specs.Orders.{AreInOrder, KeysRise}
 use Rattle.exam_rules.specs.Relations.{Code, Relations, has_row, relations_of, row_at, seat_cmp}
-use Rattle.exam_rules.specs.Seatings.{plan_of, seating}
+use Rattle.exam_rules.specs.Seatings.{plan_of}
 use Rattle.exam_office.specs.declared.command.Command.{Command}
 use Rattle.exam_office.specs.declared.command.Reply.{Reply}
 use Rattle.exam_office.specs.declared.part.Part.{Part}
@@ -16,7 +15,7 @@ use Rattle.exam_office.specs.Exchanges.{all_put, taken_back, without_old}
 use Rattle.exam_office.specs.FactsMade.{WasMade}
 use Rattle.exam_office.specs.Good.{IsGood, refers}
 use Rattle.exam_office.specs.Limits.{within_limits}
-use Rattle.exam_office.specs.NextPlans.{Plans, PlansBack, keeps_plans}
+use Rattle.exam_office.specs.NextPlans.{Plans, PlansBack}
 use Rattle.exam_office.specs.Orders.{IsInOrder}
 use Rattle.exam_office.specs.Parts.{Agrees, IsMadeIn, IsPutBack, reads, state_of}
 use Rattle.exam_office.specs.Relisting.{ListsBack}

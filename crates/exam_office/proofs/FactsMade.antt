@@ -1,15 +1,14 @@
 -- The facts that a command makes: its change, where they pass no limit; and they are good again.
-use Rattle.std.proofs.Common.{◌≡◌, ℕ, not, Bool, true, false, cond, [], ◌∷◌, Option, None, Some, Ok, Err, refl, ap, sym, subst, ◌∙◌}
+use Rattle.std.proofs.Common.{◌≡◌, ℕ, true, false, [], ◌∷◌, None, Some, Ok, Err, refl, ap, sym, subst, ◌∙◌}
 use Rattle.std.specs.Option.{option_or}
 use Rattle.std.specs.List.{filter_map, IsDistinct}
 use Rattle.exam_types.specs.declared.refusal.Refusal.{Refusal}
 use Rattle.exam_types.specs.declared.refusal.Refusal.TheVariants as refusal
 use Rattle.exam_rules.specs.Orders.{AreInOrder}
 use Rattle.exam_rules.specs.Relations.{Relations}
-use Rattle.exam_rules.specs.Sessions.{is_live}
 use Rattle.exam_office.specs.declared.command.Command.{Command}
 use Rattle.exam_office.specs.declared.command.Command.TheVariants as command
-use Rattle.exam_office.specs.Changes.{first_refusal, no_entry, reinstatement_refusal, revival_refusal, rows_refusal, too_many, unless, with_live, with_rows, withdrawal_refusal, without_opening}
+use Rattle.exam_office.specs.Changes.{first_refusal, too_many, unless, with_live, with_rows, without_opening}
 use Rattle.exam_office.specs.Decisions.{with_decision}
 use Rattle.exam_office.specs.FactsMade.{early_refusal, facts_made, may_pass_limit}
 use Rattle.exam_office.specs.Good.{IsGood, refers}

@@ -1,6 +1,6 @@
 -- A command that changes appeals alone leaves the lists of members and open halls; one that sets an entry live or
 -- withdrawn changes one list.
-use Rattle.std.proofs.Common.{◌≡◌, ℕ, Bool, true, false, cond, List, Option, None, Some, refl, ap, sym, subst, ◌∙◌}
+use Rattle.std.proofs.Common.{◌≡◌, ℕ, Bool, true, false, cond, List, Option, None, Some, ap, sym, subst, ◌∙◌}
 use Rattle.std.specs.Prelude.{is_none}
 use Rattle.std.specs.Option.{option_map_or}
 use Rattle.exam_rules.specs.declared.lists.SessionLists.{SessionLists}

@@ -1,5 +1,5 @@
 -- Which limits the facts that a command has made can pass.
-use Rattle.std.proofs.Common.{◌≡◌, ℕ, Bool, true, false, refl, ap, sym, subst, ◌∙◌}
+use Rattle.std.proofs.Common.{◌≡◌, Bool, true, false, refl, ap, sym, subst, ◌∙◌}
 use Rattle.std.specs.Prelude.{nat_le}
 use Rattle.exam_rules.specs.Orders.{AreInOrder}
 use Rattle.exam_rules.specs.Relations.{Relations}
@@ -7,7 +7,7 @@ use Rattle.exam_rules.specs.Sessions.{appeal_count}
 use Rattle.exam_office.specs.declared.command.Command.{Command}
 use Rattle.exam_office.specs.declared.command.Command.TheVariants as command
 use Rattle.exam_office.specs.declared.command.Lodging.{Lodging}
-use Rattle.exam_office.specs.FactsMade.{WasMade, facts_made, may_pass_limit}
+use Rattle.exam_office.specs.FactsMade.{WasMade, may_pass_limit}
 use Rattle.exam_office.specs.Limits.{within_limits}
 use Rattle.exam_office.proofs.FactsMade.{within_still}
 use Rattle.exam_office.proofs.LodgingLimits.{lodging_within}

@@ -1,24 +1,21 @@
 -- What a command makes of a part, step by step, is what an accepted command makes of it.
-use Rattle.std.proofs.Common.{◌≡◌, ◌↔◌, ◌⊎◌, ℕ, not, Bool, true, false, cond, IsTrue, List, Contains, Option, None, Some, Ok, Err, refl, ap, sym, subst, ◌∙◌, inl, inr}
+use Rattle.std.proofs.Common.{◌≡◌, ◌↔◌, ◌⊎◌, ℕ, Bool, true, false, cond, IsTrue, List, Contains, Option, None, Some, Ok, Err, refl, ap, sym, subst, ◌∙◌, inl, inr}
 use Rattle.std.specs.Option.{option_and_then}
 use Rattle.exam_types.specs.declared.refusal.Refusal.{Refusal}
-use Rattle.exam_types.specs.declared.refusal.Refusal.TheVariants.{NoMemory, TooMany}
-use Rattle.exam_plan.specs.Matching.{SamePlan}
+use Rattle.exam_types.specs.declared.refusal.Refusal.TheVariants.{NoMemory}
 use Rattle.exam_rules.specs.declared.rows.Appeal.{Appeal}
 use Rattle.exam_rules.specs.Orders.{AreInOrder}
 use Rattle.exam_rules.specs.Relations.{Code, Relations}
 use Rattle.exam_rules.specs.Seatings.{plan_of}
 use Rattle.exam_office.specs.declared.command.Command.{Command}
 use Rattle.exam_office.specs.declared.command.Command.TheVariants as command
-use Rattle.exam_office.specs.declared.command.Decision.{Decision}
 use Rattle.exam_office.specs.declared.command.Outcome.{Outcome}
 use Rattle.exam_office.specs.declared.command.Outcome.TheVariants as outcome
-use Rattle.exam_office.specs.declared.command.Reply.{Reply}
 use Rattle.exam_office.specs.declared.command.Reply.TheVariants as reply
 use Rattle.exam_office.specs.Appeals.{appeal_at, is_decided, stored_state}
 use Rattle.exam_office.specs.Changes.{closing_refusal, revival_refusal, rows_refusal, with_live, with_rows, without_opening, withdrawal_refusal}
 use Rattle.exam_office.specs.Decisions.{decision_refusal, with_decision}
-use Rattle.exam_office.specs.FactsMade.{WasMade, early_refusal, facts_made, may_pass_limit}
+use Rattle.exam_office.specs.FactsMade.{WasMade, early_refusal, facts_made}
 use Rattle.exam_office.specs.Good.{IsGood}
 use Rattle.exam_office.specs.Limits.{within_limits}
 use Rattle.exam_office.specs.Lodgings as lodgings

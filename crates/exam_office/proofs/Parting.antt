@@ -1,5 +1,5 @@
 -- A command over a part, put back, is the command over the office.
-use Rattle.std.proofs.Common.{◌≡◌, ℕ, ◌==◌, ◌&&◌, not, Bool, true, false, cond, List, [], ◌∷◌, ◌++◌, filter, length, count_by, Option, None, Some, Ok, Err, refl, ap, sym, subst, ◌∙◌, inl, inr}
+use Rattle.std.proofs.Common.{◌≡◌, ℕ, ◌==◌, ◌&&◌, not, Bool, true, false, cond, List, [], ◌∷◌, ◌++◌, filter, length, Option, None, Some, Ok, Err, refl, ap, sym, subst, ◌∙◌, inl, inr}
 use Rattle.std.specs.Option.{option_map_or, option_or}
 use Rattle.std.specs.Map.{keys_of}
 use Rattle.std.specs.BTreeMap.{is_at}
@@ -27,7 +27,6 @@ use Rattle.exam_rules.proofs.InOrder.{lists_rise}
 use Rattle.exam_rules.proofs.Naming.{same_code_itself}
 use Rattle.exam_office.specs.declared.command.Command.{Command}
 use Rattle.exam_office.specs.declared.command.Command.TheVariants as command
-use Rattle.exam_office.specs.declared.command.Decision.{Decision}
 use Rattle.exam_office.specs.declared.command.Lodging.{Lodging}
 use Rattle.exam_office.specs.declared.command.Outcome.{Outcome}
 use Rattle.exam_office.specs.declared.command.Outcome.TheVariants as outcome
@@ -44,7 +43,7 @@ use Rattle.exam_office.specs.Parts.{Agrees, IsMadeIn, IsPutBack, IsRefusedIn, re
 use Rattle.exam_office.specs.Repairs.{IsRepaired}
 use Rattle.exam_office.specs.Replies.{import_reply, reply_of, reply_to}
 use Rattle.exam_office.specs.State.{Seats, State}
-use Rattle.exam_office.specs.Steps.{MayStep, SameSeating, SeatsOn, Step, change, first_seated}
+use Rattle.exam_office.specs.Steps.{MayStep, SeatsOn, Step, change, first_seated}
 use Rattle.exam_office.specs.Touched.{decision_touches, is_appeal_for, touches}
 use Rattle.exam_office.proofs.AppealSteps.{all_stay}
 use Rattle.exam_office.proofs.Commanding.{ArePlansRepaired, DoListsRise, others_seated}

@@ -1,8 +1,8 @@
 -- What the tables and the plans were before a command, told by what takes the command back.
-use Rattle.std.proofs.Common.{◌≡◌, ℕ, ◌&&◌, ◌||◌, not, Bool, true, false, cond, List, Option, None, Some, is_some, refl, ap, sym, ◌∙◌}
+use Rattle.std.proofs.Common.{◌≡◌, ℕ, ◌&&◌, ◌||◌, not, Bool, true, false, cond, Option, None, Some, is_some, refl, ap, sym, ◌∙◌}
 use Rattle.exam_rules.specs.Orders.{KeysRise}
 use Rattle.exam_rules.specs.Relations.{Code, has_row, row_at, seat_cmp}
-use Rattle.exam_office.specs.Drafts.{HasOld, AreMixed, MixesPlans, seats_after, seats_before}
+use Rattle.exam_office.specs.Drafts.{HasOld, AreMixed, MixesPlans}
 use Rattle.exam_office.specs.NextPlans.{Plans}
 use Rattle.exam_office.specs.State.{Seats}
 use Rattle.exam_office.specs.Exchanges.{taken_back, without_old}

@@ -2,7 +2,7 @@
 use Rattle.std.specs.Prelude.{◌≡◌, ℕ, ⊤, Bool, true, false, IsTrue, List, if◌then◌else◌}
 use Rattle.exam_rules.specs.declared.lists.Entrant.{Entrant}
 use Rattle.exam_rules.specs.declared.lists.SessionLists.{SessionLists}
-use Rattle.exam_rules.specs.Lists.{AreListsOf, listed}
+use Rattle.exam_rules.specs.Lists.{listed}
 use Rattle.exam_rules.specs.Relations.{Code, Relations, code_cmp, has_row, same_code}
 use Rattle.exam_office.specs.declared.command.Command.{Command}
 use Rattle.exam_office.specs.declared.command.Command.TheVariants as command

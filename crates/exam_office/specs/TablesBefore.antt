@@ -1,5 +1,5 @@
 -- What the tables of an office were before a command.
-use Rattle.std.specs.Prelude.{◌≡◌, ◌⊎◌, ℕ, true, false, Bool, IsTrue, List, ◌||◌}
+use Rattle.std.specs.Prelude.{◌≡◌, ℕ, true, false, IsTrue, List, ◌||◌}
 use Rattle.std.specs.declared.cmp.Ordering.{Ordering}
 use Rattle.std.specs.Ordering.{nat_cmp}
 use Rattle.exam_rules.specs.Relations.{Code, Relations, appeal_cmp, code_cmp, entry_cmp, has_row, opening_cmp, remove_row, row_at, seat_cmp}

@@ -1,5 +1,5 @@
 -- Which sessions a command touches, over the facts before it.
-use Rattle.std.specs.Prelude.{ℕ, ◌&&◌, ◌||◌, Bool, true, false, Option}
+use Rattle.std.specs.Prelude.{◌&&◌, ◌||◌, Bool, true, false, Option}
 use Rattle.std.specs.List.{list_any}
 use Rattle.std.specs.Option.{option_map_or}
 use Rattle.exam_rules.specs.declared.rows.Appeal.{Appeal}

@@ -1,5 +1,5 @@
-use Rattle.std.proofs.Common.{◌≡◌, true, List, Option, None, Some, ap, sym, subst, ◌∙◌}
-use Rattle.exam_rules.specs.Relations.{Code, has_row, relations_of, row_at, seat_cmp}
+use Rattle.std.proofs.Common.{◌≡◌, true, Option, ap, sym, subst, ◌∙◌}
+use Rattle.exam_rules.specs.Relations.{has_row, relations_of, row_at, seat_cmp}
 use Rattle.exam_office.specs.declared.part.Part.{Part}
 use Rattle.exam_office.specs.Exchanges.{all_put}
 use Rattle.exam_office.specs.NextPlans.{Plans}

@@ -1,9 +1,9 @@
-use Rattle.std.proofs.Common.{◌≡◌, ◌+◌, ◌++◌, ◌∷◌, [], List, None, length, take, ap, sym, subst, arith, ◌∙◌}
-use Rattle.std.specs.Prelude.{◌≤◌, ◌&&◌, ◌↔◌, Contains, IsTrue, if◌then◌else◌}
+use Rattle.std.proofs.Common.{◌≡◌, ◌+◌, ◌++◌, ◌∷◌, [], List, None, take, ap, sym, subst, arith, ◌∙◌}
+use Rattle.std.specs.Prelude.{◌&&◌, ◌↔◌, Contains, IsTrue, if◌then◌else◌}
 use Rattle.std.specs.List.{list_any}
 use Rattle.std.proofs.lemmas.List.{take_more}
 use Rattle.std.specs.Option.{option_or}
-use Rattle.exam_rules.specs.Relations.{Code, Relations, relations_of, same_code}
+use Rattle.exam_rules.specs.Relations.{Code, Relations, same_code}
 use Rattle.exam_rules.specs.Seatings.{plan_of}
 use Rattle.exam_office.specs.Parts.{is_listed, reads}
 use Rattle.exam_office.specs.State.{Seats}

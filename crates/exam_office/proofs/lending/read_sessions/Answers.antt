@@ -1,7 +1,7 @@
-use Rattle.std.proofs.Common.{◌≡◌, Contains, IsTrue, IfOk, sym, subst, Bool}
+use Rattle.std.proofs.Common.{Contains, IsTrue, sym, subst, Bool}
 use Rattle.std.specs.Prelude.{◌↔◌}
 use Rattle.std.proofs.lemmas.Result.{IfOk-weaker}
-use Rattle.exam_rules.specs.Relations.{Code, relations_of}
+use Rattle.exam_rules.specs.Relations.{relations_of}
 use Rattle.exam_office.proofs.LentPlans.{reads_touched}
 use Rattle.exam_office.proofs.lending.read_sessions.Goals as goal
 

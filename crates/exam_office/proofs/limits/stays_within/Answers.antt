@@ -1,7 +1,6 @@
-use Rattle.std.proofs.Common.{◌≡◌, ap, sym, subst, ◌∙◌}
+use Rattle.std.proofs.Common.{sym, subst, ◌∙◌}
 use Rattle.exam_rules.specs.Relations.{relations_of}
 use Rattle.exam_office.specs.declared.command.Command.{Command}
-use Rattle.exam_office.specs.declared.command.Command.TheVariants as command
 use Rattle.exam_office.specs.FactsMade.{WasMade}
 use Rattle.exam_office.proofs.MadeWithin.{lodged_within, still_within}
 use Rattle.exam_office.proofs.limits.stays_within.Goals as goal

@@ -1,4 +1,4 @@
-use Rattle.std.proofs.Common.{◌≡◌, ◌&&◌, ◌||◌, Bool, List, ap, sym, ◌∙◌}
+use Rattle.std.proofs.Common.{◌||◌, Bool, List, ap, sym, ◌∙◌}
 use Rattle.std.specs.BTreeSet.{contains}
 use Rattle.std.specs.List.{list_any}
 use Rattle.exam_rules.specs.Relations.{Relations, code_cmp, relations_of}
