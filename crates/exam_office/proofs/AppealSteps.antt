@@ -177,10 +177,10 @@ module _ (before : State) (good : IsGood before) (today : ℕ) (l : Lodging) whe
 
   -- ---- the limits
 
-  limit_refusal : IsChecked → (b : Bool) → (spec.one_too_many before.relations today l).0 ≡ b → spec.lodging_refusal before.relations before.seats today l ≡ cond b (Some refusal.TooMany) None
+  pub limit_refusal : IsChecked → (b : Bool) → (spec.one_too_many before.relations today l).0 ≡ b → spec.lodging_refusal before.relations before.seats today l ≡ cond b (Some refusal.TooMany) None
   limit_refusal ok b e = ap (λ o. option_or o (first_refusal (spec.one_too_many before.relations today l ∷ []))) ok ∙ ap (λ x. cond x (Some refusal.TooMany) None) e
 
-  within_as : (b : Bool) → within_limits (spec.with_lodging before.relations today l) ≡ b → (spec.one_too_many before.relations today l).0 ≡ not b
+  pub within_as : (b : Bool) → within_limits (spec.with_lodging before.relations today l) ≡ b → (spec.one_too_many before.relations today l).0 ≡ not b
   within_as b within = inner stored refl b within
     where
       inner : (o : Option Appeal) → stored ≡ o → (b : Bool) → within_limits (spec.with_lodging before.relations today l) ≡ b → (is_none stored && not (within_limits (spec.with_appeal before.relations today l))) ≡ not b
@@ -236,9 +236,9 @@ module _ (before : State) (good : IsGood before) (c : ℕ) (reference : Code) wh
   abbrev pub IsRetractable : Type 0
   IsRetractable = spec.retraction_refusal before.relations c reference ≡ None
 
-  record IsSettledWithin (t : Relations) : Type 0 where
-    settled : IsSettled before.relations t
-    within : within_limits t ≡ true
+  pub record IsSettledWithin (t : Relations) : Type 0 where
+    pub settled : IsSettled before.relations t
+    pub within : within_limits t ≡ true
 
   put_settled : AreInOrder before.relations → (a : Appeal) → there_is ≡ Some a → is_granted a.status ≡ false → IsSettledWithin (spec.with_retracted_appeal before.relations c reference a)
   put_settled up a at closed =
@@ -256,7 +256,7 @@ module _ (before : State) (good : IsGood before) (c : ℕ) (reference : Code) wh
         within = count_same r k new a up at ∙ good.limits;
       }
 
-  retraction_within : AreInOrder before.relations → IsRetractable → IsSettledWithin (spec.with_retraction before.relations c reference)
+  pub retraction_within : AreInOrder before.relations → IsRetractable → IsSettledWithin (spec.with_retraction before.relations c reference)
   retraction_within up ok = inner there_is refl
     where
       by_status : (a : Appeal) → there_is ≡ Some a → (b : Bool) → is_retracted a.status ≡ b → IsSettledWithin (cond b before.relations (spec.with_retracted_appeal before.relations c reference a))

@@ -119,7 +119,7 @@ kind_flips single.OpenClash single.OpenClash = refl
 kind_flips single.OpenArrangement single.OpenArrangement = refl
 kind_flips a b = refl
 
-number_flips : (c d : ℕ) → nat_eq c d ≡ nat_eq d c
+pub number_flips : (c d : ℕ) → nat_eq c d ≡ nat_eq d c
 number_flips c d = key_flips (key.OfCandidate c) (key.OfCandidate d)
 
 pub code_flips : (s t : Code) → same_code s t ≡ same_code t s

@@ -1,6 +1,5 @@
 -- The repair of chosen sessions, one after the other.
 use Rattle.std.proofs.Common.{◌≡◌, ℕ, ◌||◌, Bool, true, false, List, [], ◌∷◌, Contains, Option, None, refl, ap, sym, subst, ◌∙◌}
-use Rattle.std.specs.List.{list_any}
 use Rattle.std.specs.List.Sorted.{IsStrictlySortedBy}
 use Rattle.std.specs.Map.{keys_of}
 use Rattle.std.proofs.Math.Path.{fun_ext}
@@ -19,12 +18,14 @@ pub record IsRepairedAmong {X : Type 0} (chosen : List Code) (r : Relations) (fi
   pub rising : IsStrictlySortedBy code_cmp (keys_of rest)
   pub waiting : (s : Code) (c : ℕ) → is_among s rest ≡ true → plan_of after s c ≡ None
   pub settled : (s : Code) → is_among s rest ≡ false → Contains chosen s → IsRepaired r first before after s
+  pub aside : (s : Code) (c : ℕ) → (Contains chosen s → ⊥) → plan_of after s c ≡ None
 
 pub none_chosen : (chosen : List Code) (r : Relations) (first : Option ℕ) (before : Seats) → IsStrictlySortedBy code_cmp (keys_of r.sessions) → IsRepairedAmong chosen r first before [] r.sessions
 none_chosen chosen r first before up = record {
   rising = up;
   waiting = λ s c among. refl;
   settled = λ s not_among among. unknown_repaired r first before [] s (known_among s r.sessions ∙ not_among) (λ c. refl);
+  aside = λ s c out. refl;
 }
 
 or_true : (b : Bool) → (b || true) ≡ true
@@ -60,13 +61,18 @@ module _ {X : Type 0} (chosen : List Code) (r : Relations) (first : Option ℕ) 
   was t left e among = so_far.settled t (ap (λ b. b || is_among t rest) (flipped s t e) ∙ left) among
 
   -- it is repaired
-  pub one_chosen : (new : Seats) → IsRepaired r first before new s → ((t : Code) (c : ℕ) → same_code s t ≡ false → plan_of new t c ≡ plan_of old t c) → IsRepairedAmong chosen r first before new rest
-  one_chosen new done others = record {
+  pub one_chosen : (new : Seats) → Contains chosen s → IsRepaired r first before new s → ((t : Code) (c : ℕ) → same_code s t ≡ false → plan_of new t c ≡ plan_of old t c) → IsRepairedAmong chosen r first before new rest
+  one_chosen new here done others = record {
     rising = sorted_tail code_cmp s (keys_of rest) so_far.rising;
     waiting = λ t c among. others t c (apart t among) ∙ still_waits t c among;
     settled = λ t left among. inner t left among (same_code s t) refl;
+    aside = λ t c out. still_aside t c out (same_code s t) refl;
   }
     where
+      still_aside : (t : Code) (c : ℕ) → (Contains chosen t → ⊥) → (b : Bool) → same_code s t ≡ b → plan_of new t c ≡ None
+      still_aside t c out true e = absurd (out (subst (Contains chosen) (same_code_exact s t e) here))
+      still_aside t c out false e = others t c e ∙ so_far.aside t c out
+
       inner : (t : Code) → is_among t rest ≡ false → Contains chosen t → (b : Bool) → same_code s t ≡ b → IsRepaired r first before new t
       inner t left among true e = subst (IsRepaired r first before new) (same_code_exact s t e) done
       inner t left among false e =
@@ -80,6 +86,7 @@ module _ {X : Type 0} (chosen : List Code) (r : Relations) (first : Option ℕ) 
     rising = sorted_tail code_cmp s (keys_of rest) so_far.rising;
     waiting = still_waits;
     settled = λ t left among. inner t left among (same_code s t) refl;
+    aside = so_far.aside;
   }
     where
       inner : (t : Code) → is_among t rest ≡ false → Contains chosen t → (b : Bool) → same_code s t ≡ b → IsRepaired r first before old t

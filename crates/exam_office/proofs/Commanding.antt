@@ -67,7 +67,7 @@ module _ (before : State) (good : IsGood before) (c : ℕ) (p : Code) where
 
   -- ---- a reinstatement
 
-  limits_refusal : (b : Bool) → within_limits (with_live before.relations c p true) ≡ b → reinstatement_refusal before.relations c p ≡ option_or (revival_refusal before.relations c p) (cond (not b) (Some refusal.TooMany) None)
+  pub limits_refusal : (b : Bool) → within_limits (with_live before.relations c p true) ≡ b → reinstatement_refusal before.relations c p ≡ option_or (revival_refusal before.relations c p) (cond (not b) (Some refusal.TooMany) None)
   limits_refusal b e = ap (λ x. option_or (revival_refusal before.relations c p) (cond (not x) (Some refusal.TooMany) None)) e
 
   pub reinstatement_refers : (t : Relations) → revival_refusal before.relations c p ≡ None → IsMarked before c p true t → refers t ≡ true

@@ -1,12 +1,16 @@
 -- The sessions that a command touches, gathered row by row.
-use Rattle.std.proofs.Common.{◌≡◌, ℕ, ◌==◌, ◌&&◌, ◌||◌, Bool, true, false, cond, List, [], ◌∷◌, filter, nat_eq, Some, is_some, refl, ap, sym, ◌∙◌}
+use Rattle.std.proofs.Common.{◌≡◌, ℕ, ◌&&◌, ◌||◌, Bool, true, false, cond, List, [], ◌∷◌, filter, nat_eq, Some, is_some, refl, ap, sym, ◌∙◌}
 use Rattle.std.specs.List.{list_any}
 use Rattle.std.specs.BTreeMap.{is_at}
 use Rattle.std.specs.Cmp.Lexicographic.{texts_ties}
 use Rattle.exam_rules.specs.declared.rows.Entry.{Entry}
+use Rattle.exam_rules.specs.declared.rows.Hall.{Hall}
 use Rattle.exam_rules.specs.declared.rows.Opening.{Opening}
 use Rattle.exam_rules.specs.Relations.{Code, Relations, code_cmp, opening_cmp, has_row, is_row_of, leading, row_at, same_code}
-use Rattle.exam_rules.specs.Sessions.{has_live_entry, is_live_entry, is_paper_of}
+use Rattle.exam_rules.specs.Sessions.{has_live_entry, is_live_entry, is_member, is_paper_of}
+use Rattle.exam_office.specs.declared.import_row.Row.{Row}
+use Rattle.exam_office.specs.declared.import_row.Row.TheVariants as row
+use Rattle.exam_office.specs.Touched.{names, names_hall, names_session, row_touches}
 use Rattle.exam_office.proofs.Appealing.{code_flips}
 use Rattle.exam_office.proofs.Writing.{then_eq}
 
@@ -43,6 +47,89 @@ opened_any s h (row ∷ rows) = inner (opens s h row) (is_at (opening_cmp (s, h)
     inner false false e rest = rest
     inner true false e rest = cc
     inner false true e rest = cc
+
+-- ---- the openings of the halls that rows name
+
+-- the session opens a hall that the rows name
+abbrev pub opens_named : List Row → Code → (Code × Code) × Opening → Bool
+opens_named rows s o = same_code o.0.0 s && list_any (λ (x : Row). names_hall x o.0.1) rows
+
+none_opens : (s : Code) (os : List ((Code × Code) × Opening)) → list_any (opens_named [] s) os ≡ false
+none_opens s [] = refl
+none_opens s (o ∷ os) = inner (same_code o.0.0 s) (none_opens s os)
+  where
+    inner : (b : Bool) → list_any (opens_named [] s) os ≡ false → ((b && false) || list_any (opens_named [] s) os) ≡ false
+    inner true rest = rest
+    inner false rest = rest
+
+-- the halls that rows name, told by any other test
+pub opens_found : (s : Code) (rows : List Row) (named : Code → Bool) → ((h : Code) → named h ≡ list_any (λ (x : Row). names_hall x h) rows) → (os : List ((Code × Code) × Opening))
+    → list_any (λ (o : (Code × Code) × Opening). same_code o.0.0 s && named o.0.1) os ≡ list_any (opens_named rows s) os
+opens_found s rows named same [] = refl
+opens_found s rows named same (o ∷ os) =
+    ap (λ b. (same_code o.0.0 s && b) || list_any (λ (p : (Code × Code) × Opening). same_code p.0.0 s && named p.0.1) os) (same o.0.1)
+    ∙ ap (λ t. opens_named rows s o || t) (opens_found s rows named same os)
+
+-- one hall more
+more_opens : (s h : Code) (x : Hall) (rows : List Row) (os : List ((Code × Code) × Opening))
+    → list_any (opens_named (row.OfHall h x ∷ rows) s) os ≡ (list_any (opens s h) os || list_any (opens_named rows s) os)
+more_opens s h x rows [] = refl
+more_opens s h x rows (o ∷ os) =
+    ap (λ t. opens_named (row.OfHall h x ∷ rows) s o || t) (more_opens s h x rows os)
+    ∙ inner (same_code o.0.0 s) (same_code h o.0.1) (same_code o.0.1 h) (code_flips h o.0.1) (list_any (λ (y : Row). names_hall y o.0.1) rows) (list_any (opens s h) os) (list_any (opens_named rows s) os)
+  where
+    inner : (a b c : Bool) → b ≡ c → (d p q : Bool) → ((a && (b || d)) || (p || q)) ≡ (((a && c) || p) || ((a && d) || q))
+    inner a true true e d p q = by a d p q
+      where
+        by : (a d p q : Bool) → ((a && true) || (p || q)) ≡ (((a && true) || p) || ((a && d) || q))
+        by true d p q = refl
+        by false d p q = refl
+    inner a false false e d p q = by a d p q
+      where
+        by : (a d p q : Bool) → ((a && d) || (p || q)) ≡ (((a && false) || p) || ((a && d) || q))
+        by true true true q = refl
+        by true true false q = refl
+        by true false p q = refl
+        by false d p q = refl
+    inner a true false e d p q = cc
+    inner a false true e d p q = cc
+
+or_swaps : (a b c : Bool) → ((a || b) || c) ≡ (b || (a || c))
+or_swaps true true c = refl
+or_swaps true false c = refl
+or_swaps false b c = refl
+
+module _ (r : Relations) (s : Code) (rows : List Row) where
+  abbrev Touches : List Row → Type 0
+  Touches xs = list_any (λ (x : Row). row_touches r x s) xs ≡ (list_any (opens_named xs s) r.openings || list_any (λ (x : Row). names_session r x s) xs)
+
+  abbrev named : Bool
+  named = list_any (λ (x : Row). names_session r x s) rows
+
+  abbrev opened : Bool
+  opened = list_any (opens_named rows s) r.openings
+
+  other : Touches rows → (b : Bool) → (b || list_any (λ (x : Row). row_touches r x s) rows) ≡ (opened || (b || named))
+  other rest b = ap (λ t. b || t) rest ∙ or_same b opened named ∙ or_swaps b opened named
+
+  one_more : Touches rows → (x : Row) → Touches (x ∷ rows)
+  one_more rest (row.OfSession told z) = other rest (same_code told s)
+  one_more rest (row.OfPaper p z) = other rest (is_paper_of r s p || names r z.session s)
+  one_more rest (row.OfHall h z) =
+      ap (λ b. b || list_any (λ (x : Row). row_touches r x s) rows) (sym (opened_any s h r.openings))
+      ∙ ap (λ t. list_any (opens s h) r.openings || t) rest
+      ∙ or_same (list_any (opens s h) r.openings) opened named
+      ∙ ap (λ b. b || named) (sym (more_opens s h z rows r.openings))
+  one_more rest (row.OfOpening told h z) = other rest (names r told s)
+  one_more rest (row.OfCandidate c z) = rest
+  one_more rest (row.OfEntry c p) = other rest (is_paper_of r s p)
+  one_more rest (row.OfArrangement c z) = other rest (is_member r s c)
+
+-- what rows touch is what they name, and the sessions that open the halls that they name
+pub rows_touch : (r : Relations) (s : Code) (rows : List Row)
+    → list_any (λ (x : Row). row_touches r x s) rows ≡ (list_any (opens_named rows s) r.openings || list_any (λ (x : Row). names_session r x s) rows)
+rows_touch r s [] = sym (ap (λ b. b || false) (none_opens s r.openings))
+rows_touch r s (x ∷ rows) = one_more r s rows (rows_touch r s rows) x
 
 -- ---- the entries of a candidate
 

@@ -48,3 +48,14 @@ pub mod Untouched
 pub mod Gathering
 pub mod ChosenSessions
 pub mod Parting
+pub mod FactsMade
+pub mod Exchanges
+pub mod Undoing
+pub mod WasBefore
+pub mod Making
+pub mod Drafting
+pub mod LodgingLimits
+pub mod MadeWithin
+pub mod LentPlans
+pub mod KeptLists
+pub mod AmongOwn

@@ -89,7 +89,7 @@ module _ (r : Relations) (today : ℕ) (l : Lodging) (none : appeal_at r l.numbe
   abbrev is_below : Bool
   is_below = nat_le (suc (length (own_among l.number r.appeals))) 64
 
-  own_more : appeal_count more l.number ≡ suc (length (own_among l.number r.appeals))
+  pub own_more : appeal_count more l.number ≡ suc (length (own_among l.number r.appeals))
   own_more =
       one_more appeal_cmp (λ (k : ℕ × Code). nat_eq k.0 l.number) r.appeals (l.number, l.reference) _ (eq-eqb l.number l.number refl) none
       ∙ ap (λ n. suc n) (sym (length-map (filter (is_row_of l.number) r.appeals) (λ (a : (ℕ × Code) × Appeal). (a.0.1, a.1))))
@@ -100,7 +100,7 @@ module _ (r : Relations) (today : ℕ) (l : Lodging) (none : appeal_at r l.numbe
       ap (λ (rows : List ((ℕ × Code) × Appeal)). nat_le (length rows) 64) (put_passed_over appeal_cmp appeals_exact (is_row_of d) r.appeals (l.number, l.reference) _ (number_flips d l.number other)
       (λ b at. absurd (let differ : None ≡ Some b = sym none ∙ at in cc)))
 
-  within_told : within_limits r ≡ true → has_row nat_cmp r.candidates l.number ≡ true → within_limits more ≡ is_below
+  pub within_told : within_limits r ≡ true → has_row nat_cmp r.candidates l.number ≡ true → within_limits more ≡ is_below
   within_told within there =
       beside (sessions_within r) _ _ is_below within (λ papers.
       beside (papers_within r) _ _ is_below papers (λ halls.

@@ -1,5 +1,5 @@
 -- A command over a part, put back, is the command over the office.
-use Rattle.std.proofs.Common.{◌≡◌, ℕ, ◌==◌, ◌&&◌, not, Bool, true, false, cond, List, [], ◌∷◌, ◌++◌, filter, length, count_by, Option, None, Some, Ok, Err, refl, ap, sym, subst, ◌∙◌, inl, inr}
+use Rattle.std.proofs.Common.{◌≡◌, ℕ, ◌==◌, ◌&&◌, not, Bool, true, false, cond, List, [], ◌∷◌, ◌++◌, filter, length, Option, None, Some, Ok, Err, refl, ap, sym, subst, ◌∙◌, inl, inr}
 use Rattle.std.specs.Option.{option_map_or, option_or}
 use Rattle.std.specs.Map.{keys_of}
 use Rattle.std.specs.BTreeMap.{is_at}
@@ -27,7 +27,6 @@ use Rattle.exam_rules.proofs.InOrder.{lists_rise}
 use Rattle.exam_rules.proofs.Naming.{same_code_itself}
 use Rattle.exam_office.specs.declared.command.Command.{Command}
 use Rattle.exam_office.specs.declared.command.Command.TheVariants as command
-use Rattle.exam_office.specs.declared.command.Decision.{Decision}
 use Rattle.exam_office.specs.declared.command.Lodging.{Lodging}
 use Rattle.exam_office.specs.declared.command.Outcome.{Outcome}
 use Rattle.exam_office.specs.declared.command.Outcome.TheVariants as outcome
@@ -44,7 +43,7 @@ use Rattle.exam_office.specs.Parts.{Agrees, IsMadeIn, IsPutBack, IsRefusedIn, re
 use Rattle.exam_office.specs.Repairs.{IsRepaired}
 use Rattle.exam_office.specs.Replies.{import_reply, reply_of, reply_to}
 use Rattle.exam_office.specs.State.{Seats, State}
-use Rattle.exam_office.specs.Steps.{MayStep, SameSeating, SeatsOn, Step, change, first_seated}
+use Rattle.exam_office.specs.Steps.{MayStep, SeatsOn, Step, change, first_seated}
 use Rattle.exam_office.specs.Touched.{decision_touches, is_appeal_for, touches}
 use Rattle.exam_office.proofs.AppealSteps.{all_stay}
 use Rattle.exam_office.proofs.Commanding.{ArePlansRepaired, DoListsRise, others_seated}
@@ -133,15 +132,18 @@ asked_same r a b s c same (subject.Hall h) = ap (λ (o : Option Code). (not (opt
 asked_same r a b s c same (subject.Clash p) = refl
 asked_same r a b s c same (subject.Arrangement x) = refl
 
-lodged_same : (r : Relations) (a b : Seats) (today : ℕ) (l : Lodging) → plan_of a l.session l.number ≡ plan_of b l.session l.number → lodgings.lodged r a today l ≡ lodgings.lodged r b today l
-lodged_same r a b today l same =
-    ap (λ checks. unless (option_or (first_refusal (no_candidate r l.number ∷ checks)) (first_refusal (lodgings.one_too_many r today l ∷ []))) (lodgings.with_lodging r today l)) (checks_same (appeal_at r l.number l.reference))
+pub standing_same : (r : Relations) (a b : Seats) (today : ℕ) (l : Lodging) → plan_of a l.session l.number ≡ plan_of b l.session l.number → lodgings.standing_refusal r a today l ≡ lodgings.standing_refusal r b today l
+standing_same r a b today l same = ap (λ checks. first_refusal (no_candidate r l.number ∷ checks)) (checks_same (appeal_at r l.number l.reference))
   where
     checks_same : (o : Option Appeal) → lodgings.lodging_checks r a today l o ≡ lodgings.lodging_checks r b today l o
     checks_same None = ap (λ checks. lodgings.not_member r l.session l.number ∷ lodgings.past_closing r l.session l.subject today ∷ checks ++ lodgings.appeal_stands r l ∷ []) (asked_same r a b l.session l.number same l.subject)
     checks_same (Some x) = refl
 
-change_same : (done : Command) (today : ℕ) (office part : State) → Agrees done office part → change done today part ≡ change done today office
+lodged_same : (r : Relations) (a b : Seats) (today : ℕ) (l : Lodging) → plan_of a l.session l.number ≡ plan_of b l.session l.number → lodgings.lodged r a today l ≡ lodgings.lodged r b today l
+lodged_same r a b today l same =
+    ap (λ o. unless (option_or o (first_refusal (lodgings.one_too_many r today l ∷ []))) (lodgings.with_lodging r today l)) (standing_same r a b today l same)
+
+pub change_same : (done : Command) (today : ℕ) (office part : State) → Agrees done office part → change done today part ≡ change done today office
 change_same (command.Import import) today office part agrees = ap (λ (r : Relations). imported r import.rows) agrees.facts
 change_same (command.Withdraw c p) today office part agrees = ap (λ (r : Relations). withdrawn r c p) agrees.facts
 change_same (command.Reinstate c p) today office part agrees = ap (λ (r : Relations). reinstated r c p) agrees.facts
@@ -152,7 +154,7 @@ change_same (command.Lodge l) today office part agrees =
 change_same (command.Retract c reference) today office part agrees = ap (λ (r : Relations). lodgings.retracted r c reference) agrees.facts
 change_same (command.Decide d) today office part agrees = ap (λ (r : Relations). decision_made r today d) agrees.facts
 
-touched_read : (done : Command) (r : Relations) (s : Code) → touches r done s ≡ true → reads r done s ≡ true
+pub touched_read : (done : Command) (r : Relations) (s : Code) → touches r done s ≡ true → reads r done s ≡ true
 touched_read (command.Import import) r s is = is
 touched_read (command.Withdraw c p) r s is = is
 touched_read (command.Reinstate c p) r s is = is

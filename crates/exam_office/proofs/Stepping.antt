@@ -27,7 +27,7 @@ use Rattle.exam_office.proofs.Staying.{best_stays, kept_stays}
 
 -- ---- the change
 
-limits_refusal : (r : Relations) (rows : List Row) (b : Bool) → within_limits (with_rows r rows) ≡ b → first_refusal (too_many (with_rows r rows) ∷ []) ≡ cond (not b) (Some refusal.TooMany) None
+pub limits_refusal : (r : Relations) (rows : List Row) (b : Bool) → within_limits (with_rows r rows) ≡ b → first_refusal (too_many (with_rows r rows) ∷ []) ≡ cond (not b) (Some refusal.TooMany) None
 limits_refusal r rows b e = ap (λ t. cond (not t) (Some refusal.TooMany) None) e
 
 pub import_accepted : (r : Relations) (rows : List Row) → rows_refusal r rows ≡ None → within_limits (with_rows r rows) ≡ true → imported r rows ≡ Ok (with_rows r rows)

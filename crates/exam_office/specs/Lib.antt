@@ -14,6 +14,13 @@
 --   kind is open
 -- - Lodgings: the checks of a lodging and of a retraction in their order, and the facts after them
 -- - Decisions: the same of a decision: which grants give way, and who is seated first
+-- - NextPlans: the plans and the reply that a command makes, from its change of the facts on
+-- - Drafts: a command that is carried out on an office and may still be taken back
+-- - TablesBefore: what the tables and the plans were before a command, told beside what they are after it
+-- - Relisting, Undoing: how the lists of a session and the facts are put back as they were
+-- - Exchanges: rows that take the place of others, key by key, and how they are taken back
+-- - FactsMade: of each command the facts before the limits are tested, and the refusal by the checks on the
+--   facts as they are
 -- - Moves: how many others sit, over all sessions, in another hall than before
 -- - Replies: whether the stored row is the same, another or not there; the counts over the first
 --   rows of the keys of a file; what each command answers
@@ -25,6 +32,7 @@
 -- - Touched: which sessions a command touches
 -- - Parts: the facts and the plans that one command reads, and the office with them put back
 -- - Sources: appeals that come one by one
+-- - Undoing: the facts with a change taken back; what an import changes beside its own table: nothing
 -- - Words: the words for the kinds, the states and the subjects of appeals
 -- - Examples: worked plans, computed by the check
 -- - Headline: what an office promises of every session: whoever sits is a member and has a hall
@@ -50,8 +58,15 @@ pub mod Singles
 pub mod Steps
 pub mod Between
 pub mod Orders
+pub mod TablesBefore
 pub mod Touched
+pub mod Exchanges
+pub mod FactsMade
+pub mod NextPlans
 pub mod Parts
+pub mod Relisting
+pub mod Drafts
+pub mod Undoing
 pub mod Headline
 pub mod Views
 pub mod Sources

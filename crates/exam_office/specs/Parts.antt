@@ -1,8 +1,13 @@
 -- A part of an office: what one command reads of it, and how it is put back.
-use Rattle.std.specs.Prelude.{◌≡◌, ◌⊎◌, ℕ, Bool, true, false, None, Ok, Err}
+use Rattle.std.specs.Prelude.{◌≡◌, ◌⊎◌, ◌&&◌, ℕ, Bool, true, false, Option, None, Ok, Err, nat_eq, if◌then◌else◌}
+use Rattle.std.specs.List.{list_any}
+use Rattle.std.specs.Option.{option_or}
 use Rattle.exam_types.specs.declared.refusal.Refusal.{Refusal}
 use Rattle.exam_types.specs.declared.refusal.Refusal.TheVariants.{NoMemory}
 use Rattle.exam_plan.specs.Matching.{SamePlan}
+use Rattle.exam_rules.specs.declared.lists.Entrant.{Entrant}
+use Rattle.exam_rules.specs.declared.lists.SessionLists.{SessionLists}
+use Rattle.exam_rules.specs.Lists.{listed}
 use Rattle.exam_rules.specs.Relations.{Code, Relations, relations_of, same_code}
 use Rattle.exam_rules.specs.Seatings.{plan_of}
 use Rattle.exam_office.specs.declared.command.Command.{Command}
@@ -14,7 +19,7 @@ use Rattle.exam_office.specs.Good.{IsGood}
 use Rattle.exam_office.specs.Orders.{IsInOrder}
 use Rattle.exam_office.specs.Repairs.{IsRepaired}
 use Rattle.exam_office.specs.Replies.{reply_of}
-use Rattle.exam_office.specs.State.{State}
+use Rattle.exam_office.specs.State.{Seats, State}
 use Rattle.exam_office.specs.Steps.{change, first_seated}
 use Rattle.exam_office.specs.Touched.{is_appeal_for, touches}
 
@@ -66,6 +71,16 @@ pub record IsMadeIn (done : Command) (today : ℕ) (old new : State) (reply : Re
   pub stays : (s : Code) → touches old.relations done s ≡ false → reads old.relations done s ≡ true
       → SamePlan (plan_of new.seats s) (plan_of old.seats s)
   pub told : reply ≡ reply_of done old new
+
+-- the candidate is listed among the members of the session
+abbrev pub is_listed : SessionLists → Code → ℕ → Bool
+is_listed lists s c = list_any (λ (e : Entrant). nat_eq e.number c) (listed lists.members.entries s)
+
+-- who sits where, once the listed members of the session are seated as they sit
+abbrev pub copied : SessionLists → Seats → Code → Seats → Code → ℕ → Option Code
+copied lists seats session plans s c =
+    if same_code session s && is_listed lists session c then option_or (plan_of seats s c) (plan_of plans s c)
+    else plan_of plans s c
 
 -- for want of memory, or as the change of the part is
 abbrev pub IsRefusedIn : Command → ℕ → State → Refusal → Type 0

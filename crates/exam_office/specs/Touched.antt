@@ -1,5 +1,5 @@
 -- Which sessions a command touches, over the facts before it.
-use Rattle.std.specs.Prelude.{ℕ, ◌&&◌, ◌||◌, Bool, true, false, Option}
+use Rattle.std.specs.Prelude.{◌&&◌, ◌||◌, Bool, true, false, Option}
 use Rattle.std.specs.List.{list_any}
 use Rattle.std.specs.Option.{option_map_or}
 use Rattle.exam_rules.specs.declared.rows.Appeal.{Appeal}
@@ -17,6 +17,27 @@ use Rattle.exam_office.specs.Appeals.{appeal_at}
 -- a reference to this session, which is there
 abbrev pub names : Relations → Code → Code → Bool
 names r named s = same_code named s && has_row code_cmp r.sessions s
+
+-- a row of an import names a session, the old and the new session of its paper, the paper of its entry and so its
+-- session, or the candidate of its arrangement and so those of which they are a member
+abbrev pub names_session : Relations → Row → Code → Bool
+names_session r (row.OfSession named x) s = same_code named s
+names_session r (row.OfPaper p x) s = is_paper_of r s p || names r x.session s
+names_session r (row.OfHall h x) s = false
+names_session r (row.OfOpening named h x) s = names r named s
+names_session r (row.OfCandidate c x) s = false
+names_session r (row.OfEntry c p) s = is_paper_of r s p
+names_session r (row.OfArrangement c x) s = is_member r s c
+
+-- the row is one of the hall
+abbrev pub names_hall : Row → Code → Bool
+names_hall (row.OfSession named x) h = false
+names_hall (row.OfPaper p x) h = false
+names_hall (row.OfHall named x) h = same_code named h
+names_hall (row.OfOpening named opened x) h = false
+names_hall (row.OfCandidate c x) h = false
+names_hall (row.OfEntry c p) h = false
+names_hall (row.OfArrangement c x) h = false
 
 -- A row of an import touches the session that it names, the old and the new session of its paper, the sessions
 -- that open its hall, that of the paper of its entry, and those of which the candidate of its arrangement is a

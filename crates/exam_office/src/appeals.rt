@@ -4,7 +4,7 @@ ghost use Rattle.exam_rules.specs.Relations.{relations_of, same_code};
 ghost use Rattle.exam_office.specs.Appeals as spec;
 
 use crate::command::AppealState;
-use exam_rules::{Appeal, Facts, Status, Subject};
+use exam_rules::{Appeal, Facts, Status, Subject, appeals_from};
 use exam_types::{Number, Reference, SessionCode};
 
 /// Both are against a hall, both on a clash, or both for an arrangement.
@@ -80,8 +80,15 @@ pub fn has_open_appeal(
 ) -> bool
     ensures { result ≡ spec.has_open_appeal (relations_of facts.now) number session.now subject.now }
 {
-    facts.appeals.iter().any(|(key, appeal)| key.0 == number
-        && is_open_for(session, subject, appeal))
+    for (key, appeal) in appeals_from(facts, number) {
+        if key.0 != number {
+            break;
+        }
+        if is_open_for(session, subject, appeal) {
+            return true;
+        }
+    }
+    false
 }
 
 /// Whether the appeal is open, for the session and of the same kind.

@@ -1,34 +1,67 @@
 //! What an import makes of the facts.
-ghost use Rattle.std.specs.Prelude.{◌≡◌, ◌⊎◌, ◌<◌, ◌^◌, ◌+◌, ◌-◌, is_none, not, false, if◌then◌else◌, length, None, Some, IfOk, IfErr, OnOk};
+ghost use Rattle.std.specs.Prelude.{◌≡◌, ◌⊎◌, ◌<◌, ◌^◌, ◌+◌, ◌-◌, is_none, not, false, if◌then◌else◌, length, None, Some, IfOk, IfErr, OnOk, OnErr};
 ghost use Rattle.std.specs.Option.{option_map, option_map_or};
 ghost use Rattle.std.specs.Result.{result_err};
 ghost use Rattle.exam_rules.specs.Relations.{opening_cmp, relations_of, row_at};
 ghost use Rattle.exam_types.specs.declared.refusal.Refusal.TheVariants.{NoMemory};
 ghost use Rattle.exam_office.specs.declared.import_row.Row.TheVariants as variant;
+ghost use Rattle.exam_office.specs.declared.import_row.Kind.{Kind as ImportKind};
 ghost use Rattle.exam_office.specs.Changes as changes;
+ghost use Rattle.exam_office.specs.Imports.{AreOfKind};
 ghost use Rattle.exam_office.specs.Replies as replies;
 ghost use Rattle.exam_office.specs.SameRows.{same_opening};
+ghost use Rattle.exam_office.specs.Undoing as undoing;
 
 use crate::command::Reply;
-use crate::copies::{copied_facts, put};
 use crate::import::Import;
 use crate::import_row::Row;
 use crate::references;
+use crate::rows::put;
+use crate::undo::{Undo, set_aside};
 use exam_rules::{Entry, Facts, Opening};
 use exam_types::{HallCode, Number, PaperCode, Refusal, SessionCode};
 
-/// The facts with the rows of an import, and what the import answers.
-pub fn imported(facts: &Facts, import: &Import) -> Result<(Facts, Reply), Refusal>
-    ensures ok { IfOk result (λ answer. relations_of answer.0
-        ≡ changes.with_rows (relations_of facts.now) import.now.rows) }
+/// Adds the rows of an import, and gives how this is taken back and what the import answers. Refused for the
+/// first row, in the order of the file, that refers to what is not there; and where there is not enough memory.
+/// After a refusal the facts are as before. No limit is tested.
+pub fn import_rows(facts: &mut Facts, import: &Import) -> Result<(Undo, Reply), Refusal>
+    ensures ok { OnOk result (relations_of facts.new
+        ≡ changes.with_rows (relations_of facts.old) import.now.rows) }
+    ensures only { OnOk result
+        (undoing.ChangesOnly import.now.kind (relations_of facts.old) (relations_of facts.new)) }
+    ensures back { IfOk result (λ answer.
+        undoing.TakesBack answer.0 (relations_of facts.new) (relations_of facts.old)) }
     ensures reply { IfOk result (λ answer. answer.1
-        ≡ replies.import_reply (relations_of facts.now) import.now.rows) }
-    ensures checked { OnOk result (changes.rows_refusal (relations_of facts.now) import.now.rows ≡ None) }
+        ≡ replies.import_reply (relations_of facts.old) import.now.rows) }
+    ensures checked { OnOk result (changes.rows_refusal (relations_of facts.old) import.now.rows ≡ None) }
     ensures refusal { IfErr result (λ e. (e ≡ NoMemory)
-        ⊎ (changes.rows_refusal (relations_of facts.now) import.now.rows ≡ Some e)) }
+        ⊎ (changes.rows_refusal (relations_of facts.old) import.now.rows ≡ Some e)) }
+    ensures same { OnErr result (relations_of facts.new ≡ relations_of facts.old) }
 {
     check_rows(facts, import.rows())?;
-    Ok((with_rows(facts, import.rows())?, count_rows(facts, import)))
+    let reply = count_rows(facts, import);
+    Ok((set_rows(facts, import)?, reply))
+}
+
+/// Sets each row in turn in a copy of the table, and gives how this is taken back.
+fn set_rows(facts: &mut Facts, import: &Import) -> Result<Undo, Refusal>
+    ensures ok { OnOk result (relations_of facts.new
+        ≡ changes.with_rows (relations_of facts.old) import.now.rows) }
+    ensures only { OnOk result
+        (undoing.ChangesOnly import.now.kind (relations_of facts.old) (relations_of facts.new)) }
+    ensures back { IfOk result (λ undo.
+        undoing.TakesBack undo (relations_of facts.new) (relations_of facts.old)) }
+    ensures memory { IfErr result (λ e. e ≡ NoMemory) }
+    ensures same { OnErr result (relations_of facts.new ≡ relations_of facts.old) }
+{
+    let undo = set_aside(facts, import.kind())?;
+    match put_rows(facts, import.rows()) {
+        Ok(()) => Ok(undo),
+        Err(refusal) => {
+            undo.take_back(facts);
+            Err(refusal)
+        }
+    }
 }
 
 /// Refuses the first row, in the order of the file, that refers to what is not there.
@@ -61,20 +94,11 @@ fn check_row(facts: &Facts, row: &Row) -> Result<(), Refusal>
     }
 }
 
-/// The facts with each row in turn.
-fn with_rows(facts: &Facts, rows: &[Row]) -> Result<Facts, Refusal>
-    ensures ok { IfOk result (λ changed. relations_of changed
-        ≡ changes.with_rows (relations_of facts.now) rows.now) }
-    ensures memory { IfErr result (λ e. e ≡ NoMemory) }
-{
-    let mut changed = copied_facts(facts)?;
-    put_rows(&mut changed, rows)?;
-    Ok(changed)
-}
-
-/// Sets each row in turn.
+/// Sets each row in turn. Also a refusal changes only the table of the rows.
 fn put_rows(facts: &mut Facts, rows: &[Row]) -> Result<(), Refusal>
     ensures ok { OnOk result (relations_of facts.new ≡ changes.with_rows (relations_of facts.old) rows.now) }
+    ensures only { (k : ImportKind) → AreOfKind k rows.now
+        → undoing.ChangesOnly k (relations_of facts.old) (relations_of facts.new) }
     ensures memory { IfErr result (λ e. e ≡ NoMemory) }
 {
     for row in rows {
@@ -84,10 +108,11 @@ fn put_rows(facts: &mut Facts, rows: &[Row]) -> Result<(), Refusal>
 }
 
 /// Adds a row with a new key, and sets a present key to the row. An entry that is there is left alone, and a
-/// new one is live.
+/// new one is live. After a refusal the facts are as before.
 pub(crate) fn put_row(facts: &mut Facts, row: &Row) -> Result<(), Refusal>
     ensures ok { OnOk result (relations_of facts.new ≡ changes.with_row (relations_of facts.old) row.now) }
     ensures memory { IfErr result (λ e. e ≡ NoMemory) }
+    ensures err { OnErr result (relations_of facts.new ≡ relations_of facts.old) }
 {
     match row {
         Row::OfSession(code, session) => put(&mut facts.sessions, *code, *session),
@@ -117,6 +142,7 @@ fn put_entry(facts: &mut Facts, number: Number, paper: PaperCode) -> Result<(), 
     ensures ok { OnOk result (relations_of facts.new
         ≡ changes.with_row (relations_of facts.old) (variant.OfEntry number paper)) }
     ensures memory { IfErr result (λ e. e ≡ NoMemory) }
+    ensures err { OnErr result (relations_of facts.new ≡ relations_of facts.old) }
 {
     if facts.entries.contains_key(&(number, paper)) {
         return Ok(());

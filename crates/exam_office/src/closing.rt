@@ -1,26 +1,46 @@
 //! Closing a hall for a session.
-ghost use Rattle.std.specs.Prelude.{◌≡◌, ◌⊎◌, None, Some, IfOk, IfErr, OnOk};
+ghost use Rattle.std.specs.Prelude.{◌≡◌, ◌⊎◌, None, Some, IfOk, IfErr, OnOk, OnErr};
 ghost use Rattle.std.specs.Result.{result_err};
 ghost use Rattle.exam_types.specs.declared.refusal.Refusal.TheVariants.{NoMemory};
 ghost use Rattle.exam_rules.specs.Relations.{relations_of};
 ghost use Rattle.exam_office.specs.Changes as changes;
+ghost use Rattle.exam_office.specs.Undoing as spec;
 
-use crate::copies::copied_facts;
 use crate::references::{check_hall, check_session};
+use crate::undo::Undo;
 use exam_rules::Facts;
 use exam_types::{HallCode, Refusal, SessionCode};
+use std::mem::replace;
 
-/// The facts without the opening of the hall for the session. Refused, in this order, as an unknown session,
-/// an unknown hall, or a hall not opened; and where there is not enough memory.
-pub fn closed(facts: &Facts, session: SessionCode, hall: HallCode) -> Result<Facts, Refusal>
-    ensures ok { IfOk result (λ changed. relations_of changed
-        ≡ changes.without_opening (relations_of facts.now) session hall) }
-    ensures checked { OnOk result (changes.closing_refusal (relations_of facts.now) session hall ≡ None) }
+/// Closes the hall for the session, and gives how this is taken back. Refused, in this order, as an unknown
+/// session, an unknown hall, or a hall not opened; and where there is not enough memory. After a refusal the
+/// facts are as before.
+pub fn close(facts: &mut Facts, session: SessionCode, hall: HallCode) -> Result<Undo, Refusal>
+    ensures ok { OnOk result (relations_of facts.new
+        ≡ changes.without_opening (relations_of facts.old) session hall) }
+    ensures back { IfOk result (λ undo.
+        spec.TakesBack undo (relations_of facts.new) (relations_of facts.old)) }
+    ensures checked { OnOk result (changes.closing_refusal (relations_of facts.old) session hall ≡ None) }
     ensures refusal { IfErr result (λ e. (e ≡ NoMemory)
-        ⊎ (changes.closing_refusal (relations_of facts.now) session hall ≡ Some e)) }
+        ⊎ (changes.closing_refusal (relations_of facts.old) session hall ≡ Some e)) }
+    ensures same { OnErr result (relations_of facts.new ≡ relations_of facts.old) }
 {
     check_closing(facts, session, hall)?;
-    without_opening(facts, session, hall)
+    remove_opening(facts, session, hall)
+}
+
+/// Puts the openings without this one in the place of the openings.
+fn remove_opening(facts: &mut Facts, session: SessionCode, hall: HallCode) -> Result<Undo, Refusal>
+    ensures ok { OnOk result (relations_of facts.new
+        ≡ changes.without_opening (relations_of facts.old) session hall) }
+    ensures back { IfOk result (λ undo.
+        spec.TakesBack undo (relations_of facts.new) (relations_of facts.old)) }
+    ensures memory { IfErr result (λ e. e ≡ NoMemory) }
+    ensures same { OnErr result (relations_of facts.new ≡ relations_of facts.old) }
+{
+    let mut openings = facts.openings.clone()?;
+    let _ = openings.remove(&(session, hall));
+    Ok(Undo::Openings(replace(&mut facts.openings, openings)))
 }
 
 /// Refused, in this order, as an unknown session, an unknown hall, or a hall not opened.
@@ -33,15 +53,4 @@ fn check_closing(facts: &Facts, session: SessionCode, hall: HallCode) -> Result<
         return Err(Refusal::HallNotOpened);
     }
     Ok(())
-}
-
-/// The facts without the opening.
-fn without_opening(facts: &Facts, session: SessionCode, hall: HallCode) -> Result<Facts, Refusal>
-    ensures ok { IfOk result (λ changed. relations_of changed
-        ≡ changes.without_opening (relations_of facts.now) session hall) }
-    ensures memory { IfErr result (λ e. e ≡ NoMemory) }
-{
-    let mut changed = copied_facts(facts)?;
-    let _ = changed.openings.remove(&(session, hall));
-    Ok(changed)
 }

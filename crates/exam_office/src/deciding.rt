@@ -1,8 +1,8 @@
 //! Deciding an appeal.
-ghost use Rattle.std.specs.Prelude.{◌≡◌, ◌⊎◌, None, Some, IfOk, IfErr, OnOk};
+ghost use Rattle.std.specs.Prelude.{◌≡◌, ◌⊎◌, None, Some, IfOk, IfErr, OnOk, OnErr};
 ghost use Rattle.std.specs.List.{find};
 ghost use Rattle.std.specs.Map.Iter.{deref_pair};
-ghost use Rattle.std.specs.Option.{option_map};
+ghost use Rattle.std.specs.Option.{option_and_then, option_map};
 ghost use Rattle.std.specs.Result.{result_err};
 ghost use Rattle.exam_types.specs.declared.refusal.Refusal.TheVariants.{NoMemory};
 ghost use Rattle.exam_rules.specs.Relations.{appeal_cmp, put_row, relations_of};
@@ -11,118 +11,161 @@ ghost use Rattle.exam_office.specs.declared.command.Outcome.TheVariants as outco
 ghost use Rattle.exam_office.specs.Appeals as appeals;
 ghost use Rattle.exam_office.specs.Changes.{first_refusal};
 ghost use Rattle.exam_office.specs.Decisions as spec;
-ghost use Rattle.exam_office.specs.Replies as replies;
-ghost use Rattle.exam_office.specs.Parts.{state_of};
+ghost use Rattle.exam_office.specs.NextPlans as next;
 ghost use Rattle.exam_office.specs.Singles.{AreSingle};
+ghost use Rattle.exam_office.specs.Undoing as undoing;
 
 use crate::appeals::{is_open, is_same_kind, stored_state};
-use crate::command::{Decision, Outcome, Reply};
-use crate::copies::{copied_facts, put, with_stored_appeal};
+use crate::command::{Command, Decision, Outcome, Reply};
 use crate::moves::moved;
-use crate::office::{Office, Seats};
-use crate::part::Part;
-use exam_rules::{Appeal, Facts, Status, Subject, is_live_paper, is_member};
+use crate::office::Seats;
+use crate::rows::put;
+use crate::undo::Undo;
+use exam_rules::{Appeal, Facts, Status, Subject, appeals_from, is_live_paper, is_member};
 use exam_types::{Day, Number, PaperCode, Reason, Reference, Refusal, SessionCode};
+use std::collections::BTreeMap;
+use std::mem::replace;
 
-/// The facts with the appeal decided, and with an earlier grant of its kind superseded where it is granted;
-/// as they were where it is decided so already. Refused, in this order, as an unknown appeal, as one that is
-/// not open, or as too late; a grant where the candidate is no longer a member, or has no live entry for the
-/// paper; and where there is not enough memory. It passes no limit.
-pub fn decided(facts: &Facts, decision: &Decision, today: Day) -> Result<Facts, Refusal>
-    requires { AreSingle (relations_of facts.now) }
-    ensures ok { IfOk result (λ changed. relations_of changed
-        ≡ spec.with_decision (relations_of facts.now) decision.now) }
+/// The appeals of the facts, by candidate and reference.
+type Appeals = BTreeMap<(Number, Reference), Appeal>;
+
+/// Decides the appeal, supersedes an earlier grant of its kind where it is granted, and gives how this is taken
+/// back; nothing changes where it is decided so already. Refused, in this order, as an unknown appeal, as one
+/// that is not open, or as too late; a grant where the candidate is no longer a member, or has no live entry for
+/// the paper; and where there is not enough memory. After a refusal the facts are as before. It passes no limit.
+pub fn decide(facts: &mut Facts, decision: &Decision, today: Day) -> Result<Undo, Refusal>
+    requires { AreSingle (relations_of facts.old) }
+    ensures ok { OnOk result (relations_of facts.new
+        ≡ spec.with_decision (relations_of facts.old) decision.now) }
+    ensures back { IfOk result (λ undo.
+        undoing.TakesBack undo (relations_of facts.new) (relations_of facts.old)) }
     ensures checked { OnOk result
-        (spec.decision_refusal (relations_of facts.now) today decision.now ≡ None) }
+        (spec.decision_refusal (relations_of facts.old) today decision.now ≡ None) }
     ensures refusal { IfErr result (λ e. (e ≡ NoMemory)
-        ⊎ (spec.decision_refusal (relations_of facts.now) today decision.now ≡ Some e)) }
+        ⊎ (spec.decision_refusal (relations_of facts.old) today decision.now ≡ Some e)) }
+    ensures same { OnErr result (relations_of facts.new ≡ relations_of facts.old) }
 {
     let Some(appeal) = facts.appeals.get(&(decision.number, decision.reference)) else {
         return Err(Refusal::UnknownAppeal);
     };
     if is_decided(decision.outcome, &decision.answer, &appeal.status) {
-        return copied_facts(facts);
+        return Ok(Undo::Nothing);
     }
     check_appeal(facts, decision, today, appeal)?;
-    with_outcome(facts, decision, appeal)
+    let appeals = decided_appeals(facts, decision, appeal)?;
+    Ok(Undo::Appeals(replace(&mut facts.appeals, appeals)))
 }
 
-/// Who is seated first: the appellant of a grant.
-pub fn appellant(decision: &Decision) -> Option<Number>
-    ensures { result ≡ spec.granted_number decision.now decision.now.outcome }
+/// A copy of the appeals with this one decided, which is not decided so already.
+fn decided_appeals(facts: &Facts, decision: &Decision, appeal: &Appeal) -> Result<Appeals, Refusal>
+    requires { AreSingle (relations_of facts.now) }
+    ensures ok { IfOk result (λ changed. record (relations_of facts.now) { appeals = changed.entries }
+        ≡ spec.with_outcome (relations_of facts.now) decision.now appeal.now) }
+    ensures memory { IfErr result (λ e. e ≡ NoMemory) }
 {
-    match decision.outcome {
-        Outcome::Grant => Some(decision.number),
-        Outcome::Refuse => None,
-    }
+    let status = status_of(decision.outcome, &decision.answer)?;
+    let decided = with_status(appeal, status)?;
+    let mut appeals = superseded_appeals(facts, decision.number, appeal, decision.outcome)?;
+    put(&mut appeals, (decision.number, decision.reference), decided)?;
+    Ok(appeals)
 }
 
-/// What a decision answers.
-pub fn reply_to(before: &Office, after: &Office, decision: &Decision) -> Reply
-    ensures { result ≡ replies.decision_reply before.now after.now decision.now }
-{
-    match before
-        .facts()
-        .appeals
-        .get(&(decision.number, decision.reference))
-    {
-        Some(appeal) => reply_about(before, after, decision, appeal),
-        None => Reply::Unchanged,
-    }
-}
-
-/// What the decision of this appeal answers, as it was stored before.
-fn reply_about(before: &Office, after: &Office, decision: &Decision, appeal: &Appeal) -> Reply
-    ensures { result ≡ replies.reply_to before.now after.now decision.now (Some appeal.now) }
-{
-    if is_decided(decision.outcome, &decision.answer, &appeal.status) {
-        return Reply::Unchanged;
-    }
-    let seat = after
-        .seats()
-        .get(&(appeal.session, decision.number))
-        .copied();
-    Reply::Decided {
-        state: stored_state(after.facts(), decision.number, decision.reference),
-        seat,
-        moved: moved(before.seats(), after.seats(), decision.number),
-    }
-}
-
-/// What a decision answers, from the part of an office before it and the facts and the plans after it.
-pub fn part_reply(part: &Part, facts: &Facts, plans: &Seats, decision: &Decision) -> Reply
-    ensures { result ≡ replies.decision_reply (state_of part.now)
-        (record { relations = relations_of facts.now; seats = plans.now.entries }) decision.now }
-{
-    match part
-        .facts
-        .appeals
-        .get(&(decision.number, decision.reference))
-    {
-        Some(appeal) => part_reply_about(part, facts, plans, decision, appeal),
-        None => Reply::Unchanged,
-    }
-}
-
-/// What the decision of this appeal answers, as it was stored before.
-fn part_reply_about(
-    part: &Part,
+/// A copy of the appeals without the decision: where it is a grant, with the earlier grant of its kind
+/// superseded.
+fn superseded_appeals(
     facts: &Facts,
-    plans: &Seats,
-    decision: &Decision,
+    number: Number,
     appeal: &Appeal,
-) -> Reply
-    ensures { result ≡ replies.reply_to (state_of part.now)
-        (record { relations = relations_of facts.now; seats = plans.now.entries }) decision.now
-        (Some appeal.now) }
+    outcome: Outcome,
+) -> Result<Appeals, Refusal>
+    requires { AreSingle (relations_of facts.now) }
+    ensures ok { IfOk result (λ changed. changed.entries
+        ≡ spec.with_superseded number appeal.now outcome facts.now.appeals.entries) }
+    ensures memory { IfErr result (λ e. e ≡ NoMemory) }
 {
-    if is_decided(decision.outcome, &decision.answer, &appeal.status) {
-        return Reply::Unchanged;
+    match outcome {
+        Outcome::Grant => appeals_giving_way(facts, number, appeal),
+        Outcome::Refuse => copied_appeals(facts),
     }
+}
+
+/// A copy of the appeals with the earlier grant superseded, if there is one.
+fn appeals_giving_way(facts: &Facts, number: Number, appeal: &Appeal) -> Result<Appeals, Refusal>
+    requires { AreSingle (relations_of facts.now) }
+    ensures ok { IfOk result (λ changed. changed.entries
+        ≡ spec.with_superseded number appeal.now outcomes.Grant facts.now.appeals.entries) }
+    ensures memory { IfErr result (λ e. e ≡ NoMemory) }
+{
+    facts.show_order();
+    match earlier_grant(facts, number, appeal) {
+        Some((key, earlier)) => appeals_with_superseded(facts, *key, earlier),
+        None => copied_appeals(facts),
+    }
+}
+
+/// A copy of the appeals with this one superseded, if it was granted.
+fn appeals_with_superseded(
+    facts: &Facts,
+    key: (Number, Reference),
+    appeal: &Appeal,
+) -> Result<Appeals, Refusal>
+    ensures ok { IfOk result (λ changed. changed.entries
+        ≡ put_row appeal_cmp facts.now.appeals.entries key
+        (record appeal.now { status = appeals.superseded appeal.now.status })) }
+    ensures memory { IfErr result (λ e. e ≡ NoMemory) }
+{
+    let superseded = with_status(appeal, superseded_status(&appeal.status)?)?;
+    let mut changed = copied_appeals(facts)?;
+    put(&mut changed, key, superseded)?;
+    Ok(changed)
+}
+
+fn copied_appeals(facts: &Facts) -> Result<Appeals, Refusal>
+    ensures ok { IfOk result (λ copy. copy.entries ≡ facts.now.appeals.entries) }
+    ensures memory { IfErr result (λ e. e ≡ NoMemory) }
+{
+    Ok(facts.appeals.clone()?)
+}
+
+/// The session of the appeal that the command decides, unless it is decided so already; nothing for other
+/// commands.
+pub fn newly_decided(facts: &Facts, command: &Command) -> Option<SessionCode>
+    ensures { result ≡ next.newly_decided (relations_of facts.now) command.now }
+{
+    match command {
+        Command::Decide(decision) => decided_session(facts, decision),
+        _ => None,
+    }
+}
+
+fn decided_session(facts: &Facts, decision: &Decision) -> Option<SessionCode>
+    ensures { result ≡ option_and_then (next.decided_session decision.now)
+        (appeals.appeal_at (relations_of facts.now) decision.now.number decision.now.reference) }
+{
+    let appeal = facts.appeals.get(&(decision.number, decision.reference))?;
+    if is_decided(decision.outcome, &decision.answer, &appeal.status) {
+        None
+    } else {
+        Some(appeal.session)
+    }
+}
+
+/// What the decision of an appeal for the session answers, from the facts after it and the plans before and
+/// after.
+pub fn decided_reply(
+    facts: &Facts,
+    before: &Seats,
+    after: &Seats,
+    decision: &Decision,
+    session: SessionCode,
+) -> Reply
+    ensures { result ≡ next.decided_reply decision.now session (relations_of facts.now)
+        before.now.entries after.now.entries }
+{
     Reply::Decided {
         state: stored_state(facts, decision.number, decision.reference),
-        seat: plans.get(&(appeal.session, decision.number)).copied(),
-        moved: moved(&part.plans, plans, decision.number),
+        seat: after.get(&(session, decision.number)).copied(),
+        moved: moved(before, after, decision.number),
     }
 }
 
@@ -200,24 +243,6 @@ fn check_paper(
     }
 }
 
-/// The facts with this appeal decided, which is not decided so already.
-fn with_outcome(facts: &Facts, decision: &Decision, appeal: &Appeal) -> Result<Facts, Refusal>
-    requires { AreSingle (relations_of facts.now) }
-    ensures ok { IfOk result (λ changed. relations_of changed
-        ≡ spec.with_outcome (relations_of facts.now) decision.now appeal.now) }
-    ensures memory { IfErr result (λ e. e ≡ NoMemory) }
-{
-    let status = status_of(decision.outcome, &decision.answer)?;
-    let decided = with_status(appeal, status)?;
-    let mut changed = with_superseded(facts, decision.number, appeal, decision.outcome)?;
-    put(
-        &mut changed.appeals,
-        (decision.number, decision.reference),
-        decided,
-    )?;
-    Ok(changed)
-}
-
 fn status_of(outcome: Outcome, answer: &Reason) -> Result<Status, Refusal>
     ensures ok { IfOk result (λ status. status ≡ appeals.decided outcome answer.now) }
     ensures memory { IfErr result (λ e. e ≡ NoMemory) }
@@ -229,7 +254,7 @@ fn status_of(outcome: Outcome, answer: &Reason) -> Result<Status, Refusal>
 }
 
 /// The same appeal with another status.
-fn with_status(appeal: &Appeal, status: Status) -> Result<Appeal, Refusal>
+pub fn with_status(appeal: &Appeal, status: Status) -> Result<Appeal, Refusal>
     ensures ok { IfOk result (λ changed. changed ≡ record appeal.now { status = status }) }
     ensures memory { IfErr result (λ e. e ≡ NoMemory) }
 {
@@ -238,55 +263,6 @@ fn with_status(appeal: &Appeal, status: Status) -> Result<Appeal, Refusal>
         status,
         ..*appeal
     })
-}
-
-/// The facts without the decision: where it is a grant, with the earlier grant of its kind superseded.
-fn with_superseded(
-    facts: &Facts,
-    number: Number,
-    appeal: &Appeal,
-    outcome: Outcome,
-) -> Result<Facts, Refusal>
-    requires { AreSingle (relations_of facts.now) }
-    ensures ok { IfOk result (λ changed. relations_of changed ≡ record (relations_of facts.now) {
-      appeals = spec.with_superseded number appeal.now outcome facts.now.appeals.entries;
-    }) }
-    ensures memory { IfErr result (λ e. e ≡ NoMemory) }
-{
-    match outcome {
-        Outcome::Grant => with_earlier_superseded(facts, number, appeal),
-        Outcome::Refuse => copied_facts(facts),
-    }
-}
-
-fn with_earlier_superseded(facts: &Facts, number: Number, appeal: &Appeal) -> Result<Facts, Refusal>
-    requires { AreSingle (relations_of facts.now) }
-    ensures ok { IfOk result (λ changed. relations_of changed ≡ record (relations_of facts.now) {
-      appeals = spec.with_superseded number appeal.now outcomes.Grant facts.now.appeals.entries;
-    }) }
-    ensures memory { IfErr result (λ e. e ≡ NoMemory) }
-{
-    facts.show_order();
-    match earlier_grant(facts, number, appeal) {
-        Some((key, earlier)) => with_superseded_appeal(facts, *key, earlier),
-        None => copied_facts(facts),
-    }
-}
-
-/// The facts with this appeal superseded, if it was granted.
-fn with_superseded_appeal(
-    facts: &Facts,
-    key: (Number, Reference),
-    appeal: &Appeal,
-) -> Result<Facts, Refusal>
-    ensures ok { IfOk result (λ changed. relations_of changed ≡ record (relations_of facts.now) {
-      appeals = put_row appeal_cmp facts.now.appeals.entries key
-          (record appeal.now { status = appeals.superseded appeal.now.status });
-    }) }
-    ensures memory { IfErr result (λ e. e ≡ NoMemory) }
-{
-    let superseded = with_status(appeal, superseded_status(&appeal.status)?)?;
-    with_stored_appeal(facts, key, superseded)
 }
 
 fn superseded_status(status: &Status) -> Result<Status, Refusal>
@@ -309,7 +285,10 @@ fn earlier_grant<'a>(
     ensures { option_map deref_pair result
         ≡ find (spec.is_earlier number appeal.now.session appeal.now.subject) facts.now.appeals.entries }
 {
-    for (key, other) in &facts.appeals {
+    for (key, other) in appeals_from(facts, number) {
+        if key.0 != number {
+            break;
+        }
         if is_earlier(number, appeal, key, other) {
             return Some((key, other));
         }

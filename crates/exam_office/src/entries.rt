@@ -1,44 +1,63 @@
 //! Withdrawing and reinstating an entry.
-ghost use Rattle.std.specs.Prelude.{◌≡◌, ◌⊎◌, true, false, None, Some, IfOk, IfErr, OnOk};
+ghost use Rattle.std.specs.Prelude.{◌≡◌, ◌⊎◌, true, false, None, Some, IsTrue, IfOk, IfErr, OnOk, OnErr};
 ghost use Rattle.std.specs.Result.{result_err};
 ghost use Rattle.exam_types.specs.declared.refusal.Refusal.TheVariants.{NoMemory};
-ghost use Rattle.exam_rules.specs.Relations.{relations_of};
+ghost use Rattle.exam_rules.specs.Relations.{entry_cmp, has_row, relations_of};
 ghost use Rattle.exam_rules.specs.Sessions as sessions;
 ghost use Rattle.exam_office.specs.Changes as changes;
+ghost use Rattle.exam_office.specs.Undoing as spec;
 
-use crate::copies::{copied_facts, put};
 use crate::references::{check_candidate, check_paper};
+use crate::rows::exchange;
+use crate::undo::Undo;
 use exam_rules::{Entry, Facts};
 use exam_types::{Number, PaperCode, Refusal};
 
-/// The facts with the entry withdrawn. Refused, in this order, as an unknown candidate, an unknown paper, no
-/// entry, or withdrawn already; and where there is not enough memory.
-pub fn withdrawn(facts: &Facts, number: Number, paper: PaperCode) -> Result<Facts, Refusal>
-    ensures ok { IfOk result (λ changed. relations_of changed
-        ≡ changes.with_live (relations_of facts.now) number paper false) }
-    ensures checked { OnOk result (changes.withdrawal_refusal (relations_of facts.now) number paper ≡ None) }
-    ensures refusal { IfErr result (λ e. (e ≡ NoMemory)
-        ⊎ (changes.withdrawal_refusal (relations_of facts.now) number paper ≡ Some e)) }
+/// Withdraws the entry, and gives how this is taken back. Refused, in this order, as an unknown candidate, an
+/// unknown paper, no entry, or withdrawn already; after a refusal the facts are as before. Takes no memory.
+pub fn withdraw(facts: &mut Facts, number: Number, paper: PaperCode) -> Result<Undo, Refusal>
+    ensures ok { OnOk result (relations_of facts.new
+        ≡ changes.with_live (relations_of facts.old) number paper false) }
+    ensures back { IfOk result (λ undo.
+        spec.TakesBack undo (relations_of facts.new) (relations_of facts.old)) }
+    ensures checked { OnOk result (changes.withdrawal_refusal (relations_of facts.old) number paper ≡ None) }
+    ensures refusal { IfErr result (λ e.
+        changes.withdrawal_refusal (relations_of facts.old) number paper ≡ Some e) }
+    ensures same { OnErr result (relations_of facts.new ≡ relations_of facts.old) }
 {
     if !is_live(facts, number, paper)? {
         return Err(Refusal::AlreadyWithdrawn);
     }
-    with_live(facts, number, paper, false)
+    Ok(set_live(facts, number, paper, false))
 }
 
-/// The facts with the entry live again. Refused, in this order, as an unknown candidate, an unknown paper, no
-/// entry, or not withdrawn; and where there is not enough memory. No limit is tested.
-pub fn reinstated(facts: &Facts, number: Number, paper: PaperCode) -> Result<Facts, Refusal>
-    ensures ok { IfOk result (λ changed. relations_of changed
-        ≡ changes.with_live (relations_of facts.now) number paper true) }
-    ensures checked { OnOk result (changes.revival_refusal (relations_of facts.now) number paper ≡ None) }
-    ensures refusal { IfErr result (λ e. (e ≡ NoMemory)
-        ⊎ (changes.revival_refusal (relations_of facts.now) number paper ≡ Some e)) }
+/// Makes the entry live again, and gives how this is taken back. Refused, in this order, as an unknown
+/// candidate, an unknown paper, no entry, or not withdrawn; after a refusal the facts are as before. No limit
+/// is tested. Takes no memory.
+pub fn reinstate(facts: &mut Facts, number: Number, paper: PaperCode) -> Result<Undo, Refusal>
+    ensures ok { OnOk result (relations_of facts.new
+        ≡ changes.with_live (relations_of facts.old) number paper true) }
+    ensures back { IfOk result (λ undo.
+        spec.TakesBack undo (relations_of facts.new) (relations_of facts.old)) }
+    ensures checked { OnOk result (changes.revival_refusal (relations_of facts.old) number paper ≡ None) }
+    ensures refusal { IfErr result (λ e.
+        changes.revival_refusal (relations_of facts.old) number paper ≡ Some e) }
+    ensures same { OnErr result (relations_of facts.new ≡ relations_of facts.old) }
 {
     if is_live(facts, number, paper)? {
         return Err(Refusal::NotWithdrawn);
     }
-    with_live(facts, number, paper, true)
+    Ok(set_live(facts, number, paper, true))
+}
+
+/// Gives an entry that is there this live mark.
+fn set_live(facts: &mut Facts, number: Number, paper: PaperCode, live: bool) -> Undo
+    requires { IsTrue (has_row entry_cmp facts.old.entries.entries (number, paper)) }
+    ensures new { relations_of facts.new ≡ changes.with_live (relations_of facts.old) number paper live }
+    ensures back { spec.TakesBack result (relations_of facts.new) (relations_of facts.old) }
+{
+    let old = exchange(&mut facts.entries, (number, paper), Entry { live });
+    Undo::Entry((number, paper), old)
 }
 
 /// Whether the entry is live. Refused, in this order, as an unknown candidate, an unknown paper, or no entry.
@@ -53,15 +72,4 @@ fn is_live(facts: &Facts, number: Number, paper: PaperCode) -> Result<bool, Refu
         Some(entry) => Ok(entry.live),
         None => Err(Refusal::NoEntry),
     }
-}
-
-/// The facts with this live mark of the entry.
-fn with_live(facts: &Facts, number: Number, paper: PaperCode, live: bool) -> Result<Facts, Refusal>
-    ensures ok { IfOk result (λ changed. relations_of changed
-        ≡ changes.with_live (relations_of facts.now) number paper live) }
-    ensures memory { IfErr result (λ e. e ≡ NoMemory) }
-{
-    let mut changed = copied_facts(facts)?;
-    put(&mut changed.entries, (number, paper), Entry { live })?;
-    Ok(changed)
 }

@@ -3,16 +3,18 @@
 
 mod appeal_source;
 mod appeals;
+mod before;
 mod changes;
 mod closing;
 mod command;
-mod copies;
 mod deciding;
+mod draft;
 mod entries;
 mod grants;
 mod import;
 mod import_row;
 mod laws;
+mod lending;
 mod limits;
 mod lodging;
 mod moves;
@@ -23,18 +25,24 @@ mod own_source;
 mod part;
 mod part_steps;
 mod references;
+mod relisting;
 mod repair;
 mod retracting;
+mod rows;
+mod seat_changes;
 mod steps;
 mod tables;
 mod touching;
+mod undo;
 mod view;
 mod view_source;
 mod words;
 
 pub use appeal_source::{AppealSource, ListedAppeals};
 pub use appeals::state_of;
+pub use before::{Before, PlansBefore, TablesBefore};
 pub use command::{AppealState, Command, Decision, Lodging, Outcome, Reply};
+pub use draft::Draft;
 pub use import::Import;
 pub use import_row::{Kind, Row};
 pub use laws::{
@@ -43,6 +51,7 @@ pub use laws::{
     repeated_import_makes_the_same_facts, repeated_lodging_changes_nothing,
     repeated_retraction_changes_nothing, untouched_session_stays,
 };
+pub use lending::part_for;
 pub use office::{Office, Seats};
 pub use own::{Own, OwnSession};
 pub use own_laws::{
@@ -51,7 +60,7 @@ pub use own_laws::{
 };
 pub use part::Part;
 pub use part_steps::step_part;
-pub use steps::{next_office, run, step};
+pub use steps::{run, step};
 pub use tables::{Table, first_bad_table};
 pub use touching::touched;
 pub use view::{AppealRow, Clash, Seat, SessionShortage, SessionView};

@@ -1,9 +1,12 @@
 //! The limits on the facts, by the table to which each belongs.
 ghost use Rattle.std.specs.Prelude.{◌≡◌};
-ghost use Rattle.exam_rules.specs.Relations.{relations_of};
+ghost use Rattle.exam_rules.specs.Relations.{Relations, relations_of};
 ghost use Rattle.exam_rules.specs.Lists.{AreListsOf};
+ghost use Rattle.exam_office.specs.FactsMade as made;
+ghost use Rattle.exam_office.specs.FactsMade.{WasMade};
 ghost use Rattle.exam_office.specs.Limits as spec;
 
+use crate::command::Command;
 use exam_plan::MOST_MEMBERS;
 use exam_rules::{Facts, SessionLists, has_at_most};
 
@@ -31,6 +34,32 @@ pub fn is_within_limits(facts: &Facts, lists: &SessionLists) -> bool
         && are_candidates_within(facts)
         && are_members_within(facts, lists)
         && are_appeals_within(facts)
+}
+
+/// Whether the facts, which the command has made of good ones, pass no limit. Looks only at what the command may
+/// have added.
+pub fn stays_within(facts: &Facts, lists: &SessionLists, command: &Command) -> bool
+    requires lists { AreListsOf (relations_of facts.now) lists.now }
+    requires made { (r : Relations) × WasMade command.now r (relations_of facts.now) }
+    ensures { result ≡ spec.within_limits (relations_of facts.now) }
+{
+    if !may_pass_limit(command) {
+        return true;
+    }
+    match command {
+        Command::Lodge(lodging) => has_at_most(facts, lodging.number, MOST_APPEALS),
+        _ => is_within_limits(facts, lists),
+    }
+}
+
+/// Whether there are commands of the kind that add to what a limit counts.
+fn may_pass_limit(command: &Command) -> bool
+    ensures { result ≡ made.may_pass_limit command.now }
+{
+    matches!(
+        command,
+        Command::Import(_) | Command::Reinstate(_, _) | Command::Lodge(_)
+    )
 }
 
 pub fn are_sessions_within(facts: &Facts) -> bool

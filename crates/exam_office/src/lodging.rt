@@ -1,60 +1,66 @@
 //! Lodging an appeal.
-ghost use Rattle.std.specs.Prelude.{◌≡◌, ◌⊎◌, ◌==◌, length, not, [], ◌∷◌, ◌++◌, None, Some, IfOk, IfErr, OnOk};
+ghost use Rattle.std.specs.Prelude.{◌≡◌, ◌⊎◌, ◌==◌, length, not, [], ◌∷◌, ◌++◌, None, Some, IfOk, IfErr, OnOk, OnErr};
 ghost use Rattle.std.specs.Result.{result_err};
 ghost use Rattle.exam_types.specs.declared.refusal.Refusal.TheVariants.{NoMemory};
 ghost use Rattle.exam_rules.specs.Relations.{relations_of};
 ghost use Rattle.exam_rules.specs.Sessions as sessions;
+ghost use Rattle.exam_office.specs.Appeals.{appeal_at};
 ghost use Rattle.exam_office.specs.Changes.{first_refusal};
 ghost use Rattle.exam_office.specs.Lodgings as spec;
+ghost use Rattle.exam_office.specs.Undoing as undoing;
 
 use crate::appeals::{has_open_appeal, is_same_subject, notice_days};
 use crate::command::Lodging;
-use crate::copies::{copied_facts, with_stored_appeal};
 use crate::office::Seats;
 use crate::references::check_candidate;
+use crate::rows::put;
+use crate::undo::Undo;
 use exam_rules::{
     Appeal, Arrangement, Facts, Session, Status, Subject, arrangement_in_force, entries_from,
     is_clash, is_live_paper, is_member, is_paper_of, sitting,
 };
 use exam_types::{Day, HallCode, Number, PaperCode, Refusal, SessionCode};
 
-/// The facts with the appeal, open and lodged on the day, unless an equal one is stored under its reference.
-/// Refused, in this order, as an unknown candidate; as a reference that is taken; where the candidate is no
-/// member of the session; after the last day to lodge; as a hall in which they do not sit, or as no clash, no
-/// live entry, or nothing to change; where an open appeal of the kind stands; and where there is not enough
-/// memory. No limit is tested.
-pub fn lodged(facts: &Facts, seats: &Seats, today: Day, lodging: &Lodging) -> Result<Facts, Refusal>
-    ensures ok { IfOk result (λ changed. relations_of changed
-        ≡ spec.with_lodging (relations_of facts.now) today lodging.now) }
+/// Stores the appeal, open and lodged on the day, unless an equal one is stored under its reference, and gives
+/// how this is taken back. Refused, in this order, as an unknown candidate; as a reference that is taken; where
+/// the candidate is no member of the session; after the last day to lodge; as a hall in which they do not sit,
+/// or as no clash, no live entry, or nothing to change; where an open appeal of the kind stands; and where
+/// there is not enough memory. After a refusal the facts are as before. No limit is tested.
+pub fn lodge(
+    facts: &mut Facts,
+    seats: &Seats,
+    today: Day,
+    lodging: &Lodging,
+) -> Result<Undo, Refusal>
+    ensures ok { OnOk result (relations_of facts.new
+        ≡ spec.with_lodging (relations_of facts.old) today lodging.now) }
+    ensures back { IfOk result (λ undo.
+        undoing.TakesBack undo (relations_of facts.new) (relations_of facts.old)) }
     ensures checked { OnOk result
-        (spec.standing_refusal (relations_of facts.now) seats.now.entries today lodging.now ≡ None) }
+        (spec.standing_refusal (relations_of facts.old) seats.now.entries today lodging.now ≡ None) }
     ensures refusal { IfErr result (λ e. (e ≡ NoMemory)
-        ⊎ (spec.standing_refusal (relations_of facts.now) seats.now.entries today lodging.now ≡ Some e)) }
+        ⊎ (spec.standing_refusal (relations_of facts.old) seats.now.entries today lodging.now ≡ Some e)) }
+    ensures same { OnErr result (relations_of facts.new ≡ relations_of facts.old) }
 {
     check_lodging(facts, seats, today, lodging)?;
-    with_lodging(facts, today, lodging)
-}
-
-/// The facts with the appeal, unless one is stored under its reference.
-fn with_lodging(facts: &Facts, today: Day, lodging: &Lodging) -> Result<Facts, Refusal>
-    ensures ok { IfOk result (λ changed. relations_of changed
-        ≡ spec.with_lodging (relations_of facts.now) today lodging.now) }
-    ensures memory { IfErr result (λ e. e ≡ NoMemory) }
-{
     if facts
         .appeals
         .contains_key(&(lodging.number, lodging.reference))
     {
-        copied_facts(facts)
-    } else {
-        with_appeal(facts, today, lodging)
+        return Ok(Undo::Nothing);
     }
+    store(facts, today, lodging)
 }
 
-fn with_appeal(facts: &Facts, today: Day, lodging: &Lodging) -> Result<Facts, Refusal>
-    ensures ok { IfOk result (λ changed. relations_of changed
-        ≡ spec.with_appeal (relations_of facts.now) today lodging.now) }
+/// Stores the appeal under its reference, under which there is none.
+fn store(facts: &mut Facts, today: Day, lodging: &Lodging) -> Result<Undo, Refusal>
+    requires { appeal_at (relations_of facts.old) lodging.now.number lodging.now.reference ≡ None }
+    ensures ok { OnOk result (relations_of facts.new
+        ≡ spec.with_appeal (relations_of facts.old) today lodging.now) }
+    ensures back { IfOk result (λ undo.
+        undoing.TakesBack undo (relations_of facts.new) (relations_of facts.old)) }
     ensures memory { IfErr result (λ e. e ≡ NoMemory) }
+    ensures same { OnErr result (relations_of facts.new ≡ relations_of facts.old) }
 {
     let appeal = Appeal {
         session: lodging.session,
@@ -63,7 +69,12 @@ fn with_appeal(facts: &Facts, today: Day, lodging: &Lodging) -> Result<Facts, Re
         status: Status::Pending,
         lodged: today,
     };
-    with_stored_appeal(facts, (lodging.number, lodging.reference), appeal)
+    put(
+        &mut facts.appeals,
+        (lodging.number, lodging.reference),
+        appeal,
+    )?;
+    Ok(Undo::NewAppeal((lodging.number, lodging.reference)))
 }
 
 fn check_lodging(facts: &Facts, seats: &Seats, today: Day, lodging: &Lodging) -> Result<(), Refusal>

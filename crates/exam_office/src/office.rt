@@ -112,6 +112,27 @@ impl Office {
         own_source::own_of(alloc, &self.facts, &self.lists, &self.seats, number)
     }
 
+    /// The members and the open halls of each session.
+    pub(crate) fn lists(&self) -> &SessionLists
+        ensures { AreListsOf self.now.relations result.now }
+    {
+        &self.lists
+    }
+
+    /// The facts, their lists and the plans.
+    pub(crate) fn into_parts(self) -> (Facts, SessionLists, Seats)
+        ensures facts { relations_of result.0 ≡ self.relations }
+        ensures lists { AreListsOf self.relations result.1 }
+        ensures seats { result.2.entries ≡ self.seats }
+    {
+        let Office {
+            facts,
+            lists,
+            seats,
+        } = self;
+        (facts, lists, seats)
+    }
+
     /// The office with these facts and plans, which are good, and the lists of the facts.
     pub(crate) fn holding(facts: Facts, lists: SessionLists, seats: Seats) -> Self
         requires good { IsGood (record { relations = relations_of facts; seats = seats.entries }) }

@@ -1,35 +1,49 @@
 //! One command over a part of an office.
-ghost use Rattle.std.specs.Prelude.{◌≡◌, ◌⊎◌, false, Some, Contains, IsTrue, IfOk, IfErr, OnOk, OnErr};
+ghost use Rattle.std.specs.Prelude.{◌≡◌, ◌⊎◌, false, true, Contains, IsTrue, IfOk, IfErr, OnOk, OnErr};
 ghost use Rattle.exam_types.specs.declared.refusal.Refusal.TheVariants.{NoMemory, TooMany};
-ghost use Rattle.exam_rules.specs.Relations.{Code, relations_of};
-ghost use Rattle.exam_office.specs.declared.command.Command.TheVariants as variant;
+ghost use Rattle.exam_rules.specs.Lists.{AreListsOf};
+ghost use Rattle.exam_rules.specs.Relations.{Code, Relations, relations_of};
+ghost use Rattle.exam_office.specs.FactsMade.{WasMade, early_refusal, facts_made, may_pass_limit};
 ghost use Rattle.exam_office.specs.Good.{IsGood};
 ghost use Rattle.exam_office.specs.Limits.{within_limits};
+ghost use Rattle.exam_office.specs.NextPlans as planning;
 ghost use Rattle.exam_office.specs.Orders.{IsInOrder};
 ghost use Rattle.exam_office.specs.Parts as spec;
-ghost use Rattle.exam_office.specs.Repairs.{IsRepaired};
+ghost use Rattle.exam_office.specs.Relisting as listing;
 ghost use Rattle.exam_office.specs.Singles.{AreSingle};
 ghost use Rattle.exam_office.specs.State.{State};
 ghost use Rattle.exam_office.specs.Steps as steps;
-ghost use Rattle.exam_office.specs.Touched.{grants, touches};
+ghost use Rattle.exam_office.specs.Undoing as undoing;
 
 use crate::appeals::stored_state;
-use crate::changes::imported;
-use crate::closing::closed;
-use crate::command::{Command, Decision, Lodging, Outcome, Reply};
-use crate::deciding::{decided, part_reply};
-use crate::entries::{reinstated, withdrawn};
-use crate::import::Import;
-use crate::limits::{are_appeals_within, is_within_limits};
-use crate::lodging::lodged;
+use crate::changes::import_rows;
+use crate::closing::close;
+use crate::command::{Command, Decision, Outcome, Reply};
+use crate::deciding::{decide, decided_reply, newly_decided};
+use crate::entries::{reinstate, withdraw};
+use crate::limits::stays_within;
+use crate::lodging::lodge;
 use crate::office::Seats;
 use crate::part::Part;
+use crate::relisting::{ListUndo, relist};
 use crate::repair::repaired_among;
-use crate::retracting::retracted;
+use crate::retracting::retract;
 use crate::touching::touched;
-use exam_rules::{Facts, session_lists};
-use exam_types::{Day, HallCode, Number, PaperCode, Reference, Refusal, SessionCode};
+use crate::undo::Undo;
+use exam_rules::{Facts, SessionLists, session_lists};
+use exam_types::{Day, Refusal, SessionCode};
 use std::alloc::Global;
+use std::mem;
+
+/// What a command has made of a part: what it answers, and how it is taken back.
+#[derive(Drop)]
+pub struct Made {
+    pub reply: Reply,
+    pub facts: Undo,
+    pub lists: ListUndo,
+    /// The plans as they were, where they have changed.
+    pub plans: Option<Seats>,
+}
 
 /// Carries out a command on a day over a part that agrees with a good office on what the command reads, or
 /// refuses it: the reply is that of `step` over that office, and the office with the part put back is the office
@@ -45,254 +59,233 @@ pub fn step_part(
         → spec.Agrees command.now office (spec.state_of part.old)
         → spec.IsPutBack command.now office (spec.state_of part.new) after
         → steps.MayStep command.now today office result after }
-    ensures err { OnErr result (part.new ≡ part.old) }
+    ensures err { OnErr result (spec.state_of part.new ≡ spec.state_of part.old) }
 {
     part.show_order();
-    let (next, reply) = next_part(alloc, part, command, today)?;
-    *part = next;
-    Ok(reply)
+    let mut lists = session_lists(alloc, &part.facts)?;
+    let made = make(alloc, part, &mut lists, command, today)?;
+    Ok(made.reply)
 }
 
-/// The part after a command on a day, and what the command answers.
-fn next_part(
+/// Carries out a command on a day over a part, with the lists of its facts. After a refusal both are as before.
+pub fn make(
     alloc: Global,
-    part: &Part,
+    part: &mut Part,
+    lists: &mut SessionLists,
     command: &Command,
     today: Day,
-) -> Result<(Part, Reply), Refusal>
-    requires limits { IsTrue (within_limits (relations_of part.now.facts)) }
-    requires single { AreSingle (relations_of part.now.facts) }
-    ensures ok { IfOk result (λ next.
-        spec.IsMadeIn command.now today (spec.state_of part.now) (spec.state_of next.0) next.1) }
-    ensures refusal { IfErr result (spec.IsRefusedIn command.now today (spec.state_of part.now)) }
+) -> Result<Made, Refusal>
+    requires part { spec.IsPartFor command.now (spec.state_of part.old) }
+    requires lists { AreListsOf (relations_of part.old.facts) lists.old }
+    ensures ok { IfOk result (λ made. spec.IsMadeIn command.now today (spec.state_of part.old)
+        (spec.state_of part.new) made.reply) }
+    ensures lists { OnOk result (AreListsOf (relations_of part.new.facts) lists.new) }
+    ensures limits { OnOk result (IsTrue (within_limits (relations_of part.new.facts))) }
+    ensures made { OnOk result (WasMade command.now (relations_of part.old.facts)
+        (relations_of part.new.facts)) }
+    ensures facts_back { IfOk result (λ made. undoing.TakesBack made.facts (relations_of part.new.facts)
+        (relations_of part.old.facts)) }
+    ensures lists_back { IfOk result (λ made. listing.ListsBack made.lists lists.new lists.old) }
+    ensures plans_back { IfOk result (λ made. planning.PlansBack command.now (relations_of part.old.facts)
+        made.plans part.new.plans.entries part.old.plans.entries) }
+    ensures refusal { IfErr result (spec.IsRefusedIn command.now today (spec.state_of part.old)) }
+    ensures same { OnErr result (spec.state_of part.new ≡ spec.state_of part.old) }
+    ensures same_lists { OnErr result (listing.SameLists lists.old lists.new) }
 {
     let sessions = touched(alloc, &part.facts, command)?;
+    let decided = newly_decided(&part.facts, command);
+    let (facts, reply) = change(&mut part.facts, &part.plans, command, today)?;
+    match settled(alloc, &part.facts, lists, &sessions, &part.plans, command) {
+        Ok((listed, next)) => {
+            let reply = last_reply(&part.facts, &part.plans, &next, decided, command, reply);
+            Ok(Made {
+                reply,
+                facts,
+                lists: listed,
+                plans: put_plans(&mut part.plans, next),
+            })
+        }
+        Err(refusal) => {
+            facts.take_back(&mut part.facts);
+            Err(refusal)
+        }
+    }
+}
+
+/// Puts the next plans in the place of these, and gives these; nothing where they stay.
+fn put_plans(plans: &mut Seats, next: Option<Seats>) -> Option<Seats>
+    ensures { planning.ArePut next plans.old.entries plans.new.entries result }
+{
+    match next {
+        Some(next) => Some(mem::replace(plans, next)),
+        None => None,
+    }
+}
+
+/// Makes the change of a command in the facts, before any limit is tested. Gives how it is taken back, and what
+/// the command answers if it does not depend on the plans.
+fn change(
+    facts: &mut Facts,
+    plans: &Seats,
+    command: &Command,
+    today: Day,
+) -> Result<(Undo, Reply), Refusal>
+    requires { AreSingle (relations_of facts.old) }
+    ensures ok { OnOk result (relations_of facts.new ≡ facts_made command.now today
+        (record { relations = relations_of facts.old; seats = plans.now.entries })) }
+    ensures back { IfOk result (λ made. undoing.TakesBack made.0 (relations_of facts.new)
+        (relations_of facts.old)) }
+    ensures reply { IfOk result (λ made. made.1 ≡ planning.first_reply command.now (relations_of facts.old)
+        (relations_of facts.new)) }
+    ensures checked { OnOk result (early_refusal command.now today
+        (record { relations = relations_of facts.old; seats = plans.now.entries }) ≡ None) }
+    ensures refusal { IfErr result (λ e. (e ≡ NoMemory) ⊎ (early_refusal command.now today
+        (record { relations = relations_of facts.old; seats = plans.now.entries }) ≡ Some e)) }
+    ensures same { OnErr result (relations_of facts.new ≡ relations_of facts.old) }
+{
     match command {
-        Command::Import(import) => with_import(alloc, part, &sessions, import, today),
-        Command::Withdraw(number, paper) => with_withdrawal(
-            alloc, part, &sessions, *number, *paper, today,
-        ),
+        Command::Import(import) => import_rows(facts, import),
+        Command::Withdraw(number, paper) => {
+            Ok((withdraw(facts, *number, *paper)?, Reply::Withdrawn))
+        }
         Command::Reinstate(number, paper) => {
-            with_reinstatement(alloc, part, &sessions, *number, *paper, today)
+            Ok((reinstate(facts, *number, *paper)?, Reply::Reinstated))
         }
-        Command::CloseHall(session, hall) => {
-            with_closed_hall(alloc, part, &sessions, *session, *hall, today)
+        Command::CloseHall(session, hall) => Ok((close(facts, *session, *hall)?, Reply::Closed)),
+        Command::Lodge(lodging) => {
+            let undo = lodge(facts, plans, today, lodging)?;
+            let state = stored_state(facts, lodging.number, lodging.reference);
+            Ok((undo, Reply::Lodged(state)))
         }
-        Command::Lodge(lodging) => with_lodging(part, lodging, today),
-        Command::Retract(number, reference) => with_retraction(part, *number, *reference, today),
-        Command::Decide(decision) => with_decision(alloc, part, &sessions, decision, today),
+        Command::Retract(number, reference) => {
+            Ok((retract(facts, *number, *reference)?, Reply::Retracted))
+        }
+        Command::Decide(decision) => Ok((decide(facts, decision, today)?, Reply::Unchanged)),
     }
 }
 
-fn with_import(
-    alloc: Global,
-    part: &Part,
-    sessions: &[SessionCode],
-    import: &Import,
-    today: Day,
-) -> Result<(Part, Reply), Refusal>
-    requires listed { (s : Code) → IsTrue (touches (relations_of part.now.facts)
-        (variant.Import import.now) s) → Contains sessions.now s }
-    ensures ok { IfOk result (λ next. spec.IsMadeIn (variant.Import import.now) today
-        (spec.state_of part.now) (spec.state_of next.0) next.1) }
-    ensures refusal { IfErr result
-        (spec.IsRefusedIn (variant.Import import.now) today (spec.state_of part.now)) }
-{
-    let _ = today;
-    let (facts, reply) = imported(&part.facts, import)?;
-    let plans = limited_plans(alloc, &facts, part, sessions, None)?;
-    Ok((Part { facts, plans }, reply))
-}
-
-fn with_withdrawal(
-    alloc: Global,
-    part: &Part,
-    sessions: &[SessionCode],
-    number: Number,
-    paper: PaperCode,
-    today: Day,
-) -> Result<(Part, Reply), Refusal>
-    requires listed { (s : Code) → IsTrue (touches (relations_of part.now.facts)
-        (variant.Withdraw number paper) s) → Contains sessions.now s }
-    requires limits { IsTrue (within_limits (relations_of part.now.facts)) }
-    ensures ok { IfOk result (λ next. spec.IsMadeIn (variant.Withdraw number paper) today
-        (spec.state_of part.now) (spec.state_of next.0) next.1) }
-    ensures refusal { IfErr result
-        (spec.IsRefusedIn (variant.Withdraw number paper) today (spec.state_of part.now)) }
-{
-    let _ = today;
-    let facts = withdrawn(&part.facts, number, paper)?;
-    let plans = touched_plans(alloc, &facts, part, sessions, None)?;
-    Ok((Part { facts, plans }, Reply::Withdrawn))
-}
-
-fn with_reinstatement(
-    alloc: Global,
-    part: &Part,
-    sessions: &[SessionCode],
-    number: Number,
-    paper: PaperCode,
-    today: Day,
-) -> Result<(Part, Reply), Refusal>
-    requires listed { (s : Code) → IsTrue (touches (relations_of part.now.facts)
-        (variant.Reinstate number paper) s) → Contains sessions.now s }
-    ensures ok { IfOk result (λ next. spec.IsMadeIn (variant.Reinstate number paper) today
-        (spec.state_of part.now) (spec.state_of next.0) next.1) }
-    ensures refusal { IfErr result
-        (spec.IsRefusedIn (variant.Reinstate number paper) today (spec.state_of part.now)) }
-{
-    let _ = today;
-    let facts = reinstated(&part.facts, number, paper)?;
-    let plans = limited_plans(alloc, &facts, part, sessions, None)?;
-    Ok((Part { facts, plans }, Reply::Reinstated))
-}
-
-fn with_closed_hall(
-    alloc: Global,
-    part: &Part,
-    sessions: &[SessionCode],
-    session: SessionCode,
-    hall: HallCode,
-    today: Day,
-) -> Result<(Part, Reply), Refusal>
-    requires listed { (s : Code) → IsTrue (touches (relations_of part.now.facts)
-        (variant.CloseHall session hall) s) → Contains sessions.now s }
-    requires limits { IsTrue (within_limits (relations_of part.now.facts)) }
-    ensures ok { IfOk result (λ next. spec.IsMadeIn (variant.CloseHall session hall) today
-        (spec.state_of part.now) (spec.state_of next.0) next.1) }
-    ensures refusal { IfErr result
-        (spec.IsRefusedIn (variant.CloseHall session hall) today (spec.state_of part.now)) }
-{
-    let _ = today;
-    let facts = closed(&part.facts, session, hall)?;
-    let plans = touched_plans(alloc, &facts, part, sessions, None)?;
-    Ok((Part { facts, plans }, Reply::Closed))
-}
-
-fn with_lodging(part: &Part, lodging: &Lodging, today: Day) -> Result<(Part, Reply), Refusal>
-    requires limits { IsTrue (within_limits (relations_of part.now.facts)) }
-    ensures ok { IfOk result (λ next. spec.IsMadeIn (variant.Lodge lodging.now) today
-        (spec.state_of part.now) (spec.state_of next.0) next.1) }
-    ensures refusal { IfErr result
-        (spec.IsRefusedIn (variant.Lodge lodging.now) today (spec.state_of part.now)) }
-{
-    let facts = lodged(&part.facts, &part.plans, today, lodging)?;
-    if !are_appeals_within(&facts) {
-        return Err(Refusal::TooMany);
-    }
-    let state = stored_state(&facts, lodging.number, lodging.reference);
-    let plans = same_plans(part)?;
-    Ok((Part { facts, plans }, Reply::Lodged(state)))
-}
-
-fn with_retraction(
-    part: &Part,
-    number: Number,
-    reference: Reference,
-    today: Day,
-) -> Result<(Part, Reply), Refusal>
-    ensures ok { IfOk result (λ next. spec.IsMadeIn (variant.Retract number reference) today
-        (spec.state_of part.now) (spec.state_of next.0) next.1) }
-    ensures refusal { IfErr result
-        (spec.IsRefusedIn (variant.Retract number reference) today (spec.state_of part.now)) }
-{
-    let _ = today;
-    let facts = retracted(&part.facts, number, reference)?;
-    let plans = same_plans(part)?;
-    Ok((Part { facts, plans }, Reply::Retracted))
-}
-
-fn with_decision(
-    alloc: Global,
-    part: &Part,
-    sessions: &[SessionCode],
-    decision: &Decision,
-    today: Day,
-) -> Result<(Part, Reply), Refusal>
-    requires listed { (s : Code) → IsTrue (touches (relations_of part.now.facts)
-        (variant.Decide decision.now) s) → Contains sessions.now s }
-    requires limits { IsTrue (within_limits (relations_of part.now.facts)) }
-    requires single { AreSingle (relations_of part.now.facts) }
-    ensures ok { IfOk result (λ next. spec.IsMadeIn (variant.Decide decision.now) today
-        (spec.state_of part.now) (spec.state_of next.0) next.1) }
-    ensures refusal { IfErr result
-        (spec.IsRefusedIn (variant.Decide decision.now) today (spec.state_of part.now)) }
-{
-    part.facts.show_order();
-    let facts = decided(&part.facts, decision, today)?;
-    let plans = decided_plans(alloc, &facts, part, sessions, decision)?;
-    let reply = part_reply(part, &facts, &plans, decision);
-    Ok((Part { facts, plans }, reply))
-}
-
-/// The plans of the sessions that a grant touches, repaired, the appellant first; the part's, where the decision
-/// touches none.
-fn decided_plans(
+/// Makes the lists those of the changed facts, tests the limits, and repairs the plans of the sessions that the
+/// command touches. After a refusal the lists are as before.
+fn settled(
     alloc: Global,
     facts: &Facts,
-    part: &Part,
+    lists: &mut SessionLists,
     sessions: &[SessionCode],
-    decision: &Decision,
-) -> Result<Seats, Refusal>
-    requires limits { IsTrue (within_limits (relations_of facts.now)) }
-    ensures repaired { IfOk result (λ new. IsTrue (grants decision.now.outcome)
-        → (s : Code) → Contains sessions.now s
-        → IsRepaired (relations_of facts.now) (Some decision.now.number)
-        part.now.plans.entries new.entries s) }
-    ensures stays { IfOk result (λ new. grants decision.now.outcome ≡ false
-        → new.entries ≡ part.now.plans.entries) }
-    ensures memory { IfErr result (λ e. e ≡ NoMemory) }
+    plans: &Seats,
+    command: &Command,
+) -> Result<(ListUndo, Option<Seats>), Refusal>
+    requires { (r : Relations) × AreListsOf r lists.old × WasMade command.now r (relations_of facts.now) }
+    ensures lists { OnOk result (AreListsOf (relations_of facts.now) lists.new) }
+    ensures back { IfOk result (λ made. listing.ListsBack made.0 lists.new lists.old) }
+    ensures limits { OnOk result (IsTrue (within_limits (relations_of facts.now))) }
+    ensures plans { IfOk result (λ made. planning.AreNext command.now (relations_of facts.now) sessions.now
+        plans.now.entries made.1) }
+    ensures same { OnErr result (listing.SameLists lists.old lists.new) }
+    ensures refusal { IfErr result (planning.IsLimitRefusal command.now (relations_of facts.now)) }
 {
-    match decision.outcome {
-        Outcome::Grant => touched_plans(alloc, facts, part, sessions, Some(decision.number)),
-        Outcome::Refuse => same_plans(part),
+    let listed = relist(alloc, facts, lists, command)?;
+    match limited_plans(alloc, facts, lists, sessions, plans, command) {
+        Ok(next) => Ok((listed, next)),
+        Err(refusal) => {
+            listed.take_back(lists);
+            Err(refusal)
+        }
     }
 }
 
-/// The same plans.
-fn same_plans(part: &Part) -> Result<Seats, Refusal>
-    ensures ok { IfOk result (λ plans. plans.entries ≡ part.now.plans.entries) }
-    ensures memory { IfErr result (λ e. e ≡ NoMemory) }
-{
-    Ok(part.plans.clone()?)
-}
-
-/// As `touched_plans`, after the limits on the new facts. Refused as too many where one is passed.
+/// The plans of the sessions that the command touches, repaired, where the facts pass no limit.
 fn limited_plans(
     alloc: Global,
     facts: &Facts,
-    part: &Part,
+    lists: &SessionLists,
     sessions: &[SessionCode],
-    first: Option<Number>,
-) -> Result<Seats, Refusal>
+    plans: &Seats,
+    command: &Command,
+) -> Result<Option<Seats>, Refusal>
+    requires lists { AreListsOf (relations_of facts.now) lists.now }
+    requires made { (r : Relations) × WasMade command.now r (relations_of facts.now) }
     ensures limits { OnOk result (IsTrue (within_limits (relations_of facts.now))) }
-    ensures ok { IfOk result (λ new. (s : Code) → Contains sessions.now s
-        → IsRepaired (relations_of facts.now) first part.now.plans.entries new.entries s) }
-    ensures refusal { IfErr result (λ e. (e ≡ NoMemory) ⊎ ((e ≡ TooMany)
-        × (within_limits (relations_of facts.now) ≡ false))) }
+    ensures plans { IfOk result (planning.AreNext command.now (relations_of facts.now) sessions.now
+        plans.now.entries) }
+    ensures refusal { IfErr result (planning.IsLimitRefusal command.now (relations_of facts.now)) }
 {
-    let lists = session_lists(alloc, facts)?;
-    if !is_within_limits(facts, &lists) {
+    if !stays_within(facts, lists, command) {
         return Err(Refusal::TooMany);
     }
-    let plans = repaired_among(alloc, facts, &lists, sessions, &part.plans, first)?;
-    Ok(plans)
+    next_plans(alloc, facts, lists, sessions, plans, command)
 }
 
-/// The plans, for these facts, of these sessions, each repaired, the first candidate first where they are a
-/// member.
-fn touched_plans(
+/// The plans of the sessions that the command touches, repaired; nothing where it changes no plan.
+fn next_plans(
     alloc: Global,
     facts: &Facts,
-    part: &Part,
+    lists: &SessionLists,
     sessions: &[SessionCode],
-    first: Option<Number>,
-) -> Result<Seats, Refusal>
+    plans: &Seats,
+    command: &Command,
+) -> Result<Option<Seats>, Refusal>
+    requires lists { AreListsOf (relations_of facts.now) lists.now }
     requires limits { IsTrue (within_limits (relations_of facts.now)) }
-    ensures ok { IfOk result (λ new. (s : Code) → Contains sessions.now s
-        → IsRepaired (relations_of facts.now) first part.now.plans.entries new.entries s) }
+    ensures plans { IfOk result (planning.AreNext command.now (relations_of facts.now) sessions.now
+        plans.now.entries) }
     ensures memory { IfErr result (λ e. e ≡ NoMemory) }
 {
-    let lists = session_lists(alloc, facts)?;
-    repaired_among(alloc, facts, &lists, sessions, &part.plans, first)
+    match command {
+        Command::Lodge(_) | Command::Retract(_, _) => Ok(None),
+        Command::Decide(decision) => granted_plans(alloc, facts, lists, sessions, plans, decision),
+        Command::Import(_)
+        | Command::Withdraw(_, _)
+        | Command::Reinstate(_, _)
+        | Command::CloseHall(_, _) => Ok(Some(repaired_among(
+            alloc, facts, lists, sessions, plans, None,
+        )?)),
+    }
+}
+
+/// The plans after a grant, the appellant seated first; nothing where the decision is no grant.
+fn granted_plans(
+    alloc: Global,
+    facts: &Facts,
+    lists: &SessionLists,
+    sessions: &[SessionCode],
+    plans: &Seats,
+    decision: &Decision,
+) -> Result<Option<Seats>, Refusal>
+    requires lists { AreListsOf (relations_of facts.now) lists.now }
+    requires limits { IsTrue (within_limits (relations_of facts.now)) }
+    ensures plans { IfOk result (planning.AreDecided decision.now decision.now.outcome (relations_of facts.now)
+        sessions.now plans.now.entries) }
+    ensures memory { IfErr result (λ e. e ≡ NoMemory) }
+{
+    match decision.outcome {
+        Outcome::Grant => {
+            let first = Some(decision.number);
+            Ok(Some(repaired_among(alloc, facts, lists, sessions, plans, first)?))
+        }
+        Outcome::Refuse => Ok(None),
+    }
+}
+
+/// What the command answers: of an appeal that is decided anew, where it stands, the appellant's hall, and how many others moved.
+fn last_reply(
+    facts: &Facts,
+    plans: &Seats,
+    next: &Option<Seats>,
+    decided: Option<SessionCode>,
+    command: &Command,
+    first: Reply,
+) -> Reply
+    ensures { result ≡ planning.last_reply command.now decided first (relations_of facts.now) plans.now.entries
+        (planning.after_plans next.now plans.now.entries) }
+{
+    let after = match next {
+        Some(next) => next,
+        None => plans,
+    };
+    match (command, decided) {
+        (Command::Decide(decision), Some(session)) => {
+            decided_reply(facts, plans, after, decision, session)
+        }
+        _ => first,
+    }
 }

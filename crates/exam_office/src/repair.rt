@@ -11,6 +11,7 @@ ghost use Rattle.exam_rules.specs.Sessions.{members};
 ghost use Rattle.exam_rules.specs.Seatings.{open_halls, plan_of};
 ghost use Rattle.exam_rules.specs.Names.{ListsRise, named_plan};
 ghost use Rattle.exam_rules.specs.Lists.{AreListsOf};
+ghost use Rattle.exam_office.specs.NextPlans.{AreRepaired};
 ghost use Rattle.exam_office.specs.Repairs as repairs;
 ghost use Rattle.exam_office.specs.Repairs.{IsRepaired};
 
@@ -60,8 +61,8 @@ pub fn repaired_among(
         → length (members (relations_of facts.now) s) ≤ most_members }
     requires few_halls { (s : Code) → IsTrue (has_row code_cmp facts.now.sessions.entries s)
         → length (open_halls (relations_of facts.now) s) ≤ most_halls }
-    ensures ok { IfOk result (λ new. (s : Code) → Contains sessions.now s
-        → IsRepaired (relations_of facts.now) first seats.now.entries new.entries s) }
+    ensures ok { IfOk result (λ new. AreRepaired (relations_of facts.now) first sessions.now
+        seats.now.entries new.entries) }
     ensures memory { IfErr result (λ e. e ≡ NoMemory) }
 {
     let mut repaired = BTreeMap::new(alloc);
@@ -222,7 +223,7 @@ fn add_place(
 }
 
 /// Seats a candidate.
-fn add_seat(
+pub fn add_seat(
     seats: &mut Seats,
     session: &SessionCode,
     number: Number,

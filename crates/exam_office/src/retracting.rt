@@ -1,48 +1,40 @@
 //! Retracting an appeal.
-ghost use Rattle.std.specs.Prelude.{◌≡◌, ◌⊎◌, None, Some, IfOk, IfErr, OnOk};
+ghost use Rattle.std.specs.Prelude.{◌≡◌, ◌⊎◌, None, Some, IfOk, IfErr, OnOk, OnErr};
 ghost use Rattle.exam_types.specs.declared.refusal.Refusal.TheVariants.{NoMemory};
 ghost use Rattle.exam_rules.specs.Relations.{relations_of};
 ghost use Rattle.exam_office.specs.Lodgings as spec;
+ghost use Rattle.exam_office.specs.Undoing as undoing;
 
-use crate::copies::{copied_facts, with_stored_appeal};
+use crate::deciding::with_status;
+use crate::rows::exchange;
+use crate::undo::Undo;
 use exam_rules::{Appeal, Facts, Status};
 use exam_types::{Number, Reference, Refusal};
 
-/// The facts with the appeal retracted, if it is not so yet. Refused as an unknown appeal, or as one that is
-/// not open; and where there is not enough memory.
-pub fn retracted(facts: &Facts, number: Number, reference: Reference) -> Result<Facts, Refusal>
-    ensures ok { IfOk result (λ changed. relations_of changed
-        ≡ spec.with_retraction (relations_of facts.now) number reference) }
+/// Retracts the appeal, if it is not so yet, and gives how this is taken back. Refused as an unknown appeal, or
+/// as one that is not open; and where there is not enough memory for a copy of its reason. After a refusal the
+/// facts are as before.
+pub fn retract(facts: &mut Facts, number: Number, reference: Reference) -> Result<Undo, Refusal>
+    ensures ok { OnOk result (relations_of facts.new
+        ≡ spec.with_retraction (relations_of facts.old) number reference) }
+    ensures back { IfOk result (λ undo.
+        undoing.TakesBack undo (relations_of facts.new) (relations_of facts.old)) }
     ensures checked { OnOk result
-        (spec.retraction_refusal (relations_of facts.now) number reference ≡ None) }
+        (spec.retraction_refusal (relations_of facts.old) number reference ≡ None) }
     ensures refusal { IfErr result (λ e. (e ≡ NoMemory)
-        ⊎ (spec.retraction_refusal (relations_of facts.now) number reference ≡ Some e)) }
+        ⊎ (spec.retraction_refusal (relations_of facts.old) number reference ≡ Some e)) }
+    ensures same { OnErr result (relations_of facts.new ≡ relations_of facts.old) }
 {
     let Some(appeal) = facts.appeals.get(&(number, reference)) else {
         return Err(Refusal::UnknownAppeal);
     };
     match &appeal.status {
-        Status::Pending => with_retracted(facts, number, reference, appeal),
-        Status::Retracted => copied_facts(facts),
+        Status::Pending => {
+            let retracted = with_status(appeal, Status::Retracted)?;
+            let old = exchange(&mut facts.appeals, (number, reference), retracted);
+            Ok(Undo::Appeal((number, reference), old))
+        }
+        Status::Retracted => Ok(Undo::Nothing),
         _ => Err(Refusal::NotOpenAppeal),
     }
-}
-
-/// The facts with this appeal, retracted, under the reference.
-fn with_retracted(
-    facts: &Facts,
-    number: Number,
-    reference: Reference,
-    appeal: &Appeal,
-) -> Result<Facts, Refusal>
-    ensures ok { IfOk result (λ changed. relations_of changed
-        ≡ spec.with_retracted_appeal (relations_of facts.now) number reference appeal.now) }
-    ensures memory { IfErr result (λ e. e ≡ NoMemory) }
-{
-    let retracted = Appeal {
-        reason: appeal.reason.copy()?,
-        status: Status::Retracted,
-        ..*appeal
-    };
-    with_stored_appeal(facts, (number, reference), retracted)
 }

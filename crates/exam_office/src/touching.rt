@@ -1,10 +1,11 @@
 //! Which sessions a command touches.
-ghost use Rattle.std.specs.Prelude.{◌≡◌, ◌↔◌, ◌||◌, ℕ, Contains, IsTrue, IfOk, IfErr, OnOk};
+ghost use Rattle.std.specs.Prelude.{◌≡◌, ◌↔◌, ◌&&◌, ◌||◌, ℕ, Contains, IsTrue, IfOk, IfErr, OnOk};
 ghost use Rattle.std.specs.BTreeSet.{contains};
 ghost use Rattle.std.specs.List.{list_any};
 ghost use Rattle.std.specs.List.Sorted.{IsStrictlySortedBy};
 ghost use Rattle.exam_types.specs.declared.refusal.Refusal.TheVariants.{NoMemory};
-ghost use Rattle.exam_rules.specs.Relations.{Code, code_cmp, opening_cmp, has_row, relations_of, same_code};
+ghost use Rattle.exam_rules.specs.declared.rows.Opening.{Opening as OpeningRow};
+ghost use Rattle.exam_rules.specs.Relations.{Code, code_cmp, relations_of, same_code};
 ghost use Rattle.exam_rules.specs.Sessions.{has_live_entry, is_member, is_paper_of};
 ghost use Rattle.exam_office.specs.Appeals.{appeal_at};
 ghost use Rattle.exam_office.specs.declared.import_row.Row.{Row as ImportRow};
@@ -29,19 +30,24 @@ pub fn touched(alloc: Global, facts: &Facts, command: &Command) -> Result<Vec<Se
     ensures memory { IfErr result (λ e. e ≡ NoMemory) }
 {
     let mut codes = BTreeSet::new(alloc);
-    add_touched(facts, command, &mut codes)?;
+    add_touched(alloc, facts, command, &mut codes)?;
     let list = codes.iter().copied().collect(alloc)?;
     Ok(list)
 }
 
 /// Adds the sessions that a command touches.
-fn add_touched(facts: &Facts, command: &Command, codes: &mut Codes) -> Result<(), Refusal>
+fn add_touched(
+    alloc: Global,
+    facts: &Facts,
+    command: &Command,
+    codes: &mut Codes,
+) -> Result<(), Refusal>
     ensures ok { OnOk result ((s : Code) → contains code_cmp codes.new s
         ≡ (spec.touches (relations_of facts.now) command.now s || contains code_cmp codes.old s)) }
     ensures memory { IfErr result (λ e. e ≡ NoMemory) }
 {
     match command {
-        Command::Import(import) => add_rows(facts, import.rows(), codes),
+        Command::Import(import) => add_import(alloc, facts, import.rows(), codes),
         Command::Withdraw(_, paper) | Command::Reinstate(_, paper) => {
             add_paper(facts, paper, codes)
         }
@@ -51,10 +57,22 @@ fn add_touched(facts: &Facts, command: &Command, codes: &mut Codes) -> Result<()
     }
 }
 
-/// Adds the sessions that these rows touch.
-fn add_rows(facts: &Facts, rows: &[Row], codes: &mut Codes) -> Result<(), Refusal>
+/// Adds the sessions that these rows touch. The openings are walked once for all halls that they name.
+fn add_import(alloc: Global, facts: &Facts, rows: &[Row], codes: &mut Codes) -> Result<(), Refusal>
     ensures ok { OnOk result ((s : Code) → contains code_cmp codes.new s
         ≡ (list_any (λ (x : ImportRow). spec.row_touches (relations_of facts.now) x s) rows.now
+        || contains code_cmp codes.old s)) }
+    ensures memory { IfErr result (λ e. e ≡ NoMemory) }
+{
+    add_rows(facts, rows, codes)?;
+    let halls = named_halls(alloc, rows)?;
+    add_opened(facts, &halls, codes)
+}
+
+/// Adds the sessions that these rows touch otherwise than by naming a hall.
+fn add_rows(facts: &Facts, rows: &[Row], codes: &mut Codes) -> Result<(), Refusal>
+    ensures ok { OnOk result ((s : Code) → contains code_cmp codes.new s
+        ≡ (list_any (λ (x : ImportRow). spec.names_session (relations_of facts.now) x s) rows.now
         || contains code_cmp codes.old s)) }
     ensures memory { IfErr result (λ e. e ≡ NoMemory) }
 {
@@ -64,21 +82,60 @@ fn add_rows(facts: &Facts, rows: &[Row], codes: &mut Codes) -> Result<(), Refusa
     Ok(())
 }
 
-/// Adds the sessions that a row touches.
+/// Adds the sessions that a row touches otherwise than by naming a hall.
 fn add_row(facts: &Facts, row: &Row, codes: &mut Codes) -> Result<(), Refusal>
     ensures ok { OnOk result ((s : Code) → contains code_cmp codes.new s
-        ≡ (spec.row_touches (relations_of facts.now) row.now s || contains code_cmp codes.old s)) }
+        ≡ (spec.names_session (relations_of facts.now) row.now s || contains code_cmp codes.old s)) }
     ensures memory { IfErr result (λ e. e ≡ NoMemory) }
 {
     match row {
         Row::OfSession(session, _) => add_session(session, codes),
         Row::OfPaper(code, paper) => add_both(facts, code, &paper.session, codes),
-        Row::OfHall(hall, _) => add_hall(facts, hall, codes),
         Row::OfOpening(session, _, _) => add_known(facts, session, codes),
-        Row::OfCandidate(_, _) => Ok(()),
+        Row::OfHall(_, _) | Row::OfCandidate(_, _) => Ok(()),
         Row::OfEntry(_, paper) => add_paper(facts, paper, codes),
         Row::OfArrangement(number, _) => add_candidate(facts, *number, codes),
     }
+}
+
+/// The halls that the rows name.
+fn named_halls(alloc: Global, rows: &[Row]) -> Result<BTreeSet<HallCode>, Refusal>
+    ensures ok { IfOk result (λ halls. (h : Code) → contains code_cmp halls h
+        ≡ list_any (λ (x : ImportRow). spec.names_hall x h) rows.now) }
+    ensures memory { IfErr result (λ e. e ≡ NoMemory) }
+{
+    let mut halls = BTreeSet::new(alloc);
+    for row in rows {
+        add_named(row, &mut halls)?;
+    }
+    Ok(halls)
+}
+
+/// Adds the hall that the row names, if it does.
+fn add_named(row: &Row, halls: &mut BTreeSet<HallCode>) -> Result<(), Refusal>
+    ensures ok { OnOk result ((h : Code) → contains code_cmp halls.new h
+        ≡ (spec.names_hall row.now h || contains code_cmp halls.old h)) }
+    ensures memory { IfErr result (λ e. e ≡ NoMemory) }
+{
+    match row {
+        Row::OfHall(hall, _) => add_code(*hall, halls),
+        Row::OfSession(_, _)
+        | Row::OfPaper(_, _)
+        | Row::OfOpening(_, _, _)
+        | Row::OfCandidate(_, _)
+        | Row::OfEntry(_, _)
+        | Row::OfArrangement(_, _) => Ok(()),
+    }
+}
+
+/// Adds a hall.
+fn add_code(hall: HallCode, halls: &mut BTreeSet<HallCode>) -> Result<(), Refusal>
+    ensures ok { OnOk result ((h : Code) → contains code_cmp halls.new h
+        ≡ (same_code hall h || contains code_cmp halls.old h)) }
+    ensures memory { IfErr result (λ e. e ≡ NoMemory) }
+{
+    halls.insert(hall)?;
+    Ok(())
 }
 
 /// Adds a session.
@@ -132,14 +189,15 @@ fn add_both(
     add_paper(facts, paper, codes)
 }
 
-/// Adds the sessions that open a hall.
-fn add_hall(facts: &Facts, hall: &HallCode, codes: &mut Codes) -> Result<(), Refusal>
+/// Adds the sessions that open one of these halls.
+fn add_opened(facts: &Facts, halls: &BTreeSet<HallCode>, codes: &mut Codes) -> Result<(), Refusal>
     ensures ok { OnOk result ((s : Code) → contains code_cmp codes.new s
-        ≡ (has_row opening_cmp facts.now.openings.entries (s, hall.now) || contains code_cmp codes.old s)) }
+        ≡ (list_any (λ (o : (Code × Code) × OpeningRow). same_code o.0.0 s && contains code_cmp halls.now o.0.1)
+        facts.now.openings.entries || contains code_cmp codes.old s)) }
     ensures memory { IfErr result (λ e. e ≡ NoMemory) }
 {
     for (key, _) in &facts.openings {
-        if key.1 == *hall {
+        if halls.contains(&key.1) {
             add_session(&key.0, codes)?;
         }
     }

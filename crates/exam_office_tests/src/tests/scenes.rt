@@ -2,8 +2,8 @@
 use super::lines::{Line, hall, import_of, number, paper, session};
 use super::setups::{Fact, Grant, Sitting, facts_of, office_of, reason, reference, subject_of};
 use exam_office::{
-    AppealState, Command, Decision, Kind, Lodging, Office, Outcome, Reply, run, state_of, step,
-    touched,
+    AppealState, Command, Decision, Kind, Lodging, Office, Outcome, Part, Reply, part_for, run,
+    state_of, step, step_part, touched,
 };
 use exam_types::{Day, HallCode, Refusal};
 use std::alloc::Global;
@@ -77,16 +77,27 @@ fn today() -> Result<Day, Fail> {
     Ok(Day::parse(b"2027-05-01").ok_or("day")?)
 }
 
-/// What the import of these lines answers.
-fn answer_of(
-    alloc: Global,
+/// Carries out a command on the office, and first over the part of it that the command reads: this answers the
+/// same, and seats as the office does afterwards.
+fn answer_of<R: Abort + AllocGlobal>(
+    rt: &R,
     office: &mut Office,
-    kind: Kind,
-    lines: &[Line],
+    command: &Command,
+    today: Day,
 ) -> Result<Result<Reply, Refusal>, Fail> {
-    let today = today()?;
-    let command = Command::Import(import_of(alloc, kind, lines)?);
-    Ok(step(alloc, office, &command, today))
+    let mut part = part_for(rt.alloc(), office, command)?;
+    let answer = step_part(rt.alloc(), &mut part, command, today);
+    let reply = step(rt.alloc(), office, command, today);
+    assert_eq!(rt; answer, reply);
+    assert!(rt; are_seated(office, &part));
+    Ok(reply)
+}
+
+/// Whether everybody whom the part seats sits so in the office.
+fn are_seated(office: &Office, part: &Part) -> bool {
+    part.plans
+        .iter()
+        .all(|(key, hall)| office.seats().get(key) == Some(hall))
 }
 
 fn day(text: &str) -> Result<Day, Fail> {
@@ -145,7 +156,7 @@ fn expect_order<R: Abort + AllocGlobal>(
 ) -> Result<(), Fail> {
     let command = command_of(rt.alloc(), order)?;
     let today = day_of(order)?;
-    assert_eq!(rt; step(rt.alloc(), office, &command, today), wanted);
+    assert_eq!(rt; answer_of(rt, office, &command, today)?, wanted);
     Ok(())
 }
 
@@ -190,7 +201,8 @@ fn expect_answer<R: Abort + AllocGlobal>(
     lines: &[Line],
     wanted: Result<Reply, Refusal>,
 ) -> Result<(), Fail> {
-    assert_eq!(rt; answer_of(rt.alloc(), office, kind, lines)?, wanted);
+    let command = Command::Import(import_of(rt.alloc(), kind, lines)?);
+    assert_eq!(rt; answer_of(rt, office, &command, today()?)?, wanted);
     Ok(())
 }
 

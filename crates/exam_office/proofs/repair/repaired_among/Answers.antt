@@ -31,9 +31,10 @@ loop-session-init c =
 
 pub loop-session-preserved-in-Continue-1 : goal.loop-session-preserved-in-Continue-1
 loop-session-preserved-in-Continue-1 c =
+    let here : Contains c.args.sessions.now c.in-Some.session.now = search rules in
     one_chosen c.args.sessions.now (relations_of c.args.facts.now) c.args.first c.args.seats.now.entries c.loop-session.repaired.entries c.in-Some.session.now c.in-Some.field-0-1.now c.next.new.self
     (subst (IsRepairedAmong c.args.sessions.now (relations_of c.args.facts.now) c.args.first c.args.seats.now.entries c.loop-session.repaired.entries) c.in-Some.ensures.steps c.loop-session.invariant)
-    c.repair_session.new.repaired.entries c.in_ok-repair_session.ensures.ok c.in_ok-repair_session.ensures.others
+    c.repair_session.new.repaired.entries here c.in_ok-repair_session.ensures.ok c.in_ok-repair_session.ensures.others
 
 pub loop-session-preserved : goal.loop-session-preserved
 loop-session-preserved c =

@@ -1,0 +1,85 @@
+-- A command that changes appeals alone leaves the lists of members and open halls; one that sets an entry live or
+-- withdrawn changes one list.
+use Rattle.std.proofs.Common.{◌≡◌, ℕ, Bool, true, false, cond, List, Option, None, Some, ap, sym, subst, ◌∙◌}
+use Rattle.std.specs.Prelude.{is_none}
+use Rattle.std.specs.Option.{option_map_or}
+use Rattle.exam_rules.specs.declared.lists.SessionLists.{SessionLists}
+use Rattle.exam_rules.specs.declared.rows.Appeal.{Appeal}
+use Rattle.exam_rules.specs.declared.rows.Paper.{Paper}
+use Rattle.exam_rules.specs.Lists.{AreListsOf, SetsEntry}
+use Rattle.exam_rules.specs.Relations.{Code, Relations, code_cmp, row_at, same_code}
+use Rattle.exam_office.specs.declared.command.Command.{Command}
+use Rattle.exam_office.specs.declared.command.Command.TheVariants as command
+use Rattle.exam_rules.proofs.Naming.{same_code_itself}
+use Rattle.exam_office.specs.Appeals.{appeal_at, is_decided, is_retracted}
+use Rattle.exam_office.specs.Changes.{with_live}
+use Rattle.exam_office.specs.Decisions.{with_decided, with_outcome}
+use Rattle.exam_office.specs.FactsMade.{WasMade, facts_made}
+use Rattle.exam_office.specs.Lodgings as lodgings
+use Rattle.exam_office.specs.Relisting.{SetsLive, keeps_lists}
+use Rattle.exam_office.specs.State.{State}
+
+abbrev Rows : Type 0
+Rows = List ((ℕ × Code) × Appeal)
+
+module _ (r : Relations) (lists : SessionLists) (are : AreListsOf r lists) where
+  with_appeals : (appeals : Rows) → AreListsOf (record r { appeals = appeals }) lists
+  with_appeals appeals = record {
+    numbers = are.numbers;
+    members = are.members;
+    halls = are.halls;
+    rising = λ s. record { numbers = (are.rising s).numbers; codes = (are.rising s).codes };
+  }
+
+  either : (b : Bool) (appeals : Rows) → AreListsOf (cond b r (record r { appeals = appeals })) lists
+  either true appeals = are
+  either false appeals = with_appeals appeals
+
+module _ (today : ℕ) (office : State) (lists : SessionLists) (are : AreListsOf office.relations lists) where
+  made_lists : (done : Command) → keeps_lists done ≡ true → AreListsOf (facts_made done today office) lists
+  made_lists (command.Import import) keeps = absurd (let differ : false ≡ true = keeps in cc)
+  made_lists (command.Withdraw c p) keeps = absurd (let differ : false ≡ true = keeps in cc)
+  made_lists (command.Reinstate c p) keeps = absurd (let differ : false ≡ true = keeps in cc)
+  made_lists (command.CloseHall s h) keeps = absurd (let differ : false ≡ true = keeps in cc)
+  made_lists (command.Lodge l) keeps = inner (is_none (appeal_at office.relations l.number l.reference))
+    where
+      inner : (b : Bool) → AreListsOf (cond b (lodgings.with_appeal office.relations today l) office.relations) lists
+      inner true = with_appeals office.relations lists are (lodgings.with_appeal office.relations today l).appeals
+      inner false = are
+  made_lists (command.Retract c reference) keeps = inner (appeal_at office.relations c reference)
+    where
+      inner : (o : Option Appeal) → AreListsOf (lodgings.with_retracted office.relations c reference o) lists
+      inner None = are
+      inner (Some a) = either office.relations lists are (is_retracted a.status) (lodgings.with_retracted_appeal office.relations c reference a).appeals
+  made_lists (command.Decide d) keeps = inner (appeal_at office.relations d.number d.reference)
+    where
+      inner : (o : Option Appeal) → AreListsOf (with_decided office.relations d o) lists
+      inner None = are
+      inner (Some a) = either office.relations lists are (is_decided d.outcome d.answer a.status) (with_outcome office.relations d a).appeals
+
+pub kept_lists : (done : Command) (r t : Relations) (lists : SessionLists) → WasMade done r t → keeps_lists done ≡ true → AreListsOf r lists → AreListsOf t lists
+kept_lists done r t lists was keeps are =
+    subst (λ (u : Relations). AreListsOf u lists) (sym was.made)
+    (made_lists was.today was.office lists (subst (λ (u : Relations). AreListsOf u lists) (sym was.facts) are) done keeps)
+
+-- ---- an entry withdrawn or taken back
+
+pub withdrawal_sets : (r t : Relations) (c : ℕ) (p : Code) → WasMade (command.Withdraw c p) r t → SetsLive r t c p
+withdrawal_sets r t c p was = record { live = false; facts = was.made ∙ ap (λ (u : Relations). with_live u c p false) was.facts }
+
+pub reinstatement_sets : (r t : Relations) (c : ℕ) (p : Code) → WasMade (command.Reinstate c p) r t → SetsLive r t c p
+reinstatement_sets r t c p was = record { live = true; facts = was.made ∙ ap (λ (u : Relations). with_live u c p true) was.facts }
+
+-- what sets an entry live or withdrawn sets one entry of the paper's session
+pub live_sets : (r t : Relations) (c : ℕ) (p : Code) (paper : Paper) → SetsLive r t c p → row_at code_cmp t.papers p ≡ Some paper → SetsEntry r t paper.session c
+live_sets r t c p paper sets found = record {
+  paper = p;
+  entry = record { live = sets.live };
+  of_session =
+      ap (λ (o : Option Paper). option_map_or (λ (x : Paper). same_code x.session paper.session) o false) (sym (ap (λ (u : Relations). row_at code_cmp u.papers p) sets.facts) ∙ found)
+      ∙ same_code_itself paper.session;
+  entries = ap (λ (u : Relations). u.entries) sets.facts;
+  candidates = ap (λ (u : Relations). u.candidates) sets.facts;
+  papers = ap (λ (u : Relations). u.papers) sets.facts;
+  openings = ap (λ (u : Relations). u.openings) sets.facts;
+}

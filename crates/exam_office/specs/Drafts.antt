@@ -1,0 +1,82 @@
+-- A command that is carried out on an office and may still be taken back.
+use Rattle.std.specs.Prelude.{◌≡◌, ⊤, ℕ, true, false, IsTrue, Option, None, Some, Ok}
+use Rattle.exam_rules.specs.declared.lists.SessionLists.{SessionLists}
+use Rattle.exam_rules.specs.Lists.{AreListsOf, listed}
+use Rattle.exam_rules.specs.Relations.{Code, has_row, relations_of, row_at, seat_cmp}
+use Rattle.exam_office.specs.declared.command.Command.{Command}
+use Rattle.exam_office.specs.declared.command.Reply.{Reply}
+use Rattle.exam_office.specs.declared.part.Part.{Part}
+use Rattle.exam_office.specs.declared.part_steps.Made.{Made}
+use Rattle.exam_office.specs.Exchanges.{taken_back, without_old}
+use Rattle.exam_office.specs.Good.{IsGood}
+use Rattle.exam_office.specs.NextPlans.{Plans}
+use Rattle.exam_office.specs.Orders.{IsInOrder}
+use Rattle.exam_office.specs.Relisting.{HasList, halls_before, members_before}
+use Rattle.exam_office.specs.State.{Seats, State}
+use Rattle.exam_office.specs.Steps.{Step}
+use Rattle.exam_office.specs.Undoing.{IsThere, restored}
+
+-- the office before the command and after it, and what the command answers
+pub record DraftIn : Type 0 where
+  pub before : State
+  pub after : State
+  pub reply : Reply
+
+-- ---- of the code
+
+-- the seats before, where those of the new plans are put and those of the old ones not yet taken away
+abbrev pub seats_before : Option Plans → Seats → Seats → Seats
+seats_before None new seats = seats
+seats_before (Some old) new seats = taken_back seat_cmp seats old.entries new
+
+abbrev pub seats_after : Option Plans → Seats → Seats → Seats
+seats_after None new seats = seats
+seats_after (Some old) new seats = without_old seat_cmp seats old.entries new
+
+-- each seat of the old plans is there
+abbrev pub HasOld : Option Plans → Seats → Type 0
+HasOld None seats = ⊤
+HasOld (Some old) seats = (k : Code × ℕ) → IsTrue (has_row seat_cmp old.entries k) → IsTrue (has_row seat_cmp seats k)
+
+-- The seats are those of the new plans at their keys, and at the other keys of the old plans those of the old
+-- ones.
+pub record MixesPlans (old new seats : Seats) : Type 0 where
+  pub put : (k : Code × ℕ) → has_row seat_cmp new k ≡ true → row_at seat_cmp seats k ≡ row_at seat_cmp new k
+  pub kept : (k : Code × ℕ) → has_row seat_cmp new k ≡ false → has_row seat_cmp old k ≡ true
+      → row_at seat_cmp seats k ≡ row_at seat_cmp old k
+
+abbrev pub AreMixed : Option Plans → Seats → Seats → Type 0
+AreMixed None new seats = ⊤
+AreMixed (Some old) new seats = MixesPlans old.entries new seats
+
+abbrev pub state_before : Part → Seats → Made → State
+state_before part seats made = record {
+  relations = restored made.facts (relations_of part.facts);
+  seats = seats_before made.plans part.plans.entries seats;
+}
+
+abbrev pub state_after : Part → Seats → Made → State
+state_after part seats made = record {
+  relations = relations_of part.facts;
+  seats = seats_after made.plans part.plans.entries seats;
+}
+
+-- what a draft keeps, so that it may be finished and taken back
+pub record IsDraft (part : Part) (lists : SessionLists) (seats : Seats) (made : Made) : Type 0 where
+  pub good : IsGood (state_after part seats made)
+  pub listed_now : AreListsOf (relations_of part.facts) lists
+  pub was_good : IsGood (state_before part seats made)
+  pub were_lists : (old : SessionLists) → ((s : Code) → listed old.members.entries s ≡ members_before made.lists lists s)
+      → ((s : Code) → listed old.halls.entries s ≡ halls_before made.lists lists s)
+      → AreListsOf (restored made.facts (relations_of part.facts)) old
+  pub there : IsThere made.facts (relations_of part.facts)
+  pub list : HasList made.lists lists
+  pub mixed : AreMixed made.plans part.plans.entries seats
+  pub order : IsInOrder (state_after part seats made)
+  pub was_order : IsInOrder (state_before part seats made)
+
+-- the draft of the command over the office
+pub record IsDraftOf (done : Command) (today : ℕ) (office : State) (part : Part) (lists : SessionLists) (seats : Seats) (made : Made) : Type 0 where
+  pub draft : IsDraft part lists seats made
+  pub before : state_before part seats made ≡ office
+  pub step : Step done today office (Ok made.reply) (state_after part seats made)

@@ -1,0 +1,22 @@
+-- How the seats of some sessions take the place of others, key by key.
+use Rattle.std.specs.Prelude.{List, fold, Option, None, Some, if◌then◌else◌}
+use Rattle.std.specs.declared.cmp.Ordering.{Ordering}
+use Rattle.exam_rules.specs.Relations.{has_row, put_row, remove_row, row_at}
+
+module _ {K X : Type 0} (cmp : K → K → Ordering) where
+  -- with each of the new rows in turn
+  abbrev pub all_put : List (K × X) → List (K × X) → List (K × X)
+  all_put rows new = fold (λ held e. put_row cmp held e.0 e.1) rows new
+
+  -- with this row at the key, or none
+  abbrev pub set_row : List (K × X) → K → Option X → List (K × X)
+  set_row rows k None = remove_row cmp rows k
+  set_row rows k (Some x) = put_row cmp rows k x
+
+  -- at the key of each new row what the old ones have there, or nothing
+  abbrev pub taken_back : List (K × X) → List (K × X) → List (K × X) → List (K × X)
+  taken_back rows old new = fold (λ held e. set_row held e.0 (row_at cmp old e.0)) rows new
+
+  -- without the old rows at whose keys there is no new one
+  abbrev pub without_old : List (K × X) → List (K × X) → List (K × X) → List (K × X)
+  without_old rows old new = fold (λ held e. if has_row cmp new e.0 then held else remove_row cmp held e.0) rows old

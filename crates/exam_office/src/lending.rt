@@ -1,0 +1,133 @@
+//! The plans that a command reads of an office.
+ghost use Rattle.std.specs.Prelude.{◌≡◌, ◌↔◌, ◌&&◌, ℕ, nat_eq, Contains, if◌then◌else◌, IsTrue, IfOk, IfErr, OnOk};
+ghost use Rattle.std.specs.Option.{option_or};
+ghost use Rattle.exam_types.specs.declared.refusal.Refusal.TheVariants.{NoMemory};
+ghost use Rattle.exam_rules.specs.Relations.{Code, relations_of, same_code};
+ghost use Rattle.exam_rules.specs.Seatings.{plan_of};
+ghost use Rattle.exam_office.specs.Appeals.{appeal_at};
+ghost use Rattle.exam_office.specs.Touched.{is_appeal_for};
+ghost use Rattle.exam_office.specs.Parts as spec;
+
+use crate::command::{Command, Decision};
+use crate::office::{Office, Seats};
+use crate::part::Part;
+use crate::repair::add_seat;
+use crate::touching::touched;
+use exam_rules::{Facts, SessionLists};
+use exam_types::{Number, Refusal, SessionCode};
+use std::alloc::Global;
+use std::collections::BTreeMap;
+
+/// A copy of the facts of the office, and its plans of the sessions that the command reads.
+pub fn part_for(alloc: Global, office: &Office, command: &Command) -> Result<Part, Refusal>
+    ensures agrees { IfOk result (λ part. spec.Agrees command.now office.now (spec.state_of part)) }
+    ensures good { IfOk result (λ part. spec.IsPartFor command.now (spec.state_of part)) }
+    ensures memory { IfErr result (λ e. e ≡ NoMemory) }
+{
+    office.show_good();
+    office.show_order();
+    let plans = read_plans(alloc, office, command)?;
+    let facts = copied_facts(office.facts())?;
+    Ok(Part { facts, plans })
+}
+
+fn copied_facts(facts: &Facts) -> Result<Facts, Refusal>
+    ensures ok { IfOk result (λ copy. relations_of copy ≡ relations_of facts.now) }
+    ensures memory { IfErr result (λ e. e ≡ NoMemory) }
+{
+    Ok(facts.clone()?)
+}
+
+/// The plans of the sessions that the command reads, nobody seated in another.
+pub fn read_plans(alloc: Global, office: &Office, command: &Command) -> Result<Seats, Refusal>
+    ensures ok { IfOk result (λ plans. spec.Agrees command.now office.now
+        (record { relations = office.now.relations; seats = plans.entries })) }
+    ensures memory { IfErr result (λ e. e ≡ NoMemory) }
+{
+    office.show_good();
+    let sessions = read_sessions(alloc, office.facts(), command)?;
+    let mut plans = BTreeMap::new(alloc);
+    for session in &sessions {
+        copy_plan(office.lists(), office.seats(), session, &mut plans)?;
+    }
+    Ok(plans)
+}
+
+/// Seats the members of the session as they sit.
+fn copy_plan(
+    lists: &SessionLists,
+    seats: &Seats,
+    session: &SessionCode,
+    plans: &mut Seats,
+) -> Result<(), Refusal>
+    ensures ok { OnOk result ((s : Code) (c : ℕ) → plan_of plans.new.entries s c
+        ≡ spec.copied lists.now seats.now.entries session.now plans.old.entries s c) }
+    ensures memory { IfErr result (λ e. e ≡ NoMemory) }
+{
+    for entrant in lists.members_of(session) {
+        copy_seat(seats, session, entrant.number, plans)?;
+    }
+    Ok(())
+}
+
+/// Seats the candidate as they sit, if they do.
+fn copy_seat(
+    seats: &Seats,
+    session: &SessionCode,
+    number: Number,
+    plans: &mut Seats,
+) -> Result<(), Refusal>
+    ensures ok { OnOk result ((s : Code) (c : ℕ) → plan_of plans.new.entries s c
+        ≡ (if same_code session.now s && nat_eq number c
+        then option_or (plan_of seats.now.entries s c) (plan_of plans.old.entries s c)
+        else plan_of plans.old.entries s c)) }
+    ensures memory { IfErr result (λ e. e ≡ NoMemory) }
+{
+    match seats.get(&(*session, number)) {
+        Some(hall) => add_seat(plans, session, number, *hall),
+        None => Ok(()),
+    }
+}
+
+/// The sessions whose plans the command reads.
+fn read_sessions(
+    alloc: Global,
+    facts: &Facts,
+    command: &Command,
+) -> Result<Vec<SessionCode>, Refusal>
+    ensures exact { IfOk result (λ codes. (s : Code)
+        → Contains codes.items s ↔ IsTrue (spec.reads (relations_of facts.now) command.now s)) }
+    ensures memory { IfErr result (λ e. e ≡ NoMemory) }
+{
+    match command {
+        Command::Lodge(lodging) => one_session(alloc, lodging.session),
+        Command::Decide(decision) => appeal_session(alloc, facts, decision),
+        _ => touched(alloc, facts, command),
+    }
+}
+
+/// The session of the appeal that is decided, if there is such an appeal.
+fn appeal_session(
+    alloc: Global,
+    facts: &Facts,
+    decision: &Decision,
+) -> Result<Vec<SessionCode>, Refusal>
+    ensures exact { IfOk result (λ codes. (s : Code) → Contains codes.items s
+        ↔ IsTrue (is_appeal_for (appeal_at (relations_of facts.now) decision.now.number decision.now.reference) s)) }
+    ensures memory { IfErr result (λ e. e ≡ NoMemory) }
+{
+    match facts.appeals.get(&(decision.number, decision.reference)) {
+        Some(appeal) => one_session(alloc, appeal.session),
+        None => Ok(Vec::new(alloc)),
+    }
+}
+
+/// A list of one session.
+fn one_session(alloc: Global, session: SessionCode) -> Result<Vec<SessionCode>, Refusal>
+    ensures exact { IfOk result (λ codes. (s : Code) → Contains codes.items s ↔ IsTrue (same_code session s)) }
+    ensures memory { IfErr result (λ e. e ≡ NoMemory) }
+{
+    let mut codes = Vec::new(alloc);
+    codes.push(session)?;
+    Ok(codes)
+}

@@ -1,0 +1,34 @@
+//! One row of a table.
+ghost use Rattle.std.specs.Prelude.{◌≡◌, IsTrue, Some, IfErr, OnOk, OnErr};
+ghost use Rattle.std.specs.BTreeMap.{insert_entry};
+ghost use Rattle.exam_types.specs.declared.refusal.Refusal.TheVariants.{NoMemory};
+ghost use Rattle.exam_rules.specs.Orders.{KeysRise};
+ghost use Rattle.exam_rules.specs.Relations.{has_row, put_row, row_at};
+
+use exam_types::Refusal;
+use std::collections::BTreeMap;
+
+/// Sets a key to a row. After a refusal the rows are as before.
+pub fn put<K: Ord + Copy, V: Drop>(rows: &mut BTreeMap<K, V>, key: K, row: V) -> Result<(), Refusal>
+    ensures ok { OnOk result (rows.new.entries ≡ insert_entry K.cmp rows.old.entries key row) }
+    ensures memory { IfErr result (λ e. e ≡ NoMemory) }
+    ensures err { OnErr result (rows.new.entries ≡ rows.old.entries) }
+{
+    rows.insert(key, row)?;
+    Ok(())
+}
+
+/// Sets a key that has a row to another one, and gives the row that it had. Takes no memory, as only a new key
+/// does.
+pub fn exchange<K: Ord + Copy, V: Drop>(rows: &mut BTreeMap<K, V>, key: K, row: V) -> V
+    requires { IsTrue (has_row K.cmp rows.old.entries key) }
+    ensures old { row_at K.cmp rows.old.entries key ≡ Some result }
+    ensures new { rows.new.entries ≡ put_row K.cmp rows.old.entries key row }
+    ensures rising { KeysRise K.cmp rows.old.entries }
+{
+    match rows.insert(key, row) {
+        Ok(old) => old.unwrap(),
+        // It does not come to this.
+        Err(refused) => refused.value.1,
+    }
+}

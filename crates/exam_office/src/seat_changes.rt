@@ -1,0 +1,74 @@
+//! The seats of some sessions in the place of others.
+ghost use Rattle.std.specs.Prelude.{◌≡◌, ℕ, false, IsSome, IsTrue, OnOk, IfErr};
+ghost use Rattle.exam_types.specs.declared.refusal.Refusal.TheVariants.{NoMemory};
+ghost use Rattle.exam_rules.specs.Orders.{KeysRise};
+ghost use Rattle.exam_rules.specs.Relations.{Code, has_row, row_at, seat_cmp};
+ghost use Rattle.exam_office.specs.Exchanges as spec;
+
+use crate::office::Seats;
+use exam_types::{HallCode, Number, Refusal, SessionCode};
+
+/// Seats everybody as in the new plans. After a refusal some of them may be seated so, and everybody else is as
+/// before.
+pub fn put_seats(seats: &mut Seats, new: &Seats) -> Result<(), Refusal>
+    ensures ok { OnOk result (seats.new.entries
+        ≡ spec.all_put seat_cmp seats.old.entries new.now.entries) }
+    ensures others { (k : Code × ℕ) → has_row seat_cmp new.now.entries k ≡ false
+        → row_at seat_cmp seats.new.entries k ≡ row_at seat_cmp seats.old.entries k }
+    ensures stays { (k : Code × ℕ) → IsTrue (has_row seat_cmp seats.old.entries k)
+        → IsTrue (has_row seat_cmp seats.new.entries k) }
+    ensures rises { KeysRise seat_cmp seats.new.entries }
+    ensures memory { IfErr result (λ e. e ≡ NoMemory) }
+{
+    // The length of a map tells that its keys rise.
+    let _ = seats.len();
+    for (key, hall) in new {
+        seats.insert(*key, *hall)?;
+    }
+    Ok(())
+}
+
+/// Seats everybody whom the new plans seat as in the old ones again.
+pub fn take_back_seats(seats: &mut Seats, old: &Seats, new: &Seats)
+    requires { (k : Code × ℕ) → IsTrue (has_row seat_cmp old.now.entries k)
+        → IsTrue (has_row seat_cmp seats.old.entries k) }
+    ensures { seats.new.entries
+        ≡ spec.taken_back seat_cmp seats.old.entries old.now.entries new.now.entries }
+{
+    // The length of a map tells that its keys rise.
+    let _ = seats.len();
+    for (key, _) in new {
+        set_seat(seats, key, old.get(key).copied());
+    }
+}
+
+/// Seats the candidate in the hall, or takes their seat away.
+fn set_seat(seats: &mut Seats, key: &(SessionCode, Number), hall: Option<HallCode>)
+    requires { IsSome hall → IsTrue (has_row seat_cmp seats.old.entries key.now) }
+    ensures set { seats.new.entries ≡ spec.set_row seat_cmp seats.old.entries key.now hall }
+    ensures rises { KeysRise seat_cmp seats.new.entries }
+{
+    match hall {
+        // The candidate sits somewhere, so the new hall takes the place of that one.
+        Some(hall) => {
+            let Ok(_) = seats.insert(*key, hall) else {
+                unreachable!()
+            };
+        }
+        None => {
+            let _ = seats.remove(key);
+        }
+    }
+}
+
+/// Takes away the seats of the old plans for which there are none in the new ones.
+pub fn drop_old_seats(seats: &mut Seats, old: &Seats, new: &Seats)
+    ensures { seats.new.entries
+        ≡ spec.without_old seat_cmp seats.old.entries old.now.entries new.now.entries }
+{
+    for (key, _) in old {
+        if !new.contains_key(key) {
+            let _ = seats.remove(key);
+        }
+    }
+}
