@@ -50,6 +50,8 @@ pub mod Singles
 pub mod Steps
 pub mod Between
 pub mod Orders
+pub mod Drafts
+pub mod TablesBefore
 pub mod Touched
 pub mod Parts
 pub mod Headline

@@ -3,11 +3,13 @@
 
 mod appeal_source;
 mod appeals;
+mod before;
 mod changes;
 mod closing;
 mod command;
 mod copies;
 mod deciding;
+mod draft;
 mod entries;
 mod grants;
 mod import;
@@ -34,7 +36,9 @@ mod words;
 
 pub use appeal_source::{AppealSource, ListedAppeals};
 pub use appeals::state_of;
+pub use before::{Before, PlansBefore, TablesBefore};
 pub use command::{AppealState, Command, Decision, Lodging, Outcome, Reply};
+pub use draft::Draft;
 pub use import::Import;
 pub use import_row::{Kind, Row};
 pub use laws::{

@@ -1,0 +1,59 @@
+//! What the tables of an office were before a command, told by what they are after it.
+ghost use Rattle.std.specs.Prelude.{◌≡◌};
+ghost use Rattle.exam_office.specs.TablesBefore as spec;
+
+use crate::office::Seats;
+use exam_rules::{Appeal, Arrangement, Candidate, Entry, Hall, Opening, Paper, Session};
+use exam_types::{HallCode, Number, PaperCode, Reference, SessionCode};
+use std::collections::BTreeMap;
+
+/// What a table was before a command.
+#[derive(Drop)]
+pub enum Before<'a, K: Ord, V> {
+    /// The same as after it.
+    Same,
+    /// The same but for the row at this key, which the table has after the command.
+    Row(&'a K),
+    /// This one.
+    Table(&'a BTreeMap<K, V>),
+}
+
+/// What each table of facts was before a command.
+#[derive(Drop)]
+pub struct TablesBefore<'a> {
+    pub sessions: Before<'a, SessionCode, Session>,
+    pub papers: Before<'a, PaperCode, Paper>,
+    pub halls: Before<'a, HallCode, Hall>,
+    pub openings: Before<'a, (SessionCode, HallCode), Opening>,
+    pub candidates: Before<'a, Number, Candidate>,
+    pub entries: Before<'a, (Number, PaperCode), Entry>,
+    pub arrangements: Before<'a, Number, Arrangement>,
+    pub appeals: Before<'a, (Number, Reference), Appeal>,
+}
+
+impl TablesBefore<'_> {
+    /// Each the same as after it.
+    pub fn same() -> Self
+        ensures { result ≡ spec.all_same }
+    {
+        TablesBefore {
+            sessions: Before::Same,
+            papers: Before::Same,
+            halls: Before::Same,
+            openings: Before::Same,
+            candidates: Before::Same,
+            entries: Before::Same,
+            arrangements: Before::Same,
+            appeals: Before::Same,
+        }
+    }
+}
+
+/// What the plans were before a command.
+#[derive(Drop)]
+pub enum PlansBefore<'a> {
+    /// The same as after it.
+    Same,
+    /// Of the sessions that the command reads the first, and after it the second.
+    Plans(&'a Seats, &'a Seats),
+}
