@@ -11,6 +11,7 @@ pub mod Narrowing
 pub mod OneTable
 pub mod Reading
 pub mod Refusing
+pub mod RowTurning
 pub mod SavedRows
 pub mod SavedTrees
 pub mod Steps

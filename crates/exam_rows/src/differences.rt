@@ -1,5 +1,5 @@
 //! What makes one table of another: the rows to put and the keys to delete.
-ghost use Rattle.std.specs.Prelude.{◌≡◌, ◌<◌, ◌+◌, length, map, IfOk};
+ghost use Rattle.std.specs.Prelude.{◌≡◌, ◌<◌, ◌+◌, length, map, IfOk, OnOk};
 ghost use Rattle.std.specs.Map.Iter.{deref_pair};
 ghost use Rattle.std.specs.Ordering.{MatchOrdering};
 ghost use Rattle.exam_rules.specs.Orders.{KeysRise};
@@ -30,6 +30,7 @@ pub fn difference_of<'a, K: Ord, V: PartialEq>(
         (map deref_pair d.put.items) (map (λ key. key.now) d.delete.items)) }
     ensures turns { AreExact K.cmp V.eq → IfOk result (λ d. Turns K.cmp old.now.entries new.now.entries
         (map deref_pair d.put.items) (map (λ key. key.now) d.delete.items)) }
+    ensures rise { OnOk result (KeysRise K.cmp old.now.entries × KeysRise K.cmp new.now.entries) }
 {
     let old = entries_of(alloc, old)?;
     let new = entries_of(alloc, new)?;

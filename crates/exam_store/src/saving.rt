@@ -1,74 +1,129 @@
-//! Saving an office.
-ghost use Rattle.std.specs.Prelude.{◌≡◌, false, IsTrue, IfOk, IfErr};
+//! Saving what a command changes.
+ghost use Rattle.std.specs.Prelude.{◌≡◌, List, false, IsTrue, IfOk, IfErr};
 ghost use Rattle.sqlite.specs.Held.{state};
 ghost use Rattle.sqlite.specs.State.{HasCleanDisk};
 ghost use Rattle.exam_types.specs.declared.refusal.Refusal.TheVariants.{NoMemory};
 ghost use Rattle.exam_rules.specs.Orders.{KeysRise};
-ghost use Rattle.exam_rules.specs.Relations.{seat_cmp};
-ghost use Rattle.exam_office.specs.Good.{IsGood};
+ghost use Rattle.exam_rules.specs.Relations.{has_row, remove_row, seat_cmp};
+ghost use Rattle.exam_office.specs.State.{Seats as SeatRows};
+ghost use Rattle.exam_office.specs.TablesBefore.{WasTable, WerePlans};
+ghost use Rattle.exam_rows.specs.Differences.{AreExact};
 ghost use Rattle.exam_rows.specs.Faults.{is_store_refusal};
 ghost use Rattle.exam_rows.specs.Inside.{IsOurs};
 ghost use Rattle.exam_rows.specs.Transactions.{Commits};
 ghost use Rattle.exam_store.specs.Kept.{Rekeeps};
-ghost use Rattle.exam_store.specs.Saves.{FailsToSave, TurnsTables};
+ghost use Rattle.exam_store.specs.Saves.{FailsToSave, TurnsTable, TurnsTables};
 
-use exam_office::Office;
-use exam_rows::{Changes, difference_of, save_changes};
-use exam_types::Refusal;
+use exam_office::{Before, Draft, PlansBefore};
+use exam_rows::{Changes, Difference, difference_of, save_changes};
+use exam_types::{HallCode, Number, Refusal, SessionCode};
 use sqlite::{Alter, Connection};
-use std::alloc::Global;
+use std::alloc::{AllocError, Global};
+use std::collections::BTreeMap;
 
-/// What makes the tables of the old office those of the new one.
-pub fn changes_of<'a>(
-    alloc: Global,
-    old: &'a Office,
-    new: &'a Office,
-) -> Result<Changes<'a>, Refusal>
-    ensures turns { IfOk result (TurnsTables old.now new.now) }
-    ensures memory { IfErr result (λ e. e ≡ NoMemory) }
-{
-    let before = old.facts();
-    let after = new.facts();
-    Ok(Changes {
-        sessions: difference_of(alloc, &before.sessions, &after.sessions)?,
-        papers: difference_of(alloc, &before.papers, &after.papers)?,
-        halls: difference_of(alloc, &before.halls, &after.halls)?,
-        openings: difference_of(alloc, &before.openings, &after.openings)?,
-        candidates: difference_of(alloc, &before.candidates, &after.candidates)?,
-        entries: difference_of(alloc, &before.entries, &after.entries)?,
-        arrangements: difference_of(alloc, &before.arrangements, &after.arrangements)?,
-        appeals: difference_of(alloc, &before.appeals, &after.appeals)?,
-        seats: difference_of(alloc, old.seats(), new.seats())?,
-    })
-}
-
-/// Makes the tables of the old office those of the new one, in one transaction or not at all.
+/// Makes the tables of the office before a command those of the office after it, in one transaction or not at
+/// all.
 pub fn save<S: Alter>(
     alloc: Global,
     conn: &mut Connection<S>,
-    old: &Office,
-    new: &Office,
+    draft: &Draft,
 ) -> Result<(), Refusal>
     ensures made { Commits (state S.Store conn.old) (state S.Store conn.new) result
-        (Rekeeps old.now new.now) }
+        (Rekeeps draft.now.before draft.now.after) }
     ensures failed { conn.old.in_transaction ≡ false → HasCleanDisk (state S.Store conn.new)
         → IsOurs (state S.Store conn.old).now
-        → IfErr result (FailsToSave old.now new.now (state S.Store conn.old) (state S.Store conn.new)) }
+        → IfErr result (FailsToSave draft.now.before draft.now.after
+        (state S.Store conn.old) (state S.Store conn.new)) }
     ensures ended { conn.old.in_transaction ≡ false → conn.new.in_transaction ≡ false }
     ensures told { IfErr result (λ e. IsTrue (is_store_refusal e)) }
 {
     // What a good office refers to is there, before the changes and after them.
-    show_good(old);
-    show_good(new);
-    let changes = changes_of(alloc, old, new)?;
+    draft.show_good();
+    let changes = changes_of(alloc, draft)?;
     save_changes(alloc, conn, &changes)
 }
 
-/// An office is good, and no seat stands twice. Does nothing.
-fn show_good(office: &Office)
-    ensures good { IsGood office.now }
-    ensures rises { KeysRise seat_cmp office.now.seats }
+/// What makes the tables of the office before a command those of the office after it. Goes over the tables that
+/// the command may have changed in more than one row, and over no other.
+fn changes_of(alloc: Global, draft: &Draft) -> Result<Changes<'_>, Refusal>
+    ensures turns { IfOk result (TurnsTables draft.now.before draft.now.after) }
+    ensures memory { IfErr result (λ e. e ≡ NoMemory) }
 {
-    office.show_good();
-    office.show_order();
+    // The keys of an office rise.
+    draft.show_good();
+    let before = draft.tables_before();
+    let after = draft.facts();
+    Ok(Changes {
+        sessions: difference_since(alloc, before.sessions, &after.sessions)?,
+        papers: difference_since(alloc, before.papers, &after.papers)?,
+        halls: difference_since(alloc, before.halls, &after.halls)?,
+        openings: difference_since(alloc, before.openings, &after.openings)?,
+        candidates: difference_since(alloc, before.candidates, &after.candidates)?,
+        entries: difference_since(alloc, before.entries, &after.entries)?,
+        arrangements: difference_since(alloc, before.arrangements, &after.arrangements)?,
+        appeals: difference_since(alloc, before.appeals, &after.appeals)?,
+        seats: seats_since(alloc, draft.plans_before())?,
+    })
+}
+
+/// What makes the table after a command of the one before it.
+fn difference_since<'a, K: Ord, V: PartialEq>(
+    alloc: Global,
+    before: Before<'a, K, V>,
+    after: &'a BTreeMap<K, V>,
+) -> Result<Difference<'a, K, V>, AllocError>
+    ensures { (old : List (K × V)) → AreExact K.cmp V.eq → KeysRise K.cmp old
+        → WasTable K.cmp before.entry old after.now.entries
+        → IfOk result (TurnsTable K.cmp old after.now.entries) }
+{
+    match before {
+        Before::Same => Ok(no_difference(alloc)),
+        Before::Row(key) => row_put(alloc, key, after),
+        Before::Table(old) => difference_of(alloc, old, after),
+    }
+}
+
+/// What makes the seats after a command of those before it, by the plans that the command may have changed.
+fn seats_since<'a>(
+    alloc: Global,
+    before: PlansBefore<'a>,
+) -> Result<Difference<'a, (SessionCode, Number), HallCode>, AllocError>
+    ensures { (old new : SeatRows) → KeysRise seat_cmp old → KeysRise seat_cmp new
+        → WerePlans before.entry old new → IfOk result (TurnsTable seat_cmp old new) }
+{
+    match before {
+        PlansBefore::Same => Ok(no_difference(alloc)),
+        PlansBefore::Plans(old, new) => difference_of(alloc, old, new),
+    }
+}
+
+/// What leaves a table as it is.
+fn no_difference<'a, K: Ord, V>(alloc: Global) -> Difference<'a, K, V>
+    ensures { (rows : List (K × V)) → TurnsTable K.cmp rows rows result }
+{
+    Difference {
+        put: Vec::new(alloc),
+        delete: Vec::new(alloc),
+    }
+}
+
+/// What puts the row at this key, which the table has.
+fn row_put<'a, K: Ord, V: PartialEq>(
+    alloc: Global,
+    key: &'a K,
+    after: &'a BTreeMap<K, V>,
+) -> Result<Difference<'a, K, V>, AllocError>
+    ensures { (old : List (K × V)) → AreExact K.cmp V.eq → KeysRise K.cmp old
+        → IsTrue (has_row K.cmp after.now.entries key.now)
+        → remove_row K.cmp old key.now ≡ remove_row K.cmp after.now.entries key.now
+        → IfOk result (TurnsTable K.cmp old after.now.entries) }
+{
+    let mut put = Vec::new(alloc);
+    if let Some(row) = after.get(key) {
+        put.push((key, row))?;
+    }
+    Ok(Difference {
+        put,
+        delete: Vec::new(alloc),
+    })
 }

@@ -22,12 +22,13 @@ ghost use Rattle.exam_rows.specs.Versions.{FailsToCreate, IsBlank};
 
 use crate::loading::load_office;
 use crate::saving::save;
-use exam_office::{Command, Office, Own, Reply, SessionView, next_office};
+use exam_office::{Command, Draft, Office, Own, Reply, SessionView};
 use exam_rows::{is_blank, save_empty};
 use exam_types::{Day, Number, Refusal, SessionCode};
 use sqlite::{Alter, Connection, MemStore};
 use std::alloc::Global;
 use std::marker::Model;
+use std::mem;
 
 /// An office whose tables lie in a database. Each call refuses as `NoMemory` where there is not enough
 /// memory, and as `Store` where a call of the database failed.
@@ -141,10 +142,25 @@ impl<S: Alter> Store<S> {
             → IfErr result (FailsToApply command.now today self.old.office
             (state S.Store self.old.database) (state S.Store self.new.database)) }
     {
-        let (next, reply) = next_office(alloc, &self.office, command, today)?;
-        save(alloc, &mut self.conn, &self.office, &next)?;
-        self.office = next;
-        Ok(reply)
+        // The office is the draft's until it is saved or taken back.
+        let office = mem::replace(&mut self.office, Office::empty(alloc));
+        match Draft::of(alloc, office, command, today) {
+            Ok(draft) => match save(alloc, &mut self.conn, &draft) {
+                Ok(()) => {
+                    let (office, reply) = draft.finish();
+                    self.office = office;
+                    Ok(reply)
+                }
+                Err(refusal) => {
+                    self.office = draft.take_back();
+                    Err(refusal)
+                }
+            },
+            Err((refusal, office)) => {
+                self.office = office;
+                Err(refusal)
+            }
+        }
     }
 
     /// Applies commands in order, each on its day, and gives what each answers. Refused for want of memory

@@ -1,22 +1,33 @@
-use Rattle.std.proofs.Common.{ap, subst₂}
-use Rattle.std.specs.Ordering.{nat_cmp}
-use Rattle.exam_rules.specs.Relations.{Relations, code_cmp, opening_cmp, entry_cmp, appeal_cmp, seat_cmp}
+use Rattle.std.proofs.Common.{◌≡◌, List, Ordering, ap, subst, sym}
+use Rattle.exam_rules.specs.Relations.{Relations, code_cmp}
+use Rattle.exam_office.specs.declared.before.Before.{Before}
+use Rattle.exam_office.specs.TablesBefore.{WasTable}
+use Rattle.exam_rows.specs.declared.differences.Difference.{Difference}
+use Rattle.exam_rows.proofs.Exact.{sessions_exact, papers_exact, halls_exact, openings_exact, candidates_exact, entries_exact, arrangements_exact, appeals_exact}
 use Rattle.exam_store.specs.Saves.{TurnsTable}
-use Rattle.exam_rows.proofs.Exact.{sessions_exact, papers_exact, halls_exact, openings_exact, candidates_exact, entries_exact, arrangements_exact, appeals_exact, seats_exact}
 use Rattle.exam_store.proofs.saving.changes_of.Goals as goal
+
+-- the rows after the command are those that the facts show
+shown : {K X : Type 0} {cmp : K → K → Ordering} (told : Before K X) (old now after : List (K × X)) (d : Difference K X) → now ≡ after → WasTable cmp told old after → (WasTable cmp told old now → TurnsTable cmp old now d) → TurnsTable cmp old after d
+shown {cmp} told old now after d is was turns = subst (λ rows. TurnsTable cmp old rows d) is (turns (subst (λ rows. WasTable cmp told old rows) (sym is) was))
 
 pub returns-clause-turns : goal.returns-clause-turns
 returns-clause-turns c =
-    let was = c.facts-before.ensures in
+    let before = c.args.draft.now.before.relations in
+    let after = c.args.draft.now.after.relations in
+    let rise = c.show_good.ensures.before_rises in
+    let told = c.tables_before-before.ensures in
+    let was = c.tables_before-before.result in
+    let facts = c.facts-after.result.now in
     let is = c.facts-after.ensures in
     record {
-      sessions = subst₂ (λ o n. TurnsTable code_cmp o n c.in_ok-difference_of.field-0) (ap (λ (r : Relations). r.sessions) was) (ap (λ (r : Relations). r.sessions) is) (c.in_ok-difference_of.ensures.turns sessions_exact);
-      papers = subst₂ (λ o n. TurnsTable code_cmp o n c.in_ok-difference_of-2.field-0) (ap (λ (r : Relations). r.papers) was) (ap (λ (r : Relations). r.papers) is) (c.in_ok-difference_of-2.ensures.turns papers_exact);
-      halls = subst₂ (λ o n. TurnsTable code_cmp o n c.in_ok-difference_of-3.field-0) (ap (λ (r : Relations). r.halls) was) (ap (λ (r : Relations). r.halls) is) (c.in_ok-difference_of-3.ensures.turns halls_exact);
-      openings = subst₂ (λ o n. TurnsTable opening_cmp o n c.in_ok-difference_of-4.field-0) (ap (λ (r : Relations). r.openings) was) (ap (λ (r : Relations). r.openings) is) (c.in_ok-difference_of-4.ensures.turns openings_exact);
-      candidates = subst₂ (λ o n. TurnsTable nat_cmp o n c.in_ok-difference_of-5.field-0) (ap (λ (r : Relations). r.candidates) was) (ap (λ (r : Relations). r.candidates) is) (c.in_ok-difference_of-5.ensures.turns candidates_exact);
-      entries = subst₂ (λ o n. TurnsTable entry_cmp o n c.in_ok-difference_of-6.field-0) (ap (λ (r : Relations). r.entries) was) (ap (λ (r : Relations). r.entries) is) (c.in_ok-difference_of-6.ensures.turns entries_exact);
-      arrangements = subst₂ (λ o n. TurnsTable nat_cmp o n c.in_ok-difference_of-7.field-0) (ap (λ (r : Relations). r.arrangements) was) (ap (λ (r : Relations). r.arrangements) is) (c.in_ok-difference_of-7.ensures.turns arrangements_exact);
-      appeals = subst₂ (λ o n. TurnsTable appeal_cmp o n c.in_ok-difference_of-8.field-0) (ap (λ (r : Relations). r.appeals) was) (ap (λ (r : Relations). r.appeals) is) (c.in_ok-difference_of-8.ensures.turns appeals_exact);
-      seats = subst₂ (λ o n. TurnsTable seat_cmp o n c.in_ok-difference_of-9.field-0) c.seats.ensures c.seats-2.ensures (c.in_ok-difference_of-9.ensures.turns seats_exact);
+      sessions = shown was.sessions before.sessions facts.sessions.entries after.sessions c.in_ok-difference_since.field-0 (ap (λ (r : Relations). r.sessions) is) told.sessions (c.in_ok-difference_since.ensures before.sessions sessions_exact rise.tables.sessions);
+      papers = shown was.papers before.papers facts.papers.entries after.papers c.in_ok-difference_since-2.field-0 (ap (λ (r : Relations). r.papers) is) told.papers (c.in_ok-difference_since-2.ensures before.papers papers_exact rise.tables.papers);
+      halls = shown was.halls before.halls facts.halls.entries after.halls c.in_ok-difference_since-3.field-0 (ap (λ (r : Relations). r.halls) is) told.halls (c.in_ok-difference_since-3.ensures before.halls halls_exact rise.tables.halls);
+      openings = shown was.openings before.openings facts.openings.entries after.openings c.in_ok-difference_since-4.field-0 (ap (λ (r : Relations). r.openings) is) told.openings (c.in_ok-difference_since-4.ensures before.openings openings_exact rise.tables.openings);
+      candidates = shown was.candidates before.candidates facts.candidates.entries after.candidates c.in_ok-difference_since-5.field-0 (ap (λ (r : Relations). r.candidates) is) told.candidates (c.in_ok-difference_since-5.ensures before.candidates candidates_exact rise.tables.candidates);
+      entries = shown was.entries before.entries facts.entries.entries after.entries c.in_ok-difference_since-6.field-0 (ap (λ (r : Relations). r.entries) is) told.entries (c.in_ok-difference_since-6.ensures before.entries entries_exact rise.tables.entries);
+      arrangements = shown was.arrangements before.arrangements facts.arrangements.entries after.arrangements c.in_ok-difference_since-7.field-0 (ap (λ (r : Relations). r.arrangements) is) told.arrangements (c.in_ok-difference_since-7.ensures before.arrangements arrangements_exact rise.tables.arrangements);
+      appeals = shown was.appeals before.appeals facts.appeals.entries after.appeals c.in_ok-difference_since-8.field-0 (ap (λ (r : Relations). r.appeals) is) told.appeals (c.in_ok-difference_since-8.ensures before.appeals appeals_exact rise.tables.appeals);
+      seats = c.in_ok-seats_since.ensures c.args.draft.now.before.seats c.args.draft.now.after.seats rise.seats c.show_good.ensures.after_rises.seats c.plans_before.ensures;
     }
