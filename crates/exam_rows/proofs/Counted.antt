@@ -2,18 +2,18 @@
 use Rattle.std.proofs.Common.{◌≡◌, ℕ, ◌+◌, ◌≤◌, ◌∷◌, [], List, Bool, true, false, cond, if◌then◌else◌, length, Bor, sym, subst, ap, arith}
 use Rattle.std.specs.List.{AllByRecursion}
 use Rattle.std.specs.Map.Iter.{deref_pair}
-use Rattle.exam_types.specs.Days.{IsDay}
 use Rattle.exam_rules.specs.declared.rows.Appeal.{Appeal}
 use Rattle.exam_rules.specs.Relations.{Code, same_code}
+use Rattle.exam_rows.specs.Rows.{IsAppeal}
 use Rattle.exam_rows.specs.Streamed.{KeyedAppeal, appeals_in}
 
-abbrev pub AreOnDays : List KeyedAppeal → Type 0
-AreOnDays = AllByRecursion (λ (a : KeyedAppeal). IsDay a.1.lodged)
+abbrev pub HaveForms : List KeyedAppeal → Type 0
+HaveForms = AllByRecursion (λ (a : KeyedAppeal). IsAppeal a.0 a.1)
 
 -- with those that are left they are all
 pub record HasCounted (s : Code) (all : List KeyedAppeal) (count : ℕ) (left : List KeyedAppeal) : Type 0 where
   pub many : count + length (appeals_in left s) ≡ length (appeals_in all s)
-  pub days : AreOnDays left → AreOnDays all
+  pub forms : HaveForms left → HaveForms all
 
 length_cond : (b : Bool) (a : KeyedAppeal) (rest : List KeyedAppeal) → length (cond b (a ∷ rest) rest) ≡ (if b then 1 else 0) + length rest
 length_cond true a rest = omega arith
@@ -36,15 +36,15 @@ module _ (s : Code) (all : List KeyedAppeal) (count one : ℕ) (old new : List K
       let parts = length_cond (same_code x.1.now.session s) (deref_pair x) (appeals_in new s) in
       omega (arith, many, here, parts, one_is)
 
-  pub one_counted : IsDay x.1.now.lodged → HasCounted s all (count + one) new
-  one_counted day = record { many = sum_is; days = λ days. counted.days (subst AreOnDays (sym is) (day, days)) }
+  pub one_counted : IsAppeal x.0.now x.1.now → HasCounted s all (count + one) new
+  one_counted form = record { many = sum_is; forms = λ forms. counted.forms (subst HaveForms (sym is) (form, forms)) }
 
   -- no more than there are
   pub still_fits : count + one ≤ length all
   still_fits = let sum = sum_is in let bound = few s all in omega (arith, sum, bound)
 
 pub none_counted : (s : Code) (all : List KeyedAppeal) → HasCounted s all 0 all
-none_counted s all = record { many = omega arith; days = λ days. days }
+none_counted s all = record { many = omega arith; forms = λ forms. forms }
 
 pub all_counted : (s : Code) (all : List KeyedAppeal) (count : ℕ) (left : List KeyedAppeal) → left ≡ [] → HasCounted s all count left → count ≡ length (appeals_in all s)
 all_counted s all count left none counted =
@@ -52,5 +52,5 @@ all_counted s all count left none counted =
     let nothing : length (appeals_in left s) ≡ 0 = ap (λ (l : List KeyedAppeal). length (appeals_in l s)) none in
     omega (arith, many, nothing)
 
-pub all_on_days : (s : Code) (all : List KeyedAppeal) (count : ℕ) (left : List KeyedAppeal) → left ≡ [] → HasCounted s all count left → AreOnDays all
-all_on_days s all count left none counted = counted.days (subst AreOnDays (sym none) tt)
+pub all_formed : (s : Code) (all : List KeyedAppeal) (count : ℕ) (left : List KeyedAppeal) → left ≡ [] → HasCounted s all count left → HaveForms all
+all_formed s all count left none counted = counted.forms (subst HaveForms (sym none) tt)

@@ -1,5 +1,6 @@
 -- The appeals of a session, as the database shows them, are those that the table holds, and so is their text.
-use Rattle.std.proofs.Common.{◌≡◌, ℕ, ◌+◌, ◌≤◌, pos, Bool, true, false, cond, ◌&&◌, Result, Ok, Err, OnOk, OnErr, Option, List, [], ◌∷◌, ◌++◌, length, map, filter, Less, inl, refl, sym, ap, ap₂, subst, ◌∙◌, arith, append_assoc, append-nil, length-append, int_cmp}
+use Rattle.std.proofs.Common.{◌≡◌, ◌≢◌, ◌⊎◌, ℕ, ◌+◌, ◌≤◌, pos, Bool, true, false, cond, ◌&&◌, Result, Ok, Err, OnOk, OnErr, Option, List, [], ◌∷◌, ◌++◌, length, map, filter, Less, inl, inr, refl, sym, ap, ap₂, subst, ◌∙◌, arith, append_assoc, append-nil, length-append, int_cmp}
+use Rattle.std.specs.Prelude.{IfErr, Some}
 use Rattle.std.specs.Bool.{Decides, one_answer}
 use Rattle.std.specs.Io.KnownBytes.{Appends}
 use Rattle.std.specs.List.{AllByRecursion, flat_map}
@@ -7,6 +8,8 @@ use Rattle.std.specs.List.Sorted.{IsPermutation, IsStrictlySortedBy}
 use Rattle.std.specs.Map.{keys_of}
 use Rattle.std.specs.Ordering.{nat_cmp, ordering_then}
 use Rattle.std.proofs.KnownBytes.{Appends-nil, Appends-trans}
+use Rattle.std.proofs.lemmas.Grind.{flat_map-append}
+use Rattle.std.proofs.lemmas.List.{length-map}
 use Rattle.std.proofs.lemmas.Bool.Decides.{nat_tests}
 use Rattle.std.proofs.lemmas.Int.{ints}
 use Rattle.std.proofs.lemmas.List.Kept.{IsStrictlySortedBy-filter}
@@ -18,26 +21,32 @@ use Rattle.sqlite_schema.specs.Rules.{equal}
 use Rattle.sqlite_trees.specs.declared.store.Store.{Ghosts}
 use Rattle.sqlite_trees.specs.Tree.{Trees}
 use Rattle.sqlite_trees.proofs.ListLemmas.{filter-map, map-map, IsPermutation-filter}
-use Rattle.sqlite.specs.Given.{HasGiven, IsRefused}
+use Rattle.sqlite.specs.Given.{Advances, GivesOn, HasGiven, IsRefused}
 use Rattle.sqlite.specs.Held.{Held, state}
 use Rattle.sqlite.specs.declared.error.Error.{Error}
-use Rattle.sqlite.specs.State.{State, FailsToQuery, HasCleanDisk, IsUnchanged, Survives}
+use Rattle.sqlite.specs.State.{State, FailsToQuery, HasCleanDisk, IsUnchanged, Shown, Survives}
 use Rattle.sqlite.proofs.Callers.{unchanged_then}
 use Rattle.exam_send.specs.Sending.{AppendsBeginning, AppendsPart}
 use Rattle.exam_tables.specs.Texts.{session_appeals}
 use Rattle.exam_tables.proofs.InOrder.{strict_map}
 use Rattle.exam_tables.proofs.Keys.{text_itself, text_same}
-use Rattle.exam_tables.proofs.SessionAppeals.{begins_in_order, is_of, shown_cmp}
-use Rattle.exam_types.specs.Days.{IsDay}
+use Rattle.exam_tables.proofs.SessionAppeals.{begins_in_order, is_of, query_stops, shown_cmp, shows_in_order}
+use Rattle.exam_types.specs.declared.refusal.Refusal.{Refusal}
+use Rattle.exam_types.specs.declared.refusal.Refusal.TheVariants.{BadStore, NoMemory}
+use Rattle.exam_rules.specs.declared.rows.Appeal.{Appeal}
 use Rattle.exam_rules.specs.Relations.{Code, appeal_cmp, same_code}
 use Rattle.exam_rules.proofs.Naming.{same_code_exact, same_code_itself}
 use Rattle.exam_rows.specs.declared.send_fault.SendFault.{SendFault}
+use Rattle.exam_rows.specs.declared.send_fault.SendFault.TheVariants as faults
 use Rattle.exam_rows.specs.Inside.{Contains}
-use Rattle.exam_rows.specs.Loaded.{OnlyReads}
-use Rattle.exam_rows.specs.Rows.{appeal_row}
-use Rattle.exam_rows.specs.Streamed.{KeyedAppeal, HoldsAppeals, Sends, appeals_in, text_of}
-use Rattle.exam_rows.proofs.Leaving.{left_then}
-use Rattle.exam_rows.proofs.OneTable.{appeal_same}
+use Rattle.exam_rows.specs.Faults.{refusal_of}
+use Rattle.exam_rows.specs.Loaded.{HoldsTable, OnlyReads}
+use Rattle.exam_rows.specs.Reading.{MayRead}
+use Rattle.exam_rows.specs.Rows.{IsAppeal, appeal_row}
+use Rattle.exam_rows.specs.Streamed.{HasAppeals, KeyedAppeal, LacksNext, Sends, appeals_in, text_of}
+use Rattle.exam_rows.proofs.Counted.{HaveForms}
+use Rattle.exam_rows.proofs.Leaving.{left_then, not_bad_store}
+use Rattle.exam_rows.proofs.OneTable.{appeal_one}
 
 -- ---- the order
 
@@ -77,7 +86,7 @@ of_session s a = and_true _ ∙ session_test a.1.session s
     and_true true = refl
     and_true false = refl
 
-module _ {S : Type 0} (g : Ghosts S) (s : Code) (all : Trees) (appeals : List KeyedAppeal) (holds : HoldsAppeals all appeals) where
+module _ {S : Type 0} (g : Ghosts S) (s : Code) (all : Trees) (appeals : List KeyedAppeal) (holds : HoldsTable appeal_cmp IsAppeal appeal_row appeals (all 13)) where
   abbrev mine : List KeyedAppeal
   mine = appeals_in appeals s
 
@@ -92,30 +101,50 @@ module _ {S : Type 0} (g : Ghosts S) (s : Code) (all : Trees) (appeals : List Ke
   rows_rise : IsStrictlySortedBy shown_cmp (map stored mine)
   rows_rise = strict_map shown_cmp stored mine (IsStrictlySortedBy-filter _ (λ (a : KeyedAppeal). same_code a.1.session s) appeals (strict_entries appeals holds.rises))
 
-  days_of : (more : List KeyedAppeal) → AllByRecursion (λ (a : KeyedAppeal). IsDay a.1.lodged) more → AllByRecursion (λ (a : KeyedAppeal). IsDay a.1.lodged) (appeals_in more s)
-  days_of [] days = tt
-  days_of (a ∷ more) days = elim (same_code a.1.session s) as (λ b. AllByRecursion (λ (x : KeyedAppeal). IsDay x.1.lodged) (cond b (a ∷ appeals_in more s) (appeals_in more s))) [
-    | true ↦ (days.0, days_of more days.1)
-    | false ↦ days_of more days.1
+  forms_of : (more : List KeyedAppeal) → HaveForms more → HaveForms (appeals_in more s)
+  forms_of [] forms = tt
+  forms_of (a ∷ more) forms = elim (same_code a.1.session s) as (λ b. HaveForms (cond b (a ∷ appeals_in more s) (appeals_in more s))) [
+    | true ↦ (forms.0, forms_of more forms.1)
+    | false ↦ forms_of more forms.1
   ]
 
-  split : (given rest : List KeyedAppeal) (tail : List Row) → AllByRecursion (λ (a : KeyedAppeal). IsDay a.1.lodged) given → AllByRecursion (λ (a : KeyedAppeal). IsDay a.1.lodged) rest
+  split : (given rest : List KeyedAppeal) (tail : List Row) → HaveForms given → HaveForms rest
       → map stored given ++ tail ≡ map stored rest → (left : List KeyedAppeal) × (rest ≡ given ++ left)
-  split [] rest tail formed days is = (rest, refl)
-  split (a ∷ given) [] tail formed days is = absurd cc
-  split (a ∷ given) (b ∷ rest) tail formed days is =
+  split [] rest tail formed forms is = (rest, refl)
+  split (a ∷ given) [] tail formed forms is = absurd cc
+  split (a ∷ given) (b ∷ rest) tail formed forms is =
       let first : stored a ≡ stored b = cc in
       let after : map stored given ++ tail ≡ map stored rest = cc in
-      let same : a ≡ b = appeal_same a b formed.0 days.0 first in
-      let more = split given rest tail formed.1 days.1 after in
+      let same : a ≡ b = appeal_one a b formed.0 forms.0 first in
+      let more = split given rest tail formed.1 forms.1 after in
       (more.0, λ i. sym same i ∷ more.1 i)
 
   -- those that were given so far begin the list of those of the session
   pub begins : (h : Held S) (given : List KeyedAppeal) → Contains (state g h).now all → HasGiven g session_appeals (Text s ∷ []) h (map stored given)
-      → AllByRecursion (λ (a : KeyedAppeal). IsDay a.1.lodged) given → (left : List KeyedAppeal) × (mine ≡ given ++ left)
+      → HaveForms given → (left : List KeyedAppeal) × (mine ≡ given ++ left)
   begins h given was reads formed =
       let begun = begins_in_order g s h (map stored given) all was reads (map stored mine) rows_same rows_rise in
-      split given mine begun.0 formed (days_of appeals holds.days) begun.1
+      split given mine begun.0 formed (forms_of appeals holds.forms) begun.1
+
+  -- the answer of the query has them all
+  pub shown_all : (old new : Held S) (given : List KeyedAppeal) → Contains (state g old).now all → Shown session_appeals (Text s ∷ []) (state g old) (state g new) (map stored given) → length given ≡ length mine
+  shown_all old new given was shown =
+      let is = shows_in_order s (state g old) (state g new) (map stored given) all was shown (map stored mine) rows_same rows_rise in
+      sym (length-map given stored) ∙ ap (λ (l : List Row). length l) is ∙ length-map mine stored
+
+  next_of : (given rest : List KeyedAppeal) (row : Row) (tail : List Row) → HaveForms rest → (map stored given ++ row ∷ []) ++ tail ≡ map stored rest → (a : KeyedAppeal) × IsAppeal a.0 a.1 × (row ≡ stored a)
+  next_of [] [] row tail forms is = absurd cc
+  next_of [] (b ∷ rest) row tail forms is = let same : row ≡ stored b = cc in (b, forms.0, same)
+  next_of (a ∷ given) [] row tail forms is = absurd cc
+  next_of (a ∷ given) (b ∷ rest) row tail forms is =
+      let after : (map stored given ++ row ∷ []) ++ tail ≡ map stored rest = cc in
+      next_of given rest row tail forms.1 after
+
+  -- the next row is the stored form of an appeal
+  pub next_formed : (h : Held S) (given : List KeyedAppeal) (row : Row) → Contains (state g h).now all → HasGiven g session_appeals (Text s ∷ []) h (map stored given ++ row ∷ []) → (a : KeyedAppeal) × IsAppeal a.0 a.1 × (row ≡ stored a)
+  next_formed h given row was reads =
+      let begun = begins_in_order g s h (map stored given ++ row ∷ []) all was reads (map stored mine) rows_same rows_rise in
+      next_of given mine row begun.0 (forms_of appeals holds.forms) begun.1
 
 -- ---- the text
 
@@ -140,11 +169,15 @@ pub fault_sends : {W : Type 0} (contents : W → Option (List ℕ)) (result : Re
     → AppendsBeginning (contents old) (contents new) text → Sends contents result old new text
 fault_sends contents result fault old new text is part = subst (λ r. Sends contents r old new text) (sym is) part
 
-module _ (heading : ℕ → List ℕ) (line : KeyedAppeal → List ℕ) (count : ℕ) (old : Option (List ℕ)) where
-  lines_append : (xs ys : List KeyedAppeal) → flat_map line (xs ++ ys) ≡ flat_map line xs ++ flat_map line ys
-  lines_append [] ys = refl
-  lines_append (x ∷ xs) ys = ap (λ t. line x ++ t) (lines_append xs ys) ∙ sym (append_assoc (line x) (flat_map line xs) (flat_map line ys))
+-- want of memory or a failed write is no bad store
+pub not_bad : (fault : SendFault) → (fault ≡ faults.Refused NoMemory) ⊎ (fault ≡ faults.Write) → fault ≢ faults.Refused BadStore
+not_bad fault (inl short) bad = absurd cc
+not_bad fault (inr failed) bad = absurd cc
 
+pub refused_same : {e f : Refusal} → ◌≡◌ {A = SendFault} (faults.Refused e) (faults.Refused f) → e ≡ f
+refused_same is = cc
+
+module _ (heading : ℕ → List ℕ) (line : KeyedAppeal → List ℕ) (count : ℕ) (old : Option (List ℕ)) where
   -- the heading and the lines of those that were given
   abbrev pub so_far : List KeyedAppeal → List ℕ
   so_far given = heading count ++ flat_map line given
@@ -155,7 +188,7 @@ module _ (heading : ℕ → List ℕ) (line : KeyedAppeal → List ℕ) (count :
   more_text : (given : List KeyedAppeal) (a : KeyedAppeal) → so_far given ++ line a ≡ so_far (given ++ a ∷ [])
   more_text given a =
       append_assoc (heading count) (flat_map line given) (line a)
-      ∙ ap (λ t. heading count ++ t) (ap (λ t. flat_map line given ++ t) (sym (append-nil (line a))) ∙ sym (lines_append given (a ∷ [])))
+      ∙ ap (λ t. heading count ++ t) (ap (λ t. flat_map line given ++ t) (sym (append-nil (line a))) ∙ sym (flat_map-append line given (a ∷ [])))
 
   pub one_sent : (given : List KeyedAppeal) (a : KeyedAppeal) (now then : Option (List ℕ)) → Appends old now (so_far given) → Appends now then (line a) → Appends old then (so_far (given ++ a ∷ []))
   one_sent given a now then sent line_sent = subst (Appends old then) (more_text given a) (Appends-trans old now then (so_far given) (line a) sent line_sent)
@@ -164,7 +197,7 @@ module _ (heading : ℕ → List ℕ) (line : KeyedAppeal → List ℕ) (count :
     whole : (given left : List KeyedAppeal) → mine ≡ given ++ left → text_of heading line mine ≡ so_far given ++ flat_map line left
     whole given left is =
         ap₂ (λ n (l : List KeyedAppeal). heading n ++ flat_map line l) (sym many) is
-        ∙ ap (λ t. heading count ++ t) (lines_append given left) ∙ sym (append_assoc (heading count) (flat_map line given) (flat_map line left))
+        ∙ ap (λ t. heading count ++ t) (flat_map-append line given left) ∙ sym (append_assoc (heading count) (flat_map line given) (flat_map line left))
 
     -- the heading went out in part
     pub heading_cut : (now : Option (List ℕ)) → AppendsBeginning old now (heading count) → AppendsBeginning old now (text_of heading line mine)
@@ -207,16 +240,16 @@ module _ {S W : Type 0} (g : Ghosts S) (contents : W → Option (List ℕ)) (hea
   pub record HasSent (place : ℕ) (now : Held S) (after : W) : Type 0 where
     pub given : List KeyedAppeal
     pub many : length given ≡ place
-    pub days : AllByRecursion (λ (a : KeyedAppeal). IsDay a.1.lodged) given
+    pub forms : HaveForms given
     pub sent : Appends (contents before) (contents after) (so_far heading line count (contents before) given)
     pub reads : (s : Code) → HasGiven g session_appeals (Text s ∷ []) old [] → HasGiven g session_appeals (Text s ∷ []) now (map stored given)
 
   pub none_sent : (after : W) → Appends (contents before) (contents after) (heading count) → HasSent 0 old after
-  none_sent after sent = record { given = []; many = refl; days = tt; sent = first_sent heading line count (contents before) (contents after) sent; reads = λ s reads. reads }
+  none_sent after sent = record { given = []; many = refl; forms = tt; sent = first_sent heading line count (contents before) (contents after) sent; reads = λ s reads. reads }
 
-  all_days : (given : List KeyedAppeal) (a : KeyedAppeal) → AllByRecursion (λ (x : KeyedAppeal). IsDay x.1.lodged) given → IsDay a.1.lodged → AllByRecursion (λ (x : KeyedAppeal). IsDay x.1.lodged) (given ++ a ∷ [])
-  all_days [] a days day = (day, tt)
-  all_days (x ∷ given) a days day = (days.0, all_days given a days.1 day)
+  all_formed : (given : List KeyedAppeal) (a : KeyedAppeal) → HaveForms given → IsAppeal a.0 a.1 → HaveForms (given ++ a ∷ [])
+  all_formed [] a forms form = (form, tt)
+  all_formed (x ∷ given) a forms form = (forms.0, all_formed given a forms.1 form)
 
   rows_append : (given : List KeyedAppeal) (a : KeyedAppeal) → map stored given ++ stored a ∷ [] ≡ map stored (given ++ a ∷ [])
   rows_append [] a = refl
@@ -231,45 +264,66 @@ module _ {S W : Type 0} (g : Ghosts S) (contents : W → Option (List ℕ)) (hea
   on_reads place now then at a done more s reads = subst (HasGiven g session_appeals (Text s ∷ []) then) (rows_append done.given a) (more s (map stored done.given) (done.reads s reads))
 
   -- and its text goes out
-  pub one_more_sent : (place : ℕ) (now then : Held S) (at after : W) (a : KeyedAppeal) → HasSent place now at → IsDay a.1.lodged → ReadsOn now then a → Appends (contents at) (contents after) (line a) → HasSent (place + 1) then after
-  one_more_sent place now then at after a done day more line_sent =
+  pub one_more_sent : (place : ℕ) (now then : Held S) (at after : W) (a : KeyedAppeal) → HasSent place now at → IsAppeal a.0 a.1 → ReadsOn now then a → Appends (contents at) (contents after) (line a) → HasSent (place + 1) then after
+  one_more_sent place now then at after a done form more line_sent =
       let many = done.many in
       let longer = length-append done.given (a ∷ []) in
       record {
         given = done.given ++ a ∷ [];
         many = omega (arith, many, longer);
-        days = all_days done.given a done.days day;
+        forms = all_formed done.given a done.forms form;
         sent = one_sent heading line count (contents before) done.given a (contents at) (contents after) done.sent line_sent;
         reads = on_reads place now then at a done more;
       }
 
-  module _ (s : Code) (begun : HasGiven g session_appeals (Text s ∷ []) old []) (all : Trees) (was : Contains (state g old).now all) (appeals : List KeyedAppeal) (holds : HoldsAppeals all appeals) (many : count ≡ length (appeals_in appeals s)) where
-    contained : (now : Held S) → IsUnchanged (state g old) (state g now) → Contains (state g now).now all
-    contained now same = subst (λ db. Contains db all) (sym same.0.now_is) was
+  module _ (s : Code) (begun : HasGiven g session_appeals (Text s ∷ []) old []) (appeals : List KeyedAppeal) (has : HasAppeals (state g old).now appeals) (many : count ≡ length (appeals_in appeals s)) where
+    contained : (now : Held S) → IsUnchanged (state g old) (state g now) → Contains (state g now).now has.all
+    contained now same = subst (λ db. Contains db has.all) (sym same.0.now_is) has.contains
 
     -- the next was not read
     pub read_cut : (place : ℕ) (now : Held S) (at : W) → HasSent place now at → IsUnchanged (state g old) (state g now) → AppendsBeginning (contents before) (contents at) (text_of heading line (appeals_in appeals s))
     read_cut place now at done same =
-        let left = begins g s all appeals holds now done.given (contained now same) (done.reads s begun) done.days in
+        let left = begins g s has.all appeals has.held now done.given (contained now same) (done.reads s begun) done.forms in
         row_cut heading line count (contents before) (appeals_in appeals s) many (contents at) done.given left.0 left.1 done.sent
 
     -- its text went out in part
-    pub send_cut : (place : ℕ) (now then : Held S) (at after : W) (a : KeyedAppeal) → HasSent place now at → IsUnchanged (state g old) (state g then) → IsDay a.1.lodged → ReadsOn now then a → AppendsBeginning (contents at) (contents after) (line a)
+    pub send_cut : (place : ℕ) (now then : Held S) (at after : W) (a : KeyedAppeal) → HasSent place now at → IsUnchanged (state g old) (state g then) → IsAppeal a.0 a.1 → ReadsOn now then a → AppendsBeginning (contents at) (contents after) (line a)
         → AppendsBeginning (contents before) (contents after) (text_of heading line (appeals_in appeals s))
-    send_cut place now then at after a done same day more part =
-        let left = begins g s all appeals holds then (done.given ++ a ∷ []) (contained then same) (on_reads place now then at a done more s begun) (all_days done.given a done.days day) in
+    send_cut place now then at after a done same form more part =
+        let left = begins g s has.all appeals has.held then (done.given ++ a ∷ []) (contained then same) (on_reads place now then at a done more s begun) (all_formed done.given a done.forms form) in
         line_cut heading line count (contents before) (appeals_in appeals s) many (contents at) (contents after) done.given left.0 a left.1 done.sent part
+
+    -- a next appeal was there to be read
+    pub next_there : (place : ℕ) (now then : Held S) (at : W) (done : HasSent place now at) → IsUnchanged (state g old) (state g now) → place + 1 ≤ count → LacksNext g s now then (map stored done.given) → ⊥
+    next_there place now then at done same early (inl (error, bad, fails)) =
+        not_bad_store (refusal_of error) error refl (query_stops s (state g now) (state g then) (contained now same).schema_is error fails) bad
+    next_there place now then at done same early (inr (inl shown)) =
+        let all_given = shown_all g s has.all appeals has.held now then done.given (contained now same) shown in
+        let so_many = done.many in
+        omega (arith, all_given, so_many, many, early)
+    next_there place now then at done same early (inr (inr (row, reads, still, none))) =
+        let next = next_formed g s has.all appeals has.held then done.given row (contained then (unchanged_then _ _ _ same still)) reads in
+        none next.0.0 next.0.1 next.1 next.2
 
     -- all went out
     pub sent_whole : (place : ℕ) (now : Held S) (at : W) → HasSent place now at → IsUnchanged (state g old) (state g now) → count ≤ place → Appends (contents before) (contents at) (text_of heading line (appeals_in appeals s))
     sent_whole place now at done same end =
-        let left = begins g s all appeals holds now done.given (contained now same) (done.reads s begun) done.days in
+        let left = begins g s has.all appeals has.held now done.given (contained now same) (done.reads s begun) done.forms in
         all_sent heading line count (contents before) (appeals_in appeals s) many (contents at) place done.given left.0 left.1 done.many end done.sent
 
 -- a call that only reads, after one that changed nothing
 pub reads_then : {A E : Type 0} (old mid new : State) (result : Result A E) → IsUnchanged old mid → OnlyReads mid new result → OnlyReads old new result
 reads_then old mid new (Ok value) first next = unchanged_then old mid new first next
 reads_then old mid new (Err e) first next = left_then old mid new first next
+
+-- a row that is read as none of an appeal
+pub row_lacks : {S : Type 0} (g : Ghosts S) (old new : Held S) (row : Row) (shown : Option Row) → Some row ≡ shown → Advances g old new shown → IsUnchanged (state g old) (state g new)
+    → (result : Result KeyedAppeal Refusal) → MayRead (λ (a : KeyedAppeal). IsAppeal a.0 a.1) (λ (a : KeyedAppeal). appeal_row a.0 a.1) row result
+    → IfErr result (λ e. e ≡ BadStore → (s : Code) (given : List Row) → HasGiven g session_appeals (Text s ∷ []) old given → LacksNext g s old new given)
+row_lacks g old new row shown is advances same (Ok a) reads = tt
+row_lacks g old new row shown is advances same (Err e) (inl short) = λ bad s given has. let differ : NoMemory ≡ BadStore = cc in absurd cc
+row_lacks g old new row shown is advances same (Err e) (inr none) = λ bad s given has.
+    inr (inr (row, subst (GivesOn g session_appeals (Text s ∷ []) old new given) (sym is) (advances session_appeals (Text s ∷ []) given has), same, λ key appeal form stored_as. none.1 (key, appeal) form stored_as))
 
 -- a query that was refused
 pub refused_fails : {S X : Type 0} (g : Ghosts S) (sql : List ℕ) (params : Row) (old new : Held S) (result : Result X Error) (e : Error) → result ≡ Err e → OnErr result (IsRefused g sql params old result new)

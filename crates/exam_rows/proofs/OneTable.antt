@@ -222,9 +222,8 @@ arrangement_one a b form_a form_b is =
     let needs : a.1.needs ≡ b.1.needs = same_features _ _ sum in
     λ i. (number i, record { needs = needs i; extra = extra i })
 
--- appeals that were lodged on days
-pub appeal_same : (a b : (ℕ × Code) × Appeal) → IsDay a.1.lodged → IsDay b.1.lodged → appeal_row a.0 a.1 ≡ appeal_row b.0 b.1 → a ≡ b
-appeal_same a b day_a day_b is =
+pub appeal_one : (a b : (ℕ × Code) × Appeal) → IsAppeal a.0 a.1 → IsAppeal b.0 b.1 → appeal_row a.0 a.1 ≡ appeal_row b.0 b.1 → a ≡ b
+appeal_one a b form_a form_b is =
     let number : a.0.0 ≡ b.0.0 = cc in
     let reference : a.0.1 ≡ b.0.1 = cc in
     let session : a.1.session ≡ b.1.session = cc in
@@ -238,11 +237,8 @@ appeal_same a b day_a day_b is =
     let text : day_text a.1.lodged ≡ day_text b.1.lodged = cc in
     let asked : a.1.subject ≡ b.1.subject = same_subject _ _ kind target needs extra in
     let stands : a.1.status ≡ b.1.status = same_status _ _ state answer in
-    let lodged : a.1.lodged ≡ b.1.lodged = same_day _ _ day_a day_b text in
+    let lodged : a.1.lodged ≡ b.1.lodged = same_day _ _ form_a.6 form_b.6 text in
     λ i. ((number i, reference i), record { session = session i; subject = asked i; reason = reason i; status = stands i; lodged = lodged i })
-
-appeal_one : (a b : (ℕ × Code) × Appeal) → IsAppeal a.0 a.1 → IsAppeal b.0 b.1 → appeal_row a.0 a.1 ≡ appeal_row b.0 b.1 → a ≡ b
-appeal_one a b form_a form_b is = appeal_same a b form_a.6 form_b.6 is
 
 seat_one : (a b : (Code × ℕ) × Code) → IsSeat a.0 a.1 → IsSeat b.0 b.1 → seat_row a.0 a.1 ≡ seat_row b.0 b.1 → a ≡ b
 seat_one a b form_a form_b is =

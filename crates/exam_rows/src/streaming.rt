@@ -1,5 +1,5 @@
 //! The appeals of a session, each sent as a text as soon as it is read.
-ghost use Rattle.std.specs.Prelude.{◌≡◌, ◌++◌, ℕ, List, [], ◌∷◌, false, length, IsTrue, IfOk, IfErr, OnOk, OnErr};
+ghost use Rattle.std.specs.Prelude.{◌≡◌, ◌≢◌, ◌⊎◌, ◌++◌, ℕ, List, [], ◌∷◌, false, length, IsTrue, IfOk, IfErr, OnOk, OnErr};
 ghost use Rattle.std.specs.Io.KnownBytes.{Appends};
 ghost use Rattle.sqlite_value.specs.declared.value.Value.TheVariants.{Text};
 ghost use Rattle.sqlite_value.specs.Order.{Row as Columns};
@@ -8,10 +8,10 @@ ghost use Rattle.sqlite.specs.Held.{state};
 ghost use Rattle.sqlite.specs.State.{HasCleanDisk, Survives};
 ghost use Rattle.exam_send.specs.Sending.{AppendsPart};
 ghost use Rattle.exam_tables.specs.Texts.{session_appeals};
+ghost use Rattle.exam_types.specs.declared.refusal.Refusal.TheVariants.{BadStore, NoMemory};
 ghost use Rattle.exam_rules.specs.Relations.{Code};
 ghost use Rattle.exam_rows.specs.declared.send_fault.SendFault.TheVariants as faults;
 ghost use Rattle.exam_rows.specs.Faults.{is_store_refusal};
-ghost use Rattle.exam_rows.specs.Inside.{Contains};
 ghost use Rattle.exam_rows.specs.Loaded.{OnlyReads};
 ghost use Rattle.exam_rows.specs.Rows.{appeal_row, IsAppeal};
 ghost use Rattle.exam_rows.specs.Streamed as spec;
@@ -39,11 +39,15 @@ pub fn send_appeals<S: Alter, F: AppealText, W: Write>(
     form: &F,
     writer: &mut W,
 ) -> Result<(), SendFault>
-    ensures sent { HasCleanDisk (state S.Store conn.new) → (all : _) → Contains (state S.Store conn.old).now all
-        → (appeals : _) → spec.HoldsAppeals all appeals
+    ensures sent { HasCleanDisk (state S.Store conn.new) → (appeals : _)
+        → spec.HasAppeals (state S.Store conn.old).now appeals
         → count ≡ length (spec.appeals_in appeals session.now)
         → spec.Sends W.contents result writer.old writer.new
         (spec.text_of (F.heading_text form.now) (F.line_text form.now) (spec.appeals_in appeals session.now)) }
+    ensures good { HasCleanDisk (state S.Store conn.new) → (appeals : _)
+        → spec.HasAppeals (state S.Store conn.old).now appeals
+        → count ≡ length (spec.appeals_in appeals session.now)
+        → IfErr result (λ e. e ≢ faults.Refused BadStore) }
     ensures left { HasCleanDisk (state S.Store conn.new)
         → OnlyReads (state S.Store conn.old) (state S.Store conn.new) result }
     ensures mode { conn.old.in_transaction ≡ false → conn.new.in_transaction ≡ false }
@@ -70,10 +74,15 @@ fn send_rows<S: Alter, F: AppealText, W: Write>(
     ensures same_reference { rows.new.conn.ghost_name ≡ rows.old.conn.ghost_name }
     ensures sent { HasCleanDisk (state S.Store rows.new.conn.now) → (s : Code)
         → HasGiven S.Store session_appeals (Text s ∷ []) rows.old.conn.now []
-        → (all : _) → Contains (state S.Store rows.old.conn.now).now all
-        → (appeals : _) → spec.HoldsAppeals all appeals → count ≡ length (spec.appeals_in appeals s)
+        → (appeals : _) → spec.HasAppeals (state S.Store rows.old.conn.now).now appeals
+        → count ≡ length (spec.appeals_in appeals s)
         → spec.Sends W.contents result writer.old writer.new
         (spec.text_of (F.heading_text form.now) (F.line_text form.now) (spec.appeals_in appeals s)) }
+    ensures good { HasCleanDisk (state S.Store rows.new.conn.now) → (s : Code)
+        → HasGiven S.Store session_appeals (Text s ∷ []) rows.old.conn.now []
+        → (appeals : _) → spec.HasAppeals (state S.Store rows.old.conn.now).now appeals
+        → count ≡ length (spec.appeals_in appeals s)
+        → IfErr result (λ e. e ≢ faults.Refused BadStore) }
     ensures left { HasCleanDisk (state S.Store rows.new.conn.now)
         → (s : Code) → HasGiven S.Store session_appeals (Text s ∷ []) rows.old.conn.now []
         → OnlyReads (state S.Store rows.old.conn.now) (state S.Store rows.new.conn.now) result }
@@ -100,6 +109,10 @@ fn next_appeal<S: Alter>(
         (s : Code) (given : List Columns)
         → HasGiven S.Store session_appeals (Text s ∷ []) rows.old.conn.now given
         → HasGiven S.Store session_appeals (Text s ∷ []) rows.new.conn.now (given ++ appeal_row a.0 a.1 ∷ [])) }
+    ensures bad { HasCleanDisk (state S.Store rows.new.conn.now) → IfErr result (λ e. e ≡ BadStore
+        → (s : Code) (given : List Columns)
+        → HasGiven S.Store session_appeals (Text s ∷ []) rows.old.conn.now given
+        → spec.LacksNext S.Store s rows.old.conn.now rows.new.conn.now given) }
     ensures left { HasCleanDisk (state S.Store rows.new.conn.now)
         → OnlyReads (state S.Store rows.old.conn.now) (state S.Store rows.new.conn.now) result }
     ensures mode { rows.old.conn.now.in_transaction ≡ false → rows.new.conn.now.in_transaction ≡ false }
@@ -123,7 +136,7 @@ fn send_heading<F: AppealText, W: Write>(
     writer: &mut W,
 ) -> Result<(), SendFault>
     ensures sent { spec.Sends W.contents result writer.old writer.new (F.heading_text form.now count) }
-    ensures fault { IfErr result (λ e. IsTrue (spec.is_send_fault e)) }
+    ensures fault { IfErr result (λ e. (e ≡ faults.Refused NoMemory) ⊎ (e ≡ faults.Write)) }
 {
     let text = form.heading(alloc, count)?;
     send(writer, text.as_slice())
@@ -138,7 +151,7 @@ fn send_line<F: AppealText, W: Write>(
     writer: &mut W,
 ) -> Result<(), SendFault>
     ensures sent { spec.Sends W.contents result writer.old writer.new (F.line_text form.now (key, appeal.now)) }
-    ensures fault { IfErr result (λ e. IsTrue (spec.is_send_fault e)) }
+    ensures fault { IfErr result (λ e. (e ≡ faults.Refused NoMemory) ⊎ (e ≡ faults.Write)) }
 {
     let text = form.line(alloc, key, appeal)?;
     send(writer, text.as_slice())
