@@ -2,5 +2,6 @@ pub mod Applying
 pub mod Failing
 pub mod KeysHold
 pub mod Referring
+pub mod Registering
 pub mod Rekeeping
 pub mod Unique
