@@ -9,6 +9,7 @@ mod headers;
 mod imports;
 mod laws;
 mod records;
+mod register_parts;
 mod registers;
 mod row_of_record;
 mod sending;
@@ -27,6 +28,7 @@ pub use laws::{
     clash_lists_are_of_the_office, door_lists_are_of_the_office, exports_are_of_the_office,
     shortage_sheets_are_of_the_facts,
 };
+pub use register_parts::{register_heading, register_line};
 pub use registers::appeal_register;
 pub use sheet_fault::SheetFault;
 pub use shortages::shortage_sheet;

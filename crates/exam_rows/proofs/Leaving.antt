@@ -55,7 +55,7 @@ pub both_survive : (old mid new : State) → Survives old mid (λ _. ⊥) → Su
 both_survive old mid new first next = survives_then old mid new _ _ _ (λ _ db none. none) (λ _ db none. none) first next
 
 -- an error that is no fault of a text is told as want of memory or as a failure
-not_bad_store : (e : Refusal) (error : Error) → e ≡ refusal_of error → (error ≡ SqliteFailure OutOfMemory) ⊎ IsTrue (is_failure error) → e ≡ BadStore → ⊥
+pub not_bad_store : (e : Refusal) (error : Error) → e ≡ refusal_of error → (error ≡ SqliteFailure OutOfMemory) ⊎ IsTrue (is_failure error) → e ≡ BadStore → ⊥
 not_bad_store e error told (inl lacks) bad = let same : NoMemory ≡ BadStore = sym (told ∙ ap refusal_of lacks) ∙ bad in absurd cc
 not_bad_store e error told (inr named) bad = let same : Store ≡ BadStore = sym (told ∙ failure error named) ∙ bad in absurd cc
 

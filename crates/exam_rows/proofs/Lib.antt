@@ -1,4 +1,5 @@
 pub mod Committing
+pub mod Counted
 pub mod Creating
 pub mod Differing
 pub mod EachTree
@@ -8,6 +9,7 @@ pub mod Inserting
 pub mod Leaving
 pub mod LoadTexts
 pub mod Narrowing
+pub mod OneByOne
 pub mod OneTable
 pub mod Reading
 pub mod Refusing

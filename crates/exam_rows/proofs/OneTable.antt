@@ -222,7 +222,7 @@ arrangement_one a b form_a form_b is =
     let needs : a.1.needs ≡ b.1.needs = same_features _ _ sum in
     λ i. (number i, record { needs = needs i; extra = extra i })
 
-appeal_one : (a b : (ℕ × Code) × Appeal) → IsAppeal a.0 a.1 → IsAppeal b.0 b.1 → appeal_row a.0 a.1 ≡ appeal_row b.0 b.1 → a ≡ b
+pub appeal_one : (a b : (ℕ × Code) × Appeal) → IsAppeal a.0 a.1 → IsAppeal b.0 b.1 → appeal_row a.0 a.1 ≡ appeal_row b.0 b.1 → a ≡ b
 appeal_one a b form_a form_b is =
     let number : a.0.0 ≡ b.0.0 = cc in
     let reference : a.0.1 ≡ b.0.1 = cc in

@@ -15,6 +15,8 @@
 --   is none; which rows take memory
 -- - Inside: what a call makes of the rows of a table inside a transaction, and what it leaves; a
 --   statement that is refused while it writes its rows, before any foreign key is tested
+-- - Streamed: the appeals of a session, as a text of which each part goes out as soon as its row is
+--   read
 -- - Writes: what changes put and delete, table by table, parents first and then children first
 -- - Transactions: one transaction, whole or not at all, and what a crash leaves of it
 pub mod Differences
@@ -25,6 +27,7 @@ pub mod Loaded
 pub mod Reading
 pub mod Rows
 pub mod Stored
+pub mod Streamed
 pub mod Transactions
 pub mod Versions
 pub mod Writes

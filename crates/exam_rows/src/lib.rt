@@ -2,20 +2,28 @@
 //! one transaction for all that changes.
 #![tactic(auto)]
 
+mod appeal_text;
 mod columns;
+mod counting;
 mod differences;
 mod faults;
 mod loading;
 mod schema;
+mod send_fault;
 mod statements;
+mod streaming;
 mod subjects;
 mod table;
 mod tables;
 mod writing;
 
+pub use appeal_text::AppealText;
+pub use counting::count_appeals;
 pub use differences::{Difference, Keyed, difference_of};
 pub use loading::load_facts;
 pub use schema::{check_version, is_blank};
+pub use send_fault::SendFault;
+pub use streaming::send_appeals;
 pub use table::{Table, load_rows};
 pub use tables::seats::Seats;
 pub use writing::{Changes, save_changes, save_empty};

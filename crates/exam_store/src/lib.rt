@@ -1,6 +1,7 @@
 //! The office in the tables of a database: one transaction a command, and opening.
 #![tactic(auto)]
 
+mod appeals;
 mod laws;
 mod loading;
 mod saving;

@@ -1,11 +1,11 @@
 //! An office in a database.
-ghost use Rattle.std.specs.Prelude.{◌≡◌, ◌⊎◌, false, IsTrue, IsSome, IfOk, IfErr, OnErr, MatchResult};
+ghost use Rattle.std.specs.Prelude.{◌≡◌, ◌≢◌, ◌⊎◌, true, false, Err, IsTrue, IsSome, IfOk, IfErr, OnErr, MatchResult};
 ghost use Rattle.std.specs.Option.{option_map};
 ghost use Rattle.sqlite.specs.Held.{state};
 ghost use Rattle.sqlite.specs.State.{HasCleanDisk, Survives};
 ghost use Rattle.sqlite.specs.Steps.{over_memory};
-ghost use Rattle.exam_types.specs.declared.refusal.Refusal.TheVariants.{NoMemory};
-ghost use Rattle.exam_rules.specs.Relations.{Code};
+ghost use Rattle.exam_types.specs.declared.refusal.Refusal.TheVariants.{BadStore, NoMemory, UnknownSession};
+ghost use Rattle.exam_rules.specs.Relations.{Code, code_cmp, has_row};
 ghost use Rattle.exam_rules.specs.Sessions.{IsSessionRefusal};
 ghost use Rattle.exam_office.specs.Headline.{IsSeated};
 ghost use Rattle.exam_office.specs.Own.{own_of, shown};
@@ -16,17 +16,21 @@ ghost use Rattle.exam_rows.specs.Faults.{is_store_refusal};
 ghost use Rattle.exam_store.specs.Found.{Finds, FindsNone, MakesEmpty};
 ghost use Rattle.exam_rows.specs.Inside.{IsOurs};
 ghost use Rattle.exam_rows.specs.Transactions.{IsSound, Commits};
-ghost use Rattle.exam_store.specs.Kept.{IsKept, KeepsOurs, Rekeeps};
+ghost use Rattle.exam_store.specs.Kept.{IsKept, Keeps, KeepsOurs, Rekeeps};
 ghost use Rattle.exam_rows.specs.Loaded.{IsLeft, OnlyReads};
+ghost use Rattle.exam_rows.specs.Streamed as streamed;
+ghost use Rattle.exam_rows.specs.declared.send_fault.SendFault.TheVariants.{Refused};
 ghost use Rattle.exam_rows.specs.Versions.{FailsToCreate, IsBlank};
 
+use crate::appeals::send_kept;
 use crate::loading::load_office;
 use crate::saving::save;
 use exam_office::{Command, Draft, Office, Own, Reply, SessionView};
-use exam_rows::{is_blank, save_empty};
+use exam_rows::{AppealText, SendFault, is_blank, save_empty};
 use exam_types::{Day, Number, Refusal, SessionCode};
 use sqlite::{Alter, Connection, MemStore};
 use std::alloc::Global;
+use std::io::Write;
 use std::marker::Model;
 use std::mem;
 
@@ -222,6 +226,39 @@ impl<S: Alter> Store<S> {
         ensures same { self.new ≡ self.old }
     {
         self.office.own(alloc, number)
+    }
+
+    /// Sends the text of the session's appeals, by candidate and reference, each as soon as the database shows it,
+    /// so that no list of them is made. After a fault a beginning of the text may have gone out; an unknown session
+    /// is refused before anything does. The office and what keeps it stay as they were.
+    pub fn send_appeals<F: AppealText, W: Write>(
+        &mut self,
+        alloc: Global,
+        session: &SessionCode,
+        form: &F,
+        writer: &mut W,
+    ) -> Result<(), SendFault>
+        ensures sent { HasCleanDisk (state S.Store self.new.database)
+            → Keeps (state S.Store self.old.database).now self.old.office
+            → has_row code_cmp self.old.office.relations.sessions session.now ≡ true
+            → streamed.Sends W.contents result writer.old writer.new
+            (streamed.text_of (F.heading_text form.now) (F.line_text form.now)
+            (streamed.appeals_in self.old.office.relations.appeals session.now)) }
+        ensures good { HasCleanDisk (state S.Store self.new.database)
+            → Keeps (state S.Store self.old.database).now self.old.office
+            → has_row code_cmp self.old.office.relations.sessions session.now ≡ true
+            → IfErr result (λ e. e ≢ Refused BadStore) }
+        ensures unknown { has_row code_cmp self.old.office.relations.sessions session.now ≡ false
+            → (result ≡ Err (Refused UnknownSession)) × (self.new ≡ self.old) × (writer.new ≡ writer.old) }
+        ensures office { self.new.office ≡ self.old.office }
+        ensures left { HasCleanDisk (state S.Store self.new.database)
+            → has_row code_cmp self.old.office.relations.sessions session.now ≡ true
+            → OnlyReads (state S.Store self.old.database) (state S.Store self.new.database) result }
+        ensures survives { Survives (state S.Store self.old.database) (state S.Store self.new.database) (λ _. ⊥) }
+        ensures fault { has_row code_cmp self.old.office.relations.sessions session.now ≡ true
+            → IfErr result (λ e. IsTrue (streamed.is_send_fault e)) }
+    {
+        send_kept(alloc, &mut self.conn, &self.office, session, form, writer)
     }
 
     /// Gives the connection back. Takes no memory.

@@ -4,6 +4,7 @@ pub mod Creates
 pub mod Deletes
 pub mod Failing
 pub mod Fits
+pub mod InOrder
 pub mod Inserts
 pub mod Keys
 pub mod KeysHold
@@ -24,6 +25,7 @@ pub mod QueryFails
 pub mod Quiet
 pub mod References
 pub mod RowLemmas
+pub mod SessionAppeals
 pub mod StatementFails
 pub mod Standing
 pub mod Statements

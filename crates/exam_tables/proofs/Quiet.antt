@@ -1,7 +1,8 @@
 -- A query leaves the database as it is, whatever its tables are; where it fails, it may undo the transaction.
-use Rattle.std.proofs.Common.{◌≡◌, ◌⊎◌, ℕ, List, None, Some, Option, Ok, Err, Result, inl, inr, refl, sym, ap, ◌∙◌}
+use Rattle.std.proofs.Common.{◌≡◌, ◌⊎◌, ℕ, List, [], None, Some, Option, Ok, Err, Result, inl, inr, refl, sym, ap, ◌∙◌}
 use Rattle.std.proofs.lemmas.Bool.{cases_Bool}
 use Rattle.sqlite_value.specs.Order.{Row}
+use Rattle.sqlite_trees.specs.declared.store.Store.{Ghosts}
 use Rattle.sqlite_trees.specs.Tree.{Trees}
 use Rattle.sqlite_schema.specs.declared.command.Returning.{Returning}
 use Rattle.sqlite_schema.specs.declared.schema.Schema.{Schema}
@@ -13,8 +14,11 @@ use Rattle.sqlite_resolve.specs.declared.compiled.Compiled.{Compiled}
 use Rattle.sqlite_resolve.specs.declared.error.CompileError.{CompileError}
 use Rattle.sqlite_tied.specs.Compute.{everything}
 use Rattle.sqlite.specs.declared.error.Error.{Error}
+use Rattle.sqlite.specs.Given.{HasBegun, HasGiven, Returns}
+use Rattle.sqlite.specs.Held.{Held, state}
 use Rattle.sqlite.specs.Listing.{understood, if_select, is_select, reads_listing, listing_schema}
 use Rattle.sqlite.specs.State.{State, CommitsShowing, Shown, FailsToQuery, FailsToShow, IsNotRun, IsUnchanged, IsRolledBack}
+use Rattle.exam_tables.specs.Texts.{session_appeals}
 use Rattle.exam_tables.proofs.OfOffice as office
 use Rattle.exam_tables.proofs.OfSession as session
 use Rattle.exam_tables.proofs.OfPaper as paper
@@ -69,6 +73,15 @@ module _ (text : List ℕ) (query : IsQuery text) where
   unfolding CommitsShowing
   commits_nothing params s db h = let none = rw (alone s.now.schema h.0 h.1.is) at h.2 in cc
 
+  -- where it begins, none of its rows is given yet, and nothing has changed
+  pub begun : {S : Type 0} (g : Ghosts S) (params : Row) (old new : Held S) → HasBegun g text params old new → HasGiven g text params new [] × IsUnchanged (state g old) (state g new)
+  begun g params old new (inl h) = h
+  begun g params old new (inr h) = absurd (returns_none (understood old.schema text) refl h.0)
+    where
+      returns_none : (r : Result Compiled CompileError) → understood old.schema text ≡ r → Returns r → ⊥
+      returns_none (Ok c) is some = let none = rw (alone old.schema c is) at some in absurd cc
+      returns_none (Err e) is some = some
+
 -- where a query fails, nothing has changed, or the transaction is undone
 pub failed_unchanged : (text : List ℕ) (params : Row) (old new : State) (e : Error) → FailsToQuery text params old new e → IsUnchanged old new ⊎ IsRolledBack old new
 unfolding FailsToQuery IsNotRun
@@ -120,3 +133,7 @@ appeal_is_query schema base = refl
 pub seat_is_query : IsQuery seat.load_text
 unfolding everything
 seat_is_query schema base = refl
+
+pub session_appeals_is_query : IsQuery session_appeals
+unfolding everything
+session_appeals_is_query schema base = refl

@@ -1,5 +1,5 @@
--- The texts that put a row of a table, whether its key is there or not, that delete one by its key, and that
--- load all rows.
+-- The texts that put a row of a table, whether its key is there or not, that delete one by its key, that load
+-- all rows, and that read the appeals of a session.
 use Rattle.std.specs.Prelude.{ℕ, List, [], ◌∷◌, ◌++◌, codes}
 
 abbrev pub put_session : List ℕ
@@ -85,6 +85,10 @@ load_appeal = codes "SELECT number, ref, session, kind, target, needs, extra, re
 
 abbrev pub load_seat : List ℕ
 load_seat = codes "SELECT session, number, hall FROM seat"
+
+-- the appeals of a session, by candidate and reference
+abbrev pub session_appeals : List ℕ
+session_appeals = codes "SELECT number, ref, session, kind, target, needs, extra, reason, state, answer, lodged FROM appeal WHERE session = ?1 ORDER BY number, ref"
 
 -- what loads the tables of facts
 abbrev pub fact_texts : List (List ℕ)
