@@ -23,11 +23,7 @@ use std::collections::BTreeMap;
 
 /// Makes the tables of the office before a command those of the office after it, in one transaction or not at
 /// all.
-pub fn save<S: Alter>(
-    alloc: Global,
-    conn: &mut Connection<S>,
-    draft: &Draft,
-) -> Result<(), Refusal>
+pub fn save<S: Alter>(alloc: Global, conn: &mut Connection<S>, draft: &Draft) -> Result<(), Refusal>
     ensures made { Commits (state S.Store conn.old) (state S.Store conn.new) result
         (Rekeeps draft.now.before draft.now.after) }
     ensures failed { conn.old.in_transaction ≡ false → HasCleanDisk (state S.Store conn.new)

@@ -1,5 +1,5 @@
 use Rattle.std.proofs.Common.{◌≡◌, List, Ordering, ap, subst, sym}
-use Rattle.exam_rules.specs.Relations.{Relations, code_cmp}
+use Rattle.exam_rules.specs.Relations.{Relations}
 use Rattle.exam_office.specs.declared.before.Before.{Before}
 use Rattle.exam_office.specs.TablesBefore.{WasTable}
 use Rattle.exam_rows.specs.declared.differences.Difference.{Difference}

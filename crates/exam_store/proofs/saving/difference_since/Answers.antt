@@ -1,6 +1,5 @@
-use Rattle.std.proofs.Common.{sym, subst}
+use Rattle.std.proofs.Common.{subst}
 use Rattle.exam_store.specs.Saves.{TurnsTable}
-use Rattle.exam_rules.specs.Relations.{row_at}
 use Rattle.exam_office.specs.TablesBefore.{WasTable}
 use Rattle.exam_store.proofs.saving.difference_since.Goals as goal
 
