@@ -1,6 +1,7 @@
 -- A register that goes out line by line.
-use Rattle.std.proofs.Common.{◌≡◌, ◌⊎◌, ℕ, ◌+◌, ◌≤◌, Result, Ok, Err, OnOk, OnErr, List, [], ◌∷◌, ◌++◌, length, Option, refl, ap, sym, subst, ◌∙◌, inl, inr, arith, append_assoc, append-nil}
+use Rattle.std.proofs.Common.{◌≡◌, ◌⊎◌, ℕ, ◌+◌, ◌≤◌, Result, Ok, Err, OnOk, OnErr, List, [], ◌∷◌, ◌++◌, length, drop, Option, refl, ap, sym, subst, ◌∙◌, inl, inr, arith, append_assoc, append-nil}
 use Rattle.std.specs.List.{flat_map}
+use Rattle.std.proofs.Math.Seq.{drop-append_seam}
 use Rattle.std.proofs.lemmas.List.{length-append}
 use Rattle.std.specs.Io.KnownBytes.{Appends}
 use Rattle.std.proofs.KnownBytes.{Appends-nil, Appends-trans}
@@ -97,6 +98,11 @@ module _ (code : List ℕ) (count : ℕ) (all : List AppealRow) (old : Option (L
           let longer : length left ≡ length (row ∷ rest) = ap (λ (xs : List AppealRow). length xs) is in
           let rows : length all ≡ length (so_far.given ++ left) = ap (λ (xs : List AppealRow). length xs) so_far.rows in
           absurd (omega (arith, few, parted, longer, rows, many, end))
+
+  -- those after the count are still to come
+  pub left_after : (i : ℕ) (left : List AppealRow) (now : Option (List ℕ)) → i ≡ count → HasStreamed i left now → left ≡ drop count all
+  left_after i left now end so_far =
+      sym (drop-append_seam so_far.given left) ∙ ap (λ n. drop n (so_far.given ++ left)) (so_far.many ∙ end) ∙ ap (drop count) (sym so_far.rows)
 
   -- the next did not come, or its line went out in part
   pub cut_off : (i : ℕ) (left after : List AppealRow) (now then : Option (List ℕ)) → length all ≡ count → HasStreamed i left now

@@ -1,5 +1,5 @@
 //! The appeal register of a session, from a source that gives the appeals one by one.
-ghost use Rattle.std.specs.Prelude.{◌≡◌, ◌⊎◌, ◌∷◌, ◌++◌, [], length, IsTrue, OnOk, OnErr, IfErr};
+ghost use Rattle.std.specs.Prelude.{◌≡◌, ◌⊎◌, ◌∷◌, ◌++◌, [], length, drop, IsTrue, OnOk, OnErr, IfErr};
 ghost use Rattle.std.specs.Io.KnownBytes.{Appends};
 ghost use Rattle.exam_send.specs.Sending.{AppendsBeginning};
 ghost use Rattle.exam_office.specs.declared.view.AppealRow.{AppealRow as Row};
@@ -26,6 +26,8 @@ pub fn register_stream<A: AppealSource, W: Write>(
     ensures sheet { A.IsHonest source.new → length (A.coming source.old) ≡ count
         → spec.Streams W.contents result writer.old writer.new
         (spec.register_text session.now (A.coming source.old)) }
+    ensures rest { A.IsHonest source.new
+        → OnOk result (A.coming source.new ≡ drop count (A.coming source.old)) }
     ensures fault { IfErr result (λ e. IsTrue (spec.is_stream_fault e)) }
 {
     send_heading(alloc, session, count, writer)?;

@@ -1,3 +1,4 @@
 pub mod Given
 pub mod Shown
 pub mod Imported
+pub mod Streaming

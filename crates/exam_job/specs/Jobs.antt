@@ -13,6 +13,7 @@ use Rattle.exam_office.specs.Imports.{ImportRows}
 use Rattle.exam_files.specs.ImportFiles.{import_of}
 use Rattle.exam_line.specs.Lines.{Said, Task}
 use Rattle.exam_line.specs.Lines as line
+use Rattle.exam_line.specs.declared.line.Sheet.TheVariants as sheet
 use Rattle.exam_send.specs.Given.{Gave}
 use Rattle.exam_store.specs.Applied.{IsApplied}
 use Rattle.exam_rows.specs.Transactions.{IsSound}
@@ -20,7 +21,7 @@ use Rattle.exam_store.specs.Kept.{Rekeeps}
 use Rattle.exam_store.specs.Stores.{OfficeIn}
 use Rattle.exam_job.specs.Printed.{Prints, Reports, reply_text}
 use Rattle.exam_job.specs.Reading.{Reads, most_read}
-use Rattle.exam_job.specs.Sheets.{PrintsSheet}
+use Rattle.exam_job.specs.Sheets.{PrintsAppeals, PrintsSheet}
 use Rattle.exam_job.specs.declared.report.JobFault.{JobFault}
 use Rattle.exam_job.specs.declared.report.JobFault.TheVariants.{File, Refused}
 
@@ -96,6 +97,8 @@ Does g contents (line.decide decision) today input rest old before result new af
     (rest ≡ input) × Decides g contents decision today old before result new after
 Does g contents (line.serve port) today input rest old before result new after =
     (rest ≡ input) × (new ≡ old) × (result ≡ Ok tt) × (after ≡ before)
+Does g contents (line.print session sheet.Appeals) today input rest old before result new after =
+    (rest ≡ input) × PrintsAppeals g contents session old before result new after
 Does g contents (line.print session which) today input rest old before result new after =
     (rest ≡ input) × (new ≡ old) × PrintsSheet contents old.office session which before result after
 

@@ -1,8 +1,11 @@
 -- What is printed of a session's sheet.
-use Rattle.std.specs.Prelude.{◌≡◌, ◌⊎◌, ℕ, true, List, Option, Some, None, Result, Ok, Err}
+use Rattle.std.specs.Prelude.{◌≡◌, ◌⊎◌, ℕ, Bool, true, false, IsTrue, List, Option, Some, None, Result, Ok, Err, IfErr}
 use Rattle.std.specs.Io.KnownBytes.{Appends}
+use Rattle.sqlite_trees.specs.declared.store.Store.{Ghosts}
+use Rattle.sqlite.specs.Held.{state}
+use Rattle.sqlite.specs.State.{HasCleanDisk, Survives}
 use Rattle.exam_types.specs.declared.refusal.Refusal.{Refusal}
-use Rattle.exam_types.specs.declared.refusal.Refusal.TheVariants.{NoMemory, UnknownSession}
+use Rattle.exam_types.specs.declared.refusal.Refusal.TheVariants.{BadStore, NoMemory, Store, UnknownSession}
 use Rattle.exam_rules.specs.declared.rows.Session.{Session}
 use Rattle.exam_rules.specs.Relations.{Code, code_cmp, has_row, row_at}
 use Rattle.exam_office.specs.State.{State}
@@ -16,7 +19,10 @@ use Rattle.exam_files.specs.Registers.{appeal_register}
 use Rattle.exam_files.specs.Shortages.{shortage_text}
 use Rattle.exam_line.specs.declared.line.Sheet.{Sheet}
 use Rattle.exam_line.specs.declared.line.Sheet.TheVariants as sheet
+use Rattle.exam_rows.specs.Loaded.{OnlyReads}
 use Rattle.exam_send.specs.Sending.{AppendsBeginning}
+use Rattle.exam_store.specs.Kept.{Keeps}
+use Rattle.exam_store.specs.Stores.{OfficeIn}
 use Rattle.exam_job.specs.declared.report.JobFault.{JobFault}
 use Rattle.exam_job.specs.declared.report.JobFault.TheVariants.{File, Net, Refused, Write}
 
@@ -60,6 +66,27 @@ Sends contents text before (Err Write) after =
 Sends contents text before (Err File) after = ⊥
 Sends contents text before (Err Net) after = ⊥
 
+-- why a sheet that goes out line by line may break off: memory is short, a call of the database failed, or a write
+abbrev pub is_break : JobFault → Bool
+is_break (Refused NoMemory) = true
+is_break (Refused Store) = true
+is_break Write = true
+is_break _ = false
+
+-- a sheet that goes out line by line: whole, or nothing where it is refused, or a beginning after a fault
+abbrev pub Streams : {W : Type 0} → (W → Option (List ℕ)) → Result (List ℕ) Refusal
+    → W → Result (Unit {0}) JobFault → W → Type 0
+Streams contents (Ok text) before (Ok done) after = Appends (contents before) (contents after) text
+Streams contents (Ok text) before (Err fault) after =
+    IsTrue (is_break fault) × AppendsBeginning (contents before) (contents after) text
+Streams contents (Err refusal) before result after = (result ≡ Err (Refused refusal)) × (after ≡ before)
+
+-- the appeals go out line by line, each other sheet at once
+abbrev pub SendsSheet : {W : Type 0} → (W → Option (List ℕ)) → Sheet → Result (List ℕ) Refusal
+    → W → Result (Unit {0}) JobFault → W → Type 0
+SendsSheet contents sheet.Appeals text before result after = Streams contents text before result after
+SendsSheet contents which text before result after = Sends contents text before result after
+
 -- memory is short, and nothing goes out
 abbrev pub IsShort : {W : Type 0} → W → Result (Unit {0}) JobFault → W → Type 0
 IsShort before result after = (result ≡ Err (Refused NoMemory)) × (after ≡ before)
@@ -76,4 +103,20 @@ abbrev pub PrintsSheet : {W : Type 0} → (W → Option (List ℕ)) → State �
     → W → Result (Unit {0}) JobFault → W → Type 0
 PrintsSheet contents office s which before result after =
     ((has_row code_cmp office.relations.sessions s ≡ true) × IsShort before result after)
-    ⊎ ((text : Result (List ℕ) Refusal) × IsSheetOf office s which text × Sends contents text before result after)
+    ⊎ ((text : Result (List ℕ) Refusal) × IsSheetOf office s which text
+    × SendsSheet contents which text before result after)
+
+-- The appeals of a session, printed as the database shows them. They are the office's where the database keeps
+-- it. The office stays, and the database only is read.
+pub record PrintsAppeals {S W : Type 0} (g : Ghosts S) (contents : W → Option (List ℕ)) (s : Code)
+    (old : OfficeIn S) (before : W) (result : Result (Unit {0}) JobFault) (new : OfficeIn S) (after : W) : Type 0 where
+  pub sheet : HasCleanDisk (state g new.database) → Keeps (state g old.database).now old.office
+      → PrintsSheet contents old.office s sheet.Appeals before result after
+  pub unknown : has_row code_cmp old.office.relations.sessions s ≡ false
+      → (result ≡ Err (Refused UnknownSession)) × (new ≡ old) × (after ≡ before)
+  pub office : new.office ≡ old.office
+  pub left : HasCleanDisk (state g new.database) → has_row code_cmp old.office.relations.sessions s ≡ true
+      → OnlyReads (state g old.database) (state g new.database) result
+  pub survives : Survives (state g old.database) (state g new.database) (λ _. ⊥)
+  pub fault : has_row code_cmp old.office.relations.sessions s ≡ true → IfErr result (λ f.
+      IsTrue (is_break f) ⊎ (f ≡ Refused BadStore))

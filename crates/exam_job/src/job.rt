@@ -4,11 +4,12 @@ ghost use Rattle.exam_types.specs.declared.refusal.Refusal.TheVariants.{NoMemory
 ghost use Rattle.exam_line.specs.Lines.{shown, task_shown};
 ghost use Rattle.exam_job.specs.Jobs as spec;
 
+use crate::appeals::print_appeals;
 use crate::lines::reply_line;
 use crate::reading::read_import_file;
 use crate::report::{DONE, JobFault, print, print_fault};
 use crate::sheets::print_sheet;
-use exam_line::{Job, Line};
+use exam_line::{Job, Line, Sheet};
 use exam_office::{Command, Decision, Kind, Reply};
 use exam_store::Store;
 use exam_types::{Day, Refusal};
@@ -65,6 +66,10 @@ pub fn carry_out<S: Alter, R: Read, O: Write>(
         Job::Decide(decision) => decide(alloc, store, decision, line.today, out),
         // The program serves over sockets, and there is nothing to do over these outputs.
         Job::Serve { .. } => Ok(()),
+        Job::Sheet {
+            session,
+            sheet: Sheet::Appeals,
+        } => print_appeals(alloc, store, session, out),
         Job::Sheet { session, sheet } => print_sheet(alloc, store, session, sheet, out),
     }
 }

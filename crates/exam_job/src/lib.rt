@@ -1,6 +1,7 @@
 //! What a command line of the program does: to the office in a store, and to its outputs.
 #![tactic(auto)]
 
+mod appeals;
 mod job;
 mod lines;
 mod reading;

@@ -8,6 +8,7 @@ ghost use Rattle.exam_job.specs.declared.report.JobFault.TheVariants.{Refused};
 use crate::lines::fault_line;
 use exam_files::SheetFault;
 use exam_line::LineFault;
+use exam_rows::SendFault;
 use exam_send::send;
 use exam_types::Refusal;
 use std::io::Write;
@@ -46,6 +47,17 @@ impl From<SheetFault> for JobFault {
         match fault {
             SheetFault::Refused(refusal) => JobFault::Refused(refusal),
             SheetFault::Write => JobFault::Write,
+        }
+    }
+}
+
+impl From<SendFault> for JobFault {
+    ghost from_gives = { λ sent fault. fault ≡ spec.fault_of_send sent };
+
+    fn from(fault: SendFault) -> JobFault {
+        match fault {
+            SendFault::Refused(refusal) => JobFault::Refused(refusal),
+            SendFault::Write => JobFault::Write,
         }
     }
 }

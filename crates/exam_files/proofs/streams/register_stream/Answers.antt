@@ -1,6 +1,6 @@
 use Rattle.std.proofs.Common.{rules, ◌≡◌, ◌≤◌, Err, arith}
 use Rattle.exam_files.specs.Registers.{register_text}
-use Rattle.exam_files.proofs.Streaming.{all_streamed, cut_off, fault_streams, heading_cut, none_streamed, one_streamed}
+use Rattle.exam_files.proofs.Streaming.{all_streamed, cut_off, fault_streams, heading_cut, left_after, none_streamed, one_streamed}
 use Rattle.exam_files.proofs.streams.register_stream.Goals as goal
 
 pub returns-in_err-send_heading-clause-sheet : goal.returns-in_err-send_heading-clause-sheet
@@ -40,3 +40,8 @@ returns-clause-sheet g c = λ honest many.
     let end : c.args.count ≤ c.loop-place._place = omega (arith, c.loop-place-test.false) in
     all_streamed c.args.session.now c.args.count (g.A.AppealSource.coming c.args.source.now) (g.W.Write.contents c.args.writer.now) c.loop-place._place
     (g.A.AppealSource.coming c.loop-place.source) (g.W.Write.contents c.loop-place.writer) many end (c.loop-place.invariant.1 honest)
+
+pub returns-clause-rest : goal.returns-clause-rest
+returns-clause-rest g c = λ honest.
+    left_after c.args.session.now c.args.count (g.A.AppealSource.coming c.args.source.now) (g.W.Write.contents c.args.writer.now) c.loop-place._place
+    (g.A.AppealSource.coming c.loop-place.source) (g.W.Write.contents c.loop-place.writer) (omega (arith, c.loop-place-test.false, c.loop-place.auto._place-end)) (c.loop-place.invariant.1 honest)
