@@ -1,9 +1,8 @@
 -- What a line does to an office in memory is what its order asks of the office.
 use Rattle.std.proofs.Common.{◌≡◌, ◌∙◌, ℕ, List, Option, Some, refl, sym, ap, subst, inl, inr}
 use Rattle.std.specs.Prelude.{Result, Ok, Err, IsTrue}
-use Rattle.sqlite.specs.Held.{Held, state}
+use Rattle.sqlite.specs.Held.{state}
 use Rattle.sqlite.specs.Steps.{over_memory}
-use Rattle.sqlite_trees.specs.View.{doubt}
 use Rattle.sqlite_trees.specs.declared.memory.MemStore.{MemStore}
 use Rattle.exam_types.specs.declared.refusal.Refusal.{Refusal}
 use Rattle.exam_types.specs.declared.refusal.Refusal.TheVariants.{NoMemory}
@@ -16,7 +15,6 @@ use Rattle.exam_office.specs.Imports.{ImportRows}
 use Rattle.exam_files.specs.ImportFiles.{import_of}
 use Rattle.exam_line.specs.Lines.{Task}
 use Rattle.exam_line.specs.Lines as line
-use Rattle.exam_rows.specs.Transactions.{IsSound}
 use Rattle.exam_store.specs.Stores.{OfficeIn}
 use Rattle.exam_job.specs.Jobs.{Commands, Decides, Does, Imports, ImportsFile, IsCarriedOut, Stops, TellsReply, denoted, unread, short}
 use Rattle.exam_job.specs.declared.report.JobFault.{JobFault}
@@ -24,11 +22,7 @@ use Rattle.exam_job.specs.declared.report.JobFault.TheVariants.{File, Net, Refus
 use Rattle.exam_day.specs.Following.{Fails, FollowsCommand, IsDone, Outcome, TellsAnswer, is_failure, told}
 use Rattle.exam_day.specs.Orders.{command_of, import_command}
 use Rattle.exam_day.specs.Memory.{IsKeptInMemory, KeepsOn}
-
--- a disk in memory is clean and open
-sound : (h : Held MemStore) → IsSound (state over_memory h)
-unfolding doubt
-sound h = (refl, refl)
+use Rattle.exam_day.proofs.Sheets.{sheet_keeps, sound, unchanged}
 
 module _ {W : Type 0} (contents : W → Option (List ℕ)) (today : ℕ) (file : List ℕ) (rest : Option (List ℕ)) (old new : OfficeIn MemStore) (before after : W) where
   -- ---- what is kept
@@ -40,9 +34,6 @@ module _ {W : Type 0} (contents : W → Option (List ℕ)) (today : ℕ) (file :
   rekept done (Err e) carried kept =
       let same = carried.applied.made.same (sound new.database) in
       (carried.kept (sound new.database) kept.0, same.1 ∙ kept.1 ∙ sym same.0)
-
-  unchanged : new ≡ old → KeepsOn old new
-  unchanged same = subst (λ (o : OfficeIn MemStore). KeepsOn old o) (sym same) (λ kept. kept)
 
   -- ---- a command
 
@@ -76,7 +67,7 @@ module _ {W : Type 0} (contents : W → Option (List ℕ)) (today : ℕ) (file :
       → FollowsCommand (Some (import_command import)) today old.office (told result) new.office × KeepsOn old new
   imports (Ok rows) result h = commanded (command.Import rows) result h
   imports (Err refusal) result (fault, same, unsent) =
-      (inl (ap told fault, ap (λ (o : OfficeIn MemStore). o.office) same), unchanged same)
+      (inl (ap told fault, ap (λ (o : OfficeIn MemStore). o.office) same), unchanged old new same)
 
   imported : (kind : Kind) (result : Result (Unit {0}) JobFault) → ImportsFile over_memory contents kind today (Some file) rest old before result new after
       → FollowsCommand (Some (import_command (import_of kind file))) today old.office (told result) new.office × KeepsOn old new
@@ -84,18 +75,18 @@ module _ {W : Type 0} (contents : W → Option (List ℕ)) (today : ℕ) (file :
       subst (λ (i : Result ImportRows Refusal). FollowsCommand (Some (import_command i)) today old.office (told result) new.office × KeepsOn old new)
       (sym gave.known) (imports import result h)
   imported kind result (unread gave stops) =
-      (import_failed (import_of kind file) (told result) (failing File result refl stops), unchanged stops.1)
+      (import_failed (import_of kind file) (told result) (failing File result refl stops), unchanged old new stops.1)
   imported kind result (short gave stops) =
-      (import_failed (import_of kind file) (told result) (failing (Refused NoMemory) result refl stops), unchanged stops.1)
+      (import_failed (import_of kind file) (told result) (failing (Refused NoMemory) result refl stops), unchanged old new stops.1)
 
   -- ---- a line
 
   office_stays : new ≡ old → (new.office ≡ old.office) × KeepsOn old new
-  office_stays same = (ap (λ (o : OfficeIn MemStore). o.office) same, unchanged same)
+  office_stays same = (ap (λ (o : OfficeIn MemStore). o.office) same, unchanged old new same)
 
   decided : (decision : Decision) (result : Result (Unit {0}) JobFault) → Decides over_memory contents decision today old before result new after
       → IsDone (command.Decide decision) today old.office (told result) new.office × KeepsOn old new
-  decided decision result (inl stops) = (inr (failing (Refused NoMemory) result refl stops), unchanged stops.1)
+  decided decision result (inl stops) = (inr (failing (Refused NoMemory) result refl stops), unchanged old new stops.1)
   decided decision result (inr h) = commanded (command.Decide decision) result h
 
   pub follows : (task : Task) (result : Result (Unit {0}) JobFault) → Does over_memory contents task today (Some file) rest old before result new after
@@ -107,4 +98,4 @@ module _ {W : Type 0} (contents : W → Option (List ℕ)) (today : ℕ) (file :
   follows (line.close_hall session hall) result h = commanded (command.CloseHall session hall) result h.1
   follows (line.decide decision) result h = decided decision result h.1
   follows (line.serve port) result h = office_stays h.1
-  follows (line.print session which) result h = office_stays h.1
+  follows (line.print session which) result h = sheet_keeps old new contents today (Some file) rest before result after session which h

@@ -1,4 +1,5 @@
 mod Reading
+mod Sheets
 mod Carried
 mod KeptOffice
 mod Listing

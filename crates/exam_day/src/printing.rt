@@ -9,6 +9,7 @@ ghost use Rattle.exam_office.specs.State.{empty_state};
 ghost use Rattle.exam_line.specs.Lines as lines;
 ghost use Rattle.exam_store.specs.Kept.{IsKept};
 ghost use Rattle.exam_day.specs.Following as spec;
+ghost use Rattle.exam_day.specs.Memory.{IsKeptInMemory, KeepsOn};
 ghost use Rattle.exam_day.specs.Orders.{sheet_asked, sheet_of, shown};
 ghost use Rattle.exam_day.specs.Printing.{PrintsAsked};
 
@@ -70,9 +71,10 @@ fn print_asked<O: Write>(
     words: &[String],
     out: &mut O,
 ) -> Outcome
-    ensures sheet { PrintsAsked O.contents store.old.office (sheet_asked (map string_bytes words.now)) out.old
-        result out.new }
-    ensures same { store.new ≡ store.old }
+    ensures sheet { IsKeptInMemory store.old → PrintsAsked O.contents store.old.office
+        (sheet_asked (map string_bytes words.now)) out.old result out.new }
+    ensures office { store.new.office ≡ store.old.office }
+    ensures kept { KeepsOn store.old store.new }
 {
     match parse_line(alloc, words) {
         Ok(line) => print_line(alloc, store, &line, out),
@@ -87,9 +89,10 @@ fn print_line<O: Write>(
     line: &Line<'_>,
     out: &mut O,
 ) -> Outcome
-    ensures sheet { PrintsAsked O.contents store.old.office (sheet_of (lines.task_shown line.now.job)) out.old
-        result out.new }
-    ensures same { store.new ≡ store.old }
+    ensures sheet { IsKeptInMemory store.old → PrintsAsked O.contents store.old.office
+        (sheet_of (lines.task_shown line.now.job)) out.old result out.new }
+    ensures office { store.new.office ≡ store.old.office }
+    ensures kept { KeepsOn store.old store.new }
 {
     if is_sheet(line) {
         told(carry_out(alloc, line, store, &mut io::empty(), out))
