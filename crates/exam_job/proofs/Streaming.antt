@@ -1,5 +1,5 @@
 -- The appeals of a session, as they go out line by line, are its register.
-use Rattle.std.proofs.Common.{◌≡◌, ◌≢◌, ◌⊎◌, ◌∙◌, inl, inr, ℕ, List, [], ◌++◌, length, Bool, true, false, Option, Some, None, Result, Ok, Err, refl, sym, ap, ap₂, subst, append-nil}
+use Rattle.std.proofs.Common.{◌≡◌, ◌≢◌, ◌⊎◌, ◌∙◌, inl, inr, ℕ, List, [], ◌++◌, true, false, Option, Some, None, Result, Ok, Err, refl, sym, ap, ap₂, subst, append-nil}
 use Rattle.std.specs.Prelude.{IsErrAnd, IfErr, IsTrue, is_some}
 use Rattle.std.specs.Io.KnownBytes.{Appends}
 use Rattle.std.proofs.KnownBytes.{Appends-kept}
@@ -7,7 +7,6 @@ use Rattle.std.proofs.lemmas.List.{length-map}
 use Rattle.std.proofs.lemmas.List.Folds.{flat_map-map}
 use Rattle.sqlite.specs.State.{State as Shown, IsUnchanged}
 use Rattle.exam_send.specs.Sending.{AppendsBeginning}
-use Rattle.exam_types.specs.declared.refusal.Refusal.{Refusal}
 use Rattle.exam_types.specs.declared.refusal.Refusal.TheVariants.{BadStore, NoMemory, Store, UnknownSession}
 use Rattle.exam_rules.specs.declared.rows.Session.{Session}
 use Rattle.exam_rules.specs.Relations.{Code, code_cmp, has_row, row_at}
@@ -22,7 +21,7 @@ use Rattle.exam_rows.specs.Streamed.{appeals_in, is_send_fault, text_of}
 use Rattle.exam_job.specs.Printed.{Flushes, fault_of_send}
 use Rattle.exam_job.specs.Sheets.{Streams, is_break}
 use Rattle.exam_job.specs.declared.report.JobFault.{JobFault}
-use Rattle.exam_job.specs.declared.report.JobFault.TheVariants.{Refused, Write}
+use Rattle.exam_job.specs.declared.report.JobFault.TheVariants.{Refused}
 
 -- a fault of the store, or a failed write
 pub breaks_off : (e : SendFault) → IsTrue (is_send_fault e) → IsTrue (is_break (fault_of_send e)) ⊎ (fault_of_send e ≡ Refused BadStore)

@@ -33,7 +33,6 @@ use Rattle.exam_tables.proofs.Keys.{text_itself, text_same}
 use Rattle.exam_tables.proofs.SessionAppeals.{begins_in_order, is_of, query_stops, shown_cmp, shows_in_order}
 use Rattle.exam_types.specs.declared.refusal.Refusal.{Refusal}
 use Rattle.exam_types.specs.declared.refusal.Refusal.TheVariants.{BadStore, NoMemory}
-use Rattle.exam_rules.specs.declared.rows.Appeal.{Appeal}
 use Rattle.exam_rules.specs.Relations.{Code, appeal_cmp, same_code}
 use Rattle.exam_rules.proofs.Naming.{same_code_exact, same_code_itself}
 use Rattle.exam_rows.specs.declared.send_fault.SendFault.{SendFault}

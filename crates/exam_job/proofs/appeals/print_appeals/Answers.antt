@@ -1,4 +1,4 @@
-use Rattle.std.proofs.Common.{◌≡◌, ◌∙◌, Ok, Err, inl, inr, refl, ap}
+use Rattle.std.proofs.Common.{◌≡◌, ◌∙◌, Err, inr, refl, ap}
 use Rattle.exam_files.specs.OfficeSheets.{register_of}
 use Rattle.exam_job.specs.Printed.{fault_of_send}
 use Rattle.exam_job.proofs.Streaming.{breaks_off, flush_fault, part, read_only, told, unknown_fault, whole}
