@@ -1,10 +1,10 @@
 //! Registers whose rows come one by one, from a source that keeps its word and from others.
-use super::reading::{hall, number, session};
+use super::reading::session;
 use super::slow::Slow;
 use exam_files::{SheetFault, register_stream};
 use exam_office::{AppealRow, AppealSource, AppealState, ListedAppeals};
 use exam_rules::Subject;
-use exam_types::{Day, Reference, Refusal};
+use exam_types::{Day, HallCode, Number, Reference, Refusal};
 use std::alloc::Global;
 use std::test::Fail;
 
@@ -17,16 +17,15 @@ enum End {
     Lost,
 }
 
-/// Gives a row so many times, whatever was counted, and then ends. Of what it gives nothing is claimed.
+/// Gives one row so many times, whatever was counted, and then ends. Of what it gives nothing is claimed.
 #[derive(Drop)]
 struct Careless {
-    row: AppealRow,
     left: u32,
     end: End,
 }
 
 impl AppealSource for Careless {
-    ghost use Rattle.std.specs.Prelude.{⊥, []};
+    ghost use Rattle.std.specs.Prelude.{[]};
 
     ghost coming = { λ s. [] };
 
@@ -35,7 +34,10 @@ impl AppealSource for Careless {
     fn next(&mut self) -> Result<Option<AppealRow>, Refusal> {
         if self.left > 0 {
             self.left -= 1;
-            return Ok(Some(self.row));
+            return match row() {
+                Some(row) => Ok(Some(row)),
+                None => Err(Refusal::Store),
+            };
         }
         match self.end {
             End::Over => Ok(None),
@@ -44,13 +46,13 @@ impl AppealSource for Careless {
     }
 }
 
-fn row() -> Result<AppealRow, Fail> {
-    Ok(AppealRow {
-        number: number(1)?,
-        reference: Reference::parse(b"HA1").ok_or("reference")?,
-        subject: Subject::Hall(hall(b"B")?),
+fn row() -> Option<AppealRow> {
+    Some(AppealRow {
+        number: Number::new(1)?,
+        reference: Reference::parse(b"HA1")?,
+        subject: Subject::Hall(HallCode::parse(b"B")?),
         state: AppealState::Pending,
-        lodged: Day::parse(b"2027-05-30").ok_or("day")?,
+        lodged: Day::parse(b"2027-05-30")?,
     })
 }
 
@@ -71,7 +73,7 @@ fn streamed<A: AppealSource>(
 
 #[test]
 fn a_register_of_rows_in_memory_has_a_line_for_each(rt: HostRuntime) -> Result<(), Fail> {
-    let rows = [row()?, row()?];
+    let rows = [row().ok_or("row")?, row().ok_or("row")?];
     let mut source = ListedAppeals { rows: &rows };
     let (answer, text) = streamed(rt.alloc(), &mut source, 2, 1000)?;
     assert!(rt; answer == Ok(()));
@@ -87,7 +89,6 @@ fn a_register_of_rows_in_memory_has_a_line_for_each(rt: HostRuntime) -> Result<(
 #[test]
 fn no_more_rows_are_asked_for_than_were_counted(rt: HostRuntime) -> Result<(), Fail> {
     let mut source = Careless {
-        row: row()?,
         left: 5,
         end: End::Over,
     };
@@ -101,7 +102,6 @@ fn no_more_rows_are_asked_for_than_were_counted(rt: HostRuntime) -> Result<(), F
 #[test]
 fn a_source_that_ends_early_is_a_bad_store(rt: HostRuntime) -> Result<(), Fail> {
     let mut source = Careless {
-        row: row()?,
         left: 1,
         end: End::Over,
     };
@@ -114,7 +114,6 @@ fn a_source_that_ends_early_is_a_bad_store(rt: HostRuntime) -> Result<(), Fail> 
 #[test]
 fn what_the_source_refuses_is_handed_on(rt: HostRuntime) -> Result<(), Fail> {
     let mut source = Careless {
-        row: row()?,
         left: 1,
         end: End::Lost,
     };
@@ -127,7 +126,7 @@ fn what_the_source_refuses_is_handed_on(rt: HostRuntime) -> Result<(), Fail> {
 #[test]
 fn a_register_is_cut_where_its_writer_fails(rt: HostRuntime) -> Result<(), Fail> {
     for room in 0..29 + LINE.len() {
-        let rows = [row()?];
+        let rows = [row().ok_or("row")?];
         let mut source = ListedAppeals { rows: &rows };
         let (answer, text) = streamed(rt.alloc(), &mut source, 1, room)?;
         assert!(rt; answer == Err(SheetFault::Write));
