@@ -12,4 +12,5 @@ mod registers;
 mod sheets;
 mod shortage_sheets;
 mod slow;
+mod streams;
 mod writers;
