@@ -1,4 +1,5 @@
 //! An office as the rows of its tables.
+mod appeals;
 mod doctored;
 mod lists;
 mod opening;

@@ -281,6 +281,10 @@ const KEPT_APPEALS: [&str; 9] = [
     "4|NEEDSTWO|S1|3||8|25|Eight|3|No|2027-05-07|\n",
 ];
 
+/// Their register, by number and reference.
+const REGISTER: &str =
+    "APPEALS session S1\nappeals 9\n0000001 HALLNOT          hall        refused    2199-12-31 B\n0000001 HALLOPEN         hall        open       2000-01-01 A\n0000001 HALLTWO          hall        retracted  2027-05-01 B\n0000002 CLASHOLD         clash       superseded 2027-05-03 MA-1\n0000002 CLASHYES         clash       granted    2027-05-02 MA-1\n0000003 NEEDSALL         arrangement granted    2027-05-04 step-free+screen+reader+small-room+computer 100\n0000003 NEEDSNONE        arrangement superseded 2027-05-05 - 0\n0000004 NEEDSONE         arrangement open       2027-05-06 step-free 1\n0000004 NEEDSTWO         arrangement refused    2027-05-07 small-room 25\n";
+
 /// The statement that adds a row of a table, of its columns as they are shown.
 fn insert_of(alloc: Global, row: &str) -> Result<String, Fail> {
     let mut sql = String::from_str(alloc, "INSERT INTO appeal VALUES (")?;
@@ -304,7 +308,8 @@ fn insert_of(alloc: Global, row: &str) -> Result<String, Fail> {
     Ok(sql)
 }
 
-/// An office with every kind and state of appeals is opened, and a later command leaves them as they are.
+/// An office with every kind and state of appeals is opened, a later command leaves them as they are, and so does
+/// their register.
 #[test]
 fn appeals_of_all_kinds_and_states_are_kept(rt: HostRuntime) -> Result<(), Fail> {
     let alloc = rt.alloc();
@@ -316,6 +321,7 @@ fn appeals_of_all_kinds_and_states_are_kept(rt: HostRuntime) -> Result<(), Fail>
     let mut store = opened(alloc, conn)?;
     let added = "added 1 changed 0 same 0\n";
     expect_done(&rt, &mut store, "import entries f", ONE_ENTRY, added)?;
+    expect_done(&rt, &mut store, "appeals S1", "", REGISTER)?;
     let mut conn = store.close();
     assert_eq!(rt;
         rows_of(alloc, &mut conn, APPEALS)?.as_str(),

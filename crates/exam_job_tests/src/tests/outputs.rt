@@ -157,6 +157,7 @@ const LOST: &[(&str, usize, &str, &str)] = &[
     ("reinstate 0000001 MA-1", 4, "rein", FIRST_SEATED),
     ("withdraw 0000001 MA-1", 9, "withdrawn", NOBODY),
     ("export S1", 30, "session,number,paper,hall,desk", NOBODY),
+    ("appeals S1", 20, "APPEALS session S1\na", NOBODY),
 ];
 
 #[test]
@@ -180,6 +181,11 @@ const HELD_BACK: &[(&str, &str, &str)] = &[
     ("withdraw 0000001 MA-1", "withdrawn\n", NOBODY),
     ("reinstate 0000001 MA-1", "reinstated\n", FIRST_SEATED),
     ("export S1", FIRST_SEATED, FIRST_SEATED),
+    (
+        "appeals S1",
+        "APPEALS session S1\nappeals 0\n",
+        FIRST_SEATED,
+    ),
 ];
 
 #[test]
