@@ -180,10 +180,10 @@ drafted done today office old part was lists seats made good up agrees ordered r
     good = good_after done today office after made.reply old.relations was_made within step;
     listed_now = lists_now;
     was_good = subst IsGood (sym before) good;
-    were_lists = λ back members halls. subst (λ (r : Relations). AreListsOf r back) (sym facts_back.1) (record {
+    were_lists = λ back were. subst (λ (r : Relations). AreListsOf r back) (sym facts_back.1) (record {
       numbers = lists_were.numbers;
-      members = λ s. members s ∙ lists_back.members s ∙ lists_were.members s;
-      halls = λ s. halls s ∙ lists_back.halls s ∙ lists_were.halls s;
+      members = λ s. were.0 s ∙ lists_back.members s ∙ lists_were.members s;
+      halls = λ s. were.1 s ∙ lists_back.halls s ∙ lists_were.halls s;
       rising = lists_were.rising;
     });
     there = facts_back.0;

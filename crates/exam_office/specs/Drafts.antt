@@ -11,6 +11,7 @@ use Rattle.exam_office.specs.Exchanges.{taken_back, without_old}
 use Rattle.exam_office.specs.Good.{IsGood}
 use Rattle.exam_office.specs.NextPlans.{Plans}
 use Rattle.exam_office.specs.Orders.{IsInOrder}
+use Rattle.exam_office.specs.Parts.{Agrees}
 use Rattle.exam_office.specs.Relisting.{HasList, halls_before, members_before}
 use Rattle.exam_office.specs.State.{Seats, State}
 use Rattle.exam_office.specs.Steps.{Step}
@@ -61,13 +62,18 @@ state_after part seats made = record {
   seats = seats_after made.plans part.plans.entries seats;
 }
 
+-- the second lists are those before the command, if the first are those after it
+abbrev pub WereLists : Made → SessionLists → SessionLists → Type 0
+WereLists made after before =
+    ((s : Code) → listed before.members.entries s ≡ members_before made.lists after s)
+    × ((s : Code) → listed before.halls.entries s ≡ halls_before made.lists after s)
+
 -- what a draft keeps, so that it may be finished and taken back
 pub record IsDraft (part : Part) (lists : SessionLists) (seats : Seats) (made : Made) : Type 0 where
   pub good : IsGood (state_after part seats made)
   pub listed_now : AreListsOf (relations_of part.facts) lists
   pub was_good : IsGood (state_before part seats made)
-  pub were_lists : (old : SessionLists) → ((s : Code) → listed old.members.entries s ≡ members_before made.lists lists s)
-      → ((s : Code) → listed old.halls.entries s ≡ halls_before made.lists lists s)
+  pub were_lists : (old : SessionLists) → WereLists made lists old
       → AreListsOf (restored made.facts (relations_of part.facts)) old
   pub there : IsThere made.facts (relations_of part.facts)
   pub list : HasList made.lists lists
@@ -75,8 +81,14 @@ pub record IsDraft (part : Part) (lists : SessionLists) (seats : Seats) (made : 
   pub order : IsInOrder (state_after part seats made)
   pub was_order : IsInOrder (state_before part seats made)
 
+-- the office is good, these are its seats, and the part agrees with it on what the command reads
+abbrev pub IsOfficeOf : Command → Seats → State → State → Type 0
+IsOfficeOf done seats part office =
+    IsGood office × IsInOrder office × (office.seats ≡ seats) × Agrees done office part
+
 -- the draft of the command over the office
-pub record IsDraftOf (done : Command) (today : ℕ) (office : State) (part : Part) (lists : SessionLists) (seats : Seats) (made : Made) : Type 0 where
+pub record IsDraftOf (done : Command) (today : ℕ) (office : State)
+    (part : Part) (lists : SessionLists) (seats : Seats) (made : Made) : Type 0 where
   pub draft : IsDraft part lists seats made
   pub before : state_before part seats made ≡ office
   pub step : Step done today office (Ok made.reply) (state_after part seats made)

@@ -6,7 +6,7 @@ ghost use Rattle.exam_rules.specs.Relations.{Code, relations_of};
 ghost use Rattle.exam_office.specs.Drafts as spec;
 ghost use Rattle.exam_office.specs.Good.{IsGood};
 ghost use Rattle.exam_office.specs.Orders.{IsInOrder};
-ghost use Rattle.exam_office.specs.Parts.{Agrees, IsRefusedIn, state_of};
+ghost use Rattle.exam_office.specs.Parts.{IsRefusedIn, state_of};
 ghost use Rattle.exam_office.specs.Relisting.{HasList, halls_before, members_before};
 ghost use Rattle.exam_office.specs.State.{State};
 ghost use Rattle.exam_office.specs.Steps.{Step};
@@ -155,7 +155,8 @@ impl Draft {
     }
 }
 
-/// Carries out a command on a day over a part of an office, and puts the new plans among the seats. After a refusal all is as before.
+/// Carries out a command on a day over a part of an office, and puts the new plans among the seats. After a
+/// refusal all is as before.
 fn made(
     alloc: Global,
     part: &mut Part,
@@ -164,11 +165,11 @@ fn made(
     command: &Command,
     today: Day,
 ) -> Result<Made, Refusal>
-    requires office { (office : State) × IsGood office × IsInOrder office × (office.seats ≡ seats.old.entries)
-        × Agrees command.now office (state_of part.old) }
+    requires office { (office : State)
+        × spec.IsOfficeOf command.now seats.old.entries (state_of part.old) office }
     requires lists { AreListsOf (relations_of part.old.facts) lists.old }
-    ensures ok { IfOk result (λ made. (office : State) → IsGood office → IsInOrder office → office.seats ≡ seats.old.entries
-        → Agrees command.now office (state_of part.old)
+    ensures ok { IfOk result (λ made. (office : State)
+        → spec.IsOfficeOf command.now seats.old.entries (state_of part.old) office
         → spec.IsDraftOf command.now today office part.new lists.new seats.new.entries made) }
     ensures refusal { IfErr result (IsRefusedIn command.now today (state_of part.old)) }
     ensures facts { OnErr result (relations_of part.new.facts ≡ relations_of part.old.facts) }

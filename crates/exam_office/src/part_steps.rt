@@ -266,7 +266,8 @@ fn granted_plans(
     }
 }
 
-/// What the command answers: of an appeal that is decided anew, where it stands, the appellant's hall, and how many others moved.
+/// What the command answers: of an appeal that is decided anew, where it stands, the appellant's hall, and how
+/// many others moved.
 fn last_reply(
     facts: &Facts,
     plans: &Seats,

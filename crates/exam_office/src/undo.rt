@@ -72,54 +72,22 @@ impl Undo {
         ensures { (r : Relations) → AreInOrder r → spec.IsThere self.now r
             → WereTables result (spec.restored self.now r) r }
     {
-        let same = TablesBefore::same();
+        let mut before = TablesBefore::same();
         match self {
-            Undo::Nothing => same,
-            Undo::Entry(key, _) => TablesBefore {
-                entries: Before::Row(key),
-                ..same
-            },
-            Undo::NewAppeal(key) => TablesBefore {
-                appeals: Before::Row(key),
-                ..same
-            },
-            Undo::Appeal(key, _) => TablesBefore {
-                appeals: Before::Row(key),
-                ..same
-            },
-            Undo::Sessions(rows) => TablesBefore {
-                sessions: Before::Table(rows),
-                ..same
-            },
-            Undo::Papers(rows) => TablesBefore {
-                papers: Before::Table(rows),
-                ..same
-            },
-            Undo::Halls(rows) => TablesBefore {
-                halls: Before::Table(rows),
-                ..same
-            },
-            Undo::Openings(rows) => TablesBefore {
-                openings: Before::Table(rows),
-                ..same
-            },
-            Undo::Candidates(rows) => TablesBefore {
-                candidates: Before::Table(rows),
-                ..same
-            },
-            Undo::Entries(rows) => TablesBefore {
-                entries: Before::Table(rows),
-                ..same
-            },
-            Undo::Arrangements(rows) => TablesBefore {
-                arrangements: Before::Table(rows),
-                ..same
-            },
-            Undo::Appeals(rows) => TablesBefore {
-                appeals: Before::Table(rows),
-                ..same
-            },
+            Undo::Nothing => {}
+            Undo::Entry(key, _) => before.entries = Before::Row(key),
+            Undo::NewAppeal(key) => before.appeals = Before::Row(key),
+            Undo::Appeal(key, _) => before.appeals = Before::Row(key),
+            Undo::Sessions(rows) => before.sessions = Before::Table(rows),
+            Undo::Papers(rows) => before.papers = Before::Table(rows),
+            Undo::Halls(rows) => before.halls = Before::Table(rows),
+            Undo::Openings(rows) => before.openings = Before::Table(rows),
+            Undo::Candidates(rows) => before.candidates = Before::Table(rows),
+            Undo::Entries(rows) => before.entries = Before::Table(rows),
+            Undo::Arrangements(rows) => before.arrangements = Before::Table(rows),
+            Undo::Appeals(rows) => before.appeals = Before::Table(rows),
         }
+        before
     }
 }
 

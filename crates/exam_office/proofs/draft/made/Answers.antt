@@ -13,31 +13,31 @@ take_back-requires-clause-seats c =
     let ask = c.requires.office in
     let kept : Option Plans = c.in_ok-made.made.plans in
     old_stay kept ask.0.seats c.put_seats.new.seats.entries
-    (old_in_office c.args.command.now ask.0 (state_of c.args.part.now) ask.2 ask.4 (relations_of c.make.new.part.facts) c.make.new.part.plans.entries c.show_order-3.ensures kept c.in_ok-made.ensures.plans_back)
-    (λ k here. c.put_seats.ensures.stays k (subst (λ (q : Seats). has_row seat_cmp q k ≡ true) ask.3 here))
+    (old_in_office c.args.command.now ask.0 (state_of c.args.part.now) ask.1.1 ask.1.3 (relations_of c.make.new.part.facts) c.make.new.part.plans.entries c.show_order-3.ensures kept c.in_ok-made.ensures.plans_back)
+    (λ k here. c.put_seats.ensures.stays k (subst (λ (q : Seats). has_row seat_cmp q k ≡ true) ask.1.2 here))
 
 pub returns-in-Err-clause-seats : goal.returns-in-Err-clause-seats
 returns-in-Err-clause-seats c =
     let ask = c.requires.office in
     c.take_back.ensures.seats
-    ∙ seats_back c.args.command.now ask.0 (state_of c.args.part.now) ask.2 ask.4 (relations_of c.make.new.part.facts) c.make.new.part.plans.entries c.show_order-3.ensures c.in_ok-made.made.plans c.in-Some.field-0 c.in-Some.is c.in_ok-made.ensures.plans_back
-    c.put_seats.new.seats.entries c.put_seats.ensures.rises (λ k away. c.put_seats.ensures.others k away ∙ sym (ap (λ (q : Seats). row_at seat_cmp q k) ask.3))
-    ∙ ask.3
+    ∙ seats_back c.args.command.now ask.0 (state_of c.args.part.now) ask.1.1 ask.1.3 (relations_of c.make.new.part.facts) c.make.new.part.plans.entries c.show_order-3.ensures c.in_ok-made.made.plans c.in-Some.field-0 c.in-Some.is c.in_ok-made.ensures.plans_back
+    c.put_seats.new.seats.entries c.put_seats.ensures.rises (λ k away. c.put_seats.ensures.others k away ∙ sym (ap (λ (q : Seats). row_at seat_cmp q k) ask.1.2))
+    ∙ ask.1.2
 
 pub returns-in-Ok-clause-ok : goal.returns-in-Ok-clause-ok
-returns-in-Ok-clause-ok c = λ office good up same agrees.
+returns-in-Ok-clause-ok c = λ office is.
     let part : Part = record { facts = c.make.new.part.facts; plans = c.make.new.part.plans } in
     let new : Seats = part.plans.entries in
-    drafted c.args.command.now c.args.today office (state_of c.args.part.now) part c.args.lists.now c.make.new.lists c.put_seats.new.seats.entries c.in_ok-made.made good up agrees
+    drafted c.args.command.now c.args.today office (state_of c.args.part.now) part c.args.lists.now c.make.new.lists c.put_seats.new.seats.entries c.in_ok-made.made is.0 is.1 is.3
     c.show_order.ensures c.show_order-3.ensures c.show_order-2.ensures c.in_ok-made.ensures.ok c.in_ok-made.ensures.limits c.in_ok-made.ensures.made c.in_ok-made.ensures.facts_back
     c.in_ok-made.ensures.lists c.requires.lists c.in_ok-made.ensures.lists_back c.in_ok-made.ensures.plans_back
-    (c.in-Ok.ensures.ok ∙ ap (λ (q : Seats). all_put seat_cmp q new) (sym same) ∙ sym (ap (λ (o : Option Plans). seats_put o office.seats new) c.in-Some.is))
+    (c.in-Ok.ensures.ok ∙ ap (λ (q : Seats). all_put seat_cmp q new) (sym is.2) ∙ sym (ap (λ (o : Option Plans). seats_put o office.seats new) c.in-Some.is))
 
 pub returns-in-None-clause-ok : goal.returns-in-None-clause-ok
-returns-in-None-clause-ok c = λ office good up same agrees.
+returns-in-None-clause-ok c = λ office is.
     let part : Part = record { facts = c.make.new.part.facts; plans = c.make.new.part.plans } in
     let new : Seats = part.plans.entries in
-    drafted c.args.command.now c.args.today office (state_of c.args.part.now) part c.args.lists.now c.make.new.lists c.args.seats.now.entries c.in_ok-made.made good up agrees
+    drafted c.args.command.now c.args.today office (state_of c.args.part.now) part c.args.lists.now c.make.new.lists c.args.seats.now.entries c.in_ok-made.made is.0 is.1 is.3
     c.show_order.ensures c.show_order-3.ensures c.show_order-2.ensures c.in_ok-made.ensures.ok c.in_ok-made.ensures.limits c.in_ok-made.ensures.made c.in_ok-made.ensures.facts_back
     c.in_ok-made.ensures.lists c.requires.lists c.in_ok-made.ensures.lists_back c.in_ok-made.ensures.plans_back
-    (sym same ∙ sym (ap (λ (o : Option Plans). seats_put o office.seats new) c.in-None.is))
+    (sym is.2 ∙ sym (ap (λ (o : Option Plans). seats_put o office.seats new) c.in-None.is))
