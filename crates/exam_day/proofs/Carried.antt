@@ -97,4 +97,5 @@ module _ {W : Type 0} (contents : W → Option (List ℕ)) (today : ℕ) (file :
   follows (line.close_hall session hall) result h = commanded (command.CloseHall session hall) result h.1
   follows (line.decide decision) result h = decided decision result h.1
   follows (line.serve port) result h = office_stays h.1
+  follows line.migrate result h = office_stays h.1
   follows (line.print session which) result h = sheet_keeps old new contents today (Some file) rest before result after session which h

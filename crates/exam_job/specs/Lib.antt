@@ -5,7 +5,9 @@
 -- - Reading, Sheets: what is read of an import file; the sheets of an office, and what goes out of
 --   one
 -- - Jobs: what a line does to the office in a store, what it prints, the exit status
+-- - Migrations: what bringing an office to the newest version does and prints
 pub mod Printed
 pub mod Reading
 pub mod Sheets
 pub mod Jobs
+pub mod Migrations

@@ -1,5 +1,5 @@
 -- The lines that the program prints.
-use Rattle.std.specs.Prelude.{◌≡◌, ℕ, List, ◌++◌, Option, Result, Ok, Err, codes, string_bytes}
+use Rattle.std.specs.Prelude.{◌≡◌, ◌==◌, ℕ, List, if◌then◌else◌, ◌++◌, Option, Result, Ok, Err, codes, string_bytes}
 use Rattle.std.specs.Fmt.{decimal}
 use Rattle.std.specs.Io.KnownBytes.{Appends, Keeps}
 use Rattle.exam_types.specs.Days.{day_text}
@@ -77,6 +77,16 @@ fault_text (fault.Refused refusal) = refusal_text refusal
 fault_text fault.File = codes "file fault\n"
 fault_text fault.Write = codes "write fault\n"
 fault_text fault.Net = codes "net fault\n"
+
+-- what is printed of an office that has the version already
+abbrev pub already_text : ℕ → List ℕ
+already_text version = codes "already " ++ decimal version ++ codes "\n"
+
+-- what is printed of an office that was of one version and now is of another, or of the same one
+abbrev pub migration_text : ℕ → ℕ → List ℕ
+migration_text before after =
+    if before == after then already_text after
+    else codes "migrated " ++ decimal before ++ codes " to " ++ decimal after ++ codes "\n"
 
 -- what is printed once the port is bound
 abbrev pub serving_text : ℕ → List ℕ

@@ -64,8 +64,9 @@ pub fn carry_out<S: Alter, R: Read, O: Write>(
             carry_out_command(alloc, store, &command, line.today, out)
         }
         Job::Decide(decision) => decide(alloc, store, decision, line.today, out),
-        // The program serves over sockets, and there is nothing to do over these outputs.
-        Job::Serve { .. } => Ok(()),
+        // The program itself serves, over sockets, and migrates, before the office is open: there is nothing to do
+        // over this store.
+        Job::Serve { .. } | Job::Migrate => Ok(()),
         Job::Sheet {
             session,
             sheet: Sheet::Appeals,

@@ -4,10 +4,12 @@
 mod appeals;
 mod job;
 mod lines;
+mod migrating;
 mod reading;
 mod report;
 mod sheets;
 
 pub use job::{carry_out, run_job};
 pub use lines::{connection_fault_line, serving_line};
+pub use migrating::migrate_office;
 pub use report::{DONE, JobFault, print, print_error, print_fault, print_line_fault};

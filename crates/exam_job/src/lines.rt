@@ -131,6 +131,30 @@ fn number_line(number: u16) -> ShortLine
     line
 }
 
+/// What is printed of an office that was of one version and now is of another, or of the same one.
+pub fn migration_line(before: u8, after: u8) -> ShortLine
+    ensures { result.items ≡ spec.migration_text before after }
+{
+    if before == after {
+        return already_line(after);
+    }
+    let mut line = line_of(b"migrated ");
+    put_number(&mut line, before);
+    put(&mut line, b" to ");
+    put_number(&mut line, after);
+    put(&mut line, b"\n");
+    line
+}
+
+fn already_line(version: u8) -> ShortLine
+    ensures { result.items ≡ spec.already_text version }
+{
+    let mut line = line_of(b"already ");
+    put_number(&mut line, version);
+    put(&mut line, b"\n");
+    line
+}
+
 /// What is printed once the port is bound.
 pub fn serving_line(port: u16) -> ShortLine
     ensures { result.items ≡ spec.serving_text port }

@@ -4,6 +4,7 @@ mod kept_rows;
 mod line_faults;
 mod outputs;
 mod reopening;
+mod standing;
 
 use exam_job::run_job;
 use exam_line::parse_line;

@@ -37,6 +37,7 @@ options = with_rule (with_rule program_app (option_rule (codes "db"))) (option_r
 abbrev pub changes : List (Text × List Text)
 changes =
     (codes "init", [])
+    ∷ (codes "migrate", [])
     ∷ (codes "import", codes "kind" ∷ codes "file" ∷ [])
     ∷ (codes "withdraw", codes "number" ∷ codes "paper" ∷ [])
     ∷ (codes "reinstate", codes "number" ∷ codes "paper" ∷ [])

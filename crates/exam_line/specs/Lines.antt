@@ -13,7 +13,7 @@ use Rattle.exam_types.specs.Numbers.{number_in, value_in}
 use Rattle.exam_types.specs.Texts.{is_reason}
 use Rattle.exam_office.specs.declared.command.Decision.{Decision}
 use Rattle.exam_office.specs.declared.command.Outcome.{Outcome}
-use Rattle.exam_office.specs.declared.command.Outcome.TheVariants.{Grant, Refuse}
+use Rattle.exam_office.specs.declared.command.Outcome.TheVariants.{Grant, Refuse, Standing}
 use Rattle.exam_office.specs.declared.import_row.Kind.{Kind}
 use Rattle.exam_office.specs.declared.import_row.Kind.TheVariants.{Sessions, Papers, Halls, Openings}
 use Rattle.exam_office.specs.declared.import_row.Kind.TheVariants.{Candidates, Entries, Arrangements}
@@ -31,6 +31,7 @@ use Rattle.exam_line.specs.declared.line.Sheet.TheVariants.{DoorList, Attendance
 -- a command with its values
 pub data Task : Type 0 where
   init : Task
+  migrate : Task
   import : Kind → Text → Task
   withdraw : ℕ → Text → Task
   reinstate : ℕ → Text → Task
@@ -47,6 +48,7 @@ pub record Said : Type 0 where
 
 abbrev pub task_shown : Job → Task
 task_shown job.Init = init
+task_shown job.Migrate = migrate
 task_shown (job.Import kind file) = import kind file.now
 task_shown (job.Withdraw number paper) = withdraw number paper
 task_shown (job.Reinstate number paper) = reinstate number paper
@@ -85,8 +87,9 @@ kind_in text =
 abbrev pub outcome_in : Text → Option Outcome
 outcome_in text =
     if bytes_eq text (codes "granted") then Some Grant
+    else (if bytes_eq text (codes "standing") then Some Standing
     else (if bytes_eq text (codes "refused") then Some Refuse
-    else None)
+    else None))
 
 -- a decimal without leading zeros, from 1 to 65535
 abbrev pub port_in : Text → Option ℕ
@@ -157,12 +160,13 @@ print_of name words =
 abbrev pub plain_task_of : Text → List Row → Option Task
 plain_task_of name words =
     if bytes_eq name (codes "init") then Some init
+    else (if bytes_eq name (codes "migrate") then Some migrate
     else (if bytes_eq name (codes "import") then import_of words
     else (if bytes_eq name (codes "withdraw") then option_map (λ e. withdraw e.0 e.1) (entry_of words)
     else (if bytes_eq name (codes "reinstate") then option_map (λ e. reinstate e.0 e.1) (entry_of words)
     else (if bytes_eq name (codes "close-hall") then option_map (λ o. close_hall o.0 o.1) (opening_of words)
     else (if bytes_eq name (codes "serve") then option_map serve (value_of port_in (codes "port") words)
-    else print_of name words)))))
+    else print_of name words))))))
 
 -- the command with this name and these words
 abbrev pub task_of : Text → List Row → Option Task

@@ -23,6 +23,7 @@ fn with_changes<'a>(alloc: Global, command: Command<'a>) -> Result<Command<'a>, 
     ensures { IfOk result (λ c. app_of c ≡ fold spec.with_job (app_of command.entry) spec.changes) }
 {
     let command = with_job(alloc, command, "init", help::INIT, &[])?;
+    let command = with_job(alloc, command, "migrate", help::MIGRATE, &[])?;
     let file = [("kind", help::KIND), ("file", help::FILE)];
     let command = with_job(alloc, command, "import", help::IMPORT, &file)?;
     let entry = [("number", help::NUMBER), ("paper", help::PAPER)];

@@ -9,6 +9,9 @@ pub const TODAY: &str = "Today's date, such as 2027-05-01; it decides whether an
 
 pub const INIT: &str = "Creates an empty office, or checks that the file already holds one";
 
+pub const MIGRATE: &str =
+    "Carries an office that an earlier version of this program made over to this version's tables";
+
 pub const IMPORT: &str =
     "Adds the rows of a CSV file, changes those with a known key, and seats candidates";
 
@@ -33,7 +36,8 @@ pub const DECIDE: &str = "Grants or refuses an open appeal; after a grant, finds
 
 pub const REFERENCE: &str = "The reference of an appeal, such as HA1";
 
-pub const OUTCOME: &str = "The decision: granted or refused";
+pub const OUTCOME: &str =
+    "The decision: granted, refused or standing, which grants an arrangement for later sessions too";
 
 pub const REASON: &str =
     "The answer to the candidate, such as 'a window was found'; it may be empty";
@@ -82,7 +86,9 @@ A refused command changes nothing. It prints `refused` and a number:{n}   \
 22 not enough memory: try again when the machine has more{n}  \
 23 the database cannot be used now: stop `serve`, look at the disk and the permissions{n}  \
 24 the file holds no office: check --db; `init` makes an office{n}  \
-25 the hall is not open for the session: import openings first{n}{n}\
+25 the hall is not open for the session: import openings first{n}  \
+26 the appeal asks no arrangement: decide `granted`{n}  \
+27 an earlier version of this program made the office: run `migrate` first{n}{n}\
 Other messages: `file fault`: the import file cannot be read; `write fault`: the output cannot be written, but a \
 command is done; `net fault`: the port is taken.{n}{n}\
 Limits: 20,000 candidates, 400 sessions, 2,000 papers, 500 halls; in a session 4,096 candidates and 128 open halls; \

@@ -19,6 +19,8 @@ use std::alloc::Global;
 #[derive(Drop)]
 pub enum Job<'a> {
     Init,
+    /// Carries an office of an earlier version over.
+    Migrate,
     /// Imports the file at the path.
     Import {
         kind: Kind,
@@ -175,6 +177,7 @@ fn read_plain_job<'a>(name: &str, words: &ArgMatches<'a>) -> Option<Job<'a>>
 {
     match name {
         "init" => Some(Job::Init),
+        "migrate" => Some(Job::Migrate),
         "import" => import_of(words),
         "withdraw" => {
             let (number, paper) = entry_of(words)?;

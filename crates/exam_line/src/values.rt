@@ -127,6 +127,7 @@ fn outcome_named(name: &str) -> Option<Outcome>
 {
     match name {
         "granted" => Some(Outcome::Grant),
+        "standing" => Some(Outcome::Standing),
         "refused" => Some(Outcome::Refuse),
         _ => None,
     }

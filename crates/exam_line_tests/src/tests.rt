@@ -27,6 +27,7 @@ fn sheet_name(sheet: &Sheet) -> &'static str {
 fn job_name(job: &Job<'_>) -> &'static str {
     match job {
         Job::Init => "init",
+        Job::Migrate => "migrate",
         Job::Import { .. } => "import",
         Job::Withdraw { .. } => "withdraw",
         Job::Reinstate { .. } => "reinstate",
@@ -59,12 +60,14 @@ macro_rules! given {
 fn each_command_is_understood(rt: HostRuntime) -> Result<(), Fail> {
     let lines = [
         (given!("init"), "init"),
+        (given!("migrate"), "migrate"),
         (given!("import|entries|a b.csv"), "import"),
         (given!("withdraw|0000001|MA-1"), "withdraw"),
         (given!("reinstate|0000001|MA-1"), "reinstate"),
         (given!("close-hall|S1|A"), "close-hall"),
         (given!("decide|0000001|HA1|granted|"), "decide"),
         (given!("decide|0000001|HA1|refused|--|-5 degrees"), "decide"),
+        (given!("decide|0000001|AR1|standing|ok"), "decide"),
         (given!("serve|1"), "serve"),
         (given!("serve|65535"), "serve"),
         (given!("door-list|S1|A"), "door-list"),
@@ -85,6 +88,7 @@ fn each_command_is_understood(rt: HostRuntime) -> Result<(), Fail> {
 #[test]
 fn other_words_are_not_understood(rt: HostRuntime) -> Result<(), Fail> {
     for line in [
+        given!("migrate|2"),
         given!("door-list|S1"),
         given!("door-list|S1|A|B"),
         given!("door-list|s1|A"),

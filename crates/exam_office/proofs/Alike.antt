@@ -38,7 +38,7 @@ any_first p (x ∷ xs) = inner (p x) (any_first p xs)
 
 module _ {K X : Type 0} (cmp : K → K → Ordering) (exact : CmpEqualImpliesEq cmp) where
   -- a row whose key passes is found among those that pass
-  found_among : (p : K × X → Bool) (rows : List (K × X)) (k : K) → ((x : X) → p (k, x) ≡ true) → row_at cmp (filter p rows) k ≡ row_at cmp rows k
+  pub found_among : (p : K × X → Bool) (rows : List (K × X)) (k : K) → ((x : X) → p (k, x) ≡ true) → row_at cmp (filter p rows) k ≡ row_at cmp rows k
   found_among p [] k passes = refl
   found_among p (e ∷ es) k passes = inner (p e) refl (is_at (cmp k) e.0) refl (found_among p es k passes)
     where
@@ -53,7 +53,7 @@ module _ {K X : Type 0} (cmp : K → K → Ordering) (exact : CmpEqualImpliesEq 
 -- ---- what is said of a session
 
 -- The facts t say of the session what the facts r say: its row, its papers, the entries for them, its openings
--- with their halls, and of its members that they are there, their arrangements and what they were granted.
+-- with their halls, and of its members that they are there, their arrangements in force and what they were granted.
 pub record SpeakAlike (r t : Relations) (s : Code) : Type 0 where
   pub session : row_at code_cmp t.sessions s ≡ row_at code_cmp r.sessions s
   pub papers : (p : Code) → is_paper_of t s p ≡ is_paper_of r s p
@@ -62,7 +62,7 @@ pub record SpeakAlike (r t : Relations) (s : Code) : Type 0 where
   pub openings : (h : Code) → row_at opening_cmp t.openings (s, h) ≡ row_at opening_cmp r.openings (s, h)
   pub halls : (h : Code) → has_row opening_cmp r.openings (s, h) ≡ true → row_at code_cmp t.halls h ≡ row_at code_cmp r.halls h
   pub candidates : filter (has_live_entry r s) (keys_of t.candidates) ≡ filter (has_live_entry r s) (keys_of r.candidates)
-  pub arrangements : (c : ℕ) → has_live_entry r s c ≡ true → row_at nat_cmp t.arrangements c ≡ row_at nat_cmp r.arrangements c
+  pub in_force : (c : ℕ) → has_live_entry r s c ≡ true → arrangement_in_force t s c ≡ arrangement_in_force r s c
   pub granted : (c : ℕ) → granted_subjects t.appeals s c ≡ granted_subjects r.appeals s c
 
 pub alike_itself : (r : Relations) (s : Code) → SpeakAlike r r s
@@ -74,7 +74,7 @@ alike_itself r s = record {
   openings = λ h. refl;
   halls = λ h opened. refl;
   candidates = refl;
-  arrangements = λ c member. refl;
+  in_force = λ c member. refl;
   granted = λ c. refl;
 }
 
@@ -146,11 +146,6 @@ module _ (r t : Relations) (s : Code) (alike : SpeakAlike r t s) where
         inner None is = refl
         inner (Some p) is = alike.paper_rows p (sitting_paper r s c p is)
 
-    in_force_same : has_live_entry r s c ≡ true → arrangement_in_force t s c ≡ arrangement_in_force r s c
-    in_force_same member =
-        ap (λ asked. unwrap_or (option_or (head_of (filter_map asked_arrangement asked)) (row_at nat_cmp t.arrangements c)) no_arrangement) (alike.granted c)
-        ∙ ap (λ o. unwrap_or (option_or (granted_arrangement r s c) o) no_arrangement) (alike.arrangements c member)
-
     room_same : (h : Code) → opened_room t s h ≡ opened_room r s h
     room_same h =
         ap (λ o. option_and_then (λ (hall : Hall). option_map (room_of hall) o) (row_at code_cmp t.halls h)) (alike.openings h)
@@ -182,7 +177,7 @@ module _ (r t : Relations) (s : Code) (alike : SpeakAlike r t s) where
         inner true is =
             ap (λ o. fits_by h true o (sitting_row t s c) (arrangement_in_force t s c) (opened_room t s h) (granted_subjects t.appeals s c)) alike.session
             ∙ ap (λ o. fits_by h true (row_at code_cmp r.sessions s) o (arrangement_in_force t s c) (opened_room t s h) (granted_subjects t.appeals s c)) row_same
-            ∙ ap (λ a. fits_by h true (row_at code_cmp r.sessions s) (sitting_row r s c) a (opened_room t s h) (granted_subjects t.appeals s c)) (in_force_same is)
+            ∙ ap (λ a. fits_by h true (row_at code_cmp r.sessions s) (sitting_row r s c) a (opened_room t s h) (granted_subjects t.appeals s c)) (alike.in_force c is)
             ∙ ap (λ o. fits_by h true (row_at code_cmp r.sessions s) (sitting_row r s c) (arrangement_in_force r s c) o (granted_subjects t.appeals s c)) (room_same h)
             ∙ ap (fits_by h true (row_at code_cmp r.sessions s) (sitting_row r s c) (arrangement_in_force r s c) (opened_room r s h)) (alike.granted c)
 

@@ -3,8 +3,8 @@ use Rattle.std.proofs.Common.{◌≡◌, ℕ, ◌&&◌, ◌||◌, Bool, true, fa
 use Rattle.std.specs.List.{find, list_any}
 use Rattle.exam_rules.specs.declared.rows.Appeal.{Appeal}
 use Rattle.exam_rules.specs.declared.rows.Subject.{Subject}
-use Rattle.exam_rules.specs.Relations.{Code, is_row_of, same_code}
-use Rattle.exam_rules.specs.Sessions.{is_granted}
+use Rattle.exam_rules.specs.Relations.{Code, Relations, is_row_of, same_code}
+use Rattle.exam_rules.specs.Sessions.{is_granted, is_marked}
 use Rattle.exam_office.specs.Appeals.{is_open, is_open_appeal, same_kind, supersedes}
 use Rattle.exam_office.specs.Decisions.{is_earlier}
 
@@ -33,3 +33,9 @@ module _ (c : ℕ) (s : Code) (asked : Subject) where
   pub earlier_among : (rows : List ((ℕ × Code) × Appeal)) → find (is_earlier c s asked) (filter (is_row_of c) rows) ≡ find (is_earlier c s asked) rows
   earlier_among = find_among (is_earlier c s asked) (is_row_of c)
       (λ a away. ap (λ b. (b && (same_code a.1.session s && supersedes asked a.1.subject)) && is_granted a.1.status) away)
+
+-- the same of the earlier grants with a mark
+pub marked_among : (r : Relations) (c : ℕ) (s : Code) (asked : Subject) (rows : List ((ℕ × Code) × Appeal))
+    → list_any (λ (e : (ℕ × Code) × Appeal). is_earlier c s asked e && is_marked r e.0) (filter (is_row_of c) rows) ≡ list_any (λ (e : (ℕ × Code) × Appeal). is_earlier c s asked e && is_marked r e.0) rows
+marked_among r c s asked = any_among (λ (e : (ℕ × Code) × Appeal). is_earlier c s asked e && is_marked r e.0) (is_row_of c)
+    (λ a away. ap (λ b. ((b && (same_code a.1.session s && supersedes asked a.1.subject)) && is_granted a.1.status) && is_marked r a.0) away)

@@ -20,7 +20,7 @@ use Rattle.exam_rules.specs.declared.rows.Subject.{Subject}
 use Rattle.exam_rules.specs.declared.rows.Subject.TheVariants as subject
 use Rattle.exam_rules.specs.Orders.{AreInOrder}
 use Rattle.exam_rules.specs.Relations.{Code, Relations, appeal_cmp, code_cmp, has_row, put_row, row_at, same_code}
-use Rattle.exam_rules.specs.Sessions.{appeal_count, barred_halls, clash_papers, has_live_entry, is_granted, is_live, is_live_paper, is_member, is_paper_of, sitting}
+use Rattle.exam_rules.specs.Sessions.{appeal_count, asked_arrangement, barred_halls, clash_papers, has_live_entry, is_granted, is_live, is_live_paper, is_member, is_paper_of, sitting}
 use Rattle.exam_rules.specs.Seatings.{fits, opened_room, plan_of, seating, sitting_terms, suits_opened}
 use Rattle.exam_rules.proofs.Naming.{same_code_exact}
 use Rattle.exam_office.specs.declared.command.AppealState.{AppealState}
@@ -29,7 +29,7 @@ use Rattle.exam_office.specs.declared.command.Lodging.{Lodging}
 use Rattle.exam_office.specs.declared.command.Reply.TheVariants as reply
 use Rattle.exam_office.specs.Appeals.{appeal_at, has_open_appeal, is_open, is_retracted, stored_state}
 use Rattle.exam_office.specs.Changes.{first_refusal, unless}
-use Rattle.exam_office.specs.Good.{IsGood, appeal_refers, refers, subject_refers}
+use Rattle.exam_office.specs.Good.{IsGood, appeal_refers, marks_stand, may_bear, refers, subject_refers, was_granted}
 use Rattle.exam_office.specs.Limits.{within_limits, sessions_within, papers_within, halls_within, openings_within, candidates_within, members_within}
 use Rattle.exam_office.specs.Lodgings as spec
 use Rattle.exam_office.specs.Orders.{IsInOrder}
@@ -38,6 +38,7 @@ use Rattle.exam_office.specs.State.{State}
 use Rattle.exam_office.specs.Steps.{SameSeating, Step}
 use Rattle.exam_office.proofs.AppealKeys.{appeals_exact, appeals_total}
 use Rattle.exam_office.proofs.Appealing.{apart_from_all, open_as, open_key, put_seating_same, single_flips, with_appeals}
+use Rattle.exam_office.proofs.Borne.{closed_unborne, put_borne, unborne}
 use Rattle.exam_office.proofs.Commanding.{ArePlansRepaired, DoListsRise, IsLimitRefusal, within_memory}
 use Rattle.exam_office.proofs.LodgingChecks.{both_passed}
 use Rattle.exam_office.proofs.PutAppeals.{all_at_row, count_replaced}
@@ -53,12 +54,14 @@ one_value x y is = cc
 pub record IsSettled (r t : Relations) : Type 0 where
   pub refer : refers t ≡ true
   pub single : AreSingle t
+  pub marks : marks_stand t ≡ true
   pub seated : (s : Code) → SameSeating (seating r s) (seating t s)
 
 same_relations : (before : State) → IsGood before → IsSettled before.relations before.relations
 same_relations before good = record {
   refer = good.refer;
   single = good.single;
+  marks = good.marks;
   seated = λ s. record { members = refl; fits = λ c h. refl; desks = λ h. refl };
 }
 
@@ -165,6 +168,7 @@ module _ (before : State) (good : IsGood before) (today : ℕ) (l : Lodging) whe
         single = put_distinct appeal_cmp appeals_exact single_key same_single_key single_flips r.appeals k made
             (λ x is. subst (λ y. IsApartFrom same_single_key y (filter_map single_key r.appeals)) (one_value (l.session, l.number, open_as l.subject) x (sym (open_key k made refl) ∙ is))
             (apart_from_all l.session l.number l.subject r.appeals s.alone)) good.single;
+        marks = put_borne r.appeals k made r.standing (unborne r.appeals r.standing k good.marks (ap (λ o. option_map_or may_bear o false) none)) good.marks;
         seated = put_seating_same r k made refl (λ b at. absurd (let differ : None ≡ Some b = sym none ∙ at in cc));
       }
 
@@ -240,7 +244,7 @@ module _ (before : State) (good : IsGood before) (c : ℕ) (reference : Code) wh
     pub settled : IsSettled before.relations t
     pub within : within_limits t ≡ true
 
-  put_settled : AreInOrder before.relations → (a : Appeal) → there_is ≡ Some a → is_granted a.status ≡ false → IsSettledWithin (spec.with_retracted_appeal before.relations c reference a)
+  put_settled : AreInOrder before.relations → (a : Appeal) → there_is ≡ Some a → (not (is_open a.status) && not (is_retracted a.status)) ≡ false → IsSettledWithin (spec.with_retracted_appeal before.relations c reference a)
   put_settled up a at closed =
       let r = before.relations in
       let k : ℕ × Code = (c, reference) in
@@ -251,7 +255,9 @@ module _ (before : State) (good : IsGood before) (c : ℕ) (reference : Code) wh
           refer = appeals_refer_so r (put_row appeal_cmp r.appeals k new) good.refer
               (all_put appeal_cmp appeals_exact (λ x. has_row nat_cmp r.candidates x.0.0 && appeal_refers r x.1) r.appeals k new (stored_refer r good.refer) known);
           single = put_distinct appeal_cmp appeals_exact single_key same_single_key single_flips r.appeals k new (λ x is. absurd (let none : Option SingleKey = None in let differ : none ≡ Some x = is in cc)) good.single;
-          seated = put_seating_same r k new refl (λ b is. let same : a ≡ b = (let both : Some a ≡ Some b = sym at ∙ is in cc) in ap (λ (x : Appeal). is_granted x.status) (sym same) ∙ closed);
+          marks = put_borne r.appeals k new r.standing
+              (unborne r.appeals r.standing k good.marks (ap (λ o. option_map_or may_bear o false) at ∙ closed_unborne a.status (is_some (asked_arrangement a.subject)) closed)) good.marks;
+          seated = put_seating_same r k new refl (λ b is. let same : a ≡ b = (let both : Some a ≡ Some b = sym at ∙ is in cc) in ap (λ (x : Appeal). is_granted x.status) (sym same) ∙ closed_granted a.status closed);
         };
         within = count_same r k new a up at ∙ good.limits;
       }
@@ -263,7 +269,7 @@ module _ (before : State) (good : IsGood before) (c : ℕ) (reference : Code) wh
       by_status a at true is = record { settled = same_relations before good; within = good.limits }
       by_status a at false is =
           let check : first_refusal (spec.retraction_checks (Some a)) ≡ None = ap (λ o. first_refusal (spec.retraction_checks o)) (sym at) ∙ ok in
-          put_settled up a at (closed_granted a.status (passed (not (is_open a.status) && not (is_retracted a.status)) refusal.NotOpenAppeal [] check).0)
+          put_settled up a at (passed (not (is_open a.status) && not (is_retracted a.status)) refusal.NotOpenAppeal [] check).0
 
       inner : (o : Option Appeal) → there_is ≡ o → IsSettledWithin (spec.with_retraction before.relations c reference)
       inner None none = absurd (let differ : Some refusal.UnknownAppeal ≡ None = ap (λ o. first_refusal (spec.retraction_checks o)) (sym none) ∙ ok in cc)

@@ -1,7 +1,7 @@
 -- What a lodging and a retraction change: no seating, and what each appeal refers to is there.
 use Rattle.std.proofs.Common.{◌≡◌, ℕ, ◌&&◌, ◌||◌, not, Bool, true, false, List, [], ◌∷◌, map, nat_eq, Option, None, Some, refl, ap, sym, ◌∙◌}
 use Rattle.std.specs.List.{list_any, cons_option, filter_map, AllByRecursion}
-use Rattle.std.specs.Option.{option_map, option_map_or, option_and_then, option_or, unwrap_or}
+use Rattle.std.specs.Option.{option_map, option_map_or, option_and_then, option_or}
 use Rattle.std.specs.Ordering.{nat_cmp}
 use Rattle.exam_rules.specs.declared.rows.Appeal.{Appeal}
 use Rattle.exam_rules.specs.declared.rows.Arrangement.{Arrangement}
@@ -12,7 +12,8 @@ use Rattle.exam_rules.specs.declared.rows.Status.TheVariants as status
 use Rattle.exam_rules.specs.declared.rows.Subject.{Subject}
 use Rattle.exam_rules.specs.declared.rows.Subject.TheVariants as subject
 use Rattle.exam_rules.specs.Relations.{Code, Relations, appeal_cmp, code_cmp, put_row, row_at, same_code}
-use Rattle.exam_rules.specs.Sessions.{asked_arrangement, asked_hall, asked_paper, granted_subjects, has_live_entry, head_of, is_granted, is_granted_appeal, is_live_paper, least_live_paper, no_arrangement, option_filter}
+use Rattle.exam_rules.specs.declared.standing.StandingGrant.{StandingGrant}
+use Rattle.exam_rules.specs.Sessions.{arrangement_by, asked_arrangement, asked_hall, asked_paper, granted_subjects, has_live_entry, head_of, is_granted, is_granted_appeal, is_live_paper, is_marked, is_standing, least_live_paper, option_filter, session_day, standing_grant, standing_grants}
 use Rattle.exam_rules.specs.Seatings.{fits, opened_room, seating, suits_opened, terms_of}
 use Rattle.exam_office.specs.declared.grants.Single.{Single}
 use Rattle.exam_office.specs.declared.grants.Single.TheVariants as single
@@ -29,29 +30,35 @@ use Rattle.exam_office.proofs.PutAppeals.{put_passed_over}
 abbrev pub Appeals : Type 0
 Appeals = List ((ℕ × Code) × Appeal)
 
+abbrev pub Marks : Type 0
+Marks = List ((ℕ × Code) × Unit {0})
+
 abbrev pub with_appeals : Relations → Appeals → Relations
 with_appeals r appeals = record r { appeals = appeals }
 
-module _ (r : Relations) (appeals : Appeals) (s : Code) where
-  module _ (c : ℕ) (same : granted_subjects appeals s c ≡ granted_subjects r.appeals s c) where
+abbrev pub with_decisions : Relations → Appeals → Marks → Relations
+with_decisions r appeals marks = record r { appeals = appeals; standing = marks }
+
+module _ (r : Relations) (appeals : Appeals) (marks : Marks) (s : Code) where
+  module _ (c : ℕ) (same : granted_subjects appeals s c ≡ granted_subjects r.appeals s c) (stand : standing_grants (with_decisions r appeals marks) c ≡ standing_grants r c) where
     -- the paper that is sat where this is granted
     abbrev sitting_by : List Subject → Option Code
     sitting_by asked = option_or (option_filter (is_live_paper r s c) (head_of (filter_map asked_paper asked))) (least_live_paper r s c)
 
-    abbrev arrangement_by : List Subject → Arrangement
-    arrangement_by asked = unwrap_or (option_or (head_of (filter_map asked_arrangement asked)) (row_at nat_cmp r.arrangements c)) no_arrangement
+    abbrev in_force_by : List Subject → List StandingGrant → Arrangement
+    in_force_by asked grants = arrangement_by (head_of (filter_map asked_arrangement asked)) (session_day r s) grants (row_at nat_cmp r.arrangements c)
 
-    abbrev fits_by : Code → List Subject → Bool
-    fits_by h asked = has_live_entry r s c
-        && (suits_opened (option_and_then (λ (session : Session). option_map (λ (paper : Paper). terms_of session paper (arrangement_by asked)) (option_and_then (row_at code_cmp r.papers) (sitting_by asked))) (row_at code_cmp r.sessions s)) (opened_room r s h)
+    abbrev fits_by : Code → List Subject → List StandingGrant → Bool
+    fits_by h asked grants = has_live_entry r s c
+        && (suits_opened (option_and_then (λ (session : Session). option_map (λ (paper : Paper). terms_of session paper (in_force_by asked grants)) (option_and_then (row_at code_cmp r.papers) (sitting_by asked))) (row_at code_cmp r.sessions s)) (opened_room r s h)
         && not (list_any (same_code h) (filter_map asked_hall asked)))
 
     -- the same halls fit the candidate
-    pub fits_same : (h : Code) → fits (with_appeals r appeals) s c h ≡ fits r s c h
-    fits_same h = ap (fits_by h) same
+    pub fits_same : (h : Code) → fits (with_decisions r appeals marks) s c h ≡ fits r s c h
+    fits_same h = ap (fits_by h (granted_subjects appeals s c)) stand ∙ ap (λ asked. fits_by h asked (standing_grants r c)) same
 
-  pub seating_same : ((c : ℕ) → granted_subjects appeals s c ≡ granted_subjects r.appeals s c) → SameSeating (seating r s) (seating (with_appeals r appeals) s)
-  seating_same same = record { members = refl; fits = λ c h. sym (fits_same c (same c) h); desks = λ h. refl }
+  pub seating_by : ((c : ℕ) (h : Code) → fits (with_decisions r appeals marks) s c h ≡ fits r s c h) → SameSeating (seating r s) (seating (with_decisions r appeals marks) s)
+  seating_by same = record { members = refl; fits = λ c h. sym (same c h); desks = λ h. refl }
 
 -- what is not granted counts for nothing
 pub not_granted : (mine here : Bool) → (mine && (here && false)) ≡ false
@@ -59,13 +66,28 @@ not_granted true true = refl
 not_granted true false = refl
 not_granted false here = refl
 
+-- ungranted, marked or not
+pub never_stands : (mine marked : Bool) → (mine && (false && marked)) ≡ false
+never_stands true marked = refl
+never_stands false marked = refl
+
+-- an appeal that is put leaves the standing grants, where it is not granted and takes no granted one's place
+pub put_standing_same : (r : Relations) (k : ℕ × Code) (a : Appeal) → is_granted a.status ≡ false → ((b : Appeal) → row_at appeal_cmp r.appeals k ≡ Some b → is_granted b.status ≡ false)
+    → (c : ℕ) → standing_grants (with_appeals r (put_row appeal_cmp r.appeals k a)) c ≡ standing_grants r c
+put_standing_same r k a new old c =
+    ap (filter_map (λ (x : (ℕ × Code) × Appeal). standing_grant r x.1)) (put_passed_over appeal_cmp appeals_exact (is_standing r c) r.appeals k a
+    (ap (λ g. nat_eq k.0 c && (g && is_marked r k)) new ∙ never_stands (nat_eq k.0 c) (is_marked r k))
+    (λ b at. ap (λ g. nat_eq k.0 c && (g && is_marked r k)) (old b at) ∙ never_stands (nat_eq k.0 c) (is_marked r k)))
+
 -- an appeal that is put seats nobody otherwise, where it is not granted and takes no granted one's place
 pub put_seating_same : (r : Relations) (k : ℕ × Code) (a : Appeal) → is_granted a.status ≡ false → ((b : Appeal) → row_at appeal_cmp r.appeals k ≡ Some b → is_granted b.status ≡ false)
     → (s : Code) → SameSeating (seating r s) (seating (with_appeals r (put_row appeal_cmp r.appeals k a)) s)
-put_seating_same r k a new old s = seating_same r (put_row appeal_cmp r.appeals k a) s (λ c.
-    ap (map (λ (x : (ℕ × Code) × Appeal). x.1.subject)) (put_passed_over appeal_cmp appeals_exact (is_granted_appeal s c) r.appeals k a
+put_seating_same r k a new old s = seating_by r (put_row appeal_cmp r.appeals k a) r.standing s (λ c.
+    fits_same r (put_row appeal_cmp r.appeals k a) r.standing s c
+    (ap (map (λ (x : (ℕ × Code) × Appeal). x.1.subject)) (put_passed_over appeal_cmp appeals_exact (is_granted_appeal s c) r.appeals k a
     (ap (λ g. nat_eq k.0 c && (same_code a.session s && g)) new ∙ not_granted (nat_eq k.0 c) (same_code a.session s))
     (λ b at. ap (λ g. nat_eq k.0 c && (same_code b.session s && g)) (old b at) ∙ not_granted (nat_eq k.0 c) (same_code b.session s))))
+    (put_standing_same r k a new old c))
 
 -- ---- an appeal's own key among those that stand alone
 

@@ -13,7 +13,7 @@ use Rattle.exam_office.specs.declared.part_steps.Made.{Made}
 use Rattle.exam_office.specs.Drafts.{AreMixed, HasOld, IsDraftOf, seats_after, seats_before, state_after, state_before}
 use Rattle.exam_office.specs.Exchanges.{all_put, taken_back, without_old}
 use Rattle.exam_office.specs.FactsMade.{WasMade}
-use Rattle.exam_office.specs.Good.{IsGood, refers}
+use Rattle.exam_office.specs.Good.{IsGood, marks_stand, refers}
 use Rattle.exam_office.specs.Limits.{within_limits}
 use Rattle.exam_office.specs.NextPlans.{Plans, PlansBack}
 use Rattle.exam_office.specs.Orders.{IsInOrder}
@@ -25,7 +25,7 @@ use Rattle.exam_office.specs.State.{Seats, State}
 use Rattle.exam_office.specs.Steps.{Step, StepTo}
 use Rattle.exam_office.specs.Touched.{touches}
 use Rattle.exam_office.proofs.Exchanges.{all_put_at, all_put_rises, back_again, without_old_at, without_old_rises}
-use Rattle.exam_office.proofs.FactsMade.{made_refers, made_single}
+use Rattle.exam_office.proofs.FactsMade.{made_marks, made_refers, made_single}
 use Rattle.exam_office.proofs.Lasting.{new_facts}
 use Rattle.exam_office.proofs.Parting.{made_back, touched_read}
 use Rattle.exam_office.proofs.SameSeats.{seats_exact, seats_total}
@@ -159,6 +159,7 @@ good_after done today office after told old was within step = record {
   refer = ap refers was.made ∙ made_refers was.today was.office was.good order done was.early;
   limits = within;
   single = subst AreSingle (sym was.made) (made_single was.today was.office was.good order done was.early);
+  marks = ap marks_stand was.made ∙ made_marks was.today was.office was.good order done was.early;
   best = λ s. (to.1 s).best;
 }
   where

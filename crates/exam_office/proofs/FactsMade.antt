@@ -1,7 +1,7 @@
 -- The facts that a command makes: its change, where they pass no limit; and they are good again.
 use Rattle.std.proofs.Common.{◌≡◌, ℕ, true, false, [], ◌∷◌, None, Some, Ok, Err, refl, ap, sym, subst, ◌∙◌}
 use Rattle.std.specs.Option.{option_or}
-use Rattle.std.specs.List.{filter_map, IsDistinct}
+use Rattle.std.specs.List.{filter_map, list_all, IsDistinct}
 use Rattle.exam_types.specs.declared.refusal.Refusal.{Refusal}
 use Rattle.exam_types.specs.declared.refusal.Refusal.TheVariants as refusal
 use Rattle.exam_rules.specs.Orders.{AreInOrder}
@@ -11,18 +11,19 @@ use Rattle.exam_office.specs.declared.command.Command.TheVariants as command
 use Rattle.exam_office.specs.Changes.{first_refusal, too_many, unless, with_live, with_rows, without_opening}
 use Rattle.exam_office.specs.Decisions.{with_decision}
 use Rattle.exam_office.specs.FactsMade.{early_refusal, facts_made, may_pass_limit}
-use Rattle.exam_office.specs.Good.{IsGood, refers}
+use Rattle.exam_office.specs.Good.{IsGood, marks_stand, refers}
 use Rattle.exam_office.specs.Limits.{within_limits}
 use Rattle.exam_office.specs.Lodgings as lodgings
 use Rattle.exam_office.specs.Singles.{AreSingle, same_single_key, single_key}
 use Rattle.exam_office.specs.State.{State}
 use Rattle.exam_office.specs.Steps.{change}
 use Rattle.exam_office.proofs.AppealSteps.{limit_refusal, lodging_settled, retraction_within, within_as}
+use Rattle.exam_office.proofs.Borne.{borne_in}
 use Rattle.exam_office.proofs.ClosedHalls.{closing_within}
 use Rattle.exam_office.proofs.Commanding as commanding
-use Rattle.exam_office.proofs.DecidedFacts.{decision_refers, decision_single, decision_within}
+use Rattle.exam_office.proofs.DecidedFacts.{decision_marks, decision_refers, decision_single, decision_within}
 use Rattle.exam_office.proofs.LiveMarks.{withdrawal_within}
-use Rattle.exam_office.proofs.Referring.{import_appeals, import_refers}
+use Rattle.exam_office.proofs.Referring.{import_appeals, import_refers, import_standing}
 use Rattle.exam_office.proofs.Stepping.{import_accepted, limits_refusal}
 
 module _ (today : ℕ) (before : State) (good : IsGood before) (up : AreInOrder before.relations) where
@@ -84,6 +85,18 @@ module _ (today : ℕ) (before : State) (good : IsGood before) (up : AreInOrder 
   made_single (command.Lodge l) ok = (lodging_settled before good today l (lodgings.with_lodging before.relations today l) ok refl).single
   made_single (command.Retract c reference) ok = (retraction_within before good c reference up ok).settled.single
   made_single (command.Decide d) ok = decision_single before.relations d good.single
+
+  -- and so do the marks
+  pub made_marks : (done : Command) → early_refusal done today before ≡ None → marks_stand (facts_made done today before) ≡ true
+  made_marks (command.Import import) ok =
+      ap (λ rows. list_all (borne_in rows) (with_rows before.relations import.rows).standing) (import_appeals before.relations import.rows)
+      ∙ ap (list_all (borne_in before.relations.appeals)) (import_standing before.relations import.rows) ∙ good.marks
+  made_marks (command.Withdraw c p) ok = good.marks
+  made_marks (command.Reinstate c p) ok = good.marks
+  made_marks (command.CloseHall s h) ok = good.marks
+  made_marks (command.Lodge l) ok = (lodging_settled before good today l (lodgings.with_lodging before.relations today l) ok refl).marks
+  made_marks (command.Retract c reference) ok = (retraction_within before good c reference up ok).settled.marks
+  made_marks (command.Decide d) ok = decision_marks before.relations d today good.marks ok
 
 -- refused by the checks on the facts as they are, the command is refused
 pub early_is_change : (today : ℕ) (before : State) (done : Command) (e : Refusal) → early_refusal done today before ≡ Some e → change done today before ≡ Err e

@@ -11,7 +11,7 @@ abbrev pub of_imports : List Table
 of_imports = table.Sessions ∷ table.Papers ∷ table.Halls ∷ table.Openings ∷ table.Candidates ∷ table.Entries ∷ table.Arrangements ∷ []
 
 abbrev pub others : List Table
-others = table.Appeals ∷ table.Seats ∷ []
+others = table.Appeals ∷ table.Standing ∷ table.Seats ∷ []
 
 some_is_none : (t : Table) → Some t ≡ None → ⊥
 some_is_none t e = cc

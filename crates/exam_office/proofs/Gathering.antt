@@ -10,7 +10,7 @@ use Rattle.exam_rules.specs.Relations.{Code, Relations, code_cmp, opening_cmp, h
 use Rattle.exam_rules.specs.Sessions.{has_live_entry, is_live_entry, is_member, is_paper_of}
 use Rattle.exam_office.specs.declared.import_row.Row.{Row}
 use Rattle.exam_office.specs.declared.import_row.Row.TheVariants as row
-use Rattle.exam_office.specs.Touched.{names, names_hall, names_session, row_touches}
+use Rattle.exam_office.specs.Touched.{has_standing_member, is_session_row, names, names_hall, names_session, row_touches}
 use Rattle.exam_office.proofs.Appealing.{code_flips}
 use Rattle.exam_office.proofs.Writing.{then_eq}
 
@@ -94,42 +94,63 @@ more_opens s h x rows (o ∷ os) =
     inner a true false e d p q = cc
     inner a false true e d p q = cc
 
-or_swaps : (a b c : Bool) → ((a || b) || c) ≡ (b || (a || c))
-or_swaps true true c = refl
-or_swaps true false c = refl
-or_swaps false b c = refl
+swap_named : (b h o n : Bool) → (b || (h || (o || n))) ≡ (h || (o || (b || n)))
+swap_named true true o n = refl
+swap_named true false true n = refl
+swap_named true false false n = refl
+swap_named false h o n = refl
 
-module _ (r : Relations) (s : Code) (rows : List Row) where
+swap_opened : (b h o n : Bool) → (b || (h || (o || n))) ≡ (h || ((b || o) || n))
+swap_opened true true o n = refl
+swap_opened true false o n = refl
+swap_opened false h o n = refl
+
+swap_session : (b h g o n : Bool) → ((b || h) || ((g && h) || (o || n))) ≡ (h || (o || (b || n)))
+swap_session true true g o n = refl
+swap_session true false g true n = refl
+swap_session true false g false n = refl
+swap_session false true g o n = refl
+swap_session false false true o n = refl
+swap_session false false false o n = refl
+
+module _ (r : Relations) (s : Code) where
+  -- rows of sessions touch those of members with standing grants
+  abbrev pub stand_in : List Row → Bool
+  stand_in rows = list_any is_session_row rows && has_standing_member r s
+
+  abbrev pub opened_in : List Row → Bool
+  opened_in rows = list_any (opens_named rows s) r.openings
+
+  abbrev pub named_in : List Row → Bool
+  named_in rows = list_any (λ (x : Row). names_session r x s) rows
+
   abbrev Touches : List Row → Type 0
-  Touches xs = list_any (λ (x : Row). row_touches r x s) xs ≡ (list_any (opens_named xs s) r.openings || list_any (λ (x : Row). names_session r x s) xs)
+  Touches rows = list_any (λ (x : Row). row_touches r x s) rows ≡ (stand_in rows || (opened_in rows || named_in rows))
 
-  abbrev named : Bool
-  named = list_any (λ (x : Row). names_session r x s) rows
+  module _ (rows : List Row) (rest : Touches rows) where
+    other : (b : Bool) → (b || list_any (λ (x : Row). row_touches r x s) rows) ≡ (stand_in rows || (opened_in rows || (b || named_in rows)))
+    other b = ap (λ t. b || t) rest ∙ swap_named b (stand_in rows) (opened_in rows) (named_in rows)
 
-  abbrev opened : Bool
-  opened = list_any (opens_named rows s) r.openings
+    one_more : (x : Row) → Touches (x ∷ rows)
+    one_more (row.OfSession told z) =
+        ap (λ t. (same_code told s || has_standing_member r s) || t) rest
+        ∙ swap_session (same_code told s) (has_standing_member r s) (list_any is_session_row rows) (opened_in rows) (named_in rows)
+    one_more (row.OfPaper p z) = other (is_paper_of r s p || names r z.session s)
+    one_more (row.OfHall h z) =
+        ap (λ b. b || list_any (λ (x : Row). row_touches r x s) rows) (sym (opened_any s h r.openings))
+        ∙ ap (λ t. list_any (opens s h) r.openings || t) rest
+        ∙ swap_opened (list_any (opens s h) r.openings) (stand_in rows) (opened_in rows) (named_in rows)
+        ∙ ap (λ b. stand_in rows || (b || named_in rows)) (sym (more_opens s h z rows r.openings))
+    one_more (row.OfOpening told h z) = other (names r told s)
+    one_more (row.OfCandidate c z) = rest
+    one_more (row.OfEntry c p) = other (is_paper_of r s p)
+    one_more (row.OfArrangement c z) = other (is_member r s c)
 
-  other : Touches rows → (b : Bool) → (b || list_any (λ (x : Row). row_touches r x s) rows) ≡ (opened || (b || named))
-  other rest b = ap (λ t. b || t) rest ∙ or_same b opened named ∙ or_swaps b opened named
-
-  one_more : Touches rows → (x : Row) → Touches (x ∷ rows)
-  one_more rest (row.OfSession told z) = other rest (same_code told s)
-  one_more rest (row.OfPaper p z) = other rest (is_paper_of r s p || names r z.session s)
-  one_more rest (row.OfHall h z) =
-      ap (λ b. b || list_any (λ (x : Row). row_touches r x s) rows) (sym (opened_any s h r.openings))
-      ∙ ap (λ t. list_any (opens s h) r.openings || t) rest
-      ∙ or_same (list_any (opens s h) r.openings) opened named
-      ∙ ap (λ b. b || named) (sym (more_opens s h z rows r.openings))
-  one_more rest (row.OfOpening told h z) = other rest (names r told s)
-  one_more rest (row.OfCandidate c z) = rest
-  one_more rest (row.OfEntry c p) = other rest (is_paper_of r s p)
-  one_more rest (row.OfArrangement c z) = other rest (is_member r s c)
-
--- what rows touch is what they name, and the sessions that open the halls that they name
-pub rows_touch : (r : Relations) (s : Code) (rows : List Row)
-    → list_any (λ (x : Row). row_touches r x s) rows ≡ (list_any (opens_named rows s) r.openings || list_any (λ (x : Row). names_session r x s) rows)
-rows_touch r s [] = sym (ap (λ b. b || false) (none_opens s r.openings))
-rows_touch r s (x ∷ rows) = one_more r s rows (rows_touch r s rows) x
+  -- What rows touch is what they name, the sessions that open the halls that they name, and for rows of sessions those
+  -- of members with standing grants.
+  pub rows_touch : (rows : List Row) → Touches rows
+  rows_touch [] = sym (ap (λ b. b || false) (none_opens s r.openings))
+  rows_touch (x ∷ rows) = one_more rows (rows_touch rows) x
 
 -- ---- the entries of a candidate
 

@@ -11,9 +11,9 @@ use Rattle.exam_rules.specs.Relations.{Code, Relations, code_cmp, row_at, same_c
 use Rattle.exam_office.specs.declared.command.Command.{Command}
 use Rattle.exam_office.specs.declared.command.Command.TheVariants as command
 use Rattle.exam_rules.proofs.Naming.{same_code_itself}
-use Rattle.exam_office.specs.Appeals.{appeal_at, is_decided, is_retracted}
+use Rattle.exam_office.specs.Appeals.{appeal_at, is_retracted}
 use Rattle.exam_office.specs.Changes.{with_live}
-use Rattle.exam_office.specs.Decisions.{with_decided, with_outcome}
+use Rattle.exam_office.specs.Decisions.{is_made, with_decided, with_outcome}
 use Rattle.exam_office.specs.FactsMade.{WasMade, facts_made}
 use Rattle.exam_office.specs.Lodgings as lodgings
 use Rattle.exam_office.specs.Relisting.{SetsLive, keeps_lists}
@@ -23,17 +23,17 @@ abbrev Rows : Type 0
 Rows = List ((ℕ × Code) × Appeal)
 
 module _ (r : Relations) (lists : SessionLists) (are : AreListsOf r lists) where
-  with_appeals : (appeals : Rows) → AreListsOf (record r { appeals = appeals }) lists
-  with_appeals appeals = record {
+  with_decisions : (appeals : Rows) (marks : List ((ℕ × Code) × Unit {0})) → AreListsOf (record r { appeals = appeals; standing = marks }) lists
+  with_decisions appeals marks = record {
     numbers = are.numbers;
     members = are.members;
     halls = are.halls;
     rising = λ s. record { numbers = (are.rising s).numbers; codes = (are.rising s).codes };
   }
 
-  either : (b : Bool) (appeals : Rows) → AreListsOf (cond b r (record r { appeals = appeals })) lists
-  either true appeals = are
-  either false appeals = with_appeals appeals
+  either : (b : Bool) (appeals : Rows) (marks : List ((ℕ × Code) × Unit {0})) → AreListsOf (cond b r (record r { appeals = appeals; standing = marks })) lists
+  either true appeals marks = are
+  either false appeals marks = with_decisions appeals marks
 
 module _ (today : ℕ) (office : State) (lists : SessionLists) (are : AreListsOf office.relations lists) where
   made_lists : (done : Command) → keeps_lists done ≡ true → AreListsOf (facts_made done today office) lists
@@ -44,18 +44,18 @@ module _ (today : ℕ) (office : State) (lists : SessionLists) (are : AreListsOf
   made_lists (command.Lodge l) keeps = inner (is_none (appeal_at office.relations l.number l.reference))
     where
       inner : (b : Bool) → AreListsOf (cond b (lodgings.with_appeal office.relations today l) office.relations) lists
-      inner true = with_appeals office.relations lists are (lodgings.with_appeal office.relations today l).appeals
+      inner true = with_decisions office.relations lists are (lodgings.with_appeal office.relations today l).appeals office.relations.standing
       inner false = are
   made_lists (command.Retract c reference) keeps = inner (appeal_at office.relations c reference)
     where
       inner : (o : Option Appeal) → AreListsOf (lodgings.with_retracted office.relations c reference o) lists
       inner None = are
-      inner (Some a) = either office.relations lists are (is_retracted a.status) (lodgings.with_retracted_appeal office.relations c reference a).appeals
+      inner (Some a) = either office.relations lists are (is_retracted a.status) (lodgings.with_retracted_appeal office.relations c reference a).appeals office.relations.standing
   made_lists (command.Decide d) keeps = inner (appeal_at office.relations d.number d.reference)
     where
       inner : (o : Option Appeal) → AreListsOf (with_decided office.relations d o) lists
       inner None = are
-      inner (Some a) = either office.relations lists are (is_decided d.outcome d.answer a.status) (with_outcome office.relations d a).appeals
+      inner (Some a) = either office.relations lists are (is_made office.relations d a) (with_outcome office.relations d a).appeals (with_outcome office.relations d a).standing
 
 pub kept_lists : (done : Command) (r t : Relations) (lists : SessionLists) → WasMade done r t → keeps_lists done ≡ true → AreListsOf r lists → AreListsOf t lists
 kept_lists done r t lists was keeps are =

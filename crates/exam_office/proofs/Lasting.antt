@@ -15,6 +15,7 @@ use Rattle.exam_rules.specs.declared.rows.Status.TheVariants as status
 use Rattle.exam_rules.specs.declared.rows.Subject.{Subject}
 use Rattle.exam_rules.specs.declared.rows.Subject.TheVariants as subject
 use Rattle.exam_rules.specs.Relations.{Code, Relations, appeal_cmp, has_row, put_row, row_at, same_code, seat_cmp}
+use Rattle.exam_rules.specs.Sessions.{is_marked}
 use Rattle.exam_rules.specs.Seatings.{plan_of, seating}
 use Rattle.exam_rules.proofs.Naming.{same_code_itself}
 use Rattle.exam_office.specs.declared.command.Command.{Command}
@@ -25,11 +26,11 @@ use Rattle.exam_office.specs.declared.command.Outcome.{Outcome}
 use Rattle.exam_office.specs.declared.command.Outcome.TheVariants as outcome
 use Rattle.exam_office.specs.declared.command.Reply.{Reply}
 use Rattle.exam_office.specs.declared.command.Reply.TheVariants as reply
-use Rattle.exam_office.specs.Appeals.{appeal_at, decided, is_decided, is_open, is_retracted, same_subject, state_of, stored_state, superseded}
+use Rattle.exam_office.specs.Appeals.{appeal_at, bears_mark, decided, is_decided, is_open, is_retracted, same_subject, state_of, stored_state, superseded}
 use Rattle.exam_office.specs.Moves.{moved}
 use Rattle.exam_office.specs.Replies.{reply_to}
 use Rattle.exam_office.specs.declared.command.AppealState.TheVariants as state
-use Rattle.exam_office.specs.Decisions.{decision_checks, decision_refusal, gives_way, giving_way, grant_checks, is_too_late, open_checks, with_decided, with_decision, with_outcome, with_superseded}
+use Rattle.exam_office.specs.Decisions.{decision_checks, decision_refusal, gives_way, giving_way, grant_checks, is_made, is_too_late, not_arrangement, open_checks, with_decided, with_decision, with_outcome, with_superseded}
 use Rattle.exam_office.specs.Changes.{closing_refusal, first_refusal, import_refusal, reinstatement_refusal, unless, with_live, with_rows, without_opening, withdrawal_refusal}
 use Rattle.exam_office.specs.Good.{IsGood}
 use Rattle.exam_office.specs.Limits.{within_limits}
@@ -39,15 +40,16 @@ use Rattle.exam_office.specs.State.{State}
 use Rattle.exam_office.specs.Steps.{MayStep, Run, SameSeating, Step, StepTo, change}
 use Rattle.exam_office.proofs.AppealKeys.{appeals_exact, appeals_total}
 use Rattle.exam_office.proofs.AppealSteps.{lodging_settled, retraction_settled}
-use Rattle.exam_office.proofs.Referring.{import_appeals, import_candidates, neither, passed}
+use Rattle.exam_office.proofs.DecidedFacts.{marked_as_made, marked_still}
+use Rattle.exam_office.proofs.Referring.{import_appeals, import_candidates, import_standing, neither, passed}
 use Rattle.exam_office.proofs.Repeating.{put_found, put_stays, same_rows}
 use Rattle.exam_office.proofs.SameSeats.{seats_exact, seats_total}
 
 -- ---- an appeal and what becomes of it
 
--- decided so, with this answer, or superseded since
-abbrev Stands : Outcome → List ℕ → Status → Type 0
-Stands outcome answer st = (is_decided outcome answer st ≡ true) ⊎ (state_of st ≡ state.Superseded)
+-- decided so, with this answer and with the mark or without it, or superseded since
+abbrev Stands : Outcome → List ℕ → Bool → Status → Type 0
+Stands outcome answer marked st = (is_decided outcome answer marked st ≡ true) ⊎ (state_of st ≡ state.Superseded)
 
 -- it asks the same, and one that is retracted, decided or superseded stays so
 record Continues (a b : Appeal) : Type 0 where
@@ -55,24 +57,33 @@ record Continues (a b : Appeal) : Type 0 where
   subject : b.subject ≡ a.subject
   reason : b.reason ≡ a.reason
   retracted : a.status ≡ status.Retracted → b.status ≡ status.Retracted
-  decided : (m : Outcome) (answer : List ℕ) → is_decided m answer a.status ≡ true → Stands m answer b.status
+  decided : (m : Outcome) (answer : List ℕ) (marked : Bool) → is_decided m answer marked a.status ≡ true → Stands m answer marked b.status
+  closed : is_open a.status ≡ false → is_open b.status ≡ false
   superseded : state_of a.status ≡ state.Superseded → state_of b.status ≡ state.Superseded
 
 continues_itself : (a : Appeal) → Continues a a
-continues_itself a = record { session = refl; subject = refl; reason = refl; retracted = λ is. is; decided = λ m answer is. inl is; superseded = λ is. is }
+continues_itself a = record { session = refl; subject = refl; reason = refl; retracted = λ is. is; decided = λ m answer marked is. inl is; closed = λ is. is; superseded = λ is. is }
 
-stands_on : (a b : Appeal) → Continues a b → (m : Outcome) (answer : List ℕ) → Stands m answer a.status → Stands m answer b.status
-stands_on a b on m answer (inl is) = on.decided m answer is
-stands_on a b on m answer (inr is) = inr (on.superseded is)
+stands_on : (a b : Appeal) → Continues a b → (m : Outcome) (answer : List ℕ) (marked : Bool) → Stands m answer marked a.status → Stands m answer marked b.status
+stands_on a b on m answer marked (inl is) = on.decided m answer marked is
+stands_on a b on m answer marked (inr is) = inr (on.superseded is)
 
 -- what is open is neither decided nor superseded
-open_undecided : {A : Type 0} (m : Outcome) (answer : List ℕ) (st : Status) → is_open st ≡ true → is_decided m answer st ≡ true → A
-open_undecided outcome.Grant answer status.Pending open_yet is = absurd (let differ : false ≡ true = is in cc)
-open_undecided outcome.Refuse answer status.Pending open_yet is = absurd (let differ : false ≡ true = is in cc)
-open_undecided m answer (status.Granted stored) open_yet is = absurd (let differ : false ≡ true = open_yet in cc)
-open_undecided m answer (status.Refused stored) open_yet is = absurd (let differ : false ≡ true = open_yet in cc)
-open_undecided m answer status.Retracted open_yet is = absurd (let differ : false ≡ true = open_yet in cc)
-open_undecided m answer (status.Superseded stored) open_yet is = absurd (let differ : false ≡ true = open_yet in cc)
+open_undecided : {A : Type 0} (m : Outcome) (answer : List ℕ) (marked : Bool) (st : Status) → is_open st ≡ true → is_decided m answer marked st ≡ true → A
+open_undecided m answer marked status.Pending open_yet is = absurd (never m (not marked) marked is)
+  where
+    none : (b : Bool) → (b && false) ≡ true → ⊥
+    none true e = let differ : false ≡ true = e in cc
+    none false e = let differ : false ≡ true = e in cc
+
+    never : (o : Outcome) (b c : Bool) → is_decided o answer marked status.Pending ≡ true → ⊥
+    never outcome.Grant b c e = none (not marked) e
+    never outcome.Standing b c e = none marked e
+    never outcome.Refuse b c e = let differ : false ≡ true = e in cc
+open_undecided m answer marked (status.Granted stored) open_yet is = absurd (let differ : false ≡ true = open_yet in cc)
+open_undecided m answer marked (status.Refused stored) open_yet is = absurd (let differ : false ≡ true = open_yet in cc)
+open_undecided m answer marked status.Retracted open_yet is = absurd (let differ : false ≡ true = open_yet in cc)
+open_undecided m answer marked (status.Superseded stored) open_yet is = absurd (let differ : false ≡ true = open_yet in cc)
 
 open_standing : {A : Type 0} (st : Status) → is_open st ≡ true → state_of st ≡ state.Superseded → A
 open_standing status.Pending open_yet is = absurd (let differ : state.Pending ≡ state.Superseded = is in cc)
@@ -81,19 +92,29 @@ open_standing (status.Refused stored) open_yet is = absurd (let differ : false �
 open_standing status.Retracted open_yet is = absurd (let differ : false ≡ true = open_yet in cc)
 open_standing (status.Superseded stored) open_yet is = absurd (let differ : false ≡ true = open_yet in cc)
 
+-- so what stands is not open
+stands_closed : (m : Outcome) (answer : List ℕ) (marked : Bool) (st : Status) → Stands m answer marked st → is_open st ≡ false
+stands_closed m answer marked st stands = inner (is_open st) refl stands
+  where
+    inner : (b : Bool) → is_open st ≡ b → Stands m answer marked st → b ≡ false
+    inner false closed stands = refl
+    inner true open_yet (inl is) = open_undecided m answer marked st open_yet is
+    inner true open_yet (inr is) = open_standing st open_yet is
+
 -- an appeal at the key, which continues this one
 record GoesOn (r : Relations) (k : ℕ × Code) (a : Appeal) : Type 0 where
   then : Appeal
   stored : row_at appeal_cmp r.appeals k ≡ Some then
   continues : Continues a then
 
--- every candidate and every appeal is there still
+-- every candidate and every appeal is there still, and one that is decided keeps its mark, or that it has none
 record Carries (r t : Relations) : Type 0 where
   candidates : (c : ℕ) → has_row nat_cmp r.candidates c ≡ true → has_row nat_cmp t.candidates c ≡ true
   appeals : (k : ℕ × Code) (a : Appeal) → row_at appeal_cmp r.appeals k ≡ Some a → GoesOn t k a
+  marks : (k : ℕ × Code) (a : Appeal) → row_at appeal_cmp r.appeals k ≡ Some a → is_open a.status ≡ false → is_marked t k ≡ is_marked r k
 
 carries_itself : (r : Relations) → Carries r r
-carries_itself r = record { candidates = λ c has. has; appeals = λ k a at. record { then = a; stored = at; continues = continues_itself a } }
+carries_itself r = record { candidates = λ c has. has; appeals = λ k a at. record { then = a; stored = at; continues = continues_itself a }; marks = λ k a at closed. refl }
 
 carries_both : (r t u : Relations) → Carries r t → Carries t u → Carries r u
 carries_both r t u one two = record {
@@ -109,14 +130,18 @@ carries_both r t u one two = record {
           subject = second.continues.subject ∙ first.continues.subject;
           reason = second.continues.reason ∙ first.continues.reason;
           retracted = λ is. second.continues.retracted (first.continues.retracted is);
-          decided = λ m answer is. stands_on first.then second.then second.continues m answer (first.continues.decided m answer is);
+          decided = λ m answer marked is. stands_on first.then second.then second.continues m answer marked (first.continues.decided m answer marked is);
+          closed = λ is. second.continues.closed (first.continues.closed is);
           superseded = λ is. second.continues.superseded (first.continues.superseded is);
         };
       };
+  marks = λ k a at closed.
+      let first = one.appeals k a at in
+      two.marks k first.then first.stored (first.continues.closed closed) ∙ one.marks k a at closed;
 }
 
 carries_put : (r : Relations) (k : ℕ × Code) (new : Appeal) → ((a : Appeal) → row_at appeal_cmp r.appeals k ≡ Some a → Continues a new) → Carries r (record r { appeals = put_row appeal_cmp r.appeals k new })
-carries_put r k new continues = record { candidates = λ c has. has; appeals = λ q a at. inner q a at (is_at (appeal_cmp k) q) refl }
+carries_put r k new continues = record { candidates = λ c has. has; appeals = λ q a at. inner q a at (is_at (appeal_cmp k) q) refl; marks = λ q a at closed. refl }
   where
     inner : (q : ℕ × Code) (a : Appeal) → row_at appeal_cmp r.appeals q ≡ Some a → (b : Bool) → is_at (appeal_cmp k) q ≡ b → GoesOn (record r { appeals = put_row appeal_cmp r.appeals k new }) q a
     inner q a at true here =
@@ -142,10 +167,11 @@ pub unrefused : (o : Option Refusal) (r t : Relations) → unless o r ≡ Ok t �
 unrefused None r t is = refl
 unrefused (Some e) r t is = absurd (let differ : unless (Some e) r ≡ Ok t = is in cc)
 
-carries_import : (r t : Relations) → ((c : ℕ) → has_row nat_cmp r.candidates c ≡ true → has_row nat_cmp t.candidates c ≡ true) → t.appeals ≡ r.appeals → Carries r t
-carries_import r t grows same = record {
+carries_import : (r t : Relations) → ((c : ℕ) → has_row nat_cmp r.candidates c ≡ true → has_row nat_cmp t.candidates c ≡ true) → t.appeals ≡ r.appeals → t.standing ≡ r.standing → Carries r t
+carries_import r t grows same marked = record {
   candidates = grows;
   appeals = λ k a at. record { then = a; stored = ap (λ rows. row_at appeal_cmp rows k) same ∙ at; continues = continues_itself a };
+  marks = λ k a at closed. ap (λ marks. has_row appeal_cmp marks k) marked;
 }
 
 lodging_carries : (r : Relations) (day : ℕ) (l : Lodging) → Carries r (spec.with_lodging r day l)
@@ -176,7 +202,8 @@ retraction_carries r c reference ok = inner (appeal_at r c reference) refl
           subject = ap (λ (x : Appeal). x.subject) same;
           reason = ap (λ (x : Appeal). x.reason) same;
           retracted = λ before. refl;
-          decided = λ m answer is. open_undecided m answer a.status (opens was) (ap (λ (x : Appeal). is_decided m answer x.status) same ∙ is);
+          decided = λ m answer marked is. open_undecided m answer marked a.status (opens was) (ap (λ (x : Appeal). is_decided m answer marked x.status) same ∙ is);
+          closed = λ is. refl;
           superseded = λ is. open_standing a.status (opens was) (ap (λ (x : Appeal). state_of x.status) same ∙ is);
         })
 
@@ -184,17 +211,19 @@ retraction_carries r c reference ok = inner (appeal_at r c reference) refl
     inner None none = carries_itself r
     inner (Some a) at = by_status a at (λ was. retracting_open a.status was (ap (λ o. first_refusal (spec.retraction_checks o)) (sym at) ∙ ok)) (is_retracted a.status) refl
 
-superseding : (m : Outcome) (answer : List ℕ) (st : Status) → is_decided m answer st ≡ true → Stands m answer (superseded st)
-superseding outcome.Grant answer (status.Granted stored) is = inr refl
-superseding outcome.Grant answer status.Pending is = inl is
-superseding outcome.Grant answer (status.Refused stored) is = inl is
-superseding outcome.Grant answer status.Retracted is = inl is
-superseding outcome.Grant answer (status.Superseded stored) is = inl is
-superseding outcome.Refuse answer (status.Granted stored) is = inr refl
-superseding outcome.Refuse answer status.Pending is = inl is
-superseding outcome.Refuse answer (status.Refused stored) is = inl is
-superseding outcome.Refuse answer status.Retracted is = inl is
-superseding outcome.Refuse answer (status.Superseded stored) is = inl is
+superseding : (m : Outcome) (answer : List ℕ) (marked : Bool) (st : Status) → is_decided m answer marked st ≡ true → Stands m answer marked (superseded st)
+superseding m answer marked (status.Granted stored) is = inr refl
+superseding m answer marked status.Pending is = inl is
+superseding m answer marked (status.Refused stored) is = inl is
+superseding m answer marked status.Retracted is = inl is
+superseding m answer marked (status.Superseded stored) is = inl is
+
+superseded_closed : (st : Status) → is_open st ≡ false → is_open (superseded st) ≡ false
+superseded_closed status.Pending is = is
+superseded_closed (status.Granted stored) is = refl
+superseded_closed (status.Refused stored) is = refl
+superseded_closed status.Retracted is = refl
+superseded_closed (status.Superseded stored) is = refl
 
 superseded_stays : (st : Status) → state_of st ≡ state.Superseded → state_of (superseded st) ≡ state.Superseded
 superseded_stays status.Pending is = is
@@ -213,7 +242,8 @@ superseded_goes_on c s asked row = inner (gives_way c s asked row)
       subject = refl;
       reason = refl;
       retracted = λ is. ap superseded is;
-      decided = λ m answer is. superseding m answer row.1.status is;
+      decided = λ m answer marked is. superseding m answer marked row.1.status is;
+      closed = λ is. superseded_closed row.1.status is;
       superseded = λ is. superseded_stays row.1.status is;
     }
     inner false = continues_itself row.1
@@ -248,11 +278,24 @@ mapped_goes_on c s asked (d ∷ ds) k a at = inner (is_at (appeal_cmp k) d.0) re
 
 rows_go_on : (c : ℕ) (a : Appeal) (o : Outcome) (rows : List ((ℕ × Code) × Appeal)) (k : ℕ × Code) (x : Appeal) → row_at appeal_cmp rows k ≡ Some x → GoesOnAmong (with_superseded c a o rows) k x
 rows_go_on c a outcome.Grant rows k x at = mapped_goes_on c a.session a.subject rows k x at
+rows_go_on c a outcome.Standing rows k x at = mapped_goes_on c a.session a.subject rows k x at
 rows_go_on c a outcome.Refuse rows k x at = record { then = x; stored = at; continues = continues_itself x }
 
 outcome_carries : (r : Relations) (d : Decision) (a : Appeal) → appeal_at r d.number d.reference ≡ Some a → is_open a.status ≡ true → Carries r (with_outcome r d a)
-outcome_carries r d a stored open_yet = record { candidates = λ c has. has; appeals = λ q x at. inner q x at (is_at (appeal_cmp (d.number, d.reference)) q) refl }
+outcome_carries r d a stored open_yet = record {
+  candidates = λ c has. has;
+  appeals = λ q x at. inner q x at (is_at (appeal_cmp (d.number, d.reference)) q) refl;
+  marks = λ q x at closed. marked_still r d q (λ same.
+      let both : Some a ≡ Some x = sym stored ∙ ap (λ z. row_at appeal_cmp r.appeals z) (sym same) ∙ at in
+      let one : a ≡ x = cc in
+      let differ : true ≡ false = sym open_yet ∙ ap (λ (y : Appeal). is_open y.status) one ∙ closed in cc);
+}
   where
+    decided_closed : (o : Outcome) → is_open (decided o d.answer) ≡ false
+    decided_closed outcome.Grant = refl
+    decided_closed outcome.Standing = refl
+    decided_closed outcome.Refuse = refl
+
     inner : (q : ℕ × Code) (x : Appeal) → row_at appeal_cmp r.appeals q ≡ Some x → (b : Bool) → is_at (appeal_cmp (d.number, d.reference)) q ≡ b → GoesOn (with_outcome r d a) q x
     inner q x at true here =
         let same : (d.number, d.reference) ≡ q = appeals_exact (d.number, d.reference) q ((Equal-is (appeal_cmp (d.number, d.reference) q)).0 here) in
@@ -269,7 +312,8 @@ outcome_carries r d a stored open_yet = record { candidates = λ c has. has; app
                 subject = refl;
                 reason = refl;
                 retracted = λ is. absurd (let differ : true ≡ false = sym open_yet ∙ ap is_open is in cc);
-                decided = λ m answer is. open_undecided m answer a.status open_yet is;
+                decided = λ m answer marked is. open_undecided m answer marked a.status open_yet is;
+                closed = λ is. decided_closed d.outcome;
                 superseded = λ is. open_standing a.status open_yet is;
               });
         }
@@ -286,7 +330,7 @@ decision_carries : (r : Relations) (day : ℕ) (d : Decision) → decision_refus
 decision_carries r day d ok = inner (appeal_at r d.number d.reference) refl
   where
     was_open : (a : Appeal) → first_refusal (open_checks r day d a) ≡ None → is_open a.status ≡ true
-    was_open a none = not-false (is_open a.status) (passed (not (is_open a.status)) refusal.NotOpenAppeal ((is_too_late r a.session day, refusal.TooLate) ∷ grant_checks r d.number a d.outcome) none).0
+    was_open a none = not-false (is_open a.status) (passed (not (is_open a.status)) refusal.NotOpenAppeal ((is_too_late r a.session day, refusal.TooLate) ∷ not_arrangement a d.outcome ∷ grant_checks r d.number a d.outcome) none).0
 
     by_case : (a : Appeal) → appeal_at r d.number d.reference ≡ Some a → (b : Bool) → first_refusal (cond b [] (open_checks r day d a)) ≡ None → Carries r (cond b r (with_outcome r d a))
     by_case a at true none = carries_itself r
@@ -294,18 +338,18 @@ decision_carries r day d ok = inner (appeal_at r d.number d.reference) refl
 
     inner : (o : Option Appeal) → appeal_at r d.number d.reference ≡ o → Carries r (with_decided r d o)
     inner None at = carries_itself r
-    inner (Some a) at = by_case a at (is_decided d.outcome d.answer a.status) (ap (λ o. first_refusal (decision_checks r day d o)) (sym at) ∙ ok)
+    inner (Some a) at = by_case a at (is_made r d a) (ap (λ o. first_refusal (decision_checks r day d o)) (sym at) ∙ ok)
 
 change_carries : (done : Command) (day : ℕ) (before : State) (t : Relations) → change done day before ≡ Ok t → Carries before.relations t
 change_carries (command.Import import) day before t is =
     let new = made (import_refusal before.relations import.rows) (with_rows before.relations import.rows) t is in
-    subst (Carries before.relations) new (carries_import before.relations (with_rows before.relations import.rows) (import_candidates before.relations import.rows) (import_appeals before.relations import.rows))
+    subst (Carries before.relations) new (carries_import before.relations (with_rows before.relations import.rows) (import_candidates before.relations import.rows) (import_appeals before.relations import.rows) (import_standing before.relations import.rows))
 change_carries (command.Withdraw c p) day before t is =
-    subst (Carries before.relations) (made (withdrawal_refusal before.relations c p) (with_live before.relations c p false) t is) (carries_import before.relations (with_live before.relations c p false) (λ d has. has) refl)
+    subst (Carries before.relations) (made (withdrawal_refusal before.relations c p) (with_live before.relations c p false) t is) (carries_import before.relations (with_live before.relations c p false) (λ d has. has) refl refl)
 change_carries (command.Reinstate c p) day before t is =
-    subst (Carries before.relations) (made (reinstatement_refusal before.relations c p) (with_live before.relations c p true) t is) (carries_import before.relations (with_live before.relations c p true) (λ d has. has) refl)
+    subst (Carries before.relations) (made (reinstatement_refusal before.relations c p) (with_live before.relations c p true) t is) (carries_import before.relations (with_live before.relations c p true) (λ d has. has) refl refl)
 change_carries (command.CloseHall s h) day before t is =
-    subst (Carries before.relations) (made (closing_refusal before.relations s h) (without_opening before.relations s h) t is) (carries_import before.relations (without_opening before.relations s h) (λ d has. has) refl)
+    subst (Carries before.relations) (made (closing_refusal before.relations s h) (without_opening before.relations s h) t is) (carries_import before.relations (without_opening before.relations s h) (λ d has. has) refl refl)
 change_carries (command.Lodge l) day before t is =
     subst (Carries before.relations) (made (spec.lodging_refusal before.relations before.seats day l) (spec.with_lodging before.relations day l) t is) (lodging_carries before.relations day l)
 change_carries (command.Retract c reference) day before t is =
@@ -484,48 +528,63 @@ repeated_retraction c reference day later before mid late after first done repli
 record IsDecidedAt (r : Relations) (d : Decision) : Type 0 where
   appeal : Appeal
   stored : appeal_at r d.number d.reference ≡ Some appeal
-  stands : Stands d.outcome d.answer appeal.status
+  stands : Stands d.outcome d.answer (is_marked r (d.number, d.reference)) appeal.status
 
-decided_itself : (m : Outcome) (answer : List ℕ) → is_decided m answer (decided m answer) ≡ true
+decided_itself : (m : Outcome) (answer : List ℕ) → is_decided m answer (bears_mark m) (decided m answer) ≡ true
 decided_itself outcome.Grant answer = same_code_itself answer
+decided_itself outcome.Standing answer = same_code_itself answer
 decided_itself outcome.Refuse answer = same_code_itself answer
 
 -- what a superseded appeal answers
 over_refused : (r : Relations) (d : Decision) (day : ℕ) (a : Appeal) → state_of a.status ≡ state.Superseded → first_refusal (decision_checks r day d (Some a)) ≡ Some refusal.NotOpenAppeal
-over_refused r d day a is = inner d.outcome a.status is
+over_refused r d day a is = inner a.status is
   where
-    inner : (m : Outcome) (st : Status) → state_of st ≡ state.Superseded
-        → first_refusal (cond (is_decided m d.answer st) [] ((not (is_open st), refusal.NotOpenAppeal) ∷ (is_too_late r a.session day, refusal.TooLate) ∷ grant_checks r d.number a d.outcome)) ≡ Some refusal.NotOpenAppeal
-    inner outcome.Grant (status.Superseded stored) is = refl
-    inner outcome.Refuse (status.Superseded stored) is = refl
-    inner m status.Pending is = absurd (let differ : state.Pending ≡ state.Superseded = is in cc)
-    inner m (status.Granted stored) is = absurd (let differ : state.Granted ≡ state.Superseded = is in cc)
-    inner m (status.Refused stored) is = absurd (let differ : state.Refused ≡ state.Superseded = is in cc)
-    inner m status.Retracted is = absurd (let differ : state.Retracted ≡ state.Superseded = is in cc)
+    rest : Status → List (Bool × Refusal)
+    rest st = (not (is_open st), refusal.NotOpenAppeal) ∷ (is_too_late r a.session day, refusal.TooLate) ∷ not_arrangement a d.outcome ∷ grant_checks r d.number a d.outcome
+
+    never : (o : Outcome) (marked : Bool) (stored : List ℕ) → is_decided o d.answer marked (status.Superseded stored) ≡ false
+    never outcome.Grant true stored = refl
+    never outcome.Grant false stored = refl
+    never outcome.Standing true stored = refl
+    never outcome.Standing false stored = refl
+    never outcome.Refuse marked stored = refl
+
+    inner : (st : Status) → state_of st ≡ state.Superseded → first_refusal (cond (is_decided d.outcome d.answer (is_marked r (d.number, d.reference)) st) [] (rest st)) ≡ Some refusal.NotOpenAppeal
+    inner (status.Superseded stored) is = ap (λ b. first_refusal (cond b [] (rest (status.Superseded stored)))) (never d.outcome (is_marked r (d.number, d.reference)) stored)
+    inner status.Pending is = absurd (let differ : state.Pending ≡ state.Superseded = is in cc)
+    inner (status.Granted stored) is = absurd (let differ : state.Granted ≡ state.Superseded = is in cc)
+    inner (status.Refused stored) is = absurd (let differ : state.Refused ≡ state.Superseded = is in cc)
+    inner status.Retracted is = absurd (let differ : state.Retracted ≡ state.Superseded = is in cc)
 
 module _ (d : Decision) where
   decided_still : (r t : Relations) → Carries r t → IsDecidedAt r d → IsDecidedAt t d
   decided_still r t carries is =
       let on = carries.appeals (d.number, d.reference) is.appeal is.stored in
-      record { appeal = on.then; stored = on.stored; stands = stands_on is.appeal on.then on.continues d.outcome d.answer is.stands }
+      let k : ℕ × Code = (d.number, d.reference) in
+      let same : is_marked t k ≡ is_marked r k = carries.marks k is.appeal is.stored (stands_closed d.outcome d.answer (is_marked r k) is.appeal.status is.stands) in
+      record {
+        appeal = on.then;
+        stored = on.stored;
+        stands = subst (λ marked. Stands d.outcome d.answer marked on.then.status) (sym same) (stands_on is.appeal on.then on.continues d.outcome d.answer (is_marked r k) is.stands);
+      }
 
   decided_then : (r : Relations) (day : ℕ) → decision_refusal r day d ≡ None → IsDecidedAt (with_decision r d) d
   decided_then r day ok = inner (appeal_at r d.number d.reference) refl
     where
-      by_case : (a : Appeal) → appeal_at r d.number d.reference ≡ Some a → (b : Bool) → is_decided d.outcome d.answer a.status ≡ b → IsDecidedAt (cond b r (with_outcome r d a)) d
+      by_case : (a : Appeal) → appeal_at r d.number d.reference ≡ Some a → (b : Bool) → is_made r d a ≡ b → IsDecidedAt (cond b r (with_outcome r d a)) d
       by_case a at true is = record { appeal = a; stored = at; stands = inl is }
       by_case a at false is = record {
         appeal = record a { status = decided d.outcome d.answer };
         stored = put_found appeal_cmp appeals_total (with_superseded d.number a d.outcome r.appeals) (d.number, d.reference) (record a { status = decided d.outcome d.answer });
-        stands = inl (decided_itself d.outcome d.answer);
+        stands = inl (subst (λ marked. is_decided d.outcome d.answer marked (decided d.outcome d.answer) ≡ true) (sym (marked_as_made r d a)) (decided_itself d.outcome d.answer));
       }
 
       inner : (o : Option Appeal) → appeal_at r d.number d.reference ≡ o → IsDecidedAt (with_decision r d) d
       inner None none = absurd (let differ : Some refusal.UnknownAppeal ≡ None = ap (λ o. first_refusal (decision_checks r day d o)) (sym none) ∙ ok in cc)
-      inner (Some a) at = subst (λ t. IsDecidedAt t d) (sym (ap (with_decided r d) at)) (by_case a at (is_decided d.outcome d.answer a.status) refl)
+      inner (Some a) at = subst (λ t. IsDecidedAt t d) (sym (ap (with_decided r d) at)) (by_case a at (is_made r d a) refl)
 
   -- decided so still
-  again_unchanged : (day : ℕ) (late : State) (a : Appeal) → appeal_at late.relations d.number d.reference ≡ Some a → is_decided d.outcome d.answer a.status ≡ true → change (command.Decide d) day late ≡ Ok late.relations
+  again_unchanged : (day : ℕ) (late : State) (a : Appeal) → appeal_at late.relations d.number d.reference ≡ Some a → is_made late.relations d a ≡ true → change (command.Decide d) day late ≡ Ok late.relations
   again_unchanged day late a at is =
       let r = late.relations in
       ap (λ o. unless (first_refusal (decision_checks r day d o)) (with_decided r d o)) at
@@ -548,7 +607,7 @@ repeated_decision d day later before mid late after first done replies second up
     let still = decided_still d mid.relations late.relations (run_carries done mid replies late run) there in
     inner still.appeal still.stored still.stands
   where
-    inner : (a : Appeal) → appeal_at late.relations d.number d.reference ≡ Some a → Stands d.outcome d.answer a.status
+    inner : (a : Appeal) → appeal_at late.relations d.number d.reference ≡ Some a → Stands d.outcome d.answer (is_marked late.relations (d.number, d.reference)) a.status
         → ((second ≡ Ok reply.Unchanged) ⊎ ((stored_state late.relations d.number d.reference ≡ state.Superseded) × (second ≡ Err refusal.NotOpenAppeal))) × (after ≡ late)
     inner a at (inl is) =
         let to : StepTo (command.Decide d) late second after (Ok late.relations) = subst (StepTo (command.Decide d) late second after) (again_unchanged d later late a at is) two in (

@@ -15,10 +15,10 @@ use Rattle.exam_office.specs.declared.command.Reply.{Reply}
 use Rattle.exam_office.specs.declared.command.Reply.TheVariants as reply
 use Rattle.exam_office.specs.declared.import_row.Row.{Row}
 use Rattle.exam_office.specs.declared.import_row.Row.TheVariants as row
-use Rattle.exam_office.specs.Appeals.{appeal_at, is_decided, is_retracted}
+use Rattle.exam_office.specs.Appeals.{appeal_at, is_retracted}
 use Rattle.exam_office.specs.Between.{NoneImportsOrCloses, imports_or_closes}
 use Rattle.exam_office.specs.Changes.{imported, reinstatement_refusal, rows_refusal, first_refusal, too_many, with_live, with_rows, withdrawal_refusal}
-use Rattle.exam_office.specs.Decisions.{decision_refusal, with_decided, with_decision, with_outcome}
+use Rattle.exam_office.specs.Decisions.{decision_refusal, is_made, with_decided, with_decision, with_outcome}
 use Rattle.exam_office.specs.Good.{IsGood}
 use Rattle.exam_office.specs.Imports.{ImportRows, distinct_rows, is_consistent}
 use Rattle.exam_office.specs.Limits.{within_limits}
@@ -56,11 +56,14 @@ holds_both r t u one two = record {
 }
 
 -- where appeals alone change
-holds_appeals : (r : Relations) (appeals : List ((ℕ × Code) × Appeal)) → Holds r (record r { appeals = appeals })
-holds_appeals r appeals = record { sessions = refl; papers = refl; halls = refl; openings = refl; candidates = refl; entries = λ k has. has; arrangements = refl }
+holds_decisions : (r : Relations) (appeals : List ((ℕ × Code) × Appeal)) (marks : List ((ℕ × Code) × Unit {0})) → Holds r (record r { appeals = appeals; standing = marks })
+holds_decisions r appeals marks = record { sessions = refl; papers = refl; halls = refl; openings = refl; candidates = refl; entries = λ k has. has; arrangements = refl }
 
 holds_itself : (r : Relations) → Holds r r
-holds_itself r = holds_appeals r r.appeals
+holds_itself r = holds_decisions r r.appeals r.standing
+
+holds_appeals : (r : Relations) (appeals : List ((ℕ × Code) × Appeal)) → Holds r (record r { appeals = appeals })
+holds_appeals r appeals = holds_decisions r appeals r.standing
 
 holds_live : (r : Relations) (c : ℕ) (p : Code) (live : Bool) → Holds r (with_live r c p live)
 holds_live r c p live = record {
@@ -98,11 +101,11 @@ decision_holds r d = inner (appeal_at r d.number d.reference)
   where
     by_case : (a : Appeal) (b : Bool) → Holds r (cond b r (with_outcome r d a))
     by_case a true = holds_itself r
-    by_case a false = holds_appeals r (with_outcome r d a).appeals
+    by_case a false = holds_decisions r (with_outcome r d a).appeals (with_outcome r d a).standing
 
     inner : (o : Option Appeal) → Holds r (with_decided r d o)
     inner None = holds_itself r
-    inner (Some a) = by_case a (is_decided d.outcome d.answer a.status)
+    inner (Some a) = by_case a (is_made r d a)
 
 change_holds : (done : Command) (day : ℕ) (before : State) (t : Relations) → imports_or_closes done ≡ false → change done day before ≡ Ok t → Holds before.relations t
 change_holds (command.Import import) day before t leaves is = absurd (let differ : true ≡ false = leaves in cc)

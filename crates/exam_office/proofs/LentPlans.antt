@@ -2,9 +2,10 @@
 use Rattle.std.proofs.Common.{◌≡◌, ◌≤◌, ℕ, zero, suc, ◌&&◌, ◌||◌, Bool, true, false, cond, IsTrue, List, [], ◌∷◌, ◌++◌, map, length, take, nat_eq, Contains, Option, None, Some, IsSome, refl, ap, sym, subst, ◌∙◌, arith}
 use Rattle.std.specs.Prelude.{◌↔◌}
 use Rattle.std.specs.List.{list_any}
-use Rattle.std.specs.Option.{option_or}
+use Rattle.std.specs.Option.{option_map_or, option_or}
 use Rattle.std.proofs.lemmas.List.Folds.{list_any-append}
 use Rattle.exam_rules.specs.declared.lists.Entrant.{Entrant}
+use Rattle.exam_rules.specs.declared.rows.Appeal.{Appeal}
 use Rattle.std.specs.Bool.{Decides}
 use Rattle.std.proofs.lemmas.Bool.Decides.{Decides-eqb}
 use Rattle.std.proofs.lemmas.Map.Made.{is_member-Decides}
@@ -12,14 +13,15 @@ use Rattle.exam_rules.specs.declared.lists.SessionLists.{SessionLists}
 use Rattle.exam_rules.specs.Lists.{AreListsOf, listed}
 use Rattle.exam_rules.specs.Relations.{Code, Relations, same_code}
 use Rattle.exam_rules.specs.Seatings.{plan_of}
-use Rattle.exam_rules.specs.Sessions.{members}
+use Rattle.exam_rules.specs.Sessions.{is_member, members}
 use Rattle.exam_rules.proofs.Naming.{same_code_exact}
 use Rattle.exam_office.specs.declared.command.Command.{Command}
 use Rattle.exam_office.specs.declared.command.Command.TheVariants as command
 use Rattle.exam_office.specs.declared.command.Decision.{Decision}
 use Rattle.exam_office.specs.declared.command.Lodging.{Lodging}
 use Rattle.exam_office.specs.Good.{IsGood}
-use Rattle.exam_office.specs.Touched.{touches}
+use Rattle.exam_office.specs.Appeals.{appeal_at, bears_mark, is_grant}
+use Rattle.exam_office.specs.Touched.{ends_standing, grant_touches, is_appeal_for, touches}
 use Rattle.exam_office.specs.Parts.{Agrees, is_listed, reads}
 use Rattle.exam_office.specs.State.{Seats, State}
 use Rattle.exam_office.proofs.Appealing.{number_flips}
@@ -118,3 +120,17 @@ reads_touched (command.CloseHall named h) no_lodging no_decision r s = refl
 reads_touched (command.Lodge l) no_lodging no_decision r s = absurd (no_lodging l refl)
 reads_touched (command.Retract c reference) no_lodging no_decision r s = refl
 reads_touched (command.Decide d) no_lodging no_decision r s = absurd (no_decision d refl)
+
+-- a decision that grants reads what it touches
+pub grant_reads : (r : Relations) (d : Decision) (s : Code) → is_grant d.outcome ≡ true → reads r (command.Decide d) s ≡ touches r (command.Decide d) s
+grant_reads r d s grants = inner (is_grant d.outcome) grants (appeal_at r d.number d.reference)
+  where
+    within : (here more : Bool) → (here || (here || more)) ≡ (here || more)
+    within true more = refl
+    within false more = refl
+
+    inner : (b : Bool) → b ≡ true → (o : Option Appeal)
+        → (is_appeal_for o s || (b && option_map_or (λ a. grant_touches r d a s) o false)) ≡ (b && option_map_or (λ a. grant_touches r d a s) o false)
+    inner true is None = refl
+    inner true is (Some a) = within (same_code a.session s) ((bears_mark d.outcome || ends_standing r d.number a) && is_member r s d.number)
+    inner false is o = absurd (let differ : false ≡ true = is in cc)

@@ -3,6 +3,7 @@ pub mod Stepping
 pub mod Commanding
 pub mod LodgingChecks
 pub mod PutAppeals
+pub mod Borne
 pub mod AppealKeys
 pub mod Appealing
 pub mod AppealSteps

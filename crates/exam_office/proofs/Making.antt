@@ -1,21 +1,23 @@
 -- What a command makes of a part, step by step, is what an accepted command makes of it.
-use Rattle.std.proofs.Common.{◌≡◌, ◌↔◌, ◌⊎◌, ℕ, Bool, true, false, cond, IsTrue, List, Contains, Option, None, Some, Ok, Err, refl, ap, sym, subst, ◌∙◌, inl, inr}
-use Rattle.std.specs.Option.{option_and_then}
+use Rattle.std.proofs.Common.{◌≡◌, ◌↔◌, ◌⊎◌, ◌&&◌, ◌||◌, ℕ, not, Bool, true, false, cond, IsTrue, List, Contains, Option, None, Some, Ok, Err, refl, ap, sym, subst, ◌∙◌, inl, inr}
+use Rattle.std.specs.Option.{option_and_then, option_map_or}
 use Rattle.exam_types.specs.declared.refusal.Refusal.{Refusal}
 use Rattle.exam_types.specs.declared.refusal.Refusal.TheVariants.{NoMemory}
 use Rattle.exam_rules.specs.declared.rows.Appeal.{Appeal}
 use Rattle.exam_rules.specs.Orders.{AreInOrder}
-use Rattle.exam_rules.specs.Relations.{Code, Relations}
+use Rattle.exam_rules.specs.Relations.{Code, Relations, same_code}
+use Rattle.exam_rules.specs.Sessions.{is_member}
 use Rattle.exam_rules.specs.Seatings.{plan_of}
 use Rattle.exam_office.specs.declared.command.Command.{Command}
 use Rattle.exam_office.specs.declared.command.Command.TheVariants as command
 use Rattle.exam_office.specs.declared.command.Outcome.{Outcome}
 use Rattle.exam_office.specs.declared.command.Outcome.TheVariants as outcome
 use Rattle.exam_office.specs.declared.command.Reply.TheVariants as reply
-use Rattle.exam_office.specs.Appeals.{appeal_at, is_decided, stored_state}
+use Rattle.exam_office.specs.Appeals.{appeal_at, bears_mark, is_grant, stored_state}
 use Rattle.exam_office.specs.Changes.{closing_refusal, revival_refusal, rows_refusal, with_live, with_rows, without_opening, withdrawal_refusal}
 use Rattle.exam_office.specs.Decisions.{decision_refusal, with_decision}
-use Rattle.exam_office.specs.FactsMade.{WasMade, early_refusal, facts_made}
+use Rattle.exam_office.specs.Decisions as decisions
+use Rattle.exam_office.specs.FactsMade.{WasMade, early_refusal, facts_made, may_pass_limit}
 use Rattle.exam_office.specs.Good.{IsGood}
 use Rattle.exam_office.specs.Limits.{within_limits}
 use Rattle.exam_office.specs.Lodgings as lodgings
@@ -27,7 +29,7 @@ use Rattle.exam_office.specs.Repairs.{IsRepaired}
 use Rattle.exam_office.specs.Replies.{reply_of, reply_to}
 use Rattle.exam_office.specs.State.{Seats, State}
 use Rattle.exam_office.specs.Steps.{Step, change, first_seated}
-use Rattle.exam_office.specs.Touched.{decision_touches, is_appeal_for, touches}
+use Rattle.exam_office.specs.Touched.{ends_standing, grant_touches, is_appeal_for, touches}
 use Rattle.exam_office.proofs.FactsMade.{early_is_change, made_is_change, past_limit}
 use Rattle.exam_office.proofs.Parting.{change_same, standing_same}
 use Rattle.exam_office.proofs.Stepping.{refused_step}
@@ -67,8 +69,9 @@ none_touched (command.Lodge l) r s keeps = refl
 none_touched (command.Retract c reference) r s keeps = refl
 none_touched (command.Decide d) r s keeps = inner d.outcome keeps
   where
-    inner : (o : Outcome) → refuses o ≡ true → decision_touches r d o s ≡ false
+    inner : (o : Outcome) → refuses o ≡ true → (is_grant o && option_map_or (λ (a : Appeal). grant_touches r d a s) (appeal_at r d.number d.reference) false) ≡ false
     inner outcome.Grant grants = absurd (let differ : false ≡ true = grants in cc)
+    inner outcome.Standing grants = absurd (let differ : false ≡ true = grants in cc)
     inner outcome.Refuse grants = refl
 
 -- any other reads those that it touches
@@ -81,8 +84,19 @@ read_touched (command.Lodge l) r s changes = absurd (let differ : true ≡ false
 read_touched (command.Retract c reference) r s changes = refl
 read_touched (command.Decide d) r s changes = inner d.outcome changes
   where
-    inner : (o : Outcome) → refuses o ≡ false → is_appeal_for (appeal_at r d.number d.reference) s ≡ decision_touches r d o s
-    inner outcome.Grant grants = refl
+    twice : (a b : Bool) → (a || (a || b)) ≡ (a || b)
+    twice true b = refl
+    twice false b = refl
+
+    of : (o : Option Appeal) → (is_appeal_for o s || option_map_or (λ (a : Appeal). grant_touches r d a s) o false) ≡ option_map_or (λ (a : Appeal). grant_touches r d a s) o false
+    of None = refl
+    of (Some a) = twice (same_code a.session s) ((bears_mark d.outcome || ends_standing r d.number a) && is_member r s d.number)
+
+    inner : (o : Outcome) → refuses o ≡ false
+        → (is_appeal_for (appeal_at r d.number d.reference) s || (is_grant o && option_map_or (λ (a : Appeal). grant_touches r d a s) (appeal_at r d.number d.reference) false))
+        ≡ (is_grant o && option_map_or (λ (a : Appeal). grant_touches r d a s) (appeal_at r d.number d.reference) false)
+    inner outcome.Grant grants = of (appeal_at r d.number d.reference)
+    inner outcome.Standing grants = of (appeal_at r d.number d.reference)
     inner outcome.Refuse grants = absurd (let differ : true ≡ false = grants in cc)
 
 -- ---- the reply
@@ -101,9 +115,9 @@ replied (command.Decide d) part new = inner (appeal_at part.relations d.number d
     by a true = refl
     by a false = refl
 
-    inner : (o : Option Appeal) → reply_unless_repeated d (option_and_then (decided_session d) o) reply.Unchanged new.relations part.seats new.seats ≡ reply_to part new d o
+    inner : (o : Option Appeal) → reply_unless_repeated d (option_and_then (decided_session part.relations d) o) reply.Unchanged new.relations part.seats new.seats ≡ reply_to part new d o
     inner None = refl
-    inner (Some a) = by a (is_decided d.outcome d.answer a.status)
+    inner (Some a) = by a (decisions.is_made part.relations d a)
 
 -- ---- the command over the part
 

@@ -24,7 +24,8 @@ use Rattle.exam_rules.specs.Orders.{KeysRise}
 use Rattle.exam_rules.specs.Relations.{Code, Relations, appeal_cmp, code_cmp, entry_cmp, has_row, is_row_of, put_row, row_at, same_code}
 use Rattle.exam_rules.specs.Sessions.{is_live_entry, is_paper_of, live_papers_in}
 use Rattle.exam_office.specs.Appeals.{is_open, is_open_appeal, same_kind}
-use Rattle.exam_office.specs.Own.{OwnSessionRow}
+use Rattle.exam_office.specs.declared.own.OwnAppeal.{OwnAppeal}
+use Rattle.exam_office.specs.Own.{OwnSessionRow, own_appeal, own_appeals}
 
 -- ---- looking up
 
@@ -62,6 +63,17 @@ AppealRows = List ((ℕ × Code) × Appeal)
 -- the candidate's appeals among these
 abbrev pub own_among : ℕ → AppealRows → List (Code × Appeal)
 own_among c rows = map (λ (a : (ℕ × Code) × Appeal). (a.0.1, a.1)) (filter (is_row_of c) rows)
+
+pub map_twice : {X Y Z : Type 0} (f : X → Y) (g : Y → Z) (xs : List X) → map g (map f xs) ≡ map (λ x. g (f x)) xs
+map_twice f g [] = refl
+map_twice f g (x ∷ xs) = ap (λ t. g (f x) ∷ t) (map_twice f g xs)
+
+-- the reference of an appeal that is shown, and its row
+abbrev pub pair_of : OwnAppeal → Code × Appeal
+pair_of a = (a.reference, a.appeal)
+
+pub pairs_own : (r : Relations) (c : ℕ) → map pair_of (own_appeals r c) ≡ own_among c r.appeals
+pairs_own r c = map_twice (own_appeal r) pair_of (filter (is_row_of c) r.appeals)
 
 pub appeal_found : (c : ℕ) (reference : Code) (rows : AppealRows) → row_at appeal_cmp rows (c, reference) ≡ row_at code_cmp (own_among c rows) reference
 appeal_found c reference [] = refl

@@ -1,5 +1,5 @@
 -- What a lodging is answered is told by the candidate's own rows and the day.
-use Rattle.std.proofs.Common.{◌≡◌, ℕ, suc, ◌-◌, ◌==◌, ◌&&◌, not, Bool, true, false, cond, List, [], ◌∷◌, ◌++◌, filter, length, nat_eq, nat_le, nat_lt, Option, None, Some, Result, Ok, IsSome, is_none, is_some, eq-eqb, refl, ap, sym, ◌∙◌}
+use Rattle.std.proofs.Common.{◌≡◌, ℕ, suc, ◌-◌, ◌==◌, ◌&&◌, not, Bool, true, false, cond, List, [], ◌∷◌, ◌++◌, filter, length, map, nat_eq, nat_le, nat_lt, Option, None, Some, Result, Ok, IsSome, is_none, is_some, eq-eqb, refl, ap, sym, ◌∙◌}
 use Rattle.std.specs.List.{list_all, list_any}
 use Rattle.std.specs.Map.{keys_of}
 use Rattle.std.specs.Option.{option_and_then, option_map, option_map_or, option_or}
@@ -35,7 +35,7 @@ use Rattle.exam_office.specs.State.{State}
 use Rattle.exam_office.specs.Steps.{Step, StepTo}
 use Rattle.exam_office.proofs.AppealKeys.{appeals_exact, appeals_total}
 use Rattle.exam_office.proofs.Members.{member_ends, member_sits}
-use Rattle.exam_office.proofs.OwnFacts.{all_but_one, appeal_found, is_own_open, live_found, one_more, open_found, own_among, session_at, session_found}
+use Rattle.exam_office.proofs.OwnFacts.{all_but_one, appeal_found, is_own_open, live_found, one_more, open_found, own_among, pair_of, pairs_own, session_at, session_found}
 use Rattle.exam_office.proofs.OwnRetracting.{answer_or, same_appeal}
 use Rattle.exam_office.proofs.PutAppeals.{put_passed_over}
 use Rattle.exam_office.proofs.Repeating.{put_found}
@@ -61,12 +61,12 @@ new_shown l today appeals None = Some refusal.NotInSession
 new_shown l today appeals (Some own) = held_refusal l today own.day (subject_shown own l.subject) (list_any (is_own_open l.session l.subject) appeals) (nat_le (suc (length appeals)) 64)
 
 abbrev known_shown : Lodging → ℕ → OwnRows → Option Appeal → Option Refusal
-known_shown l today own None = new_shown l today own.appeals (session_at l.session own.sessions)
+known_shown l today own None = new_shown l today (map pair_of own.appeals) (session_at l.session own.sessions)
 known_shown l today own (Some a) = option_or (first_refusal (spec.other_appeal l a ∷ [])) None
 
 abbrev refusal_shown : Lodging → ℕ → Option OwnRows → Option Refusal
 refusal_shown l today None = Some refusal.UnknownCandidate
-refusal_shown l today (Some own) = known_shown l today own (row_at code_cmp own.appeals l.reference)
+refusal_shown l today (Some own) = known_shown l today own (row_at code_cmp (map pair_of own.appeals) l.reference)
 
 -- ---- the limits
 
@@ -210,7 +210,9 @@ module _ (office : State) (today : ℕ) (l : Lodging) (good : IsGood office) (up
     where
       by_stored : (row : Candidate) → row_at nat_cmp r.candidates c ≡ Some row → (o : Option Appeal) → appeal_at r c l.reference ≡ o
           → refusal_by (Some row) o ≡ known_shown l today (own_rows office c row) o
-      by_stored row there None none = new_told (ap (λ (o : Option Candidate). is_some o) there) none
+      by_stored row there None none =
+          new_told (ap (λ (o : Option Candidate). is_some o) there) none
+          ∙ ap (λ rows. new_shown l today rows (session_at s (own_sessions office c))) (sym (pairs_own r c))
       by_stored row there (Some a) at = refl
 
       inner : (o : Option Candidate) → row_at nat_cmp r.candidates c ≡ o → refusal_by (row_at nat_cmp r.candidates c) (appeal_at r c l.reference) ≡ refusal_shown l today (option_map (own_rows office c) o)
@@ -218,7 +220,7 @@ module _ (office : State) (today : ℕ) (l : Lodging) (good : IsGood office) (up
       inner (Some row) there =
           ap (λ (o : Option Candidate). refusal_by o (appeal_at r c l.reference)) there
           ∙ by_stored row there (appeal_at r c l.reference) refl
-          ∙ ap (known_shown l today (own_rows office c row)) (appeal_found c l.reference r.appeals)
+          ∙ ap (known_shown l today (own_rows office c row)) (appeal_found c l.reference r.appeals ∙ ap (λ rows. row_at code_cmp rows l.reference) (sym (pairs_own r c)))
 
 pub same_lodging_refusal : (one other : State) (day : ℕ) (l : Lodging) → IsGood one → IsInOrder one → IsGood other → IsInOrder other → own_of one l.number ≡ own_of other l.number
     → spec.lodging_refusal one.relations one.seats day l ≡ spec.lodging_refusal other.relations other.seats day l

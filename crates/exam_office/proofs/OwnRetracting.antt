@@ -1,5 +1,5 @@
 -- What a retraction is answered is told by the candidate's own rows.
-use Rattle.std.proofs.Common.{◌≡◌, ℕ, ◌&&◌, true, false, Option, None, Some, Result, Ok, Err, is_some, refl, ap, sym, ◌∙◌}
+use Rattle.std.proofs.Common.{◌≡◌, ℕ, ◌&&◌, true, false, map, Option, None, Some, Result, Ok, Err, is_some, refl, ap, sym, ◌∙◌}
 use Rattle.std.specs.Option.{option_and_then, option_map}
 use Rattle.std.specs.Ordering.{nat_cmp}
 use Rattle.std.proofs.lemmas.Bool.{and_parts}
@@ -18,13 +18,13 @@ use Rattle.exam_office.specs.Own.{OwnRows, own_of, own_rows}
 use Rattle.exam_office.specs.State.{State}
 use Rattle.exam_office.specs.Steps.{Step, StepTo}
 use Rattle.exam_office.proofs.AppealKeys.{appeals_exact}
-use Rattle.exam_office.proofs.OwnFacts.{appeal_found}
+use Rattle.exam_office.proofs.OwnFacts.{appeal_found, pair_of, pairs_own}
 use Rattle.exam_office.proofs.PutAppeals.{all_at_row}
 use Rattle.exam_office.proofs.Referring.{stored_refer}
 
 -- the appeal with the reference among what is shown
 abbrev pub shown_appeal : Code → Option OwnRows → Option Appeal
-shown_appeal reference own = option_and_then (λ (rows : OwnRows). row_at code_cmp rows.appeals reference) own
+shown_appeal reference own = option_and_then (λ (rows : OwnRows). row_at code_cmp (map pair_of rows.appeals) reference) own
 
 pub appeal_told : (office : State) (c : ℕ) (reference : Code) → IsGood office → appeal_at office.relations c reference ≡ shown_appeal reference (own_of office c)
 appeal_told office c reference good = inner (row_at nat_cmp office.relations.candidates c) refl
@@ -38,7 +38,7 @@ appeal_told office c reference good = inner (row_at nat_cmp office.relations.can
 
     inner : (o : Option Candidate) → row_at nat_cmp office.relations.candidates c ≡ o → appeal_at office.relations c reference ≡ shown_appeal reference (option_map (own_rows office c) o)
     inner None away = none_stored away (appeal_at office.relations c reference) refl
-    inner (Some row) there = appeal_found c reference office.relations.appeals
+    inner (Some row) there = appeal_found c reference office.relations.appeals ∙ ap (λ rows. row_at code_cmp rows reference) (sym (pairs_own office.relations c))
 
 pub same_appeal : (one other : State) (c : ℕ) (reference : Code) → IsGood one → IsGood other → own_of one c ≡ own_of other c → appeal_at one.relations c reference ≡ appeal_at other.relations c reference
 same_appeal one other c reference good sound same = appeal_told one c reference good ∙ ap (shown_appeal reference) same ∙ sym (appeal_told other c reference sound)

@@ -1,5 +1,5 @@
 -- A command over a part, put back, is the command over the office.
-use Rattle.std.proofs.Common.{◌≡◌, ℕ, ◌==◌, ◌&&◌, not, Bool, true, false, cond, List, [], ◌∷◌, ◌++◌, filter, length, Option, None, Some, Ok, Err, refl, ap, sym, subst, ◌∙◌, inl, inr}
+use Rattle.std.proofs.Common.{◌≡◌, ℕ, ◌==◌, ◌&&◌, ◌||◌, not, Bool, true, false, cond, List, [], ◌∷◌, ◌++◌, filter, length, Option, None, Some, Ok, Err, refl, ap, sym, subst, ◌∙◌, inl, inr}
 use Rattle.std.specs.Option.{option_map_or, option_or}
 use Rattle.std.specs.Map.{keys_of}
 use Rattle.std.specs.BTreeMap.{is_at}
@@ -32,9 +32,9 @@ use Rattle.exam_office.specs.declared.command.Outcome.{Outcome}
 use Rattle.exam_office.specs.declared.command.Outcome.TheVariants as outcome
 use Rattle.exam_office.specs.declared.command.Reply.{Reply}
 use Rattle.exam_office.specs.declared.command.Reply.TheVariants as reply
-use Rattle.exam_office.specs.Appeals.{appeal_at, is_decided, stored_state}
+use Rattle.exam_office.specs.Appeals.{appeal_at, stored_state}
 use Rattle.exam_office.specs.Changes.{closed, first_refusal, imported, no_candidate, reinstated, reinstatement_refusal, unless, with_live, withdrawal_refusal, withdrawn}
-use Rattle.exam_office.specs.Decisions.{decision_made, decision_refusal, granted_number, with_decision}
+use Rattle.exam_office.specs.Decisions.{decision_made, decision_refusal, granted_number, is_made, with_decision}
 use Rattle.exam_office.specs.Good.{IsGood}
 use Rattle.exam_office.specs.Lodgings as lodgings
 use Rattle.exam_office.specs.Moves.{is_elsewhere, is_move, moved}
@@ -161,11 +161,11 @@ touched_read (command.Reinstate c p) r s is = is
 touched_read (command.CloseHall named h) r s is = is
 touched_read (command.Lodge l) r s is = absurd (let differ : false ≡ true = is in cc)
 touched_read (command.Retract c reference) r s is = is
-touched_read (command.Decide d) r s is = inner d.outcome is
+touched_read (command.Decide d) r s is = inner (is_appeal_for (appeal_at r d.number d.reference) s)
   where
-    inner : (o : Outcome) → decision_touches r d o s ≡ true → is_appeal_for (appeal_at r d.number d.reference) s ≡ true
-    inner outcome.Grant here = here
-    inner outcome.Refuse here = absurd (let differ : false ≡ true = here in cc)
+    inner : (b : Bool) → (b || decision_touches r d s) ≡ true
+    inner true = refl
+    inner false = is
 
 -- whom the new plans seat for certain
 kept_on : (done : Command) (today : ℕ) (office after : State) (t : Relations) → IsGood office → IsInOrder office → change done today office ≡ Ok t → DoListsRise t
@@ -229,10 +229,11 @@ module _ (today : ℕ) (office part after : State) (good : IsGood office) (up : 
         inner : (o : Option Appeal) → appeal_at office.relations d.number d.reference ≡ o → reply_to part new d o ≡ reply_to office after d o
         inner None none = refl
         inner (Some a) at =
-            let here : reads office.relations (command.Decide d) a.session ≡ true = ap (λ o. is_appeal_for o a.session) at ∙ same_code_itself a.session in
-            ap (λ (r : Relations). cond (is_decided d.outcome d.answer a.status) reply.Unchanged (reply.Decided (stored_state r d.number d.reference) (plan_of new.seats a.session d.number) (moved part.seats new.seats d.number))) (sym put.facts)
-            ∙ ap (λ (o : Option Code). cond (is_decided d.outcome d.answer a.status) reply.Unchanged (reply.Decided (stored_state after.relations d.number d.reference) o (moved part.seats new.seats d.number))) (sym (put.read a.session here d.number))
-            ∙ ap (λ (n : ℕ). cond (is_decided d.outcome d.answer a.status) reply.Unchanged (reply.Decided (stored_state after.relations d.number d.reference) (plan_of after.seats a.session d.number) n)) (sym moves)
+            let here : reads office.relations (command.Decide d) a.session ≡ true = ap (λ b. b || decision_touches office.relations d a.session) (ap (λ o. is_appeal_for o a.session) at ∙ same_code_itself a.session) in
+            ap (λ (r : Relations). cond (is_made r d a) reply.Unchanged (reply.Decided (stored_state new.relations d.number d.reference) (plan_of new.seats a.session d.number) (moved part.seats new.seats d.number))) agrees.facts
+            ∙ ap (λ (r : Relations). cond (is_made office.relations d a) reply.Unchanged (reply.Decided (stored_state r d.number d.reference) (plan_of new.seats a.session d.number) (moved part.seats new.seats d.number))) (sym put.facts)
+            ∙ ap (λ (o : Option Code). cond (is_made office.relations d a) reply.Unchanged (reply.Decided (stored_state after.relations d.number d.reference) o (moved part.seats new.seats d.number))) (sym (put.read a.session here d.number))
+            ∙ ap (λ (n : ℕ). cond (is_made office.relations d a) reply.Unchanged (reply.Decided (stored_state after.relations d.number d.reference) (plan_of after.seats a.session d.number) n)) (sym moves)
 
     -- changed, it leaves the office after the command
     pub made_back : (done : Command) (told : Reply) → Agrees done office part → IsPutBack done office new after → IsMadeIn done today part new told → Step done today office (Ok told) after

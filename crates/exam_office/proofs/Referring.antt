@@ -254,7 +254,7 @@ import_candidates r [] c has = has
 import_candidates r (x ∷ rows) c has = import_candidates (with_row r x) rows c ((grows_row r x).candidates c has)
 
 -- an import has no appeals
-appeals_row : (r : Relations) (x : Row) → (with_row r x).appeals ≡ r.appeals
+pub appeals_row : (r : Relations) (x : Row) → (with_row r x).appeals ≡ r.appeals
 appeals_row r (row.OfSession s x) = refl
 appeals_row r (row.OfPaper p x) = refl
 appeals_row r (row.OfHall h x) = refl
@@ -270,6 +270,23 @@ appeals_row r (row.OfArrangement c x) = refl
 pub import_appeals : (r : Relations) (rows : List Row) → (with_rows r rows).appeals ≡ r.appeals
 import_appeals r [] = refl
 import_appeals r (x ∷ rows) = import_appeals (with_row r x) rows ∙ appeals_row r x
+
+pub standing_row : (r : Relations) (x : Row) → (with_row r x).standing ≡ r.standing
+standing_row r (row.OfSession s x) = refl
+standing_row r (row.OfPaper p x) = refl
+standing_row r (row.OfHall h x) = refl
+standing_row r (row.OfOpening s h x) = refl
+standing_row r (row.OfCandidate c x) = refl
+standing_row r (row.OfEntry c p) = inner (has_row entry_cmp r.entries (c, p))
+  where
+    inner : (b : Bool) → (cond b r (record r { entries = put_row entry_cmp r.entries (c, p) (record { live = true }) })).standing ≡ r.standing
+    inner true = refl
+    inner false = refl
+standing_row r (row.OfArrangement c x) = refl
+
+pub import_standing : (r : Relations) (rows : List Row) → (with_rows r rows).standing ≡ r.standing
+import_standing r [] = refl
+import_standing r (x ∷ rows) = import_standing (with_row r x) rows ∙ standing_row r x
 
 -- ---- what was there for an import is there for the same import after it
 

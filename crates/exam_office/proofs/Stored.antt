@@ -36,8 +36,8 @@ entry_total = then_total (on_total (λ (k : ℕ × Code). k.0) nat_cmp_total) (o
 -- ---- the tables stay in order
 
 in_order : (r : Relations) → KeysRise code_cmp r.sessions → KeysRise code_cmp r.papers → KeysRise code_cmp r.halls → KeysRise opening_cmp r.openings
-    → KeysRise nat_cmp r.candidates → KeysRise entry_cmp r.entries → KeysRise nat_cmp r.arrangements → KeysRise appeal_cmp r.appeals → AreInOrder r
-in_order r sessions papers halls openings candidates entries arrangements appeals = record {
+    → KeysRise nat_cmp r.candidates → KeysRise entry_cmp r.entries → KeysRise nat_cmp r.arrangements → KeysRise appeal_cmp r.appeals → KeysRise appeal_cmp r.standing → AreInOrder r
+in_order r sessions papers halls openings candidates entries arrangements appeals standing = record {
   sessions = sessions;
   papers = papers;
   halls = halls;
@@ -46,20 +46,21 @@ in_order r sessions papers halls openings candidates entries arrangements appeal
   entries = entries;
   arrangements = arrangements;
   appeals = appeals;
+  standing = standing;
 }
 
 row_in_order : (r : Relations) (x : Row) → AreInOrder r → AreInOrder (with_row r x)
-row_in_order r (row.OfSession s x) up = in_order (with_row r (row.OfSession s x)) (put_rises code_cmp nat_list_cmp_total r.sessions s x up.sessions) up.papers up.halls up.openings up.candidates up.entries up.arrangements up.appeals
-row_in_order r (row.OfPaper p x) up = in_order (with_row r (row.OfPaper p x)) up.sessions (put_rises code_cmp nat_list_cmp_total r.papers p x up.papers) up.halls up.openings up.candidates up.entries up.arrangements up.appeals
-row_in_order r (row.OfHall h x) up = in_order (with_row r (row.OfHall h x)) up.sessions up.papers (put_rises code_cmp nat_list_cmp_total r.halls h x up.halls) up.openings up.candidates up.entries up.arrangements up.appeals
-row_in_order r (row.OfOpening s h x) up = in_order (with_row r (row.OfOpening s h x)) up.sessions up.papers up.halls (put_rises opening_cmp opening_total r.openings (s, h) x up.openings) up.candidates up.entries up.arrangements up.appeals
-row_in_order r (row.OfCandidate c x) up = in_order (with_row r (row.OfCandidate c x)) up.sessions up.papers up.halls up.openings (put_rises nat_cmp nat_cmp_total r.candidates c x up.candidates) up.entries up.arrangements up.appeals
+row_in_order r (row.OfSession s x) up = in_order (with_row r (row.OfSession s x)) (put_rises code_cmp nat_list_cmp_total r.sessions s x up.sessions) up.papers up.halls up.openings up.candidates up.entries up.arrangements up.appeals up.standing
+row_in_order r (row.OfPaper p x) up = in_order (with_row r (row.OfPaper p x)) up.sessions (put_rises code_cmp nat_list_cmp_total r.papers p x up.papers) up.halls up.openings up.candidates up.entries up.arrangements up.appeals up.standing
+row_in_order r (row.OfHall h x) up = in_order (with_row r (row.OfHall h x)) up.sessions up.papers (put_rises code_cmp nat_list_cmp_total r.halls h x up.halls) up.openings up.candidates up.entries up.arrangements up.appeals up.standing
+row_in_order r (row.OfOpening s h x) up = in_order (with_row r (row.OfOpening s h x)) up.sessions up.papers up.halls (put_rises opening_cmp opening_total r.openings (s, h) x up.openings) up.candidates up.entries up.arrangements up.appeals up.standing
+row_in_order r (row.OfCandidate c x) up = in_order (with_row r (row.OfCandidate c x)) up.sessions up.papers up.halls up.openings (put_rises nat_cmp nat_cmp_total r.candidates c x up.candidates) up.entries up.arrangements up.appeals up.standing
 row_in_order r (row.OfEntry c p) up = inner (has_row entry_cmp r.entries (c, p))
   where
     inner : (b : Bool) → AreInOrder (cond b r (record r { entries = put_row entry_cmp r.entries (c, p) (record { live = true }) }))
     inner true = up
-    inner false = in_order (record r { entries = put_row entry_cmp r.entries (c, p) (record { live = true }) }) up.sessions up.papers up.halls up.openings up.candidates (put_rises entry_cmp entry_total r.entries (c, p) (record { live = true }) up.entries) up.arrangements up.appeals
-row_in_order r (row.OfArrangement c x) up = in_order (with_row r (row.OfArrangement c x)) up.sessions up.papers up.halls up.openings up.candidates up.entries (put_rises nat_cmp nat_cmp_total r.arrangements c x up.arrangements) up.appeals
+    inner false = in_order (record r { entries = put_row entry_cmp r.entries (c, p) (record { live = true }) }) up.sessions up.papers up.halls up.openings up.candidates (put_rises entry_cmp entry_total r.entries (c, p) (record { live = true }) up.entries) up.arrangements up.appeals up.standing
+row_in_order r (row.OfArrangement c x) up = in_order (with_row r (row.OfArrangement c x)) up.sessions up.papers up.halls up.openings up.candidates up.entries (put_rises nat_cmp nat_cmp_total r.arrangements c x up.arrangements) up.appeals up.standing
 
 pub rows_in_order : (r : Relations) (rows : List Row) → AreInOrder r → AreInOrder (with_rows r rows)
 rows_in_order r [] up = up

@@ -1,8 +1,9 @@
 -- A session that a command does not touch keeps its seating.
-use Rattle.std.proofs.Common.{◌≡◌, ℕ, ◌&&◌, ◌||◌, not, Bool, true, false, cond, List, [], ◌∷◌, map, filter, nat_eq, Option, None, Some, Ok, is_some, refl, ap, sym, subst, ◌∙◌}
-use Rattle.std.specs.List.{list_all, list_any}
-use Rattle.std.specs.Map.{keys_of}
-use Rattle.std.specs.Option.{option_map_or}
+use Rattle.std.proofs.Common.{◌≡◌, ℕ, ◌==◌, ◌&&◌, ◌||◌, not, Bool, true, false, cond, List, [], ◌∷◌, map, filter, nat_eq, Option, None, Some, Ok, is_some, refl, ap, sym, subst, ◌∙◌}
+use Rattle.std.specs.List.{filter_map, list_all, list_any}
+use Rattle.std.specs.List.Sorted.{IsStrictlySortedBy}
+use Rattle.std.specs.Map.{keys_of, remove_entry, lookup}
+use Rattle.std.specs.Option.{option_map, option_map_or, option_or}
 use Rattle.std.specs.BTreeMap.{insert_entry, is_at}
 use Rattle.std.specs.Cmp.{Equal-is, nat_cmp_total}
 use Rattle.std.specs.Cmp.Lexicographic.{nat_list_cmp_total}
@@ -16,13 +17,14 @@ use Rattle.exam_plan.specs.Matching.{SamePlan}
 use Rattle.exam_rules.specs.declared.rows.Appeal.{Appeal}
 use Rattle.exam_rules.specs.declared.rows.Entry.{Entry}
 use Rattle.exam_rules.specs.declared.rows.Paper.{Paper}
+use Rattle.exam_rules.specs.declared.rows.Session.{Session}
 use Rattle.exam_rules.specs.declared.rows.Status.{Status}
 use Rattle.exam_rules.specs.declared.rows.Status.TheVariants as status
 use Rattle.exam_rules.specs.declared.rows.Subject.{Subject}
 use Rattle.exam_rules.specs.Orders.{KeysRise}
 use Rattle.exam_rules.specs.Relations.{Code, Relations, appeal_cmp, code_cmp, entry_cmp, opening_cmp, has_row, put_row, remove_row, row_at, same_code}
-use Rattle.exam_rules.specs.Sessions.{has_live_entry, is_granted, is_granted_appeal, is_live_entry, is_member, is_paper_of}
-use Rattle.exam_rules.specs.Seatings.{plan_of, seating}
+use Rattle.exam_rules.specs.Sessions.{arrangement_by, barred_halls, granted_arrangement, granted_subjects, has_live_entry, is_granted, is_granted_appeal, is_live, is_live_entry, is_marked, is_member, is_paper_of, is_standing, session_day, standing_grant, standing_grants}
+use Rattle.exam_rules.specs.Seatings.{fits, opened_room, plan_of, seating, sitting_terms, suits_opened}
 use Rattle.exam_rules.proofs.Naming.{same_code_exact, same_code_itself}
 use Rattle.exam_office.specs.declared.command.Command.{Command}
 use Rattle.exam_office.specs.declared.command.Command.TheVariants as command
@@ -32,24 +34,26 @@ use Rattle.exam_office.specs.declared.command.Outcome.TheVariants as outcome
 use Rattle.exam_office.specs.declared.command.Reply.{Reply}
 use Rattle.exam_office.specs.declared.import_row.Row.{Row}
 use Rattle.exam_office.specs.declared.import_row.Row.TheVariants as row
-use Rattle.exam_office.specs.Appeals.{appeal_at, decided, is_decided, is_open, superseded, supersedes}
-use Rattle.exam_office.specs.Changes.{closing_refusal, first_refusal, import_refusal, no_hall, not_opened, reinstatement_refusal, row_checks, rows_refusal, too_many, with_live, with_row, with_rows, withdrawal_refusal, without_opening}
-use Rattle.exam_office.specs.Decisions.{decision_checks, decision_refusal, gives_way, giving_way, grant_checks, is_too_late, open_checks, with_decided, with_decision, with_outcome, with_superseded}
-use Rattle.exam_office.specs.Good.{IsGood, refers}
+use Rattle.exam_office.specs.Appeals.{appeal_at, bears_mark, decided, is_grant, is_open, superseded, supersedes}
+use Rattle.exam_office.specs.Changes.{closing_refusal, first_refusal, import_refusal, no_hall, no_paper, not_opened, reinstatement_refusal, row_checks, rows_refusal, too_many, with_live, with_row, with_rows, withdrawal_refusal, without_opening}
+use Rattle.exam_office.specs.Decisions.{decision_checks, decision_refusal, gives_way, giving_way, grant_checks, is_earlier, is_made, is_too_late, not_arrangement, open_checks, with_decided, with_decision, with_mark, with_outcome, with_superseded, without_mark}
+use Rattle.exam_office.specs.Good.{IsGood, marks_stand, refers}
 use Rattle.exam_office.specs.Lodgings as lodgings
 use Rattle.exam_office.specs.Orders.{IsInOrder}
 use Rattle.exam_office.specs.State.{State}
 use Rattle.exam_office.specs.Steps.{SameSeating, Step, StepTo, change}
-use Rattle.exam_office.specs.Touched.{decision_touches, is_appeal_for, names, row_touches, touches}
+use Rattle.exam_office.specs.Touched.{decision_touches, ends_standing, grant_touches, has_standing_member, names, row_touches, stands_in, touches}
 use Rattle.exam_office.proofs.Alike.{SpeakAlike, alike_itself, alike_seating}
 use Rattle.exam_office.proofs.AppealKeys.{appeals_exact}
-use Rattle.exam_office.proofs.Appealing.{not_granted, put_seating_same, seating_same, with_appeals}
+use Rattle.exam_office.proofs.Appealing.{code_flips, fits_same, never_stands, not_granted, put_seating_same, seating_by, with_appeals, with_decisions}
 use Rattle.exam_office.proofs.AppealSteps.{lodging_settled, retraction_settled}
+use Rattle.exam_office.proofs.Borne.{unmarked_same}
+use Rattle.exam_office.proofs.DecidedFacts.{others_stand, unmarked_open}
 use Rattle.exam_office.proofs.Lasting.{made, new_facts, unrefused}
 use Rattle.exam_office.proofs.LiveMarks.{entries_exact, put_elsewhere, put_filtered}
 use Rattle.exam_office.proofs.PutAppeals.{put_passed_over}
 use Rattle.exam_office.proofs.PutRows.{mapped_filtered, put_keys}
-use Rattle.exam_office.proofs.Referring.{Grows, grows_both, grows_none, grows_row, neither, parted, passed, there}
+use Rattle.exam_office.proofs.Referring.{Grows, appeals_row, grows_both, grows_none, grows_row, neither, parted, passed, standing_row, there}
 use Rattle.exam_office.proofs.Repeating.{put_found, put_rises}
 
 -- ---- rows at other keys
@@ -115,6 +119,19 @@ module _ (r : Relations) (good : list_all (λ (x : (ℕ × Code) × Entry). has_
   entered_known : (c : ℕ) → has_live_entry r s c ≡ true → has_row nat_cmp r.candidates c ≡ true
   entered_known c some = entered_among c r.entries good some
 
+-- a member of a session without standing grants has none
+none_standing : (r : Relations) (s : Code) (c : ℕ) → is_member r s c ≡ true → (rows : List ((ℕ × Code) × Appeal)) → list_any (stands_in r s) rows ≡ false → filter (is_standing r c) rows ≡ []
+none_standing r s c member [] none = refl
+none_standing r s c member (a ∷ rows) none =
+    let parts = neither_any (stands_in r s a) (list_any (stands_in r s) rows) none in
+    ap (λ b. cond b (a ∷ filter (is_standing r c) rows) (filter (is_standing r c) rows)) (inner (nat_eq a.0.0 c) refl (is_granted a.1.status && is_marked r a.0) parts.0)
+    ∙ none_standing r s c member rows parts.1
+  where
+    inner : (own : Bool) → nat_eq a.0.0 c ≡ own → (b : Bool) → (b && is_member r s a.0.0) ≡ false → (own && b) ≡ false
+    inner true mine true out = absurd (let differ : true ≡ false = sym (ap (is_member r s) (eqb-true a.0.0 c mine) ∙ member) ∙ out in cc)
+    inner true mine false out = refl
+    inner false mine b out = refl
+
 -- ---- imports
 
 module _ (r0 : Relations) (refer : refers r0 ≡ true) (s : Code) where
@@ -123,22 +140,47 @@ module _ (r0 : Relations) (refer : refers r0 ≡ true) (s : Code) where
     alike : SpeakAlike r0 r s
     grows : Grows r0 r
     rising : KeysRise nat_cmp r.candidates
+    appeals : r.appeals ≡ r0.appeals
+    standing : r.standing ≡ r0.standing
 
   known : (c : ℕ) → has_live_entry r0 s c ≡ true → has_row nat_cmp r0.candidates c ≡ true
   known = entered_known r0 (parted r0 refer).entries s
 
   spared_row : (r : Relations) → IsSpared r → (x : Row) → row_touches r0 x s ≡ false → first_refusal (row_checks r0 x) ≡ None → SpeakAlike r0 (with_row r x) s
   spared_row r so (row.OfSession named x) away ok = record {
-    session = put_elsewhere code_cmp exact_bytes r.sessions named s x (key_apart code_cmp exact_bytes s named (other_code s named away)) ∙ so.alike.session;
+    session = session_same;
     papers = so.alike.papers;
     paper_rows = so.alike.paper_rows;
     entries = so.alike.entries;
     openings = so.alike.openings;
     halls = so.alike.halls;
     candidates = so.alike.candidates;
-    arrangements = so.alike.arrangements;
+    in_force = λ c entered.
+        ap (λ day. arrangement_by (granted_arrangement r s c) day (standing_grants (with_row r (row.OfSession named x)) c) (row_at nat_cmp r.arrangements c)) (ap (option_map (λ (y : Session). y.day)) kept)
+        ∙ ap (λ grants. arrangement_by (granted_arrangement r s c) (session_day r s) grants (row_at nat_cmp r.arrangements c)) (none_stands c entered)
+        ∙ so.alike.in_force c entered;
     granted = so.alike.granted;
   }
+    where
+      apart : (same_code named s ≡ false) × (has_standing_member r0 s ≡ false)
+      apart = neither_any (same_code named s) (has_standing_member r0 s) away
+
+      kept : row_at code_cmp (put_row code_cmp r.sessions named x) s ≡ row_at code_cmp r.sessions s
+      kept = put_elsewhere code_cmp exact_bytes r.sessions named s x (key_apart code_cmp exact_bytes s named (other_code s named apart.0))
+
+      session_same : row_at code_cmp (put_row code_cmp r.sessions named x) s ≡ row_at code_cmp r0.sessions s
+      session_same = kept ∙ so.alike.session
+
+      -- no member has a standing grant, so no other date counts
+      none_stands : (c : ℕ) → has_live_entry r0 s c ≡ true → standing_grants (with_row r (row.OfSession named x)) c ≡ standing_grants r c
+      none_stands c entered =
+          let member : is_member r0 s c ≡ true = ap (λ b. b && has_live_entry r0 s c) (known c entered) ∙ entered in
+          let none : filter (is_standing r c) r.appeals ≡ [] =
+          ap (λ (rows : List ((ℕ × Code) × Appeal)). filter (is_standing r c) rows) so.appeals
+          ∙ ap (λ (marks : List ((ℕ × Code) × Unit {0})). filter (λ (a : (ℕ × Code) × Appeal). (a.0.0 == c) && (is_granted a.1.status && has_row appeal_cmp marks a.0)) r0.appeals) so.standing
+          ∙ none_standing r0 s c member r0.appeals apart.1 in
+          ap (filter_map (λ (a : (ℕ × Code) × Appeal). standing_grant (with_row r (row.OfSession named x)) a.1)) none
+          ∙ sym (ap (filter_map (λ (a : (ℕ × Code) × Appeal). standing_grant r a.1)) none)
   spared_row r so (row.OfPaper p x) away ok = record {
     session = so.alike.session;
     papers = λ q. papers q (is_at (code_cmp q) p) refl;
@@ -147,7 +189,7 @@ module _ (r0 : Relations) (refer : refers r0 ≡ true) (s : Code) where
     openings = so.alike.openings;
     halls = so.alike.halls;
     candidates = so.alike.candidates;
-    arrangements = so.alike.arrangements;
+    in_force = so.alike.in_force;
     granted = so.alike.granted;
   }
     where
@@ -181,7 +223,7 @@ module _ (r0 : Relations) (refer : refers r0 ≡ true) (s : Code) where
     openings = so.alike.openings;
     halls = λ k opened. put_elsewhere code_cmp exact_bytes r.halls h k x (key_apart code_cmp exact_bytes k h (λ same. let differ : true ≡ false = sym opened ∙ ap (λ z. has_row opening_cmp r0.openings (s, z)) same ∙ away in cc)) ∙ so.alike.halls k opened;
     candidates = so.alike.candidates;
-    arrangements = so.alike.arrangements;
+    in_force = so.alike.in_force;
     granted = so.alike.granted;
   }
   spared_row r so (row.OfOpening named h x) away ok = record {
@@ -192,7 +234,7 @@ module _ (r0 : Relations) (refer : refers r0 ≡ true) (s : Code) where
     openings = λ k. put_elsewhere opening_cmp openings_exact r.openings (named, h) (s, k) x (key_apart opening_cmp openings_exact (s, k) (named, h) (λ same. other (ap (λ (z : Code × Code). z.0) same))) ∙ so.alike.openings k;
     halls = so.alike.halls;
     candidates = so.alike.candidates;
-    arrangements = so.alike.arrangements;
+    in_force = so.alike.in_force;
     granted = so.alike.granted;
   }
     where
@@ -211,7 +253,7 @@ module _ (r0 : Relations) (refer : refers r0 ≡ true) (s : Code) where
     openings = so.alike.openings;
     halls = so.alike.halls;
     candidates = candidates (has_live_entry r0 s c) refl ∙ so.alike.candidates;
-    arrangements = so.alike.arrangements;
+    in_force = so.alike.in_force;
     granted = so.alike.granted;
   }
     where
@@ -236,7 +278,7 @@ module _ (r0 : Relations) (refer : refers r0 ≡ true) (s : Code) where
         openings = so.alike.openings;
         halls = so.alike.halls;
         candidates = so.alike.candidates;
-        arrangements = so.alike.arrangements;
+        in_force = so.alike.in_force;
         granted = so.alike.granted;
       }
   spared_row r so (row.OfArrangement c x) away ok = record {
@@ -247,7 +289,9 @@ module _ (r0 : Relations) (refer : refers r0 ≡ true) (s : Code) where
     openings = so.alike.openings;
     halls = so.alike.halls;
     candidates = so.alike.candidates;
-    arrangements = λ d entered. put_elsewhere nat_cmp exact_unsigned r.arrangements c d x (key_apart nat_cmp exact_unsigned d c (other d entered)) ∙ so.alike.arrangements d entered;
+    in_force = λ d entered.
+        ap (arrangement_by (granted_arrangement r s d) (session_day r s) (standing_grants r d)) (put_elsewhere nat_cmp exact_unsigned r.arrangements c d x (key_apart nat_cmp exact_unsigned d c (other d entered)))
+        ∙ so.alike.in_force d entered;
     granted = so.alike.granted;
   }
     where
@@ -278,11 +322,13 @@ module _ (r0 : Relations) (refer : refers r0 ≡ true) (s : Code) where
         alike = spared_row r so x apart.0 checked.0;
         grows = grows_both r0 r (with_row r x) so.grows (grows_row r x);
         rising = spared_rises r so.rising x;
+        appeals = appeals_row r x ∙ so.appeals;
+        standing = standing_row r x ∙ so.standing;
       } in
       spared_rows (with_row r x) next rows apart.1 checked.1
 
   pub import_spares : KeysRise nat_cmp r0.candidates → (rows : List Row) → list_any (λ (x : Row). row_touches r0 x s) rows ≡ false → rows_refusal r0 rows ≡ None → SpeakAlike r0 (with_rows r0 rows) s
-  import_spares up rows away ok = spared_rows r0 (record { alike = alike_itself r0 s; grows = grows_none r0; rising = up }) rows away ok
+  import_spares up rows away ok = spared_rows r0 (record { alike = alike_itself r0 s; grows = grows_none r0; rising = up; appeals = refl; standing = refl }) rows away ok
 
 -- ---- entries and openings
 
@@ -295,7 +341,7 @@ live_spares r c p live s away = record {
   openings = λ h. refl;
   halls = λ h opened. refl;
   candidates = refl;
-  arrangements = λ d entered. refl;
+  in_force = λ d entered. refl;
   granted = λ d. refl;
 }
 
@@ -309,7 +355,7 @@ closing_spares r named h s away = record {
       (key_apart opening_cmp openings_exact (s, k) (named, h) (λ same. other_code s named away (ap (λ (z : Code × Code). z.0) same)));
   halls = λ k opened. refl;
   candidates = refl;
-  arrangements = λ d entered. refl;
+  in_force = λ d entered. refl;
   granted = λ d. refl;
 }
 
@@ -388,34 +434,147 @@ module _ (c : ℕ) (own s : Code) (asked : Subject) (away : same_code own s ≡ 
 
   -- a grant for another session leaves what was granted for this one
   grant_spares : (r : Relations) (k : ℕ × Code) (a v : Appeal) → row_at appeal_cmp r.appeals k ≡ Some a → a.session ≡ own → v.session ≡ own
-      → SameSeating (seating r s) (seating (with_appeals r (put_row appeal_cmp (map given r.appeals) k v)) s)
-  grant_spares r k a v at mine new = seating_same r (put_row appeal_cmp (map given r.appeals) k v) s (λ n.
+      → (n : ℕ) → granted_subjects (put_row appeal_cmp (map given r.appeals) k v) s n ≡ granted_subjects r.appeals s n
+  grant_spares r k a v at mine new n =
       ap (map (λ (x : (ℕ × Code) × Appeal). x.1.subject))
       (put_passed_over appeal_cmp appeals_exact (is_granted_appeal s n) (map given r.appeals) k v
-      (elsewhere n v (ap (λ z. same_code z s) new ∙ away))
-      (λ b then. elsewhere n b (ap (λ z. same_code z s) (still_for r.appeals k a b at then ∙ mine) ∙ away))
-      ∙ mapped_filtered (is_granted_appeal s n) given (kept n) (out n) r.appeals))
+      (elsewhere v (ap (λ z. same_code z s) new ∙ away))
+      (λ b then. elsewhere b (ap (λ z. same_code z s) (still_for r.appeals k a b at then ∙ mine) ∙ away))
+      ∙ mapped_filtered (is_granted_appeal s n) given (kept n) (out n) r.appeals)
     where
       none : (b g : Bool) → (b && (false && g)) ≡ false
       none true g = refl
       none false g = refl
 
-      elsewhere : (n : ℕ) (x : Appeal) → same_code x.session s ≡ false → is_granted_appeal s n (k, x) ≡ false
-      elsewhere n x other = ap (λ b. nat_eq k.0 n && (b && is_granted x.status)) other ∙ none (nat_eq k.0 n) (is_granted x.status)
+      elsewhere : (x : Appeal) → same_code x.session s ≡ false → is_granted_appeal s n (k, x) ≡ false
+      elsewhere x other = ap (λ b. nat_eq k.0 n && (b && is_granted x.status)) other ∙ none (nat_eq k.0 n) (is_granted x.status)
 
-module _ (r : Relations) (today : ℕ) (d : Decision) (s : Code) where
+-- where no standing grant gives way, the appellant's are the same
+module _ (r : Relations) (c : ℕ) (own : Code) (asked : Subject) where
+  still_standing : (rows : List ((ℕ × Code) × Appeal)) → list_any (λ (e : (ℕ × Code) × Appeal). is_earlier c own asked e && is_marked r e.0) rows ≡ false
+      → filter (is_standing r c) (map (giving_way c own asked) rows) ≡ filter (is_standing r c) rows
+  still_standing [] none = refl
+  still_standing (row ∷ rows) none =
+      let parts = neither_any (is_earlier c own asked row && is_marked r row.0) (list_any (λ (e : (ℕ × Code) × Appeal). is_earlier c own asked e && is_marked r e.0) rows) none in
+      inner (gives_way c own asked row) refl parts.0 (still_standing rows parts.1)
+    where
+      Stays : (ℕ × Code) × Appeal → Type 0
+      Stays changed = (cond (is_standing r c changed) (changed ∷ filter (is_standing r c) (map (giving_way c own asked) rows)) (filter (is_standing r c) (map (giving_way c own asked) rows)))
+          ≡ cond (is_standing r c row) (row ∷ filter (is_standing r c) rows) (filter (is_standing r c) rows)
+
+      superseded_row : (ℕ × Code) × Appeal
+      superseded_row = (row.0, record row.1 { status = superseded row.1.status })
+
+      unmarked : (mine granted marked : Bool) → ((true && granted) && marked) ≡ false → (mine && (granted && marked)) ≡ false
+      unmarked true granted marked off = off
+      unmarked false granted marked off = refl
+
+      inner : (b : Bool) → gives_way c own asked row ≡ b → ((b && is_granted row.1.status) && is_marked r row.0) ≡ false
+          → filter (is_standing r c) (map (giving_way c own asked) rows) ≡ filter (is_standing r c) rows → Stays (cond b superseded_row row)
+      inner true gives off rest =
+          ap (λ b. cond b (superseded_row ∷ filter (is_standing r c) (map (giving_way c own asked) rows)) (filter (is_standing r c) (map (giving_way c own asked) rows)))
+          (ap (λ g. nat_eq row.0.0 c && (g && is_marked r row.0)) (never_granted row.1.status) ∙ never_stands (nat_eq row.0.0 c) (is_marked r row.0))
+          ∙ rest
+          ∙ sym (ap (λ b. cond b (row ∷ filter (is_standing r c) rows) (filter (is_standing r c) rows)) (unmarked (nat_eq row.0.0 c) (is_granted row.1.status) (is_marked r row.0) off))
+      inner false stays off rest = ap (λ t. cond (is_standing r c row) (row ∷ t) t) rest
+
+-- whoever has no live entry fits nowhere
+unentered_fits : (r : Relations) (s : Code) (c : ℕ) (h : Code) → has_live_entry r s c ≡ false → fits r s c h ≡ false
+unentered_fits r s c h out = ap (λ b. b && (suits_opened (sitting_terms r s c) (opened_room r s h) && not (list_any (same_code h) (barred_halls r s c)))) out
+
+module _ (r : Relations) (refer : refers r ≡ true) (stand : marks_stand r ≡ true) (d : Decision) (s : Code) (a : Appeal) (at : appeal_at r d.number d.reference ≡ Some a) (open_yet : is_open a.status ≡ true) where
   abbrev key : ℕ × Code
   key = (d.number, d.reference)
 
-  outcome_spares : (a : Appeal) → appeal_at r d.number d.reference ≡ Some a → is_open a.status ≡ true → (o : Outcome) → decision_touches r d o s ≡ false
-      → SameSeating (seating r s) (seating (with_appeals r (put_row appeal_cmp (with_superseded d.number a o r.appeals) key (record a { status = decided o d.answer }))) s)
-  outcome_spares a at open_yet outcome.Grant away =
-      grant_spares d.number a.session s a.subject (ap (λ stored. is_appeal_for stored s) (sym at) ∙ away) r key a (record a { status = status.Granted d.answer }) at refl refl
-  outcome_spares a at open_yet outcome.Refuse away =
-      put_seating_same r key (record a { status = status.Refused d.answer }) refl
-      (λ b is. let same : a ≡ b = (let both : Some a ≡ Some b = sym at ∙ is in cc) in ap (λ (x : Appeal). is_granted x.status) (sym same) ∙ open_ungranted a.status open_yet) s
+  abbrev given_rows : List ((ℕ × Code) × Appeal)
+  given_rows = map (giving_way d.number a.session a.subject) r.appeals
 
-  pub decision_spares : decision_refusal r today d ≡ None → decision_touches r d d.outcome s ≡ false → SameSeating (seating r s) (seating (with_decision r d) s)
+  abbrev granted_row : Appeal
+  granted_row = record a { status = status.Granted d.answer }
+
+  unmarked : is_marked r key ≡ false
+  unmarked = unmarked_open r d a stand at open_yet
+
+  own_standing : ends_standing r d.number a ≡ false → standing_grants (with_decisions r (put_row appeal_cmp given_rows key granted_row) r.standing) d.number ≡ standing_grants r d.number
+  own_standing none =
+      ap (filter_map (λ (x : (ℕ × Code) × Appeal). standing_grant r x.1))
+      (put_passed_over appeal_cmp appeals_exact (is_standing r d.number) given_rows key granted_row (never true) (λ b then. never (is_granted b.status))
+      ∙ still_standing r d.number a.session a.subject r.appeals none)
+    where
+      never : (g : Bool) → (nat_eq d.number d.number && (g && is_marked r key)) ≡ false
+      never g = ap (λ m. nat_eq d.number d.number && (g && m)) unmarked ∙ not_granted (nat_eq d.number d.number) g
+
+  -- a grant, which sets or ends a standing one where told, leaves the seating of a session that it does not touch
+  grant_seating : (o : Outcome) → d.outcome ≡ o → is_grant o ≡ true → grant_touches r d a s ≡ false
+      → SameSeating (seating r s) (seating (with_decisions r (put_row appeal_cmp given_rows key granted_row) (with_mark d r.standing)) s)
+  grant_seating o is grants untouched = seating_by r (put_row appeal_cmp given_rows key granted_row) (with_mark d r.standing) s (λ n h. by_number n h (nat_eq d.number n) refl)
+    where
+      parts : (same_code a.session s ≡ false) × (((bears_mark d.outcome || ends_standing r d.number a) && is_member r s d.number) ≡ false)
+      parts = neither_any (same_code a.session s) ((bears_mark d.outcome || ends_standing r d.number a) && is_member r s d.number) untouched
+
+      t : Relations
+      t = with_decisions r (put_row appeal_cmp given_rows key granted_row) (with_mark d r.standing)
+
+      granted_same : (n : ℕ) → granted_subjects (put_row appeal_cmp given_rows key granted_row) s n ≡ granted_subjects r.appeals s n
+      granted_same n = grant_spares d.number a.session s a.subject parts.0 r key a granted_row at refl refl n
+
+      made_is : with_outcome r d a ≡ t
+      made_is =
+          ap (λ (u : Outcome). with_decisions r (put_row appeal_cmp (with_superseded d.number a u r.appeals) key (record a { status = decided u d.answer })) (with_mark d r.standing)) is
+          ∙ by_outcome o grants
+        where
+          by_outcome : (u : Outcome) → is_grant u ≡ true
+              → with_decisions r (put_row appeal_cmp (with_superseded d.number a u r.appeals) key (record a { status = decided u d.answer })) (with_mark d r.standing)
+              ≡ with_decisions r (put_row appeal_cmp given_rows key granted_row) (with_mark d r.standing)
+          by_outcome outcome.Grant granting = refl
+          by_outcome outcome.Standing granting = refl
+          by_outcome outcome.Refuse granting = absurd (let differ : false ≡ true = granting in cc)
+
+      -- the appellant, where they are a member
+      of_member : (h : Code) → has_live_entry r s d.number ≡ true → fits t s d.number h ≡ fits r s d.number h
+      of_member h entered =
+          let member : is_member r s d.number ≡ true = ap (λ b. b && has_live_entry r s d.number) (entered_known r (parted r refer).entries s d.number entered) ∙ entered in
+          let none = neither_any (bears_mark d.outcome) (ends_standing r d.number a)
+          (only_first (bears_mark d.outcome || ends_standing r d.number a) (is_member r s d.number) member parts.1) in
+          fits_same r (put_row appeal_cmp given_rows key granted_row) (with_mark d r.standing) s d.number (granted_same d.number)
+          (ap (λ b. standing_grants (with_decisions r (put_row appeal_cmp given_rows key granted_row) (cond b (put_row appeal_cmp r.standing key tt) (without_mark key r.standing))) d.number) none.0
+          ∙ ap (λ marks. standing_grants (with_decisions r (put_row appeal_cmp given_rows key granted_row) marks) d.number) (unmarked_same r.standing key unmarked)
+          ∙ own_standing none.1) h
+        where
+          only_first : (x y : Bool) → y ≡ true → (x && y) ≡ false → x ≡ false
+          only_first true y member off = absurd (let differ : true ≡ false = sym member ∙ off in cc)
+          only_first false y member off = refl
+
+      of_appellant : (h : Code) (b : Bool) → has_live_entry r s d.number ≡ b → fits t s d.number h ≡ fits r s d.number h
+      of_appellant h true entered = of_member h entered
+      of_appellant h false out = unentered_fits t s d.number h out ∙ sym (unentered_fits r s d.number h out)
+
+      by_number : (n : ℕ) (h : Code) (b : Bool) → nat_eq d.number n ≡ b → fits t s n h ≡ fits r s n h
+      by_number n h true mine = subst (λ m. fits t s m h ≡ fits r s m h) (eqb-true d.number n mine) (of_appellant h (has_live_entry r s d.number) refl)
+      by_number n h false other =
+          fits_same r (put_row appeal_cmp given_rows key granted_row) (with_mark d r.standing) s n (granted_same n)
+          (ap (λ u. standing_grants u n) (sym made_is) ∙ others_stand r d a n other) h
+
+  outcome_spares : (o : Outcome) → d.outcome ≡ o → (is_grant o && grant_touches r d a s) ≡ false → SameSeating (seating r s) (seating (with_outcome r d a) s)
+  outcome_spares outcome.Grant is away = subst (λ (u : Relations). SameSeating (seating r s) (seating u s)) (sym (made_as outcome.Grant is)) (grant_seating outcome.Grant is refl away)
+    where
+      made_as : (o : Outcome) → d.outcome ≡ o → with_outcome r d a ≡ with_decisions r (put_row appeal_cmp (with_superseded d.number a o r.appeals) key (record a { status = decided o d.answer })) (with_mark d r.standing)
+      made_as o e = ap (λ (u : Outcome). with_decisions r (put_row appeal_cmp (with_superseded d.number a u r.appeals) key (record a { status = decided u d.answer })) (with_mark d r.standing)) e
+  outcome_spares outcome.Standing is away = subst (λ (u : Relations). SameSeating (seating r s) (seating u s)) (sym (made_as outcome.Standing is)) (grant_seating outcome.Standing is refl away)
+    where
+      made_as : (o : Outcome) → d.outcome ≡ o → with_outcome r d a ≡ with_decisions r (put_row appeal_cmp (with_superseded d.number a o r.appeals) key (record a { status = decided o d.answer })) (with_mark d r.standing)
+      made_as o e = ap (λ (u : Outcome). with_decisions r (put_row appeal_cmp (with_superseded d.number a u r.appeals) key (record a { status = decided u d.answer })) (with_mark d r.standing)) e
+  outcome_spares outcome.Refuse is away =
+      subst (λ (u : Relations). SameSeating (seating r s) (seating u s)) (sym made_as)
+      (put_seating_same r key (record a { status = status.Refused d.answer }) refl
+      (λ b there_is. let same : a ≡ b = (let both : Some a ≡ Some b = sym at ∙ there_is in cc) in ap (λ (x : Appeal). is_granted x.status) (sym same) ∙ open_ungranted a.status open_yet) s)
+    where
+      made_as : with_outcome r d a ≡ with_appeals r (put_row appeal_cmp r.appeals key (record a { status = status.Refused d.answer }))
+      made_as = ap (λ (u : Outcome). with_decisions r (put_row appeal_cmp (with_superseded d.number a u r.appeals) key (record a { status = decided u d.answer })) (cond (bears_mark u) (put_row appeal_cmp r.standing key tt) (without_mark key r.standing))) is
+          ∙ ap (with_decisions r (put_row appeal_cmp r.appeals key (record a { status = status.Refused d.answer }))) (unmarked_same r.standing key unmarked)
+
+module _ (r : Relations) (refer : refers r ≡ true) (stand : marks_stand r ≡ true) (today : ℕ) (d : Decision) (s : Code) where
+  pub decision_spares : decision_refusal r today d ≡ None → decision_touches r d s ≡ false → SameSeating (seating r s) (seating (with_decision r d) s)
   decision_spares ok away = inner (appeal_at r d.number d.reference) refl ok
     where
       same : SameSeating (seating r s) (seating r s)
@@ -424,11 +583,13 @@ module _ (r : Relations) (today : ℕ) (d : Decision) (s : Code) where
       by_case : (a : Appeal) → appeal_at r d.number d.reference ≡ Some a → (b : Bool) → first_refusal (cond b [] (open_checks r today d a)) ≡ None → SameSeating (seating r s) (seating (cond b r (with_outcome r d a)) s)
       by_case a at true checked = same
       by_case a at false checked =
-          outcome_spares a at (there (is_open a.status) refusal.NotOpenAppeal ((is_too_late r a.session today, refusal.TooLate) ∷ grant_checks r d.number a d.outcome) checked) d.outcome away
+          outcome_spares r refer stand d s a at
+          (there (is_open a.status) refusal.NotOpenAppeal ((is_too_late r a.session today, refusal.TooLate) ∷ not_arrangement a d.outcome ∷ grant_checks r d.number a d.outcome) checked) d.outcome refl
+          (ap (λ o. is_grant d.outcome && option_map_or (λ (x : Appeal). grant_touches r d x s) o false) (sym at) ∙ away)
 
       inner : (o : Option Appeal) → appeal_at r d.number d.reference ≡ o → first_refusal (decision_checks r today d o) ≡ None → SameSeating (seating r s) (seating (with_decided r d o) s)
       inner None none checked = same
-      inner (Some a) at checked = by_case a at (is_decided d.outcome d.answer a.status) checked
+      inner (Some a) at checked = by_case a at (is_made r d a) checked
 
 -- ---- any command
 
@@ -474,7 +635,7 @@ module _ (before : State) (good : IsGood before) (up : IsInOrder before) (today 
       let r = before.relations in
       let none = unrefused (decision_refusal r today d) (with_decision r d) t is in
       subst (λ u. SameSeating (seating r s) (seating u s)) (made (decision_refusal r today d) (with_decision r d) t is)
-      (decision_spares r today d s none away)
+      (decision_spares r good.refer good.marks today d s none away)
 
   -- and its plan
   pub untouched_stays : (done : Command) (after : State) (reply : Reply) → Step done today before (Ok reply) after → touches before.relations done s ≡ false

@@ -1,5 +1,5 @@
 -- Appeals: their kinds, their states, and what is stored of them.
-use Rattle.std.specs.Prelude.{ℕ, ◌==◌, ◌&&◌, Bool, true, false, List, Option}
+use Rattle.std.specs.Prelude.{ℕ, ◌==◌, ◌&&◌, not, Bool, true, false, List, Option, if◌then◌else◌}
 use Rattle.std.specs.List.{list_any}
 use Rattle.std.specs.Option.{option_map_or}
 use Rattle.exam_rules.specs.declared.rows.Appeal.{Appeal}
@@ -64,15 +64,36 @@ is_retracted (status.Refused answer) = false
 is_retracted status.Retracted = true
 is_retracted (status.Superseded answer) = false
 
-abbrev pub decided : Outcome → List ℕ → Status
-decided outcome.Grant answer = status.Granted answer
-decided outcome.Refuse answer = status.Refused answer
+-- a grant, whether or not it stands for later sessions
+abbrev pub is_grant : Outcome → Bool
+is_grant outcome.Grant = true
+is_grant outcome.Standing = true
+is_grant outcome.Refuse = false
 
--- decided so, with this answer; what was superseded since is not
-abbrev pub is_decided : Outcome → List ℕ → Status → Bool
-is_decided outcome.Grant answer (status.Granted stored) = same_code answer stored
-is_decided outcome.Refuse answer (status.Refused stored) = same_code answer stored
-is_decided made answer other = false
+-- it stands for later sessions, and so its appeal bears the mark
+abbrev pub bears_mark : Outcome → Bool
+bears_mark outcome.Grant = false
+bears_mark outcome.Standing = true
+bears_mark outcome.Refuse = false
+
+abbrev pub decided : Outcome → List ℕ → Status
+decided o answer = if is_grant o then status.Granted answer else status.Refused answer
+
+-- granted with this answer
+abbrev pub is_granted_so : List ℕ → Status → Bool
+is_granted_so answer (status.Granted stored) = same_code answer stored
+is_granted_so answer other = false
+
+-- refused with this answer
+abbrev pub is_refused_so : List ℕ → Status → Bool
+is_refused_so answer (status.Refused stored) = same_code answer stored
+is_refused_so answer other = false
+
+-- decided so, with this answer and with the mark or without it; what was superseded since is not
+abbrev pub is_decided : Outcome → List ℕ → Bool → Status → Bool
+is_decided outcome.Grant answer marked stored = not marked && is_granted_so answer stored
+is_decided outcome.Standing answer marked stored = marked && is_granted_so answer stored
+is_decided outcome.Refuse answer marked stored = is_refused_so answer stored
 
 -- a grant whose place a later one has taken
 abbrev pub superseded : Status → Status

@@ -1,12 +1,16 @@
 -- A good office.
-use Rattle.std.specs.Prelude.{◌≡◌, ◌&&◌, ◌⊎◌, Bool, true, IsTrue, List, [], ◌∷◌, Option, None, Some}
+use Rattle.std.specs.Prelude.{◌≡◌, ◌&&◌, ◌⊎◌, Bool, true, false, IsTrue, List, [], ◌∷◌, Option, None, Some, is_some}
 use Rattle.std.specs.List.{list_all}
+use Rattle.std.specs.Option.{option_map_or}
 use Rattle.std.specs.Ordering.{nat_cmp}
 use Rattle.exam_plan.specs.Matching.{IsBest}
 use Rattle.exam_rules.specs.declared.rows.Appeal.{Appeal}
+use Rattle.exam_rules.specs.declared.rows.Status.{Status}
+use Rattle.exam_rules.specs.declared.rows.Status.TheVariants as status
 use Rattle.exam_rules.specs.declared.rows.Subject.{Subject}
 use Rattle.exam_rules.specs.declared.rows.Subject.TheVariants as subject
-use Rattle.exam_rules.specs.Relations.{Code, Relations, code_cmp, has_row}
+use Rattle.exam_rules.specs.Relations.{Code, Relations, appeal_cmp, code_cmp, has_row, row_at}
+use Rattle.exam_rules.specs.Sessions.{asked_arrangement}
 use Rattle.exam_rules.specs.Seatings.{seating, plan_of}
 use Rattle.exam_office.specs.Limits as limits
 use Rattle.exam_office.specs.Limits.{within_limits}
@@ -43,22 +47,40 @@ appeal_refers r a = has_row code_cmp r.sessions a.session && subject_refers r a.
 abbrev pub appeals_refer : Relations → Bool
 appeals_refer r = list_all (λ x. has_row nat_cmp r.candidates x.0.0 && appeal_refers r x.1) r.appeals
 
+-- granted, or granted once and superseded since
+abbrev pub was_granted : Status → Bool
+was_granted status.Pending = false
+was_granted (status.Granted answer) = true
+was_granted (status.Refused answer) = false
+was_granted status.Retracted = false
+was_granted (status.Superseded answer) = true
+
+-- an arrangement appeal that was granted may bear the mark of a standing grant
+abbrev pub may_bear : Appeal → Bool
+may_bear a = is_some (asked_arrangement a.subject) && was_granted a.status
+
+-- of each mark the appeal is there and may bear it
+abbrev pub marks_stand : Relations → Bool
+marks_stand r = list_all (λ m. option_map_or may_bear (row_at appeal_cmp r.appeals m.0) false) r.standing
+
 abbrev pub refers : Relations → Bool
 refers r =
     papers_refer r && (openings_refer r && (entries_refer r && (arrangements_refer r && appeals_refer r)))
 
 -- References and limits hold; a candidate has at most one granted clash appeal, one granted arrangement
--- appeal and one open appeal of a kind for a session; every session's plan is best.
+-- appeal and one open appeal of a kind for a session; the appeal of each mark may bear it; every session's plan
+-- is best.
 pub record IsGood (office : State) : Type 0 where
   pub refer : IsTrue (refers office.relations)
   pub limits : IsTrue (within_limits office.relations)
   pub single : AreSingle office.relations
+  pub marks : IsTrue (marks_stand office.relations)
   pub best : (s : Code) → IsBest (seating office.relations s) (plan_of office.seats s)
 
 -- ---- table by table
 
 -- The rows of the table refer to what is there, and the limits that belong to it hold; of appeals those that
--- stand alone do; of seats every session's plan is best.
+-- stand alone do; the appeal of each mark may bear it; of seats every session's plan is best.
 abbrev pub IsTableGood : State → Table → Type 0
 IsTableGood office table.Sessions = IsTrue (limits.sessions_within office.relations)
 IsTableGood office table.Papers =
@@ -73,13 +95,14 @@ IsTableGood office table.Arrangements = IsTrue (arrangements_refer office.relati
 IsTableGood office table.Appeals =
     IsTrue (limits.appeals_within office.relations && appeals_refer office.relations)
     × AreSingle office.relations
+IsTableGood office table.Standing = IsTrue (marks_stand office.relations)
 IsTableGood office table.Seats = (s : Code) → IsBest (seating office.relations s) (plan_of office.seats s)
 
 -- in the order in which they are looked at
 abbrev pub tables : List Table
 tables =
     table.Sessions ∷ table.Papers ∷ table.Halls ∷ table.Openings ∷ table.Candidates ∷ table.Entries
-    ∷ table.Arrangements ∷ table.Appeals ∷ table.Seats ∷ []
+    ∷ table.Arrangements ∷ table.Appeals ∷ table.Standing ∷ table.Seats ∷ []
 
 -- the first of these tables that is not good, or none
 abbrev pub IsFirstBadOf : State → List Table → Option Table → Type 0

@@ -14,7 +14,8 @@ use Rattle.exam_office.specs.declared.command.Outcome.{Outcome}
 use Rattle.exam_office.specs.declared.command.Outcome.TheVariants as outcome
 use Rattle.exam_office.specs.declared.command.Reply.{Reply}
 use Rattle.exam_office.specs.declared.command.Reply.TheVariants as reply
-use Rattle.exam_office.specs.Appeals.{appeal_at, is_decided, stored_state}
+use Rattle.exam_office.specs.Appeals.{appeal_at, stored_state}
+use Rattle.exam_office.specs.Decisions.{is_made}
 use Rattle.exam_office.specs.FactsMade.{may_pass_limit}
 use Rattle.exam_office.specs.Limits.{within_limits}
 use Rattle.exam_office.specs.Moves.{moved}
@@ -30,6 +31,7 @@ Plans = BTreeMap (Code × ℕ) Code
 -- the command changes no plan
 abbrev pub refuses : Outcome → Bool
 refuses outcome.Grant = false
+refuses outcome.Standing = false
 refuses outcome.Refuse = true
 
 abbrev pub keeps_plans : Command → Bool
@@ -98,8 +100,8 @@ first_reply (command.Retract c reference) old new = reply.Retracted
 first_reply (command.Decide d) old new = reply.Unchanged
 
 -- the session of the appeal that is decided, unless it is decided so already
-abbrev pub decided_session : Decision → Appeal → Option Code
-decided_session d a = if is_decided d.outcome d.answer a.status then None else Some a.session
+abbrev pub decided_session : Relations → Decision → Appeal → Option Code
+decided_session r d a = if is_made r d a then None else Some a.session
 
 abbrev pub newly_decided : Relations → Command → Option Code
 newly_decided r (command.Import import) = None
@@ -108,7 +110,7 @@ newly_decided r (command.Reinstate c p) = None
 newly_decided r (command.CloseHall s h) = None
 newly_decided r (command.Lodge l) = None
 newly_decided r (command.Retract c reference) = None
-newly_decided r (command.Decide d) = option_and_then (decided_session d) (appeal_at r d.number d.reference)
+newly_decided r (command.Decide d) = option_and_then (decided_session r d) (appeal_at r d.number d.reference)
 
 -- of the decision of an appeal for the session
 abbrev pub decided_reply : Decision → Code → Relations → Seats → Seats → Reply

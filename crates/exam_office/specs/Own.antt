@@ -7,12 +7,13 @@ use Rattle.exam_rules.specs.declared.rows.Arrangement.{Arrangement}
 use Rattle.exam_rules.specs.declared.rows.Candidate.{Candidate}
 use Rattle.exam_rules.specs.declared.rows.Session.{Session}
 use Rattle.exam_rules.specs.Relations.{Code, Relations, is_row_of, row_at}
-use Rattle.exam_rules.specs.Sessions.{is_member, live_papers, sitting, clash_papers, arrangement_in_force}
+use Rattle.exam_rules.specs.Sessions.{is_marked, is_member, live_papers, sitting, clash_papers, arrangement_in_force}
 use Rattle.exam_rules.specs.Sessions.{finish}
 use Rattle.exam_rules.specs.Seatings.{plan_of}
 use Rattle.exam_office.specs.Headline.{desk_of}
 use Rattle.exam_office.specs.State.{State}
 use Rattle.exam_office.specs.declared.own.Own.{Own}
+use Rattle.exam_office.specs.declared.own.OwnAppeal.{OwnAppeal}
 use Rattle.exam_office.specs.declared.own.OwnSession.{OwnSession}
 
 -- a session of which the candidate is a member, as they see it: when it is held, their live papers in it,
@@ -35,7 +36,7 @@ pub record OwnRows : Type 0 where
   pub name : List ℕ
   pub code : Code
   pub sessions : List OwnSessionRow
-  pub appeals : List (Code × Appeal)
+  pub appeals : List OwnAppeal
 
 -- ---- of the office
 
@@ -66,9 +67,13 @@ own_sessions office c =
     filter_map (own_session office c)
     (filter (λ (held : Code × Session). is_member office.relations held.0 c) office.relations.sessions)
 
+-- an appeal as its candidate sees it: its reference, its row, and whether it bears the mark of a standing grant
+abbrev pub own_appeal : Relations → (ℕ × Code) × Appeal → OwnAppeal
+own_appeal r a = record { reference = a.0.1; appeal = a.1; standing = is_marked r a.0 }
+
 -- the candidate's appeals, by reference
-abbrev pub own_appeals : Relations → ℕ → List (Code × Appeal)
-own_appeals r c = map (λ (a : (ℕ × Code) × Appeal). (a.0.1, a.1)) (filter (is_row_of c) r.appeals)
+abbrev pub own_appeals : Relations → ℕ → List OwnAppeal
+own_appeals r c = map (own_appeal r) (filter (is_row_of c) r.appeals)
 
 -- all that the office shows of a candidate who has this row
 abbrev pub own_rows : State → ℕ → Candidate → OwnRows

@@ -1,5 +1,5 @@
 -- A part of an office: what one command reads of it, and how it is put back.
-use Rattle.std.specs.Prelude.{◌≡◌, ◌⊎◌, ◌&&◌, ℕ, Bool, true, false, Option, None, Ok, Err, nat_eq, if◌then◌else◌}
+use Rattle.std.specs.Prelude.{◌≡◌, ◌⊎◌, ◌&&◌, ◌||◌, ℕ, Bool, true, false, Option, None, Ok, Err, nat_eq, if◌then◌else◌}
 use Rattle.std.specs.List.{list_any}
 use Rattle.std.specs.Option.{option_or}
 use Rattle.exam_types.specs.declared.refusal.Refusal.{Refusal}
@@ -21,14 +21,14 @@ use Rattle.exam_office.specs.Repairs.{IsRepaired}
 use Rattle.exam_office.specs.Replies.{reply_of}
 use Rattle.exam_office.specs.State.{Seats, State}
 use Rattle.exam_office.specs.Steps.{change, first_seated}
-use Rattle.exam_office.specs.Touched.{is_appeal_for, touches}
+use Rattle.exam_office.specs.Touched.{decision_touches, is_appeal_for, touches}
 
 -- its facts and its plans
 abbrev pub state_of : Part → State
 state_of part = record { relations = relations_of part.facts; seats = part.plans.entries }
 
 -- Of the session the command reads the plan: of each that it touches; a lodging, of the session named; a
--- decision, of the appeal's, whatever its outcome.
+-- decision, of the appeal's, whatever its outcome, and of each that it touches.
 abbrev pub reads : Relations → Command → Code → Bool
 reads r (command.Import import) s = touches r (command.Import import) s
 reads r (command.Withdraw c p) s = touches r (command.Withdraw c p) s
@@ -36,7 +36,7 @@ reads r (command.Reinstate c p) s = touches r (command.Reinstate c p) s
 reads r (command.CloseHall named h) s = touches r (command.CloseHall named h) s
 reads r (command.Lodge l) s = same_code l.session s
 reads r (command.Retract c reference) s = touches r (command.Retract c reference) s
-reads r (command.Decide d) s = is_appeal_for (appeal_at r d.number d.reference) s
+reads r (command.Decide d) s = is_appeal_for (appeal_at r d.number d.reference) s || decision_touches r d s
 
 -- The part agrees with the office: it has its facts, its plans of the sessions that the command reads, and
 -- nobody seated in another.

@@ -9,7 +9,8 @@ use Rattle.exam_office.specs.declared.command.Command.{Command}
 use Rattle.exam_office.specs.declared.command.Command.TheVariants as command
 use Rattle.exam_office.specs.declared.command.Reply.{Reply}
 use Rattle.exam_office.specs.declared.command.Reply.TheVariants as reply
-use Rattle.exam_office.specs.Appeals.{appeal_at, is_decided, stored_state}
+use Rattle.exam_office.specs.Appeals.{appeal_at, stored_state}
+use Rattle.exam_office.specs.Decisions.{is_made}
 use Rattle.exam_office.specs.Moves.{moved}
 use Rattle.exam_office.specs.declared.command.Decision.{Decision}
 use Rattle.exam_rules.specs.declared.rows.Appeal.{Appeal}
@@ -49,7 +50,7 @@ import_reply r rows = reply.Imported
 abbrev pub reply_to : State → State → Decision → Option Appeal → Reply
 reply_to before after d None = reply.Unchanged
 reply_to before after d (Some a) =
-    if is_decided d.outcome d.answer a.status then reply.Unchanged
+    if is_made before.relations d a then reply.Unchanged
     else reply.Decided (stored_state after.relations d.number d.reference) (plan_of after.seats a.session d.number)
     (moved before.seats after.seats d.number)
 

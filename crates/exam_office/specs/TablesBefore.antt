@@ -27,6 +27,7 @@ pub record WereTables (told : Told) (before after : Relations) : Type 0 where
   pub entries : WasTable entry_cmp told.entries before.entries after.entries
   pub arrangements : WasTable nat_cmp told.arrangements before.arrangements after.arrangements
   pub appeals : WasTable appeal_cmp told.appeals before.appeals after.appeals
+  pub standing : WasTable appeal_cmp told.standing before.standing after.standing
 
 -- each the same
 abbrev pub all_same : Told
@@ -39,6 +40,7 @@ all_same = record {
   entries = was.Same;
   arrangements = was.Same;
   appeals = was.Same;
+  standing = was.Same;
 }
 
 -- At the keys of the old and the new plans the seats are those of the plans, before and after. Everybody else

@@ -19,7 +19,7 @@ restored (undo.Openings m) r = record r { openings = m.entries }
 restored (undo.Candidates m) r = record r { candidates = m.entries }
 restored (undo.Entries m) r = record r { entries = m.entries }
 restored (undo.Arrangements m) r = record r { arrangements = m.entries }
-restored (undo.Appeals m) r = record r { appeals = m.entries }
+restored (undo.Decisions m marks) r = record r { appeals = m.entries; standing = marks.entries }
 
 -- the key that is named has a row, so that it gets another one back without memory, or loses it
 abbrev pub IsThere : Undo → Relations → Type 0
@@ -34,7 +34,7 @@ IsThere (undo.Openings m) r = ⊤
 IsThere (undo.Candidates m) r = ⊤
 IsThere (undo.Entries m) r = ⊤
 IsThere (undo.Arrangements m) r = ⊤
-IsThere (undo.Appeals m) r = ⊤
+IsThere (undo.Decisions m marks) r = ⊤
 
 -- the new facts become the old ones
 abbrev pub TakesBack : Undo → Relations → Relations → Type 0

@@ -29,6 +29,7 @@ pub struct TablesBefore<'a> {
     pub entries: Before<'a, (Number, PaperCode), Entry>,
     pub arrangements: Before<'a, Number, Arrangement>,
     pub appeals: Before<'a, (Number, Reference), Appeal>,
+    pub standing: Before<'a, (Number, Reference), ()>,
 }
 
 impl TablesBefore<'_> {
@@ -45,6 +46,7 @@ impl TablesBefore<'_> {
             entries: Before::Same,
             arrangements: Before::Same,
             appeals: Before::Same,
+            standing: Before::Same,
         }
     }
 }

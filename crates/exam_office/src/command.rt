@@ -44,6 +44,8 @@ pub struct Decision {
 #[derive(Clone, Copy, Debug, PartialEq, Eq)]
 pub enum Outcome {
     Grant,
+    /// A grant of an arrangement that stands for later sessions too.
+    Standing,
     Refuse,
 }
 

@@ -1,5 +1,5 @@
 //! Deciding an appeal.
-ghost use Rattle.std.specs.Prelude.{◌≡◌, ◌⊎◌, None, Some, IfOk, IfErr, OnOk, OnErr};
+ghost use Rattle.std.specs.Prelude.{◌≡◌, ◌⊎◌, ◌∷◌, [], map, None, Some, IfOk, IfErr, OnOk, OnErr};
 ghost use Rattle.std.specs.List.{find};
 ghost use Rattle.std.specs.Map.Iter.{deref_pair};
 ghost use Rattle.std.specs.Option.{option_and_then, option_map};
@@ -7,12 +7,12 @@ ghost use Rattle.std.specs.Result.{result_err};
 ghost use Rattle.exam_types.specs.declared.refusal.Refusal.TheVariants.{NoMemory};
 ghost use Rattle.exam_rules.specs.Relations.{appeal_cmp, put_row, relations_of};
 ghost use Rattle.exam_rules.specs.declared.rows.Subject.TheVariants as subjects;
-ghost use Rattle.exam_office.specs.declared.command.Outcome.TheVariants as outcomes;
 ghost use Rattle.exam_office.specs.Appeals as appeals;
 ghost use Rattle.exam_office.specs.Changes.{first_refusal};
 ghost use Rattle.exam_office.specs.Decisions as spec;
 ghost use Rattle.exam_office.specs.NextPlans as next;
 ghost use Rattle.exam_office.specs.Singles.{AreSingle};
+ghost use Rattle.exam_office.specs.Touched as touched;
 ghost use Rattle.exam_office.specs.Undoing as undoing;
 
 use crate::appeals::{is_open, is_same_kind, stored_state};
@@ -20,7 +20,7 @@ use crate::command::{Command, Decision, Outcome, Reply};
 use crate::moves::moved;
 use crate::office::Seats;
 use crate::rows::put;
-use crate::undo::Undo;
+use crate::undo::{Marks, Undo};
 use exam_rules::{Appeal, Facts, Status, Subject, appeals_from, is_live_paper, is_member};
 use exam_types::{Day, Number, PaperCode, Reason, Reference, Refusal, SessionCode};
 use std::collections::BTreeMap;
@@ -31,8 +31,8 @@ type Appeals = BTreeMap<(Number, Reference), Appeal>;
 
 /// Decides the appeal, supersedes an earlier grant of its kind where it is granted, and gives how this is taken
 /// back; nothing changes where it is decided so already. Refused, in this order, as an unknown appeal, as one
-/// that is not open, or as too late; a grant where the candidate is no longer a member, or has no live entry for
-/// the paper; and where there is not enough memory. After a refusal the facts are as before. It passes no limit.
+/// that is not open, or as too late; a standing grant of anything but an arrangement; a grant where the
+/// candidate is no longer a member, or has no live entry for the paper; and where there is not enough memory. After a refusal the facts are as before. It passes no limit.
 pub fn decide(facts: &mut Facts, decision: &Decision, today: Day) -> Result<Undo, Refusal>
     requires { AreSingle (relations_of facts.old) }
     ensures ok { OnOk result (relations_of facts.new
@@ -48,19 +48,92 @@ pub fn decide(facts: &mut Facts, decision: &Decision, today: Day) -> Result<Undo
     let Some(appeal) = facts.appeals.get(&(decision.number, decision.reference)) else {
         return Err(Refusal::UnknownAppeal);
     };
-    if is_decided(decision.outcome, &decision.answer, &appeal.status) {
+    if is_made(facts, decision, appeal) {
         return Ok(Undo::Nothing);
     }
     check_appeal(facts, decision, today, appeal)?;
     let appeals = decided_appeals(facts, decision, appeal)?;
-    Ok(Undo::Appeals(replace(&mut facts.appeals, appeals)))
+    let marks = marks_with(facts, decision)?;
+    Ok(Undo::Decisions(
+        replace(&mut facts.appeals, appeals),
+        replace(&mut facts.standing, marks),
+    ))
+}
+
+/// A copy of the marks, with one for the appeal exactly where its grant stands for later sessions.
+fn marks_with(facts: &Facts, decision: &Decision) -> Result<Marks, Refusal>
+    ensures ok { IfOk result (λ marks. marks.entries
+        ≡ spec.with_mark decision.now (relations_of facts.now).standing) }
+    ensures memory { IfErr result (λ e. e ≡ NoMemory) }
+{
+    let key = (decision.number, decision.reference);
+    if bears_mark(decision.outcome) {
+        marks_and(facts, key)
+    } else {
+        marks_without(facts, key)
+    }
+}
+
+/// A copy of the marks, and one for the appeal under the key.
+fn marks_and(facts: &Facts, key: (Number, Reference)) -> Result<Marks, Refusal>
+    ensures ok { IfOk result (λ marks. marks.entries
+        ≡ put_row appeal_cmp (relations_of facts.now).standing key tt) }
+    ensures memory { IfErr result (λ e. e ≡ NoMemory) }
+{
+    let mut marks = copied_marks(facts)?;
+    put(&mut marks, key, ())?;
+    Ok(marks)
+}
+
+/// A copy of the marks, without one for the appeal under the key.
+fn marks_without(facts: &Facts, key: (Number, Reference)) -> Result<Marks, Refusal>
+    ensures ok { IfOk result (λ marks. marks.entries
+        ≡ spec.without_mark key (relations_of facts.now).standing) }
+    ensures memory { IfErr result (λ e. e ≡ NoMemory) }
+{
+    // The keys of the marks rise, so there is at most one for the appeal.
+    facts.show_order();
+    let mut marks = copied_marks(facts)?;
+    let _ = marks.remove(&key);
+    Ok(marks)
+}
+
+fn copied_marks(facts: &Facts) -> Result<Marks, Refusal>
+    ensures ok { IfOk result (λ copy. copy.entries ≡ (relations_of facts.now).standing) }
+    ensures memory { IfErr result (λ e. e ≡ NoMemory) }
+{
+    Ok(facts.standing.clone()?)
+}
+
+/// Whether the outcome grants.
+pub fn is_grant(outcome: Outcome) -> bool
+    ensures { result ≡ appeals.is_grant outcome }
+{
+    matches!(outcome, Outcome::Grant | Outcome::Standing)
+}
+
+/// Whether the outcome gives the appeal the mark of a standing grant.
+pub fn bears_mark(outcome: Outcome) -> bool
+    ensures { result ≡ appeals.bears_mark outcome }
+{
+    matches!(outcome, Outcome::Standing)
+}
+
+/// Whether the decision is made already.
+fn is_made(facts: &Facts, decision: &Decision, appeal: &Appeal) -> bool
+    ensures { result ≡ spec.is_made (relations_of facts.now) decision.now appeal.now }
+{
+    let marked = facts
+        .standing
+        .contains_key(&(decision.number, decision.reference));
+    is_decided(decision.outcome, &decision.answer, marked, &appeal.status)
 }
 
 /// A copy of the appeals with this one decided, which is not decided so already.
 fn decided_appeals(facts: &Facts, decision: &Decision, appeal: &Appeal) -> Result<Appeals, Refusal>
     requires { AreSingle (relations_of facts.now) }
-    ensures ok { IfOk result (λ changed. record (relations_of facts.now) { appeals = changed.entries }
-        ≡ spec.with_outcome (relations_of facts.now) decision.now appeal.now) }
+    ensures ok { IfOk result (λ changed. changed.entries
+        ≡ (spec.with_outcome (relations_of facts.now) decision.now appeal.now).appeals) }
     ensures memory { IfErr result (λ e. e ≡ NoMemory) }
 {
     let status = status_of(decision.outcome, &decision.answer)?;
@@ -83,9 +156,10 @@ fn superseded_appeals(
         ≡ spec.with_superseded number appeal.now outcome facts.now.appeals.entries) }
     ensures memory { IfErr result (λ e. e ≡ NoMemory) }
 {
-    match outcome {
-        Outcome::Grant => appeals_giving_way(facts, number, appeal),
-        Outcome::Refuse => copied_appeals(facts),
+    if is_grant(outcome) {
+        appeals_giving_way(facts, number, appeal)
+    } else {
+        copied_appeals(facts)
     }
 }
 
@@ -93,7 +167,7 @@ fn superseded_appeals(
 fn appeals_giving_way(facts: &Facts, number: Number, appeal: &Appeal) -> Result<Appeals, Refusal>
     requires { AreSingle (relations_of facts.now) }
     ensures ok { IfOk result (λ changed. changed.entries
-        ≡ spec.with_superseded number appeal.now outcomes.Grant facts.now.appeals.entries) }
+        ≡ map (spec.giving_way number appeal.now.session appeal.now.subject) facts.now.appeals.entries) }
     ensures memory { IfErr result (λ e. e ≡ NoMemory) }
 {
     facts.show_order();
@@ -139,11 +213,11 @@ pub fn newly_decided(facts: &Facts, command: &Command) -> Option<SessionCode>
 }
 
 fn decided_session(facts: &Facts, decision: &Decision) -> Option<SessionCode>
-    ensures { result ≡ option_and_then (next.decided_session decision.now)
+    ensures { result ≡ option_and_then (next.decided_session (relations_of facts.now) decision.now)
         (appeals.appeal_at (relations_of facts.now) decision.now.number decision.now.reference) }
 {
     let appeal = facts.appeals.get(&(decision.number, decision.reference))?;
-    if is_decided(decision.outcome, &decision.answer, &appeal.status) {
+    if is_made(facts, decision, appeal) {
         None
     } else {
         Some(appeal.session)
@@ -169,13 +243,34 @@ pub fn decided_reply(
     }
 }
 
-/// Whether an appeal was decided so, with this answer. What was superseded since is not.
-fn is_decided(outcome: Outcome, answer: &Reason, status: &Status) -> bool
-    ensures { result ≡ appeals.is_decided outcome answer.now status.now }
+/// Whether an appeal was decided so, with this answer, and with the mark of a standing grant or without it. What
+/// was superseded since is not.
+fn is_decided(outcome: Outcome, answer: &Reason, marked: bool, status: &Status) -> bool
+    ensures { result ≡ appeals.is_decided outcome answer.now marked status.now }
 {
-    match (outcome, status) {
-        (Outcome::Grant, Status::Granted(stored)) => *answer == *stored,
-        (Outcome::Refuse, Status::Refused(stored)) => *answer == *stored,
+    match outcome {
+        Outcome::Grant => !marked && is_granted_so(answer, status),
+        Outcome::Standing => marked && is_granted_so(answer, status),
+        Outcome::Refuse => is_refused_so(answer, status),
+    }
+}
+
+/// Whether an appeal was granted with this answer.
+fn is_granted_so(answer: &Reason, status: &Status) -> bool
+    ensures { result ≡ appeals.is_granted_so answer.now status.now }
+{
+    match status {
+        Status::Granted(stored) => *answer == *stored,
+        _ => false,
+    }
+}
+
+/// Whether an appeal was refused with this answer.
+fn is_refused_so(answer: &Reason, status: &Status) -> bool
+    ensures { result ≡ appeals.is_refused_so answer.now status.now }
+{
+    match status {
+        Status::Refused(stored) => *answer == *stored,
         _ => false,
     }
 }
@@ -196,9 +291,17 @@ fn check_appeal(
     if is_too_late(facts, &appeal.session, today) {
         return Err(Refusal::TooLate);
     }
-    match decision.outcome {
-        Outcome::Grant => check_grant(facts, decision.number, appeal),
-        Outcome::Refuse => Ok(()),
+    check_mark(decision.outcome, appeal)?;
+    check_grant(facts, decision.number, appeal, decision.outcome)
+}
+
+/// Refused as no arrangement where another grant is to stand for later sessions.
+fn check_mark(outcome: Outcome, appeal: &Appeal) -> Result<(), Refusal>
+    ensures { result_err result ≡ first_refusal (spec.not_arrangement appeal.now outcome ∷ []) }
+{
+    match (outcome, appeal.subject) {
+        (Outcome::Standing, Subject::Hall(_) | Subject::Clash(_)) => Err(Refusal::NotArrangement),
+        _ => Ok(()),
     }
 }
 
@@ -212,11 +315,19 @@ fn is_too_late(facts: &Facts, session: &SessionCode, today: Day) -> bool
     }
 }
 
-/// Checks that the candidate is still a member, and the paper of a clash still a live one.
-fn check_grant(facts: &Facts, number: Number, appeal: &Appeal) -> Result<(), Refusal>
+/// Checks of a grant that the candidate is still a member, and the paper of a clash still a live one.
+fn check_grant(
+    facts: &Facts,
+    number: Number,
+    appeal: &Appeal,
+    outcome: Outcome,
+) -> Result<(), Refusal>
     ensures { result_err result ≡ first_refusal
-        (spec.grant_checks (relations_of facts.now) number appeal.now outcomes.Grant) }
+        (spec.grant_checks (relations_of facts.now) number appeal.now outcome) }
 {
+    if !is_grant(outcome) {
+        return Ok(());
+    }
     if !is_member(facts, &appeal.session, number) {
         return Err(Refusal::NotInSession);
     }
@@ -247,9 +358,10 @@ fn status_of(outcome: Outcome, answer: &Reason) -> Result<Status, Refusal>
     ensures ok { IfOk result (λ status. status ≡ appeals.decided outcome answer.now) }
     ensures memory { IfErr result (λ e. e ≡ NoMemory) }
 {
-    match outcome {
-        Outcome::Grant => Ok(Status::Granted(answer.copy()?)),
-        Outcome::Refuse => Ok(Status::Refused(answer.copy()?)),
+    if is_grant(outcome) {
+        Ok(Status::Granted(answer.copy()?))
+    } else {
+        Ok(Status::Refused(answer.copy()?))
     }
 }
 
@@ -294,6 +406,21 @@ fn earlier_grant<'a>(
         }
     }
     None
+}
+
+/// Whether a grant of the appeal takes the place of one that stands for later sessions.
+pub fn ends_standing(facts: &Facts, number: Number, appeal: &Appeal) -> bool
+    ensures { result ≡ touched.ends_standing (relations_of facts.now) number appeal.now }
+{
+    for (key, other) in appeals_from(facts, number) {
+        if key.0 != number {
+            break;
+        }
+        if is_earlier(number, appeal, key, other) && facts.standing.contains_key(key) {
+            return true;
+        }
+    }
+    false
 }
 
 /// Whether the other appeal is a grant whose place a grant of this one takes.

@@ -9,6 +9,7 @@ ghost use Rattle.exam_office.specs.Touched.{is_appeal_for};
 ghost use Rattle.exam_office.specs.Parts as spec;
 
 use crate::command::{Command, Decision};
+use crate::deciding::is_grant;
 use crate::office::{Office, Seats};
 use crate::part::Part;
 use crate::repair::add_seat;
@@ -101,7 +102,13 @@ fn read_sessions(
 {
     match command {
         Command::Lodge(lodging) => one_session(alloc, lodging.session),
-        Command::Decide(decision) => appeal_session(alloc, facts, decision),
+        Command::Decide(decision) => {
+            if is_grant(decision.outcome) {
+                touched(alloc, facts, command)
+            } else {
+                appeal_session(alloc, facts, decision)
+            }
+        }
         _ => touched(alloc, facts, command),
     }
 }

@@ -53,7 +53,7 @@ pub use laws::{
 };
 pub use lending::part_for;
 pub use office::{Office, Seats};
-pub use own::{Own, OwnSession};
+pub use own::{Own, OwnAppeal, OwnSession};
 pub use own_laws::{
     lodging_and_retracting_show_others_nothing, own_rows_decide_a_lodging,
     own_rows_decide_a_retraction,

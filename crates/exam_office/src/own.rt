@@ -15,7 +15,16 @@ pub struct Own {
     /// By code.
     pub sessions: Vec<OwnSession>,
     /// By reference.
-    pub appeals: Vec<(Reference, Appeal)>,
+    pub appeals: Vec<OwnAppeal>,
+}
+
+/// An appeal of the candidate.
+#[derive(Drop)]
+pub struct OwnAppeal {
+    pub reference: Reference,
+    pub appeal: Appeal,
+    /// It bears the mark of a standing grant; once superseded it keeps the mark, without effect.
+    pub standing: bool,
 }
 
 /// A session of which the candidate is a member.

@@ -19,7 +19,7 @@ ghost use Rattle.exam_office.specs.Headline.{desk_of};
 ghost use Rattle.exam_office.specs.Own as spec;
 
 use crate::office::Seats;
-use crate::own::{Own, OwnSession};
+use crate::own::{Own, OwnAppeal, OwnSession};
 use exam_rules::{
     Appeal, Candidate, Entrant, Facts, Session, SessionLists, appeals_from, arrangement_in_force,
     entries_from, finish, is_member, is_paper_of, sitting, sitting_among,
@@ -345,11 +345,7 @@ fn is_member_among(
 }
 
 /// The candidate's appeals, by reference.
-fn own_appeals(
-    alloc: Global,
-    facts: &Facts,
-    number: Number,
-) -> Result<Vec<(Reference, Appeal)>, Refusal>
+fn own_appeals(alloc: Global, facts: &Facts, number: Number) -> Result<Vec<OwnAppeal>, Refusal>
     ensures ok { IfOk result (λ appeals. appeals.items ≡ spec.own_appeals (relations_of facts.now) number) }
     ensures memory { IfErr result (λ e. e ≡ NoMemory) }
 {
@@ -358,7 +354,11 @@ fn own_appeals(
         if key.0 != number {
             break;
         }
-        appeals.push((key.1, appeal.clone()?))?;
+        appeals.push(OwnAppeal {
+            reference: key.1,
+            appeal: appeal.clone()?,
+            standing: facts.standing.contains_key(key),
+        })?;
     }
     Ok(appeals)
 }

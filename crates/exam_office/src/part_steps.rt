@@ -258,7 +258,7 @@ fn granted_plans(
     ensures memory { IfErr result (λ e. e ≡ NoMemory) }
 {
     match decision.outcome {
-        Outcome::Grant => {
+        Outcome::Grant | Outcome::Standing => {
             let first = Some(decision.number);
             Ok(Some(repaired_among(alloc, facts, lists, sessions, plans, first)?))
         }

@@ -1,12 +1,13 @@
 //! What rows refer to.
-ghost use Rattle.std.specs.Prelude.{◌≡◌, ◌∷◌, []};
+ghost use Rattle.std.specs.Prelude.{◌≡◌, ◌∷◌, [], false};
+ghost use Rattle.std.specs.Option.{option_map_or};
 ghost use Rattle.std.specs.Result.{result_err};
-ghost use Rattle.exam_rules.specs.Relations.{relations_of};
+ghost use Rattle.exam_rules.specs.Relations.{appeal_cmp, relations_of, row_at};
 ghost use Rattle.exam_office.specs.Good as good;
 ghost use Rattle.exam_office.specs.Changes.{first_refusal, no_session, no_paper, no_candidate, no_hall};
 
-use exam_rules::{Appeal, Facts, Subject};
-use exam_types::{HallCode, Number, PaperCode, Refusal, SessionCode};
+use exam_rules::{Appeal, Facts, Status, Subject};
+use exam_types::{HallCode, Number, PaperCode, Reference, Refusal, SessionCode};
 
 /// Refused as an unknown session where there is none with this code.
 pub fn check_session(facts: &Facts, code: &SessionCode) -> Result<(), Refusal>
@@ -109,4 +110,36 @@ fn subject_refers(facts: &Facts, subject: &Subject) -> bool
         Subject::Clash(paper) => facts.papers.contains_key(paper),
         Subject::Arrangement(_) => true,
     }
+}
+
+/// Whether the appeal of each mark is there and may bear it.
+pub fn marks_stand(facts: &Facts) -> bool
+    ensures { result ≡ good.marks_stand (relations_of facts.now) }
+{
+    facts.standing.iter().all(|(key, _)| is_borne(facts, key))
+}
+
+fn is_borne(facts: &Facts, key: &(Number, Reference)) -> bool
+    ensures { result ≡ option_map_or good.may_bear (row_at appeal_cmp (relations_of facts.now).appeals key.now) false }
+{
+    match facts.appeals.get(key) {
+        Some(appeal) => may_bear(appeal),
+        None => false,
+    }
+}
+
+/// Whether the appeal asks an arrangement and was granted, also if it has been superseded since.
+fn may_bear(appeal: &Appeal) -> bool
+    ensures { result ≡ good.may_bear appeal.now }
+{
+    match appeal.subject {
+        Subject::Arrangement(_) => was_granted(&appeal.status),
+        Subject::Hall(_) | Subject::Clash(_) => false,
+    }
+}
+
+fn was_granted(status: &Status) -> bool
+    ensures { result ≡ good.was_granted status.now }
+{
+    matches!(status, Status::Granted(_) | Status::Superseded(_))
 }

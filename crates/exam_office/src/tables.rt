@@ -29,6 +29,7 @@ pub enum Table {
     Entries,
     Arrangements,
     Appeals,
+    Standing,
     Seats,
 }
 
@@ -110,11 +111,14 @@ fn first_bad_of_others(
     requires few_halls { IsTrue (spec.openings_within (relations_of facts.now)) }
     ensures ok { IfOk result (λ found. good.IsFirstBadOf
         (record { relations = relations_of facts.now; seats = seats.now.entries })
-        (table.Appeals ∷ table.Seats ∷ []) found) }
+        (table.Appeals ∷ table.Standing ∷ table.Seats ∷ []) found) }
     ensures memory { IfErr result (λ e. e ≡ NoMemory) }
 {
     if !are_appeals_good(alloc, facts)? {
         return Ok(Some(Table::Appeals));
+    }
+    if !references::marks_stand(facts) {
+        return Ok(Some(Table::Standing));
     }
     if !are_seats_good(alloc, facts, lists, seats)? {
         return Ok(Some(Table::Seats));

@@ -1,19 +1,22 @@
 //! Which sessions a command touches.
-ghost use Rattle.std.specs.Prelude.{◌≡◌, ◌↔◌, ◌&&◌, ◌||◌, ℕ, Contains, IsTrue, IfOk, IfErr, OnOk};
+ghost use Rattle.std.specs.Prelude.{◌≡◌, ◌↔◌, ◌&&◌, ◌||◌, false, ℕ, Contains, IsTrue, IfOk, IfErr, OnOk};
 ghost use Rattle.std.specs.BTreeSet.{contains};
 ghost use Rattle.std.specs.List.{list_any};
+ghost use Rattle.std.specs.Option.{option_map_or};
 ghost use Rattle.std.specs.List.Sorted.{IsStrictlySortedBy};
 ghost use Rattle.exam_types.specs.declared.refusal.Refusal.TheVariants.{NoMemory};
+ghost use Rattle.exam_rules.specs.declared.rows.Appeal.{Appeal as AppealRow};
 ghost use Rattle.exam_rules.specs.declared.rows.Opening.{Opening as OpeningRow};
 ghost use Rattle.exam_rules.specs.Relations.{Code, code_cmp, relations_of, same_code};
 ghost use Rattle.exam_rules.specs.Sessions.{has_live_entry, is_member, is_paper_of};
-ghost use Rattle.exam_office.specs.Appeals.{appeal_at};
+ghost use Rattle.exam_office.specs.Appeals.{appeal_at, bears_mark};
 ghost use Rattle.exam_office.specs.declared.import_row.Row.{Row as ImportRow};
 ghost use Rattle.exam_office.specs.Touched as spec;
 
-use crate::command::{Command, Decision, Outcome};
+use crate::command::{Command, Decision};
+use crate::deciding::{self, ends_standing, is_grant};
 use crate::import_row::Row;
-use exam_rules::{Facts, entries_from};
+use exam_rules::{Appeal, Facts, entries_from, is_standing};
 use exam_types::{HallCode, Number, PaperCode, Refusal, SessionCode};
 use std::alloc::Global;
 use std::collections::BTreeSet;
@@ -57,7 +60,8 @@ fn add_touched(
     }
 }
 
-/// Adds the sessions that these rows touch. The openings are walked once for all halls that they name.
+/// Adds the sessions that these rows touch. The openings are walked once for all halls that they name, and the
+/// appeals once for all sessions.
 fn add_import(alloc: Global, facts: &Facts, rows: &[Row], codes: &mut Codes) -> Result<(), Refusal>
     ensures ok { OnOk result ((s : Code) → contains code_cmp codes.new s
         ≡ (list_any (λ (x : ImportRow). spec.row_touches (relations_of facts.now) x s) rows.now
@@ -66,7 +70,51 @@ fn add_import(alloc: Global, facts: &Facts, rows: &[Row], codes: &mut Codes) -> 
 {
     add_rows(facts, rows, codes)?;
     let halls = named_halls(alloc, rows)?;
-    add_opened(facts, &halls, codes)
+    add_opened(facts, &halls, codes)?;
+    add_dated(facts, rows, codes)
+}
+
+/// Where one of these rows is of a session, whose date may change, adds the sessions that have a member with a
+/// standing grant.
+fn add_dated(facts: &Facts, rows: &[Row], codes: &mut Codes) -> Result<(), Refusal>
+    ensures ok { OnOk result ((s : Code) → contains code_cmp codes.new s
+        ≡ ((list_any spec.is_session_row rows.now && spec.has_standing_member (relations_of facts.now) s)
+        || contains code_cmp codes.old s)) }
+    ensures memory { IfErr result (λ e. e ≡ NoMemory) }
+{
+    if has_session(rows) {
+        add_standing(facts, codes)
+    } else {
+        Ok(())
+    }
+}
+
+/// Whether one of these rows is of a session.
+fn has_session(rows: &[Row]) -> bool
+    ensures { result ≡ list_any spec.is_session_row rows.now }
+{
+    rows.iter().any(|row| is_session(row))
+}
+
+/// Whether the row is one of a session.
+fn is_session(row: &Row) -> bool
+    ensures { result ≡ spec.is_session_row row.now }
+{
+    matches!(row, Row::OfSession(_, _))
+}
+
+/// Adds the sessions that have a member with a standing grant.
+fn add_standing(facts: &Facts, codes: &mut Codes) -> Result<(), Refusal>
+    ensures ok { OnOk result ((s : Code) → contains code_cmp codes.new s
+        ≡ (spec.has_standing_member (relations_of facts.now) s || contains code_cmp codes.old s)) }
+    ensures memory { IfErr result (λ e. e ≡ NoMemory) }
+{
+    for (key, appeal) in &facts.appeals {
+        if is_standing(facts, key, appeal) {
+            add_candidate(facts, key.0, codes)?;
+        }
+    }
+    Ok(())
 }
 
 /// Adds the sessions that these rows touch otherwise than by naming a hall.
@@ -234,28 +282,64 @@ fn add_entered(facts: &Facts, number: Number, codes: &mut Codes) -> Result<(), R
     Ok(())
 }
 
-/// Adds the session of an appeal that is granted, if it is there.
+/// Adds the sessions that a decision touches.
 fn add_decision(facts: &Facts, decision: &Decision, codes: &mut Codes) -> Result<(), Refusal>
     ensures ok { OnOk result ((s : Code) → contains code_cmp codes.new s
-        ≡ (spec.decision_touches (relations_of facts.now) decision.now decision.now.outcome s
-        || contains code_cmp codes.old s)) }
+        ≡ (spec.decision_touches (relations_of facts.now) decision.now s || contains code_cmp codes.old s)) }
     ensures memory { IfErr result (λ e. e ≡ NoMemory) }
 {
-    match decision.outcome {
-        Outcome::Grant => add_appeal(facts, decision, codes),
-        Outcome::Refuse => Ok(()),
+    if is_grant(decision.outcome) {
+        add_appeal(facts, decision, codes)
+    } else {
+        Ok(())
     }
 }
 
-/// Adds the session of the appeal that is decided, if it is there.
+/// Adds the sessions that a grant of the appeal touches, if it is there.
 fn add_appeal(facts: &Facts, decision: &Decision, codes: &mut Codes) -> Result<(), Refusal>
     ensures ok { OnOk result ((s : Code) → contains code_cmp codes.new s
-        ≡ (spec.is_appeal_for (appeal_at (relations_of facts.now) decision.now.number decision.now.reference) s
+        ≡ (option_map_or (λ (a : AppealRow). spec.grant_touches (relations_of facts.now) decision.now a s)
+        (appeal_at (relations_of facts.now) decision.now.number decision.now.reference) false
         || contains code_cmp codes.old s)) }
     ensures memory { IfErr result (λ e. e ≡ NoMemory) }
 {
     match facts.appeals.get(&(decision.number, decision.reference)) {
-        Some(appeal) => add_session(&appeal.session, codes),
+        Some(appeal) => add_appellant(facts, decision, appeal, codes),
         None => Ok(()),
+    }
+}
+
+/// Adds the session of the appeal; where its grant sets or ends a standing one, those of the appellant too.
+fn add_appellant(
+    facts: &Facts,
+    decision: &Decision,
+    appeal: &Appeal,
+    codes: &mut Codes,
+) -> Result<(), Refusal>
+    ensures ok { OnOk result ((s : Code) → contains code_cmp codes.new s
+        ≡ (spec.grant_touches (relations_of facts.now) decision.now appeal.now s
+        || contains code_cmp codes.old s)) }
+    ensures memory { IfErr result (λ e. e ≡ NoMemory) }
+{
+    add_others(facts, decision, appeal, codes)?;
+    add_session(&appeal.session, codes)
+}
+
+/// Where a grant of the appeal sets or ends a standing one, adds the sessions of which the appellant is a member.
+fn add_others(
+    facts: &Facts,
+    decision: &Decision,
+    appeal: &Appeal,
+    codes: &mut Codes,
+) -> Result<(), Refusal>
+    ensures ok { OnOk result ((s : Code) → contains code_cmp codes.new s
+        ≡ (((bears_mark decision.now.outcome || spec.ends_standing (relations_of facts.now) decision.now.number appeal.now)
+        && is_member (relations_of facts.now) s decision.now.number) || contains code_cmp codes.old s)) }
+    ensures memory { IfErr result (λ e. e ≡ NoMemory) }
+{
+    if deciding::bears_mark(decision.outcome) || ends_standing(facts, decision.number, appeal) {
+        add_candidate(facts, decision.number, codes)
+    } else {
+        Ok(())
     }
 }

@@ -34,8 +34,12 @@ pub enum Undo {
     Candidates(BTreeMap<Number, Candidate>),
     Entries(BTreeMap<(Number, PaperCode), Entry>),
     Arrangements(BTreeMap<Number, Arrangement>),
-    Appeals(BTreeMap<(Number, Reference), Appeal>),
+    /// The appeals and the marks of standing grants were these.
+    Decisions(BTreeMap<(Number, Reference), Appeal>, Marks),
 }
+
+/// The marks of standing grants, by candidate and reference.
+pub type Marks = BTreeMap<(Number, Reference), ()>;
 
 impl Undo {
     /// Takes the change back. Takes no memory.
@@ -61,7 +65,10 @@ impl Undo {
             Undo::Candidates(rows) => facts.candidates = rows,
             Undo::Entries(rows) => facts.entries = rows,
             Undo::Arrangements(rows) => facts.arrangements = rows,
-            Undo::Appeals(rows) => facts.appeals = rows,
+            Undo::Decisions(appeals, marks) => {
+                facts.appeals = appeals;
+                facts.standing = marks;
+            }
         }
     }
 }
@@ -85,7 +92,10 @@ impl Undo {
             Undo::Candidates(rows) => before.candidates = Before::Table(rows),
             Undo::Entries(rows) => before.entries = Before::Table(rows),
             Undo::Arrangements(rows) => before.arrangements = Before::Table(rows),
-            Undo::Appeals(rows) => before.appeals = Before::Table(rows),
+            Undo::Decisions(appeals, marks) => {
+                before.appeals = Before::Table(appeals);
+                before.standing = Before::Table(marks);
+            }
         }
         before
     }

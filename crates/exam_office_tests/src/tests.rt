@@ -14,4 +14,5 @@ mod replies;
 mod scenes;
 mod seating;
 mod setups;
+mod standing;
 mod touching;

@@ -4,12 +4,14 @@ use Rattle.json.specs.Print.{quoted}
 use Rattle.serde_json.specs.Data as values
 use Rattle.serde_json.specs.View.{items_of}
 use Rattle.serde_json.specs.Written.{comma_if, compact_text, has_float, items_have_float, items_text, members_have_float, members_text}
-use Rattle.exam_request.specs.Json.{Datum, Object, list_body, listed, member_text, null, number, object_text, text, text_of}
+use Rattle.exam_request.specs.Json.{Datum, Object, flag, list_body, listed, member_text, null, number, object_text, text, text_of}
 use Rattle.exam_request.specs.Values.{data_of, members_data, object_data}
 
 printed : (d : Datum) → compact_text (data_of d) ≡ text_of d
 printed null = refl
 printed (number n) = refl
+printed (flag true) = refl
+printed (flag false) = refl
 printed (text t) = refl
 
 members_printed : (later : Bool) (ms : Object) → members_text later (members_data ms) ≡ listed member_text (comma_if later) (codes "}") ms
@@ -44,6 +46,7 @@ list_printed name rows = ap (λ x. 123 ∷ (quoted name ++ 58 ∷ 91 ∷ x)) (ro
 no_float : (d : Datum) → has_float (data_of d) ≡ false
 no_float null = refl
 no_float (number n) = refl
+no_float (flag b) = refl
 no_float (text t) = refl
 
 members_without : (ms : Object) → members_have_float (members_data ms) ≡ false

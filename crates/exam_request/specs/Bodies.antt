@@ -3,13 +3,13 @@ use Rattle.std.specs.Prelude.{ℕ, List, [], ◌∷◌, Option, Some, None, code
 use Rattle.std.specs.List.{flat_map}
 use Rattle.exam_office.specs.Appeals.{state_of}
 use Rattle.exam_rules.specs.Relations.{Code}
-use Rattle.exam_rules.specs.declared.rows.Appeal.{Appeal}
 use Rattle.exam_rules.specs.declared.rows.Status.{Status}
 use Rattle.exam_rules.specs.declared.rows.Status.TheVariants as status
 use Rattle.exam_types.specs.Days.{day_text}
 use Rattle.exam_types.specs.Features.{features_text}
 use Rattle.exam_types.specs.Numbers.{minute_text}
-use Rattle.exam_request.specs.Json.{Object, list_body, number, or_null, text}
+use Rattle.exam_office.specs.declared.own.OwnAppeal.{OwnAppeal}
+use Rattle.exam_request.specs.Json.{Object, flag, list_body, number, or_null, text}
 use Rattle.exam_office.specs.Own.{OwnRows, OwnSessionRow}
 use Rattle.exam_request.specs.declared.own_bodies.MissedPaper.{MissedPaper}
 use Rattle.exam_office.specs.Words.{kind_word, state_word, subject_text}
@@ -70,17 +70,18 @@ decision_reason (status.Refused answer) = Some answer
 decision_reason status.Retracted = None
 decision_reason (status.Superseded answer) = Some answer
 
--- an appeal under its reference
-unfoldable pub appeal_object : Code × Appeal → Object
+-- an appeal under its reference, and whether it bears the mark of a standing grant
+unfoldable pub appeal_object : OwnAppeal → Object
 appeal_object own =
-    (codes "answer", or_null text (decision_reason own.1.status))
-    ∷ (codes "kind", text (kind_word own.1.subject))
-    ∷ (codes "lodged", text (day_text own.1.lodged))
-    ∷ (codes "reason", text own.1.reason)
-    ∷ (codes "ref", text own.0)
-    ∷ (codes "session", text own.1.session)
-    ∷ (codes "state", text (state_word (state_of own.1.status)))
-    ∷ (codes "subject", text (subject_text own.1.subject))
+    (codes "answer", or_null text (decision_reason own.appeal.status))
+    ∷ (codes "kind", text (kind_word own.appeal.subject))
+    ∷ (codes "lodged", text (day_text own.appeal.lodged))
+    ∷ (codes "reason", text own.appeal.reason)
+    ∷ (codes "ref", text own.reference)
+    ∷ (codes "session", text own.appeal.session)
+    ∷ (codes "standing", flag own.standing)
+    ∷ (codes "state", text (state_word (state_of own.appeal.status)))
+    ∷ (codes "subject", text (subject_text own.appeal.subject))
     ∷ []
 
 -- all of the candidate's appeals, by reference

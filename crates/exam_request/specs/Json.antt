@@ -1,11 +1,12 @@
--- Objects of texts, numbers and nulls as compact JSON.
-use Rattle.std.specs.Prelude.{ℕ, List, [], ◌∷◌, ◌++◌, Option, Some, None, codes, decimal}
+-- Objects of texts, numbers, flags and nulls as compact JSON.
+use Rattle.std.specs.Prelude.{ℕ, Bool, true, false, List, [], ◌∷◌, ◌++◌, Option, Some, None, codes, decimal}
 use Rattle.json.specs.Print.{quoted}
 
 -- what stands at a member
 pub data Datum : Type 0 where
   null : Datum
   number : ℕ → Datum
+  flag : Bool → Datum
   text : List ℕ → Datum
 
 -- the members, each a name and what stands there
@@ -16,6 +17,8 @@ Object = List (List ℕ × Datum)
 abbrev pub text_of : Datum → List ℕ
 text_of null = codes "null"
 text_of (number n) = decimal n
+text_of (flag true) = codes "true"
+text_of (flag false) = codes "false"
 text_of (text t) = quoted t
 
 -- a value, or null

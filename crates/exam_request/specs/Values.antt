@@ -1,12 +1,13 @@
 -- Objects as the values of `serde_json` that they are written from.
 use Rattle.std.specs.Prelude.{[], ◌∷◌}
 use Rattle.serde_json.specs.Data as values
-use Rattle.exam_request.specs.Json.{Datum, Object, null, number, text}
+use Rattle.exam_request.specs.Json.{Datum, Object, flag, null, number, text}
 
 -- what stands at a member
 abbrev pub data_of : Datum → values.Data
 data_of null = values.null
 data_of (number n) = values.number (values.unsigned n)
+data_of (flag b) = values.boolean b
 data_of (text t) = values.string t
 
 -- the members

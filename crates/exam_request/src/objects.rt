@@ -1,4 +1,4 @@
-//! JSON objects (RFC 8259) of texts, numbers and nulls, and the body that a list of them is.
+//! JSON objects (RFC 8259) of texts, numbers, flags and nulls, and the body that a list of them is.
 ghost use Rattle.std.specs.Prelude.{◌≡◌, IfOk, IfErr, OnOk, map, option_map};
 ghost use Rattle.std.specs.Str.{IsAscii};
 ghost use Rattle.exam_types.specs.declared.refusal.Refusal.TheVariants.{NoMemory};
@@ -55,6 +55,15 @@ pub fn put_number(
     ensures memory { IfErr result (λ e. e ≡ NoMemory) }
 {
     Ok(serde_json::put(object, alloc, name, Value::from(number))?)
+}
+
+/// Sets a member to `true` or `false`.
+pub fn put_flag(object: &mut Object, alloc: Global, name: &str, flag: bool) -> Result<(), Refusal>
+    ensures ok { OnOk result (members_view object.new.entries
+        ≡ put name.now (data_of (json.flag flag)) (members_view object.old.entries)) }
+    ensures memory { IfErr result (λ e. e ≡ NoMemory) }
+{
+    Ok(serde_json::put(object, alloc, name, Value::Bool(flag))?)
 }
 
 /// Sets a member to a number, or to null where there is none.

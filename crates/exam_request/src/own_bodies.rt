@@ -11,11 +11,11 @@ ghost use Rattle.exam_request.specs.Values.{object_data};
 ghost use Rattle.serde_json.specs.View.{view};
 
 use crate::objects::{
-    ascii_text, list_body, put_number, put_number_or_null, put_text, put_text_or_null,
+    ascii_text, list_body, put_flag, put_number, put_number_or_null, put_text, put_text_or_null,
 };
-use exam_office::{Own, OwnSession, kind_word, status_word, write_subject};
-use exam_rules::{Appeal, Status, Subject};
-use exam_types::{HallCode, PaperCode, Reference, Refusal, SessionCode};
+use exam_office::{Own, OwnAppeal, OwnSession, kind_word, status_word, write_subject};
+use exam_rules::{Status, Subject};
+use exam_types::{HallCode, PaperCode, Refusal, SessionCode};
 use serde_json::{Map, Value};
 use std::alloc::Global;
 
@@ -206,7 +206,7 @@ pub fn appeals_body(alloc: Global, own: &Own) -> Result<Vec<u8>, Refusal>
     list_body(alloc, "appeals", appeals)
 }
 
-fn appeal_values(alloc: Global, rows: &[(Reference, Appeal)]) -> Result<Vec<Value>, Refusal>
+fn appeal_values(alloc: Global, rows: &[OwnAppeal]) -> Result<Vec<Value>, Refusal>
     ensures ok { IfOk result (λ values. map view values.items
         ≡ map object_data (map spec.appeal_object rows.now)) }
     ensures memory { IfErr result (λ e. e ≡ NoMemory) }
@@ -218,15 +218,15 @@ fn appeal_values(alloc: Global, rows: &[(Reference, Appeal)]) -> Result<Vec<Valu
     Ok(values)
 }
 
-fn appeal_value(alloc: Global, row: &(Reference, Appeal)) -> Result<Value, Refusal>
+fn appeal_value(alloc: Global, row: &OwnAppeal) -> Result<Value, Refusal>
     ensures ok { IfOk result (λ value. view value ≡ object_data (spec.appeal_object row.now)) }
     ensures memory { IfErr result (λ e. e ≡ NoMemory) }
 {
     let mut lodged = Vec::new(alloc);
-    row.1.lodged.write_to(&mut lodged)?;
+    row.appeal.lodged.write_to(&mut lodged)?;
     let mut subject = Vec::new(alloc);
-    write_subject(&row.1.subject, &mut subject)?;
-    show_ascii(&row.1.subject);
+    write_subject(&row.appeal.subject, &mut subject)?;
+    show_ascii(&row.appeal.subject);
     appeal_value_of(alloc, row, &lodged, &subject)
 }
 
@@ -250,17 +250,17 @@ fn show_ascii(subject: &Subject)
 #[tactic(auto, unfolding(crate::specs::Bodies::appeal_object))]
 fn appeal_value_of(
     alloc: Global,
-    row: &(Reference, Appeal),
+    row: &OwnAppeal,
     lodged: &[u8],
     subject: &[u8],
 ) -> Result<Value, Refusal>
-    requires lodged { lodged.now ≡ day_text row.now.1.lodged }
-    requires subject { subject.now ≡ subject_text row.now.1.subject }
+    requires lodged { lodged.now ≡ day_text row.now.appeal.lodged }
+    requires subject { subject.now ≡ subject_text row.now.appeal.subject }
     requires ascii { IsAscii subject.now }
     ensures ok { IfOk result (λ value. view value ≡ object_data (spec.appeal_object row.now)) }
     ensures memory { IfErr result (λ e. e ≡ NoMemory) }
 {
-    let (reference, appeal) = row;
+    let appeal = &row.appeal;
     let mut shown = Map::new(alloc);
     put_text_or_null(&mut shown, alloc, "answer", decision_reason(&appeal.status))?;
     put_text(
@@ -271,13 +271,19 @@ fn appeal_value_of(
     )?;
     put_text(&mut shown, alloc, "lodged", ascii_text(lodged))?;
     put_text(&mut shown, alloc, "reason", appeal.reason.as_str())?;
-    put_text(&mut shown, alloc, "ref", ascii_text(reference.as_bytes()))?;
+    put_text(
+        &mut shown,
+        alloc,
+        "ref",
+        ascii_text(row.reference.as_bytes()),
+    )?;
     put_text(
         &mut shown,
         alloc,
         "session",
         ascii_text(appeal.session.as_bytes()),
     )?;
+    put_flag(&mut shown, alloc, "standing", row.standing)?;
     put_text(
         &mut shown,
         alloc,

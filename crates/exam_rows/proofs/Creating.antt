@@ -1,7 +1,7 @@
 -- The tables are made one after another.
 use Rattle.std.proofs.Common.{◌≡◌, ◌==◌, ◌≤◌, IsSome, inl, inr, ℕ, List, [], Ok, Err, Result, OnOk, IfErr, IsTrue, refl, subst, sym, arith}
 use Rattle.std.specs.List.Sorted.{IsPermutation}
-use Rattle.std.proofs.lemmas.Bool.{both_ways, cases_Bool}
+use Rattle.std.proofs.lemmas.Bool.{both_ways, cases_Bool, eqb-true}
 use Rattle.std.proofs.lemmas.List.Sorted.{IsPermutation-refl}
 use Rattle.sqlite_value.specs.Order.{Row}
 use Rattle.sqlite_trees.specs.Tree.{Trees, with_tree}
@@ -25,7 +25,7 @@ use Rattle.exam_tables.proofs.Changes.{contains_same}
 use Rattle.exam_tables.proofs.Making as making
 use Rattle.exam_rows.specs.Faults.{refusal_of, is_store_refusal}
 use Rattle.exam_rows.specs.Inside.{Ran}
-use Rattle.exam_rows.specs.Versions.{HasNoRows, IsBlank, Leads, FailsToMake, FailsToCreate}
+use Rattle.exam_rows.specs.Versions.{HasFirst, HasNoRows, IsBlank, Leads, FailsToMake, FailsToCreate}
 use Rattle.exam_rows.proofs.Steps.{down_later, fails_for}
 
 -- a disk that is clean was so before
@@ -44,7 +44,7 @@ leads_by before after old new sql params (Ok u) does fails failed ran kept survi
 leads_by before after old new sql params (Err e) does fails failed ran kept survives told = record { made = λ clean going. tt; failed = λ clean going was. let it = failed clean going in fails_for (IsSome old.step_limit) old new e it.0 it.1 (fails was it.0 it.2); kept = kept; survives = survives; told = told }
 
 -- what stood against the second of two steps stood against both
-made_later : (old mid new : State) (e : Refusal) → Survives old mid (λ _. ⊥) → HasCleanDisk mid → mid.faults ≤ new.faults → FailsToMake mid new e → FailsToMake old new e
+pub made_later : (old mid new : State) (e : Refusal) → Survives old mid (λ _. ⊥) → HasCleanDisk mid → mid.faults ≤ new.faults → FailsToMake mid new e → FailsToMake old new e
 made_later old mid new e s clean up (inl lacks) = inl lacks
 made_later old mid new e s clean up (inr (told, inl down)) = inr (told, inl (down_later old mid new s clean up down))
 made_later old mid new e s clean up (inr (told, inr limited)) = inr (told, inr (subst IsSome s.limit limited))
@@ -84,7 +84,7 @@ still_empty schema db t was = contains_same schema db _ _ was (all_of _ (λ s. s
     nothing u = elim (cases_Bool (u == t)) [ inl is ↦ rw is refl | inr other ↦ rw other refl ]
 
 -- what nothing stands against, a limit of steps does not stand against
-limited : (old new : State) (error : Error) → Fails old new ⊥ error → Fails old new (IsSome old.step_limit) error
+pub limited : (old new : State) (error : Error) → Fails old new ⊥ error → Fails old new (IsSome old.step_limit) error
 limited old new error (inl lacks) = inl lacks
 limited old new error (inr (named, inl down)) = inr (named, inl down)
 limited old new error (inr (named, inr none)) = absurd none
@@ -98,13 +98,20 @@ pub table_leads : (before after : Schema) (t : ℕ) (text : List ℕ)
 table_leads before after t text does fails old new result failed ran kept survives told =
     leads_by (HasNoRows before) (HasNoRows after) old new text [] result (λ count run was. still_empty after new.now t (does old new (Ok count) run (λ tree. []) was)) (λ was error run. limited old new error (fails old new was.schema_is error run)) failed ran kept survives told
 
--- nothing is the schema with no tables, and the last schema is the product's
+-- where no mark is meant, none is there
+pub no_marks : (db : Database) (all : Trees) → all 17 ≡ [] → ContainsIn store_schema db (with_tree all 17 []) → ContainsIn store_schema db all
+no_marks db all none was = contains_same store_schema db _ _ was (all_of _ (λ s. subst (λ rows. IsPermutation (with_tree all 17 [] s.tree) rows) (same s.tree) (IsPermutation-refl _)) store_schema.tables)
+  where
+    same : (u : ℕ) → with_tree all 17 [] u ≡ all u
+    same u = elim (cases_Bool (u == 17)) [ inl is ↦ rw is (subst (λ n. [] ≡ all n) (sym (eqb-true u 17 is)) (sym none)) | inr other ↦ rw other refl ]
+
+-- nothing is the schema with no tables, and the ten tables are those of version 1
 pub blank_is_empty : (db : Database) → IsBlank db → HasNoRows schema_0 db
 unfolding schema_0
 blank_is_empty db is = record { schema_is = is; rows = tt }
 
-pub whole_is_empty : (db : Database) → HasNoRows schema_10 db → HasNoRows store_schema db
-whole_is_empty db was = subst (λ s. HasNoRows s db) making.last_is was
+pub first_is_empty : (db : Database) → HasNoRows schema_10 db → HasFirst (λ tree. []) db
+first_is_empty db was = (subst (λ s. HasNoRows s db) making.first_is was, refl)
 
 -- the same of states
 pub leads_from : (before after earlier later : Database → Type 0) (old new : State) (result : Result (Unit {0}) Refusal) → (earlier old.now → before old.now) → (after new.now → later new.now) → Leads before after old new result → Leads earlier later old new result

@@ -6,7 +6,7 @@ use Rattle.sqlite_trees.specs.Tree.{Trees, with_tree}
 use Rattle.exam_tables.specs.Changes.{put_all, delete_all}
 use Rattle.exam_rows.specs.declared.differences.Difference.{Difference}
 use Rattle.exam_rows.specs.declared.writing.Changes.{Changes}
-use Rattle.exam_rows.specs.Writes.{Form, sessions, papers, halls, candidates, openings, entries, arrangements, appeals, seats}
+use Rattle.exam_rows.specs.Writes.{Form, sessions, papers, halls, candidates, openings, entries, arrangements, appeals, standing, seats}
 use Rattle.exam_rows.proofs.SavedTrees.{with_put, with_deleted, all_put, all_saved}
 use Rattle.exam_rows.proofs.SavedRows.{meant, with_rows_is, without_rows_is}
 
@@ -43,11 +43,11 @@ delete_edit form d = record { each = λ all u. without_rows_is form.tree form.pl
 abbrev pub saved : {K V : Type 0} → Form K V → Difference K V → Trees → Trees
 saved form d all = with_deleted form d (with_put form d all)
 
-pub whole : (c : Changes) (all : Trees) (u : ℕ) → all_saved c all u ≡ only_at 1 (delete_all sessions.places (keys_deleted sessions c.sessions)) u (only_at 3 (delete_all papers.places (keys_deleted papers c.papers)) u (only_at 5 (delete_all halls.places (keys_deleted halls c.halls)) u (only_at 8 (delete_all openings.places (keys_deleted openings c.openings)) u (only_at 7 (delete_all candidates.places (keys_deleted candidates c.candidates)) u (only_at 10 (delete_all entries.places (keys_deleted entries c.entries)) u (only_at 12 (delete_all arrangements.places (keys_deleted arrangements c.arrangements)) u (only_at 13 (delete_all appeals.places (keys_deleted appeals c.appeals)) u (only_at 15 (delete_all seats.places (keys_deleted seats c.seats)) u (only_at 15 (put_all seats.places (rows_put seats c.seats)) u (only_at 13 (put_all appeals.places (rows_put appeals c.appeals)) u (only_at 12 (put_all arrangements.places (rows_put arrangements c.arrangements)) u (only_at 10 (put_all entries.places (rows_put entries c.entries)) u (only_at 7 (put_all candidates.places (rows_put candidates c.candidates)) u (only_at 8 (put_all openings.places (rows_put openings c.openings)) u (only_at 5 (put_all halls.places (rows_put halls c.halls)) u (only_at 3 (put_all papers.places (rows_put papers c.papers)) u (only_at 1 (put_all sessions.places (rows_put sessions c.sessions)) u (all u))))))))))))))))))
-whole c = (in_turn (in_turn (in_turn (in_turn (in_turn (in_turn (in_turn (in_turn (in_turn (in_turn (in_turn (in_turn (in_turn (in_turn (in_turn (in_turn (in_turn (put_edit sessions c.sessions) (put_edit papers c.papers)) (put_edit halls c.halls)) (put_edit openings c.openings)) (put_edit candidates c.candidates)) (put_edit entries c.entries)) (put_edit arrangements c.arrangements)) (put_edit appeals c.appeals)) (put_edit seats c.seats)) (delete_edit seats c.seats)) (delete_edit appeals c.appeals)) (delete_edit arrangements c.arrangements)) (delete_edit entries c.entries)) (delete_edit candidates c.candidates)) (delete_edit openings c.openings)) (delete_edit halls c.halls)) (delete_edit papers c.papers)) (delete_edit sessions c.sessions)).each
+pub whole : (c : Changes) (all : Trees) (u : ℕ) → all_saved c all u ≡ only_at 1 (delete_all sessions.places (keys_deleted sessions c.sessions)) u (only_at 3 (delete_all papers.places (keys_deleted papers c.papers)) u (only_at 5 (delete_all halls.places (keys_deleted halls c.halls)) u (only_at 8 (delete_all openings.places (keys_deleted openings c.openings)) u (only_at 7 (delete_all candidates.places (keys_deleted candidates c.candidates)) u (only_at 10 (delete_all entries.places (keys_deleted entries c.entries)) u (only_at 12 (delete_all arrangements.places (keys_deleted arrangements c.arrangements)) u (only_at 13 (delete_all appeals.places (keys_deleted appeals c.appeals)) u (only_at 17 (delete_all standing.places (keys_deleted standing c.standing)) u (only_at 15 (delete_all seats.places (keys_deleted seats c.seats)) u (only_at 15 (put_all seats.places (rows_put seats c.seats)) u (only_at 17 (put_all standing.places (rows_put standing c.standing)) u (only_at 13 (put_all appeals.places (rows_put appeals c.appeals)) u (only_at 12 (put_all arrangements.places (rows_put arrangements c.arrangements)) u (only_at 10 (put_all entries.places (rows_put entries c.entries)) u (only_at 7 (put_all candidates.places (rows_put candidates c.candidates)) u (only_at 8 (put_all openings.places (rows_put openings c.openings)) u (only_at 5 (put_all halls.places (rows_put halls c.halls)) u (only_at 3 (put_all papers.places (rows_put papers c.papers)) u (only_at 1 (put_all sessions.places (rows_put sessions c.sessions)) u (all u))))))))))))))))))))
+whole c = (in_turn (in_turn (in_turn (in_turn (in_turn (in_turn (in_turn (in_turn (in_turn (in_turn (in_turn (in_turn (in_turn (in_turn (in_turn (in_turn (in_turn (in_turn (in_turn (put_edit sessions c.sessions) (put_edit papers c.papers)) (put_edit halls c.halls)) (put_edit openings c.openings)) (put_edit candidates c.candidates)) (put_edit entries c.entries)) (put_edit arrangements c.arrangements)) (put_edit appeals c.appeals)) (put_edit standing c.standing)) (put_edit seats c.seats)) (delete_edit seats c.seats)) (delete_edit standing c.standing)) (delete_edit appeals c.appeals)) (delete_edit arrangements c.arrangements)) (delete_edit entries c.entries)) (delete_edit candidates c.candidates)) (delete_edit openings c.openings)) (delete_edit halls c.halls)) (delete_edit papers c.papers)) (delete_edit sessions c.sessions)).each
 
-pub put_whole : (c : Changes) (all : Trees) (u : ℕ) → all_put c all u ≡ only_at 15 (put_all seats.places (rows_put seats c.seats)) u (only_at 13 (put_all appeals.places (rows_put appeals c.appeals)) u (only_at 12 (put_all arrangements.places (rows_put arrangements c.arrangements)) u (only_at 10 (put_all entries.places (rows_put entries c.entries)) u (only_at 7 (put_all candidates.places (rows_put candidates c.candidates)) u (only_at 8 (put_all openings.places (rows_put openings c.openings)) u (only_at 5 (put_all halls.places (rows_put halls c.halls)) u (only_at 3 (put_all papers.places (rows_put papers c.papers)) u (only_at 1 (put_all sessions.places (rows_put sessions c.sessions)) u (all u)))))))))
-put_whole c = (in_turn (in_turn (in_turn (in_turn (in_turn (in_turn (in_turn (in_turn (put_edit sessions c.sessions) (put_edit papers c.papers)) (put_edit halls c.halls)) (put_edit openings c.openings)) (put_edit candidates c.candidates)) (put_edit entries c.entries)) (put_edit arrangements c.arrangements)) (put_edit appeals c.appeals)) (put_edit seats c.seats)).each
+pub put_whole : (c : Changes) (all : Trees) (u : ℕ) → all_put c all u ≡ only_at 15 (put_all seats.places (rows_put seats c.seats)) u (only_at 17 (put_all standing.places (rows_put standing c.standing)) u (only_at 13 (put_all appeals.places (rows_put appeals c.appeals)) u (only_at 12 (put_all arrangements.places (rows_put arrangements c.arrangements)) u (only_at 10 (put_all entries.places (rows_put entries c.entries)) u (only_at 7 (put_all candidates.places (rows_put candidates c.candidates)) u (only_at 8 (put_all openings.places (rows_put openings c.openings)) u (only_at 5 (put_all halls.places (rows_put halls c.halls)) u (only_at 3 (put_all papers.places (rows_put papers c.papers)) u (only_at 1 (put_all sessions.places (rows_put sessions c.sessions)) u (all u))))))))))
+put_whole c = (in_turn (in_turn (in_turn (in_turn (in_turn (in_turn (in_turn (in_turn (in_turn (put_edit sessions c.sessions) (put_edit papers c.papers)) (put_edit halls c.halls)) (put_edit openings c.openings)) (put_edit candidates c.candidates)) (put_edit entries c.entries)) (put_edit arrangements c.arrangements)) (put_edit appeals c.appeals)) (put_edit standing c.standing)) (put_edit seats c.seats)).each
 
 pub sessions_after : (c : Changes) (all : Trees) → all_saved c all 1 ≡ saved sessions c.sessions all 1
 sessions_after c all = whole c all 1 ∙ sym ((in_turn (put_edit sessions c.sessions) (delete_edit sessions c.sessions)).each all 1)
@@ -72,6 +72,9 @@ arrangements_after c all = whole c all 12 ∙ sym ((in_turn (put_edit arrangemen
 
 pub appeals_after : (c : Changes) (all : Trees) → all_saved c all 13 ≡ saved appeals c.appeals all 13
 appeals_after c all = whole c all 13 ∙ sym ((in_turn (put_edit appeals c.appeals) (delete_edit appeals c.appeals)).each all 13)
+
+pub standing_after : (c : Changes) (all : Trees) → all_saved c all 17 ≡ saved standing c.standing all 17
+standing_after c all = whole c all 17 ∙ sym ((in_turn (put_edit standing c.standing) (delete_edit standing c.standing)).each all 17)
 
 pub seats_after : (c : Changes) (all : Trees) → all_saved c all 15 ≡ saved seats c.seats all 15
 seats_after c all = whole c all 15 ∙ sym ((in_turn (put_edit seats c.seats) (delete_edit seats c.seats)).each all 15)

@@ -141,7 +141,7 @@ appeal_same x y h =
 pairs_exact : {A B : Type 0} {P : A → A → Ordering} {Q : B → B → Ordering} → CmpEqualImpliesEq P → CmpEqualImpliesEq Q → CmpEqualImpliesEq (pair_cmp P Q)
 pairs_exact {P} {Q} first second = exact_pairs P Q first second
 
--- the nine tables
+-- the ten tables
 pub sessions_exact : AreExact code_cmp session_eq.ghosts.eq
 sessions_exact = record { keys = exact_bytes; values = session_same }
 
@@ -165,6 +165,9 @@ arrangements_exact = record { keys = exact_unsigned; values = arrangement_same }
 
 pub appeals_exact : AreExact appeal_cmp appeal_eq.ghosts.eq
 appeals_exact = record { keys = pairs_exact exact_unsigned exact_bytes; values = appeal_same }
+
+pub standing_exact : AreExact appeal_cmp (λ (x y : Unit {0}). true)
+standing_exact = record { keys = pairs_exact exact_unsigned exact_bytes; values = λ x y h. refl }
 
 pub seats_exact : AreExact seat_cmp (pointwise nat_eq)
 seats_exact = record { keys = pairs_exact exact_bytes exact_unsigned; values = text }

@@ -14,4 +14,5 @@ held_facts all r holds = record {
   entries = holds.entries.same;
   arrangements = holds.arrangements.same;
   appeals = holds.appeals.same;
+  standing = holds.standing.same;
 }

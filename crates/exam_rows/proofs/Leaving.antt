@@ -1,6 +1,8 @@
 -- What calls that only read leave.
-use Rattle.std.proofs.Common.{◌≡◌, ◌⊎◌, ℕ, List, [], inl, inr, Result, Ok, Err, IfOk, IfErr, OnOk, IsTrue, refl, sym, ap, subst, ◌∙◌}
+use Rattle.std.proofs.Common.{◌≡◌, ◌⊎◌, Bool, ℕ, List, [], inl, inr, Result, Ok, Err, IfOk, IfErr, OnOk, IsTrue, refl, sym, ap, subst, ◌∙◌}
 use Rattle.sqlite_value.specs.Order.{Row}
+use Rattle.sqlite_trees.specs.Tree.{Trees}
+use Rattle.sqlite.specs.Effect.{Database}
 use Rattle.sqlite.specs.declared.error.Error.{Error}
 use Rattle.sqlite.specs.declared.error.Error.TheVariants.{SqliteFailure}
 use Rattle.sqlite.specs.declared.error.ErrorCode.TheVariants.{OutOfMemory}
@@ -10,10 +12,10 @@ use Rattle.sqlite.proofs.StateLemmas.{survives_then, survives_weaker}
 use Rattle.exam_types.specs.declared.refusal.Refusal.{Refusal}
 use Rattle.exam_types.specs.declared.refusal.Refusal.TheVariants.{NoMemory, Store, BadStore}
 use Rattle.exam_tables.specs.Refusals.{is_failure}
-use Rattle.exam_tables.specs.Tables.{store_schema}
+use Rattle.exam_tables.specs.Made.{ContainsMade, made_schema}
 use Rattle.exam_tables.proofs.Quiet.{IsQuery, shown_unchanged, failed_unchanged, commits_nothing}
 use Rattle.exam_rows.specs.Faults.{refusal_of}
-use Rattle.exam_rows.specs.Loaded.{FailsToLoad, IsLeft, IsStill, IsUnderstood, OnlyReads}
+use Rattle.exam_rows.specs.Loaded.{FailsToLoad, FailsToLoadFrom, IsLeft, IsStill, IsUnderstood, OnlyReads}
 use Rattle.exam_rows.proofs.Steps.{failure}
 
 -- a query leaves the database as it is, or fails
@@ -31,6 +33,11 @@ left_then old mid new first (inr back) = inr (record {
   unmarked = back.unmarked;
   counts = record { changes = back.counts.changes ∙ first.1.changes; last_rowid = back.counts.last_rowid ∙ first.1.last_rowid };
 })
+
+-- a call that reads, after one that has left all as it was
+pub then_reads : {A E : Type 0} (old mid new : State) (result : Result A E) → IsUnchanged old mid → OnlyReads mid new result → OnlyReads old new result
+then_reads old mid new (Ok value) first next = unchanged_then old mid new first next
+then_reads old mid new (Err e) first next = left_then old mid new first next
 
 -- what is made of what was read
 pub reads_only : {A E : Type 0} (old new : State) (result : Result A E) → IsUnchanged old new → OnlyReads old new result
@@ -59,11 +66,16 @@ pub not_bad_store : (e : Refusal) (error : Error) → e ≡ refusal_of error →
 not_bad_store e error told (inl lacks) bad = let same : NoMemory ≡ BadStore = sym (told ∙ ap refusal_of lacks) ∙ bad in absurd cc
 not_bad_store e error told (inr named) bad = let same : Store ≡ BadStore = sym (told ∙ failure error named) ∙ bad in absurd cc
 
--- the query of a text that is understood where the ten tables are there
-pub fails_to_load : {V : Type 0} (text : List ℕ) → ((old new : State) → old.now.schema ≡ store_schema → (error : Error) → FailsToQuery text [] old new error → (error ≡ SqliteFailure OutOfMemory) ⊎ IsTrue (is_failure error)) → (old new : State) (result : Result V Refusal)
+-- the query of a text that is understood where the tables have these rows
+pub fails_to_load_from : {V : Type 0} (Holds : Database → Trees → Type 0) (text : List ℕ) → ((old new : State) (all : Trees) → Holds old.now all → (error : Error) → FailsToQuery text [] old new error → (error ≡ SqliteFailure OutOfMemory) ⊎ IsTrue (is_failure error)) → (old new : State) (result : Result V Refusal)
+    → IfErr result (λ e. (error : Error) × (e ≡ refusal_of error) × FailsToQuery text [] old new error) → IfErr result (FailsToLoadFrom Holds text old new)
+fails_to_load_from Holds text known old new (Ok value) failed = tt
+fails_to_load_from Holds text known old new (Err e) failed = (failed, λ there. not_bad_store e failed.0 failed.1 (known old new there.0 there.1 failed.0 failed.2))
+
+-- the same where the tables are there
+pub fails_to_load : {V : Type 0} (text : List ℕ) → ((old new : State) (has_marks : Bool) → old.now.schema ≡ made_schema has_marks → (error : Error) → FailsToQuery text [] old new error → (error ≡ SqliteFailure OutOfMemory) ⊎ IsTrue (is_failure error)) → (old new : State) (result : Result V Refusal)
     → IfErr result (λ e. (error : Error) × (e ≡ refusal_of error) × FailsToQuery text [] old new error) → IfErr result (FailsToLoad text old new)
-fails_to_load text known old new (Ok value) failed = tt
-fails_to_load text known old new (Err e) failed = (failed, λ ours. not_bad_store e failed.0 failed.1 (known old new ours.1.schema_is failed.0 failed.2))
+fails_to_load text known = fails_to_load_from ContainsMade text (λ old new all was. known old new was.has_marks was.contains.schema_is)
 
 -- a text whose rows were shown is understood
 pub shown_understood : (text : List ℕ) (old new : State) (rows : List Row) → Shown text [] old new rows → IsUnderstood old.now text

@@ -8,6 +8,7 @@ pub mod Holding
 pub mod Inserting
 pub mod Leaving
 pub mod LoadTexts
+pub mod Marked
 pub mod Narrowing
 pub mod OneByOne
 pub mod OneTable

@@ -1,7 +1,7 @@
--- Each load of a table is one of the ten.
+-- Each load of a table is one of the eleven.
 use Rattle.std.proofs.Common.{refl, lit<}
 use Rattle.std.specs.List.{Contains}
-use Rattle.exam_tables.specs.Texts.{load_texts, load_office, load_session, load_paper, load_hall, load_candidate, load_opening, load_entry, load_arrangement, load_appeal, load_seat}
+use Rattle.exam_tables.specs.Texts.{load_texts, load_office, load_session, load_paper, load_hall, load_candidate, load_opening, load_entry, load_arrangement, load_appeal, load_standing, load_seat}
 
 pub office_loads : Contains load_texts load_office
 office_loads = (0, lit< tt, refl)
@@ -32,3 +32,6 @@ appeal_loads = (8, lit< tt, refl)
 
 pub seat_loads : Contains load_texts load_seat
 seat_loads = (9, lit< tt, refl)
+
+pub standing_loads : Contains load_texts load_standing
+standing_loads = (10, lit< tt, refl)

@@ -13,12 +13,13 @@ use Rattle.exam_tables.proofs.OfOpening as opening
 use Rattle.exam_tables.proofs.OfPaper as paper
 use Rattle.exam_tables.proofs.OfSeat as seat
 use Rattle.exam_tables.proofs.OfSession as session
+use Rattle.exam_tables.proofs.OfStanding as standing_table
 use Rattle.exam_tables.proofs.References.{Stand}
 use Rattle.exam_types.specs.Days.{day_text}
 use Rattle.exam_types.specs.Features.{features_sum}
 use Rattle.exam_rows.specs.declared.writing.Changes.{Changes}
 use Rattle.exam_rows.specs.Inside.{Contains, Write, put_of, delete_of}
-use Rattle.exam_rows.specs.Writes.{sessions, papers, halls, candidates, openings, entries, arrangements, appeals, seats, with_put, with_deleted, all_put, all_deleted, all_saved}
+use Rattle.exam_rows.specs.Writes.{sessions, papers, halls, candidates, openings, entries, arrangements, appeals, standing, seats, with_put, with_deleted, all_put, all_deleted, all_saved}
 use Rattle.exam_rows.specs.Stored.{kind_of, target_of, needs_of, extra_of, state_of, answer_of}
 
 -- where after the write each row has what it refers to, no foreign key refuses it
@@ -57,6 +58,9 @@ arrangements_put_narrow c = every (λ r. put_of arrangements.put arrangements.tr
 appeals_put_narrow : (c : Changes) → AllByRecursion Narrows (with_put appeals c.appeals)
 appeals_put_narrow c = every (λ r. put_of appeals.put appeals.tree appeals.places (appeals.row r.0.now r.1.now)) (λ y limit at all. appeal.put_refused limit at all (pos y.0.now.0) y.0.now.1 y.1.now.session (pos (kind_of y.1.now.subject)) (target_of y.1.now.subject) (pos (needs_of y.1.now.subject)) (pos (extra_of y.1.now.subject)) y.1.now.reason (pos (state_of y.1.now.status)) (answer_of y.1.now.status) (day_text y.1.now.lodged)) c.appeals.put.items
 
+standing_put_narrow : (c : Changes) → AllByRecursion Narrows (with_put standing c.standing)
+standing_put_narrow c = every (λ r. put_of standing.put standing.tree standing.places (standing.row r.0.now r.1.now)) (λ y limit at all. standing_table.put_refused limit at all (pos y.0.now.0) y.0.now.1) c.standing.put.items
+
 seats_put_narrow : (c : Changes) → AllByRecursion Narrows (with_put seats c.seats)
 seats_put_narrow c = every (λ r. put_of seats.put seats.tree seats.places (seats.row r.0.now r.1.now)) (λ y limit at all. seat.put_refused limit at all y.0.now.0 (pos y.0.now.1) y.1.now) c.seats.put.items
 
@@ -84,10 +88,13 @@ arrangements_delete_narrow c = every (λ k. delete_of arrangements.delete arrang
 appeals_delete_narrow : (c : Changes) → AllByRecursion Narrows (with_deleted appeals c.appeals)
 appeals_delete_narrow c = every (λ k. delete_of appeals.delete appeals.tree appeals.places (appeals.key k.now)) (λ y limit at all. appeal.delete_refused limit at all (pos y.now.0) y.now.1) c.appeals.delete.items
 
+standing_delete_narrow : (c : Changes) → AllByRecursion Narrows (with_deleted standing c.standing)
+standing_delete_narrow c = every (λ k. delete_of standing.delete standing.tree standing.places (standing.key k.now)) (λ y limit at all. standing_table.delete_refused limit at all (pos y.now.0) y.now.1) c.standing.delete.items
+
 seats_delete_narrow : (c : Changes) → AllByRecursion Narrows (with_deleted seats c.seats)
 seats_delete_narrow c = every (λ k. delete_of seats.delete seats.tree seats.places (seats.key k.now)) (λ y limit at all. seat.delete_refused limit at all y.now.0 (pos y.now.1)) c.seats.delete.items
 
 pub all_narrow : (c : Changes) → AllByRecursion Narrows (all_saved c)
 all_narrow c = together (all_put c) (all_deleted c)
-    (together _ _ (together _ _ (sessions_put_narrow c) (papers_put_narrow c)) (together _ _ (together _ _ (halls_put_narrow c) (openings_put_narrow c)) (together _ _ (together _ _ (candidates_put_narrow c) (together _ _ (entries_put_narrow c) (arrangements_put_narrow c))) (together _ _ (appeals_put_narrow c) (seats_put_narrow c)))))
-    (together _ _ (together _ _ (seats_delete_narrow c) (appeals_delete_narrow c)) (together _ _ (together _ _ (arrangements_delete_narrow c) (together _ _ (entries_delete_narrow c) (candidates_delete_narrow c))) (together _ _ (together _ _ (openings_delete_narrow c) (halls_delete_narrow c)) (together _ _ (papers_delete_narrow c) (sessions_delete_narrow c)))))
+    (together _ _ (together _ _ (sessions_put_narrow c) (papers_put_narrow c)) (together _ _ (together _ _ (halls_put_narrow c) (openings_put_narrow c)) (together _ _ (together _ _ (candidates_put_narrow c) (together _ _ (entries_put_narrow c) (arrangements_put_narrow c))) (together _ _ (appeals_put_narrow c) (together _ _ (standing_put_narrow c) (seats_put_narrow c))))))
+    (together _ _ (together _ _ (seats_delete_narrow c) (together _ _ (standing_delete_narrow c) (appeals_delete_narrow c))) (together _ _ (together _ _ (arrangements_delete_narrow c) (together _ _ (entries_delete_narrow c) (candidates_delete_narrow c))) (together _ _ (together _ _ (openings_delete_narrow c) (halls_delete_narrow c)) (together _ _ (papers_delete_narrow c) (sessions_delete_narrow c)))))

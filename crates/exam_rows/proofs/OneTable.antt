@@ -33,7 +33,7 @@ use Rattle.exam_rules.specs.declared.rows.Status.{Status}
 use Rattle.exam_rules.specs.declared.rows.Status.TheVariants as status
 use Rattle.exam_rows.specs.Held.{HoldsRelations, HoldsSeats}
 use Rattle.exam_rows.specs.Loaded.{HoldsTable}
-use Rattle.exam_rows.specs.Rows.{session_row, paper_row, hall_row, candidate_row, opening_row, entry_row, arrangement_row, appeal_row, seat_row, IsSession, IsPaper, IsHall, IsCandidate, IsOpening, IsEntry, IsArrangement, IsAppeal, IsSeat}
+use Rattle.exam_rows.specs.Rows.{session_row, paper_row, hall_row, candidate_row, opening_row, entry_row, arrangement_row, appeal_row, standing_row, seat_row, IsSession, IsPaper, IsHall, IsCandidate, IsOpening, IsEntry, IsArrangement, IsAppeal, IsStanding, IsSeat}
 use Rattle.exam_rows.specs.Stored.{kind_of, target_of, needs_of, extra_of, state_of, answer_of, text_or_null}
 
 -- ---- tables with the same rows
@@ -158,7 +158,7 @@ same_answer (Some a) None is = absurd cc
 same_status : (s t : Status) → state_of s ≡ state_of t → text_or_null (answer_of s) ≡ text_or_null (answer_of t) → s ≡ t
 same_status s t state answer = sym (status_is s) ∙ (λ i. status_from (state i) (same_answer (answer_of s) (answer_of t) answer i)) ∙ status_is t
 
--- ---- the rows of the nine tables
+-- ---- the rows of the ten tables
 
 session_one : (a b : Code × Session) → IsSession a.0 a.1 → IsSession b.0 b.1 → session_row a.0 a.1 ≡ session_row b.0 b.1 → a ≡ b
 session_one a b form_a form_b is =
@@ -240,6 +240,12 @@ appeal_one a b form_a form_b is =
     let lodged : a.1.lodged ≡ b.1.lodged = same_day _ _ form_a.6 form_b.6 text in
     λ i. ((number i, reference i), record { session = session i; subject = asked i; reason = reason i; status = stands i; lodged = lodged i })
 
+standing_one : (a b : (ℕ × Code) × Unit {0}) → IsStanding a.0 a.1 → IsStanding b.0 b.1 → standing_row a.0 a.1 ≡ standing_row b.0 b.1 → a ≡ b
+standing_one a b form_a form_b is =
+    let number : a.0.0 ≡ b.0.0 = cc in
+    let reference : a.0.1 ≡ b.0.1 = cc in
+    λ i. ((number i, reference i), tt)
+
 seat_one : (a b : (Code × ℕ) × Code) → IsSeat a.0 a.1 → IsSeat b.0 b.1 → seat_row a.0 a.1 ≡ seat_row b.0 b.1 → a ≡ b
 seat_one a b form_a form_b is =
     let session : a.0.0 ≡ b.0.0 = cc in
@@ -267,7 +273,8 @@ one_facts all r s x y =
     let entries = one_table (pairs_mirrored numbers_mirrored codes_mirrored) entry_one (all 10) _ _ x.entries y.entries in
     let arrangements = one_table numbers_mirrored arrangement_one (all 12) _ _ x.arrangements y.arrangements in
     let appeals = one_table (pairs_mirrored numbers_mirrored codes_mirrored) appeal_one (all 13) _ _ x.appeals y.appeals in
-    λ i. record { sessions = sessions i; papers = papers i; halls = halls i; openings = openings i; candidates = candidates i; entries = entries i; arrangements = arrangements i; appeals = appeals i }
+    let standing = one_table (pairs_mirrored numbers_mirrored codes_mirrored) standing_one (all 17) _ _ x.standing y.standing in
+    λ i. record { sessions = sessions i; papers = papers i; halls = halls i; openings = openings i; candidates = candidates i; entries = entries i; arrangements = arrangements i; appeals = appeals i; standing = standing i }
 
 pub one_seats : (all : Trees) (p q : List ((Code × ℕ) × Code)) → HoldsSeats all p → HoldsSeats all q → p ≡ q
 one_seats all p q = one_table (pairs_mirrored codes_mirrored numbers_mirrored) seat_one (all 15) p q

@@ -16,8 +16,8 @@ use Rattle.sqlite.specs.Effect.{Database}
 use Rattle.sqlite.specs.State.{State, IsUnchanged}
 use Rattle.exam_types.specs.declared.refusal.Refusal.{Refusal}
 use Rattle.exam_tables.specs.Content.{same_key}
+use Rattle.exam_tables.specs.Made.{ContainsMade}
 use Rattle.exam_rules.specs.Orders.{KeysRise}
-use Rattle.exam_rows.specs.Inside.{Contains}
 use Rattle.exam_rows.specs.Loaded.{AreRowsOf, HoldsTable, IsLoadRefusal, KeysMatch}
 use Rattle.exam_rows.proofs.Inserting.{shown_entries}
 
@@ -114,8 +114,8 @@ part_failed e fails none (inr (inl told)) = inr (inl (fails told))
 part_failed e fails none (inr (inr bad)) = inr (inr (bad.0, none bad.1))
 
 -- a database that a call leaves as it is holds what it held
-pub still_there : (old new : State) (all : Trees) {A : Type 0} → Contains old.now all → A × IsUnchanged old new → Contains new.now all
-still_there old new all was it = subst (λ (db : Database). Contains db all) (sym it.1.0.now_is) was
+pub still_there : (old new : State) (all : Trees) {A : Type 0} → ContainsMade old.now all → A × IsUnchanged old new → ContainsMade new.now all
+still_there old new all was it = subst (λ (db : Database). ContainsMade db all) (sym it.1.0.now_is) was
 
 pub always_ok : {T E P : Type 0} (r : Result T E) → P → OnOk r P
 always_ok (Ok x) p = p

@@ -27,7 +27,7 @@ use Rattle.exam_rows.specs.Held.{HoldsRows}
 use Rattle.exam_rows.specs.Loaded.{KeysMatch}
 use Rattle.exam_rows.specs.Inside.{with_row, without_row}
 use Rattle.exam_rows.proofs.SavedTrees.{with_rows, without_rows}
-use Rattle.exam_rows.specs.Rows.{session_row, paper_row, hall_row, candidate_row, opening_row, entry_row, arrangement_row, appeal_row, seat_row}
+use Rattle.exam_rows.specs.Rows.{session_row, paper_row, hall_row, candidate_row, opening_row, entry_row, arrangement_row, appeal_row, standing_row, seat_row}
 use Rattle.exam_rows.specs.Stored.{whole}
 use Rattle.exam_rows.proofs.Differing.{absent_key}
 
@@ -115,7 +115,7 @@ module _ {K X : Type 0} {cmp : K → K → Ordering} {key : List ℕ} {row : K �
       ∙ ap₂ (delete_all key) (map-map (λ r. Null ∷ r) (λ (k : Bor K). key_of k.now) deletes ∙ sym (map-map (λ k. Null ∷ key_of k) (λ (k : Bor K). k.now) deletes)) put_is in
       subst (HoldsRows row new) (sym is) saved
 
--- ---- the keys of the nine tables
+-- ---- the keys of the ten tables
 
 text_key : (a b : Code) → equal (first_key plain).collation (Text a) (Text b) ≡ is_eq (code_cmp a b)
 text_key a b = one_answer _ _ (λ h. let e = text_same (Text a) b h in cc, λ (e : a ≡ b). subst (λ t. equal (first_key plain).collation (Text a) (Text t) ≡ true) e (text_itself a)) (same_codes a b)
@@ -170,6 +170,12 @@ entries_match = record {
 
 pub appeals_match : KeysMatch appeal_cmp (1 ∷ 2 ∷ []) appeal_row (λ k. whole k.0 ∷ Text k.1 ∷ [])
 appeals_match = record {
+  rows = λ a b. two_parts _ _ _ _ (whole_key a.0.0 b.0.0) (text_key a.0.1 b.0.1);
+  keys = λ a k. two_parts _ _ _ _ (whole_key a.0.0 k.0) (text_key a.0.1 k.1);
+}
+
+pub standing_match : KeysMatch appeal_cmp (1 ∷ 2 ∷ []) standing_row (λ k. whole k.0 ∷ Text k.1 ∷ [])
+standing_match = record {
   rows = λ a b. two_parts _ _ _ _ (whole_key a.0.0 b.0.0) (text_key a.0.1 b.0.1);
   keys = λ a k. two_parts _ _ _ _ (whole_key a.0.0 k.0) (text_key a.0.1 k.1);
 }

@@ -7,7 +7,7 @@ use Rattle.exam_rows.specs.declared.writing.Changes.{Changes}
 use Rattle.exam_rows.specs.Inside.{Write, put_of, delete_of, written, with_row, without_row}
 use Rattle.exam_rows.proofs.Steps.{written_append}
 use Rattle.exam_rows.specs.Writes as writes
-use Rattle.exam_rows.specs.Writes.{Form, sessions, papers, halls, candidates, openings, entries, arrangements, appeals, seats}
+use Rattle.exam_rows.specs.Writes.{Form, sessions, papers, halls, candidates, openings, entries, arrangements, appeals, standing, seats}
 
 -- rows are put, and deleted, in turn
 abbrev pub with_rows : ℕ → List ℕ → List Row → Trees → Trees
@@ -38,14 +38,14 @@ candidates_put c all =
     with_put arrangements c.arrangements (with_put entries c.entries (with_put candidates c.candidates all))
 
 abbrev pub plans_put : Changes → Trees → Trees
-plans_put c all = with_put seats c.seats (with_put appeals c.appeals all)
+plans_put c all = with_put seats c.seats (with_put standing c.standing (with_put appeals c.appeals all))
 
 abbrev pub all_put : Changes → Trees → Trees
 all_put c all = plans_put c (candidates_put c (halls_put c (timetable_put c all)))
 
 -- then all deletes, children first
 abbrev pub plans_deleted : Changes → Trees → Trees
-plans_deleted c all = with_deleted appeals c.appeals (with_deleted seats c.seats all)
+plans_deleted c all = with_deleted appeals c.appeals (with_deleted standing c.standing (with_deleted seats c.seats all))
 
 abbrev pub candidates_deleted : Changes → Trees → Trees
 candidates_deleted c all =
@@ -89,7 +89,7 @@ pub saved_are : (c : Changes) (all : Trees) → written (writes.all_saved c) all
 saved_are c = (after puts deletes).each
   where
     puts : AreAs (writes.all_put c) (all_put c)
-    puts = after (after (put sessions c.sessions) (put papers c.papers)) (after (after (put halls c.halls) (put openings c.openings)) (after (after (put candidates c.candidates) (after (put entries c.entries) (put arrangements c.arrangements))) (after (put appeals c.appeals) (put seats c.seats))))
+    puts = after (after (put sessions c.sessions) (put papers c.papers)) (after (after (put halls c.halls) (put openings c.openings)) (after (after (put candidates c.candidates) (after (put entries c.entries) (put arrangements c.arrangements))) (after (put appeals c.appeals) (after (put standing c.standing) (put seats c.seats)))))
 
     deletes : AreAs (writes.all_deleted c) (all_deleted c)
-    deletes = after (after (deleted seats c.seats) (deleted appeals c.appeals)) (after (after (deleted arrangements c.arrangements) (after (deleted entries c.entries) (deleted candidates c.candidates))) (after (after (deleted openings c.openings) (deleted halls c.halls)) (after (deleted papers c.papers) (deleted sessions c.sessions))))
+    deletes = after (after (deleted seats c.seats) (after (deleted standing c.standing) (deleted appeals c.appeals))) (after (after (deleted arrangements c.arrangements) (after (deleted entries c.entries) (deleted candidates c.candidates))) (after (after (deleted openings c.openings) (deleted halls c.halls)) (after (deleted papers c.papers) (deleted sessions c.sessions))))

@@ -1,5 +1,5 @@
 -- The one row of the version, as a query shows it.
-use Rattle.std.proofs.Common.{◌≡◌, zero, suc, List, [], ◌∷◌, map, refl, ap, subst, arith, lit<}
+use Rattle.std.proofs.Common.{◌≡◌, ℕ, zero, suc, List, [], ◌∷◌, map, refl, ap, subst, arith, lit<}
 use Rattle.std.specs.List.{All}
 use Rattle.std.specs.List.Sorted.{IsPermutation}
 use Rattle.std.proofs.lemmas.List.Sorted.{All-permutation, IsPermutation-sym, length_permutation}
@@ -18,14 +18,14 @@ one_from {X} x (y ∷ []) same = ap (λ z. z ∷ []) (All-permutation (λ z. z �
 one_from x (y ∷ z ∷ ys) same = absurd (omega (arith, length_permutation (x ∷ []) (y ∷ z ∷ ys) same))
 
 -- the table holds that row alone where a query shows it alone
-pub version_held : (meant rows : List Row) → IsPermutation meant (map (λ row. Null ∷ row) rows) → rows ≡ version_row ∷ [] → meant ≡ (Null ∷ version_row) ∷ []
-version_held meant rows same is = one_from (Null ∷ version_row) meant (IsPermutation-sym _ _ (subst (λ l. IsPermutation meant (map (λ row. Null ∷ row) l)) is same))
+pub version_held : (v : ℕ) (meant rows : List Row) → IsPermutation meant (map (λ row. Null ∷ row) rows) → rows ≡ version_row v ∷ [] → meant ≡ (Null ∷ version_row v) ∷ []
+version_held v meant rows same is = one_from (Null ∷ version_row v) meant (IsPermutation-sym _ _ (subst (λ l. IsPermutation meant (map (λ row. Null ∷ row) l)) is same))
 
 -- and a query shows it alone where the table holds it alone
-pub version_shown : (meant rows : List Row) → IsPermutation meant (map (λ row. Null ∷ row) rows) → meant ≡ (Null ∷ version_row) ∷ [] → rows ≡ version_row ∷ []
-version_shown meant rows same is = only rows (one_from (Null ∷ version_row) _ (subst (λ l. IsPermutation l (map (λ row. Null ∷ row) rows)) is same))
+pub version_shown : (v : ℕ) (meant rows : List Row) → IsPermutation meant (map (λ row. Null ∷ row) rows) → meant ≡ (Null ∷ version_row v) ∷ [] → rows ≡ version_row v ∷ []
+version_shown v meant rows same is = only rows (one_from (Null ∷ version_row v) _ (subst (λ l. IsPermutation l (map (λ row. Null ∷ row) rows)) is same))
   where
-    only : (rows : List Row) → map (λ row. Null ∷ row) rows ≡ (Null ∷ version_row) ∷ [] → rows ≡ version_row ∷ []
+    only : (rows : List Row) → map (λ row. Null ∷ row) rows ≡ (Null ∷ version_row v) ∷ [] → rows ≡ version_row v ∷ []
     only [] e = absurd cc
     only (row ∷ []) e = cc
     only (row ∷ next ∷ more) e = absurd cc

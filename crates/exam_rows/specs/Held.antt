@@ -6,7 +6,7 @@ use Rattle.sqlite_value.specs.Order.{Row}
 use Rattle.sqlite_trees.specs.Tree.{Trees}
 use Rattle.exam_rules.specs.Relations.{Code, Relations, code_cmp, opening_cmp, entry_cmp, appeal_cmp, seat_cmp}
 use Rattle.exam_rows.specs.Loaded.{HoldsTable}
-use Rattle.exam_rows.specs.Rows.{session_row, paper_row, hall_row, candidate_row, opening_row, entry_row, arrangement_row, appeal_row, seat_row, IsSession, IsPaper, IsHall, IsCandidate, IsOpening, IsEntry, IsArrangement, IsAppeal, IsSeat}
+use Rattle.exam_rows.specs.Rows.{session_row, paper_row, hall_row, candidate_row, opening_row, entry_row, arrangement_row, appeal_row, standing_row, seat_row, IsSession, IsPaper, IsHall, IsCandidate, IsOpening, IsEntry, IsArrangement, IsAppeal, IsStanding, IsSeat}
 
 -- the rows that are meant, in any order, are those of the entries
 abbrev pub HoldsRows : {K X : Type 0} → (K → X → Row) → List (K × X) → List Row → Type 0
@@ -22,6 +22,7 @@ pub record HoldsFacts (all : Trees) (r : Relations) : Type 0 where
   pub entries : HoldsRows entry_row r.entries (all 10)
   pub arrangements : HoldsRows arrangement_row r.arrangements (all 12)
   pub appeals : HoldsRows appeal_row r.appeals (all 13)
+  pub standing : HoldsRows standing_row r.standing (all 17)
 
 -- each table has the rows of its relation, whose keys rise and whose values have its forms
 pub record HoldsRelations (all : Trees) (r : Relations) : Type 0 where
@@ -33,6 +34,7 @@ pub record HoldsRelations (all : Trees) (r : Relations) : Type 0 where
   pub entries : HoldsTable entry_cmp IsEntry entry_row r.entries (all 10)
   pub arrangements : HoldsTable nat_cmp IsArrangement arrangement_row r.arrangements (all 12)
   pub appeals : HoldsTable appeal_cmp IsAppeal appeal_row r.appeals (all 13)
+  pub standing : HoldsTable appeal_cmp IsStanding standing_row r.standing (all 17)
 
 abbrev pub HoldsSeats : Trees → List ((Code × ℕ) × Code) → Type 0
 HoldsSeats all seats = HoldsTable seat_cmp IsSeat seat_row seats (all 15)

@@ -12,11 +12,11 @@ use Rattle.exam_tables.specs.Tables.{store_schema}
 use Rattle.exam_tables.specs.Content.{ContainsIn, put, delete}
 use Rattle.exam_rows.specs.Faults.{is_store_refusal}
 
--- the ten tables have these rows
+-- the eleven tables have these rows
 abbrev pub Contains : Database → Trees → Type 0
 Contains = ContainsIn store_schema
 
--- the ten tables are there, with whatever rows
+-- the eleven tables are there, with whatever rows
 abbrev pub IsOurs : Database → Type 0
 IsOurs db = (all : Trees) × Contains db all
 

@@ -3,6 +3,7 @@ use Rattle.std.specs.Prelude.{◌≡◌, ◌≢◌, ◌⊎◌, ℕ, Result, Ok, 
 use Rattle.std.specs.declared.cmp.Ordering.{Ordering}
 use Rattle.std.specs.List.{AllByRecursion, Contains}
 use Rattle.std.specs.Ordering.{is_eq}
+use Rattle.sqlite_trees.specs.Tree.{Trees}
 use Rattle.sqlite_trees.specs.declared.store.Store.{Ghosts}
 use Rattle.sqlite.specs.Held.{Held, state}
 use Rattle.sqlite.specs.State.{State, FailsToQuery, IsUnchanged, IsRolledBack}
@@ -15,10 +16,10 @@ use Rattle.sqlite_value.specs.Order.{Row}
 use Rattle.exam_types.specs.declared.refusal.Refusal.{Refusal}
 use Rattle.exam_types.specs.declared.refusal.Refusal.TheVariants.{NoMemory, BadStore}
 use Rattle.exam_tables.specs.Content.{same_key}
+use Rattle.exam_tables.specs.Made.{ContainsMade}
 use Rattle.exam_tables.specs.Texts.{load_texts}
 use Rattle.exam_rules.specs.Orders.{KeysRise}
 use Rattle.exam_rows.specs.Faults.{refusal_of}
-use Rattle.exam_rows.specs.Inside.{IsOurs}
 
 -- Two rows of a table have the same key in SQL exactly where their keys compare as equal.
 pub record KeysMatch {K X : Type 0} (cmp : K → K → Ordering) (key : List ℕ) (row : K → X → Row)
@@ -49,9 +50,17 @@ AreUnderstood db = AllByRecursion (IsUnderstood db)
 abbrev pub Told : List ℕ → State → State → Refusal → Type 0
 Told text old new e = (error : Error) × (e ≡ refusal_of error) × FailsToQuery text [] old new error
 
--- the same, and where the ten tables are there it is not told as a bad store
+-- the tables of some version are there, with whatever rows
+abbrev pub IsMadeHere : Database → Type 0
+IsMadeHere db = (all : Trees) × ContainsMade db all
+
+-- the same, and where the tables have any rows it is not told as a bad store
+abbrev pub FailsToLoadFrom : (Database → Trees → Type 0) → List ℕ → State → State → Refusal → Type 0
+FailsToLoadFrom Holds text old new e = Told text old new e × ((all : Trees) × Holds old.now all → e ≢ BadStore)
+
+-- the same of the tables of some version
 abbrev pub FailsToLoad : List ℕ → State → State → Refusal → Type 0
-FailsToLoad text old new e = Told text old new e × (IsOurs old.now → e ≢ BadStore)
+FailsToLoad = FailsToLoadFrom ContainsMade
 
 -- the database is as it was, or a call that failed has undone a transaction, back to the last commit
 abbrev pub IsLeft : State → State → Type 0
@@ -69,7 +78,7 @@ pub record IsStill (old new : State) : Type 0 where
   pub in_transaction : new.in_transaction ≡ old.in_transaction
   pub is_open : new.is_open ≡ old.is_open
 
--- while the database was still as it was, the query that loads one of the ten tables failed
+-- while the database was still as it was, the query that loads one of the tables failed
 abbrev pub FailsThen : {S : Type 0} → Ghosts S → Held S → Held S → Refusal → Type 0
 FailsThen {S} g old new e =
     (mid : Held S) × IsStill (state g old) (state g mid)

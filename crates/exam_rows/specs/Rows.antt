@@ -72,6 +72,13 @@ IsAppeal key a =
     IsNumber key.0 × IsTrue (is_reference key.1) × IsTrue (is_session_code a.session)
     × IsSubject a.subject × IsTrue (is_reason a.reason) × IsStatus a.status × IsDay a.lodged
 
+-- the mark of an appeal
+abbrev pub standing_row : ℕ × Code → Unit {0} → Row
+standing_row key mark = whole key.0 ∷ Text key.1 ∷ []
+
+abbrev pub IsStanding : ℕ × Code → Unit {0} → Type 0
+IsStanding key mark = IsNumber key.0 × IsTrue (is_reference key.1)
+
 abbrev pub seat_row : Code × ℕ → Code → Row
 seat_row key hall = Text key.0 ∷ whole key.1 ∷ Text hall ∷ []
 

@@ -1,34 +1,41 @@
 -- The version of the schema, and a database that was just made.
-use Rattle.std.specs.Prelude.{◌≡◌, ◌⊎◌, IsSome, ℕ, ◌==◌, [], ◌∷◌, IsTrue, Result, OnOk, IfErr, if◌then◌else◌}
+use Rattle.std.specs.Prelude.{◌≡◌, ◌⊎◌, IsSome, Bool, false, not, ℕ, ◌==◌, [], ◌∷◌, IsTrue, Result, OnOk, IfErr, if◌then◌else◌}
 use Rattle.sqlite_value.specs.declared.value.Value.TheVariants.{Null}
 use Rattle.sqlite_value.specs.Order.{Row}
-use Rattle.sqlite_trees.specs.Tree.{Trees}
+use Rattle.sqlite_trees.specs.Tree.{Trees, with_tree}
+use Rattle.sqlite_schema.specs.declared.schema.Constraint.{Constraint}
 use Rattle.sqlite_schema.specs.declared.schema.Schema.{Schema}
+use Rattle.sqlite_schema.specs.Rules.{Keeps}
 use Rattle.sqlite.specs.Effect.{Database}
 use Rattle.sqlite.specs.State.{State, HasCleanDisk, KeepsCommit, Survives}
 use Rattle.exam_types.specs.declared.refusal.Refusal.{Refusal}
 use Rattle.exam_types.specs.declared.refusal.Refusal.TheVariants.{Store}
-use Rattle.exam_tables.specs.Content.{ContainsIn}
-use Rattle.exam_tables.specs.Tables.{no_schema}
+use Rattle.exam_tables.specs.Content.{ContainsIn, put}
+use Rattle.exam_tables.specs.Made.{made_schema}
+use Rattle.exam_tables.specs.Tables.{no_schema, first_schema, store_schema}
 use Rattle.exam_rows.specs.Faults.{is_store_refusal}
 use Rattle.exam_rows.specs.Inside.{Contains, FailsFor}
 use Rattle.exam_rows.specs.Stored.{whole}
 
--- the version of this schema
+-- the newest version of the schema
 abbrev pub version : ℕ
-version = 1
+version = 2
+
+-- the versions that there have been
+abbrev pub IsVersion : ℕ → Type 0
+IsVersion v = (v ≡ 1) ⊎ (v ≡ version)
 
 -- the row of the table `office`, as a query shows it
-abbrev pub version_row : Row
-version_row = whole 1 ∷ whole version ∷ []
+abbrev pub version_row : ℕ → Row
+version_row v = whole 1 ∷ whole v ∷ []
 
--- the table `office` has this row and no other
-abbrev pub HasVersion : Trees → Type 0
-HasVersion all = all 0 ≡ (Null ∷ version_row) ∷ []
+-- the table `office` has the row of this version and no other
+abbrev pub HasVersion : ℕ → Trees → Type 0
+HasVersion v all = all 0 ≡ (Null ∷ version_row v) ∷ []
 
--- that row, and no other in any table
+-- that of the newest version, and no other in any table
 abbrev pub new_tables : Trees
-new_tables tree = if tree == 0 then (Null ∷ version_row) ∷ [] else []
+new_tables tree = if tree == 0 then (Null ∷ version_row version) ∷ [] else []
 
 -- no table, no index and no view
 abbrev pub IsBlank : Database → Type 0
@@ -38,7 +45,7 @@ IsBlank db = db.schema ≡ no_schema
 abbrev pub HasNoRows : Schema → Database → Type 0
 HasNoRows schema db = ContainsIn schema db (λ tree. [])
 
--- the ten tables, with no row but the version
+-- the tables with no row but the version
 abbrev pub IsMade : Database → Type 0
 IsMade db = Contains db new_tables
 
@@ -63,3 +70,35 @@ pub record Leads (before after : Database → Type 0) (old new : State)
   pub kept : HasCleanDisk new → KeepsCommit old new
   pub survives : Survives old new (λ _. ⊥)
   pub told : IfErr result (λ e. IsTrue (is_store_refusal e))
+
+-- the table of marks is there since version 2
+abbrev pub marks_since : ℕ → Bool
+marks_since v = not (v == 1)
+
+-- The tables of this version have these rows. In version 1 no mark is meant.
+abbrev pub ContainsOf : ℕ → Database → Trees → Type 0
+ContainsOf v db all = ContainsIn (made_schema (marks_since v)) db all × (marks_since v ≡ false → all 17 ≡ [])
+
+-- ---- from version 1 to this one
+
+-- the tables of version 1 have these rows, and there is no mark
+abbrev pub HasFirst : Trees → Database → Type 0
+HasFirst all db = ContainsIn first_schema db all × (all 17 ≡ [])
+
+abbrev pub IsFirst : Database → Type 0
+IsFirst db = (all : Trees) × HasFirst all db
+
+-- the tables of this version have these rows, which obey each rule of the schema
+abbrev pub HasRuled : Trees → Database → Type 0
+HasRuled all db = Contains db all × ((rule : Constraint) → Keeps rule store_schema db.trees)
+
+-- the rows with the newest version
+abbrev pub with_version : Trees → Trees
+with_version all = with_tree all 0 (put (1 ∷ []) (Null ∷ version_row version) (all 0))
+
+abbrev pub HasNewest : Trees → Database → Type 0
+HasNewest all db = Contains db (with_version all)
+
+-- whatever rows the tables of version 1 had, those of this version have them, with its number
+abbrev pub Widens : Database → Database → Type 0
+Widens old new = (all : Trees) → HasFirst all old → HasNewest all new

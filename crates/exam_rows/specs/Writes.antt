@@ -3,9 +3,10 @@ use Rattle.std.specs.Prelude.{ℕ, List, [], ◌∷◌, ◌++◌, map}
 use Rattle.sqlite_value.specs.declared.value.Value.TheVariants.{Text}
 use Rattle.sqlite_value.specs.Order.{Row}
 use Rattle.exam_tables.specs.Texts.{put_session, put_paper, put_hall, put_candidate, put_opening}
-use Rattle.exam_tables.specs.Texts.{put_entry, put_arrangement, put_appeal, put_seat}
+use Rattle.exam_tables.specs.Texts.{put_entry, put_arrangement, put_appeal, put_standing, put_seat}
 use Rattle.exam_tables.specs.Texts.{delete_session, delete_paper, delete_hall, delete_candidate, delete_opening}
-use Rattle.exam_tables.specs.Texts.{delete_entry, delete_arrangement, delete_appeal, delete_seat}
+use Rattle.exam_tables.specs.Texts.{delete_entry, delete_arrangement, delete_appeal, delete_standing}
+use Rattle.exam_tables.specs.Texts.{delete_seat}
 use Rattle.exam_rules.specs.Relations.{Code}
 use Rattle.exam_rules.specs.declared.rows.Session.{Session}
 use Rattle.exam_rules.specs.declared.rows.Paper.{Paper}
@@ -18,7 +19,7 @@ use Rattle.exam_rules.specs.declared.rows.Appeal.{Appeal}
 use Rattle.exam_rows.specs.declared.differences.Difference.{Difference}
 use Rattle.exam_rows.specs.declared.writing.Changes.{Changes}
 use Rattle.exam_rows.specs.Stored.{whole}
-use Rattle.exam_rows.specs.Rows.{session_row, paper_row, hall_row, candidate_row, opening_row, entry_row, arrangement_row, appeal_row, seat_row}
+use Rattle.exam_rows.specs.Rows.{session_row, paper_row, hall_row, candidate_row, opening_row, entry_row, arrangement_row, appeal_row, standing_row, seat_row}
 use Rattle.exam_rows.specs.Inside.{Write, put_of, delete_of}
 
 -- how a table is written: its statements, its tree, the places of its key, the columns of a row and of a key
@@ -110,6 +111,16 @@ appeals = record {
   key = λ key. whole key.0 ∷ Text key.1 ∷ [];
 }
 
+abbrev pub standing : Form (ℕ × Code) (Unit {0})
+standing = record {
+  put = put_standing;
+  delete = delete_standing;
+  tree = 17;
+  places = 1 ∷ 2 ∷ [];
+  row = standing_row;
+  key = λ key. whole key.0 ∷ Text key.1 ∷ [];
+}
+
 abbrev pub seats : Form (Code × ℕ) Code
 seats = record {
   put = put_seat;
@@ -140,14 +151,16 @@ candidates_put c =
     with_put candidates c.candidates ++ (with_put entries c.entries ++ with_put arrangements c.arrangements)
 
 abbrev pub plans_put : Changes → List Write
-plans_put c = with_put appeals c.appeals ++ with_put seats c.seats
+plans_put c =
+    with_put appeals c.appeals ++ (with_put standing c.standing ++ with_put seats c.seats)
 
 abbrev pub all_put : Changes → List Write
 all_put c = timetable_put c ++ (halls_put c ++ (candidates_put c ++ plans_put c))
 
 -- then all deletes, children first
 abbrev pub plans_deleted : Changes → List Write
-plans_deleted c = with_deleted seats c.seats ++ with_deleted appeals c.appeals
+plans_deleted c =
+    with_deleted seats c.seats ++ (with_deleted standing c.standing ++ with_deleted appeals c.appeals)
 
 abbrev pub candidates_deleted : Changes → List Write
 candidates_deleted c =

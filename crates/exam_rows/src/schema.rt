@@ -1,16 +1,17 @@
-//! The tables of schema 1.
-ghost use Rattle.std.specs.Prelude.{◌≡◌, [], ◌∷◌, IsTrue, IfErr, OnOk};
+//! The tables of each version of the schema, and what brings one to the newest.
+ghost use Rattle.std.specs.Prelude.{◌≡◌, [], ◌∷◌, IsTrue, IfOk, IfErr, OnOk};
 ghost use Rattle.std.specs.Bool.{Decides};
 ghost use Rattle.sqlite.specs.Held.{state};
 ghost use Rattle.sqlite.specs.State.{HasCleanDisk, IsUnchanged, Survives};
 ghost use Rattle.sqlite_value.specs.Order.{column};
 ghost use Rattle.exam_tables.specs.Grows.{schema_0, schema_5, schema_10};
-ghost use Rattle.exam_tables.specs.Tables.{store_schema};
+ghost use Rattle.exam_tables.specs.Made.{ContainsMade, lists_marks};
 ghost use Rattle.exam_tables.specs.Texts.{load_office};
-ghost use Rattle.exam_rows.specs.Inside.{Contains};
+ghost use Rattle.exam_types.specs.declared.refusal.Refusal.TheVariants.{BadStore};
 ghost use Rattle.exam_rows.specs.Faults.{is_store_refusal};
 ghost use Rattle.exam_rows.specs.Stored.{whole};
-ghost use Rattle.exam_rows.specs.Versions.{HasVersion, HasNoRows, IsBlank, IsMade, Leads, version_row};
+ghost use Rattle.exam_rows.specs.Versions.{HasFirst, HasNewest, HasNoRows, HasRuled, HasVersion, IsBlank, IsMade};
+ghost use Rattle.exam_rows.specs.Versions.{IsVersion, Leads, version_row};
 ghost use Rattle.exam_rows.specs.Loaded.{FailsToLoad, IsLoadRefusal, IsUnderstood, OnlyReads};
 
 use crate::columns::whole_at;
@@ -19,8 +20,11 @@ use exam_types::Refusal;
 use sqlite::types::ValueRef;
 use sqlite::{Alter, Connection, Row, Transaction};
 
-/// The version of the schema.
-const VERSION: u32 = 1;
+/// The newest version of the schema.
+pub const NEWEST: u8 = 2;
+
+/// The version before the table of marks.
+const FIRST: u8 = 1;
 
 /// Whether the database has no table, no index and no view.
 pub fn is_blank<S: Alter>(conn: &Connection<S>) -> bool
@@ -30,7 +34,14 @@ pub fn is_blank<S: Alter>(conn: &Connection<S>) -> bool
     schema.tables.len() == 0 && schema.indexes.len() == 0 && schema.views.len() == 0
 }
 
-/// Makes the ten tables, with no rows but the version, in a database with nothing in it.
+/// Whether the table of marks is there, as it is since version 2.
+pub fn has_marks<S: Alter>(conn: &Connection<S>) -> bool
+    ensures { result ≡ lists_marks (state S.Store conn.now).now.schema }
+{
+    conn.schema().table_named(b"standing").is_some()
+}
+
+/// Makes the tables, with no rows but the version, in a database with nothing in it.
 pub fn create_tables<S: Alter>(tx: &mut Transaction<'_, S>) -> Result<(), Refusal>
     ensures same_reference { tx.new.conn.ghost_name ≡ tx.old.conn.ghost_name }
     ensures made { Leads IsBlank IsMade
@@ -38,19 +49,42 @@ pub fn create_tables<S: Alter>(tx: &mut Transaction<'_, S>) -> Result<(), Refusa
 {
     create_parents(tx)?;
     create_children(tx)?;
+    widen_tables(tx)
+}
+
+/// Makes the tables of version 1 those of the newest version, whatever rows they have.
+pub fn widen_tables<S: Alter>(tx: &mut Transaction<'_, S>) -> Result<(), Refusal>
+    ensures same_reference { tx.new.conn.ghost_name ≡ tx.old.conn.ghost_name }
+    ensures made { (all : _) → Leads (HasFirst all) (HasNewest all)
+        (state S.Store tx.old.conn.now) (state S.Store tx.new.conn.now) result }
+{
+    create_standing(tx)?;
     put_version(tx)
 }
 
-/// Writes the one row of the table `office`.
-fn put_version<S: Alter>(tx: &mut Transaction<'_, S>) -> Result<(), Refusal>
+/// Adds the table of marks, with no row.
+fn create_standing<S: Alter>(tx: &mut Transaction<'_, S>) -> Result<(), Refusal>
     ensures same_reference { tx.new.conn.ghost_name ≡ tx.old.conn.ghost_name }
-    ensures made { Leads (HasNoRows store_schema) IsMade
+    ensures made { (all : _) → Leads (HasFirst all) (HasRuled all)
         (state S.Store tx.old.conn.now) (state S.Store tx.new.conn.now) result }
 {
     run(
         tx,
-        "INSERT INTO office (one, version) VALUES (1, ?1)",
-        &[ValueRef::Int(i64::from(VERSION))],
+        "CREATE TABLE standing (number INTEGER NOT NULL, ref TEXT NOT NULL, PRIMARY KEY (number, ref), FOREIGN KEY (number, ref) REFERENCES appeal (number, ref)) STRICT",
+        &[],
+    )
+}
+
+/// Sets the one row of the table `office`.
+fn put_version<S: Alter>(tx: &mut Transaction<'_, S>) -> Result<(), Refusal>
+    ensures same_reference { tx.new.conn.ghost_name ≡ tx.old.conn.ghost_name }
+    ensures made { (all : _) → Leads (HasRuled all) (HasNewest all)
+        (state S.Store tx.old.conn.now) (state S.Store tx.new.conn.now) result }
+{
+    run(
+        tx,
+        "INSERT OR REPLACE INTO office (one, version) VALUES (1, ?1)",
+        &[ValueRef::Int(i64::from(NEWEST))],
     )
 }
 
@@ -120,14 +154,16 @@ fn create_children<S: Alter>(tx: &mut Transaction<'_, S>) -> Result<(), Refusal>
     )
 }
 
-/// Refused as a bad store where the table `office` does not hold this version, and nothing else.
-pub fn check_version<S: Alter>(conn: &mut Connection<S>) -> Result<(), Refusal>
-    ensures ok { HasCleanDisk (state S.Store conn.new) → OnOk result ((all : _)
-        → Contains (state S.Store conn.old).now all
-        → HasVersion all × IsUnchanged (state S.Store conn.old) (state S.Store conn.new)) }
+/// The version of the office. Refused as a bad store where the table `office` holds none.
+pub fn version_of<S: Alter>(conn: &mut Connection<S>) -> Result<u8, Refusal>
+    ensures ok { HasCleanDisk (state S.Store conn.new) → IfOk result (λ version. (all : _)
+        → ContainsMade (state S.Store conn.old).now all
+        → HasVersion version all × IsUnchanged (state S.Store conn.old) (state S.Store conn.new)) }
+    ensures known { IfOk result IsVersion }
     ensures bad { HasCleanDisk (state S.Store conn.new) → IfErr result (IsLoadRefusal
         (FailsToLoad load_office (state S.Store conn.old) (state S.Store conn.new))
-        ((all : _) → Contains (state S.Store conn.old).now all → HasVersion all → ⊥)) }
+        ((all : _) → ContainsMade (state S.Store conn.old).now all
+        → (version : _) → IsVersion version → HasVersion version all → ⊥)) }
     ensures left { HasCleanDisk (state S.Store conn.new)
         → OnlyReads (state S.Store conn.old) (state S.Store conn.new) result }
     ensures survives { Survives (state S.Store conn.old) (state S.Store conn.new) (λ _. ⊥) }
@@ -137,28 +173,40 @@ pub fn check_version<S: Alter>(conn: &mut Connection<S>) -> Result<(), Refusal>
     ensures told { IfErr result (λ e. IsTrue (is_store_refusal e)) }
 {
     let rows = all_rows(conn, "SELECT one, version FROM office")?;
-    if are_version(rows.as_slice()) {
-        Ok(())
+    version_in(rows.as_slice())
+}
+
+/// The version of which these are the one row.
+fn version_in(rows: &[Row]) -> Result<u8, Refusal>
+    ensures ok { IfOk result (λ version. rows.now ≡ version_row version ∷ []) }
+    ensures known { IfOk result IsVersion }
+    ensures bad { IfErr result (λ e. (e ≡ BadStore)
+        × ((version : _) → IsVersion version → rows.now ≡ version_row version ∷ [] → ⊥)) }
+{
+    if are_version(rows, NEWEST) {
+        Ok(NEWEST)
+    } else if are_version(rows, FIRST) {
+        Ok(FIRST)
     } else {
         Err(Refusal::BadStore)
     }
 }
 
 /// Whether these are the one row of this version.
-fn are_version(rows: &[Row]) -> bool
-    ensures { Decides result (rows.now ≡ version_row ∷ []) }
+fn are_version(rows: &[Row], version: u8) -> bool
+    ensures { Decides result (rows.now ≡ version_row version ∷ []) }
 {
     match rows {
-        [row] => is_version(row),
+        [row] => is_version(row, version),
         _ => false,
     }
 }
 
 /// Whether the columns are 1 and this version.
-fn is_version(row: &Row) -> bool
-    ensures { Decides result (row.now ≡ version_row) }
+fn is_version(row: &Row, version: u8) -> bool
+    ensures { Decides result (row.now ≡ version_row version) }
 {
-    row.column_count() == 2 && holds_at(row, 0, 1) && holds_at(row, 1, VERSION)
+    row.column_count() == 2 && holds_at(row, 0, 1) && holds_at(row, 1, u32::from(version))
 }
 
 /// Whether this whole number stands there.

@@ -1,13 +1,15 @@
 //! A table of the office.
 ghost use Rattle.std.specs.Prelude.{◌≡◌, ◌⊎◌, ℕ, List, [], ◌∷◌, IsTrue, IfOk, IfErr, OnOk, map, IsPermutation};
+ghost use Rattle.sqlite.specs.Effect.{Database};
 ghost use Rattle.sqlite.specs.Held.{state};
 ghost use Rattle.sqlite.specs.State.{HasCleanDisk, IsUnchanged, Survives};
+ghost use Rattle.sqlite_trees.specs.Tree.{Trees};
 ghost use Rattle.sqlite_value.specs.declared.value.Value.TheVariants.{Null};
 ghost use Rattle.sqlite_value.specs.Order.{Row as Columns};
 ghost use Rattle.exam_rows.specs.Faults.{is_store_refusal};
-ghost use Rattle.exam_rows.specs.Inside.{Makes, Contains, put_of, delete_of};
+ghost use Rattle.exam_rows.specs.Inside.{Makes, put_of, delete_of};
 ghost use Rattle.exam_types.specs.declared.refusal.Refusal.TheVariants.{NoMemory, BadStore};
-ghost use Rattle.exam_rows.specs.Loaded.{AreRowsOf, FailsToLoad, HoldsTable, IsLoadRefusal, IsUnderstood, KeysMatch, OnlyReads};
+ghost use Rattle.exam_rows.specs.Loaded.{AreRowsOf, FailsToLoadFrom, HoldsTable, IsLoadRefusal, IsUnderstood, KeysMatch, OnlyReads};
 ghost use Rattle.exam_rows.specs.Reading.{MayRead, WantsMemoryOfRow};
 
 use crate::differences::Keyed;
@@ -47,6 +49,9 @@ pub trait Table {
     /// The rows that there may be.
     ghost IsRow: { Self.Key → Self.Value → Type 0 };
 
+    /// The databases from which all rows are shown, with the rows of their tables.
+    ghost Holds: { Database → Trees → Type 0 };
+
     /// Sets the row with this key.
     fn put<'a, S: Alter>(
         alloc: Global,
@@ -67,11 +72,12 @@ pub trait Table {
     /// All rows, as they are shown.
     fn shown<S: Alter>(conn: &mut Connection<S>) -> Result<Vec<Row>, Refusal>
         ensures rows { HasCleanDisk (state S.Store conn.new) → IfOk result (λ rows. (all : _)
-            → Contains (state S.Store conn.old).now all
+            → Self.Holds (state S.Store conn.old).now all
             → IsPermutation (all Self.tree) (map (λ row. Null ∷ row) rows.items)
             × IsUnchanged (state S.Store conn.old) (state S.Store conn.new)) }
         ensures failed { HasCleanDisk (state S.Store conn.new)
-            → IfErr result (FailsToLoad Self.load_text (state S.Store conn.old) (state S.Store conn.new)) }
+            → IfErr result (FailsToLoadFrom Self.Holds Self.load_text
+            (state S.Store conn.old) (state S.Store conn.new)) }
         ensures left { HasCleanDisk (state S.Store conn.new)
             → OnlyReads (state S.Store conn.old) (state S.Store conn.new) result }
         ensures survives { Survives (state S.Store conn.old) (state S.Store conn.new) (λ _. ⊥) }
@@ -123,13 +129,14 @@ pub fn load_rows<T: Table, S: Alter>(
     conn: &mut Connection<S>,
 ) -> Result<BTreeMap<T::Key, T::Value>, Refusal>
     ensures rows { HasCleanDisk (state S.Store conn.new) → IfOk result (λ table. (all : _)
-        → Contains (state S.Store conn.old).now all
+        → T.Holds (state S.Store conn.old).now all
         → HoldsTable T.Key.cmp T.IsRow T.row_of table.entries (all T.tree)
         × IsUnchanged (state S.Store conn.old) (state S.Store conn.new)) }
     ensures bad { HasCleanDisk (state S.Store conn.new)
         → KeysMatch T.Key.cmp T.key_places T.row_of T.key_of
-        → IfErr result (IsLoadRefusal (FailsToLoad T.load_text (state S.Store conn.old) (state S.Store conn.new))
-        ((all : _) → Contains (state S.Store conn.old).now all
+        → IfErr result (IsLoadRefusal (FailsToLoadFrom T.Holds T.load_text
+        (state S.Store conn.old) (state S.Store conn.new))
+        ((all : _) → T.Holds (state S.Store conn.old).now all
         → (entries : _) → HoldsTable T.Key.cmp T.IsRow T.row_of entries (all T.tree) → ⊥)) }
     ensures left { HasCleanDisk (state S.Store conn.new)
         → OnlyReads (state S.Store conn.old) (state S.Store conn.new) result }

@@ -9,3 +9,4 @@ pub mod openings;
 pub mod papers;
 pub mod seats;
 pub mod sessions;
+pub mod standing;

@@ -6,14 +6,14 @@ ghost use Rattle.sqlite.specs.Steps.{FailsToCommit};
 ghost use Rattle.exam_rows.specs.Faults.{refusal_of, is_store_refusal};
 ghost use Rattle.exam_rows.specs.Inside.{Becomes, FailsToWrite, IsOurs, Makes};
 ghost use Rattle.exam_rows.specs.Transactions.{Commits};
-ghost use Rattle.exam_rows.specs.Versions.{FailsToCreate, IsBlank, IsMade};
+ghost use Rattle.exam_rows.specs.Versions.{FailsToCreate, IsBlank, IsFirst, IsMade, Widens};
 ghost use Rattle.exam_rows.specs.Writes.{timetable_put, halls_put, candidates_put, plans_put, all_put};
 ghost use Rattle.exam_rows.specs.Writes.{timetable_deleted, halls_deleted, candidates_deleted, plans_deleted};
 ghost use Rattle.exam_rows.specs.Writes.{all_deleted, all_saved};
 
 use crate::differences::Difference;
 use crate::faults::refusal_of;
-use crate::schema::create_tables;
+use crate::schema::{create_tables, widen_tables};
 use crate::table::{delete_rows, put_rows};
 use crate::tables::appeals::Appeals;
 use crate::tables::arrangements::Arrangements;
@@ -24,6 +24,7 @@ use crate::tables::openings::Openings;
 use crate::tables::papers::Papers;
 use crate::tables::seats::Seats;
 use crate::tables::sessions::Sessions;
+use crate::tables::standing::Standing;
 use exam_rules::{Appeal, Arrangement, Candidate, Entry, Hall, Opening, Paper, Session};
 use exam_types::{HallCode, Number, PaperCode, Reference, Refusal, SessionCode};
 use sqlite::{Alter, Connection, Transaction};
@@ -40,6 +41,7 @@ pub struct Changes<'a> {
     pub entries: Difference<'a, (Number, PaperCode), Entry>,
     pub arrangements: Difference<'a, Number, Arrangement>,
     pub appeals: Difference<'a, (Number, Reference), Appeal>,
+    pub standing: Difference<'a, (Number, Reference), ()>,
     pub seats: Difference<'a, (SessionCode, Number), HallCode>,
 }
 
@@ -109,6 +111,7 @@ fn put_plans<S: Alter>(
         (plans_put changes.now) }
 {
     put_rows::<Appeals, S>(alloc, tx, changes.appeals.put.as_slice())?;
+    put_rows::<Standing, S>(alloc, tx, changes.standing.put.as_slice())?;
     put_rows::<Seats, S>(alloc, tx, changes.seats.put.as_slice())
 }
 
@@ -130,6 +133,7 @@ fn delete_plans<S: Alter>(tx: &mut Transaction<'_, S>, changes: &Changes<'_>) ->
         (plans_deleted changes.now) }
 {
     delete_rows::<Seats, S>(tx, changes.seats.delete.as_slice())?;
+    delete_rows::<Standing, S>(tx, changes.standing.delete.as_slice())?;
     delete_rows::<Appeals, S>(tx, changes.appeals.delete.as_slice())
 }
 
@@ -219,6 +223,22 @@ pub fn save_empty<S: Alter>(conn: &mut Connection<S>) -> Result<(), Refusal>
     }
     let mut tx = conn.transaction();
     create_tables(&mut tx)?;
+    commit(tx)
+}
+
+/// Makes the tables of version 1 those of the newest version, in one transaction or not at all.
+pub fn save_widened<S: Alter>(conn: &mut Connection<S>) -> Result<(), Refusal>
+    ensures made { Commits (state S.Store conn.old) (state S.Store conn.new) result Widens }
+    ensures failed { HasCleanDisk (state S.Store conn.new) → IsFirst (state S.Store conn.old).now
+        → IfErr result (FailsToCreate (state S.Store conn.old) (state S.Store conn.new)) }
+    ensures ended { conn.old.in_transaction ≡ false → conn.new.in_transaction ≡ false }
+    ensures told { IfErr result (λ e. IsTrue (is_store_refusal e)) }
+{
+    if !conn.is_autocommit() {
+        return Err(Refusal::Store);
+    }
+    let mut tx = conn.transaction();
+    widen_tables(&mut tx)?;
     commit(tx)
 }
 

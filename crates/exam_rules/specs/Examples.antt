@@ -4,17 +4,19 @@ use Rattle.exam_types.specs.declared.features.Features.{Features}
 use Rattle.exam_types.specs.Features.{no_features}
 use Rattle.exam_rules.specs.declared.rows.Paper.{Paper}
 use Rattle.exam_rules.specs.declared.rows.Appeal.{Appeal}
+use Rattle.exam_rules.specs.declared.rows.Arrangement.{Arrangement}
 use Rattle.exam_rules.specs.declared.rows.Candidate.{Candidate}
 use Rattle.exam_rules.specs.declared.rows.Entry.{Entry}
 use Rattle.exam_rules.specs.declared.rows.Hall.{Hall}
 use Rattle.exam_rules.specs.declared.rows.Opening.{Opening}
+use Rattle.exam_rules.specs.declared.rows.Session.{Session}
 use Rattle.exam_rules.specs.declared.rows.Subject.{Subject}
 use Rattle.exam_rules.specs.declared.rows.Status.TheVariants as status
 use Rattle.exam_rules.specs.declared.rows.Subject.TheVariants as subject
 use Rattle.exam_plan.specs.Matching.{desk_number}
 use Rattle.exam_plan.specs.Repair.{kept_part}
 use Rattle.exam_rules.specs.Relations.{Code, Relations}
-use Rattle.exam_rules.specs.Sessions.{members, sitting, clashes, finish}
+use Rattle.exam_rules.specs.Sessions.{members, sitting, clashes, arrangement_in_force, finish}
 use Rattle.exam_rules.specs.Seatings.{fits, seating, plan_of, stands_before, problem_of}
 use Rattle.exam_plan.specs.Problems.{Problem}
 
@@ -56,6 +58,7 @@ base = record {
   entries = [];
   arrangements = [];
   appeals = [];
+  standing = [];
 }
 
 -- 90 minutes and a quarter more: 112.5 is rounded up, from 09:00 to 10:53
@@ -231,3 +234,67 @@ first_desk = refl
 
 second_desk : desk_in_A 2 ≡ Some 2
 second_desk = refl
+
+-- ---- standing grants
+
+abbrev extra_of : ℕ → Arrangement
+extra_of extra = record { needs = no_features; extra = extra }
+
+abbrev on_day : ℕ → Session
+on_day day = record { day = day; start = 540 }
+
+-- an appeal of 1 for extra time
+abbrev asked : Code → Code → ℕ → (ℕ × Code) × Appeal
+asked reference s extra = ((1, reference), granted s (subject.Arrangement (extra_of extra)))
+
+abbrev mark : Code → (ℕ × Code) × Unit {0}
+mark reference = ((1, reference), tt)
+
+-- S1 on one day, S2 and S3 on the next, S4 on the third; 5 percent are imported
+abbrev days : List ((ℕ × Code) × Appeal) → List ((ℕ × Code) × Unit {0}) → Relations
+days appeals standing = record base {
+  sessions = (codes "S1", on_day 20970) ∷ (codes "S2", on_day 20971) ∷ (codes "S3", on_day 20971) ∷ (codes "S4", on_day 20972) ∷ [];
+  arrangements = (1, extra_of 5) ∷ [];
+  appeals = appeals;
+  standing = standing;
+}
+
+abbrev extra_in : Relations → Code → ℕ
+extra_in r s = (arrangement_in_force r s 1).extra
+
+-- one standing grant, for S2
+abbrev from_S2 : Relations
+from_S2 = days (asked (codes "AR1") (codes "S2") 25 ∷ []) (mark (codes "AR1") ∷ [])
+
+stands_later : extra_in from_S2 (codes "S4") ≡ 25
+stands_later = refl
+
+stands_that_day : extra_in from_S2 (codes "S3") ≡ 25
+stands_that_day = refl
+
+stands_not_earlier : extra_in from_S2 (codes "S1") ≡ 5
+stands_not_earlier = refl
+
+no_mark_no_standing : extra_in (days (asked (codes "AR1") (codes "S2") 25 ∷ []) []) (codes "S4") ≡ 5
+no_mark_no_standing = refl
+
+-- two standing grants
+abbrev both : (ℕ × Code) × Appeal → (ℕ × Code) × Appeal → Relations
+both first second = days (first ∷ second ∷ []) (mark (codes "AR1") ∷ mark (codes "AR2") ∷ [])
+
+latest_date : extra_in (both (asked (codes "AR1") (codes "S2") 30) (asked (codes "AR2") (codes "S1") 25)) (codes "S4") ≡ 30
+latest_date = refl
+
+greater_code : extra_in (both (asked (codes "AR1") (codes "S3") 40) (asked (codes "AR2") (codes "S2") 30)) (codes "S4") ≡ 40
+greater_code = refl
+
+-- the grant for the session itself comes before
+granted_there : extra_in (days (asked (codes "AR1") (codes "S3") 40 ∷ asked (codes "AR2") (codes "S4") 50 ∷ []) (mark (codes "AR1") ∷ [])) (codes "S4") ≡ 50
+granted_there = refl
+
+-- a superseded one has no effect
+abbrev superseded : (ℕ × Code) × Appeal → (ℕ × Code) × Appeal
+superseded a = (a.0, record a.1 { status = status.Superseded (codes "ok") })
+
+superseded_is_none : extra_in (both (superseded (asked (codes "AR1") (codes "S2") 30)) (asked (codes "AR2") (codes "S1") 25)) (codes "S4") ≡ 25
+superseded_is_none = refl

@@ -4,8 +4,8 @@
 --   keys; look-up and change of a row
 -- - Sessions: members; who has a live entry, also of numbers that are no candidate's; live papers;
 --   the sitting paper (that of a granted clash appeal where it is live and of the session, else the
---   least); clashes; granted and barred; the arrangement in force; the finish, rounded up to the
---   minute
+--   least); clashes; granted and barred; standing grants; the arrangement in force; the finish,
+--   rounded up to the minute
 -- - Granted: what is made of a candidate's granted appeals for a session: the first that asks for
 --   something wanted
 -- - Seatings: when a hall suits a member and fits; desks; the order of desks; the seating problem
@@ -16,7 +16,7 @@
 --   and its plans and chains read by it; that members and open halls rise
 -- - Orders: that the keys of every table rise
 -- - Examples: worked cases, computed by the check: 90 minutes and 25 percent from 09:00 end at
---   10:53; a withdrawn entry does not count
+--   10:53; a withdrawn entry does not count; a standing grant counts from its session's date on
 pub mod Relations
 pub mod Sessions
 pub mod Seatings

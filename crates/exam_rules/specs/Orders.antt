@@ -20,3 +20,4 @@ pub record AreInOrder (r : Relations) : Type 0 where
   pub entries : KeysRise entry_cmp r.entries
   pub arrangements : KeysRise nat_cmp r.arrangements
   pub appeals : KeysRise appeal_cmp r.appeals
+  pub standing : KeysRise appeal_cmp r.standing

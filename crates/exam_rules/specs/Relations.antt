@@ -51,6 +51,8 @@ pub record Relations : Type 0 where
   pub entries : List ((ℕ × Code) × Entry)
   pub arrangements : List (ℕ × Arrangement)
   pub appeals : List ((ℕ × Code) × Appeal)
+  -- the marks: the keys of appeals whose grant stands for later sessions
+  pub standing : List ((ℕ × Code) × Unit {0})
 
 -- what the maps of the code stand for
 abbrev pub relations_of : Facts → Relations
@@ -63,6 +65,7 @@ relations_of f = record {
   entries = f.entries.entries;
   arrangements = f.arrangements.entries;
   appeals = f.appeals.entries;
+  standing = f.standing.entries;
 }
 
 -- without any row
@@ -76,6 +79,7 @@ no_relations = record {
   entries = [];
   arrangements = [];
   appeals = [];
+  standing = [];
 }
 
 module _ {K X : Type 0} (cmp : K → K → Ordering) where

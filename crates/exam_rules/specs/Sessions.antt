@@ -1,9 +1,10 @@
 -- Who belongs to a session, which paper each sits, and under which arrangement.
 use Rattle.std.specs.Prelude.{◌≡◌, ◌⊎◌, ℕ, ◌+◌, ◌*◌, ◌/◌, ◌==◌, ◌&&◌, not, Bool, true, false, length, List}
-use Rattle.std.specs.Prelude.{[], ◌∷◌, map, filter, Option, None, Some, if◌then◌else◌}
+use Rattle.std.specs.Prelude.{[], ◌∷◌, map, filter, fold, nat_le, Option, None, Some, if◌then◌else◌}
 use Rattle.std.specs.List.{list_any, filter_map, flat_map}
 use Rattle.std.specs.Option.{option_map, option_and_then, option_map_or, option_or, unwrap_or}
-use Rattle.std.specs.Ordering.{nat_cmp}
+use Rattle.std.specs.declared.cmp.Ordering.{Ordering}
+use Rattle.std.specs.Ordering.{nat_cmp, ordering_then, is_lt}
 use Rattle.exam_types.specs.Features.{no_features}
 use Rattle.exam_types.specs.declared.refusal.Refusal.{Refusal}
 use Rattle.exam_types.specs.declared.refusal.Refusal.TheVariants.{UnknownSession, NoMemory}
@@ -16,8 +17,9 @@ use Rattle.exam_rules.specs.declared.rows.Status.{Status}
 use Rattle.exam_rules.specs.declared.rows.Status.TheVariants as status
 use Rattle.exam_rules.specs.declared.rows.Subject.{Subject}
 use Rattle.exam_rules.specs.declared.rows.Subject.TheVariants as subject
-use Rattle.exam_rules.specs.Relations.{Code, Relations, code_cmp, same_code, entry_cmp, row_at, has_row}
-use Rattle.exam_rules.specs.Relations.{is_row_of}
+use Rattle.exam_rules.specs.declared.standing.StandingGrant.{StandingGrant}
+use Rattle.exam_rules.specs.Relations.{Code, Relations, code_cmp, same_code, appeal_cmp, entry_cmp, row_at}
+use Rattle.exam_rules.specs.Relations.{has_row, is_row_of}
 
 -- the first of a list, if there is one
 abbrev pub head_of : {A : Type 0} → List A → Option A
@@ -149,10 +151,62 @@ clashes r s = flat_map (clashes_of r s) (members r s)
 abbrev pub no_arrangement : Arrangement
 no_arrangement = record { needs = no_features; extra = 0 }
 
--- the arrangement in force: the granted one, or else the imported one, or else none
+-- the date of the session, if there is one
+abbrev pub session_day : Relations → Code → Option ℕ
+session_day r s = option_map (λ (session : Session). session.day) (row_at code_cmp r.sessions s)
+
+-- the appeal bears the mark by which its grant stands for later sessions
+abbrev pub is_marked : Relations → ℕ × Code → Bool
+is_marked r key = has_row appeal_cmp r.standing key
+
+-- a granted appeal of the candidate that bears the mark; a superseded one is granted no more
+abbrev pub is_standing : Relations → ℕ → (ℕ × Code) × Appeal → Bool
+is_standing r c a = (a.0.0 == c) && (is_granted a.1.status && is_marked r a.0)
+
+abbrev pub has_standing_grant : Relations → ℕ → Bool
+has_standing_grant r c = list_any (is_standing r c) r.appeals
+
+-- the arrangement that the appeal asks, with its session and the session's date
+abbrev pub standing_grant : Relations → Appeal → Option StandingGrant
+standing_grant r a =
+    option_and_then (λ wanted.
+    option_map (λ day. record { day = day; session = a.session; arrangement = wanted }) (session_day r a.session))
+    (asked_arrangement a.subject)
+
+-- what the candidate's standing grants among these appeals give, references rising
+abbrev pub standing_grants_in : Relations → List ((ℕ × Code) × Appeal) → ℕ → List StandingGrant
+standing_grants_in r appeals c =
+    filter_map (λ (a : (ℕ × Code) × Appeal). standing_grant r a.1) (filter (is_standing r c) appeals)
+
+abbrev pub standing_grants : Relations → ℕ → List StandingGrant
+standing_grants r c = standing_grants_in r r.appeals c
+
+-- by date, and then by session code
+abbrev pub standing_cmp : StandingGrant → StandingGrant → Ordering
+standing_cmp a b = ordering_then (nat_cmp a.day b.day) (code_cmp a.session b.session)
+
+abbrev pub later_of : Option StandingGrant → StandingGrant → Option StandingGrant
+later_of None b = Some b
+later_of (Some a) b = Some (if is_lt (standing_cmp a b) then b else a)
+
+-- of those whose date is not later than the day the last
+abbrev pub last_until : ℕ → List StandingGrant → Option StandingGrant
+last_until day grants = fold later_of None (filter (λ grant. nat_le grant.day day) grants)
+
+-- what standing grants give in a session of this date
+abbrev pub standing_arrangement : Option ℕ → List StandingGrant → Option Arrangement
+standing_arrangement date grants =
+    option_and_then (λ day. option_map (λ grant. grant.arrangement) (last_until day grants)) date
+
+-- The one granted for the session, or else that of a standing grant, or else the imported one, or else none.
+abbrev pub arrangement_by : Option Arrangement → Option ℕ → List StandingGrant → Option Arrangement → Arrangement
+arrangement_by granted date grants imported =
+    unwrap_or (option_or granted (option_or (standing_arrangement date grants) imported)) no_arrangement
+
+-- the arrangement in force
 abbrev pub arrangement_in_force : Relations → Code → ℕ → Arrangement
 arrangement_in_force r s c =
-    unwrap_or (option_or (granted_arrangement r s c) (row_at nat_cmp r.arrangements c)) no_arrangement
+    arrangement_by (granted_arrangement r s c) (session_day r s) (standing_grants r c) (row_at nat_cmp r.arrangements c)
 
 -- rounded up
 abbrev pub ceiling_of_hundredths : ℕ → ℕ

@@ -66,7 +66,7 @@ pub fn has_at_most(facts: &Facts, number: Number, most: usize) -> bool
     true
 }
 
-fn is_granted(status: &Status) -> bool
+pub fn is_granted(status: &Status) -> bool
     ensures { result ≡ spec.is_granted status.now }
 {
     matches!(status, Status::Granted(_))

@@ -19,6 +19,8 @@ pub struct Facts {
     pub entries: BTreeMap<(Number, PaperCode), Entry>,
     pub arrangements: BTreeMap<Number, Arrangement>,
     pub appeals: BTreeMap<(Number, Reference), Appeal>,
+    /// The marks: the keys of appeals whose grant stands for later sessions.
+    pub standing: BTreeMap<(Number, Reference), ()>,
 }
 
 impl Facts {
@@ -35,6 +37,7 @@ impl Facts {
             entries: BTreeMap::new(alloc),
             arrangements: BTreeMap::new(alloc),
             appeals: BTreeMap::new(alloc),
+            standing: BTreeMap::new(alloc),
         }
     }
 
@@ -51,5 +54,6 @@ impl Facts {
         let _ = self.entries.len();
         let _ = self.arrangements.len();
         let _ = self.appeals.len();
+        let _ = self.standing.len();
     }
 }

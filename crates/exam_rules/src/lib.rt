@@ -10,6 +10,7 @@ mod lists;
 mod rows;
 mod seating;
 mod sessions;
+mod standing;
 
 pub use appeals::{appeals_from, has_at_most};
 pub use clashing::clashes_among;
@@ -30,3 +31,4 @@ pub use sessions::{
     arrangement_in_force, clashes, entries_from, is_clash, is_live_paper, is_member, is_paper_of,
     members, sitting,
 };
+pub use standing::is_standing;

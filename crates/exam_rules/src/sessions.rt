@@ -12,6 +12,7 @@ ghost use Rattle.exam_rules.specs.Sessions as spec;
 use crate::appeals::{granted_arrangement, granted_paper};
 use crate::facts::Facts;
 use crate::rows::{Arrangement, Entry};
+use crate::standing::standing_arrangement;
 use exam_types::{Extra, Features, Number, PaperCode, Refusal, SessionCode};
 use std::alloc::Global;
 use std::collections::btree_map::Range;
@@ -168,12 +169,16 @@ pub fn sitting_beside(
     }
 }
 
-/// The arrangement in force: the granted one, otherwise the imported one, otherwise no needs and no extra
-/// time.
+/// The arrangement in force: the one granted for the session; otherwise that of the candidate's standing
+/// grant of the latest date, and then of the greatest session code, among those whose date is not later than the
+/// session's; otherwise the imported one; otherwise no needs and no extra time.
 pub fn arrangement_in_force(facts: &Facts, session: &SessionCode, number: Number) -> Arrangement
     ensures { result ≡ spec.arrangement_in_force (relations_of facts.now) session.now number }
 {
     if let Some(arrangement) = granted_arrangement(facts, session, number) {
+        return arrangement;
+    }
+    if let Some(arrangement) = standing_arrangement(facts, session, number) {
         return arrangement;
     }
     match facts.arrangements.get(&number) {

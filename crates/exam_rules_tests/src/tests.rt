@@ -3,6 +3,7 @@
 mod relisting;
 mod scenes;
 mod setups;
+mod standing;
 
 use exam_rules::{clashes, problem, sitting};
 use exam_types::Refusal;
@@ -39,9 +40,9 @@ fn a_granted_clash_appeal_turns_the_clash(rt: HostRuntime) -> Result<(), Fail> {
     let scenes = [
         Scene::Sits(3, "MA-1"),
         Scene::Clash(3, "PH-2"),
-        Scene::Fact(Fact::Granted(3, "S2", Grant::Paper("PH-2"))),
+        Scene::Fact(Fact::Granted(3, "R1", "S2", Grant::Paper("PH-2"))),
         Scene::Sits(3, "MA-1"),
-        Scene::Fact(Fact::Granted(3, "S1", Grant::Paper("PH-2"))),
+        Scene::Fact(Fact::Granted(3, "R1", "S1", Grant::Paper("PH-2"))),
         Scene::Sits(3, "PH-2"),
         Scene::Clash(3, "MA-1"),
     ];
@@ -54,7 +55,7 @@ fn a_granted_arrangement_takes_the_place_of_the_imported_one(rt: HostRuntime) ->
         Scene::InForce(1, "-", 0),
         Scene::Fact(Fact::Arrangement(1, "screen", 25)),
         Scene::InForce(1, "screen", 25),
-        Scene::Fact(Fact::Granted(1, "S1", Grant::Needs("-", 50))),
+        Scene::Fact(Fact::Granted(1, "R1", "S1", Grant::Needs("-", 50))),
         Scene::InForce(1, "-", 50),
     ];
     play(&rt, &[Fact::Entered(1, "MA-1")], &scenes)
@@ -64,7 +65,7 @@ fn a_granted_arrangement_takes_the_place_of_the_imported_one(rt: HostRuntime) ->
 fn a_granted_hall_appeal_bars_the_hall(rt: HostRuntime) -> Result<(), Fail> {
     let scenes = [
         Scene::Fits(1, "B", true),
-        Scene::Fact(Fact::Granted(1, "S1", Grant::AnotherHallThan("B"))),
+        Scene::Fact(Fact::Granted(1, "R1", "S1", Grant::AnotherHallThan("B"))),
         Scene::Fits(1, "B", false),
         Scene::Fits(1, "A", true),
     ];
@@ -91,7 +92,8 @@ fn desks_are_in_order_of_papers(rt: HostRuntime) -> Result<(), Fail> {
 fn copies_of_facts_are_equal(rt: HostRuntime) -> Result<(), Fail> {
     let facts = [
         Fact::Entered(1, "MA-1"),
-        Fact::Granted(1, "S1", Grant::AnotherHallThan("B")),
+        Fact::Granted(1, "R1", "S1", Grant::AnotherHallThan("B")),
+        Fact::Marked(1, "R1"),
     ];
     let facts = school_with(rt.alloc(), &facts)?;
     let copy = facts.clone()?;
@@ -99,6 +101,7 @@ fn copies_of_facts_are_equal(rt: HostRuntime) -> Result<(), Fail> {
     assert!(rt; copy.halls == facts.halls);
     assert!(rt; copy.candidates == facts.candidates);
     assert!(rt; copy.appeals == facts.appeals);
+    assert!(rt; copy.standing == facts.standing);
     Ok(())
 }
 

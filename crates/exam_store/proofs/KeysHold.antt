@@ -26,8 +26,8 @@ use Rattle.exam_rows.specs.declared.writing.Changes.{Changes}
 use Rattle.exam_rows.specs.Held.{HoldsRows}
 use Rattle.exam_rows.specs.Inside.{Write, put_of, delete_of, written, RefusesOne, RefusesOneRow}
 use Rattle.exam_store.specs.Kept.{HoldsOffice, Keeps}
-use Rattle.exam_rows.specs.Rows.{session_row, paper_row, hall_row, candidate_row, opening_row, entry_row, arrangement_row, appeal_row, seat_row}
-use Rattle.exam_rows.specs.Writes.{Form, sessions, papers, halls, candidates, openings, entries, arrangements, appeals, seats, with_put, with_deleted, all_put, all_deleted, all_saved}
+use Rattle.exam_rows.specs.Rows.{session_row, paper_row, hall_row, candidate_row, opening_row, entry_row, arrangement_row, appeal_row, standing_row, seat_row}
+use Rattle.exam_rows.specs.Writes.{Form, sessions, papers, halls, candidates, openings, entries, arrangements, appeals, standing, seats, with_put, with_deleted, all_put, all_deleted, all_saved}
 use Rattle.exam_store.specs.Saves.{TurnsTable, TurnsTables}
 use Rattle.exam_rows.proofs.EachTree.{rows_put, keys_deleted, put_whole}
 use Rattle.exam_rows.proofs.EachTree as each
@@ -37,10 +37,10 @@ use Rattle.exam_store.proofs.Rekeeping.{holds_after}
 use Rattle.exam_rows.proofs.SavedTrees as saved
 
 abbrev keys : ℕ → List ℕ
-keys tree = if (tree == 8) || ((tree == 10) || ((tree == 13) || (tree == 15))) then 1 ∷ 2 ∷ [] else 1 ∷ []
+keys tree = if (tree == 8) || ((tree == 10) || ((tree == 13) || ((tree == 15) || (tree == 17)))) then 1 ∷ 2 ∷ [] else 1 ∷ []
 
 fit : AllByRecursion (λ l. keys l.parent ≡ l.key) links
-fit = (refl, (refl, (refl, (refl, (refl, (refl, (refl, (refl, (refl, (refl, tt))))))))))
+fit = (refl, (refl, (refl, (refl, (refl, (refl, (refl, (refl, (refl, (refl, (refl, tt)))))))))))
 
 abbrev change : Write → Trees → Trees
 change w = w.change
@@ -129,34 +129,40 @@ module _ (before after : State) (c : Changes) (all : Trees) (turns : TurnsTables
   w8 = after_put w7 13
 
   abbrev w9 : ℕ → Way
-  w9 = after_put w8 15
+  w9 = after_put w8 17
 
   abbrev w10 : ℕ → Way
-  w10 = after_delete w9 15
+  w10 = after_put w9 15
 
   abbrev w11 : ℕ → Way
-  w11 = after_delete w10 13
+  w11 = after_delete w10 15
 
   abbrev w12 : ℕ → Way
-  w12 = after_delete w11 12
+  w12 = after_delete w11 17
 
   abbrev w13 : ℕ → Way
-  w13 = after_delete w12 10
+  w13 = after_delete w12 13
 
   abbrev w14 : ℕ → Way
-  w14 = after_delete w13 7
+  w14 = after_delete w13 12
 
   abbrev w15 : ℕ → Way
-  w15 = after_delete w14 8
+  w15 = after_delete w14 10
 
   abbrev w16 : ℕ → Way
-  w16 = after_delete w15 5
+  w16 = after_delete w15 7
 
   abbrev w17 : ℕ → Way
-  w17 = after_delete w16 3
+  w17 = after_delete w16 8
 
   abbrev w18 : ℕ → Way
-  w18 = after_delete w17 1
+  w18 = after_delete w17 5
+
+  abbrev w19 : ℕ → Way
+  w19 = after_delete w18 3
+
+  abbrev w20 : ℕ → Way
+  w20 = after_delete w19 1
 
   -- what each table becomes
 
@@ -208,6 +214,12 @@ module _ (before after : State) (c : Changes) (all : Trees) (turns : TurnsTables
   appeals_end : end 13 ≡ delete_all appeals.places (keys_deleted appeals c.appeals) (mid 13)
   appeals_end = each.whole c all 13 ∙ ap (delete_all appeals.places (keys_deleted appeals c.appeals)) (sym appeals_mid)
 
+  standing_mid : mid 17 ≡ put_all standing.places (rows_put standing c.standing) (all 17)
+  standing_mid = put_whole c all 17
+
+  standing_end : end 17 ≡ delete_all standing.places (keys_deleted standing c.standing) (mid 17)
+  standing_end = each.whole c all 17 ∙ ap (delete_all standing.places (keys_deleted standing c.standing)) (sym standing_mid)
+
   seats_mid : mid 15 ≡ put_all seats.places (rows_put seats c.seats) (all 15)
   seats_mid = put_whole c all 15
 
@@ -238,50 +250,56 @@ module _ (before after : State) (c : Changes) (all : Trees) (turns : TurnsTables
   appeals_put : Passes w7 (with_put appeals c.appeals) w8
   appeals_put = puts appeals c.appeals w7 refl refl refl appeals_mid appeals_end (comes appeal_cmp appeal_row before.relations.appeals after.relations.appeals c.appeals (end 13) turns.appeals will.facts.appeals)
 
-  seats_put : Passes w8 (with_put seats c.seats) w9
-  seats_put = puts seats c.seats w8 refl refl refl seats_mid seats_end (comes seat_cmp seat_row before.seats after.seats c.seats (end 15) turns.seats will.seats)
+  standing_put : Passes w8 (with_put standing c.standing) w9
+  standing_put = puts standing c.standing w8 refl refl refl standing_mid standing_end (comes appeal_cmp standing_row before.relations.standing after.relations.standing c.standing (end 17) turns.standing will.facts.standing)
 
-  seats_deleted : Passes w9 (with_deleted seats c.seats) w10
-  seats_deleted = deletes seats c.seats w9 refl refl refl seats_end
+  seats_put : Passes w9 (with_put seats c.seats) w10
+  seats_put = puts seats c.seats w9 refl refl refl seats_mid seats_end (comes seat_cmp seat_row before.seats after.seats c.seats (end 15) turns.seats will.seats)
 
-  appeals_deleted : Passes w10 (with_deleted appeals c.appeals) w11
-  appeals_deleted = deletes appeals c.appeals w10 refl refl refl appeals_end
+  seats_deleted : Passes w10 (with_deleted seats c.seats) w11
+  seats_deleted = deletes seats c.seats w10 refl refl refl seats_end
 
-  arrangements_deleted : Passes w11 (with_deleted arrangements c.arrangements) w12
-  arrangements_deleted = deletes arrangements c.arrangements w11 refl refl refl arrangements_end
+  standing_deleted : Passes w11 (with_deleted standing c.standing) w12
+  standing_deleted = deletes standing c.standing w11 refl refl refl standing_end
 
-  entries_deleted : Passes w12 (with_deleted entries c.entries) w13
-  entries_deleted = deletes entries c.entries w12 refl refl refl entries_end
+  appeals_deleted : Passes w12 (with_deleted appeals c.appeals) w13
+  appeals_deleted = deletes appeals c.appeals w12 refl refl refl appeals_end
 
-  candidates_deleted : Passes w13 (with_deleted candidates c.candidates) w14
-  candidates_deleted = deletes candidates c.candidates w13 refl refl refl candidates_end
+  arrangements_deleted : Passes w13 (with_deleted arrangements c.arrangements) w14
+  arrangements_deleted = deletes arrangements c.arrangements w13 refl refl refl arrangements_end
 
-  openings_deleted : Passes w14 (with_deleted openings c.openings) w15
-  openings_deleted = deletes openings c.openings w14 refl refl refl openings_end
+  entries_deleted : Passes w14 (with_deleted entries c.entries) w15
+  entries_deleted = deletes entries c.entries w14 refl refl refl entries_end
 
-  halls_deleted : Passes w15 (with_deleted halls c.halls) w16
-  halls_deleted = deletes halls c.halls w15 refl refl refl halls_end
+  candidates_deleted : Passes w15 (with_deleted candidates c.candidates) w16
+  candidates_deleted = deletes candidates c.candidates w15 refl refl refl candidates_end
 
-  papers_deleted : Passes w16 (with_deleted papers c.papers) w17
-  papers_deleted = deletes papers c.papers w16 refl refl refl papers_end
+  openings_deleted : Passes w16 (with_deleted openings c.openings) w17
+  openings_deleted = deletes openings c.openings w16 refl refl refl openings_end
 
-  sessions_deleted : Passes w17 (with_deleted sessions c.sessions) w18
-  sessions_deleted = deletes sessions c.sessions w17 refl refl refl sessions_end
+  halls_deleted : Passes w17 (with_deleted halls c.halls) w18
+  halls_deleted = deletes halls c.halls w17 refl refl refl halls_end
+
+  papers_deleted : Passes w18 (with_deleted papers c.papers) w19
+  papers_deleted = deletes papers c.papers w18 refl refl refl papers_end
+
+  sessions_deleted : Passes w19 (with_deleted sessions c.sessions) w20
+  sessions_deleted = deletes sessions c.sessions w19 refl refl refl sessions_end
 
   abbrev both : (first next last : ℕ → Way) (xs ys : List Write) → Passes first xs next → Passes next ys last → Passes first (xs ++ ys) last
   both = goes_both change keys all mid end fit stood will_stand
 
-  all_puts : Passes w0 (all_put c) w9
-  all_puts = both w0 w2 w9 _ _ (both w0 w1 w2 _ _ sessions_put papers_put) (both w2 w4 w9 _ _ (both w2 w3 w4 _ _ halls_put openings_put)
-      (both w4 w7 w9 _ _ (both w4 w5 w7 _ _ candidates_put (both w5 w6 w7 _ _ entries_put arrangements_put)) (both w7 w8 w9 _ _ appeals_put seats_put)))
+  all_puts : Passes w0 (all_put c) w10
+  all_puts = both w0 w2 w10 _ _ (both w0 w1 w2 _ _ sessions_put papers_put) (both w2 w4 w10 _ _ (both w2 w3 w4 _ _ halls_put openings_put)
+      (both w4 w7 w10 _ _ (both w4 w5 w7 _ _ candidates_put (both w5 w6 w7 _ _ entries_put arrangements_put)) (both w7 w8 w10 _ _ appeals_put (both w8 w9 w10 _ _ standing_put seats_put))))
 
-  all_deletes : Passes w9 (all_deleted c) w18
-  all_deletes = both w9 w11 w18 _ _ (both w9 w10 w11 _ _ seats_deleted appeals_deleted) (both w11 w14 w18 _ _ (both w11 w12 w14 _ _ arrangements_deleted (both w12 w13 w14 _ _ entries_deleted candidates_deleted))
-      (both w14 w16 w18 _ _ (both w14 w15 w16 _ _ openings_deleted halls_deleted) (both w16 w17 w18 _ _ papers_deleted sessions_deleted)))
+  all_deletes : Passes w10 (all_deleted c) w20
+  all_deletes = both w10 w13 w20 _ _ (both w10 w11 w13 _ _ seats_deleted (both w11 w12 w13 _ _ standing_deleted appeals_deleted)) (both w13 w16 w20 _ _ (both w13 w14 w16 _ _ arrangements_deleted (both w14 w15 w16 _ _ entries_deleted candidates_deleted))
+      (both w16 w18 w20 _ _ (both w16 w17 w18 _ _ openings_deleted halls_deleted) (both w18 w19 w20 _ _ papers_deleted sessions_deleted)))
 
   -- After each write each row has what it refers to.
   pub stands : Along change (all_saved c) all
-  stands = (both w0 w9 w18 _ _ all_puts all_deletes all (known_at_start change keys all mid end)).0
+  stands = (both w0 w10 w20 _ _ all_puts all_deletes all (known_at_start change keys all mid end)).0
 
 written_made : (writes : List Write) (all : Trees) → written writes all ≡ made change writes all
 written_made [] all = refl

@@ -1,6 +1,8 @@
 pub mod Applying
 pub mod Failing
 pub mod KeysHold
+pub mod Marking
+pub mod Newest
 pub mod PlansTurning
 pub mod Referring
 pub mod Registering

@@ -1,10 +1,11 @@
 -- In tables that hold a good office, each row has what it refers to.
-use Rattle.std.proofs.Common.{◌≡◌, ◌&&◌, inl, inr, ℕ, pos, List, [], ◌∷◌, map, cond, Bool, true, Option, Some, None, is_some, option_map, option_and_then, IfSome, IsTrue, Ordering, refl, sym, ap, subst}
+use Rattle.std.proofs.Common.{◌≡◌, ◌&&◌, inl, inr, ℕ, pos, List, [], ◌∷◌, map, cond, Bool, true, false, Option, Some, None, is_some, option_map, option_and_then, IfSome, IsTrue, Ordering, refl, sym, ap, subst}
 use Rattle.std.specs.BTreeMap.{is_at}
 use Rattle.std.specs.Cmp.{Equal-is}
 use Rattle.std.specs.Cmp.Derive.{both_true}
 use Rattle.std.specs.List.{AllByRecursion, list_any}
 use Rattle.std.specs.Map.{keys_of, lookup}
+use Rattle.std.specs.Option.{option_map_or}
 use Rattle.std.specs.Ordering.{is_eq, nat_cmp}
 use Rattle.std.proofs.lemmas.Bool.{and_parts, cases_Bool, or_left, or_right}
 use Rattle.std.proofs.lemmas.Cmp.{eq_by_cmp_equiv}
@@ -24,22 +25,23 @@ use Rattle.exam_tables.proofs.Keys.{equal_itself, text_itself}
 use Rattle.exam_tables.proofs.Queries.{has_permuted}
 use Rattle.exam_tables.proofs.References.{Stand, Stands, link}
 use Rattle.exam_rules.specs.Orders.{KeysRise}
-use Rattle.exam_rules.specs.Relations.{Code, Relations, code_cmp, opening_cmp, seat_cmp, has_row, row_at}
+use Rattle.exam_rules.specs.Relations.{Code, Relations, appeal_cmp, code_cmp, opening_cmp, seat_cmp, has_row, row_at}
 use Rattle.exam_rules.specs.Seatings.{plan_of, suits_opened, room_of, sitting_terms, fits}
 use Rattle.exam_rules.specs.Sessions.{has_live_entry}
 use Rattle.exam_rules.specs.declared.fit.Terms.{Terms}
+use Rattle.exam_rules.specs.declared.rows.Appeal.{Appeal}
 use Rattle.exam_rules.specs.declared.rows.Hall.{Hall}
 use Rattle.exam_rules.specs.declared.rows.Opening.{Opening}
 use Rattle.exam_rules.specs.declared.rows.Candidate.{Candidate}
-use Rattle.exam_office.specs.Good.{IsGood, papers_refer, openings_refer, entries_refer, arrangements_refer, appeals_refer}
+use Rattle.exam_office.specs.Good.{IsGood, papers_refer, openings_refer, entries_refer, arrangements_refer, appeals_refer, may_bear}
 use Rattle.exam_office.specs.State.{State}
 use Rattle.exam_office.proofs.Members.{kept_from}
 use Rattle.exam_office.proofs.SameSeats.{seats_total}
 use Rattle.exam_rows.specs.Held.{HoldsRows}
 use Rattle.exam_store.specs.Kept.{HoldsOffice}
-use Rattle.exam_rows.specs.Rows.{session_row, paper_row, hall_row, candidate_row, opening_row, entry_row, arrangement_row, appeal_row, seat_row}
+use Rattle.exam_rows.specs.Rows.{session_row, paper_row, hall_row, candidate_row, opening_row, entry_row, arrangement_row, appeal_row, standing_row, seat_row}
 use Rattle.exam_rows.specs.Stored.{whole}
-use Rattle.exam_rows.proofs.Exact.{openings_exact}
+use Rattle.exam_rows.proofs.Exact.{appeals_exact, openings_exact}
 
 -- a row that is looked up is among the rows
 found : {K X : Type 0} (cmp : K → K → Ordering) (k : K) (stored : K × X → Row) (test : Row → Bool) → ((e : K × X) → is_eq (cmp k e.0) ≡ true → test (stored e) ≡ true) → (rows : List (K × X)) → has_row cmp rows k ≡ true → list_any test (map stored rows) ≡ true
@@ -70,6 +72,15 @@ opening_by k test means rows has =
     (subst (λ (j : Code × Code). (equal (first_key plain).collation (Text j.0) (Text k.0) && (equal (first_key plain).collation (Text j.1) (Text k.1) && true)) ≡ true) (openings_exact.keys k e.0 ((Equal-is (opening_cmp k e.0)).0 is))
     (both_true (text_itself k.0) (both_true (text_itself k.1) refl)))) rows has
 
+appeal_by : (k : ℕ × Code) (test : Row → Bool)
+    → ((e : (ℕ × Code) × Appeal) → test (Null ∷ appeal_row e.0 e.1) ≡ (equal (first_key plain).collation (whole e.0.0) (whole k.0) && (equal (first_key plain).collation (Text e.0.1) (Text k.1) && true)))
+    → (rows : List ((ℕ × Code) × Appeal)) → has_row appeal_cmp rows k ≡ true → list_any test (map (λ e. Null ∷ appeal_row e.0 e.1) rows) ≡ true
+appeal_by k test means rows has =
+    found appeal_cmp k (λ (e : (ℕ × Code) × Appeal). Null ∷ appeal_row e.0 e.1) test
+    (λ e is. subst (λ b. b ≡ true) (sym (means e))
+    (subst (λ (j : ℕ × Code). (equal (first_key plain).collation (whole j.0) (whole k.0) && (equal (first_key plain).collation (Text j.1) (Text k.1) && true)) ≡ true) (appeals_exact.keys k e.0 ((Equal-is (appeal_cmp k e.0)).0 is))
+    (both_true (equal_itself (pos k.0)) (both_true (text_itself k.1) refl)))) rows has
+
 -- rows refer as the entries do that they stand for
 module _ {K X L Y : Type 0} (child_row : K → X → Row) (parent_row : L → Y → Row) (children : List (K × X)) (parents : List (L × Y)) (child parent : List Row) (held_child : HoldsRows child_row children child) (held_parent : HoldsRows parent_row parents parent) (test : Row → Row → Bool) where
   refer_by : ((x : K × X) → Has children x → list_any (λ p. test p (Null ∷ child_row x.0 x.1)) (map (λ e. Null ∷ parent_row e.0 e.1) parents) ≡ true) → AllByRecursion (λ r. list_any (λ p. test p r) parent ≡ true) child
@@ -84,6 +95,11 @@ opened terms hall (Some o) suits = refl
 opened None hall None suits = absurd cc
 opened (Some t) None None suits = absurd cc
 opened (Some t) (Some hall) None suits = absurd cc
+
+-- what bears a mark is there
+borne : (appeal : Option Appeal) → option_map_or may_bear appeal false ≡ true → is_some appeal ≡ true
+borne (Some a) bears = refl
+borne None bears = absurd cc
 
 module _ (all : Trees) (office : State) (good : IsGood office) (rises : KeysRise seat_cmp office.seats) (held : HoldsOffice all office) where
   abbrev r : Relations
@@ -129,6 +145,10 @@ module _ (all : Trees) (office : State) (good : IsGood office) (rises : KeysRise
   appeal_session = refer_by appeal_row session_row r.appeals r.sessions (all 13) (all 1) held.facts.appeals held.facts.sessions (λ p c. agree plain (1 ∷ []) p (3 ∷ []) c)
       (λ x h. by_code session_row x.1.session _ (λ e. refl) r.sessions (and_parts _ _ (and_parts _ _ (test_has _ r.appeals x refer.4 h)).1).0)
 
+  standing_appeal : Stands all (link 17 (1 ∷ 2 ∷ []) 13 (1 ∷ 2 ∷ []))
+  standing_appeal = refer_by standing_row appeal_row r.standing r.appeals (all 17) (all 13) held.facts.standing held.facts.appeals (λ p c. agree plain (1 ∷ 2 ∷ []) p (1 ∷ 2 ∷ []) c)
+      (λ x h. appeal_by x.0 _ (λ e. refl) r.appeals (borne (row_at appeal_cmp r.appeals x.0) (test_has _ r.standing x good.marks h)))
+
   -- a seat is where its candidate sits
   sits : (x : (Code × ℕ) × Code) → Has office.seats x → plan_of office.seats x.0.0 x.0.1 ≡ Some x.1
   sits x h = lookup-from_Contains (eq_by_cmp_equiv seats_total) x.0 x.1 office.seats (IsDistinct-from_sorted seat_cmp (keys_of office.seats) rises) (contains_had office.seats x h)
@@ -155,4 +175,4 @@ module _ (all : Trees) (office : State) (good : IsGood office) (rises : KeysRise
       (λ x h. opening_by (x.0.0, x.1) _ (λ e. refl) r.openings (sits_opened x h))
 
   pub stand : Stand all
-  stand = (paper_session, (opening_session, (opening_hall, (entry_candidate, (entry_paper, (arrangement_candidate, (appeal_candidate, (appeal_session, (seat_candidate, (seat_opening, tt))))))))))
+  stand = (paper_session, (opening_session, (opening_hall, (entry_candidate, (entry_paper, (arrangement_candidate, (appeal_candidate, (appeal_session, (seat_candidate, (seat_opening, (standing_appeal, tt)))))))))))

@@ -12,19 +12,23 @@ use Rattle.exam_rows.specs.declared.writing.Changes.{Changes}
 use Rattle.exam_rows.specs.Held.{HoldsRows}
 use Rattle.exam_store.specs.Kept.{HoldsOffice}
 use Rattle.exam_rows.specs.Inside.{Becomes, Contains, IsOurs}
-use Rattle.exam_store.specs.Found.{Finds}
+use Rattle.exam_store.specs.Found.{Finds, version_texts}
 use Rattle.exam_store.specs.Kept.{KeepsOurs, Keeps, Rekeeps}
 use Rattle.exam_store.specs.Refused.{HoldsFormed}
-use Rattle.exam_rows.specs.Loaded.{AreUnderstood, OnlyReads}
-use Rattle.exam_tables.specs.Texts.{load_texts}
+use Rattle.exam_rows.specs.Loaded.{AreUnderstood, IsUnderstood, OnlyReads}
+use Rattle.exam_rows.proofs.Leaving.{both_survive}
+use Rattle.exam_store.proofs.Marking.{made_of, of_newest, one_version, still_made}
+use Rattle.exam_tables.specs.Made.{ContainsMade}
+use Rattle.sqlite.proofs.Callers.{unchanged_then}
+use Rattle.exam_tables.specs.Texts.{load_office}
 use Rattle.exam_rows.proofs.Holding.{held_facts}
-use Rattle.exam_rows.specs.Rows.{session_row, paper_row, hall_row, candidate_row, opening_row, entry_row, arrangement_row, appeal_row, seat_row}
+use Rattle.exam_rows.specs.Rows.{session_row, paper_row, hall_row, candidate_row, opening_row, entry_row, arrangement_row, appeal_row, standing_row, seat_row}
 use Rattle.exam_rows.specs.Writes as writes
 use Rattle.exam_store.specs.Saves.{TurnsTables}
 use Rattle.exam_rows.proofs.SavedTrees.{all_saved, saved_are}
-use Rattle.exam_rows.specs.Versions.{HasVersion, new_tables, IsMade}
-use Rattle.exam_rows.proofs.EachTree.{sessions_after, papers_after, halls_after, openings_after, candidates_after, entries_after, arrangements_after, appeals_after, seats_after, version_after}
-use Rattle.exam_rows.proofs.SavedRows.{table_saved, sessions_match, papers_match, halls_match, openings_match, candidates_match, entries_match, arrangements_match, appeals_match, seats_match}
+use Rattle.exam_rows.specs.Versions.{HasVersion, new_tables, IsMade, version}
+use Rattle.exam_rows.proofs.EachTree.{sessions_after, papers_after, halls_after, openings_after, candidates_after, entries_after, arrangements_after, appeals_after, standing_after, seats_after, version_after}
+use Rattle.exam_rows.proofs.SavedRows.{table_saved, sessions_match, papers_match, halls_match, openings_match, candidates_match, entries_match, arrangements_match, appeals_match, standing_match, seats_match}
 
 -- the rows of each table are those of the new office
 pub holds_after : (before after : State) (c : Changes) (all : Trees) → TurnsTables before after c → HoldsOffice all before → HoldsOffice (all_saved c all) after
@@ -38,6 +42,7 @@ holds_after before after c all turns was = record {
     entries = subst (HoldsRows entry_row after.relations.entries) (sym (entries_after c all)) (table_saved entries_match 10 all _ _ _ _ turns.entries was.facts.entries);
     arrangements = subst (HoldsRows arrangement_row after.relations.arrangements) (sym (arrangements_after c all)) (table_saved arrangements_match 12 all _ _ _ _ turns.arrangements was.facts.arrangements);
     appeals = subst (HoldsRows appeal_row after.relations.appeals) (sym (appeals_after c all)) (table_saved appeals_match 13 all _ _ _ _ turns.appeals was.facts.appeals);
+    standing = subst (HoldsRows standing_row after.relations.standing) (sym (standing_after c all)) (table_saved standing_match 17 all _ _ _ _ turns.standing was.facts.standing);
   };
   seats = subst (HoldsRows seat_row after.seats) (sym (seats_after c all)) (table_saved seats_match 15 all _ _ _ _ turns.seats was.seats);
 }
@@ -58,7 +63,7 @@ keeps_empty db made =
       all = new_tables;
       contains = made;
       version = refl;
-      held = record { facts = record { sessions = none; papers = none; halls = none; candidates = none; openings = none; entries = none; arrangements = none; appeals = none }; seats = none };
+      held = record { facts = record { sessions = none; papers = none; halls = none; candidates = none; openings = none; entries = none; arrangements = none; appeals = none; standing = none }; seats = none };
     }
 
 has_tables : store_schema ≡ no_schema → ⊥
@@ -66,19 +71,28 @@ unfolding store_schema
 has_tables is = let e = ap (λ (s : Schema). length s.tables) is in absurd cc
 
 -- the rows of an office whose values have their forms are its rows
-held_office : (all : Trees) (office : State) → HoldsFormed all office → HoldsOffice all office
+pub held_office : (all : Trees) (office : State) → HoldsFormed all office → HoldsOffice all office
 held_office all office formed = record { facts = held_facts all office.relations formed.0; seats = formed.1.same }
 
--- the office that was loaded is kept by the tables, where they are the ten
-pub loaded : (old new : Shown) (result : Result State Refusal) → (HasCleanDisk new → IfOk result (λ office. (all : Trees) → Contains old.now all → HoldsFormed all office × IsUnchanged old new))
-    → (HasCleanDisk new → OnOk result ((all : Trees) → Contains old.now all → HasVersion all)) → (HasCleanDisk new → OnOk result (AreUnderstood old.now load_texts)) → (HasCleanDisk new → OnlyReads old new result) → Survives old new (λ _. ⊥) → IfOk result (Finds old new)
-loaded old new (Ok office) rows version understood left survives = record {
-  understood = understood;
-  same = left;
-  kept = λ clean ours. record { all = ours.0; contains = ours.1; version = version clean ours.0 ours.1; held = held_office ours.0 office (rows clean ours.0 ours.1).0 };
-  survives = survives;
+-- the office that was loaded is kept by the tables, where they are those of this version
+pub loaded : (old mid new : Shown) (result : Result State Refusal) → (HasCleanDisk new → HasCleanDisk mid) → (HasCleanDisk mid → (all : Trees) → ContainsMade old.now all → HasVersion version all) → (HasCleanDisk mid → IsUnchanged old mid)
+    → (HasCleanDisk mid → IsUnderstood old.now load_office) → (HasCleanDisk new → IfOk result (λ office. (all : Trees) → ContainsMade mid.now all → HoldsFormed all office × IsUnchanged mid new)) → (HasCleanDisk new → OnOk result (AreUnderstood mid.now (version_texts version)))
+    → (HasCleanDisk new → OnlyReads mid new result) → Survives old mid (λ _. ⊥) → Survives mid new (λ _. ⊥) → IfOk result (Finds old new)
+loaded old mid new (Ok office) before held same known rows understood left first next = record {
+  understood = λ clean. (known (before clean), subst (λ (db : Database). AreUnderstood db (version_texts version)) (same (before clean)).0.now_is (understood clean));
+  newest = λ clean v known all was has. one_version v version all has (held (before clean) all was);
+  same = λ clean. unchanged_then old mid new (same (before clean)) (left clean);
+  kept = λ clean ours.
+      let there = made_of version old.now ours.0 (of_newest old.now ours.0 ours.1) in
+      record {
+        all = ours.0;
+        contains = ours.1;
+        version = held (before clean) ours.0 there;
+        held = held_office ours.0 office (rows clean ours.0 (still_made old mid ours.0 (same (before clean)) there)).0;
+      };
+  survives = both_survive old mid new first next;
 }
-loaded old new (Err e) rows version understood left survives = tt
+loaded old mid new (Err e) before held same known rows understood left first next = tt
 
 -- what opening found is kept by what is seen after it
 pub finds_kept : (old new : Shown) (result : Result State Refusal) → IfOk result (Finds old new) → IfOk result (KeepsOurs new)

@@ -1,30 +1,77 @@
--- What opening finds in a database.
+-- What opening finds in a database, and what brings an older office to the newest version.
+use Rattle.std.specs.Prelude.{◌≡◌, ◌⊎◌, ◌++◌, ℕ, Bool, true, IsTrue, List, [], ◌∷◌, if◌then◌else◌}
 use Rattle.sqlite_trees.specs.declared.store.Store.{Ghosts}
 use Rattle.sqlite_trees.specs.Tree.{Trees}
 use Rattle.sqlite.specs.Effect.{Database}
 use Rattle.sqlite.specs.State.{State, HasCleanDisk, IsUnchanged, Survives}
 use Rattle.sqlite.specs.Held.{Held, state}
 use Rattle.exam_types.specs.declared.refusal.Refusal.{Refusal}
+use Rattle.exam_types.specs.declared.refusal.Refusal.TheVariants.{Store, OldSchema}
+use Rattle.exam_office.specs.Good.{IsGood}
 use Rattle.exam_office.specs.State.{State as Office, empty_state}
-use Rattle.exam_tables.specs.Texts.{load_texts}
-use Rattle.exam_rows.specs.Inside.{Contains, IsOurs}
+use Rattle.exam_tables.specs.Made.{ContainsMade}
+use Rattle.exam_tables.specs.Texts.{held_texts, load_office, load_standing, load_texts}
+use Rattle.exam_rows.specs.Inside.{IsOurs}
 use Rattle.exam_store.specs.Kept.{Keeps}
-use Rattle.exam_rows.specs.Loaded.{AreUnderstood, FailsThen, IsLoadRefusal}
-use Rattle.exam_store.specs.Refused.{HoldsNone}
+use Rattle.exam_rows.specs.Loaded.{AreUnderstood, FailsThen, IsLoadRefusal, IsMadeHere}
+use Rattle.exam_rows.specs.Versions.{ContainsOf, FailsToMake, HasVersion, IsVersion, marks_since, version}
+use Rattle.exam_rows.specs.Faults.{is_store_refusal}
+use Rattle.exam_store.specs.Refused.{HoldsFormed, HoldsNone}
 
--- No table or column is missing, and where the tables are ours they keep the office; nothing changes, also over a
--- crash.
+-- if there is a version row, it is that of the newest
+abbrev pub IsNoOlder : Database → Type 0
+IsNoOlder db = (v : ℕ) → IsVersion v → (all : Trees) → ContainsMade db all → HasVersion v all → v ≡ version
+
+-- No table or column is missing, where the tables are ours they keep the office, and the office is of no older
+-- version; nothing changes, also over a crash.
 pub record Finds (old new : State) (office : Office) : Type 0 where
   pub understood : HasCleanDisk new → AreUnderstood old.now load_texts
   pub kept : HasCleanDisk new → IsOurs old.now → Keeps old.now office
+  pub newest : HasCleanDisk new → IsNoOlder old.now
   pub same : HasCleanDisk new → IsUnchanged old new
   pub survives : Survives old new (λ _. ⊥)
 
--- there is no memory, a query fails and its error is told, or the tables hold no good office
+-- There is no memory, a query fails and the refusal is that of its error, or the tables of this version hold no
+-- good office of it and the database is of no older version.
 abbrev pub FindsNone : {S : Type 0} → Ghosts S → Held S → Held S → Refusal → Type 0
 FindsNone g old new =
-    IsLoadRefusal (FailsThen g old new) ((all : Trees) → Contains (state g old).now all → HoldsNone all)
+    IsLoadRefusal (FailsThen g old new)
+    (((all : Trees) → ContainsOf version (state g old).now all → HoldsNone version all)
+    × IsNoOlder (state g old).now)
+
+-- the office is one of version 1
+abbrev pub FindsOld : Database → Refusal → Type 0
+FindsOld old e = (e ≡ OldSchema) × ((all : Trees) → ContainsMade old all → HasVersion 1 all)
+
+-- why no office is opened
+abbrev pub FailsToOpen : {S : Type 0} → Ghosts S → Held S → Held S → Refusal → Type 0
+FailsToOpen g old new e = FindsNone g old new e ⊎ FindsOld (state g old).now e
+
+abbrev pub is_open_refusal : Refusal → Bool
+is_open_refusal OldSchema = true
+is_open_refusal e = is_store_refusal e
 
 -- the new database keeps an office with no facts
 abbrev pub MakesEmpty : Database → Database → Type 0
 MakesEmpty old new = Keeps new empty_state
+
+-- ---- from an older version to the newest
+
+-- what loads the tables of a version, beside the version itself
+abbrev pub version_texts : ℕ → List (List ℕ)
+version_texts v = held_texts ++ (if marks_since v then load_standing ∷ [] else [])
+
+-- the tables are those of this version and hold a good office of it
+abbrev pub HoldsGood : ℕ → Database → Trees → Type 0
+HoldsGood v db all =
+    ContainsOf v db all × HasVersion v all × (office : Office) × HoldsFormed all office × IsGood office
+
+-- Why an office is not brought to the newest version: a transaction is under way, the tables hold no good office of
+-- any version, or those of version 1 are there and the new ones are not made.
+abbrev pub FailsToMigrate : {S : Type 0} → Ghosts S → Held S → Held S → Refusal → Type 0
+FailsToMigrate g old new e =
+    ((e ≡ Store) × IsTrue (state g old).in_transaction)
+    ⊎ (IsLoadRefusal (FailsThen g old new)
+    ((v : ℕ) → IsVersion v → (all : Trees) → ContainsOf v (state g old).now all → HoldsNone v all) e
+    ⊎ (AreUnderstood (state g old).now (load_office ∷ held_texts)
+    × (IsMadeHere (state g old).now → FailsToMake (state g old) (state g new) e)))

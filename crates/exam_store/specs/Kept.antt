@@ -7,19 +7,30 @@ use Rattle.exam_office.specs.State.{State as Office}
 use Rattle.exam_rows.specs.Held.{HoldsFacts, HoldsRows}
 use Rattle.exam_rows.specs.Inside.{Contains, IsOurs}
 use Rattle.exam_rows.specs.Rows.{seat_row}
-use Rattle.exam_rows.specs.Versions.{HasVersion}
+use Rattle.exam_rows.specs.Versions.{HasFirst, HasVersion, version}
 
 -- each table of facts has the rows of its relation, and the table of seats those of the plans
 pub record HoldsOffice (all : Trees) (office : Office) : Type 0 where
   pub facts : HoldsFacts all office.relations
   pub seats : HoldsRows seat_row office.seats (all 15)
 
--- the ten tables have the rows of the office, in any order, and the version
+-- the tables have the rows of the office, in any order, and the newest version
 pub record Keeps (db : Database) (office : Office) : Type 0 where
   pub all : Trees
   pub contains : Contains db all
-  pub version : HasVersion all
+  pub version : HasVersion version all
   pub held : HoldsOffice all office
+
+-- the tables of version 1 have the rows of the office, and its number
+pub record KeepsFirst (db : Database) (office : Office) : Type 0 where
+  pub all : Trees
+  pub contains : HasFirst all db
+  pub version : HasVersion 1 all
+  pub held : HoldsOffice all office
+
+-- what kept an office in version 1 keeps it in the newest
+abbrev pub Migrates : Database → Database → Type 0
+Migrates old new = (office : Office) → KeepsFirst old office → Keeps new office
 
 -- what kept the one office keeps the other
 abbrev pub Rekeeps : Office → Office → Database → Database → Type 0

@@ -28,6 +28,7 @@ pub record TurnsTables (before after : State) (c : Changes) : Type 0 where
   pub entries : TurnsTable entry_cmp before.relations.entries after.relations.entries c.entries
   pub arrangements : TurnsTable nat_cmp before.relations.arrangements after.relations.arrangements c.arrangements
   pub appeals : TurnsTable appeal_cmp before.relations.appeals after.relations.appeals c.appeals
+  pub standing : TurnsTable appeal_cmp before.relations.standing after.relations.standing c.standing
   pub seats : TurnsTable seat_cmp before.seats after.seats c.seats
 
 -- ---- why an office is not saved

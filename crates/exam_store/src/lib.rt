@@ -4,8 +4,10 @@
 mod appeals;
 mod laws;
 mod loading;
+mod migrating;
 mod saving;
 mod store;
 
 pub use laws::tables_hold_one_office;
+pub use migrating::migrate;
 pub use store::Store;

@@ -58,6 +58,7 @@ fn changes_of(alloc: Global, draft: &Draft) -> Result<Changes<'_>, Refusal>
         entries: difference_since(alloc, before.entries, &after.entries)?,
         arrangements: difference_since(alloc, before.arrangements, &after.arrangements)?,
         appeals: difference_since(alloc, before.appeals, &after.appeals)?,
+        standing: difference_since(alloc, before.standing, &after.standing)?,
         seats: seats_since(alloc, draft.plans_before())?,
     })
 }

@@ -13,7 +13,7 @@ ghost use Rattle.exam_office.specs.State.{empty_state};
 ghost use Rattle.exam_office.specs.Views.{IsViewOf};
 ghost use Rattle.exam_store.specs.Applied.{MayApply, FailsToApply, TurnsBy, Applies, AreApplied};
 ghost use Rattle.exam_rows.specs.Faults.{is_store_refusal};
-ghost use Rattle.exam_store.specs.Found.{Finds, FindsNone, MakesEmpty};
+ghost use Rattle.exam_store.specs.Found.{FailsToOpen, Finds, MakesEmpty, is_open_refusal};
 ghost use Rattle.exam_rows.specs.Inside.{IsOurs};
 ghost use Rattle.exam_rows.specs.Transactions.{IsSound, Commits};
 ghost use Rattle.exam_store.specs.Kept.{IsKept, Keeps, KeepsOurs, Rekeeps};
@@ -23,10 +23,10 @@ ghost use Rattle.exam_rows.specs.declared.send_fault.SendFault.TheVariants.{Refu
 ghost use Rattle.exam_rows.specs.Versions.{FailsToCreate, IsBlank};
 
 use crate::appeals::send_kept;
-use crate::loading::load_office;
+use crate::loading::load_version;
 use crate::saving::save;
 use exam_office::{Command, Draft, Office, Own, Reply, SessionView};
-use exam_rows::{AppealText, SendFault, is_blank, save_empty};
+use exam_rows::{AppealText, NEWEST, SendFault, is_blank, save_empty, version_of};
 use exam_types::{Day, Number, Refusal, SessionCode};
 use sqlite::{Alter, Connection, MemStore};
 use std::alloc::Global;
@@ -80,8 +80,8 @@ impl Store<MemStore> {
 
 impl<S: Alter> Store<S> {
     /// Makes an empty office in a database with nothing in it, or opens the good office that is there.
-    /// The connection comes back beside a refusal: `BadStore` where the database holds something else, and
-    /// `Store` also where a transaction is under way.
+    /// The connection comes back beside a refusal: `OldSchema` where that office is of an older version,
+    /// `BadStore` where the database holds something else, and `Store` also where a transaction is under way.
     pub fn create(
         alloc: Global,
         mut conn: Connection<S>,
@@ -98,12 +98,12 @@ impl<S: Alter> Store<S> {
             → FailsToCreate (state S.Store conn) (state S.Store e.1) e.0) }
         ensures refusal { IfErr result (λ e. HasCleanDisk (state S.Store e.1)
             → (IsBlank (state S.Store conn).now → ⊥) → ((e.0 ≡ Refusal.Store) × IsTrue e.1.in_transaction)
-            ⊎ FindsNone S.Store conn e.1 e.0) }
+            ⊎ FailsToOpen S.Store conn e.1 e.0) }
         ensures same { IfErr result (λ e. HasCleanDisk (state S.Store e.1)
             → (IsBlank (state S.Store conn).now → ⊥) → IsLeft (state S.Store conn) (state S.Store e.1)) }
         ensures survives { IfErr result (λ e. (IsBlank (state S.Store conn).now → ⊥)
             → Survives (state S.Store conn) (state S.Store e.1) (λ _. ⊥)) }
-        ensures told { IfErr result (λ e. IsTrue (is_store_refusal e.0)) }
+        ensures told { IfErr result (λ e. IsTrue (is_open_refusal e.0)) }
     {
         match create_office(alloc, &mut conn) {
             Ok(office) => store_of(conn, office),
@@ -111,8 +111,9 @@ impl<S: Alter> Store<S> {
         }
     }
 
-    /// Opens the office that is there. The connection comes back beside a refusal: `BadStore` where the
-    /// database holds no good office of this version, and `Store` also where a transaction is under way.
+    /// Opens the office that is there. The connection comes back beside a refusal: `OldSchema` where it is of
+    /// an older version, `BadStore` where the database holds no good office of this version, and `Store` also
+    /// where a transaction is under way.
     pub fn open(
         alloc: Global,
         mut conn: Connection<S>,
@@ -122,11 +123,11 @@ impl<S: Alter> Store<S> {
         ensures kept { IfOk result (λ store. KeepsOurs (state S.Store store.database) store.office) }
         ensures refusal { IfErr result (λ e. HasCleanDisk (state S.Store e.1)
             → ((e.0 ≡ Refusal.Store) × IsTrue e.1.in_transaction)
-            ⊎ FindsNone S.Store conn e.1 e.0) }
+            ⊎ FailsToOpen S.Store conn e.1 e.0) }
         ensures same { IfErr result (λ e. HasCleanDisk (state S.Store e.1)
             → IsLeft (state S.Store conn) (state S.Store e.1)) }
         ensures survives { IfErr result (λ e. Survives (state S.Store conn) (state S.Store e.1) (λ _. ⊥)) }
-        ensures told { IfErr result (λ e. IsTrue (is_store_refusal e.0)) }
+        ensures told { IfErr result (λ e. IsTrue (is_open_refusal e.0)) }
     {
         match load_kept(alloc, &mut conn) {
             Ok(office) => store_of(conn, office),
@@ -298,12 +299,12 @@ fn create_office<S: Alter>(alloc: Global, conn: &mut Connection<S>) -> Result<Of
     ensures blank { HasCleanDisk (state S.Store conn.new) → IsBlank (state S.Store conn.old).now
         → IfErr result (FailsToCreate (state S.Store conn.old) (state S.Store conn.new)) }
     ensures refusal { HasCleanDisk (state S.Store conn.new) → (IsBlank (state S.Store conn.old).now → ⊥)
-        → IfErr result (FindsNone S.Store conn.old conn.new) }
+        → IfErr result (FailsToOpen S.Store conn.old conn.new) }
     ensures left { HasCleanDisk (state S.Store conn.new) → (IsBlank (state S.Store conn.old).now → ⊥)
         → OnlyReads (state S.Store conn.old) (state S.Store conn.new) result }
     ensures survives { (IsBlank (state S.Store conn.old).now → ⊥)
         → Survives (state S.Store conn.old) (state S.Store conn.new) (λ _. ⊥) }
-    ensures told { IfErr result (λ e. IsTrue (is_store_refusal e)) }
+    ensures told { IfErr result (λ e. IsTrue (is_open_refusal e)) }
 {
     if !is_blank(conn) {
         return load_kept(alloc, conn);
@@ -312,16 +313,20 @@ fn create_office<S: Alter>(alloc: Global, conn: &mut Connection<S>) -> Result<Of
     Ok(Office::empty(alloc))
 }
 
-/// The office that is there.
+/// The office that is there. Refused as of an old schema where it is of an older version.
 fn load_kept<S: Alter>(alloc: Global, conn: &mut Connection<S>) -> Result<Office, Refusal>
     ensures found { IfOk result (Finds (state S.Store conn.old) (state S.Store conn.new)) }
     ensures kept { IfOk result (KeepsOurs (state S.Store conn.new)) }
     ensures refusal { HasCleanDisk (state S.Store conn.new)
-        → IfErr result (FindsNone S.Store conn.old conn.new) }
+        → IfErr result (FailsToOpen S.Store conn.old conn.new) }
     ensures left { HasCleanDisk (state S.Store conn.new)
         → OnlyReads (state S.Store conn.old) (state S.Store conn.new) result }
     ensures survives { Survives (state S.Store conn.old) (state S.Store conn.new) (λ _. ⊥) }
-    ensures told { IfErr result (λ e. IsTrue (is_store_refusal e)) }
+    ensures told { IfErr result (λ e. IsTrue (is_open_refusal e)) }
 {
-    load_office(alloc, conn)
+    let version = version_of(conn)?;
+    if version != NEWEST {
+        return Err(Refusal::OldSchema);
+    }
+    load_version(alloc, conn, version)
 }

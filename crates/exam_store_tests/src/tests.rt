@@ -2,6 +2,7 @@
 mod appeals;
 mod doctored;
 mod lists;
+mod migrating;
 mod opening;
 mod stopping;
 

@@ -13,7 +13,7 @@ use Rattle.sqlite_rules.proofs.ListLemmas.{all_has, all_from, test_has}
 use Rattle.sqlite.specs.declared.error.Error.{Error}
 use Rattle.sqlite.specs.Compile.{table_defined_by}
 use Rattle.sqlite.specs.Change.{created, next_tree}
-use Rattle.sqlite.specs.Effect.{Database}
+use Rattle.sqlite.specs.Effect.{Database, IsDatabase}
 use Rattle.sqlite.specs.Does.{Tally, lacks_sequence}
 use Rattle.sqlite.specs.Listing.{understood}
 use Rattle.sqlite.specs.State.{State, Executes, Writes}
@@ -55,3 +55,7 @@ module _ (schema : Schema) (table : Table) (text : List ℕ) (is : command_of (u
             rw apart (subst (λ l. Holds (places t) l (all t.tree)) (sym rows_same) (all_has _ schema.tables t was.rows has))))
             (new_holds (places table) (new.now.trees (next_tree schema)) _ empty (set_here all (next_tree schema)), tt);
       }
+
+  -- the database is sound after it
+  pub sound_by : (old new : State) (count : ℕ) → old.now.schema ≡ schema → Executes text [] old new (Ok count) → IsDatabase new.now
+  sound_by old new count has h = (runs_as text [] old new schema has CreateTable is simple count h).sound

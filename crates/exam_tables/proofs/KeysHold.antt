@@ -39,12 +39,12 @@ stops_writing task command db stop sound (inr (w, wrote, inr (in_doubt, holds, i
 stops_writing task command db stop sound (inr (w, wrote, inr (in_doubt, holds, inr ended))) = absurd (let e = ended.2 in cc)
 
 module _ (schema : Schema) (at : ℕ) (table : Table) (key target : List ℕ) (keyed : IsKeyed schema at table key target) where
-  abbrev IsOn : Command → Type 0
+  abbrev pub IsOn : Command → Type 0
   IsOn command =
       (limit : Option ℕ) (params : Row) (text : List ℕ) (trees : Trees) (stop : Option Error) → Does limit at_once params (record { schema = schema; trees = trees }) text None command (Err stop)
       → OnRows (task schema at table key target keyed limit params) at_once None command trees (Err stop)
 
-  on_insert : (way : Conflict) (clauses : List Upsert) (terms : List Term) (width : ℕ) → IsOn (InsertOr at way (Values terms width) clauses)
+  pub on_insert : (way : Conflict) (clauses : List Upsert) (terms : List Term) (width : ℕ) → IsOn (InsertOr at way (Values terms width) clauses)
   on_insert way clauses terms width limit params text trees stop does =
       let command = InsertOr at way (Values terms width) clauses in
       subst (λ o. AtPlace (λ t. OnRows (record { limit = limit; keys = Enforced; schema = schema; table = t; params = params }) at_once None command trees) o (Err stop)) keyed.place does

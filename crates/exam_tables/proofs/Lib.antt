@@ -5,7 +5,6 @@ pub mod Deletes
 pub mod Failing
 pub mod Fits
 pub mod InOrder
-pub mod Inserts
 pub mod Keys
 pub mod KeysHold
 pub mod Loads
@@ -20,6 +19,7 @@ pub mod OfOpening
 pub mod OfPaper
 pub mod OfSeat
 pub mod OfSession
+pub mod OfStanding
 pub mod Queries
 pub mod QueryFails
 pub mod Quiet

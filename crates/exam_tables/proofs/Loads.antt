@@ -1,5 +1,5 @@
 -- A SELECT of each column shows the rows of a table.
-use Rattle.std.proofs.Common.{◌≡◌, sym, ap, ℕ, List, [], ◌∷◌, map, filter, length, true, false, refl, subst, ◌∙◌}
+use Rattle.std.proofs.Common.{◌≡◌, sym, ap, ℕ, List, [], ◌∷◌, map, filter, length, true, false, Some, slice_get, refl, subst, ◌∙◌}
 use Rattle.std.proofs.lemmas.List.{length-map}
 use Rattle.std.specs.List.{AllByRecursion}
 use Rattle.std.specs.List.Sorted.{IsPermutation}
@@ -12,6 +12,7 @@ use Rattle.sqlite_trees.proofs.ListLemmas.{map-map, filter_all, all-map, all-per
 use Rattle.sqlite_sql.specs.Term.{Term, eval, eval_all}
 use Rattle.sqlite_sql.specs.Query.{IsAnswer}
 use Rattle.sqlite_sql.specs.Program.{overlay}
+use Rattle.sqlite_rules.proofs.ListLemmas.{all_has, has_got}
 use Rattle.sqlite_schema.specs.declared.command.Command.TheVariants.{Select}
 use Rattle.sqlite_schema.specs.declared.schema.Schema.{Schema}
 use Rattle.sqlite_schema.specs.declared.schema.Table.{Table}
@@ -19,10 +20,8 @@ use Rattle.sqlite.specs.State.{State, Shown, IsUnchanged}
 use Rattle.sqlite.specs.Listing.{understood, reads_listing}
 use Rattle.sqlite.proofs.Callers.{IsPlain, command_of, reads_as}
 use Rattle.exam_tables.specs.Content.{places, bare, Holds, ContainsIn}
-use Rattle.exam_tables.specs.Keyed.{IsKeyed}
 use Rattle.exam_tables.specs.Plain.{one_table}
 use Rattle.exam_tables.proofs.Queries.{picks, map_same}
-use Rattle.exam_tables.proofs.Statements.{held_at}
 
 loads : (tree width : ℕ) (at : List ℕ) (project : List Term) (order : List (Term × Key)) (db : Trees) (meant rows : List Row) → ((r : Row) → Null ∷ eval_all project ([] ∷ r ∷ []) ≡ bare at r)
     → length project ≡ width → Holds at (db tree) meant → overlay db [] tree ≡ db tree → IsAnswer (one_table tree [] project order) (overlay db []) [] rows
@@ -48,12 +47,12 @@ unchanged_by schema text old new rows has plain h =
     it.3
 
 -- The text of a load, run, shows the rows of its table, and changes nothing.
-pub shown_by : (schema : Schema) (at : ℕ) (table : Table) (key target : List ℕ) → IsKeyed schema at table key target → (text : List ℕ) (project : List Term) (order : List (Term × Key)) (names : List (List ℕ))
+pub shown_by : (schema : Schema) (at : ℕ) (table : Table) → slice_get schema.tables at ≡ Some table → (text : List ℕ) (project : List Term) (order : List (Term × Key)) (names : List (List ℕ))
     → command_of (understood schema text) ≡ Select (record { lets = []; body = one_table table.tree [] project order }) names → IsPlain (understood schema text) → reads_listing schema text ≡ false
     → ((db : Trees) → overlay db [] table.tree ≡ db table.tree) → ((r : Row) → Null ∷ eval_all project ([] ∷ r ∷ []) ≡ bare (places table) r) → length project ≡ length table.columns
     → (old new : State) (rows : List Row) (all : Trees) → ContainsIn schema old.now all → Shown text [] old new rows
     → IsPermutation (all table.tree) (map (λ r. Null ∷ r) rows) × AllByRecursion (λ r. length r ≡ length table.columns) rows × IsUnchanged old new
-shown_by schema at table key target keyed text project order names is plain unlisted own shows wide old new rows all was shown =
+shown_by schema at table place text project order names is plain unlisted own shows wide old new rows all was shown =
     let read = reads_as text [] old new schema was.schema_is _ is plain unlisted rows shown in
-    let shows_all = loads table.tree (length table.columns) (places table) project order old.now.trees (all table.tree) rows shows wide (held_at schema at table key target keyed old.now.trees all was.rows) (own old.now.trees) (read.answer Null) in
+    let shows_all = loads table.tree (length table.columns) (places table) project order old.now.trees (all table.tree) rows shows wide (all_has _ schema.tables table was.rows (has_got schema.tables at table place)) (own old.now.trees) (read.answer Null) in
     (shows_all.0, shows_all.1, unchanged_by schema text old new rows was.schema_is plain shown)

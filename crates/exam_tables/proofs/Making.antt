@@ -1,8 +1,9 @@
--- The ten tables are made in turn.
-use Rattle.std.proofs.Common.{◌≡◌, ℕ, [], Ok, Result, OnOk, true, false, not, ◌==◌, refl, subst}
+-- The eleven tables are made in turn. The last is made over tables with rows too.
+use Rattle.std.proofs.Common.{◌≡◌, ℕ, [], Ok, Result, OnOk, sym, ◌∙◌, true, false, not, ◌==◌, refl, subst}
 use Rattle.std.specs.List.{list_all}
 use Rattle.sqlite_trees.specs.Tree.{Trees, with_tree}
 use Rattle.sqlite_schema.specs.declared.command.Command.TheVariants.{CreateTable}
+use Rattle.sqlite_schema.specs.Names.{same_name}
 use Rattle.sqlite_tied.specs.Compute.{everything}
 use Rattle.sqlite.specs.declared.error.Error.{Error}
 use Rattle.sqlite.specs.Change.{created, next_tree}
@@ -12,9 +13,11 @@ use Rattle.sqlite.specs.Listing.{understood}
 use Rattle.sqlite.specs.State.{State, Executes}
 use Rattle.sqlite.proofs.Callers.{IsPlain, command_of, statement_of}
 use Rattle.exam_tables.specs.Content.{ContainsIn}
-use Rattle.exam_tables.specs.Tables.{store_schema, office, office_text, session, session_text, paper, paper_text, hall, hall_text, candidate, candidate_text, opening, opening_text, entry, entry_text, arrangement, arrangement_text, appeal, appeal_text, seat, seat_text}
-use Rattle.exam_tables.specs.Grows.{schema_0, schema_1, schema_2, schema_3, schema_4, schema_5, schema_6, schema_7, schema_8, schema_9, schema_10}
-use Rattle.exam_tables.proofs.Creates.{create_by}
+use Rattle.exam_tables.specs.Tables.{store_schema, first_schema, office, office_text, session, session_text, paper, paper_text, hall, hall_text, candidate, candidate_text, opening, opening_text, entry, entry_text, arrangement, arrangement_text, appeal, appeal_text, seat, seat_text, standing, standing_text}
+use Rattle.exam_tables.specs.Grows.{schema_0, schema_1, schema_2, schema_3, schema_4, schema_5, schema_6, schema_7, schema_8, schema_9, schema_10, schema_11}
+use Rattle.sqlite.specs.Effect.{IsDatabase}
+use Rattle.exam_tables.specs.Made.{lists_marks}
+use Rattle.exam_tables.proofs.Creates.{create_by, sound_by}
 
 pub office_is : table_defined_by office_text ≡ Ok office
 unfolding everything
@@ -236,6 +239,46 @@ makes_seat old new r h =
     (subst (λ t. OnOk r ((all : Trees) → ContainsIn schema_9 old.now all → ContainsIn (created schema_9 seat) new.now (with_tree all t []))) seat_next.3
     (create_by schema_9 seat seat_text seat_reads.0 seat_plain seat_reads.1 seat_is seat_next.1 seat_next.2 old new r h))
 
-pub last_is : schema_10 ≡ store_schema
-unfolding schema_10 store_schema
+pub standing_is : table_defined_by standing_text ≡ Ok standing
+unfolding everything
+standing_is = refl
+
+pub standing_reads : (command_of (understood schema_10 standing_text) ≡ CreateTable) × (statement_of standing_text (understood schema_10 standing_text) ≡ standing_text)
+unfolding understood everything schema_10
+standing_reads = (refl, refl)
+
+pub standing_plain : IsPlain (understood schema_10 standing_text)
+unfolding understood everything schema_10
+standing_plain = (refl, refl)
+
+pub standing_next : (created schema_10 standing ≡ schema_11) × (lacks_sequence (created schema_10 standing) ≡ false) × (list_all (λ t. not (t.tree == next_tree schema_10)) schema_10.tables ≡ true) × (next_tree schema_10 ≡ 17)
+unfolding schema_10 schema_11
+standing_next = (refl, refl, refl, refl)
+
+pub makes_standing : (old new : State) (r : Result ℕ Error) → Executes standing_text [] old new r → OnOk r ((all : Trees) → ContainsIn schema_10 old.now all → ContainsIn schema_11 new.now (with_tree all 17 []))
+makes_standing old new r h =
+    subst (λ s. OnOk r ((all : Trees) → ContainsIn schema_10 old.now all → ContainsIn s new.now (with_tree all 17 []))) standing_next.0
+    (subst (λ t. OnOk r ((all : Trees) → ContainsIn schema_10 old.now all → ContainsIn (created schema_10 standing) new.now (with_tree all t []))) standing_next.3
+    (create_by schema_10 standing standing_text standing_reads.0 standing_plain standing_reads.1 standing_is standing_next.1 standing_next.2 old new r h))
+
+pub last_is : schema_11 ≡ store_schema
+unfolding schema_11 store_schema
 last_is = refl
+
+pub first_is : schema_10 ≡ first_schema
+unfolding schema_10 first_schema
+first_is = refl
+
+-- The table of marks is added to the ten tables of the first version, whatever rows they have: they keep them, and it has none.
+pub adds_standing : (old new : State) (r : Result ℕ Error) → Executes standing_text [] old new r → OnOk r ((all : Trees) → ContainsIn first_schema old.now all → ContainsIn store_schema new.now (with_tree all 17 []))
+adds_standing old new r h =
+    subst (λ s. OnOk r ((all : Trees) → ContainsIn s old.now all → ContainsIn store_schema new.now (with_tree all 17 []))) first_is
+    (subst (λ s. OnOk r ((all : Trees) → ContainsIn schema_10 old.now all → ContainsIn s new.now (with_tree all 17 []))) last_is (makes_standing old new r h))
+
+-- and the database is sound
+pub adds_soundly : (old new : State) (count : ℕ) → old.now.schema ≡ first_schema → Executes standing_text [] old new (Ok count) → IsDatabase new.now
+adds_soundly old new count has h = sound_by schema_10 standing standing_text standing_reads.0 standing_plain standing_reads.1 standing_is standing_next.1 standing_next.2 old new count (has ∙ sym first_is) h
+
+pub marks_listed : (lists_marks store_schema ≡ true) × (lists_marks first_schema ≡ false)
+unfolding store_schema first_schema same_name
+marks_listed = (refl, refl)

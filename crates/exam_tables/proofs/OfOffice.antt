@@ -1,12 +1,13 @@
 -- The table office: what its texts mean, and what they do.
-use Rattle.std.proofs.Common.{◌≡◌, ◌⊎◌, IsTrue, ℕ, ℤ, pos, List, [], ◌∷◌, codes, map, length, false, Result, OnOk, refl}
+use Rattle.std.proofs.Common.{lit≤, ◌≡◌, ◌⊎◌, IsTrue, ℕ, ℤ, pos, List, [], ◌∷◌, codes, map, length, false, Result, OnOk, refl, Bool, true, Some, slice_get}
 use Rattle.std.specs.List.{AllByRecursion}
 use Rattle.std.specs.List.Sorted.{IsPermutation}
 use Rattle.sqlite_value.specs.declared.value.Value.TheVariants.{Null, Int}
 use Rattle.sqlite_value.specs.Order.{Row}
 use Rattle.sqlite_trees.specs.Tree.{Trees, with_tree}
 use Rattle.sqlite_sql.specs.Term.{Term, lit, col}
-use Rattle.sqlite_schema.specs.declared.command.Command.TheVariants.{Insert, Select}
+use Rattle.sqlite_schema.specs.declared.command.Conflict.TheVariants.{Replace}
+use Rattle.sqlite_schema.specs.declared.command.Command.TheVariants.{InsertOr, Select}
 use Rattle.sqlite_schema.specs.declared.command.Source.TheVariants.{Values}
 use Rattle.sqlite_tied.specs.Compute.{everything}
 use Rattle.sqlite.specs.declared.error.Error.{Error}
@@ -16,14 +17,16 @@ use Rattle.sqlite.specs.Listing.{understood, reads_listing}
 use Rattle.sqlite.specs.State.{State, Executes, FailsToQuery, Shown, IsUnchanged}
 use Rattle.sqlite.proofs.Callers.{IsPlain, command_of}
 use Rattle.exam_tables.specs.Content.{ContainsIn, put}
+use Rattle.exam_tables.specs.Made.{made_schema, ContainsMade}
 use Rattle.exam_tables.specs.Plain.{one_table}
 use Rattle.exam_tables.specs.Refusals.{is_failure}
-use Rattle.exam_tables.specs.Tables.{store_schema, stored_office}
-use Rattle.exam_tables.specs.Texts.{load_office}
+use Rattle.exam_tables.specs.Tables.{store_schema, first_schema, stored_office}
+use Rattle.exam_tables.specs.Texts.{put_version, load_office}
 use Rattle.exam_tables.proofs.QueryFails.{query_fails}
+use Rattle.exam_tables.proofs.Failing.{Answers, IsWhole, answers}
 use Rattle.exam_tables.proofs.Fits.{Fits, fits_given}
 use Rattle.exam_tables.proofs.Keys.{cast_int, cast_null}
-use Rattle.exam_tables.proofs.Inserts.{insert_by}
+use Rattle.exam_tables.proofs.Statements.{put_by}
 use Rattle.exam_tables.proofs.Loads.{shown_by}
 use Rattle.exam_tables.proofs.TableFacts.{office_keyed}
 
@@ -31,19 +34,19 @@ abbrev pub row : ℤ → ℤ → Row
 row one version = Int one ∷ Int version ∷ []
 
 -- the row as it is kept, after its rowid
-abbrev columns : ℤ → ℤ → Row
+abbrev pub columns : ℤ → ℤ → Row
 columns one version = Null ∷ Int version ∷ []
 
-fits : (one : ℤ) (version : ℤ) → Fits stored_office (1 ∷ []) (Int one) (columns one version) (row one version)
+pub fits : (one : ℤ) (version : ℤ) → Fits stored_office (1 ∷ []) (Int one) (columns one version) (row one version)
 fits one version = fits_given stored_office (1 ∷ []) one (columns one version) (row one version) refl (simp (cast_null, cast_int)) refl (λ r. refl)
 
 abbrev pub terms : List Term
 terms = lit (Int (pos 1)) ∷ lit Null ∷ col 0 0 ∷ []
 
 abbrev pub put_text : List ℕ
-put_text = codes "INSERT INTO office (one, version) VALUES (1, ?1)"
+put_text = put_version
 
-pub put_is : command_of (understood store_schema put_text) ≡ Insert 0 (Values terms 3)
+pub put_is : command_of (understood store_schema put_text) ≡ InsertOr 0 Replace (Values terms 3) []
 unfolding understood everything store_schema
 put_is = refl
 
@@ -52,9 +55,16 @@ unfolding understood everything store_schema
 put_plain = (refl, refl)
 
 pub puts : (old new : State) (version : ℤ) (r : Result ℕ Error) → Executes put_text (Int version ∷ []) old new r
-    → OnOk r ((all : Trees) → ContainsIn store_schema old.now all → ContainsIn store_schema new.now (with_tree all 0 (put (1 ∷ []) (Null ∷ Int (pos 1) ∷ Int version ∷ []) (all 0))))
+    → OnOk r ((all : Trees) → ContainsIn store_schema old.now all → ContainsIn store_schema new.now (with_tree all 0 (put (1 ∷ []) (Null ∷ row (pos 1) version) (all 0))))
 puts old new version r h =
-    insert_by store_schema 0 stored_office (1 ∷ []) (0 ∷ []) office_keyed put_text terms 3 put_is put_plain old new (Int version ∷ []) r (Int (pos 1)) (columns (pos 1) version) (row (pos 1) version) (fits (pos 1) version) refl h
+    put_by store_schema 0 stored_office (1 ∷ []) (0 ∷ []) office_keyed put_text terms 3 put_is put_plain old new (Int version ∷ []) r (Int (pos 1)) (columns (pos 1) version) (row (pos 1) version) (fits (pos 1) version) refl h
+
+put_whole : IsWhole put_text 1 (understood store_schema put_text)
+unfolding understood everything store_schema
+put_whole = (lit≤ tt, refl)
+
+pub put_answers : (old new : State) (version : ℤ) → old.now.schema ≡ store_schema → Answers put_text (Int version ∷ []) old new
+put_answers old new version has = answers put_text (Int version ∷ []) old new store_schema has _ put_is tt put_plain put_whole
 
 abbrev pub load_text : List ℕ
 load_text = load_office
@@ -62,22 +72,30 @@ load_text = load_office
 abbrev shown_terms : List Term
 shown_terms = col 1 0 ∷ col 1 2 ∷ []
 
-load_is : command_of (understood store_schema load_text) ≡ Select (record { lets = []; body = one_table 0 [] shown_terms [] }) (codes "one" ∷ codes "version" ∷ [])
-unfolding understood everything store_schema
-load_is = refl
+load_place : (has_marks : Bool) → slice_get (made_schema has_marks).tables 0 ≡ Some stored_office
+unfolding store_schema first_schema
+load_place true = refl
+load_place false = refl
 
-load_plain : IsPlain (understood store_schema load_text)
-unfolding understood everything store_schema
-load_plain = (refl, refl)
+load_is : (has_marks : Bool) → command_of (understood (made_schema has_marks) load_text) ≡ Select (record { lets = []; body = one_table 0 [] shown_terms [] }) (codes "one" ∷ codes "version" ∷ [])
+unfolding understood everything store_schema first_schema
+load_is true = refl
+load_is false = refl
 
-load_unlisted : reads_listing store_schema load_text ≡ false
-unfolding understood everything store_schema
-load_unlisted = refl
+load_plain : (has_marks : Bool) → IsPlain (understood (made_schema has_marks) load_text)
+unfolding understood everything store_schema first_schema
+load_plain true = (refl, refl)
+load_plain false = (refl, refl)
 
-pub shows : (old new : State) (rows : List Row) (all : Trees) → ContainsIn store_schema old.now all → Shown load_text [] old new rows
+load_unlisted : (has_marks : Bool) → reads_listing (made_schema has_marks) load_text ≡ false
+unfolding understood everything store_schema first_schema
+load_unlisted true = refl
+load_unlisted false = refl
+
+pub shows : (old new : State) (rows : List Row) (all : Trees) → ContainsMade old.now all → Shown load_text [] old new rows
     → IsPermutation (all 0) (map (λ r. Null ∷ r) rows) × AllByRecursion (λ r. length r ≡ 2) rows × IsUnchanged old new
-shows = shown_by store_schema 0 stored_office (1 ∷ []) (0 ∷ []) office_keyed load_text shown_terms [] _ load_is load_plain load_unlisted (λ db. refl) (λ r. refl) refl
+shows old new rows all was = shown_by (made_schema was.has_marks) 0 stored_office (load_place was.has_marks) load_text shown_terms [] _ (load_is was.has_marks) (load_plain was.has_marks) (load_unlisted was.has_marks) (λ db. refl) (λ r. refl) refl old new rows all was.contains
 
 -- where it fails, the text was understood
-pub load_fails : (old new : State) → old.now.schema ≡ store_schema → (e : Error) → FailsToQuery load_text [] old new e → (e ≡ SqliteFailure OutOfMemory) ⊎ IsTrue (is_failure e)
-load_fails old new has e h = query_fails load_text [] old new store_schema has load_plain e h
+pub load_fails : (old new : State) (has_marks : Bool) → old.now.schema ≡ made_schema has_marks → (e : Error) → FailsToQuery load_text [] old new e → (e ≡ SqliteFailure OutOfMemory) ⊎ IsTrue (is_failure e)
+load_fails old new has_marks has e h = query_fails load_text [] old new (made_schema has_marks) has (load_plain has_marks) e h

@@ -1,5 +1,5 @@
 -- The table paper: what its texts mean, and what they do.
-use Rattle.std.proofs.Common.{◌≡◌, ◌⊎◌, IsTrue, lit≤, ℕ, ℤ, List, [], ◌∷◌, ◌++◌, codes, map, length, true, false, Result, OnOk, Option, refl, ap}
+use Rattle.std.proofs.Common.{◌≡◌, ◌⊎◌, IsTrue, lit≤, ℕ, ℤ, List, [], ◌∷◌, ◌++◌, codes, map, length, true, false, Result, OnOk, Option, refl, ap, Bool, Some, slice_get}
 use Rattle.std.specs.List.{AllByRecursion, list_all}
 use Rattle.std.specs.List.Sorted.{IsPermutation}
 use Rattle.std.proofs.lemmas.Bool.{and_parts}
@@ -24,9 +24,10 @@ use Rattle.sqlite.specs.Listing.{understood, reads_listing}
 use Rattle.sqlite.specs.State.{State, Executes, FailsToQuery, Shown, IsUnchanged}
 use Rattle.sqlite.proofs.Callers.{IsPlain, command_of}
 use Rattle.exam_tables.specs.Content.{ContainsIn, places, bare, put, delete, same_key, same_rowid}
+use Rattle.exam_tables.specs.Made.{made_schema, ContainsMade}
 use Rattle.exam_tables.specs.Plain.{one_table, on_conflict}
 use Rattle.exam_tables.specs.Refusals.{Refuses, RefusesRows, is_failure}
-use Rattle.exam_tables.specs.Tables.{store_schema, stored_paper}
+use Rattle.exam_tables.specs.Tables.{store_schema, first_schema, stored_paper}
 use Rattle.exam_tables.specs.Texts.{put_paper, delete_paper, load_paper}
 use Rattle.exam_tables.proofs.Failing.{Answers, IsWhole, answers}
 use Rattle.exam_tables.proofs.Fits.{Fits, fits_chosen}
@@ -136,22 +137,30 @@ load_text = load_paper
 abbrev shown_terms : List Term
 shown_terms = col 1 1 ∷ col 1 2 ∷ col 1 3 ∷ col 1 4 ∷ col 1 5 ∷ []
 
-load_is : command_of (understood store_schema load_text) ≡ Select (record { lets = []; body = one_table 3 [] shown_terms [] }) (codes "code" ∷ codes "title" ∷ codes "session" ∷ codes "minutes" ∷ codes "requires" ∷ [])
-unfolding understood everything store_schema
-load_is = refl
+load_place : (has_marks : Bool) → slice_get (made_schema has_marks).tables 2 ≡ Some stored_paper
+unfolding store_schema first_schema
+load_place true = refl
+load_place false = refl
 
-load_plain : IsPlain (understood store_schema load_text)
-unfolding understood everything store_schema
-load_plain = (refl, refl)
+load_is : (has_marks : Bool) → command_of (understood (made_schema has_marks) load_text) ≡ Select (record { lets = []; body = one_table 3 [] shown_terms [] }) (codes "code" ∷ codes "title" ∷ codes "session" ∷ codes "minutes" ∷ codes "requires" ∷ [])
+unfolding understood everything store_schema first_schema
+load_is true = refl
+load_is false = refl
 
-load_unlisted : reads_listing store_schema load_text ≡ false
-unfolding understood everything store_schema
-load_unlisted = refl
+load_plain : (has_marks : Bool) → IsPlain (understood (made_schema has_marks) load_text)
+unfolding understood everything store_schema first_schema
+load_plain true = (refl, refl)
+load_plain false = (refl, refl)
 
-pub shows : (old new : State) (rows : List Row) (all : Trees) → ContainsIn store_schema old.now all → Shown load_text [] old new rows
+load_unlisted : (has_marks : Bool) → reads_listing (made_schema has_marks) load_text ≡ false
+unfolding understood everything store_schema first_schema
+load_unlisted true = refl
+load_unlisted false = refl
+
+pub shows : (old new : State) (rows : List Row) (all : Trees) → ContainsMade old.now all → Shown load_text [] old new rows
     → IsPermutation (all 3) (map (λ r. Null ∷ r) rows) × AllByRecursion (λ r. length r ≡ 5) rows × IsUnchanged old new
-shows = shown_by store_schema 2 stored_paper (1 ∷ []) (1 ∷ []) paper_keyed load_text shown_terms [] _ load_is load_plain load_unlisted (λ db. refl) (λ r. refl) refl
+shows old new rows all was = shown_by (made_schema was.has_marks) 2 stored_paper (load_place was.has_marks) load_text shown_terms [] _ (load_is was.has_marks) (load_plain was.has_marks) (load_unlisted was.has_marks) (λ db. refl) (λ r. refl) refl old new rows all was.contains
 
 -- where it fails, the text was understood
-pub load_fails : (old new : State) → old.now.schema ≡ store_schema → (e : Error) → FailsToQuery load_text [] old new e → (e ≡ SqliteFailure OutOfMemory) ⊎ IsTrue (is_failure e)
-load_fails old new has e h = query_fails load_text [] old new store_schema has load_plain e h
+pub load_fails : (old new : State) (has_marks : Bool) → old.now.schema ≡ made_schema has_marks → (e : Error) → FailsToQuery load_text [] old new e → (e ≡ SqliteFailure OutOfMemory) ⊎ IsTrue (is_failure e)
+load_fails old new has_marks has e h = query_fails load_text [] old new (made_schema has_marks) has (load_plain has_marks) e h

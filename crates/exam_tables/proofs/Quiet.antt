@@ -29,6 +29,7 @@ use Rattle.exam_tables.proofs.OfEntry as entry
 use Rattle.exam_tables.proofs.OfArrangement as arrangement
 use Rattle.exam_tables.proofs.OfAppeal as appeal
 use Rattle.exam_tables.proofs.OfSeat as seat
+use Rattle.exam_tables.proofs.OfStanding as standing
 
 -- the text has no RETURNING
 abbrev pub IsQuery : List ℕ → Type 0
@@ -137,3 +138,7 @@ seat_is_query schema base = refl
 pub session_appeals_is_query : IsQuery session_appeals
 unfolding everything
 session_appeals_is_query schema base = refl
+
+pub standing_is_query : IsQuery standing.load_text
+unfolding everything
+standing_is_query schema base = refl

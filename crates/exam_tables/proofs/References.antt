@@ -1,4 +1,4 @@
--- What the rows of the ten tables refer to: where each has it, no foreign key stands against a statement.
+-- What the rows of the eleven tables refer to: where each has it, no foreign key stands against a statement.
 use Rattle.std.proofs.Common.{◌≡◌, ℕ, List, [], ◌∷◌, Bool, true, refl, subst, ◌∙◌}
 use Rattle.std.specs.Cmp.Derive.{both_true}
 use Rattle.std.specs.List.{AllByRecursion, list_any}
@@ -15,7 +15,7 @@ use Rattle.sqlite_rules.proofs.ListLemmas.{all_has, all_from, some_from, some_ha
 use Rattle.sqlite_rules.proofs.ProbeLemmas.{has_mapped, mapped_has}
 use Rattle.sqlite.specs.Effect.{Database}
 use Rattle.exam_tables.specs.Content.{ContainsIn, Holds, places, bare}
-use Rattle.exam_tables.specs.Tables.{store_schema, stored_session, stored_paper, stored_hall, stored_candidate, stored_opening, stored_entry, stored_arrangement, stored_appeal, stored_seat}
+use Rattle.exam_tables.specs.Tables.{store_schema, stored_session, stored_paper, stored_hall, stored_candidate, stored_opening, stored_entry, stored_arrangement, stored_appeal, stored_seat, stored_standing}
 use Rattle.exam_tables.proofs.Queries.{has_permuted}
 
 -- a foreign key: the tree of the rows that refer to others, the places of their columns, and the tree and the key of those others
@@ -28,13 +28,14 @@ pub record Link : Type 0 where
 abbrev pub link : ℕ → List ℕ → ℕ → List ℕ → Link
 link child columns parent key = record { child = child; columns = columns; parent = parent; key = key }
 
--- the foreign keys of the ten tables, by the rows that are meant
+-- the foreign keys of the eleven tables, by the rows that are meant
 abbrev pub links : List Link
 links =
     link 3 (3 ∷ []) 1 (1 ∷ []) ∷ link 8 (1 ∷ []) 1 (1 ∷ []) ∷ link 8 (2 ∷ []) 5 (1 ∷ [])
     ∷ link 10 (1 ∷ []) 7 (1 ∷ []) ∷ link 10 (2 ∷ []) 3 (1 ∷ []) ∷ link 12 (1 ∷ []) 7 (1 ∷ [])
     ∷ link 13 (1 ∷ []) 7 (1 ∷ []) ∷ link 13 (3 ∷ []) 1 (1 ∷ [])
-    ∷ link 15 (2 ∷ []) 7 (1 ∷ []) ∷ link 15 (1 ∷ 3 ∷ []) 8 (1 ∷ 2 ∷ []) ∷ []
+    ∷ link 15 (2 ∷ []) 7 (1 ∷ []) ∷ link 15 (1 ∷ 3 ∷ []) 8 (1 ∷ 2 ∷ [])
+    ∷ link 17 (1 ∷ 2 ∷ []) 13 (1 ∷ 2 ∷ []) ∷ []
 
 -- one of these rows is the one that the row refers to
 abbrev pub has_parent : Link → List Row → Row → Bool
@@ -85,7 +86,10 @@ module _ (db all : Trees) where
                     (
                       all_from _ (db 15) (λ r h. both_true (or_right _ _ (kept (places stored_seat) (places stored_candidate) _ _ _ _ (rows.1.1.1.1.1.1.1.1.1.0) (rows.1.1.1.1.0) _ _ (λ p r. refl) (stand.1.1.1.1.1.1.1.1.0) r h))
                           (both_true (or_right _ _ (kept (places stored_seat) (places stored_opening) _ _ _ _ (rows.1.1.1.1.1.1.1.1.1.0) (rows.1.1.1.1.1.0) _ _ (λ p r. refl) (stand.1.1.1.1.1.1.1.1.1.0) r h)) refl)),
-                      tt,
+                      (
+                        all_from _ (db 17) (λ r h. both_true (or_right _ _ (kept (places stored_standing) (places stored_appeal) _ _ _ _ (rows.1.1.1.1.1.1.1.1.1.1.0) (rows.1.1.1.1.1.1.1.1.0) _ _ (λ p r. refl) (stand.1.1.1.1.1.1.1.1.1.1.0) r h)) refl),
+                        tt,
+                      ),
                     ),
                   ),
                 ),

@@ -132,7 +132,7 @@ module _ (schema : Schema) (at : ℕ) (table : Table) (key target : List ℕ) (k
     task = record { limit = limit; keys = Enforced; schema = schema; table = table; params = params }
 
     -- a statement with one source row tries to put the row that it becomes
-    tries_one : (way : Conflict) (clauses : List Upsert) (db : Trees) (source : Row) (terms : List Term) (width : ℕ) (w : Written) → value_rows params width (length terms / width) terms ≡ source ∷ [] → InsertsOr task way clauses (Values terms width) db (Ok w)
+    pub tries_one : (way : Conflict) (clauses : List Upsert) (db : Trees) (source : Row) (terms : List Term) (width : ℕ) (w : Written) → value_rows params width (length terms / width) terms ≡ source ∷ [] → InsertsOr task way clauses (Values terms width) db (Ok w)
         → (one : Written) × Tries task way clauses (with_rowid Chosen (db table.tree) (cast_row table (mended way table source))) db (Ok one) × (w.trees ≡ one.trees)
     tries_one way clauses db source terms width w given wrote =
         let sourced = went wrote in
@@ -186,7 +186,7 @@ module _ (schema : Schema) (at : ℕ) (table : Table) (key target : List ℕ) (k
       ]
 
       -- the rows that are found are those with the key
-      finds : (db : Trees) (new : Comes table key first columns values (db table.tree)) (found : List Row) → IsShaped TableShape (db table.tree)
+      pub finds : (db : Trees) (new : Comes table key first columns values (db table.tree)) (found : List Row) → IsShaped TableShape (db table.tree)
           → AreConflicts None schema.indexes table (db table.tree) (Int new.id ∷ columns) found → without_all (db table.tree) (ids_of found) ≡ without values (db table.tree)
       finds db new found shaped are = taken_out (λ r. same_key key (bare (places table) r) (Null ∷ values)) (db table.tree) (ids_of found) shaped sound complete
         where
@@ -222,7 +222,7 @@ module _ (schema : Schema) (at : ℕ) (table : Table) (key target : List ℕ) (k
           }
 
       -- INSERT OR REPLACE
-      replaces : (db : Trees) (new : Comes table key first columns values (db table.tree)) (one : Written) → IsShaped TableShape (db table.tree) → Tries task Replace [] (Int new.id ∷ columns) db (Ok one) → IsPut columns values db one.trees
+      pub replaces : (db : Trees) (new : Comes table key first columns values (db table.tree)) (one : Written) → IsShaped TableShape (db table.tree) → Tries task Replace [] (Int new.id ∷ columns) db (Ok one) → IsPut columns values db one.trees
       replaces db new one shaped (inl stops) = absurd (let e = stops.1 in cc)
       replaces db new one shaped (inr (None, judged, h)) = clears db new one h.0 (finds db new h.0 shaped h.1) h.2
       replaces db new one shaped (inr (Some why, judged, h)) = absurd cc

@@ -1,4 +1,4 @@
--- The ten tables are keyed.
+-- The eleven tables are keyed.
 use Rattle.std.proofs.Common.{◌≡◌, ℕ, refl, ap, List, [], ◌∷◌, Bool, true, false, ◌||◌, ◌==◌, length, flat_map}
 use Rattle.std.specs.List.{filter_map}
 use Rattle.std.proofs.lemmas.Bool.{and_parts, not-true}
@@ -6,7 +6,7 @@ use Rattle.sqlite_schema.specs.declared.schema.Keys.TheVariants.{Enforced}
 use Rattle.sqlite_schema.specs.Rules.{parent_key}
 use Rattle.sqlite_rules.specs.Action.{Work, works, work_by, deed_for, pairs}
 use Rattle.sqlite_value.specs.Order.{Row}
-use Rattle.exam_tables.specs.Tables.{store_schema, stored_office, stored_session, stored_paper, stored_hall, stored_candidate, stored_opening, stored_entry, stored_arrangement, stored_appeal, stored_seat}
+use Rattle.exam_tables.specs.Tables.{store_schema, stored_office, stored_session, stored_paper, stored_hall, stored_candidate, stored_opening, stored_entry, stored_arrangement, stored_appeal, stored_seat, stored_standing}
 use Rattle.exam_tables.specs.Content.{same_rowid}
 use Rattle.exam_tables.specs.Keyed.{IsKeyed}
 use Rattle.exam_tables.proofs.Keys.{alone_by_index, alone_by_rowid}
@@ -159,5 +159,18 @@ seat_keyed = record {
   barred = λ a b. ap (λ x. same_rowid a b || x) (or_false _);
   aimed = λ a b. or_false _;
   alone = alone_by_index store_schema stored_seat (1 ∷ 2 ∷ []) (λ db s h. not-true _ (and_parts _ _ h).0);
+  still = still _;
+}
+
+pub standing_keyed : IsKeyed store_schema 10 stored_standing (1 ∷ 2 ∷ []) (1 ∷ 2 ∷ [])
+unfolding store_schema
+standing_keyed = record {
+  place = refl;
+  uncounted = refl;
+  unstamped = refl;
+  apart = refl;
+  barred = λ a b. ap (λ x. same_rowid a b || x) (or_false _);
+  aimed = λ a b. or_false _;
+  alone = alone_by_index store_schema stored_standing (1 ∷ 2 ∷ []) (λ db s h. not-true _ (and_parts _ _ h).0);
   still = still _;
 }

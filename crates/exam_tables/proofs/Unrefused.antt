@@ -1,5 +1,5 @@
--- The texts that make the ten tables are refused by no database that has the tables before them.
-use Rattle.std.proofs.Common.{◌≡◌, [], lit<, lit≤, Err, refl}
+-- The texts that make the eleven tables are refused by no database that has the tables before them.
+use Rattle.std.proofs.Common.{◌≡◌, ◌∙◌, sym, [], lit<, lit≤, Err, refl}
 use lib.Utf8.{encode}
 use Rattle.sqlite_value.specs.Order.{value_cmp}
 use Rattle.sqlite_trees.specs.Sound.{fits_kind, is_free_name, same_name, begins}
@@ -8,8 +8,8 @@ use Rattle.sqlite.specs.declared.error.Error.{Error}
 use Rattle.sqlite.specs.Listing.{understood}
 use Rattle.sqlite.specs.State.{State, ExecutesInside}
 use Rattle.exam_tables.specs.Refusals.{Fails}
-use Rattle.exam_tables.specs.Tables.{office, office_text, session, session_text, paper, paper_text, hall, hall_text, candidate, candidate_text, opening, opening_text, entry, entry_text, arrangement, arrangement_text, appeal, appeal_text, seat, seat_text}
-use Rattle.exam_tables.specs.Grows.{schema_0, schema_1, schema_2, schema_3, schema_4, schema_5, schema_6, schema_7, schema_8, schema_9}
+use Rattle.exam_tables.specs.Tables.{office, office_text, session, session_text, paper, paper_text, hall, hall_text, candidate, candidate_text, opening, opening_text, entry, entry_text, arrangement, arrangement_text, appeal, appeal_text, seat, seat_text, standing, standing_text, first_schema}
+use Rattle.exam_tables.specs.Grows.{schema_0, schema_1, schema_2, schema_3, schema_4, schema_5, schema_6, schema_7, schema_8, schema_9, schema_10}
 use Rattle.exam_tables.proofs.Failing.{IsWhole}
 use Rattle.exam_tables.proofs.CreateFails.{IsFree, fails_create}
 use Rattle.exam_tables.proofs.Making as making
@@ -243,3 +243,30 @@ seat_whole = (lit≤ tt, refl)
 
 pub seat_fails : (old new : State) → old.now.schema ≡ schema_9 → (e : Error) → ExecutesInside 0 seat_text [] old new (Err e) → Fails old new ⊥ e
 seat_fails old new has = fails_create schema_9 seat seat_text making.seat_reads.0 making.seat_plain seat_whole making.seat_reads.1 making.seat_is making.seat_next.1 seat_free old new has
+
+standing_free : IsFree schema_10 standing standing_text
+unfolding everything encode value_cmp fits_kind is_free_name same_name begins lib.Ieee.is_nan lib.Ieee.lt schema_10
+standing_free = record {
+  name = refl;
+  keys = refl;
+  utf8 = (standing_text, (refl, refl));
+  name_utf8 = (standing.name, (refl, refl));
+  own = refl;
+  few = lit< tt;
+  narrow = lit< tt;
+  narrow_keys = refl;
+  formed = refl;
+  fit = refl;
+  short = lit< tt;
+}
+
+standing_whole : IsWhole standing_text 0 (understood schema_10 standing_text)
+unfolding understood everything schema_10
+standing_whole = (lit≤ tt, refl)
+
+pub standing_fails : (old new : State) → old.now.schema ≡ schema_10 → (e : Error) → ExecutesInside 0 standing_text [] old new (Err e) → Fails old new ⊥ e
+standing_fails old new has = fails_create schema_10 standing standing_text making.standing_reads.0 making.standing_plain standing_whole making.standing_reads.1 making.standing_is making.standing_next.1 standing_free old new has
+
+-- the text that adds it to the tables of the first version is refused by none that have them, whatever their rows
+pub adding_fails : (old new : State) → old.now.schema ≡ first_schema → (e : Error) → ExecutesInside 0 standing_text [] old new (Err e) → Fails old new ⊥ e
+adding_fails old new has = standing_fails old new (has ∙ sym making.first_is)

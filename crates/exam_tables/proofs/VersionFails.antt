@@ -1,58 +1,62 @@
--- Why the row of the version is not put, where no table has a row: only steps that are too few refuse it.
-use Rattle.std.proofs.Common.{◌≡◌, ◌⊎◌, ◌==◌, ◌||◌, not, inl, inr, ℕ, zero, suc, pos, List, [], ◌∷◌, length, map, Bool, true, false, None, Some, Option, Ok, Err, Result, refl, sym, ap, ap₂, subst, subst₂, ◌∙◌, arith, IsSome, lit≤, lit<, length-append, true≢false, All, nat_lt}
-use Rattle.std.specs.List.{AllByRecursion, list_all}
-use Rattle.std.proofs.lemmas.Bool.{not-true, cases_Bool, eqb-true, eqb-false}
-use Rattle.sqlite_value.specs.declared.value.Value.TheVariants.{Null, Int}
-use Rattle.sqlite_value.specs.Order.{Row, number}
+-- Why the version is not set: whatever rows the tables have, only steps that are too few stand against it.
+use Rattle.std.proofs.Common.{◌≡◌, ◌⊎◌, ◌==◌, ◌||◌, ◌&&◌, not, inl, inr, ℕ, ℤ, zero, suc, pos, negsuc, List, [], ◌∷◌, length, Bool, true, false, None, Some, Option, Ok, Err, Result, refl, sym, ap, ap₂, subst, ◌∙◌, arith, IsSome, lit≤, lit<, length-append, true≢false, All, map, Equal}
+use Rattle.std.specs.List.{AllByRecursion, list_all, list_any}
+use Rattle.std.specs.Ordering.{is_eq}
+use Rattle.std.specs.Cmp.Derive.{both_true}
+use Rattle.std.proofs.lemmas.List.Sorted.{length_permutation}
+use Rattle.std.proofs.lemmas.Bool.{not-true, and_parts, cases_Bool, eqb-true, eqb-false, false_from_ne_true}
 use Rattle.std.specs.Float.{NotNan}
 use Rattle.std.proofs.lemmas.Nat.Bits.{bit_at-zero}
+use Rattle.sqlite_value.specs.declared.value.Value.TheVariants.{Null, Int}
+use Rattle.sqlite_value.specs.Order.{Row, number, value_cmp}
+use Rattle.sqlite_value.specs.Keys.{plain, first_key, joined}
+use Rattle.sqlite_trees.specs.declared.store.Shape.TheVariants.{Table as TableShape}
 use Rattle.sqlite_trees.specs.Tree.{Trees, rowid}
-use Rattle.sqlite_trees.specs.View.{IsStorableRow}
+use Rattle.sqlite_trees.specs.View.{IsShaped, IsStorableRow}
 use Rattle.sqlite_sql.specs.Ops.{fits_i64}
-use Rattle.sqlite_sql.specs.Term.{Term, lit, col}
+use Rattle.sqlite_schema.specs.declared.command.Conflict.TheVariants.{Replace}
+use Rattle.sqlite_schema.specs.declared.command.Command.TheVariants.{InsertOr}
+use Rattle.sqlite_schema.specs.declared.command.Source.TheVariants.{Values}
+use Rattle.sqlite_schema.specs.declared.schema.Constraint.{Constraint}
 use Rattle.sqlite_schema.specs.declared.schema.Constraint.TheVariants.{Datatype, NotNull, Check, PrimaryKey, Unique, ForeignKey}
 use Rattle.sqlite_schema.specs.declared.schema.Keys.TheVariants.{Enforced}
+use Rattle.sqlite_schema.specs.declared.schema.Among.TheVariants as among
 use Rattle.sqlite_schema.specs.declared.schema.Table.{Table}
 use Rattle.sqlite_schema.specs.declared.schema.Index.{Index}
-use Rattle.sqlite_schema.specs.declared.schema.Among.TheVariants as among
-use Rattle.sqlite_schema.specs.Rules.{passes, guards, Keeps, Refers, is_among, has_parent, references_fit, table_reals}
+use Rattle.sqlite_schema.specs.declared.schema.Reference.{Reference}
+use Rattle.sqlite_schema.specs.Names.{same_name}
+use Rattle.sqlite_schema.specs.Rules.{passes, guards, clashes, equal, Keeps, Refers, ParentKey, parent_key, agree, has_null, is_held, is_among, has_parent, references_fit, table_reals}
 use Rattle.sqlite_rules.specs.declared.error.Refusal.{Refusal}
 use Rattle.sqlite_rules.specs.declared.error.Refusal.TheVariants.{Violates, Mismatch, NoRowid, BadReference, TooDeep}
-use Rattle.sqlite_rules.specs.declared.error.Rowids.TheVariants.{Chosen}
-use Rattle.sqlite_rules.specs.Edit.{Edit, edit_of, edited, IsRefused, IsOversized, are_fresh, have_rowids, with_rowid, id_in, is_off, taken_by, Applies}
-use Rattle.sqlite_schema.specs.declared.command.Source.TheVariants.{Values}
+use Rattle.sqlite_rules.specs.declared.error.Rowids.TheVariants.{Chosen, Given}
+use Rattle.sqlite_rules.specs.Action.{Leads, Writes}
+use Rattle.sqlite_rules.specs.Calls.{ids_of}
+use Rattle.sqlite_rules.specs.Cast.{cast_row}
+use Rattle.sqlite_rules.specs.Edit.{Edit, edit_of, left_by, IsRefused, IsOversized, are_fresh, have_rowids, with_rowid, without_all, id_in, is_taken, taken_by}
+use Rattle.sqlite_rules.specs.Lists.{Has}
+use Rattle.sqlite_rules.specs.Steps.{IsJudged}
+use Rattle.sqlite_rules.proofs.ListLemmas.{all_has, all_from, test_has, test_from, has_got, has_filtered, some_has}
+use Rattle.sqlite_rules.proofs.TableLemmas.{int_is}
 use Rattle.sqlite.specs.declared.error.Error.{Error}
 use Rattle.sqlite.specs.declared.error.Error.TheVariants.{SqliteFailure}
 use Rattle.sqlite.specs.declared.error.ErrorCode.TheVariants.{OperationInterrupted}
-use Rattle.sqlite.specs.Rows.{Task, Written, Sourced, Edited, Inserts, stamped}
-use Rattle.sqlite.specs.Does.{Does, AtPlace, OnRows, Concludes}
+use Rattle.sqlite.specs.Rows.{Task, Written, Sourced, Edited, Puts, Clears, Tries, TriesEach, InsertsOr, count_of, mended, nothing, stamped}
+use Rattle.sqlite.specs.Does.{Does, OnRows, Concludes}
+use Rattle.sqlite.specs.Effect.{Database, IsDatabase}
 use Rattle.sqlite.specs.Listing.{understood}
-use Rattle.sqlite.specs.State.{State, ExecutesInside, Escapes, IsMisplaced}
-use Rattle.sqlite.proofs.Callers.{one_step, statement_of}
-use Rattle.sqlite_tied.specs.Compute.{everything}
-use Rattle.sqlite_schema.specs.declared.command.Command.TheVariants.{Insert}
-use Rattle.std.proofs.lemmas.List.Sorted.{length_permutation}
-use Rattle.exam_tables.specs.Content.{ContainsIn, Holds, places, bare}
-use Rattle.exam_tables.specs.Refusals.{Fails, at_once}
-use Rattle.exam_tables.proofs.Failing.{IsWhole}
-use Rattle.exam_tables.proofs.OfOffice as office
-use Rattle.exam_tables.proofs.StatementFails.{IsQuiet, fails_by}
-use Rattle.exam_tables.proofs.Statements.{went, same_value}
-use Rattle.sqlite_rules.specs.Action.{Leads, Writes}
-use Rattle.sqlite_rules.specs.Lists.{Has}
-use Rattle.sqlite_rules.proofs.ListLemmas.{all_has, all_from, test_has, test_from, has_got}
+use Rattle.sqlite.specs.State.{State, ExecutesInside, text_of}
+use Rattle.sqlite.proofs.Callers.{IsPlain, command_of, one_step}
+use Rattle.exam_tables.specs.Content.{ContainsIn, Holds, bare, places, same_key, same_rowid}
+use Rattle.exam_tables.specs.Refusals.{Fails, Refuses, at_once}
 use Rattle.exam_tables.specs.Tables.{store_schema, stored_office}
-use Rattle.exam_tables.proofs.Keys.{cast_int, cast_null}
+use Rattle.exam_tables.proofs.Fits.{Comes}
+use Rattle.exam_tables.proofs.Keys.{cast_int, cast_null, equal_is, equal_itself, same_ints}
+use Rattle.exam_tables.proofs.KeysHold.{on_insert}
+use Rattle.exam_tables.proofs.OfOffice as office
+use Rattle.exam_tables.proofs.Statements.{finds, replaces, tries_one, without, held_at, database_is}
 use Rattle.exam_tables.proofs.TableFacts.{office_keyed}
 
-abbrev row : Row
-row = Int (pos 1) ∷ Null ∷ Int (pos 1) ∷ []
-
-put_whole : IsWhole office.put_text 1 (understood store_schema office.put_text)
-unfolding understood everything store_schema
-put_whole = (lit≤ tt, refl)
-
--- no key stands on the first table
+-- no index stands on the first table
 unguarded : list_all (λ (t : Table). not (t.tree == 0) || list_all (λ i. not (guards i t)) store_schema.indexes) store_schema.tables ≡ true
 unfolding store_schema
 unguarded = refl
@@ -61,10 +65,27 @@ unindexed : list_all (λ (i : Index). not (i.table == 0)) store_schema.indexes �
 unfolding store_schema
 unindexed = refl
 
--- and it refers to no other
+-- it refers to no other
 rootless : list_all (λ (t : Table). not (t.tree == 0) || (length t.references == 0)) store_schema.tables ≡ true
 unfolding store_schema
 rootless = refl
+
+-- the key is that of a table other than the first
+abbrev is_elsewhere : Option ParentKey → Bool
+is_elsewhere None = true
+is_elsewhere (Some key) = not (key.0 == 0) && list_any (λ (t : Table). t.tree == key.0) store_schema.tables
+
+-- and no other refers to it
+childless : list_all (λ (t : Table). list_all (λ (ref : Reference). is_elsewhere (parent_key store_schema.tables ref)) t.references) store_schema.tables ≡ true
+unfolding store_schema same_name joined
+childless = refl
+
+fit_references : (adds removes : Bool) → references_fit store_schema stored_office adds removes ≡ true
+unfolding store_schema same_name
+fit_references true true = refl
+fit_references true false = refl
+fit_references false true = refl
+fit_references false false = refl
 
 first_table : Has store_schema.tables stored_office
 first_table = has_got store_schema.tables 0 stored_office office_keyed.place
@@ -77,38 +98,102 @@ none_of : {X : Type 0} (test : X → Bool) (xs : List X) → (length xs == 0) �
 none_of test [] is = refl
 none_of test (x ∷ xs) is = let zero : length (x ∷ xs) ≡ 0 = eqb-true _ _ is in absurd (omega arith)
 
--- UNIQUE holds where no other table has a row
-keeps_unique : (next : Trees) → ((t : Table) → Has store_schema.tables t → (t.tree == 0) ≡ false → next t.tree ≡ []) → Keeps Unique store_schema next
-keeps_unique next others = all_from _ store_schema.tables (λ t has. by_tree t has (cases_Bool (t.tree == 0)))
+-- each other table has the rows that it had
+abbrev KeepsOthers : Trees → Trees → Type 0
+KeepsOthers db next = (t : Table) → Has store_schema.tables t → (t.tree == 0) ≡ false → next t.tree ≡ db t.tree
+
+-- so UNIQUE holds still
+keeps_unique : (db next : Trees) → KeepsOthers db next → Keeps Unique store_schema db → Keeps Unique store_schema next
+keeps_unique db next others was = all_from _ store_schema.tables (λ t has. by_tree t has (cases_Bool (t.tree == 0)))
   where
     alone : (t : Table) → Has store_schema.tables t → (t.tree == 0) ≡ true → (r : Row) → passes Unique store_schema next t r ≡ true
     alone t has is r = test_from _ store_schema.indexes (λ i hi. let none : guards i t ≡ false = not-true _ (test_has (λ i. not (guards i t)) store_schema.indexes i (of_first (λ t. list_all (λ i. not (guards i t)) store_schema.indexes) unguarded t has is) hi) in rw none refl)
 
     by_tree : (t : Table) → Has store_schema.tables t → ((t.tree == 0) ≡ true) ⊎ ((t.tree == 0) ≡ false) → AllByRecursion (λ r. passes Unique store_schema next t r ≡ true) (next t.tree)
     by_tree t has (inl is) = all_from _ (next t.tree) (λ r hr. alone t has is r)
-    by_tree t has (inr other) = rw (others t has other) tt
+    by_tree t has (inr other) =
+        subst (λ l. AllByRecursion (λ r. list_all (λ i. not (guards i t && clashes i.order i.columns l r)) store_schema.indexes ≡ true) l) (sym (others t has other)) (all_has _ store_schema.tables t was has)
 
-module _ (db : Trees) (none : AllByRecursion (λ (t : Table). db t.tree ≡ []) store_schema.tables) where
-  empty : (t : Table) → Has store_schema.tables t → db t.tree ≡ []
-  empty t has = all_has (λ (t : Table). db t.tree ≡ []) store_schema.tables t none has
+-- and so do the foreign keys
+module _ (db next : Trees) (others : KeepsOthers db next) where
+  same_parent : (r : Row) (columns : List ℕ) (key : Option ParentKey) → is_elsewhere key ≡ true → is_held next columns r key ≡ is_held db columns r key
+  same_parent r columns None away = refl
+  same_parent r columns (Some key) away =
+      let t = some_has (λ (t : Table). t.tree == key.0) store_schema.tables (and_parts _ _ away).1 in
+      let at : t.0.tree ≡ key.0 = eqb-true _ _ t.2 in
+      let apart : (t.0.tree == 0) ≡ false = ap (λ n. n == 0) at ∙ not-true _ (and_parts _ _ away).0 in
+      ap (list_any (λ parent. agree key.2 key.1 parent columns r)) (subst (λ n. next n ≡ db n) at (others t.0 t.1 apart))
 
+  still_refers : Keeps ForeignKey store_schema db → Refers among.All store_schema next
+  still_refers was = all_from _ store_schema.tables (λ t has. by_tree t has (cases_Bool (t.tree == 0)))
+    where
+      of_row : (t : Table) → Has store_schema.tables t → (r : Row) → Has (db t.tree) r → list_all (λ ref. not (is_among among.All ref) || has_parent store_schema.tables next r ref) t.references ≡ true
+      of_row t has r hr =
+          test_from _ t.references (λ ref href.
+          let away = test_has (λ (ref : Reference). is_elsewhere (parent_key store_schema.tables ref)) t.references ref (test_has (λ (t : Table). list_all (λ (ref : Reference). is_elsewhere (parent_key store_schema.tables ref)) t.references) store_schema.tables t childless has) href in
+          ap (λ b. has_null ref.columns r || b) (same_parent r ref.columns (parent_key store_schema.tables ref) away)
+          ∙ test_has (has_parent store_schema.tables db r) t.references ref (all_has _ (db t.tree) r (all_has _ store_schema.tables t was has) hr) href)
+
+      by_tree : (t : Table) → Has store_schema.tables t → ((t.tree == 0) ≡ true) ⊎ ((t.tree == 0) ≡ false) → AllByRecursion (λ r. list_all (λ ref. not (is_among among.All ref) || has_parent store_schema.tables next r ref) t.references ≡ true) (next t.tree)
+      by_tree t has (inl is) = all_from _ (next t.tree) (λ r hr. none_of (λ ref. not (is_among among.All ref) || has_parent store_schema.tables next r ref) t.references (of_first (λ t. length t.references == 0) rootless t has is))
+      by_tree t has (inr other) =
+          subst (λ l. AllByRecursion (λ r. list_all (λ ref. not (is_among among.All ref) || has_parent store_schema.tables next r ref) t.references ≡ true) l) (sym (others t has other)) (all_from _ (db t.tree) (of_row t has))
+
+-- ---- one step of the statement
+
+module _ (db : Trees) (gone : List ℤ) (sources news : List Row) where
   abbrev step : Edit
-  step = edit_of db stored_office [] Chosen 0 (row ∷ [])
+  step = edit_of db stored_office gone Given 0 sources
 
-  news_are : step.news ≡ row ∷ []
-  news_are = ap₂ (λ v vs. with_rowid Chosen (db 0) (v ∷ vs) ∷ []) (cast_int (pos 1)) (simp (cast_null, cast_int))
+  -- its rows pass the rules that look at a row alone, and have free rowids
+  record Passes : Type 0 where
+    is : step.news ≡ news
+    datatype : list_all (passes Datatype store_schema db stored_office) news ≡ true
+    not_null : list_all (passes NotNull store_schema db stored_office) news ≡ true
+    check : list_all (passes Check store_schema db stored_office) news ≡ true
+    fresh : are_fresh (left_by db step) news ≡ true
+    rowids : have_rowids news ≡ true
+    fit : list_all (λ r. fits_i64 (id_in (rowid r))) news ≡ true
+    small : (r : Row) → Has news r → IsOversized store_schema stored_office r → ⊥
 
-  not_refused : (why : Refusal) → IsRefused store_schema Enforced db step why → ⊥
-  not_refused (Violates Datatype) bad = absurd (true≢false (subst (λ l. list_all (passes Datatype store_schema db stored_office) l ≡ false) news_are bad))
-  not_refused (Violates NotNull) bad = absurd (true≢false (subst (λ l. list_all (passes NotNull store_schema db stored_office) l ≡ false) news_are bad))
-  not_refused (Violates Check) bad = absurd (true≢false (subst (λ l. list_all (passes Check store_schema db stored_office) l ≡ false) news_are bad))
-  not_refused (Violates PrimaryKey) bad = absurd (true≢false (subst₂ (λ rows l. are_fresh rows l ≡ false) (empty stored_office first_table) news_are bad))
-  not_refused (Violates Unique) bad = bad (keeps_unique _ (λ t has other. rw other (empty t has)))
-  not_refused (Violates ForeignKey) bad = bad
-  not_refused Mismatch bad = absurd (true≢false (subst (λ l. have_rowids l ≡ false) news_are bad))
-  not_refused NoRowid bad = absurd (true≢false (subst (λ l. list_all (λ r. fits_i64 (id_in (rowid r))) l ≡ false) news_are bad))
-  not_refused BadReference bad = absurd (true≢false (subst (λ l. (is_off Enforced || references_fit store_schema stored_office (nat_lt 0 (length l)) false) ≡ false) news_are bad))
-  not_refused TooDeep bad = bad
+  module _ (pass : Passes) (unique : Keeps Unique store_schema db) where
+    not_refused : (why : Refusal) → IsRefused store_schema Enforced db step why → ⊥
+    not_refused (Violates Datatype) bad = absurd (true≢false (sym pass.datatype ∙ subst (λ l. list_all (passes Datatype store_schema db stored_office) l ≡ false) pass.is bad))
+    not_refused (Violates NotNull) bad = absurd (true≢false (sym pass.not_null ∙ subst (λ l. list_all (passes NotNull store_schema db stored_office) l ≡ false) pass.is bad))
+    not_refused (Violates Check) bad = absurd (true≢false (sym pass.check ∙ subst (λ l. list_all (passes Check store_schema db stored_office) l ≡ false) pass.is bad))
+    not_refused (Violates PrimaryKey) bad = absurd (true≢false (sym pass.fresh ∙ subst (λ l. are_fresh (left_by db step) l ≡ false) pass.is bad))
+    not_refused (Violates Unique) bad = bad (keeps_unique db _ (λ t has other. rw other refl) unique)
+    not_refused (Violates ForeignKey) bad = bad
+    not_refused Mismatch bad = absurd (true≢false (sym pass.rowids ∙ subst (λ l. have_rowids l ≡ false) pass.is bad))
+    not_refused NoRowid bad = absurd (true≢false (sym pass.fit ∙ subst (λ l. list_all (λ r. fits_i64 (id_in (rowid r))) l ≡ false) pass.is bad))
+    not_refused BadReference bad = absurd (true≢false (sym (fit_references _ _) ∙ bad))
+    not_refused TooDeep bad = bad
+
+    -- no action follows
+    settled : (next : Trees) (why : Option Refusal) (n : ℕ) → Leads store_schema Enforced n next [] (Err why) → ⊥
+    settled next why zero h = absurd (let e = h.1 in cc)
+    settled next why (suc n) h = absurd (omega (arith, ap length h.2, length-append h.0 (h.1 ∷ [])))
+
+    not_stopped : (why : Option Refusal) → Writes store_schema Enforced db step (Err why) → ⊥
+    not_stopped why (inl (for, refused, same)) = not_refused for refused
+    not_stopped why (inr (inl (r, has, big, same))) = pass.small r (subst (λ l. Has l r) pass.is has) big
+    not_stopped why (inr (inr (next, applies, settles))) = settled next why settles.0 (rw (office_keyed.still (taken_by db step) step.news) at settles.1)
+
+-- rows that are only taken out
+takes_pass : (db : Trees) (gone : List ℤ) → Passes db gone [] []
+takes_pass db gone = record { is = refl; datatype = refl; not_null = refl; check = refl; fresh = refl; rowids = refl; fit = refl; small = λ r none big. none }
+
+module _ (version : ℤ) where
+  abbrev row : Row
+  row = Int (pos 1) ∷ Null ∷ Int version ∷ []
+
+  abbrev values : Row
+  values = office.row (pos 1) version
+
+  whole : (n : ℤ) → NotNan (number (Int n))
+  unfolding lib.Ieee.is_nan
+  whole (pos n) = tt
+  whole (negsuc n) = tt
 
   storable : IsStorableRow (table_reals stored_office) row
   unfolding lib.Ieee.is_nan
@@ -117,129 +202,160 @@ module _ (db : Trees) (none : AllByRecursion (λ (t : Table). db t.tree ≡ []) 
       numbered : All (λ v. NotNan (number v)) row
       numbered zero d below = tt
       numbered (suc zero) d below = tt
-      numbered (suc (suc zero)) d below = tt
+      numbered (suc (suc zero)) d below = whole version
       numbered (suc (suc (suc k))) d below = absurd (omega arith)
 
-  not_oversized : (r : Row) → Has step.news r → IsOversized store_schema stored_office r → ⊥
-  not_oversized r has big = of_row (subst (λ l. Has l r) news_are has) big
-    where
-      of_row : Has (row ∷ []) r → IsOversized store_schema stored_office r → ⊥
-      of_row (inl is) (inl long) = long (subst (IsStorableRow (table_reals stored_office)) (sym is) storable)
-      of_row (inr off) (inl long) = absurd off
-      of_row has (inr (i, hi, at, long)) = true≢false (sym (ap (λ n. n == 0) at) ∙ not-true _ (test_has (λ (i : Index). not (i.table == 0)) store_schema.indexes i unindexed hi))
+  small : (r : Row) → Has (row ∷ []) r → IsOversized store_schema stored_office r → ⊥
+  small r (inl is) (inl long) = long (subst (IsStorableRow (table_reals stored_office)) (sym is) storable)
+  small r (inr off) (inl long) = absurd off
+  small r has (inr (i, hi, at, long)) = true≢false (sym (ap (λ n. n == 0) at) ∙ not-true _ (test_has (λ (i : Index). not (i.table == 0)) store_schema.indexes i unindexed hi))
 
-  -- no action follows
-  settled : (next : Trees) (why : Option Refusal) (n : ℕ) → Leads store_schema Enforced n next [] (Err why) → ⊥
-  settled next why zero h = absurd (let e = h.1 in cc)
-  settled next why (suc n) h = absurd (omega (arith, ap length h.2, length-append h.0 (h.1 ∷ [])))
+  cast_is : cast_row stored_office row ≡ row
+  cast_is = ap₂ (λ v vs. v ∷ vs) (cast_int (pos 1)) (simp (cast_null, cast_int))
 
-  not_stopped : (why : Option Refusal) → Writes store_schema Enforced db step (Err why) → ⊥
-  not_stopped why (inl (for, refused, same)) = not_refused for refused
-  not_stopped why (inr (inl (r, has, big, same))) = not_oversized r has big
-  not_stopped why (inr (inr (next, applies, settles))) = settled next why settles.0 (rw (office_keyed.still (taken_by db step) step.news) at settles.1)
+  -- the row, where its rowid is free
+  put_passes : (db : Trees) → is_taken (db 0) row ≡ false → Passes db [] (row ∷ []) (row ∷ [])
+  put_passes db free = record { is = ap (λ r. r ∷ []) cast_is; datatype = refl; not_null = refl; check = refl; fresh = rw free refl; rowids = refl; fit = refl; small = small }
 
-  -- the row refers to nothing
-  refers : (next : Trees) → Applies store_schema Enforced db step next → Refers among.All store_schema next
-  refers next applies = all_from _ store_schema.tables (λ t has. by_tree t has (cases_Bool (t.tree == 0)))
-    where
-      by_tree : (t : Table) → Has store_schema.tables t → ((t.tree == 0) ≡ true) ⊎ ((t.tree == 0) ≡ false) → AllByRecursion (λ r. list_all (λ ref. not (is_among among.All ref) || has_parent store_schema.tables next r ref) t.references ≡ true) (next t.tree)
-      by_tree t has (inl is) = all_from _ (next t.tree) (λ r hr. none_of (λ ref. not (is_among among.All ref) || has_parent store_schema.tables next r ref) t.references (of_first (λ t. length t.references == 0) rootless t has is))
-      by_tree t has (inr other) =
-          let same : next t.tree ≡ db t.tree = all_has _ store_schema.tables t applies.tables has (eqb-false t.tree 0 other) in
-          rw (same ∙ empty t has) tt
+  -- the rows without the key
+  abbrev left : List Row → List Row
+  left = without store_schema 0 stored_office (1 ∷ []) (0 ∷ []) office_keyed values
 
-abbrev source : List Term
-source = lit (Int (pos 1)) ∷ lit Null ∷ col 0 0 ∷ []
+  -- what the row becomes beside the rows that are there
+  abbrev comes : (rows : List Row) → Comes stored_office (1 ∷ []) (Int (pos 1)) (office.columns (pos 1) version) values rows
+  comes rows = record { id = pos 1; numbered = refl; full = refl; tied = λ r h same. same }
 
-abbrev given : Row
-given = Int (pos 1) ∷ []
+  -- none has its rowid
+  free : (rows : List Row) → IsShaped TableShape rows → is_taken (left rows) row ≡ false
+  free rows shaped =
+      false_from_ne_true _ (λ taken.
+      let r = some_has (λ r. is_eq (value_cmp (rowid r) (Int (pos 1)))) (left rows) taken in
+      let inside = has_filtered (λ r. not (same_key (1 ∷ []) (bare (places stored_office) r) (Null ∷ values))) rows r.0 r.1 in
+      let lies = int_is (rowid r.0) (all_has _ rows r.0 shaped.1 inside.0) in
+      let one : id_in (rowid r.0) ≡ pos 1 = same_ints _ _ (subst (λ v. value_cmp v (Int (pos 1)) ≡ Equal) lies (equal_is _ r.2)) in
+      let same : same_rowid r.0 row ≡ true = subst (λ v. (equal (first_key plain).collation v (Int (pos 1)) && true) ≡ true) (sym (lies ∙ ap Int one)) (both_true (equal_itself (pos 1)) refl) in
+      true≢false (sym ((comes rows).tied r.0 inside.0 same) ∙ not-true _ inside.1))
 
-module _ (limit : Option ℕ) (db : Trees) (none : AllByRecursion (λ (t : Table). db t.tree ≡ []) store_schema.tables) where
-  abbrev whole : Task
-  whole = record { limit = limit; keys = Enforced; schema = store_schema; table = stored_office; params = given }
+  abbrev given : Row
+  given = Int version ∷ []
 
-  abbrev TooFew : Option Error → Type 0
-  TooFew stop = (stop ≡ Some (SqliteFailure OperationInterrupted)) × IsSome limit
+  module _ (limit : Option ℕ) (db : Trees) (shaped : IsShaped TableShape (db 0)) (rules : (rule : Constraint) → Keeps rule store_schema db) where
+    abbrev office_task : Task
+    office_task = record { limit = limit; keys = Enforced; schema = store_schema; table = stored_office; params = given }
 
-  -- a part that stopped at its first part
-  first_of : {B : Type 0} {First : Option Error → Type 0} (stop : Option Error) → ((s : Option Error) × First s × ◌≡◌ {A = Result B (Option Error)} (Err stop) (Err s)) → First stop
-  first_of {B} {First} stop it = let same : it.0 ≡ stop = cc in subst First same it.1
+    abbrev TooFew : Option Error → Type 0
+    TooFew stop = (stop ≡ Some (SqliteFailure OperationInterrupted)) × IsSome limit
 
-  sourced : (stop : Option Error) → Sourced limit (record { schema = store_schema; trees = db }) (stamped stored_office given) (Values source 3) (Err stop) → TooFew stop
-  sourced None h = absurd h
-  sourced (Some e) (inl typed) = absurd (true≢false typed.1)
-  sourced (Some e) (inr few) = (ap Some few.0, few.1)
+    -- a part that stopped at its first part
+    first_of : {B : Type 0} {First : Option Error → Type 0} (stop : Option Error) → ((s : Option Error) × First s × ◌≡◌ {A = Result B (Option Error)} (Err stop) (Err s)) → First stop
+    first_of {B} {First} stop it = let same : it.0 ≡ stop = cc in subst First same it.1
 
-  inserts : (stop : Option Error) → Inserts whole (Values source 3) db (Err stop) → TooFew stop
-  inserts stop (inl it) = sourced stop (first_of {First = λ s. Sourced limit (record { schema = store_schema; trees = db }) (stamped stored_office given) (Values source 3) (Err s)} stop it)
-  inserts stop (inr (rows, is, inl counter)) = absurd (let e = counter.1 in cc)
-  inserts stop (inr (rows, is, inr (counter, counted, inl edited))) =
-      let at : rows ≡ row ∷ [] = is.1 in
-      let it = subst (λ l. Edited store_schema Enforced db (edit_of db stored_office [] Chosen 0 l) (Err edited.0)) at edited.1 in
-      absurd (not_stopped db none it.0 it.1)
-  inserts stop (inr (rows, is, inr (counter, counted, inr (mid, edited, inl counts)))) = absurd (let e = counts.1 in cc)
-  inserts stop (inr (rows, is, inr (counter, counted, inr (mid, edited, inr ended)))) = absurd (let e = ended.2 in cc)
+    sourced : (stop : Option Error) → Sourced limit (record { schema = store_schema; trees = db }) (stamped stored_office given) (Values office.terms 3) (Err stop) → TooFew stop
+    sourced None h = absurd h
+    sourced (Some e) (inl typed) = absurd (true≢false typed.1)
+    sourced (Some e) (inr few) = (ap Some few.0, few.1)
 
-  applied : (w : Written) → Inserts whole (Values source 3) db (Ok w) → Applies store_schema Enforced db (step db none) w.trees
-  applied w ins =
-      let read = went ins in
-      let counted = went read.2 in
-      let it = went counted.2 in
-      let ended = went it.2 in
-      let rows : read.0 ≡ row ∷ [] = read.1.1 in
-      let next : ended.0 ≡ it.0 = same_value ended.1 in
-      let trees : w.trees ≡ it.0 = ap (λ (x : Written). x.trees) (same_value ended.2) ∙ next in
-      let edited = subst (λ l. Edited store_schema Enforced db (edit_of db stored_office [] Chosen 0 l) (Ok it.0)) rows it.1 in
-      subst (Applies store_schema Enforced db (step db none)) (sym trees) (one_step store_schema Enforced db it.0 (step db none) (office_keyed.still (taken_by db (step db none)) (step db none).news) edited)
+    puts : (mid : Trees) → is_taken (mid 0) row ≡ false → Keeps Unique store_schema mid → (stop : Option Error) → Puts office_task row mid (Err stop) → ⊥
+    puts mid is_free unique stop (inl (s, it, same)) = edit_stops s it
+      where
+        edit_stops : (s : Option Error) → Edited store_schema Enforced mid (step mid [] (row ∷ []) (row ∷ [])) (Err s) → ⊥
+        edit_stops s it = not_stopped mid [] (row ∷ []) (row ∷ []) (put_passes mid is_free) unique it.0 it.1
+    puts mid is_free unique stop (inr (next, it, ended)) = absurd (let e = ended in cc)
 
-  concludes : (w : Written) → Inserts whole (Values source 3) db (Ok w) → (stop : Option Error) → Concludes whole at_once None w (Err stop) → TooFew stop
-  concludes w ins stop (inl tested) = absurd (tested.1.0 (refers db none w.trees (applied w ins)))
-  concludes w ins stop (inr (in_doubt, holds, inl returns)) = absurd (let e = returns.1 in cc)
-  concludes w ins stop (inr (in_doubt, holds, inr ended)) = absurd (let e = ended.2 in cc)
+    clears : (found : List Row) → without_all (db 0) (ids_of found) ≡ left (db 0) → (stop : Option Error) → Clears office_task Replace row db found (Err stop) → ⊥
+    clears [] is stop h = puts db (subst (λ l. is_taken l row ≡ false) (sym is) (free (db 0) shaped)) (rules Unique) stop h
+    clears (x ∷ more) is stop (inl (s, it, same)) = edit_stops s it
+      where
+        edit_stops : (s : Option Error) → Edited store_schema Enforced db (step db (ids_of (x ∷ more)) [] []) (Err s) → ⊥
+        edit_stops s it = not_stopped db (ids_of (x ∷ more)) [] [] (takes_pass db (ids_of (x ∷ more))) (rules Unique) it.0 it.1
+    clears (x ∷ more) is stop (inr (mid, it, h)) =
+        let edit = step db (ids_of (x ∷ more)) [] [] in
+        let applied = one_step store_schema Enforced db mid edit (office_keyed.still (taken_by db edit) edit.news) it in
+        puts mid (subst (λ l. is_taken l row ≡ false) (sym (applied.rows ∙ is)) (free (db 0) shaped)) (applied.fits.rules Unique (λ e. cc)) stop h
 
-  on_rows : (stop : Option Error) → OnRows whole at_once None (Insert 0 (Values source 3)) db (Err stop) → TooFew stop
-  on_rows stop (inl it) = inserts stop (first_of {First = λ s. Inserts whole (Values source 3) db (Err s)} stop it)
-  on_rows stop (inr (w, ins, ended)) = concludes w ins stop ended
+    tries : (stop : Option Error) → Tries office_task Replace [] row db (Err stop) → ⊥
+    tries stop (inl (off, same)) = absurd cc
+    tries stop (inr (Some why, judged, h)) = misjudged why judged
+      where
+        misjudged : (why : Refusal) → IsJudged stored_office row (Some why) → ⊥
+        misjudged Mismatch bad = absurd (true≢false bad)
+        misjudged NoRowid bad = bad
+        misjudged BadReference bad = bad
+        misjudged TooDeep bad = bad
+        misjudged (Violates Datatype) bad = absurd (true≢false bad)
+        misjudged (Violates NotNull) bad = absurd (true≢false bad)
+        misjudged (Violates Check) bad = absurd (true≢false bad)
+        misjudged (Violates PrimaryKey) bad = bad
+        misjudged (Violates Unique) bad = bad
+        misjudged (Violates ForeignKey) bad = bad
+    tries stop (inr (None, judged, (found, are, h))) =
+        clears found (finds store_schema 0 stored_office (1 ∷ []) (0 ∷ []) office_keyed limit given (Int (pos 1)) (office.columns (pos 1) version) values (office.fits (pos 1) version) db (comes (db 0)) found shaped are) stop h
 
-no_rows : (places : List ℕ) (kept : List Row) → Holds places kept [] → kept ≡ []
-no_rows places [] held = refl
-no_rows places (r ∷ kept) held = absurd (omega (arith, length_permutation (map (bare places) (r ∷ kept)) [] held.same))
+    -- the source row is the row
+    tried_is : with_rowid Chosen (db 0) (cast_row stored_office (mended Replace stored_office row)) ≡ row
+    tried_is = ap (with_rowid Chosen (db 0)) cast_is
 
-module _ (old new : State) (was : ContainsIn store_schema old.now (λ tree. [])) where
-  none_kept : AllByRecursion (λ (t : Table). old.now.trees t.tree ≡ []) store_schema.tables
-  none_kept = all_from _ store_schema.tables (λ t has. no_rows (places t) (old.now.trees t.tree) (all_has (λ (t : Table). Holds (places t) (old.now.trees t.tree) []) store_schema.tables t was.rows has))
+    inserts : (stop : Option Error) → InsertsOr office_task Replace [] (Values office.terms 3) db (Err stop) → TooFew stop
+    inserts stop (inl it) = sourced stop (first_of {First = λ s. Sourced limit (record { schema = store_schema; trees = db }) (stamped stored_office given) (Values office.terms 3) (Err s)} stop it)
+    inserts stop (inr (rows, is, inl counter)) = absurd (let e = counter.1 in cc)
+    inserts stop (inr (rows, is, inr (counter, counted, inl each))) = absurd (of_each each.0 (subst (λ l. TriesEach office_task Replace [] l (count_of counter) (nothing db) (Err each.0)) is.1 each.1))
+      where
+        of_each : (s : Option Error) → TriesEach office_task Replace [] (row ∷ []) (count_of counter) (nothing db) (Err s) → ⊥
+        of_each s (inl (t, it, same)) = tries t (subst (λ r. Tries office_task Replace [] r db (Err t)) tried_is it)
+        of_each s (inr (one, it, ended)) = absurd (let e = ended in cc)
+    inserts stop (inr (rows, is, inr (counter, counted, inr (done, each, inl counts)))) = absurd (let e = counts.1 in cc)
+    inserts stop (inr (rows, is, inr (counter, counted, inr (done, each, inr ended)))) = absurd (let e = ended.2 in cc)
 
-  does : (text : List ℕ) (stop : Option Error) → Does old.step_limit at_once given old.now text None (Insert 0 (Values source 3)) (Err stop) → TooFew old.step_limit old.now.trees none_kept stop
-  does text stop h =
-      let command = Insert 0 (Values source 3) in
-      let db = old.now.trees in
-      let made = subst (λ s. Does old.step_limit at_once given (record old.now { schema = s }) text None command (Err stop)) was.schema_is h in
-      on_rows old.step_limit db none_kept stop
-      (subst (λ o. AtPlace (λ t. OnRows (record { limit = old.step_limit; keys = Enforced; schema = store_schema; table = t; params = given }) at_once None command db) o (Err stop)) office_keyed.place made)
+    -- each other table keeps its rows
+    others : (w : Written) → InsertsOr office_task Replace [] (Values office.terms 3) db (Ok w) → KeepsOthers db w.trees
+    others w wrote t has other =
+        let one = tries_one store_schema 0 stored_office (1 ∷ []) (0 ∷ []) office_keyed limit given Replace [] db row office.terms 3 w refl wrote in
+        let put = replaces store_schema 0 stored_office (1 ∷ []) (0 ∷ []) office_keyed limit given (Int (pos 1)) (office.columns (pos 1) version) values (office.fits (pos 1) version) db (comes (db 0)) one.0 shaped
+        (subst (λ r. Tries office_task Replace [] r db (Ok one.0)) tried_is one.1) in
+        ap (λ (d : Trees). d t.tree) one.2 ∙ all_has _ store_schema.tables t put.others has (eqb-false t.tree 0 other)
 
-  inserts_quietly : IsQuiet (Insert 0 (Values source 3))
-  inserts_quietly = record {
-    placed = λ s e wrong. misplaced s e wrong;
-    stays = λ s ends. escapes s ends;
-    rowless = refl;
-  }
-    where
-      misplaced : (s : State) (e : Error) → IsMisplaced s (Insert 0 (Values source 3)) e → ⊥
-      misplaced s e (inl (same, inl (it, going))) = absurd cc
-      misplaced s e (inl (same, inr (inl it, out))) = absurd cc
-      misplaced s e (inl (same, inr (inr it, out))) = absurd cc
-      misplaced s e (inr (same, name, inl it, none)) = absurd cc
-      misplaced s e (inr (same, name, inr it, none)) = absurd cc
+    concludes : (w : Written) → InsertsOr office_task Replace [] (Values office.terms 3) db (Ok w) → (stop : Option Error) → Concludes office_task at_once None w (Err stop) → TooFew stop
+    concludes w wrote stop (inl tested) = absurd (tested.1.0 (still_refers db w.trees (others w wrote) (rules ForeignKey)))
+    concludes w wrote stop (inr (in_doubt, holds, inl returns)) = absurd (let e = returns.1 in cc)
+    concludes w wrote stop (inr (in_doubt, holds, inr ended)) = absurd (let e = ended.2 in cc)
 
-      escapes : (s : State) → Escapes 0 s (Insert 0 (Values source 3)) → ⊥
-      escapes s (inl (inl it)) = absurd cc
-      escapes s (inl (inr it)) = absurd cc
-      escapes s (inr (name, inl it, held)) = absurd cc
-      escapes s (inr (name, inr it, held)) = absurd cc
+    on_rows : (stop : Option Error) → OnRows office_task at_once None (InsertOr 0 Replace (Values office.terms 3) []) db (Err stop) → TooFew stop
+    on_rows stop (inl it) = inserts stop (first_of {First = λ s. InsertsOr office_task Replace [] (Values office.terms 3) db (Err s)} stop it)
+    on_rows stop (inr (w, wrote, ended)) = concludes w wrote stop ended
 
-  -- It fails for want of memory, where the disk or the connection does, or where the steps are limited.
-  pub version_fails : (e : Error) → ExecutesInside 0 office.put_text given old new (Err e) → Fails old new (IsSome old.step_limit) e
-  version_fails =
-      let text : List ℕ = statement_of office.put_text (understood store_schema office.put_text) in
-      fails_by office.put_text given old new store_schema was.schema_is (Insert 0 (Values source 3)) office.put_is inserts_quietly office.put_plain put_whole (IsSome old.step_limit)
-      (λ e stops. let same : Some e ≡ Some (SqliteFailure OperationInterrupted) = (does text (Some e) stops).0 in let it : e ≡ SqliteFailure OperationInterrupted = cc in rw it refl) (λ stop stops. (does text stop stops).1)
+  module _ (limit : Option ℕ) (db : Database) (all : Trees) (was : ContainsIn store_schema db all) (rules : (rule : Constraint) → Keeps rule store_schema db.trees) where
+    -- what the database has of the text
+    few : Refuses limit db office.put_text given → IsSome limit
+    few (c, known, stop, does) =
+        let at : understood store_schema office.put_text ≡ Ok c = ap (λ s. understood s office.put_text) (sym was.schema_is) ∙ known in
+        let plain : (c.returning ≡ None) × (c.formats ≡ []) = subst IsPlain at office.put_plain in
+        let command : c.command ≡ InsertOr 0 Replace (Values office.terms 3) [] = sym (ap command_of at) ∙ office.put_is in
+        let ran : Does limit at_once given (record { schema = store_schema; trees = db.trees }) (text_of office.put_text c) None (InsertOr 0 Replace (Values office.terms 3) []) (Err stop) =
+        subst (λ d. Does limit at_once given d (text_of office.put_text c) None (InsertOr 0 Replace (Values office.terms 3) []) (Err stop)) (database_is db was.schema_is refl) (rw (plain.0, command) at does) in
+        (on_rows limit db.trees (held_at store_schema 0 stored_office (1 ∷ []) (0 ∷ []) office_keyed db.trees all was.rows).shaped rules stop
+        (on_insert store_schema 0 stored_office (1 ∷ []) (0 ∷ []) office_keyed Replace [] office.terms 3 limit given (text_of office.put_text c) db.trees stop ran)).1
+
+-- It fails for want of memory, where the disk or the connection does, or where the steps are limited.
+pub version_fails : (old new : State) (all : Trees) (version : ℤ) → ContainsIn store_schema old.now all → ((rule : Constraint) → Keeps rule store_schema old.now.trees)
+    → (e : Error) → ExecutesInside 0 office.put_text (Int version ∷ []) old new (Err e) → Fails old new (IsSome old.step_limit) e
+version_fails old new all version was rules e ran = narrow ((office.put_answers old new version was.schema_is).fails e ran)
+  where
+    narrow : Fails old new (Refuses old.step_limit old.now office.put_text (Int version ∷ [])) e → Fails old new (IsSome old.step_limit) e
+    narrow (inl lacks) = inl lacks
+    narrow (inr (named, inl down)) = inr (named, inl down)
+    narrow (inr (named, inr refused)) = inr (named, inr (few version old.step_limit old.now all was rules refused))
+
+-- a database whose tables are sound obeys each rule
+pub sound_rules : (db : Database) → db.schema ≡ store_schema → IsDatabase db → (rule : Constraint) → Keeps rule store_schema db.trees
+sound_rules db has sound rule = subst (λ s. Keeps rule s db.trees) has (sound.obeys.rules rule)
+
+no_rows : (at : List ℕ) (kept : List Row) → Holds at kept [] → kept ≡ []
+no_rows at [] held = refl
+no_rows at (r ∷ kept) held = absurd (omega (arith, length_permutation (map (bare at) (r ∷ kept)) [] held.same))
+
+-- and so does one with no rows
+pub empty_rules : (db : Database) → ContainsIn store_schema db (λ tree. []) → (rule : Constraint) → Keeps rule store_schema db.trees
+empty_rules db was rule =
+    all_from _ store_schema.tables (λ t has.
+    let none : db.trees t.tree ≡ [] = no_rows (places t) (db.trees t.tree) (all_has (λ (t : Table). Holds (places t) (db.trees t.tree) []) store_schema.tables t was.rows has) in
+    subst (λ l. AllByRecursion (λ row. passes rule store_schema db.trees t row ≡ true) l) (sym none) tt)

@@ -2,7 +2,7 @@
 use Rattle.sqlite.specs.Schema.{Schema}
 use Rattle.sqlite.specs.Change.{created}
 use Rattle.exam_tables.specs.Tables.{no_schema, office, session, paper, hall, candidate, opening, entry}
-use Rattle.exam_tables.specs.Tables.{arrangement, appeal, seat}
+use Rattle.exam_tables.specs.Tables.{arrangement, appeal, seat, standing}
 
 unfoldable pub schema_0 : Schema
 schema_0 = no_schema
@@ -51,3 +51,9 @@ schema_10 =
     created (created (created (created (created (
     created (created (created (created (created (no_schema) office) session) paper) hall) candidate
     ) opening) entry) arrangement) appeal) seat
+
+unfoldable pub schema_11 : Schema
+schema_11 =
+    created (created (created (created (created (created (
+    created (created (created (created (created (no_schema) office) session) paper) hall) candidate
+    ) opening) entry) arrangement) appeal) seat) standing

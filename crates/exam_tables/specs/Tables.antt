@@ -1,4 +1,4 @@
--- The ten tables, and the texts that make them.
+-- The eleven tables, and the texts that make them.
 use Rattle.std.specs.Prelude.{codes, List, ℕ, [], ◌∷◌, Bool, true, false, Some, None}
 use Rattle.sqlite.specs.Collation.TheVariants.{Binary}
 use Rattle.sqlite.specs.declared.types.Value.TheVariants.{Null}
@@ -192,11 +192,31 @@ seat = strict_table (codes "seat")
     (refers (2 ∷ []) (codes "candidate") (codes "number" ∷ [])
     ∷ refers (1 ∷ 3 ∷ []) (codes "opening") (codes "session" ∷ codes "hall" ∷ []) ∷ [])
 
-unfoldable pub store_schema : Schema
-store_schema =
+-- It is made last, also where all are new, so that a database that is brought to this version has the schema of a
+-- new one.
+abbrev pub standing_text : List ℕ
+standing_text = codes "CREATE TABLE standing (number INTEGER NOT NULL, ref TEXT NOT NULL, PRIMARY KEY (number, ref), FOREIGN KEY (number, ref) REFERENCES appeal (number, ref)) STRICT"
+
+abbrev pub standing : Table
+standing = strict_table (codes "standing")
+    (strict (codes "number") Integer true
+    ∷ strict (codes "ref") Text true ∷ [])
+    (1 ∷ 2 ∷ []) (1 ∷ 2 ∷ []) plain
+    (refers (1 ∷ 2 ∷ []) (codes "appeal") (codes "number" ∷ codes "ref" ∷ []) ∷ [])
+
+-- the tables of version 1
+unfoldable pub first_schema : Schema
+first_schema =
     created (created (created (created (created (
     created (created (created (created (created (no_schema) office) session) paper) hall) candidate
     ) opening) entry) arrangement) appeal) seat
+
+-- the tables of this version
+unfoldable pub store_schema : Schema
+store_schema =
+    created (created (created (created (created (created (
+    created (created (created (created (created (no_schema) office) session) paper) hall) candidate
+    ) opening) entry) arrangement) appeal) seat) standing
 
 abbrev pub stored_office : Table
 stored_office = record office { tree = 0 }
@@ -227,3 +247,6 @@ stored_appeal = record appeal { tree = 13 }
 
 abbrev pub stored_seat : Table
 stored_seat = record seat { tree = 15 }
+
+abbrev pub stored_standing : Table
+stored_standing = record standing { tree = 17 }

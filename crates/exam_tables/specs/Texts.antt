@@ -56,6 +56,16 @@ put_seat = codes "INSERT OR REPLACE INTO seat (session, number, hall) VALUES (?1
 abbrev pub delete_seat : List ℕ
 delete_seat = codes "DELETE FROM seat WHERE session = ?1 AND number = ?2"
 
+abbrev pub put_standing : List ℕ
+put_standing = codes "INSERT OR REPLACE INTO standing (number, ref) VALUES (?1, ?2)"
+
+abbrev pub delete_standing : List ℕ
+delete_standing = codes "DELETE FROM standing WHERE number = ?1 AND ref = ?2"
+
+-- sets the version
+abbrev pub put_version : List ℕ
+put_version = codes "INSERT OR REPLACE INTO office (one, version) VALUES (1, ?1)"
+
 abbrev pub load_office : List ℕ
 load_office = codes "SELECT one, version FROM office"
 
@@ -83,6 +93,9 @@ load_arrangement = codes "SELECT number, needs, extra FROM arrangement"
 abbrev pub load_appeal : List ℕ
 load_appeal = codes "SELECT number, ref, session, kind, target, needs, extra, reason, state, answer, lodged FROM appeal"
 
+abbrev pub load_standing : List ℕ
+load_standing = codes "SELECT number, ref FROM standing"
+
 abbrev pub load_seat : List ℕ
 load_seat = codes "SELECT session, number, hall FROM seat"
 
@@ -96,6 +109,10 @@ fact_texts =
     load_session ∷ load_paper ∷ load_hall ∷ load_candidate ∷ load_opening ∷ load_entry ∷ load_arrangement ∷ load_appeal
     ∷ []
 
--- what loads the ten tables
+-- what loads the office
+abbrev pub held_texts : List (List ℕ)
+held_texts = fact_texts ++ load_seat ∷ []
+
+-- and what loads its version first, and the marks where their table is there
 abbrev pub load_texts : List (List ℕ)
-load_texts = load_office ∷ fact_texts ++ load_seat ∷ []
+load_texts = load_office ∷ held_texts ++ load_standing ∷ []

@@ -9,7 +9,7 @@ use Rattle.exam_types.specs.declared.refusal.Refusal.TheVariants.{NotSeatedThere
 use Rattle.exam_types.specs.declared.refusal.Refusal.TheVariants.{RefTaken, UnknownAppeal, NotOpenAppeal}
 use Rattle.exam_types.specs.declared.refusal.Refusal.TheVariants.{TooLate, NoClash, NothingToChange, TooMany}
 use Rattle.exam_types.specs.declared.refusal.Refusal.TheVariants.{AppealStands, NoMemory, Store, BadStore}
-use Rattle.exam_types.specs.declared.refusal.Refusal.TheVariants.{HallNotOpened}
+use Rattle.exam_types.specs.declared.refusal.Refusal.TheVariants.{HallNotOpened, NotArrangement, OldSchema}
 
 abbrev pub refusal_number : Refusal → ℕ
 refusal_number (BadRow row column) = 1
@@ -37,3 +37,5 @@ refusal_number NoMemory = 22
 refusal_number Store = 23
 refusal_number BadStore = 24
 refusal_number HallNotOpened = 25
+refusal_number NotArrangement = 26
+refusal_number OldSchema = 27

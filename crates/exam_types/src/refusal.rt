@@ -86,6 +86,12 @@ pub enum Refusal {
     /// The hall is not opened for the session.
     #[error("the hall is not opened for the session")]
     HallNotOpened,
+    /// The appeal is of another kind than an arrangement.
+    #[error("the appeal is of another kind")]
+    NotArrangement,
+    /// The database is of an older version.
+    #[error("the database is of an older version")]
+    OldSchema,
 }
 
 impl From<AllocError> for Refusal {
@@ -105,7 +111,7 @@ impl<T: Drop> From<AllocFailed<T>> for Refusal {
 }
 
 impl Refusal {
-    /// The number by which the office prints it, 1 to 25.
+    /// The number by which the office prints it, 1 to 27.
     pub fn number(&self) -> u16
         ensures { result ≡ refusal_number self.now }
     {
@@ -135,6 +141,8 @@ impl Refusal {
             Refusal::Store => 23,
             Refusal::BadStore => 24,
             Refusal::HallNotOpened => 25,
+            Refusal::NotArrangement => 26,
+            Refusal::OldSchema => 27,
         }
     }
 }

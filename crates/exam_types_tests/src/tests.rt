@@ -265,6 +265,8 @@ fn numbers_refusals(rt: HostRuntime) {
         (Refusal::Store, 23),
         (Refusal::BadStore, 24),
         (Refusal::HallNotOpened, 25),
+        (Refusal::NotArrangement, 26),
+        (Refusal::OldSchema, 27),
     ] {
         assert_eq!(rt; refusal.number(), number);
     }

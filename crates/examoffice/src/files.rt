@@ -7,12 +7,12 @@ ghost use Rattle.sqlite_wal.specs.Files.{image_at};
 ghost use Rattle.exam_rows.specs.Faults.{is_store_refusal};
 ghost use Rattle.exam_rows.specs.Versions.{IsBlank};
 ghost use Rattle.exam_office.specs.State.{empty_state};
-ghost use Rattle.exam_store.specs.Found.{Finds};
+ghost use Rattle.exam_store.specs.Found.{Finds, is_open_refusal};
 ghost use Rattle.exam_store.specs.Kept.{KeepsOurs};
 ghost use Rattle.exam_job.specs.Reading.{IsReadFault};
 ghost use Rattle.examoffice.specs.Opening.{IsOver, MakesIn, OpensIn, opening_refusal};
 
-use exam_job::JobFault;
+use exam_job::{JobFault, migrate_office};
 use exam_store::Store;
 use exam_types::Refusal;
 use sqlite::{Connection, Error, ErrorCode, FileFrom, FileStore, Start};
@@ -32,7 +32,7 @@ pub fn create_office<S: Start>(
 ) -> Result<Store<OfficeFile<S>>, Refusal>
     ensures found { IfOk result (λ store. MakesIn over_files (image_at S.Start) store.database store.office) }
     ensures kept { IfOk result (λ store. KeepsOurs (file_state store.database) store.office) }
-    ensures told { IfErr result (λ refusal. IsTrue (is_store_refusal refusal)) }
+    ensures told { IfErr result (λ refusal. IsTrue (is_open_refusal refusal)) }
 {
     let conn = open_database(rt, path, start)?;
     create_over(rt.alloc(), conn)
@@ -47,7 +47,7 @@ fn create_over<S: Start>(
     ensures found { (IsBlank (file_state conn).now → ⊥)
         → IfOk result (λ store. Finds (file_state conn) (file_state store.database) store.office) }
     ensures kept { IfOk result (λ store. KeepsOurs (file_state store.database) store.office) }
-    ensures told { IfErr result (λ refusal. IsTrue (is_store_refusal refusal)) }
+    ensures told { IfErr result (λ refusal. IsTrue (is_open_refusal refusal)) }
 {
     match Store::create(alloc, conn) {
         Ok(store) => Ok(store),
@@ -63,7 +63,7 @@ pub fn open_office<S: Start>(
 ) -> Result<Store<OfficeFile<S>>, Refusal>
     ensures found { IfOk result (λ store. OpensIn over_files (image_at S.Start) store.database store.office) }
     ensures kept { IfOk result (λ store. KeepsOurs (file_state store.database) store.office) }
-    ensures told { IfErr result (λ refusal. IsTrue (is_store_refusal refusal)) }
+    ensures told { IfErr result (λ refusal. IsTrue (is_open_refusal refusal)) }
 {
     if is_missing(rt, path) {
         return Err(Refusal::BadStore);
@@ -79,12 +79,25 @@ fn open_over<S: Start>(
 ) -> Result<Store<OfficeFile<S>>, Refusal>
     ensures found { IfOk result (λ store. Finds (file_state conn) (file_state store.database) store.office) }
     ensures kept { IfOk result (λ store. KeepsOurs (file_state store.database) store.office) }
-    ensures told { IfErr result (λ refusal. IsTrue (is_store_refusal refusal)) }
+    ensures told { IfErr result (λ refusal. IsTrue (is_open_refusal refusal)) }
 {
     match Store::open(alloc, conn) {
         Ok(store) => Ok(store),
         Err((refusal, conn)) => Err(close_after(refusal, conn)),
     }
+}
+
+/// Brings the office at the path to the newest version, and prints from which version to which. Where nothing is
+/// there is no office, and no file is made.
+pub fn migrate_file<S: Start>(rt: &HostRuntime, path: &str, start: S) -> Result<(), JobFault> {
+    if is_missing(rt, path) {
+        return Err(JobFault::Refused(Refusal::BadStore));
+    }
+    let mut conn = open_database(rt, path, start)?;
+    let told = migrate_office(rt.alloc(), &mut conn, &mut rt.stdout());
+    // The migration is committed by now, so a failure here takes nothing back.
+    let _ = conn.close();
+    told
 }
 
 /// Closes the office. What was answered stands already, so a failure here takes nothing back.

@@ -10,7 +10,7 @@ use exam_job::{DONE, JobFault, print_fault, print_line_fault, run_job};
 use exam_line::{Job, Line, LineFault, parse_line};
 use exam_store::Store;
 use exam_types::Day;
-use files::{OfficeFile, close_office, create_office, open_import, open_office};
+use files::{OfficeFile, close_office, create_office, migrate_file, open_import, open_office};
 use serving::serve;
 use sqlite::{Start, Unknown};
 use std::env;
@@ -66,8 +66,19 @@ fn run_line(rt: &HostRuntime, line: &Line<'_>) -> u8 {
     }
 }
 
-/// Opens what the line names, or makes it, carries the line out and closes it.
+/// Carries the line out over the office that it names, or brings that to the newest version.
 fn run_over<S: Start>(rt: &HostRuntime, line: &Line<'_>, start: S) -> Result<u8, JobFault> {
+    match &line.job {
+        Job::Migrate => {
+            migrate_file(rt, line.db, start)?;
+            Ok(DONE)
+        }
+        _ => run_open(rt, line, start),
+    }
+}
+
+/// Opens what the line names, or makes it, carries the line out and closes it.
+fn run_open<S: Start>(rt: &HostRuntime, line: &Line<'_>, start: S) -> Result<u8, JobFault> {
     let mut store = match &line.job {
         Job::Init => create_office(rt, line.db, start)?,
         _ => open_office(rt, line.db, start)?,

@@ -68,7 +68,7 @@ const APPEALS: &str = "GET /candidates/0000001/appeals";
 
 const ONE_APPEAL: &str =
     "{\"appeals\":[{\"answer\":null,\"kind\":\"hall\",\"lodged\":\"2027-05-30\",\
-\"reason\":\"\",\"ref\":\"HA1\",\"session\":\"S1\",\"state\":\"open\",\"subject\":\"B\"}]}";
+\"reason\":\"\",\"ref\":\"HA1\",\"session\":\"S1\",\"standing\":false,\"state\":\"open\",\"subject\":\"B\"}]}";
 
 /// What becomes of a request that fails behind these bytes, and what goes out where so many bytes are taken.
 fn post(

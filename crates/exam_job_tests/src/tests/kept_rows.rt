@@ -28,10 +28,12 @@ const ARRANGEMENTS: &str = "SELECT number, needs, extra FROM arrangement ORDER B
 const APPEALS: &str =
     "SELECT number, ref, session, kind, target, needs, extra, reason, state, answer, lodged FROM appeal ORDER BY number, ref";
 
+const STANDING: &str = "SELECT number, ref FROM standing ORDER BY number, ref";
+
 const SEATS: &str = "SELECT session, number, hall FROM seat ORDER BY session, number";
 
 /// Each table with all its columns, by its key.
-const ALL_TABLES: [&str; 10] = [
+const ALL_TABLES: [&str; 11] = [
     OFFICES,
     SESSIONS,
     PAPERS,
@@ -41,6 +43,7 @@ const ALL_TABLES: [&str; 10] = [
     ENTRIES,
     ARRANGEMENTS,
     APPEALS,
+    STANDING,
     SEATS,
 ];
 
@@ -92,7 +95,7 @@ pub fn all_rows_of<S: Alter>(alloc: Global, conn: &mut Connection<S>) -> Result<
 }
 
 /// Opens the office over a connection.
-fn opened(alloc: Global, conn: Connection<MemStore>) -> Result<Store<MemStore>, Fail> {
+pub fn opened(alloc: Global, conn: Connection<MemStore>) -> Result<Store<MemStore>, Fail> {
     match Store::open(alloc, conn) {
         Ok(store) => Ok(store),
         Err((refusal, conn)) => {
@@ -185,7 +188,7 @@ fn each_import_is_kept_in_its_table(rt: HostRuntime) -> Result<(), Fail> {
         expect_done(&rt, &mut store, words, file, reply)?;
         store = expect_rows(&rt, store, table, rows)?;
     }
-    expect_rows(&rt, store, OFFICES, "1|1|\n")?;
+    expect_rows(&rt, store, OFFICES, "1|2|\n")?;
     Ok(())
 }
 

@@ -16,12 +16,16 @@ use std::test::Fail;
 pub enum Line<'a> {
     /// A session on 2027-06-01 at 09:00.
     Session(&'a str),
+    /// A session on a date at 09:00.
+    SessionOn(&'a str, &'a str),
     /// A paper of an hour, with its session and the features that it requires.
     Paper(&'a str, &'a str, &'a str),
     /// A hall with its features.
     Hall(&'a str, &'a str),
     /// A hall opened for a session until noon, not reserved, with so many desks.
     Opening(&'a str, &'a str, u32),
+    /// A hall opened for a session until a minute of the day, not reserved, with one desk.
+    OpeningUntil(&'a str, &'a str, u16),
     Candidate(u32),
     /// A candidate's entry for a paper.
     Entry(u32, &'a str),
@@ -53,9 +57,9 @@ fn name(alloc: Global, text: &str) -> Result<Name, Fail> {
     Ok(Name::parse(alloc, text.as_bytes())?.ok_or("name")?)
 }
 
-fn morning() -> Result<Session, Fail> {
+fn morning(date: &str) -> Result<Session, Fail> {
     Ok(Session {
-        day: SessionDay::parse(b"2027-06-01").ok_or("day")?,
+        day: SessionDay::parse(date.as_bytes()).ok_or("day")?,
         start: StartTime::new(540).ok_or("start")?,
     })
 }
@@ -80,10 +84,10 @@ fn hall_with(alloc: Global, has: &str) -> Result<Hall, Fail> {
     })
 }
 
-fn until_noon(desks: u32) -> Result<Opening, Fail> {
+fn opening(desks: u32, until: u16) -> Result<Opening, Fail> {
     Ok(Opening {
         desks: DeskCount::new(desks).ok_or("desks")?,
-        until: ClosingTime::new(720).ok_or("until")?,
+        until: ClosingTime::new(until).ok_or("until")?,
         reserved: false,
     })
 }
@@ -106,13 +110,17 @@ pub fn arrangement(needs: &str, extra: u16) -> Result<Arrangement, Fail> {
 /// The row that a line names.
 pub fn row_of(alloc: Global, line: Line) -> Result<Row, Fail> {
     match line {
-        Line::Session(code) => Ok(Row::OfSession(session(code)?, morning()?)),
+        Line::Session(code) => Ok(Row::OfSession(session(code)?, morning("2027-06-01")?)),
+        Line::SessionOn(code, date) => Ok(Row::OfSession(session(code)?, morning(date)?)),
         Line::Paper(code, of, required) => {
             Ok(Row::OfPaper(paper(code)?, hour_paper(alloc, of, required)?))
         }
         Line::Hall(code, has) => Ok(Row::OfHall(hall(code)?, hall_with(alloc, has)?)),
         Line::Opening(of, code, desks) => {
-            Ok(Row::OfOpening(session(of)?, hall(code)?, until_noon(desks)?))
+            Ok(Row::OfOpening(session(of)?, hall(code)?, opening(desks, 720)?))
+        }
+        Line::OpeningUntil(of, code, until) => {
+            Ok(Row::OfOpening(session(of)?, hall(code)?, opening(1, until)?))
         }
         Line::Candidate(value) => Ok(Row::OfCandidate(number(value)?, candidate(alloc)?)),
         Line::Entry(value, code) => Ok(Row::OfEntry(number(value)?, paper(code)?)),

@@ -67,6 +67,22 @@ fn two_granted_arrangement_appeals_for_one_session(rt: HostRuntime) -> Result<()
     expect_bad(&rt, &facts, &[], Table::Appeals)
 }
 
+/// A mark without an appeal, of a hall appeal, and of an appeal that is open.
+#[test]
+fn marks_of_what_stands_for_no_other_session(rt: HostRuntime) -> Result<(), Fail> {
+    let granted = Fact::Granted(1, "R1", Grant::AnotherHallThan("A"));
+    let open = Fact::Lodged(1, "R1", Grant::Needs("screen"));
+    for fact in [Fact::Row(Line::Candidate(1)), granted, open] {
+        expect_bad(
+            &rt,
+            &[Fact::School, fact, Fact::Marked(1, "R1")],
+            &[],
+            Table::Standing,
+        )?;
+    }
+    Ok(())
+}
+
 /// A session in which the first candidate is entered, with two halls that fit.
 const ENTERED: [Fact<'static>; 4] = [
     Fact::School,

@@ -5,6 +5,7 @@ use exam_office::{
     AppealState, Command, Decision, Kind, Lodging, Office, Outcome, Part, Reply, part_for, run,
     state_of, step, step_part, touched,
 };
+use exam_rules::finish;
 use exam_types::{Day, HallCode, Refusal};
 use std::alloc::Global;
 use std::process::Abort;
@@ -52,6 +53,8 @@ pub enum Scene<'a> {
     Order(Order<'a>, Result<Reply, Refusal>),
     /// In which halls candidates sit in a session; `-` is nowhere.
     Seats(&'a str, &'a [(u32, &'a str)]),
+    /// At which minute of the day a candidate ends in a session.
+    Ends(&'a str, u32, u16),
     /// A candidate's entry for a paper is withdrawn.
     IsWithdrawn(u32, &'a str),
     /// How many entries there are, live or withdrawn.
@@ -180,6 +183,19 @@ fn expect_places<R: Abort + AllocGlobal>(
     Ok(())
 }
 
+/// Compares when a candidate ends in a session.
+fn expect_end<R: Abort + AllocGlobal>(
+    rt: &R,
+    office: &Office,
+    of: &str,
+    value: u32,
+    wanted: u16,
+) -> Result<(), Fail> {
+    let end = finish(office.facts(), &session(of)?, number(value)?).ok_or("finish")?;
+    assert_eq!(rt; end.get(), wanted);
+    Ok(())
+}
+
 /// Where an appeal stands.
 fn standing_of(office: &Office, value: u32, code: &str) -> Result<AppealState, Fail> {
     let key = (number(value)?, reference(code)?);
@@ -216,6 +232,7 @@ fn take<R: Abort + AllocGlobal>(rt: &R, office: &mut Office, scene: &Scene) -> R
         }
         Scene::Order(order, wanted) => expect_order(rt, office, *order, *wanted),
         Scene::Seats(of, places) => expect_places(rt, office, of, places),
+        Scene::Ends(of, value, end) => expect_end(rt, office, of, *value, *end),
         Scene::IsWithdrawn(value, code) => {
             assert!(rt; is_withdrawn(office, *value, code)?);
             Ok(())

@@ -13,6 +13,8 @@ pub enum Grant<'a> {
     AnotherHallThan(&'a str),
     Paper(&'a str),
     Needs(&'a str),
+    /// So much extra time, in percent.
+    Extra(u16),
 }
 
 /// A fact, or some facts, in words. A later fact takes the place of an earlier one with its key.
@@ -30,6 +32,8 @@ pub enum Fact<'a> {
     Withdrawn(u32, &'a str),
     /// An appeal of a candidate for S1 with a reference, granted.
     Granted(u32, &'a str, Grant<'a>),
+    /// The mark of a standing grant, of a candidate and a reference.
+    Marked(u32, &'a str),
     /// An open appeal of a candidate for S1 with a reference.
     Lodged(u32, &'a str, Grant<'a>),
     /// So many granted appeals of the first candidate for S1.
@@ -124,6 +128,7 @@ pub fn subject_of(grant: Grant) -> Result<Subject, Fail> {
         Grant::AnotherHallThan(code) => Ok(Subject::Hall(hall(code)?)),
         Grant::Paper(code) => Ok(Subject::Clash(paper(code)?)),
         Grant::Needs(needs) => Ok(Subject::Arrangement(arrangement(needs, 0)?)),
+        Grant::Extra(extra) => Ok(Subject::Arrangement(arrangement("-", extra)?)),
     }
 }
 
@@ -172,6 +177,13 @@ fn add_grant(
     add_appeal(alloc, facts, value, code, grant, status)
 }
 
+fn add_mark(facts: &mut Facts, value: u32, code: &str) -> Result<(), Fail> {
+    facts
+        .standing
+        .insert((number(value)?, reference(code)?), ())?;
+    Ok(())
+}
+
 fn add_hall_grants(alloc: Global, facts: &mut Facts, count: u32) -> Result<(), Fail> {
     for value in 0..count {
         let code = format!(in alloc; "R{value}")?;
@@ -193,6 +205,7 @@ fn add_fact(alloc: Global, facts: &mut Facts, fact: Fact) -> Result<(), Fail> {
         Fact::Rows(kind, first, end) => add_range(alloc, facts, kind, first, end),
         Fact::Withdrawn(value, code) => add_withdrawn(facts, value, code),
         Fact::Granted(value, code, grant) => add_grant(alloc, facts, value, code, grant),
+        Fact::Marked(value, code) => add_mark(facts, value, code),
         Fact::Lodged(value, code, grant) => {
             add_appeal(alloc, facts, value, code, grant, Status::Pending)
         }

@@ -128,3 +128,44 @@ fn a_grant_touches_the_session_of_its_appeal(rt: HostRuntime) -> Result<(), Fail
     expect_order(&rt, ruling("HA1", Outcome::Refuse), "")?;
     expect_order(&rt, ruling("HA9", Outcome::Grant), "")
 }
+
+/// The two sessions with a standing grant of candidate 1 for S1, and an open appeal of the same kind.
+const ONE_STANDS: [Fact<'static>; 10] = [
+    Fact::School,
+    Fact::Row(Line::Session("S2")),
+    Fact::Row(Line::Session("S3")),
+    Fact::Row(Line::Paper("MB-1", "S2", "-")),
+    Fact::Row(Line::Entry(1, "MA-1")),
+    Fact::Row(Line::Entry(1, "MB-1")),
+    Fact::Granted(1, "AR1", Grant::Needs("screen")),
+    Fact::Marked(1, "AR1"),
+    Fact::Lodged(1, "AR2", Grant::Needs("reader")),
+    Fact::Lodged(1, "HA1", Grant::AnotherHallThan("B")),
+];
+
+fn expect_where_one_stands<R: Abort + AllocGlobal>(
+    rt: &R,
+    order: Order,
+    wanted: &str,
+) -> Result<(), Fail> {
+    let found = touched_by_order(rt.alloc(), &ONE_STANDS, order)?;
+    assert!(rt; found.as_str() == wanted, "{found}");
+    Ok(())
+}
+
+#[test]
+fn a_standing_grant_touches_each_session_of_the_appellant(rt: HostRuntime) -> Result<(), Fail> {
+    expect_order(&rt, ruling("HA1", Outcome::Standing), "S1 S2 ")?;
+    expect_where_one_stands(&rt, ruling("AR2", Outcome::Standing), "S1 S2 ")?;
+    expect_where_one_stands(&rt, ruling("AR2", Outcome::Grant), "S1 S2 ")?;
+    expect_where_one_stands(&rt, ruling("HA1", Outcome::Grant), "S1 ")?;
+    expect_where_one_stands(&rt, ruling("AR2", Outcome::Refuse), "")
+}
+
+#[test]
+fn a_date_touches_each_session_of_who_has_a_standing_grant(rt: HostRuntime) -> Result<(), Fail> {
+    let lines = [Line::SessionOn("S3", "2027-06-09")];
+    let found = touched_by_import(rt.alloc(), &ONE_STANDS, Kind::Sessions, &lines)?;
+    assert!(&rt; found.as_str() == "S1 S2 S3 ", "{found}");
+    Ok(())
+}

@@ -100,7 +100,7 @@ fn bodies_of_own_rows(rt: HostRuntime) -> Result<(), Fail> {
     let clashes = b"{\"clashes\":[{\"paper\":\"PH-2\",\"session\":\"S1\",\"sitting\":\"MA-1\"}]}";
     assert_eq!(rt; clashes_body(alloc, &own)?.as_slice(), clashes.as_slice());
     let appeals =
-        b"{\"appeals\":[{\"answer\":null,\"kind\":\"hall\",\"lodged\":\"2027-05-30\",\"reason\":\"\",\"ref\":\"HA1\",\"session\":\"S1\",\"state\":\"open\",\"subject\":\"B\"}]}";
+        b"{\"appeals\":[{\"answer\":null,\"kind\":\"hall\",\"lodged\":\"2027-05-30\",\"reason\":\"\",\"ref\":\"HA1\",\"session\":\"S1\",\"standing\":false,\"state\":\"open\",\"subject\":\"B\"}]}";
     assert_eq!(rt; appeals_body(alloc, &own)?.as_slice(), appeals.as_slice());
     Ok(())
 }
@@ -126,9 +126,9 @@ fn decided_appeals_tell_their_answers(rt: HostRuntime) -> Result<(), Fail> {
     let own = decided_rows(rt.alloc())?;
     let body = appeals_body(rt.alloc(), &own)?;
     let text =
-        b"{\"appeals\":[{\"answer\":\"yes\",\"kind\":\"arrangement\",\"lodged\":\"2027-05-30\",\"reason\":\"a\",\"ref\":\"AR1\",\"session\":\"S1\",\"state\":\"superseded\",\"subject\":\"screen 25\"},\
-{\"answer\":null,\"kind\":\"clash\",\"lodged\":\"2027-05-30\",\"reason\":\"c\",\"ref\":\"CA1\",\"session\":\"S1\",\"state\":\"retracted\",\"subject\":\"PH-2\"},\
-{\"answer\":\"no\",\"kind\":\"hall\",\"lodged\":\"2027-05-30\",\"reason\":\"h\",\"ref\":\"HA1\",\"session\":\"S1\",\"state\":\"refused\",\"subject\":\"B\"}]}";
+        b"{\"appeals\":[{\"answer\":\"yes\",\"kind\":\"arrangement\",\"lodged\":\"2027-05-30\",\"reason\":\"a\",\"ref\":\"AR1\",\"session\":\"S1\",\"standing\":true,\"state\":\"superseded\",\"subject\":\"screen 25\"},\
+{\"answer\":null,\"kind\":\"clash\",\"lodged\":\"2027-05-30\",\"reason\":\"c\",\"ref\":\"CA1\",\"session\":\"S1\",\"standing\":false,\"state\":\"retracted\",\"subject\":\"PH-2\"},\
+{\"answer\":\"no\",\"kind\":\"hall\",\"lodged\":\"2027-05-30\",\"reason\":\"h\",\"ref\":\"HA1\",\"session\":\"S1\",\"standing\":false,\"state\":\"refused\",\"subject\":\"B\"}]}";
     assert_eq!(rt; body.as_slice(), text.as_slice());
     Ok(())
 }

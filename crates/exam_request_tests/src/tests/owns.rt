@@ -1,5 +1,5 @@
 //! The own rows of a candidate.
-use exam_office::{Own, OwnSession};
+use exam_office::{Own, OwnAppeal, OwnSession};
 use exam_rules::{Appeal, Arrangement, Status, Subject};
 use exam_types::{
     AccessCode, Day, Extra, Features, HallCode, Minute, Name, Number, PaperCode, Reason, Reference,
@@ -14,7 +14,7 @@ pub fn own_rows(alloc: Global, desk: Option<u32>, reason: &str) -> Result<Own, F
     let mut sessions = Vec::new(alloc);
     sessions.push(own_session(alloc, desk)?)?;
     let mut appeals = Vec::new(alloc);
-    appeals.push((reference(b"HA1")?, open_appeal(alloc, reason)?))?;
+    appeals.push(own_appeal(b"HA1", open_appeal(alloc, reason)?)?)?;
     Ok(Own {
         number: Number::new(1).ok_or("number")?,
         name: Name::parse(alloc, b"Bo Berg")?.ok_or("name")?,
@@ -76,12 +76,21 @@ fn appeal(alloc: Global, subject: Subject, reason: &str, status: Status) -> Resu
     })
 }
 
+/// An appeal under its reference, without the mark of a standing grant.
+fn own_appeal(code: &[u8], appeal: Appeal) -> Result<OwnAppeal, Fail> {
+    Ok(OwnAppeal {
+        reference: reference(code)?,
+        appeal,
+        standing: false,
+    })
+}
+
 fn words(alloc: Global, text: &[u8]) -> Result<Reason, Fail> {
     Ok(Reason::parse(alloc, text)?.ok_or("reason")?)
 }
 
-/// The same candidate, with three appeals of which none is open: for an arrangement, for a paper, and against
-/// a hall.
+/// The same candidate, with three appeals of which none is open: for an arrangement, once granted for later sessions
+/// too, for a paper, and against a hall.
 pub fn decided_rows(alloc: Global) -> Result<Own, Fail> {
     let mut own = own_rows(alloc, None, "")?;
     own.appeals = Vec::new(alloc);
@@ -90,14 +99,15 @@ pub fn decided_rows(alloc: Global) -> Result<Own, Fail> {
         extra: Extra::new(25).ok_or("extra")?,
     });
     let yes = Status::Superseded(words(alloc, b"yes")?);
-    own.appeals
-        .push((reference(b"AR1")?, appeal(alloc, asked, "a", yes)?))?;
+    own.appeals.push(OwnAppeal {
+        standing: true,
+        ..own_appeal(b"AR1", appeal(alloc, asked, "a", yes)?)?
+    })?;
     let clash = Subject::Clash(paper(b"PH-2")?);
-    own.appeals.push((
-        reference(b"CA1")?,
-        appeal(alloc, clash, "c", Status::Retracted)?,
-    ))?;
+    let retracted = appeal(alloc, clash, "c", Status::Retracted)?;
+    own.appeals.push(own_appeal(b"CA1", retracted)?)?;
     let no = Status::Refused(words(alloc, b"no")?);
-    own.appeals.push((reference(b"HA1")?, appeal(alloc, against_b()?, "h", no)?))?;
+    let refused = appeal(alloc, against_b()?, "h", no)?;
+    own.appeals.push(own_appeal(b"HA1", refused)?)?;
     Ok(own)
 }

@@ -1,6 +1,7 @@
 //! The table of appeals.
 ghost use Rattle.std.specs.Prelude.{ℕ, List, [], ◌∷◌};
 ghost use Rattle.sqlite_value.specs.declared.value.Value.TheVariants.{Text};
+ghost use Rattle.exam_tables.specs.Made.{ContainsMade};
 ghost use Rattle.exam_tables.specs.Texts.{put_appeal, delete_appeal, load_appeal};
 ghost use Rattle.exam_rows.specs.Rows.{appeal_row, IsAppeal};
 ghost use Rattle.exam_rows.specs.Stored as stored;
@@ -44,6 +45,8 @@ impl Table for Appeals {
     ghost key_of = { λ key. stored.whole key.0 ∷ Text key.1 ∷ [] };
 
     ghost IsRow = { IsAppeal };
+
+    ghost Holds = { ContainsMade };
 
     fn put<'a, S: Alter>(
         alloc: Global,

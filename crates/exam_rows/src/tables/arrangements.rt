@@ -1,6 +1,7 @@
 //! The table of arrangements.
 ghost use Rattle.std.specs.Prelude.{ℕ, List, [], ◌∷◌};
 ghost use Rattle.sqlite_value.specs.declared.value.Value.TheVariants.{Text};
+ghost use Rattle.exam_tables.specs.Made.{ContainsMade};
 ghost use Rattle.exam_tables.specs.Texts.{put_arrangement, delete_arrangement, load_arrangement};
 ghost use Rattle.exam_rows.specs.Rows.{arrangement_row, IsArrangement};
 ghost use Rattle.exam_rows.specs.Stored as stored;
@@ -37,6 +38,8 @@ impl Table for Arrangements {
     ghost key_of = { λ number. stored.whole number ∷ [] };
 
     ghost IsRow = { IsArrangement };
+
+    ghost Holds = { ContainsMade };
 
     fn put<'a, S: Alter>(
         _alloc: Global,

@@ -1,6 +1,7 @@
 //! The table of candidates.
 ghost use Rattle.std.specs.Prelude.{ℕ, List, [], ◌∷◌};
 ghost use Rattle.sqlite_value.specs.declared.value.Value.TheVariants.{Text};
+ghost use Rattle.exam_tables.specs.Made.{ContainsMade};
 ghost use Rattle.exam_tables.specs.Texts.{put_candidate, delete_candidate, load_candidate};
 ghost use Rattle.exam_rows.specs.Rows.{candidate_row, IsCandidate};
 ghost use Rattle.exam_rows.specs.Stored as stored;
@@ -37,6 +38,8 @@ impl Table for Candidates {
     ghost key_of = { λ number. stored.whole number ∷ [] };
 
     ghost IsRow = { IsCandidate };
+
+    ghost Holds = { ContainsMade };
 
     fn put<'a, S: Alter>(
         _alloc: Global,

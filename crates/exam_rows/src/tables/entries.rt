@@ -1,6 +1,7 @@
 //! The table of entries.
 ghost use Rattle.std.specs.Prelude.{ℕ, List, [], ◌∷◌};
 ghost use Rattle.sqlite_value.specs.declared.value.Value.TheVariants.{Text};
+ghost use Rattle.exam_tables.specs.Made.{ContainsMade};
 ghost use Rattle.exam_tables.specs.Texts.{put_entry, delete_entry, load_entry};
 ghost use Rattle.exam_rows.specs.Rows.{entry_row, IsEntry};
 ghost use Rattle.exam_rows.specs.Stored as stored;
@@ -37,6 +38,8 @@ impl Table for Entries {
     ghost key_of = { λ key. stored.whole key.0 ∷ Text key.1 ∷ [] };
 
     ghost IsRow = { IsEntry };
+
+    ghost Holds = { ContainsMade };
 
     fn put<'a, S: Alter>(
         _alloc: Global,

@@ -1,6 +1,7 @@
 //! The table of halls.
 ghost use Rattle.std.specs.Prelude.{ℕ, List, [], ◌∷◌};
 ghost use Rattle.sqlite_value.specs.declared.value.Value.TheVariants.{Text};
+ghost use Rattle.exam_tables.specs.Made.{ContainsMade};
 ghost use Rattle.exam_tables.specs.Texts.{put_hall, delete_hall, load_hall};
 ghost use Rattle.exam_rows.specs.Rows.{hall_row, IsHall};
 ghost use Rattle.exam_rows.specs.Stored as stored;
@@ -37,6 +38,8 @@ impl Table for Halls {
     ghost key_of = { λ code. Text code ∷ [] };
 
     ghost IsRow = { IsHall };
+
+    ghost Holds = { ContainsMade };
 
     fn put<'a, S: Alter>(
         _alloc: Global,

@@ -1,6 +1,7 @@
 //! The table of halls opened for sessions.
 ghost use Rattle.std.specs.Prelude.{ℕ, List, [], ◌∷◌};
 ghost use Rattle.sqlite_value.specs.declared.value.Value.TheVariants.{Text};
+ghost use Rattle.exam_tables.specs.Made.{ContainsMade};
 ghost use Rattle.exam_tables.specs.Texts.{put_opening, delete_opening, load_opening};
 ghost use Rattle.exam_rows.specs.Rows.{opening_row, IsOpening};
 ghost use Rattle.exam_rows.specs.Stored as stored;
@@ -39,6 +40,8 @@ impl Table for Openings {
     ghost key_of = { λ key. Text key.0 ∷ Text key.1 ∷ [] };
 
     ghost IsRow = { IsOpening };
+
+    ghost Holds = { ContainsMade };
 
     fn put<'a, S: Alter>(
         _alloc: Global,

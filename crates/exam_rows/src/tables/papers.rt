@@ -1,6 +1,7 @@
 //! The table of papers.
 ghost use Rattle.std.specs.Prelude.{ℕ, List, [], ◌∷◌};
 ghost use Rattle.sqlite_value.specs.declared.value.Value.TheVariants.{Text};
+ghost use Rattle.exam_tables.specs.Made.{ContainsMade};
 ghost use Rattle.exam_tables.specs.Texts.{put_paper, delete_paper, load_paper};
 ghost use Rattle.exam_rows.specs.Rows.{paper_row, IsPaper};
 ghost use Rattle.exam_rows.specs.Stored as stored;
@@ -37,6 +38,8 @@ impl Table for Papers {
     ghost key_of = { λ code. Text code ∷ [] };
 
     ghost IsRow = { IsPaper };
+
+    ghost Holds = { ContainsMade };
 
     fn put<'a, S: Alter>(
         _alloc: Global,

@@ -1,6 +1,7 @@
 //! The table of seats.
 ghost use Rattle.std.specs.Prelude.{ℕ, List, [], ◌∷◌};
 ghost use Rattle.sqlite_value.specs.declared.value.Value.TheVariants.{Text};
+ghost use Rattle.exam_tables.specs.Made.{ContainsMade};
 ghost use Rattle.exam_tables.specs.Texts.{put_seat, delete_seat, load_seat};
 ghost use Rattle.exam_rows.specs.Rows.{seat_row, IsSeat};
 ghost use Rattle.exam_rows.specs.Stored as stored;
@@ -36,6 +37,8 @@ impl Table for Seats {
     ghost key_of = { λ key. Text key.0 ∷ stored.whole key.1 ∷ [] };
 
     ghost IsRow = { IsSeat };
+
+    ghost Holds = { ContainsMade };
 
     fn put<'a, S: Alter>(
         _alloc: Global,

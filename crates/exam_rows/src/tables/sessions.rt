@@ -2,6 +2,7 @@
 ghost use Rattle.std.specs.Prelude.{◌≡◌, ℕ, pos, List, [], ◌∷◌, IsTrue, IfOk, IfErr};
 ghost use Rattle.sqlite.specs.Held.{state};
 ghost use Rattle.exam_rows.specs.Inside.{Makes, put_of};
+ghost use Rattle.exam_tables.specs.Made.{ContainsMade};
 ghost use Rattle.exam_tables.specs.Texts.{put_session, delete_session, load_session};
 ghost use Rattle.exam_rows.specs.Rows.{session_row, IsSession};
 ghost use Rattle.exam_rows.specs.Reading.{MayRead};
@@ -40,6 +41,8 @@ impl Table for Sessions {
     ghost key_of = { λ code. Text code ∷ [] };
 
     ghost IsRow = { IsSession };
+
+    ghost Holds = { ContainsMade };
 
     fn put<'a, S: Alter>(
         alloc: Global,

@@ -20,8 +20,8 @@ pub enum Grant<'a> {
 /// A fact in words. A later fact takes the place of an earlier one with its key.
 #[derive(Clone, Copy)]
 pub enum Fact<'a> {
-    /// Session S1 on 2027-06-01 at 09:00.
-    Session,
+    /// A session at 09:00 on a day.
+    Session(&'a str, &'a str),
     /// A paper of S1, its minutes and the features that it requires.
     Paper(&'a str, u16, &'a str),
     /// A hall with its features, opened for S1 with one desk until a time.
@@ -30,14 +30,18 @@ pub enum Fact<'a> {
     Entered(u32, &'a str),
     /// The needs and the extra time of a candidate.
     Arrangement(u32, &'a str, u16),
-    /// An appeal of a candidate for a session, granted.
-    Granted(u32, &'a str, Grant<'a>),
+    /// An appeal of a candidate, by its reference, for a session, granted.
+    Granted(u32, &'a str, &'a str, Grant<'a>),
+    /// The same, superseded since.
+    Superseded(u32, &'a str, &'a str, Grant<'a>),
+    /// The mark of a candidate's appeal, by its reference: its grant stands for later sessions.
+    Marked(u32, &'a str),
 }
 
-/// Session S1 at 09:00 with the paper MA-1 of 60 minutes; the halls A, which is step-free, and B are open
+/// Session S1 on 2027-06-01 at 09:00 with the paper MA-1 of 60 minutes; the halls A, which is step-free, and B are open
 /// until 12:00.
 const SCHOOL: [Fact<'static>; 4] = [
-    Fact::Session,
+    Fact::Session("S1", "2027-06-01"),
     Fact::Paper("MA-1", 60, "-"),
     Fact::Hall("A", "step-free", 720),
     Fact::Hall("B", "-", 720),
@@ -71,9 +75,17 @@ fn reason(alloc: Global, text: &str) -> Result<Reason, Fail> {
     Ok(Reason::parse(alloc, text.as_bytes())?.ok_or("reason")?)
 }
 
-fn morning() -> Result<Session, Fail> {
+fn reference(text: &str) -> Result<Reference, Fail> {
+    Ok(Reference::parse(text.as_bytes()).ok_or("reference")?)
+}
+
+fn key(value: u32, text: &str) -> Result<(Number, Reference), Fail> {
+    Ok((number(value)?, reference(text)?))
+}
+
+fn morning_of(day: &str) -> Result<Session, Fail> {
     Ok(Session {
-        day: SessionDay::parse(b"2027-06-01").ok_or("day")?,
+        day: SessionDay::parse(day.as_bytes()).ok_or("day")?,
         start: StartTime::new(540).ok_or("start")?,
     })
 }
@@ -129,16 +141,15 @@ fn subject_of(grant: Grant) -> Result<Subject, Fail> {
     }
 }
 
-fn granted(alloc: Global, of: &str, grant: Grant) -> Result<Appeal, Fail> {
+fn appeal(alloc: Global, of: &str, grant: Grant, status: Status) -> Result<Appeal, Fail> {
     let session = session(of)?;
     let subject = subject_of(grant)?;
     let lodged = Day::parse(b"2027-05-20").ok_or("day")?;
-    let why = reason(alloc, "")?;
     Ok(Appeal {
         session,
         subject,
-        reason: why,
-        status: Status::Granted(reason(alloc, "ok")?),
+        reason: reason(alloc, "")?,
+        status,
         lodged,
     })
 }
@@ -165,16 +176,22 @@ fn add_entered(alloc: Global, facts: &mut Facts, value: u32, code: &str) -> Resu
     Ok(())
 }
 
-fn add_grant(
+fn add_appeal(
     alloc: Global,
     facts: &mut Facts,
-    value: u32,
+    key: (Number, Reference),
     of: &str,
     grant: Grant,
+    status: Status,
 ) -> Result<(), Fail> {
-    let reference = Reference::parse(b"R1").ok_or("reference")?;
-    let key = (number(value)?, reference);
-    facts.appeals.insert(key, granted(alloc, of, grant)?)?;
+    facts
+        .appeals
+        .insert(key, appeal(alloc, of, grant, status)?)?;
+    Ok(())
+}
+
+fn add_mark(facts: &mut Facts, key: (Number, Reference)) -> Result<(), Fail> {
+    facts.standing.insert(key, ())?;
     Ok(())
 }
 
@@ -196,20 +213,28 @@ fn add_arrangement(facts: &mut Facts, value: u32, needs: &str, extra: u16) -> Re
     Ok(())
 }
 
-fn add_session(facts: &mut Facts) -> Result<(), Fail> {
-    facts.sessions.insert(session("S1")?, morning()?)?;
+fn add_session(facts: &mut Facts, code: &str, day: &str) -> Result<(), Fail> {
+    facts.sessions.insert(session(code)?, morning_of(day)?)?;
     Ok(())
 }
 
 /// Adds a fact.
 pub fn add_fact(alloc: Global, facts: &mut Facts, fact: Fact) -> Result<(), Fail> {
     match fact {
-        Fact::Session => add_session(facts),
+        Fact::Session(code, day) => add_session(facts, code, day),
         Fact::Paper(code, minutes, required) => add_paper(alloc, facts, code, minutes, required),
         Fact::Hall(code, has, until) => add_hall(alloc, facts, code, has, until),
         Fact::Entered(value, code) => add_entered(alloc, facts, value, code),
         Fact::Arrangement(value, needs, extra) => add_arrangement(facts, value, needs, extra),
-        Fact::Granted(value, of, grant) => add_grant(alloc, facts, value, of, grant),
+        Fact::Granted(value, text, of, grant) => {
+            let status = Status::Granted(reason(alloc, "ok")?);
+            add_appeal(alloc, facts, key(value, text)?, of, grant, status)
+        }
+        Fact::Superseded(value, text, of, grant) => {
+            let status = Status::Superseded(reason(alloc, "ok")?);
+            add_appeal(alloc, facts, key(value, text)?, of, grant, status)
+        }
+        Fact::Marked(value, text) => add_mark(facts, key(value, text)?),
     }
 }
 

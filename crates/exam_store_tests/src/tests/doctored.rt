@@ -92,10 +92,10 @@ fn an_appeal_of_no_form_is_refused(rt: HostRuntime) -> Result<(), Fail> {
 #[test]
 fn another_version_is_refused(rt: HostRuntime) -> Result<(), Fail> {
     for sql in [
-        "UPDATE office SET version = 2",
+        "UPDATE office SET version = 3",
         "UPDATE office SET version = 9",
         "UPDATE office SET one = 2",
-        "INSERT INTO office VALUES (2, 1)",
+        "INSERT INTO office VALUES (2, 2)",
         "DELETE FROM office",
     ] {
         assert_eq!(rt;
@@ -111,6 +111,7 @@ fn another_version_is_refused(rt: HostRuntime) -> Result<(), Fail> {
 fn a_missing_table_or_column_is_refused(rt: HostRuntime) -> Result<(), Fail> {
     let alloc = rt.alloc();
     for table in [
+        "standing",
         "seat",
         "appeal",
         "arrangement",
@@ -198,6 +199,35 @@ fn an_appeal_that_may_stand_once_is_refused_twice(rt: HostRuntime) -> Result<(),
             None,
             "{sql}"
         );
+    }
+    Ok(())
+}
+
+/// The refusal of opening the base office with an appeal of this kind, state and answer that bears a mark.
+fn refusal_of_marked(alloc: Global, columns: &str) -> Result<Option<Refusal>, Fail> {
+    let sql = format!(in alloc;
+        "INSERT INTO appeal VALUES (1, 'R1', 'S1', {columns}, '2027-05-01'); INSERT INTO standing VALUES (1, 'R1')"
+    )?;
+    refusal_of_base_after(alloc, sql.as_str())
+}
+
+#[test]
+fn a_mark_of_what_was_never_granted_is_refused(rt: HostRuntime) -> Result<(), Fail> {
+    for columns in [
+        "1, 'A', 0, 0, '', 2, 'Yes'",
+        "2, 'MA-1', 0, 0, '', 2, 'Yes'",
+        "3, '', 1, 0, '', 1, NULL",
+        "3, '', 1, 0, '', 3, 'No'",
+        "3, '', 1, 0, '', 4, NULL",
+    ] {
+        assert_eq!(rt;
+            refusal_of_marked(rt.alloc(), columns)?,
+            Some(Refusal::BadStore),
+            "{columns}"
+        );
+    }
+    for columns in ["3, '', 1, 0, '', 2, 'Yes'", "3, '', 1, 0, '', 5, 'Yes'"] {
+        assert_eq!(rt; refusal_of_marked(rt.alloc(), columns)?, None, "{columns}");
     }
     Ok(())
 }

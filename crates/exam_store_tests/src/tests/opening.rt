@@ -14,7 +14,7 @@ fn refusal_of_seated_after(alloc: Global, sql: &str) -> Result<Option<Refusal>, 
 #[test]
 fn a_doctored_office_is_refused(rt: HostRuntime) -> Result<(), Fail> {
     for sql in [
-        "UPDATE office SET version = 2",
+        "UPDATE office SET version = 3",
         "DELETE FROM office",
         "UPDATE session SET start = 1440",
         "UPDATE session SET day = '2027-06-31'",

@@ -1,7 +1,8 @@
 //! A stop at any call of the disk: a command is there whole or not at all, and what was answered is there.
+use super::migrating::BACK;
 use super::{BASE, FIRST_SEATED};
 use exam_office::Command;
-use exam_store::Store;
+use exam_store::{Store, migrate};
 use exam_types::{Day, Number, PaperCode, Refusal};
 use sqlite::{Connection, FileStore, Files, Options};
 use sqlite_disk::{Crash, Disk, Fuse, Memory};
@@ -17,6 +18,9 @@ const UNLIMITED: u64 = 1_000_000;
 
 /// More calls than a command makes of either file, its opening and its close among them.
 const CALLS: u64 = 64;
+
+/// More calls than a command or a migration makes of either file, its opening and its close among them.
+const MOST_CALLS: u64 = 256;
 
 /// The second candidate has the other desk, and the third none.
 const MORE_ENTERED: [&str; 3] = [
@@ -65,8 +69,8 @@ fn copied(alloc: Global, file: &Fused, calls: u64) -> Result<Fused, Fail> {
     Ok(Fuse::new(copy, calls))
 }
 
-/// The files of an office whose two desks are taken.
-fn full_office(alloc: Global) -> Result<Files<Fused>, Fail> {
+/// The files of an office whose two desks are taken, after these statements.
+fn full_office(alloc: Global, sql: &str) -> Result<Files<Fused>, Fail> {
     let files = Files {
         log: Fuse::new(Memory::new(alloc), UNLIMITED),
         db: Fuse::new(Memory::new(alloc), UNLIMITED),
@@ -78,6 +82,7 @@ fn full_office(alloc: Global) -> Result<Files<Fused>, Fail> {
         Ok(store) => {
             let mut conn = store.close();
             put_rows(&mut conn)?;
+            conn.execute_batch(sql)?;
             Ok(files_of(conn))
         }
         Err((refusal, conn)) => {
@@ -216,7 +221,7 @@ fn stop_after<R: Abort + AllocGlobal>(
 
 #[test]
 fn a_stop_of_the_log_leaves_a_command_whole_or_out(rt: HostRuntime) -> Result<(), Fail> {
-    let base = full_office(rt.alloc())?;
+    let base = full_office(rt.alloc(), "")?;
     let mut failed = 0u32;
     for calls in 0..CALLS {
         if stop_after(&rt, &base, calls, UNLIMITED)? == Answer::Failed {
@@ -231,10 +236,99 @@ fn a_stop_of_the_log_leaves_a_command_whole_or_out(rt: HostRuntime) -> Result<()
 
 #[test]
 fn a_stop_of_the_database_leaves_a_command_whole_or_out(rt: HostRuntime) -> Result<(), Fail> {
-    let base = full_office(rt.alloc())?;
-    for calls in 0..CALLS {
-        stop_after(&rt, &base, UNLIMITED, calls)?;
+    let base = full_office(rt.alloc(), "")?;
+    for calls in 0..MOST_CALLS {
+        if stop_after(&rt, &base, UNLIMITED, calls)? == Answer::Done {
+            return Ok(());
+        }
     }
-    assert_eq!(rt; stop_after(&rt, &base, UNLIMITED, CALLS)?, Answer::Done);
-    Ok(())
+    Err(Fail::new("more calls than expected"))
+}
+
+/// Brings the office over these files to the newest version, until a call fails.
+fn migrate_until_stopped(alloc: Global, files: Files<Fused>) -> Result<Stopped, Fail> {
+    let mut conn = match connect(alloc, files) {
+        Ok(conn) => conn,
+        Err(files) => {
+            return Ok(Stopped {
+                answer: Answer::Unopened,
+                files,
+            });
+        }
+    };
+    let answer = match migrate(alloc, &mut conn) {
+        Ok(_) => Ok(Answer::Done),
+        Err(refusal) => answer_of(refusal, Answer::Failed),
+    };
+    let files = files_of(conn);
+    Ok(Stopped {
+        answer: answer?,
+        files,
+    })
+}
+
+/// The version that is there after the machine has come back, and how many seats. The office is a good one of it.
+fn version_after(alloc: Global, mut files: Files<Fused>) -> Result<(u8, usize), Fail> {
+    files.log.crash();
+    files.db.crash();
+    let Ok(mut conn) = connect(alloc, files) else {
+        return Err(Fail::new("the files cannot be used"));
+    };
+    let versions = migrate(alloc, &mut conn);
+    let seats = conn.query_all("SELECT number FROM seat", &[]);
+    drop(files_of(conn));
+    Ok((versions?.0, seats?.len()))
+}
+
+/// What a migration gave whose log and database fail after so many calls: the office is there in the old version or
+/// in the newest, and in the newest where that was answered.
+fn stop_migration<R: Abort + AllocGlobal>(
+    rt: &R,
+    base: &Files<Fused>,
+    log_calls: u64,
+    calls: u64,
+) -> Result<Answer, Fail> {
+    let alloc = rt.alloc();
+    let files = Files {
+        log: copied(alloc, &base.log, log_calls)?,
+        db: copied(alloc, &base.db, calls)?,
+    };
+    let Stopped { answer, files } = migrate_until_stopped(alloc, files)?;
+    let seen = version_after(alloc, files)?;
+    if seen != (2, 2) {
+        assert_eq!(rt; seen, (1, 2), "after {log_calls} and {calls} calls");
+        assert!(rt;
+            answer != Answer::Done,
+            "lost after {log_calls} and {calls} calls"
+        );
+    }
+    Ok(answer)
+}
+
+#[test]
+fn a_stop_of_the_log_leaves_a_migration_whole_or_out(rt: HostRuntime) -> Result<(), Fail> {
+    let base = full_office(rt.alloc(), BACK)?;
+    let mut failed = 0u32;
+    for calls in 0..MOST_CALLS {
+        match stop_migration(&rt, &base, calls, UNLIMITED)? {
+            Answer::Unopened => {}
+            Answer::Failed => failed = failed.saturating_add(1),
+            Answer::Done => {
+                assert!(rt; failed > 0);
+                return Ok(());
+            }
+        }
+    }
+    Err(Fail::new("more calls than expected"))
+}
+
+#[test]
+fn a_stop_of_the_database_leaves_a_migration_whole_or_out(rt: HostRuntime) -> Result<(), Fail> {
+    let base = full_office(rt.alloc(), BACK)?;
+    for calls in 0..MOST_CALLS {
+        if stop_migration(&rt, &base, UNLIMITED, calls)? == Answer::Done {
+            return Ok(());
+        }
+    }
+    Err(Fail::new("more calls than expected"))
 }

@@ -3,8 +3,8 @@ use Rattle.exam_office.proofs.own_laws.lodging_and_retracting_show_others_nothin
 
 pub returns-clause-lodging : goal.returns-clause-lodging
 returns-clause-lodging c lodging day number before after answer good up up_after another step =
-    lodging_shows_others before day lodging after answer good up up_after step number another
+    lodging_shows_others before day lodging good after answer up up_after step number another
 
 pub returns-clause-retracting : goal.returns-clause-retracting
 returns-clause-retracting c appellant reference day number before after answer good up up_after another step =
-    retraction_shows_others before appellant reference day after answer good up up_after step number another
+    retraction_shows_others before appellant reference good day after answer up up_after step number another

@@ -1,5 +1,6 @@
 use Rattle.std.proofs.Common.{◌≡◌, true, nat_eq, rules, arith}
 use Rattle.std.proofs.lemmas.Bool.Decides.{nat_tests}
+use Rattle.exam_rules.specs.Relations.{relations_of}
 use Rattle.exam_office.proofs.OwnRows.{appeal_turn}
 use Rattle.exam_office.proofs.own_source.own_appeals.Goals as goal
 
@@ -9,6 +10,6 @@ loop-key-preserved c =
     let same : c.in_ok-clone.field-0 ≡ c.in-Some.appeal.now = search rules in (
       tt,
       tt,
-      appeal_turn c.args.number c.in-Some.key.now c.in-Some.appeal.now c.in_ok-clone.field-0 c.loop-key.key-iterator c.next.new.self c.loop-key.appeals.items c.push.new.self.items _
-          own same c.in-Some.ensures.steps c.in_ok-push.ensures.items c.loop-key.invariant.2,
+      appeal_turn (relations_of c.args.facts.now) c.args.number c.in-Some.key.now c.in-Some.appeal.now c.in_ok-clone.field-0 c.contains_key.result c.loop-key.key-iterator c.next.new.self c.loop-key.appeals.items c.push.new.self.items _
+          own same (search rules) c.in-Some.ensures.steps c.in_ok-push.ensures.items c.loop-key.invariant.2,
     )

@@ -1,9 +1,8 @@
-use Rattle.std.proofs.Common.{◌≡◌, Ok, Err, rules}
+use Rattle.std.proofs.Common.{◌≡◌, [], Ok, Err, rules}
 use Rattle.sqlite.specs.Held.{state}
 use Rattle.exam_tables.specs.Grows.{schema_0, schema_5, schema_10}
-use Rattle.exam_tables.specs.Tables.{store_schema}
-use Rattle.exam_rows.specs.Versions.{HasNoRows, IsBlank, IsMade}
-use Rattle.exam_rows.proofs.Creating.{blank_is_empty, leads_from, leads_then, leads_refused, whole_is_empty}
+use Rattle.exam_rows.specs.Versions.{HasFirst, HasNoRows, IsBlank, IsMade}
+use Rattle.exam_rows.proofs.Creating.{blank_is_empty, first_is_empty, leads_from, leads_then, leads_refused}
 use Rattle.exam_rows.proofs.schema.create_tables.Goals as goal
 
 pub returns-clause-made : goal.returns-clause-made
@@ -11,11 +10,11 @@ returns-clause-made g c =
     let at_0 = state g.S.Store c.args.tx.now.conn.now in
     let at_1 = state g.S.Store c.create_parents.new.tx.conn.now in
     let at_2 = state g.S.Store c.create_children.new.tx.conn.now in
-    let at_3 = state g.S.Store c.put_version.new.tx.conn.now in
+    let at_3 = state g.S.Store c.widen_tables.new.tx.conn.now in
     let parents = leads_from (HasNoRows schema_0) (HasNoRows schema_5) IsBlank (HasNoRows schema_5) at_0 at_1 (Ok tt) (blank_is_empty at_0.now) (λ h. h) c.in_ok-create_parents.ensures.made in
-    let children = leads_from (HasNoRows schema_5) (HasNoRows schema_10) (HasNoRows schema_5) (HasNoRows store_schema) at_1 at_2 (Ok tt) (λ h. h) (whole_is_empty at_2.now) c.in_ok-create_children.ensures.made in
-    leads_then IsBlank (HasNoRows schema_5) IsMade at_0 at_1 at_3 c.put_version.result parents
-    (leads_then (HasNoRows schema_5) (HasNoRows store_schema) IsMade at_1 at_2 at_3 c.put_version.result children c.put_version.ensures.made)
+    let children = leads_from (HasNoRows schema_5) (HasNoRows schema_10) (HasNoRows schema_5) (HasFirst (λ tree. [])) at_1 at_2 (Ok tt) (λ h. h) (first_is_empty at_2.now) c.in_ok-create_children.ensures.made in
+    leads_then IsBlank (HasNoRows schema_5) IsMade at_0 at_1 at_3 c.widen_tables.result parents
+    (leads_then (HasNoRows schema_5) (HasFirst (λ tree. [])) IsMade at_1 at_2 at_3 c.widen_tables.result children (c.widen_tables.ensures.made (λ tree. [])))
 
 pub returns-in_err-create_parents-clause-made : goal.returns-in_err-create_parents-clause-made
 returns-in_err-create_parents-clause-made g c =

@@ -2,63 +2,44 @@ use Rattle.std.proofs.Common.{◌≡◌, ◌++◌, [], ◌∷◌, Err, inl, inr,
 use Rattle.std.proofs.lemmas.Result.{IfOk-weaker, IfErr-weaker}
 use Rattle.sqlite.specs.Held.{state}
 use Rattle.sqlite.specs.Effect.{Database}
-use Rattle.exam_tables.specs.Texts.{fact_texts, load_office, load_seat}
-use Rattle.exam_rows.proofs.LoadTexts.{office_loads, seat_loads}
+use Rattle.exam_tables.specs.Texts.{fact_texts, load_seat}
+use Rattle.exam_rows.proofs.LoadTexts.{seat_loads}
 use Rattle.sqlite.proofs.Callers.{unchanged_then}
 use Rattle.exam_store.specs.Refused.{HoldsFormed}
 use Rattle.exam_rows.specs.Loaded.{AreUnderstood, IsUnderstood}
-use Rattle.exam_rows.proofs.Leaving.{both_survive, left_then, reads_only, still, still_itself, still_then, understood_before, understood_still}
-use Rattle.exam_rows.proofs.Refusing.{always_ok, part_failed, still_there}
+use Rattle.exam_rows.proofs.Leaving.{both_survive, left_then, reads_only, still, understood_before, understood_still}
+use Rattle.exam_rows.proofs.Refusing.{part_failed, still_there}
 use Rattle.exam_rows.proofs.SavedRows.{seats_match}
 use Rattle.exam_store.proofs.loading.load_office.Goals as goal
 
 pub returns-clause-rows : goal.returns-clause-rows
 returns-clause-rows g c = λ clean.
     IfOk-weaker c.from_parts.result _ _ (λ office is all was.
-    let clean_2 = c.load_rows.ensures.early clean in
-    let clean_1 = c.load_facts.ensures.early clean_2 in
     let at_0 = state g.S.Store c.args.conn.now in
-    let at_1 = state g.S.Store c.check_version.new.conn in
-    let at_2 = state g.S.Store c.load_facts.new.conn in
-    let at_3 = state g.S.Store c.load_rows.new.conn in
-    let first = c.in_ok-check_version.ensures.ok clean_1 all was in
-    let was_1 = still_there at_0 at_1 all was first in
-    let facts = c.in_ok-facts.ensures.rows clean_2 all was_1 in
-    let was_2 = still_there at_1 at_2 all was_1 facts in
-    let seats = c.in_ok-seats.ensures.rows clean all was_2 in
-    (subst (HoldsFormed all) (sym is) (facts.0, seats.0), unchanged_then at_0 at_2 at_3 (unchanged_then at_0 at_1 at_2 first.1 facts.1) seats.1)) c.from_parts.ensures.ok
-
-pub returns-clause-version : goal.returns-clause-version
-returns-clause-version g c = λ clean. always_ok c.from_parts.result (λ all was. (c.in_ok-check_version.ensures.ok (c.load_facts.ensures.early (c.load_rows.ensures.early clean)) all was).0)
+    let at_1 = state g.S.Store c.load_facts.new.conn in
+    let at_2 = state g.S.Store c.load_rows.new.conn in
+    let facts = c.in_ok-facts.ensures.rows (c.load_rows.ensures.early clean) all was in
+    let seats = c.in_ok-seats.ensures.rows clean all (still_there at_0 at_1 all was facts) in
+    (subst (HoldsFormed all) (sym is) (facts.0, seats.0), unchanged_then at_0 at_1 at_2 facts.1 seats.1)) c.from_parts.ensures.ok
 
 pub returns-clause-told : goal.returns-clause-told
 returns-clause-told g c = IfErr-weaker c.from_parts.result _ _ (λ e why. elim why [ inl lacks ↦ rw lacks refl | inr bad ↦ rw bad.0 refl ]) c.from_parts.ensures.refusal
 
 -- why a part is not loaded
 
-pub returns-in_err-check_version-clause-bad : goal.returns-in_err-check_version-clause-bad
-returns-in_err-check_version-clause-bad g c = λ clean.
-    let is : c.from_residual.result ≡ Err c.in_err-check_version.field-0.0 = search rules in
-    rw is (part_failed c.in_err-check_version.field-0.0 (λ told. (c.args.conn.now, still_itself (state g.S.Store c.args.conn.now), load_office, office_loads, told)) (λ none all was. inl (none all was)) (c.in_err-check_version.ensures.bad clean))
-
 pub returns-in_err-facts-clause-bad : goal.returns-in_err-facts-clause-bad
 returns-in_err-facts-clause-bad g c = λ clean.
-    let is : c.from_residual-in_err-facts.result ≡ Err c.in_err-facts.field-0.0 = search rules in
-    let clean_1 = c.load_facts.ensures.early clean in
-    let same_1 = c.in_ok-check_version.ensures.left clean_1 in
-    rw is (part_failed c.in_err-facts.field-0.0 (λ told. (told.0, still_then (state g.S.Store c.args.conn.now) (state g.S.Store c.check_version.new.conn) (state g.S.Store told.0) same_1 told.1, told.2, told.3, told.4)) (λ none all was.
-    inr (inl (none all (still_there (state g.S.Store c.args.conn.now) (state g.S.Store c.check_version.new.conn) all was (c.in_ok-check_version.ensures.ok clean_1 all was))))) (c.in_err-facts.ensures.bad clean))
+    let is : c.from_residual.result ≡ Err c.in_err-facts.field-0.0 = search rules in
+    rw is (part_failed c.in_err-facts.field-0.0 (λ told. told) (λ none all was. inl (none all was)) (c.in_err-facts.ensures.bad clean))
 
 pub returns-in_err-seats-clause-bad : goal.returns-in_err-seats-clause-bad
 returns-in_err-seats-clause-bad g c = λ clean.
     let is : c.from_residual-in_err-seats.result ≡ Err c.in_err-seats.field-0.0 = search rules in
-    let clean_2 = c.load_rows.ensures.early clean in
-    let clean_1 = c.load_facts.ensures.early clean_2 in
-    let same_2 = unchanged_then (state g.S.Store c.args.conn.now) (state g.S.Store c.check_version.new.conn) (state g.S.Store c.load_facts.new.conn) (c.in_ok-check_version.ensures.left clean_1) (c.in_ok-facts.ensures.left clean_2) in
-    rw is (part_failed c.in_err-seats.field-0.0 (λ told. (c.load_facts.new.conn, still (state g.S.Store c.args.conn.now) (state g.S.Store c.load_facts.new.conn) same_2, load_seat, seat_loads, told)) (λ none all was.
-    let was_1 = still_there (state g.S.Store c.args.conn.now) (state g.S.Store c.check_version.new.conn) all was (c.in_ok-check_version.ensures.ok clean_1 all was) in
-    let was_2 = still_there (state g.S.Store c.check_version.new.conn) (state g.S.Store c.load_facts.new.conn) all was_1 (c.in_ok-facts.ensures.rows clean_2 all was_1) in
-    inr (inr (inl (none all was_2)))) (c.in_err-seats.ensures.bad clean seats_match))
+    let clean_1 = c.load_rows.ensures.early clean in
+    let at_0 = state g.S.Store c.args.conn.now in
+    let at_1 = state g.S.Store c.load_facts.new.conn in
+    rw is (part_failed c.in_err-seats.field-0.0 (λ told. (c.load_facts.new.conn, still at_0 at_1 (c.in_ok-facts.ensures.left clean_1), load_seat, seat_loads, told)) (λ none all was.
+    inr (inl (none all (still_there at_0 at_1 all was (c.in_ok-facts.ensures.rows clean_1 all was))))) (c.in_err-seats.ensures.bad clean seats_match))
 
 pub returns-clause-bad : goal.returns-clause-bad
 returns-clause-bad g c = λ clean.
@@ -68,13 +49,9 @@ returns-clause-bad g c = λ clean.
       | inr bad ↦ inr (inr (
         bad.0,
         λ all was.
-            let clean_2 = c.load_rows.ensures.early clean in
-            let clean_1 = c.load_facts.ensures.early clean_2 in
-            let was_1 = still_there (state g.S.Store c.args.conn.now) (state g.S.Store c.check_version.new.conn) all was (c.in_ok-check_version.ensures.ok clean_1 all was) in
-            let facts = c.in_ok-facts.ensures.rows clean_2 all was_1 in
-            let was_2 = still_there (state g.S.Store c.check_version.new.conn) (state g.S.Store c.load_facts.new.conn) all was_1 facts in
-            let seats = c.in_ok-seats.ensures.rows clean all was_2 in
-            inr (inr (inr (_, (facts.0, seats.0), bad.1))),
+            let facts = c.in_ok-facts.ensures.rows (c.load_rows.ensures.early clean) all was in
+            let seats = c.in_ok-seats.ensures.rows clean all (still_there (state g.S.Store c.args.conn.now) (state g.S.Store c.load_facts.new.conn) all was facts) in
+            inr (inr (_, (facts.0, seats.0), bad.1)),
       ))
     ]) c.from_parts.ensures.refusal
 
@@ -82,43 +59,25 @@ returns-clause-bad g c = λ clean.
 
 pub returns-clause-left : goal.returns-clause-left
 returns-clause-left g c = λ clean.
-    let clean_2 = c.load_rows.ensures.early clean in
-    let clean_1 = c.load_facts.ensures.early clean_2 in
-    let same_2 = unchanged_then (state g.S.Store c.args.conn.now) (state g.S.Store c.check_version.new.conn) (state g.S.Store c.load_facts.new.conn) (c.in_ok-check_version.ensures.left clean_1) (c.in_ok-facts.ensures.left clean_2) in
-    reads_only (state g.S.Store c.args.conn.now) (state g.S.Store c.load_rows.new.conn) c.from_parts.result (unchanged_then (state g.S.Store c.args.conn.now) (state g.S.Store c.load_facts.new.conn) (state g.S.Store c.load_rows.new.conn) same_2 (c.in_ok-seats.ensures.left clean))
-
-pub returns-in_err-facts-clause-left : goal.returns-in_err-facts-clause-left
-returns-in_err-facts-clause-left g c = λ clean.
-    let is : c.from_residual-in_err-facts.result ≡ Err c.in_err-facts.field-0.0 = search rules in
-    let clean_1 = c.load_facts.ensures.early clean in
-    rw is (left_then (state g.S.Store c.args.conn.now) (state g.S.Store c.check_version.new.conn) (state g.S.Store c.load_facts.new.conn) (c.in_ok-check_version.ensures.left clean_1) (c.in_err-facts.ensures.left clean))
+    let at_0 = state g.S.Store c.args.conn.now in
+    let at_1 = state g.S.Store c.load_facts.new.conn in
+    let at_2 = state g.S.Store c.load_rows.new.conn in
+    reads_only at_0 at_2 c.from_parts.result (unchanged_then at_0 at_1 at_2 (c.in_ok-facts.ensures.left (c.load_rows.ensures.early clean)) (c.in_ok-seats.ensures.left clean))
 
 pub returns-in_err-seats-clause-left : goal.returns-in_err-seats-clause-left
 returns-in_err-seats-clause-left g c = λ clean.
     let is : c.from_residual-in_err-seats.result ≡ Err c.in_err-seats.field-0.0 = search rules in
-    let clean_2 = c.load_rows.ensures.early clean in
-    let clean_1 = c.load_facts.ensures.early clean_2 in
-    let same_2 = unchanged_then (state g.S.Store c.args.conn.now) (state g.S.Store c.check_version.new.conn) (state g.S.Store c.load_facts.new.conn) (c.in_ok-check_version.ensures.left clean_1) (c.in_ok-facts.ensures.left clean_2) in
-    rw is (left_then (state g.S.Store c.args.conn.now) (state g.S.Store c.load_facts.new.conn) (state g.S.Store c.load_rows.new.conn) same_2 (c.in_err-seats.ensures.left clean))
+    let at_0 = state g.S.Store c.args.conn.now in
+    let at_1 = state g.S.Store c.load_facts.new.conn in
+    rw is (left_then at_0 at_1 (state g.S.Store c.load_rows.new.conn) (c.in_ok-facts.ensures.left (c.load_rows.ensures.early clean)) (c.in_err-seats.ensures.left clean))
 
 -- and what a crash leaves
 
 pub returns-clause-survives : goal.returns-clause-survives
-returns-clause-survives g c =
-    let at_0 = state g.S.Store c.args.conn.now in
-    let at_1 = state g.S.Store c.check_version.new.conn in
-    let at_2 = state g.S.Store c.load_facts.new.conn in
-    both_survive at_0 at_2 (state g.S.Store c.load_rows.new.conn) (both_survive at_0 at_1 at_2 c.check_version.ensures.survives c.load_facts.ensures.survives) c.load_rows.ensures.survives
-
-pub returns-in_err-facts-clause-survives : goal.returns-in_err-facts-clause-survives
-returns-in_err-facts-clause-survives g c = both_survive (state g.S.Store c.args.conn.now) (state g.S.Store c.check_version.new.conn) (state g.S.Store c.load_facts.new.conn) c.check_version.ensures.survives c.load_facts.ensures.survives
+returns-clause-survives g c = both_survive (state g.S.Store c.args.conn.now) (state g.S.Store c.load_facts.new.conn) (state g.S.Store c.load_rows.new.conn) c.load_facts.ensures.survives c.load_rows.ensures.survives
 
 pub returns-in_err-seats-clause-survives : goal.returns-in_err-seats-clause-survives
-returns-in_err-seats-clause-survives g c =
-    let at_0 = state g.S.Store c.args.conn.now in
-    let at_1 = state g.S.Store c.check_version.new.conn in
-    let at_2 = state g.S.Store c.load_facts.new.conn in
-    both_survive at_0 at_2 (state g.S.Store c.load_rows.new.conn) (both_survive at_0 at_1 at_2 c.check_version.ensures.survives c.load_facts.ensures.survives) c.load_rows.ensures.survives
+returns-in_err-seats-clause-survives g c = both_survive (state g.S.Store c.args.conn.now) (state g.S.Store c.load_facts.new.conn) (state g.S.Store c.load_rows.new.conn) c.load_facts.ensures.survives c.load_rows.ensures.survives
 
 -- and which tables are there
 
@@ -127,13 +86,11 @@ with_seats db (a, (b, (c, (d, (e, (f, (g, (h, none)))))))) seats = (a, (b, (c, (
 
 pub returns-clause-understood : goal.returns-clause-understood
 returns-clause-understood g c = λ clean.
-    let clean_2 = c.load_rows.ensures.early clean in
-    let clean_1 = c.load_facts.ensures.early clean_2 in
+    let clean_1 = c.load_rows.ensures.early clean in
     let at_0 = state g.S.Store c.args.conn.now in
-    let at_1 = state g.S.Store c.check_version.new.conn in
-    let at_2 = state g.S.Store c.load_facts.new.conn in
-    let same_1 = c.in_ok-check_version.ensures.left clean_1 in
-    let same_2 = unchanged_then at_0 at_1 at_2 same_1 (c.in_ok-facts.ensures.left clean_2) in
-    let facts = subst (λ (db : Database). AreUnderstood db fact_texts) same_1.0.now_is (c.in_ok-facts.ensures.understood clean_2) in
-    let seats = understood_before load_seat at_0 at_2 same_2 (c.in_ok-seats.ensures.understood clean) in
-    understood_still c.from_parts.result (c.in_ok-check_version.ensures.understood clean_1, with_seats at_0.now facts seats)
+    let at_1 = state g.S.Store c.load_facts.new.conn in
+    let seats = understood_before load_seat at_0 at_1 (c.in_ok-facts.ensures.left clean_1) (c.in_ok-seats.ensures.understood clean) in
+    understood_still c.from_parts.result (with_seats at_0.now (c.in_ok-facts.ensures.understood clean_1) seats)
+
+pub returns-clause-marks : goal.returns-clause-marks
+returns-clause-marks g c = λ clean. understood_still c.from_parts.result (c.in_ok-facts.ensures.marks (c.load_rows.ensures.early clean))

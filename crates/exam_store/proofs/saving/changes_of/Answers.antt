@@ -3,7 +3,7 @@ use Rattle.exam_rules.specs.Relations.{Relations}
 use Rattle.exam_office.specs.declared.before.Before.{Before}
 use Rattle.exam_office.specs.TablesBefore.{WasTable}
 use Rattle.exam_rows.specs.declared.differences.Difference.{Difference}
-use Rattle.exam_rows.proofs.Exact.{sessions_exact, papers_exact, halls_exact, openings_exact, candidates_exact, entries_exact, arrangements_exact, appeals_exact}
+use Rattle.exam_rows.proofs.Exact.{sessions_exact, papers_exact, halls_exact, openings_exact, candidates_exact, entries_exact, arrangements_exact, appeals_exact, standing_exact}
 use Rattle.exam_store.specs.Saves.{TurnsTable}
 use Rattle.exam_store.proofs.saving.changes_of.Goals as goal
 
@@ -29,5 +29,6 @@ returns-clause-turns c =
       entries = shown was.entries before.entries facts.entries.entries after.entries c.in_ok-difference_since-6.field-0 (ap (λ (r : Relations). r.entries) is) told.entries (c.in_ok-difference_since-6.ensures before.entries entries_exact rise.tables.entries);
       arrangements = shown was.arrangements before.arrangements facts.arrangements.entries after.arrangements c.in_ok-difference_since-7.field-0 (ap (λ (r : Relations). r.arrangements) is) told.arrangements (c.in_ok-difference_since-7.ensures before.arrangements arrangements_exact rise.tables.arrangements);
       appeals = shown was.appeals before.appeals facts.appeals.entries after.appeals c.in_ok-difference_since-8.field-0 (ap (λ (r : Relations). r.appeals) is) told.appeals (c.in_ok-difference_since-8.ensures before.appeals appeals_exact rise.tables.appeals);
+      standing = shown was.standing before.standing facts.standing.entries after.standing c.in_ok-difference_since-9.field-0 (ap (λ (r : Relations). r.standing) is) told.standing (c.in_ok-difference_since-9.ensures before.standing standing_exact rise.tables.standing);
       seats = c.in_ok-seats_since.ensures c.args.draft.now.before.seats c.args.draft.now.after.seats rise.seats c.show_good.ensures.after_rises.seats c.plans_before.ensures;
     }

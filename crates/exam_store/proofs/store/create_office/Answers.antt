@@ -1,6 +1,7 @@
-use Rattle.std.proofs.Common.{rules}
+use Rattle.std.proofs.Common.{◌≡◌, Err, rules}
 use Rattle.sqlite.specs.Held.{state}
 use Rattle.exam_rows.specs.Versions.{IsBlank}
+use Rattle.exam_store.proofs.Marking.{opens_as}
 use Rattle.exam_store.proofs.Rekeeping.{keeps_empty}
 use Rattle.exam_store.proofs.store.create_office.Goals as goal
 
@@ -13,3 +14,8 @@ pub returns-clause-kept : goal.returns-clause-kept
 returns-clause-kept g c =
     let blank : IsBlank (state g.S.Store c.args.conn.now).now = search rules in
     λ clean ours. rw c.empty.ensures (keeps_empty _ ((c.in_ok-save_empty.ensures.made.turned clean).0 blank))
+
+pub returns-in_err-save_empty-clause-told : goal.returns-in_err-save_empty-clause-told
+returns-in_err-save_empty-clause-told g c =
+    let is : c.from_residual.result ≡ Err c.in_err-save_empty.field-0.0 = search rules in
+    rw is (opens_as c.in_err-save_empty.field-0.0 c.in_err-save_empty.ensures.told)

@@ -9,7 +9,7 @@ use Rattle.exam_office.proofs.AllSessions.{unknown_repaired}
 use Rattle.exam_office.proofs.office.Office.empty.Goals as goal
 
 good : IsGood empty_state
-good = record { refer = refl; limits = refl; single = distinct_none same_single_key; best = λ s. (unknown_repaired no_relations None [] [] s refl (λ c. refl)).best }
+good = record { refer = refl; limits = refl; single = distinct_none same_single_key; marks = refl; best = λ s. (unknown_repaired no_relations None [] [] s refl (λ c. refl)).best }
 
 pub invariant_of-result : goal.invariant_of-result
 invariant_of-result c = (

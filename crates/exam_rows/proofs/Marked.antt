@@ -1,0 +1,36 @@
+-- The table of marks, where there is one, and where there is none.
+use Rattle.std.proofs.Common.{◌≡◌, Bool, true, false, [], sym, ap, subst, ◌∙◌}
+use Rattle.std.specs.List.Sorted.{IsStrictlySortedBy}
+use Rattle.std.proofs.lemmas.List.Sorted.{IsPermutation-refl}
+use Rattle.sqlite_trees.specs.Tree.{Trees}
+use Rattle.sqlite.specs.Effect.{Database}
+use Rattle.exam_tables.specs.Content.{ContainsIn}
+use Rattle.exam_tables.specs.Made.{ContainsMade, lists_marks, made_schema}
+use Rattle.exam_tables.proofs.Making.{marks_listed}
+use Rattle.exam_rules.specs.Orders.{KeysRise}
+use Rattle.exam_rules.specs.Relations.{appeal_cmp}
+use Rattle.exam_rows.specs.Inside.{Contains}
+use Rattle.exam_rows.specs.Loaded.{HoldsTable}
+use Rattle.exam_rows.specs.Rows.{IsStanding, standing_row}
+
+listed : (has_marks : Bool) → lists_marks (made_schema has_marks) ≡ has_marks
+listed true = marks_listed.0
+listed false = marks_listed.1
+
+-- a database lists the table of marks exactly if it has one
+has_listed : (db : Database) (all : Trees) (was : ContainsMade db all) (lists : Bool) → lists_marks db.schema ≡ lists → was.has_marks ≡ lists
+has_listed db all was lists is = sym (listed was.has_marks) ∙ sym (ap lists_marks was.contains.schema_is) ∙ is
+
+-- where it is listed, the tables are those of the newest version
+pub contains_marks : (db : Database) (all : Trees) → lists_marks db.schema ≡ true → ContainsMade db all → Contains db all
+contains_marks db all lists was = subst (λ b. ContainsIn (made_schema b) db all) (has_listed db all was true lists) was.contains
+
+nothing_rises : KeysRise {X = Unit {0}} appeal_cmp []
+unfolding IsStrictlySortedBy
+nothing_rises = tt
+
+-- where it is not, no mark is meant
+pub holds_no_marks : (db : Database) (all : Trees) → lists_marks db.schema ≡ false → ContainsMade db all → HoldsTable appeal_cmp IsStanding standing_row [] (all 17)
+holds_no_marks db all lists was =
+    let none : all 17 ≡ [] = was.unmarked (has_listed db all was false lists) in
+    subst (HoldsTable appeal_cmp IsStanding standing_row []) (sym none) (record { rises = nothing_rises; forms = tt; same = IsPermutation-refl [] })

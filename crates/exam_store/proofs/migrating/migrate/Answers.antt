@@ -1,0 +1,71 @@
+use Rattle.std.proofs.Common.{◌≡◌, IsTrue, Ok, Err, false, inl, inr, arith, rules}
+use Rattle.sqlite.specs.State.{HasCleanDisk}
+use Rattle.sqlite.specs.Held.{state}
+use Rattle.exam_rows.specs.Versions.{Widens, version}
+use Rattle.exam_rows.proofs.Committing.{commits_err, commits_ok, commits_weaker, then_commits, unchanged_commits}
+use Rattle.exam_store.specs.Kept.{Migrates}
+use Rattle.exam_store.proofs.Marking.{is_of, of_first, older, still_of}
+use Rattle.exam_store.proofs.Newest.{migrates, newest_alone, not_made}
+use Rattle.exam_store.proofs.migrating.migrate.Goals as goal
+
+-- brought to the newest version
+
+pub returns-clause-made : goal.returns-clause-made
+returns-clause-made g c =
+    let old = state g.S.Store c.args.conn.now in
+    let mid = state g.S.Store c.judged_version.new.conn in
+    let new = state g.S.Store c.save_widened.new.conn in
+    commits_ok old new tt (c.in_ok-version.version, version) Migrates
+    (commits_weaker old new (Ok tt) Widens Migrates migrates (then_commits old mid new (Ok tt) Widens c.in_ok-version.ensures.left c.judged_version.ensures.survives c.in_ok-save_widened.ensures.made))
+
+pub returns-in_err-save_widened-clause-made : goal.returns-in_err-save_widened-clause-made
+returns-in_err-save_widened-clause-made g c =
+    let old = state g.S.Store c.args.conn.now in
+    let mid = state g.S.Store c.judged_version.new.conn in
+    let new = state g.S.Store c.save_widened.new.conn in
+    let e = c.in_err-save_widened.field-0.0 in
+    let is : c.from_residual-in_err-save_widened.result ≡ Err e = search rules in
+    rw is (commits_err old new e e Migrates (commits_weaker old new (Err e) Widens Migrates migrates (then_commits old mid new (Err e) Widens c.in_ok-version.ensures.left c.judged_version.ensures.survives c.in_err-save_widened.ensures.made)))
+
+pub returns-in_err-save_widened-clause-refusal : goal.returns-in_err-save_widened-clause-refusal
+returns-in_err-save_widened-clause-refusal g c = λ clean.
+    let old = state g.S.Store c.args.conn.now in
+    let mid = state g.S.Store c.judged_version.new.conn in
+    let new = state g.S.Store c.save_widened.new.conn in
+    let e = c.in_err-save_widened.field-0.0 in
+    let is : c.from_residual-in_err-save_widened.result ≡ Err e = search rules in
+    let s = c.in_err-save_widened.ensures.made.survives in
+    let clean_mid : HasCleanDisk mid = omega (arith, s.clean, clean) in
+    let same = c.in_ok-version.ensures.left clean_mid in
+    let first : c.in_ok-version.version ≡ 1 = older c.in_ok-version.version c.in_ok-version.ensures.known (search rules) in
+    let calm : old.in_transaction ≡ false = search rules in
+    rw is (inr (inr (
+      rw first at c.in_ok-version.ensures.understood clean_mid,
+      λ made.
+          let there = still_of 1 old mid made.0 same (is_of 1 old.now made.0 (rw first at c.in_ok-version.ensures.marks clean_mid) made.1) in
+          not_made old mid new e c.judged_version.ensures.survives clean_mid s.counts calm same (c.in_err-save_widened.ensures.failed clean (made.0, of_first mid.now made.0 there)),
+    )))
+
+-- no office of any version is there
+
+pub returns-in_err-version-clause-refusal : goal.returns-in_err-version-clause-refusal
+returns-in_err-version-clause-refusal g c = λ clean.
+    let is : c.from_residual.result ≡ Err c.in_err-version.field-0.0 = search rules in
+    rw is (inr (inl (c.in_err-version.ensures.bad clean)))
+
+pub returns-clause-found : goal.returns-clause-found
+returns-clause-found g c = λ clean. c.in_ok-version.ensures.found (omega (arith, c.in_ok-save_widened.ensures.made.survives.clean, clean))
+
+pub returns-clause-understood : goal.returns-clause-understood
+returns-clause-understood g c = λ clean. c.in_ok-version.ensures.understood (omega (arith, c.in_ok-save_widened.ensures.made.survives.clean, clean))
+
+-- of the newest version already
+
+pub returns-then-version-eq-NEWEST-clause-made : goal.returns-then-version-eq-NEWEST-clause-made
+returns-then-version-eq-NEWEST-clause-made g c =
+    let old = state g.S.Store c.args.conn.now in
+    let new = c.judged_version.new.conn in
+    let newest : c.in_ok-version.version ≡ version = search rules in
+    let settled : IsTrue old.is_open → old.now ≡ old.committed = search rules in
+    unchanged_commits old (state g.S.Store new) (c.in_ok-version.version, version) Migrates settled c.in_ok-version.ensures.left (λ clean. newest_alone old.now (state g.S.Store new).now (rw newest at c.in_ok-version.ensures.marks clean)) (λ trees is may. g.met.S.Store.settled new.store trees is may)
+    c.judged_version.ensures.survives

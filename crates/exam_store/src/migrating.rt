@@ -1,0 +1,73 @@
+//! Bringing an office of an older version to the newest.
+ghost use Rattle.std.specs.Prelude.{◌≡◌, ◌∷◌, IsTrue, IfOk, IfErr};
+ghost use Rattle.sqlite.specs.Held.{state};
+ghost use Rattle.sqlite.specs.State.{HasCleanDisk, IsUnchanged, Survives};
+ghost use Rattle.exam_rows.specs.Faults.{is_store_refusal};
+ghost use Rattle.exam_rows.specs.Loaded.{AreUnderstood, FailsThen, IsLoadRefusal, OnlyReads};
+ghost use Rattle.exam_rows.specs.Transactions.{Commits};
+ghost use Rattle.exam_rows.specs.Versions.{ContainsOf, IsVersion, marks_since, version};
+ghost use Rattle.exam_store.specs.Found.{FailsToMigrate, HoldsGood, version_texts};
+ghost use Rattle.exam_store.specs.Kept.{Migrates};
+ghost use Rattle.exam_store.specs.Refused.{HoldsNone};
+ghost use Rattle.exam_tables.specs.Made.{ContainsMade, lists_marks};
+ghost use Rattle.exam_tables.specs.Texts.{load_office as office_text};
+
+use crate::loading::load_version;
+use exam_rows::{NEWEST, save_widened, version_of};
+use exam_types::Refusal;
+use sqlite::{Alter, Connection};
+use std::alloc::Global;
+
+/// Brings the office that is there to the newest version, in one transaction or not at all, and gives its
+/// version before and after. An office of the newest version is judged too, and nothing is written. Refused as
+/// `BadStore` if the tables of no version hold a good office of it, and as `Store` also if a transaction is under
+/// way.
+pub fn migrate<S: Alter>(alloc: Global, conn: &mut Connection<S>) -> Result<(u8, u8), Refusal>
+    ensures versions { IfOk result (λ v. IsVersion v.0 × (v.1 ≡ version)) }
+    ensures found { HasCleanDisk (state S.Store conn.new) → IfOk result (λ v. (all : _)
+        → ContainsMade (state S.Store conn.old).now all
+        → HoldsGood v.0 (state S.Store conn.old).now all) }
+    ensures understood { HasCleanDisk (state S.Store conn.new) → IfOk result (λ v.
+        AreUnderstood (state S.Store conn.old).now (office_text ∷ version_texts v.0)) }
+    ensures made { Commits (state S.Store conn.old) (state S.Store conn.new) result Migrates }
+    ensures newest { IfOk result (λ v. v.0 ≡ version
+        → (HasCleanDisk (state S.Store conn.new) → IsUnchanged (state S.Store conn.old) (state S.Store conn.new))
+        × Survives (state S.Store conn.old) (state S.Store conn.new) (λ _. ⊥)) }
+    ensures refusal { HasCleanDisk (state S.Store conn.new)
+        → IfErr result (FailsToMigrate S.Store conn.old conn.new) }
+    ensures told { IfErr result (λ e. IsTrue (is_store_refusal e)) }
+{
+    if !conn.is_autocommit() {
+        return Err(Refusal::Store);
+    }
+    let version = judged_version(alloc, conn)?;
+    if version == NEWEST {
+        return Ok((version, NEWEST));
+    }
+    save_widened(conn)?;
+    Ok((version, NEWEST))
+}
+
+/// The version of the office that is there, which is good.
+fn judged_version<S: Alter>(alloc: Global, conn: &mut Connection<S>) -> Result<u8, Refusal>
+    ensures known { IfOk result IsVersion }
+    ensures found { HasCleanDisk (state S.Store conn.new) → IfOk result (λ v. (all : _)
+        → ContainsMade (state S.Store conn.old).now all
+        → HoldsGood v (state S.Store conn.old).now all) }
+    ensures marks { HasCleanDisk (state S.Store conn.new)
+        → IfOk result (λ v. lists_marks (state S.Store conn.old).now.schema ≡ marks_since v) }
+    ensures understood { HasCleanDisk (state S.Store conn.new) → IfOk result (λ v.
+        AreUnderstood (state S.Store conn.old).now (office_text ∷ version_texts v)) }
+    ensures bad { HasCleanDisk (state S.Store conn.new) → IfErr result (IsLoadRefusal
+        (FailsThen S.Store conn.old conn.new) ((v : _) → IsVersion v → (all : _)
+        → ContainsOf v (state S.Store conn.old).now all → HoldsNone v all)) }
+    ensures left { HasCleanDisk (state S.Store conn.new)
+        → OnlyReads (state S.Store conn.old) (state S.Store conn.new) result }
+    ensures survives { Survives (state S.Store conn.old) (state S.Store conn.new) (λ _. ⊥) }
+    ensures told { IfErr result (λ e. IsTrue (is_store_refusal e)) }
+{
+    let version = version_of(conn)?;
+    let office = load_version(alloc, conn, version)?;
+    office.show_good();
+    Ok(version)
+}
