@@ -32,7 +32,8 @@ type Appeals = BTreeMap<(Number, Reference), Appeal>;
 /// Decides the appeal, supersedes an earlier grant of its kind where it is granted, and gives how this is taken
 /// back; nothing changes where it is decided so already. Refused, in this order, as an unknown appeal, as one
 /// that is not open, or as too late; a standing grant of anything but an arrangement; a grant where the
-/// candidate is no longer a member, or has no live entry for the paper; and where there is not enough memory. After a refusal the facts are as before. It passes no limit.
+/// candidate is no longer a member, or has no live entry for the paper; and where there is not enough memory.
+/// After a refusal the facts are as before. It passes no limit.
 pub fn decide(facts: &mut Facts, decision: &Decision, today: Day) -> Result<Undo, Refusal>
     requires { AreSingle (relations_of facts.old) }
     ensures ok { OnOk result (relations_of facts.new
