@@ -26,4 +26,4 @@ pub use laws::requests_ask_one_thing;
 pub use own_bodies::{appeals_body, clashes_body, seats_body};
 pub use posted::{Posted, posted_in};
 pub use reading::{Asked, ReadFailed, read_request};
-pub use routes::{Found, Route, find, server_routes};
+pub use routes::{Found, Route, find, reading_is_exact, routes_read, server_routes};
