@@ -9,6 +9,7 @@ pub mod Sitters
 pub mod Together
 pub mod Turns
 pub mod Listing
+pub mod Entering
 pub mod InForce
 pub mod InOrder
 pub mod NamedDesks

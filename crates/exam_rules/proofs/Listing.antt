@@ -29,15 +29,18 @@ use Rattle.exam_rules.specs.declared.lists.Entrant.{Entrant}
 use Rattle.exam_rules.specs.Lists.{listed, ends_with, with_last, with_member, entrant, entrants, entered_session}
 use Rattle.exam_rules.proofs.Naming.{same_code_exact}
 
--- after one list has been set to the old one with one more value
-pub appended : {A : Type 0} (old new : List (Code × Vec A Global)) (list : Vec A Global) (value : A) (s t : Code)
-    → row_at code_cmp new t ≡ cond (is_at (code_cmp s) t) (Some list) (row_at code_cmp old t) → list.items ≡ listed old s ++ value ∷ []
-    → listed new t ≡ cond (same_code s t) (listed old t ++ value ∷ []) (listed old t)
-appended {A} old new list value s t at items = inner (same_code s t) refl (ap (λ b. cond b (Some list) (row_at code_cmp old t)) (sym (texts_ties s t)))
+-- after one list has been set to what a change makes of the old one
+pub changed : {A : Type 0} (change : List A → List A) (old new : List (Code × Vec A Global)) (list : Vec A Global) (s : Code) → ((t : Code) → row_at code_cmp new t ≡ cond (is_at (code_cmp s) t) (Some list) (row_at code_cmp old t))
+    → list.items ≡ change (listed old s) → (t : Code) → listed new t ≡ cond (same_code s t) (change (listed old t)) (listed old t)
+changed {A} change old new list s at items t = inner (same_code s t) refl (ap (λ b. cond b (Some list) (row_at code_cmp old t)) (sym (texts_ties s t)))
   where
-    inner : (b : Bool) → same_code s t ≡ b → cond (is_at (code_cmp s) t) (Some list) (row_at code_cmp old t) ≡ cond b (Some list) (row_at code_cmp old t) → listed new t ≡ cond b (listed old t ++ value ∷ []) (listed old t)
-    inner true e same = ap (λ (o : Option (Vec A Global)). option_map_or (λ (v : Vec A Global). v.items) o []) (at ∙ same) ∙ items ∙ ap (λ u. listed old u ++ value ∷ []) (same_code_exact s t e)
-    inner false e same = ap (λ (o : Option (Vec A Global)). option_map_or (λ (v : Vec A Global). v.items) o []) (at ∙ same)
+    inner : (b : Bool) → same_code s t ≡ b → cond (is_at (code_cmp s) t) (Some list) (row_at code_cmp old t) ≡ cond b (Some list) (row_at code_cmp old t) → listed new t ≡ cond b (change (listed old t)) (listed old t)
+    inner true e same = ap (λ (o : Option (Vec A Global)). option_map_or (λ (v : Vec A Global). v.items) o []) (at t ∙ same) ∙ items ∙ ap (λ u. change (listed old u)) (same_code_exact s t e)
+    inner false e same = ap (λ (o : Option (Vec A Global)). option_map_or (λ (v : Vec A Global). v.items) o []) (at t ∙ same)
+
+-- the items of a list that is there, and of one that is not
+pub items_at : {A : Type 0} (rows : List (Code × Vec A Global)) (s : Code) (o : Option (Vec A Global)) → row_at code_cmp rows s ≡ o → option_map_or (λ (v : Vec A Global). v.items) o [] ≡ listed rows s
+items_at {A} rows s o at = ap (λ (o : Option (Vec A Global)). option_map_or (λ (v : Vec A Global). v.items) o []) (sym at)
 
 -- a candidate who is the last is not appended again
 pub with_last-again : (n : ℕ) (p q : Code) (list : List Entrant) → with_last (entrant n q) (with_last (entrant n p) list) ≡ with_last (entrant n p) list
@@ -97,7 +100,7 @@ module _ (r : Relations) (n : ℕ) where
       split None = refl
       split (Some t) = inner (same_code t s)
 
-below_is_other : (m n : ℕ) → nat_cmp m n ≡ Less → nat_eq m n ≡ false
+pub below_is_other : (m n : ℕ) → nat_cmp m n ≡ Less → nat_eq m n ≡ false
 below_is_other m n less = inner (nat_eq m n) refl
   where
     inner : (b : Bool) → nat_eq m n ≡ b → b ≡ false

@@ -22,6 +22,7 @@ use Rattle.exam_rules.specs.declared.lists.Entrant.{Entrant}
 use Rattle.exam_rules.specs.declared.lists.SessionLists.{SessionLists}
 use Rattle.exam_rules.specs.Relations.{Code, Relations, code_cmp, same_code, entry_cmp, row_at, has_row, put_row}
 use Rattle.exam_rules.specs.Sessions.{head_of, is_live_entry, is_paper_of, least_live_paper}
+use Rattle.exam_rules.specs.Names.{ListsRise}
 use Rattle.exam_rules.specs.Orders.{AreInOrder}
 use Rattle.exam_rules.specs.Lists.{listed, entrant, entrants, placed, listed_paper, SetsEntry, AreListsOf}
 use Rattle.exam_rules.proofs.InOrder.{lists_rise}
@@ -45,7 +46,7 @@ module _ {K X : Type 0} (cmp : K → K → Ordering) (exact : CmpEqualImpliesEq 
           ap (λ b. cond b ((e.0, v) ∷ filter p es) (filter p es)) now ∙ sym (ap (λ b. cond b (e ∷ filter p es) (filter p es)) then)
       inner Greater is rest = ap (λ fs. cond (p e) (e ∷ fs) fs) rest
 
-entries_exact : CmpEqualImpliesEq entry_cmp
+pub entries_exact : CmpEqualImpliesEq entry_cmp
 entries_exact = exact_pairs nat_cmp code_cmp exact_unsigned exact_bytes
 
 -- a paper is of no other session
@@ -72,7 +73,7 @@ module _ (before after : Relations) (s : Code) (c : ℕ) (sets : SetsEntry befor
       ∙ ap (λ es. head_of (map (λ (e : (ℕ × Code) × Entry). e.0.1) es)) (put_filtered entry_cmp entries_exact (is_live_entry before t d) before.entries (c, sets.paper) sets.entry none)
 
   -- of another candidate
-  least_of_other : (t : Code) (d : ℕ) → nat_eq c d ≡ false → least_live_paper after t d ≡ least_live_paper before t d
+  pub least_of_other : (t : Code) (d : ℕ) → nat_eq c d ≡ false → least_live_paper after t d ≡ least_live_paper before t d
   least_of_other t d other = least_same t d (λ w. ap (λ b. b && (w.live && is_paper_of before t sets.paper)) other)
 
   -- in another session
@@ -244,19 +245,25 @@ module _ (before after : Relations) (s : Code) (c : ℕ) (sets : SetsEntry befor
       relisted (least_live_paper before s) (least_live_paper after s) c (λ d other. least_of_other before after s c sets s d other) after.candidates up
       ∙ ap (λ (rows : List (ℕ × Candidate)). placed c (listed_paper after s c) (listed_with (least_live_paper before s) (keys_of rows))) sets.candidates
 
-  pub relisted_lists : (old new : SessionLists) (list : List Entrant) → AreInOrder after → AreListsOf before old → list ≡ placed c (listed_paper after s c) (listed old.members.entries s)
+  -- one list is what it is to be, and the others stay
+  pub lists_with : (old new : SessionLists) (list : List Entrant) → ((t : Code) → ListsRise after t) → AreListsOf before old → list ≡ entrants after s
       → ((t : Code) → listed new.members.entries t ≡ cond (same_code s t) list (listed old.members.entries t)) → new.halls.entries ≡ old.halls.entries → AreListsOf after new
-  relisted_lists old new list up are made put halls = record {
+  lists_with old new list up are made put halls = record {
     numbers = entrants_are_members after;
     members = λ t. put t ∙ inner t (same_code s t) refl;
     halls = λ t. ap (λ (rows : List (Code × Vec Code Global)). listed rows t) halls ∙ are.halls t
         ∙ ap (λ (rows : List ((Code × Code) × Opening)). map (λ (o : (Code × Code) × Opening). o.0.1) (filter (λ (o : (Code × Code) × Opening). same_code o.0.0 t) rows)) (sym sets.openings);
-    rising = λ t. lists_rise after t up;
+    rising = up;
   }
     where
       inner : (t : Code) (b : Bool) → same_code s t ≡ b → cond b list (listed old.members.entries t) ≡ entrants after t
-      inner t true same = made ∙ ap (placed c (listed_paper after s c)) (are.members s) ∙ sym (listed_anew up.candidates) ∙ ap (entrants after) (same_code_exact s t same)
+      inner t true same = made ∙ ap (entrants after) (same_code_exact s t same)
       inner t false other = are.members t ∙ sym (listed_elsewhere t other)
+
+  pub relisted_lists : (old new : SessionLists) (list : List Entrant) → AreInOrder after → AreListsOf before old → list ≡ placed c (listed_paper after s c) (listed old.members.entries s)
+      → ((t : Code) → listed new.members.entries t ≡ cond (same_code s t) list (listed old.members.entries t)) → new.halls.entries ≡ old.halls.entries → AreListsOf after new
+  relisted_lists old new list up are made put halls =
+      lists_with old new list (λ t. lists_rise after t up) are (made ∙ ap (placed c (listed_paper after s c)) (are.members s) ∙ sym (listed_anew up.candidates)) put halls
 
 -- ---- the lists as they were
 

@@ -5,7 +5,7 @@ use Rattle.std.specs.Global.{Global}
 use Rattle.std.specs.List.{filter_map, cons_option}
 use Rattle.std.specs.Map.{keys_of}
 use Rattle.std.specs.Option.{option_map, option_map_or}
-use Rattle.std.specs.Ordering.{nat_cmp}
+use Rattle.std.specs.Ordering.{nat_cmp, is_lt, match_ordering}
 use Rattle.exam_rules.specs.declared.rows.Entry.{Entry}
 use Rattle.exam_rules.specs.declared.lists.Entrant.{Entrant}
 use Rattle.exam_rules.specs.declared.lists.SessionLists.{SessionLists}
@@ -72,6 +72,34 @@ pub record SetsEntry (before after : Relations) (s : Code) (c : ℕ) : Type 0 wh
   pub entry : Entry
   pub of_session : is_paper_of before s paper ≡ true
   pub entries : after.entries ≡ put_row entry_cmp before.entries (c, paper) entry
+  pub candidates : after.candidates ≡ before.candidates
+  pub papers : after.papers ≡ before.papers
+  pub openings : after.openings ≡ before.openings
+
+-- ---- one candidate entered
+
+abbrev pub lesser_paper : Code → Code → Code
+lesser_paper p q = if is_lt (code_cmp p q) then p else q
+
+-- the paper, or the one that there is already, where that is less
+abbrev pub lowered : Code → Option Code → Code
+lowered p least = option_map_or (lesser_paper p) least p
+
+-- The list with the candidate of this number before the first greater number: with this paper, or with the one
+-- with which they are listed already, where that is less.
+abbrev pub entered : ℕ → Code → List Entrant → List Entrant
+entered n p [] = entrant n p ∷ []
+entered n p (e ∷ es) =
+    match_ordering (nat_cmp n e.number) (entrant n p ∷ e ∷ es) (entrant n (lesser_paper p e.paper) ∷ es)
+    (e ∷ entered n p es)
+
+-- The entry of this candidate for this paper, which is one of the session, has been made live. It is new, or
+-- stands in the place of the one before, which may have been live. The candidates, the papers and the openings
+-- are the same; of the rest nothing is said, since the lists do not show it.
+pub record MakesLive (before after : Relations) (s : Code) (c : ℕ) (p : Code) : Type 0 where
+  pub of_session : is_paper_of before s p ≡ true
+  pub candidate : has_row nat_cmp before.candidates c ≡ true
+  pub entries : after.entries ≡ put_row entry_cmp before.entries (c, p) (record { live = true })
   pub candidates : after.candidates ≡ before.candidates
   pub papers : after.papers ≡ before.papers
   pub openings : after.openings ≡ before.openings

@@ -22,7 +22,7 @@ pub use laws::{
     lists_rise, plans_carry_over, plans_come_back, repair_is_one, repairs_carry_over,
     repairs_come_back, sweeps_carry_over, sweeps_come_back,
 };
-pub use lists::{BySession, Entrant, SessionLists, session_lists, sitting_among};
+pub use lists::{BySession, Entrant, SessionLists, entered_session, session_lists, sitting_among};
 pub use rows::{
     Appeal, Arrangement, Candidate, Entry, Hall, Opening, Paper, Session, Status, Subject,
 };

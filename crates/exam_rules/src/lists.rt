@@ -1,11 +1,13 @@
 //! The members and the open halls of all sessions, listed in one walk over the facts.
-ghost use Rattle.std.specs.Prelude.{◌≡◌, ◌≢◌, ◌++◌, ◌∷◌, [], length, All, Contains, IsNone, IfSome, IfOk};
-ghost use Rattle.std.specs.Prelude.{IfErr, OnOk, OnErr, IsTrue, false, filter, nat_lt, if◌then◌else◌};
-ghost use Rattle.std.specs.List.Sorted.{IsStrictlySortedBy, IsNonDecreasingBy};
+ghost use Rattle.std.specs.Prelude.{◌≡◌, ◌≢◌, ◌<◌, ◌≤◌, ◌++◌, ◌∷◌, [], length, All, Contains, IsNone, IfSome, IfOk};
+ghost use Rattle.std.specs.Prelude.{IfErr, OnOk, OnErr, IsTrue, true, false, filter, nat_eq, nat_lt, slice_index_or};
+ghost use Rattle.std.specs.Prelude.{slice_set, if◌then◌else◌};
+ghost use Rattle.std.specs.List.Sorted.{IsStrictlySortedBy, IsNonDecreasingBy, IsPartitionPoint};
 ghost use Rattle.std.specs.Ordering.{nat_cmp};
 ghost use Rattle.exam_types.specs.declared.refusal.Refusal.TheVariants.{NoMemory};
 ghost use Rattle.exam_rules.specs.Relations.{Code, Relations, relations_of, no_relations, code_cmp, same_code};
 ghost use Rattle.exam_rules.specs.Relations.{has_row};
+ghost use Rattle.exam_rules.specs.Orders.{AreInOrder};
 ghost use Rattle.exam_rules.specs.Sessions as spec;
 ghost use Rattle.exam_rules.specs.Seatings as seatings;
 ghost use Rattle.exam_rules.specs.Lists as listing;
@@ -89,6 +91,17 @@ fn ends_with(entrants: &[Entrant], number: Number) -> bool
     }
 }
 
+/// Appends the entrant, where the last is not the same candidate.
+fn push_last(list: &mut Vec<Entrant>, entrant: Entrant) -> Result<(), Refusal>
+    ensures ok { OnOk result (list.new.items ≡ listing.with_last entrant list.old.items) }
+    ensures memory { IfErr result (λ e. e ≡ NoMemory) }
+{
+    if !ends_with(list.as_slice(), entrant.number) {
+        list.push(entrant)?;
+    }
+    Ok(())
+}
+
 /// Appends the entrant to the session's list, where its last is not the same candidate.
 fn append_last(
     alloc: Global,
@@ -101,14 +114,18 @@ fn append_last(
         else listing.listed members.old.entries s)) }
     ensures memory { IfErr result (λ e. e ≡ NoMemory) }
 {
-    if ends_with(listed(members, &session), entrant.number) {
-        return Ok(());
+    match members.get_mut(&session) {
+        Some(list) => push_last(list, entrant),
+        None => {
+            let list = one(alloc, entrant)?;
+            members.insert(session, list)?;
+            Ok(())
+        }
     }
-    append(alloc, members, session, entrant)
 }
 
 /// The session for which a live entry counts.
-fn entered_session(facts: &Facts, paper: &PaperCode, entry: &Entry) -> Option<SessionCode>
+pub fn entered_session(facts: &Facts, paper: &PaperCode, entry: &Entry) -> Option<SessionCode>
     ensures { result ≡ listing.entered_session (relations_of facts.now) paper.now entry.now }
 {
     if !entry.live {
@@ -253,6 +270,8 @@ fn keep_list(
 ) -> Result<(), Refusal>
     ensures same { (s : Code) → listing.listed members.new.entries s ≡ listing.listed members.old.entries s }
     ensures kept { OnOk result (IsTrue (has_row code_cmp members.new.entries session)) }
+    ensures stay { (s : Code) → IsTrue (has_row code_cmp members.old.entries s)
+        → IsTrue (has_row code_cmp members.new.entries s) }
     ensures memory { IfErr result (λ e. e ≡ NoMemory) }
 {
     if members.contains_key(&session) {
@@ -273,10 +292,77 @@ fn exchange(
     ensures members { (s : Code) → listing.listed members.new.entries s
         ≡ (if same_code session.now s then list.items else listing.listed members.old.entries s) }
     ensures kept { IsTrue (has_row code_cmp members.new.entries session.now) }
+    ensures stay { (s : Code) → IsTrue (has_row code_cmp members.old.entries s)
+        → IsTrue (has_row code_cmp members.new.entries s) }
 {
     match members.get_mut(session) {
         Some(place) => replace(place, list),
         None => list,
+    }
+}
+
+/// The place of the first entrant whose number is no less, where numbers rise.
+fn place_of(entrants: &[Entrant], number: Number) -> usize
+    ensures within { result ≤ length entrants.now }
+    ensures place { IsNonDecreasingBy (λ (e : Entrant). e.number) entrants.now
+        → IsPartitionPoint (λ (e : Entrant). nat_lt e.number number ≡ true)
+        (λ (e : Entrant). nat_lt e.number number ≡ false) entrants.now result }
+{
+    entrants.partition_point(|entrant| entrant.number < number)
+}
+
+/// The paper of the entrant at the place, where they have this number.
+fn paper_at(entrants: &[Entrant], place: usize, number: Number) -> Option<PaperCode>
+    ensures found { IfSome result (λ paper. (place < length entrants.now)
+        × (slice_index_or entrants.now place (listing.entrant number paper) ≡ listing.entrant number paper)) }
+    ensures none { IsNone result → place < length entrants.now
+        → (e : Entrant) → nat_eq (slice_index_or entrants.now place e).number number ≡ false }
+{
+    match entrants.get(place) {
+        Some(entrant) => {
+            if entrant.number == number {
+                Some(entrant.paper)
+            } else {
+                None
+            }
+        }
+        None => None,
+    }
+}
+
+fn lesser_paper(one: PaperCode, other: PaperCode) -> PaperCode
+    ensures { result ≡ listing.lesser_paper one other }
+{
+    if one < other { one } else { other }
+}
+
+fn put_at(list: &mut Vec<Entrant>, place: usize, entrant: Entrant)
+    requires { place < length list.old.items }
+    ensures { list.new.items ≡ slice_set list.old.items place entrant }
+{
+    list[place] = entrant;
+}
+
+/// Puts the candidate in their place, where numbers rise: with this paper, or with the lesser one with which
+/// they stand there already. After a refusal the list is as it was.
+fn enter_among(list: &mut Vec<Entrant>, number: Number, paper: PaperCode) -> Result<(), Refusal>
+    ensures ok { OnOk result (IsNonDecreasingBy (λ (e : Entrant). e.number) list.old.items
+        → list.new.items ≡ listing.entered number paper list.old.items) }
+    ensures err { OnErr result (list.new.items ≡ list.old.items) }
+    ensures memory { IfErr result (λ e. e ≡ NoMemory) }
+{
+    let entrants = list.as_slice();
+    let place = place_of(entrants, number);
+    match paper_at(entrants, place, number) {
+        Some(listed) => {
+            let paper = lesser_paper(paper, listed);
+            put_at(list, place, Entrant { number, paper });
+            Ok(())
+        }
+        None => {
+            list.insert(place, Entrant { number, paper })?;
+            Ok(())
+        }
     }
 }
 
@@ -344,12 +430,56 @@ impl SessionLists {
         Ok(exchange(&mut self.members, &session, list))
     }
 
+    /// Makes sure that the session has a list of members, which is empty where it had none.
+    pub fn keep_members(&mut self, alloc: Global, session: SessionCode) -> Result<(), Refusal>
+        ensures same { (s : Code)
+            → listing.listed self.new.members.entries s ≡ listing.listed self.old.members.entries s }
+        ensures halls { self.new.halls.entries ≡ self.old.halls.entries }
+        ensures kept { OnOk result (IsTrue (has_row code_cmp self.new.members.entries session)) }
+        ensures stay { (s : Code) → IsTrue (has_row code_cmp self.old.members.entries s)
+            → IsTrue (has_row code_cmp self.new.members.entries s) }
+        ensures memory { IfErr result (λ e. e ≡ NoMemory) }
+    {
+        keep_list(alloc, &mut self.members, session)
+    }
+
+    /// Lists the candidate among the members of the session, where of what the lists show only their entry for
+    /// this paper, which is one of the session, has been made live. Looks at no entry. After a refusal the lists
+    /// are as they were.
+    pub fn enter(
+        &mut self,
+        session: &SessionCode,
+        number: Number,
+        paper: PaperCode,
+    ) -> Result<(), Refusal>
+        requires { IsTrue (has_row code_cmp self.old.members.entries session.now) }
+        ensures ok { OnOk result ((before after : Relations) → AreInOrder before
+            → listing.AreListsOf before self.old
+            → listing.MakesLive before after session.now number paper
+            → listing.AreListsOf after self.new) }
+        ensures others { (s : Code) → same_code session.now s ≡ false
+            → listing.listed self.new.members.entries s ≡ listing.listed self.old.members.entries s }
+        ensures halls { self.new.halls.entries ≡ self.old.halls.entries }
+        ensures stay { (s : Code) → IsTrue (has_row code_cmp self.old.members.entries s)
+            → IsTrue (has_row code_cmp self.new.members.entries s) }
+        ensures err { OnErr result ((s : Code)
+            → listing.listed self.new.members.entries s ≡ listing.listed self.old.members.entries s) }
+        ensures memory { IfErr result (λ e. e ≡ NoMemory) }
+    {
+        match self.members.get_mut(session) {
+            Some(list) => enter_among(list, number, paper),
+            None => Ok(()),
+        }
+    }
+
     /// Puts the list in the place of the session's own. Takes no memory.
     pub fn put_members(&mut self, session: &SessionCode, list: Vec<Entrant>)
         requires { IsTrue (has_row code_cmp self.old.members.entries session.now) }
         ensures members { (s : Code) → listing.listed self.new.members.entries s
             ≡ (if same_code session.now s then list.items else listing.listed self.old.members.entries s) }
         ensures halls { self.new.halls.entries ≡ self.old.halls.entries }
+        ensures stay { (s : Code) → IsTrue (has_row code_cmp self.old.members.entries s)
+            → IsTrue (has_row code_cmp self.new.members.entries s) }
     {
         let _ = exchange(&mut self.members, session, list);
     }
@@ -378,15 +508,5 @@ fn paper_among(entrants: &[Entrant], number: Number) -> Option<PaperCode>
     ensures none_only_if_absent { IsNonDecreasingBy (λ (e : Entrant). e.number) entrants.now → IsNone result
         → All (λ (e : Entrant). e.number ≢ number) entrants.now }
 {
-    let place = entrants.partition_point(|entrant| entrant.number < number);
-    match entrants.get(place) {
-        Some(entrant) => {
-            if entrant.number == number {
-                Some(entrant.paper)
-            } else {
-                None
-            }
-        }
-        None => None,
-    }
+    paper_at(entrants, place_of(entrants, number), number)
 }

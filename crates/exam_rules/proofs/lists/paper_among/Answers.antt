@@ -1,9 +1,8 @@
-use Rattle.std.proofs.Common.{◌≡◌, ◌≢◌, ◌<◌, ℕ, List, Bool, true, false, nat_lt, length, get_or, nat_eq, eq-eqb, lt-ltb, refl, ap, sym, ◌∙◌, arith, rules}
+use Rattle.std.proofs.Common.{◌≡◌, ◌≢◌, ◌<◌, ℕ, List, Bool, true, false, nat_lt, length, get_or, eq-eqb, refl, arith}
 use Rattle.std.specs.List.{All}
 use Rattle.std.specs.List.Sorted.{IsNonDecreasingBy, IsPartitionPoint}
 use Rattle.std.proofs.lemmas.Bool.{both_ways, ltb-true, ltb-false}
-use Rattle.std.proofs.lemmas.List.{get_or_default}
-use Rattle.std.proofs.lemmas.List.Sorted.{IsPartitionPoint-from_clause, IsPartitionedBy-ltb}
+use Rattle.std.proofs.lemmas.Option.{IfSome_then}
 use Rattle.exam_rules.specs.declared.lists.Entrant.{Entrant}
 use Rattle.exam_rules.proofs.lists.paper_among.Goals as goal
 
@@ -24,20 +23,11 @@ absent xs n i up point other k d inside same = inner (nat_lt k i) refl
         let rise = up i k d from inside in
         other d (omega arith) (omega arith)
 
-pub returns-else-eq-clause-none_only_if_absent : goal.returns-else-eq-clause-none_only_if_absent
-returns-else-eq-clause-none_only_if_absent c = λ up _.
-    absent c.args.entrants.now c.args.number c.partition_point-place.result up
-    (IsPartitionPoint-from_clause (λ (e : Entrant). nat_lt e.number c.args.number) _ _ c.partition_point-place.ensures.partitioned
-    (IsPartitionedBy-ltb (λ (e : Entrant). e.number) _ c.args.number up) (λ a r q k. search rules))
-    (λ d inside same.
-    let at : get_or c.args.entrants.now c.partition_point-place.result d ≡ c.in-Some.entrant.now =
-    get_or_default c.args.entrants.now c.partition_point-place.result d c.in-Some.entrant.now inside ∙ sym (c.in-Some.ensures.lookup.1) in
-    let own : nat_eq c.in-Some.entrant.now.number c.args.number ≡ true = eq-eqb _ _ (sym (ap (λ (e : Entrant). e.number) at) ∙ same) in
-    both_ways _ (sym c.eq.ensures ∙ c.if-eq.false) own)
+pub returns-clause-found : goal.returns-clause-found
+returns-clause-found c =
+    IfSome_then c.paper_at.result c.paper_at.ensures.found (λ paper at. (c.place_of.result, at.0, at.1))
 
-pub returns-in-None-clause-none_only_if_absent : goal.returns-in-None-clause-none_only_if_absent
-returns-in-None-clause-none_only_if_absent c = λ up _.
-    absent c.args.entrants.now c.args.number c.partition_point-place.result up
-    (IsPartitionPoint-from_clause (λ (e : Entrant). nat_lt e.number c.args.number) _ _ c.partition_point-place.ensures.partitioned
-    (IsPartitionedBy-ltb (λ (e : Entrant). e.number) _ c.args.number up) (λ a r q k. search rules))
-    (λ d inside same. both_ways _ (sym c.in-None.ensures.lookup.0) (lt-ltb _ _ inside))
+pub returns-clause-none_only_if_absent : goal.returns-clause-none_only_if_absent
+returns-clause-none_only_if_absent c = λ up none.
+    absent c.args.entrants.now c.args.number c.place_of.result up (c.place_of.ensures.place up)
+    (λ d inside same. both_ways _ (c.paper_at.ensures.none none inside d) (eq-eqb _ _ same))
