@@ -56,65 +56,74 @@ macro_rules! given {
     };
 }
 
+/// Lines that are understood.
+const UNDERSTOOD: &[(&str, &str)] = &[
+    (given!("init"), "init"),
+    (given!("migrate"), "migrate"),
+    (given!("import|entries|a b.csv"), "import"),
+    (given!("withdraw|0000001|MA-1"), "withdraw"),
+    (given!("reinstate|0000001|MA-1"), "reinstate"),
+    (given!("close-hall|S1|A"), "close-hall"),
+    (given!("decide|0000001|HA1|granted|"), "decide"),
+    (given!("decide|0000001|HA1|refused|--|-5 degrees"), "decide"),
+    (given!("decide|0000001|AR1|standing|ok"), "decide"),
+    (given!("serve|1"), "serve"),
+    (given!("serve|65535"), "serve"),
+    (given!("door-list|S1|A"), "door-list"),
+    (given!("attendance|S1|MA-1"), "attendance"),
+    (given!("clashes|S1"), "clashes"),
+    (given!("shortage|S1"), "shortage"),
+    (given!("appeals|S1"), "appeals"),
+    (given!("export|S1"), "export"),
+    (given!("export|--|-1"), "export"),
+    ("--help", "help"),
+];
+
+/// Words that are no line.
+const NOT_UNDERSTOOD: &[&str] = &[
+    "--db|office.db|--today|2027-02-29|init",
+    given!("decide|0000001|HA1|GRANTED|ok"),
+    given!("serve|0"),
+    given!("serve|65536"),
+    given!("import|marks|f.csv"),
+    given!("door-list|S1"),
+    given!("clashes|s1"),
+    given!("migrate|2"),
+    given!("door-list|S1|A|B"),
+    given!("withdraw|1|MA-1"),
+    given!("decide|0000001|HA1|refused|-5 degrees"),
+    given!("attendance|S1"),
+    given!("clashes"),
+    given!("serve"),
+    given!("serve|080"),
+    given!("serve|+80"),
+    given!(""),
+    "--db|office.db|init",
+    "--today|2027-05-01|init",
+    "init",
+    "help",
+    "help|import",
+    given!("help"),
+    given!("help|import"),
+];
+
 #[test]
-fn each_command_is_understood(rt: HostRuntime) -> Result<(), Fail> {
-    let lines = [
-        (given!("init"), "init"),
-        (given!("migrate"), "migrate"),
-        (given!("import|entries|a b.csv"), "import"),
-        (given!("withdraw|0000001|MA-1"), "withdraw"),
-        (given!("reinstate|0000001|MA-1"), "reinstate"),
-        (given!("close-hall|S1|A"), "close-hall"),
-        (given!("decide|0000001|HA1|granted|"), "decide"),
-        (given!("decide|0000001|HA1|refused|--|-5 degrees"), "decide"),
-        (given!("decide|0000001|AR1|standing|ok"), "decide"),
-        (given!("serve|1"), "serve"),
-        (given!("serve|65535"), "serve"),
-        (given!("door-list|S1|A"), "door-list"),
-        (given!("attendance|S1|MA-1"), "attendance"),
-        (given!("clashes|S1"), "clashes"),
-        (given!("shortage|S1"), "shortage"),
-        (given!("appeals|S1"), "appeals"),
-        (given!("export|S1"), "export"),
-        (given!("export|--|-1"), "export"),
-        ("--help", "help"),
-    ];
-    for (line, wanted) in lines {
-        assert_eq!(rt; told(rt.alloc(), line)?, wanted, "{line}");
+fn lines_are_understood_or_not(rt: HostRuntime) -> Result<(), Fail> {
+    for (line, wanted) in UNDERSTOOD {
+        assert_eq!(rt; told(rt.alloc(), line)?, *wanted, "{line}");
+    }
+    for line in NOT_UNDERSTOOD {
+        assert_eq!(rt; told(rt.alloc(), line)?, "none", "{line}");
     }
     Ok(())
 }
 
 #[test]
-fn other_words_are_not_understood(rt: HostRuntime) -> Result<(), Fail> {
-    for line in [
-        given!("migrate|2"),
-        given!("door-list|S1"),
-        given!("door-list|S1|A|B"),
-        given!("door-list|s1|A"),
-        given!("import|rooms|f"),
-        given!("withdraw|1|MA-1"),
-        given!("decide|0000001|HA1|maybe|ok"),
-        given!("decide|0000001|HA1|refused|-5 degrees"),
-        given!("attendance|S1"),
-        given!("clashes"),
-        given!("export|s1"),
-        given!("serve"),
-        given!("serve|0"),
-        given!("serve|080"),
-        given!("serve|+80"),
-        given!("serve|65536"),
-        given!(""),
-        "--db|office.db|--today|2027-02-30|init",
-        "--db|office.db|init",
-        "--today|2027-05-01|init",
-        "init",
-        "help",
-        "help|import",
-        given!("help"),
-        given!("help|import"),
-    ] {
-        assert_eq!(rt; told(rt.alloc(), line)?, "none", "{line}");
+fn a_reason_has_at_most_200_bytes(rt: HostRuntime) -> Result<(), Fail> {
+    for (length, wanted) in [(200, "decide"), (201, "none")] {
+        let reason = "x".repeat(rt.alloc(), length)?;
+        let line = format!(in rt.alloc(); "{}{reason}", given!("decide|0000001|HA1|granted|"))?;
+        assert_eq!(rt; told(rt.alloc(), line.as_str())?, wanted, "{length}");
     }
     Ok(())
 }
