@@ -2,11 +2,10 @@
 use Rattle.std.proofs.Common.{◌≡◌, ℕ, ◌==◌, ◌&&◌, ◌||◌, not, Bool, true, false, cond, List, [], ◌∷◌, map, filter, Option, None, Some, is_some, refl, ap, sym, ◌∙◌}
 use Rattle.std.specs.List.{list_any, filter_map}
 use Rattle.std.specs.Map.{keys_of}
-use Rattle.std.specs.Option.{option_and_then, option_map, option_map_or, option_or, unwrap_or}
+use Rattle.std.specs.Option.{option_and_then, option_map, option_map_or, option_or}
 use Rattle.std.specs.BTreeMap.{is_at}
 use Rattle.std.specs.Cmp.{Equal-is}
 use Rattle.std.specs.declared.cmp.Ordering.{Ordering}
-use Rattle.std.specs.Ordering.{nat_cmp}
 use Rattle.std.proofs.Math.Path.{fun_ext}
 use Rattle.std.proofs.lemmas.Map.Lookups.{CmpEqualImpliesEq}
 use Rattle.exam_rules.specs.declared.fit.Room.{Room}
@@ -18,7 +17,7 @@ use Rattle.exam_rules.specs.declared.rows.Paper.{Paper}
 use Rattle.exam_rules.specs.declared.rows.Session.{Session}
 use Rattle.exam_rules.specs.declared.rows.Subject.{Subject}
 use Rattle.exam_rules.specs.Relations.{Code, Relations, code_cmp, entry_cmp, opening_cmp, has_row, row_at, same_code}
-use Rattle.exam_rules.specs.Sessions.{arrangement_in_force, asked_arrangement, asked_hall, asked_paper, granted_arrangement, granted_subjects, has_live_entry, head_of, is_live, is_live_entry, is_live_paper, is_paper_of, least_live_paper, live_papers, members, no_arrangement, option_filter, sitting, sitting_row}
+use Rattle.exam_rules.specs.Sessions.{arrangement_in_force, asked_hall, asked_paper, granted_subjects, has_live_entry, head_of, is_live, is_live_entry, is_live_paper, is_paper_of, least_live_paper, live_papers, members, option_filter, sitting, sitting_row}
 use Rattle.exam_rules.specs.Seatings.{desks, fits, opened_room, room_of, seating, suits_opened, terms_of}
 use Rattle.exam_office.specs.Steps.{SameSeating}
 use Rattle.exam_office.proofs.Keeping.{filtered}

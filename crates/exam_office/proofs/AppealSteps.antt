@@ -29,7 +29,7 @@ use Rattle.exam_office.specs.declared.command.Lodging.{Lodging}
 use Rattle.exam_office.specs.declared.command.Reply.TheVariants as reply
 use Rattle.exam_office.specs.Appeals.{appeal_at, has_open_appeal, is_open, is_retracted, stored_state}
 use Rattle.exam_office.specs.Changes.{first_refusal, unless}
-use Rattle.exam_office.specs.Good.{IsGood, appeal_refers, marks_stand, may_bear, refers, subject_refers, was_granted}
+use Rattle.exam_office.specs.Good.{IsGood, appeal_refers, marks_stand, may_bear, refers, subject_refers}
 use Rattle.exam_office.specs.Limits.{within_limits, sessions_within, papers_within, halls_within, openings_within, candidates_within, members_within}
 use Rattle.exam_office.specs.Lodgings as spec
 use Rattle.exam_office.specs.Orders.{IsInOrder}

@@ -59,4 +59,7 @@ pub mod LodgingLimits
 pub mod MadeWithin
 pub mod LentPlans
 pub mod KeptLists
+pub mod KeptImports
+pub mod EnteredRows
+pub mod ListsPutBack
 pub mod AmongOwn

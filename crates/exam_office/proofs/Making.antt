@@ -1,5 +1,5 @@
 -- What a command makes of a part, step by step, is what an accepted command makes of it.
-use Rattle.std.proofs.Common.{◌≡◌, ◌↔◌, ◌⊎◌, ◌&&◌, ◌||◌, ℕ, not, Bool, true, false, cond, IsTrue, List, Contains, Option, None, Some, Ok, Err, refl, ap, sym, subst, ◌∙◌, inl, inr}
+use Rattle.std.proofs.Common.{◌≡◌, ◌↔◌, ◌⊎◌, ◌&&◌, ◌||◌, ℕ, Bool, true, false, cond, IsTrue, List, Contains, Option, None, Some, Ok, Err, refl, ap, sym, subst, ◌∙◌, inl, inr}
 use Rattle.std.specs.Option.{option_and_then, option_map_or}
 use Rattle.exam_types.specs.declared.refusal.Refusal.{Refusal}
 use Rattle.exam_types.specs.declared.refusal.Refusal.TheVariants.{NoMemory}
@@ -17,7 +17,7 @@ use Rattle.exam_office.specs.Appeals.{appeal_at, bears_mark, is_grant, stored_st
 use Rattle.exam_office.specs.Changes.{closing_refusal, revival_refusal, rows_refusal, with_live, with_rows, without_opening, withdrawal_refusal}
 use Rattle.exam_office.specs.Decisions.{decision_refusal, with_decision}
 use Rattle.exam_office.specs.Decisions as decisions
-use Rattle.exam_office.specs.FactsMade.{WasMade, early_refusal, facts_made, may_pass_limit}
+use Rattle.exam_office.specs.FactsMade.{WasMade, early_refusal, facts_made}
 use Rattle.exam_office.specs.Good.{IsGood}
 use Rattle.exam_office.specs.Limits.{within_limits}
 use Rattle.exam_office.specs.Lodgings as lodgings

@@ -30,7 +30,7 @@ IsStored r (row.OfArrangement c x) = row_at nat_cmp r.arrangements c ≡ Some x
 opening_total : IsTotalOrder opening_cmp
 opening_total = then_total (on_total (λ (k : Code × Code). k.0) nat_list_cmp_total) (on_total (λ (k : Code × Code). k.1) nat_list_cmp_total)
 
-entry_total : IsTotalOrder entry_cmp
+pub entry_total : IsTotalOrder entry_cmp
 entry_total = then_total (on_total (λ (k : ℕ × Code). k.0) nat_cmp_total) (on_total (λ (k : ℕ × Code). k.1) nat_list_cmp_total)
 
 -- ---- the tables stay in order

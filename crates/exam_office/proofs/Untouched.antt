@@ -1,9 +1,8 @@
 -- A session that a command does not touch keeps its seating.
 use Rattle.std.proofs.Common.{◌≡◌, ℕ, ◌==◌, ◌&&◌, ◌||◌, not, Bool, true, false, cond, List, [], ◌∷◌, map, filter, nat_eq, Option, None, Some, Ok, is_some, refl, ap, sym, subst, ◌∙◌}
 use Rattle.std.specs.List.{filter_map, list_all, list_any}
-use Rattle.std.specs.List.Sorted.{IsStrictlySortedBy}
-use Rattle.std.specs.Map.{keys_of, remove_entry, lookup}
-use Rattle.std.specs.Option.{option_map, option_map_or, option_or}
+use Rattle.std.specs.Map.{keys_of}
+use Rattle.std.specs.Option.{option_map, option_map_or}
 use Rattle.std.specs.BTreeMap.{insert_entry, is_at}
 use Rattle.std.specs.Cmp.{Equal-is, nat_cmp_total}
 use Rattle.std.specs.Cmp.Lexicographic.{nat_list_cmp_total}
@@ -23,7 +22,7 @@ use Rattle.exam_rules.specs.declared.rows.Status.TheVariants as status
 use Rattle.exam_rules.specs.declared.rows.Subject.{Subject}
 use Rattle.exam_rules.specs.Orders.{KeysRise}
 use Rattle.exam_rules.specs.Relations.{Code, Relations, appeal_cmp, code_cmp, entry_cmp, opening_cmp, has_row, put_row, remove_row, row_at, same_code}
-use Rattle.exam_rules.specs.Sessions.{arrangement_by, barred_halls, granted_arrangement, granted_subjects, has_live_entry, is_granted, is_granted_appeal, is_live, is_live_entry, is_marked, is_member, is_paper_of, is_standing, session_day, standing_grant, standing_grants}
+use Rattle.exam_rules.specs.Sessions.{arrangement_by, barred_halls, granted_arrangement, granted_subjects, has_live_entry, is_granted, is_granted_appeal, is_live_entry, is_marked, is_member, is_paper_of, is_standing, session_day, standing_grant, standing_grants}
 use Rattle.exam_rules.specs.Seatings.{fits, opened_room, plan_of, seating, sitting_terms, suits_opened}
 use Rattle.exam_rules.proofs.Naming.{same_code_exact, same_code_itself}
 use Rattle.exam_office.specs.declared.command.Command.{Command}
@@ -35,7 +34,7 @@ use Rattle.exam_office.specs.declared.command.Reply.{Reply}
 use Rattle.exam_office.specs.declared.import_row.Row.{Row}
 use Rattle.exam_office.specs.declared.import_row.Row.TheVariants as row
 use Rattle.exam_office.specs.Appeals.{appeal_at, bears_mark, decided, is_grant, is_open, superseded, supersedes}
-use Rattle.exam_office.specs.Changes.{closing_refusal, first_refusal, import_refusal, no_hall, no_paper, not_opened, reinstatement_refusal, row_checks, rows_refusal, too_many, with_live, with_row, with_rows, withdrawal_refusal, without_opening}
+use Rattle.exam_office.specs.Changes.{closing_refusal, first_refusal, import_refusal, no_hall, not_opened, reinstatement_refusal, row_checks, rows_refusal, too_many, with_live, with_row, with_rows, withdrawal_refusal, without_opening}
 use Rattle.exam_office.specs.Decisions.{decision_checks, decision_refusal, gives_way, giving_way, grant_checks, is_earlier, is_made, is_too_late, not_arrangement, open_checks, with_decided, with_decision, with_mark, with_outcome, with_superseded, without_mark}
 use Rattle.exam_office.specs.Good.{IsGood, marks_stand, refers}
 use Rattle.exam_office.specs.Lodgings as lodgings
@@ -45,7 +44,7 @@ use Rattle.exam_office.specs.Steps.{SameSeating, Step, StepTo, change}
 use Rattle.exam_office.specs.Touched.{decision_touches, ends_standing, grant_touches, has_standing_member, names, row_touches, stands_in, touches}
 use Rattle.exam_office.proofs.Alike.{SpeakAlike, alike_itself, alike_seating}
 use Rattle.exam_office.proofs.AppealKeys.{appeals_exact}
-use Rattle.exam_office.proofs.Appealing.{code_flips, fits_same, never_stands, not_granted, put_seating_same, seating_by, with_appeals, with_decisions}
+use Rattle.exam_office.proofs.Appealing.{fits_same, never_stands, not_granted, put_seating_same, seating_by, with_appeals, with_decisions}
 use Rattle.exam_office.proofs.AppealSteps.{lodging_settled, retraction_settled}
 use Rattle.exam_office.proofs.Borne.{unmarked_same}
 use Rattle.exam_office.proofs.DecidedFacts.{others_stand, unmarked_open}

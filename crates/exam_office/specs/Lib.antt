@@ -17,7 +17,8 @@
 -- - NextPlans: the plans and the reply that a command makes, from its change of the facts on
 -- - Drafts: a command that is carried out on an office and may still be taken back
 -- - TablesBefore: what the tables and the plans were before a command, told beside what they are after it
--- - Relisting, Undoing: how the lists of a session and the facts are put back as they were
+-- - Relisting: what a command changes in the lists of members and open halls, and how they are put back as they
+--   were
 -- - Exchanges: rows that take the place of others, key by key, and how they are taken back
 -- - FactsMade: of each command the facts before the limits are tested, and the refusal by the checks on the
 --   facts as they are

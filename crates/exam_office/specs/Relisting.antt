@@ -1,32 +1,49 @@
 -- How the lists of members and open halls are put back as they were.
-use Rattle.std.specs.Prelude.{◌≡◌, ℕ, ⊤, Bool, true, false, IsTrue, List, if◌then◌else◌}
+use Rattle.std.specs.Prelude.{◌≡◌, ℕ, ⊤, Bool, true, false, IsTrue, List, None, Option, Vec, if◌then◌else◌}
+use Rattle.std.specs.Global.{Global}
+use Rattle.std.specs.Option.{option_and_then, option_map_or}
 use Rattle.exam_rules.specs.declared.lists.Entrant.{Entrant}
 use Rattle.exam_rules.specs.declared.lists.SessionLists.{SessionLists}
-use Rattle.exam_rules.specs.Lists.{listed}
-use Rattle.exam_rules.specs.Relations.{Code, Relations, code_cmp, has_row, same_code}
+use Rattle.exam_rules.specs.Lists.{entered_session, listed}
+use Rattle.exam_rules.specs.Orders.{AreInOrder}
+use Rattle.exam_rules.specs.Relations.{Code, Relations, code_cmp, entry_cmp, has_row, row_at, same_code}
 use Rattle.exam_office.specs.declared.command.Command.{Command}
 use Rattle.exam_office.specs.declared.command.Command.TheVariants as command
-use Rattle.exam_office.specs.Changes.{with_live}
+use Rattle.exam_office.specs.declared.import_row.Kind.{Kind}
+use Rattle.exam_office.specs.declared.import_row.Kind.TheVariants as kind
+use Rattle.exam_office.specs.declared.import_row.Row.{Row}
+use Rattle.exam_office.specs.Changes.{rows_refusal, with_live, with_rows}
+use Rattle.exam_office.specs.Imports.{AreOfKind}
 use Rattle.exam_office.specs.declared.relisting.ListUndo.{ListUndo}
 use Rattle.exam_office.specs.declared.relisting.ListUndo.TheVariants as undo
+
+-- the session's list among some, where it is one of them, and otherwise the one of the lists
+abbrev pub list_before : List (Code × Vec Entrant Global) → SessionLists → Code → List Entrant
+list_before some lists s =
+    option_map_or (λ (list : Vec Entrant Global). list.items) (row_at code_cmp some s)
+    (listed lists.members.entries s)
 
 -- the members of a session with the change taken back
 abbrev pub members_before : ListUndo → SessionLists → Code → List Entrant
 members_before undo.Nothing lists s = listed lists.members.entries s
 members_before (undo.Members t list) lists s =
     if same_code t s then list.items else listed lists.members.entries s
+members_before (undo.Several before) lists s = list_before before.entries lists s
 members_before (undo.Whole old) lists s = listed old.members.entries s
 
 -- the open halls of a session with the change taken back
 abbrev pub halls_before : ListUndo → SessionLists → Code → List Code
 halls_before undo.Nothing lists s = listed lists.halls.entries s
 halls_before (undo.Members t list) lists s = listed lists.halls.entries s
+halls_before (undo.Several before) lists s = listed lists.halls.entries s
 halls_before (undo.Whole old) lists s = listed old.halls.entries s
 
--- the session whose list is put back has one
+-- each session whose list is put back has one
 abbrev pub HasList : ListUndo → SessionLists → Type 0
 HasList undo.Nothing lists = ⊤
 HasList (undo.Members t list) lists = IsTrue (has_row code_cmp lists.members.entries t)
+HasList (undo.Several before) lists =
+    (s : Code) → IsTrue (has_row code_cmp before.entries s) → IsTrue (has_row code_cmp lists.members.entries s)
 HasList (undo.Whole old) lists = ⊤
 
 -- the same lists
@@ -44,6 +61,27 @@ pub record ListsBack (undo : ListUndo) (new old : SessionLists) : Type 0 where
 pub record SetsLive (old new : Relations) (c : ℕ) (p : Code) : Type 0 where
   pub live : Bool
   pub facts : new ≡ with_live old c p live
+
+-- the session for which the candidate's entry for the paper counts, if it is live
+abbrev pub live_session : Relations → ℕ → Code → Option Code
+live_session r c p = option_and_then (entered_session r p) (row_at entry_cmp r.entries (c, p))
+
+-- the rows are of entries, refer to what is there, and make these facts of the first ones
+pub record EntersRows (first : Relations) (rows : List Row) (made : Relations) : Type 0 where
+  pub order : AreInOrder first
+  pub kind : AreOfKind kind.Entries rows
+  pub known : rows_refusal first rows ≡ None
+  pub facts : made ≡ with_rows first rows
+
+-- no list shows what an import of this kind changes: a candidate who is new has no entry yet
+abbrev pub is_unlisted : Kind → Bool
+is_unlisted kind.Sessions = true
+is_unlisted kind.Papers = false
+is_unlisted kind.Halls = true
+is_unlisted kind.Openings = false
+is_unlisted kind.Candidates = true
+is_unlisted kind.Entries = false
+is_unlisted kind.Arrangements = true
 
 -- the command changes appeals alone, which no list shows
 abbrev pub keeps_lists : Command → Bool

@@ -1,15 +1,23 @@
 //! The lists of members and open halls after a command.
-ghost use Rattle.std.specs.Prelude.{◌≡◌, IfOk, IfErr, OnOk, OnErr};
+ghost use Rattle.std.specs.Prelude.{◌≡◌, ◌∷◌, List, IsTrue, IfOk, IfErr, OnOk, OnErr};
 ghost use Rattle.exam_types.specs.declared.refusal.Refusal.TheVariants.{NoMemory};
+ghost use Rattle.exam_rules.specs.declared.lists.SessionLists.{SessionLists as Lists};
 ghost use Rattle.exam_rules.specs.Lists.{AreListsOf, listed};
-ghost use Rattle.exam_rules.specs.Relations.{Code, Relations, relations_of};
+ghost use Rattle.exam_rules.specs.Relations.{Code, Relations, code_cmp, has_row, relations_of};
+ghost use Rattle.exam_office.specs.declared.command.Command.TheVariants as command;
+ghost use Rattle.exam_office.specs.declared.import_row.Row.{Row as ImportRow};
+ghost use Rattle.exam_office.specs.declared.relisting.ListUndo.TheVariants as undo;
+ghost use Rattle.exam_office.specs.Changes.{with_row};
 ghost use Rattle.exam_office.specs.FactsMade.{WasMade};
 ghost use Rattle.exam_office.specs.Relisting as spec;
 
 use crate::command::Command;
-use exam_rules::{Entrant, Facts, SessionLists, session_lists};
+use crate::import::Import;
+use crate::import_row::{Kind, Row};
+use exam_rules::{BySession, Entrant, Facts, SessionLists, entered_session, session_lists};
 use exam_types::{Number, PaperCode, Refusal, SessionCode};
 use std::alloc::Global;
+use std::collections::BTreeMap;
 use std::mem;
 
 /// How a change of the lists is taken back. Taking it back takes no memory.
@@ -19,6 +27,8 @@ pub enum ListUndo {
     Nothing,
     /// The members of the session were these.
     Members(SessionCode, Vec<Entrant>),
+    /// The members of these sessions were these.
+    Several(BySession<Entrant>),
     /// The lists were these.
     Whole(SessionLists),
 }
@@ -34,8 +44,22 @@ impl ListUndo {
         match self {
             ListUndo::Nothing => {}
             ListUndo::Members(session, list) => lists.put_members(&session, list),
+            ListUndo::Several(before) => put_back(lists, before),
             ListUndo::Whole(old) => *lists = old,
         }
+    }
+}
+
+/// Puts the lists of these sessions back. Takes no memory.
+fn put_back(lists: &mut SessionLists, before: BySession<Entrant>)
+    requires { (s : Code) → IsTrue (has_row code_cmp before.entries s)
+        → IsTrue (has_row code_cmp lists.old.members.entries s) }
+    ensures members { (s : Code) → listed lists.new.members.entries s
+        ≡ spec.list_before before.entries lists.old s }
+    ensures halls { lists.new.halls.entries ≡ lists.old.halls.entries }
+{
+    for (session, list) in before {
+        lists.put_members(&session, list);
     }
 }
 
@@ -57,8 +81,142 @@ pub fn relist(
         Command::Withdraw(number, paper) | Command::Reinstate(number, paper) => {
             relist_entrant(alloc, facts, lists, *number, paper)
         }
-        Command::Import(_) | Command::CloseHall(_, _) => list_anew(alloc, facts, lists),
+        Command::Import(import) => relist_import(alloc, facts, lists, import),
+        Command::CloseHall(_, _) => list_anew(alloc, facts, lists),
     }
+}
+
+/// Makes the lists those of the facts, into which the rows of the import have been put.
+fn relist_import(
+    alloc: Global,
+    facts: &Facts,
+    lists: &mut SessionLists,
+    import: &Import,
+) -> Result<ListUndo, Refusal>
+    requires { (r : Relations) × AreListsOf r lists.old
+        × WasMade (command.Import import.now) r (relations_of facts.now) }
+    ensures ok { OnOk result (AreListsOf (relations_of facts.now) lists.new) }
+    ensures back { IfOk result (λ undo. spec.ListsBack undo lists.new lists.old) }
+    ensures same { OnErr result (spec.SameLists lists.old lists.new) }
+    ensures memory { IfErr result (λ e. e ≡ NoMemory) }
+{
+    let rows = import.rows();
+    match import.kind() {
+        Kind::Sessions | Kind::Halls | Kind::Candidates | Kind::Arrangements => {
+            Ok(ListUndo::Nothing)
+        }
+        Kind::Entries => relist_rows(alloc, facts, lists, rows),
+        Kind::Papers | Kind::Openings => list_anew(alloc, facts, lists),
+    }
+}
+
+/// Lists the candidates of the rows, which are of entries and have been put into the facts.
+fn relist_rows(
+    alloc: Global,
+    facts: &Facts,
+    lists: &mut SessionLists,
+    rows: &[Row],
+) -> Result<ListUndo, Refusal>
+    requires { (r : Relations) × AreListsOf r lists.old
+        × spec.EntersRows r rows.now (relations_of facts.now) }
+    ensures ok { OnOk result (AreListsOf (relations_of facts.now) lists.new) }
+    ensures back { IfOk result (λ undo. spec.ListsBack undo lists.new lists.old) }
+    ensures same { OnErr result (spec.SameLists lists.old lists.new) }
+    ensures memory { IfErr result (λ e. e ≡ NoMemory) }
+{
+    let mut before = BTreeMap::new(alloc);
+    match enter_rows(alloc, facts, lists, &mut before, rows) {
+        Ok(()) => Ok(ListUndo::Several(before)),
+        Err(refusal) => {
+            put_back(lists, before);
+            Err(refusal)
+        }
+    }
+}
+
+/// Enters the candidate of each row, and keeps in `before` what each list was.
+fn enter_rows(
+    alloc: Global,
+    facts: &Facts,
+    lists: &mut SessionLists,
+    before: &mut BySession<Entrant>,
+    rows: &[Row],
+) -> Result<(), Refusal>
+    requires rows { (r : Relations) × AreListsOf r lists.old
+        × spec.EntersRows r rows.now (relations_of facts.now) }
+    requires back { spec.ListsBack (undo.Several before.old) lists.old lists.old }
+    ensures ok { OnOk result (AreListsOf (relations_of facts.now) lists.new) }
+    ensures back { spec.ListsBack (undo.Several before.new) lists.new lists.old }
+    ensures memory { IfErr result (λ e. e ≡ NoMemory) }
+{
+    for row in rows {
+        enter_row(alloc, facts, lists, before, row)?;
+    }
+    Ok(())
+}
+
+/// Enters the candidate of the row, where its entry is live in the facts, into which later rows have been put
+/// too.
+fn enter_row(
+    alloc: Global,
+    facts: &Facts,
+    lists: &mut SessionLists,
+    before: &mut BySession<Entrant>,
+    row: &Row,
+) -> Result<(), Refusal>
+    requires { spec.HasList (undo.Several before.old) lists.old }
+    ensures ok { OnOk result ((r : Relations) (later : List ImportRow) → AreListsOf r lists.old
+        → spec.EntersRows r (row.now ∷ later) (relations_of facts.now)
+        → AreListsOf (with_row r row.now) lists.new) }
+    ensures back { (was : Lists) → spec.ListsBack (undo.Several before.old) lists.old was
+        → spec.ListsBack (undo.Several before.new) lists.new was }
+    ensures memory { IfErr result (λ e. e ≡ NoMemory) }
+{
+    let Row::OfEntry(number, paper) = row else {
+        return Ok(());
+    };
+    match live_session(facts, *number, paper) {
+        Some(session) => {
+            set_aside(alloc, lists, before, session)?;
+            lists.enter(&session, *number, *paper)
+        }
+        // The entry was there already, and is withdrawn.
+        None => Ok(()),
+    }
+}
+
+/// The session for which the candidate's entry for the paper counts, if it is live.
+fn live_session(facts: &Facts, number: Number, paper: &PaperCode) -> Option<SessionCode>
+    ensures { result ≡ spec.live_session (relations_of facts.now) number paper.now }
+{
+    match facts.entries.get(&(number, *paper)) {
+        Some(entry) => entered_session(facts, paper, entry),
+        None => None,
+    }
+}
+
+/// Keeps a copy of the session's list, where none is kept, and sees that the session has a list.
+fn set_aside(
+    alloc: Global,
+    lists: &mut SessionLists,
+    before: &mut BySession<Entrant>,
+    session: SessionCode,
+) -> Result<(), Refusal>
+    requires { spec.HasList (undo.Several before.old) lists.old }
+    ensures same { spec.SameLists lists.old lists.new }
+    ensures kept { OnOk result (IsTrue (has_row code_cmp before.new.entries session)) }
+    ensures there { OnOk result (IsTrue (has_row code_cmp lists.new.members.entries session)) }
+    ensures back { (was : Lists) → spec.ListsBack (undo.Several before.old) lists.old was
+        → spec.ListsBack (undo.Several before.new) lists.new was }
+    ensures memory { IfErr result (λ e. e ≡ NoMemory) }
+{
+    if before.contains_key(&session) {
+        return Ok(());
+    }
+    lists.keep_members(alloc, session)?;
+    let copy = Vec::from_slice(alloc, lists.members_of(&session))?;
+    before.insert(session, copy)?;
+    Ok(())
 }
 
 /// Lists the candidate, whose entry for the paper has been set, anew in the paper's session.

@@ -1,5 +1,5 @@
-use Rattle.std.proofs.Common.{sym, ◌∙◌, ap}
-use Rattle.exam_rules.specs.Relations.{Relations, appeal_cmp, relations_of, remove_row}
+use Rattle.std.proofs.Common.{◌∙◌, ap}
+use Rattle.exam_rules.specs.Relations.{appeal_cmp, remove_row}
 use Rattle.exam_office.proofs.Borne.{Borne, removed_mark}
 use Rattle.exam_office.proofs.deciding.marks_without.Goals as goal
 

@@ -1,4 +1,4 @@
-use Rattle.std.proofs.Common.{◌≡◌, ◌&&◌, ◌||◌, Bool, ap, ◌∙◌}
+use Rattle.std.proofs.Common.{◌&&◌, ◌||◌, Bool, ap, ◌∙◌}
 use Rattle.std.specs.BTreeSet.{contains}
 use Rattle.exam_rules.specs.Relations.{Relations, code_cmp, relations_of, same_code}
 use Rattle.exam_rules.specs.Sessions.{is_member}
