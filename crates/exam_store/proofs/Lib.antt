@@ -7,4 +7,6 @@ pub mod PlansTurning
 pub mod Referring
 pub mod Registering
 pub mod Rekeeping
+pub mod Running
+pub mod SameTables
 pub mod Unique
