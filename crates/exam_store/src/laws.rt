@@ -1,9 +1,12 @@
 //! Laws of stored offices.
-ghost use Rattle.std.specs.Prelude.{◌≡◌, ◌⊎◌, ℕ, List, map, Result, Ok, Err};
+ghost use Rattle.std.specs.Prelude.{◌≡◌, ◌⊎◌, ℕ, IsTrue, List, map, Result, Ok, Err, OnOk};
 ghost use Rattle.sqlite_trees.specs.Tree.{Trees};
 ghost use Rattle.sqlite.specs.Effect.{Database};
+ghost use Rattle.sqlite.specs.Held.{Held, state};
+ghost use Rattle.sqlite.specs.State.{HasCleanDisk};
 ghost use Rattle.exam_types.specs.declared.refusal.Refusal.{Refusal};
 ghost use Rattle.exam_types.specs.declared.refusal.Refusal.TheVariants as refusal;
+ghost use Rattle.exam_types.specs.Days.{IsDay};
 ghost use Rattle.exam_rules.specs.Relations.{Code};
 ghost use Rattle.exam_office.specs.declared.command.Command.{Command};
 ghost use Rattle.exam_office.specs.declared.command.Command.TheVariants as command;
@@ -14,11 +17,15 @@ ghost use Rattle.exam_office.specs.declared.command.Reply.{Reply};
 ghost use Rattle.exam_office.specs.declared.command.Reply.TheVariants as reply;
 ghost use Rattle.exam_office.specs.Appeals.{stored_state};
 ghost use Rattle.exam_office.specs.Orders.{IsInOrder};
-ghost use Rattle.exam_office.specs.State.{State};
-ghost use Rattle.exam_office.specs.Steps.{Run};
-ghost use Rattle.exam_store.specs.Applied.{Applies, FailsInStore, MayApply, NoneFails, in_memory};
-ghost use Rattle.exam_store.specs.Kept.{HaveSameTables, Keeps};
+ghost use Rattle.exam_office.specs.State.{State, empty_state};
+ghost use Rattle.exam_office.specs.Steps.{Run, Step};
+ghost use Rattle.exam_store.specs.Applied.{Applies, FailsInStore, IsApplied, MayApply, NoneFails, in_memory};
+ghost use Rattle.exam_store.specs.Kept.{HaveSameTables, IsKept, Keeps};
 ghost use Rattle.exam_store.specs.Refused.{HoldsFormed};
+ghost use Rattle.exam_store.specs.Stops.{HasDays, HasRowDays, IsBeforeOrAfter, IsFoundAs, Reopens};
+ghost use Rattle.exam_store.specs.Stores.{OfficeIn};
+
+use sqlite::Alter;
 
 /// Tables hold one office: two offices in the stored forms with the same rows, in any order, are the same.
 pub fn tables_hold_one_office()
@@ -86,4 +93,36 @@ pub fn repeated_decision_is_applied_once()
         × (second ≡ Err refusal.NotOpenAppeal)))
         ⊎ FailsInStore second)
         × (after ≡ late) }
+{}
+
+/// A store that was open and kept its office stops at any moment of a command, and what the stop left is opened:
+/// the office that opening finds is the one before the command or the one after it. Once the command has answered,
+/// it is the one after it. A stop in the middle of a call is a disk that fails from some call on, so `new` is what
+/// the call gave on such a disk, and `may_leave` of it what a crash may have left on the disk.
+pub fn stopped_command_is_made_or_not<S: Alter, T: Alter>()
+    ensures any_moment { (done : Command) (today : ℕ) (old new : OfficeIn S) (answer : Result Reply Refusal)
+        (was now : Held T) (found : State)
+        → IsInOrder old.office → IsKept (state S.Store old.database) old.office
+        → IsTrue (state S.Store old.database).is_open
+        → IsApplied S.Store done today old answer new → HasCleanDisk (state S.Store new.database)
+        → Reopens (state S.Store new.database) (state T.Store was) (state T.Store now) found
+        → IsBeforeOrAfter done today old.office (state T.Store was).now found }
+    ensures answered { (done : Command) (today : ℕ) (old new : OfficeIn S) (answer : Result Reply Refusal)
+        (was now : Held T) (found : State)
+        → IsInOrder old.office → IsKept (state S.Store old.database) old.office
+        → IsApplied S.Store done today old answer new → HasCleanDisk (state S.Store new.database)
+        → Reopens (state S.Store new.database) (state T.Store was) (state T.Store now) found
+        → OnOk answer (IsFoundAs (state T.Store was).now found new.office) }
+{}
+
+/// The day of each session and of each appeal is one from 2000-01-01 to 2199-12-31 in the empty office and in one
+/// that was opened, and a command on such a day, whose rows have such days, keeps it so. (A `Day` is one, and so is
+/// the day of each `Row`.) So the office that is found after a stop is the one before the command or after it, and
+/// not only one with the same texts in the tables (`IsFoundAs`).
+pub fn offices_have_days()
+    ensures empty { HasDays empty_state.relations }
+    ensures opened { (all : Trees) (office : State) → HoldsFormed all office → HasDays office.relations }
+    ensures kept { (done : Command) (today : ℕ) (before after : State) (first : Reply)
+        → HasDays before.relations → IsDay today → HasRowDays done
+        → Step done today before (Ok first) after → HasDays after.relations }
 {}
