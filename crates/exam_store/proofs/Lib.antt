@@ -1,5 +1,7 @@
 pub mod Applying
+pub mod DaysKept
 pub mod Failing
+pub mod FormedRows
 pub mod KeysHold
 pub mod Marking
 pub mod Newest
@@ -7,4 +9,7 @@ pub mod PlansTurning
 pub mod Referring
 pub mod Registering
 pub mod Rekeeping
+pub mod Reopening
+pub mod Running
+pub mod SameTables
 pub mod Unique

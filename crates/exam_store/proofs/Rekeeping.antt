@@ -80,6 +80,7 @@ pub loaded : (old mid new : Shown) (result : Result State Refusal) → (HasClean
     → (HasCleanDisk new → OnlyReads mid new result) → Survives old mid (λ _. ⊥) → Survives mid new (λ _. ⊥) → IfOk result (Finds old new)
 loaded old mid new (Ok office) before held same known rows understood left first next = record {
   understood = λ clean. (known (before clean), subst (λ (db : Database). AreUnderstood db (version_texts version)) (same (before clean)).0.now_is (understood clean));
+  formed = λ clean all was. (rows clean all (still_made old mid all (same (before clean)) (made_of version old.now all (of_newest old.now all was)))).0;
   newest = λ clean v known all was has. one_version v version all has (held (before clean) all was);
   same = λ clean. unchanged_then old mid new (same (before clean)) (left clean);
   kept = λ clean ours.

@@ -1,5 +1,5 @@
 -- A command that is applied to an office in a database.
-use Rattle.std.specs.Prelude.{◌≡◌, ◌⊎◌, ℕ, IsTrue, List, [], ◌∷◌, Result, Ok, Err, IfErr}
+use Rattle.std.specs.Prelude.{◌≡◌, ◌⊎◌, ℕ, All, IsTrue, List, [], ◌∷◌, Result, Ok, Err, IfErr, if◌then◌else◌}
 use Rattle.sqlite.specs.Effect.{Database}
 use Rattle.sqlite_trees.specs.declared.store.Store.{Ghosts}
 use Rattle.sqlite.specs.Held.{state}
@@ -45,6 +45,20 @@ Applies (done ∷ rest) before (reply ∷ replies) after =
     (mid : State) × MayApply done.0 done.1 before reply mid × Applies rest mid replies after
 Applies [] before (reply ∷ replies) after = ⊥
 Applies (done ∷ rest) before [] after = ⊥
+
+-- the store refused the command: there is no memory, or the database failed
+abbrev pub FailsInStore : Result Reply Refusal → Type 0
+FailsInStore (Ok reply) = ⊥
+FailsInStore (Err e) = IsTrue (is_store_refusal e)
+
+-- the store refused no command
+abbrev pub NoneFails : List (Result Reply Refusal) → Type 0
+NoneFails replies = All (λ reply. FailsInStore reply → ⊥) replies
+
+-- the same answer where the office is in memory alone: there a refusal by the store is one for want of memory
+abbrev pub in_memory : Result Reply Refusal → Result Reply Refusal
+in_memory (Ok reply) = Ok reply
+in_memory (Err e) = Err (if is_store_refusal e then NoMemory else e)
 
 -- ---- over an office in a database
 

@@ -11,7 +11,7 @@ use Rattle.exam_office.specs.Good.{IsGood}
 use Rattle.exam_office.specs.State.{State as Office, empty_state}
 use Rattle.exam_tables.specs.Made.{ContainsMade}
 use Rattle.exam_tables.specs.Texts.{held_texts, load_office, load_standing, load_texts}
-use Rattle.exam_rows.specs.Inside.{IsOurs}
+use Rattle.exam_rows.specs.Inside.{Contains, IsOurs}
 use Rattle.exam_store.specs.Kept.{Keeps}
 use Rattle.exam_rows.specs.Loaded.{AreUnderstood, FailsThen, IsLoadRefusal, IsMadeHere}
 use Rattle.exam_rows.specs.Versions.{ContainsOf, FailsToMake, HasVersion, IsVersion, marks_since, version}
@@ -22,11 +22,12 @@ use Rattle.exam_store.specs.Refused.{HoldsFormed, HoldsNone}
 abbrev pub IsNoOlder : Database → Type 0
 IsNoOlder db = (v : ℕ) → IsVersion v → (all : Trees) → ContainsMade db all → HasVersion v all → v ≡ version
 
--- No table or column is missing, where the tables are ours they keep the office, and the office is of no older
--- version; nothing changes, also over a crash.
+-- No table or column is missing, where the tables are ours they keep the office, whose values have the forms of
+-- their columns, and the office is of no older version; nothing changes, also over a crash.
 pub record Finds (old new : State) (office : Office) : Type 0 where
   pub understood : HasCleanDisk new → AreUnderstood old.now load_texts
   pub kept : HasCleanDisk new → IsOurs old.now → Keeps old.now office
+  pub formed : HasCleanDisk new → (all : Trees) → Contains old.now all → HoldsFormed all office
   pub newest : HasCleanDisk new → IsNoOlder old.now
   pub same : HasCleanDisk new → IsUnchanged old new
   pub survives : Survives old new (λ _. ⊥)

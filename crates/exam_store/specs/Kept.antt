@@ -1,5 +1,5 @@
 -- The database that keeps an office.
-use Rattle.std.specs.Prelude.{◌≡◌}
+use Rattle.std.specs.Prelude.{◌≡◌, ◌↔◌}
 use Rattle.sqlite_trees.specs.Tree.{Trees}
 use Rattle.sqlite.specs.Effect.{Database}
 use Rattle.sqlite.specs.State.{State, HasCleanDisk}
@@ -43,3 +43,8 @@ IsKept s office = Keeps s.now office × (s.committed ≡ s.now)
 -- the tables that are seen keep the office, where they are ours
 abbrev pub KeepsOurs : State → Office → Type 0
 KeepsOurs s office = HasCleanDisk s → IsOurs s.now → Keeps s.now office
+
+-- the eleven tables are there in both, with the same rows in any order
+pub record HaveSameTables (here there : Database) : Type 0 where
+  pub ours : IsOurs here
+  pub same : (all : Trees) → Contains here all ↔ Contains there all

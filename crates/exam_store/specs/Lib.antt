@@ -6,10 +6,12 @@
 -- - Found: what opening finds: the office that the tables keep, or why there is none
 -- - Applied: a command on an office in a database: its step or a failure of the store; lists of
 --   commands
+-- - Stops: what the next run opens after a stop in the middle of a command
 -- - Stores: what contracts see of a store: its office, and its connection
 pub mod Applied
 pub mod Found
 pub mod Kept
 pub mod Refused
 pub mod Saves
+pub mod Stops
 pub mod Stores

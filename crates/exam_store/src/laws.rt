@@ -1,10 +1,128 @@
 //! Laws of stored offices.
-ghost use Rattle.std.specs.Prelude.{◌≡◌};
+ghost use Rattle.std.specs.Prelude.{◌≡◌, ◌⊎◌, ℕ, IsTrue, List, map, Result, Ok, Err, OnOk};
 ghost use Rattle.sqlite_trees.specs.Tree.{Trees};
-ghost use Rattle.exam_office.specs.State.{State};
+ghost use Rattle.sqlite.specs.Effect.{Database};
+ghost use Rattle.sqlite.specs.Held.{Held, state};
+ghost use Rattle.sqlite.specs.State.{HasCleanDisk};
+ghost use Rattle.exam_types.specs.declared.refusal.Refusal.{Refusal};
+ghost use Rattle.exam_types.specs.declared.refusal.Refusal.TheVariants as refusal;
+ghost use Rattle.exam_types.specs.Days.{IsDay};
+ghost use Rattle.exam_rules.specs.Relations.{Code};
+ghost use Rattle.exam_office.specs.declared.command.Command.{Command};
+ghost use Rattle.exam_office.specs.declared.command.Command.TheVariants as command;
+ghost use Rattle.exam_office.specs.declared.command.AppealState.TheVariants as appeal;
+ghost use Rattle.exam_office.specs.declared.command.Decision.{Decision};
+ghost use Rattle.exam_office.specs.declared.command.Lodging.{Lodging};
+ghost use Rattle.exam_office.specs.declared.command.Reply.{Reply};
+ghost use Rattle.exam_office.specs.declared.command.Reply.TheVariants as reply;
+ghost use Rattle.exam_office.specs.Appeals.{stored_state};
+ghost use Rattle.exam_office.specs.Orders.{IsInOrder};
+ghost use Rattle.exam_office.specs.State.{State, empty_state};
+ghost use Rattle.exam_office.specs.Steps.{Run, Step};
+ghost use Rattle.exam_store.specs.Applied.{Applies, FailsInStore, IsApplied, MayApply, NoneFails, in_memory};
+ghost use Rattle.exam_store.specs.Kept.{HaveSameTables, IsKept, Keeps};
 ghost use Rattle.exam_store.specs.Refused.{HoldsFormed};
+ghost use Rattle.exam_store.specs.Stops.{HasDays, HasRowDays, IsBeforeOrAfter, IsFoundAs, Reopens};
+ghost use Rattle.exam_store.specs.Stores.{OfficeIn};
+
+use sqlite::Alter;
 
 /// Tables hold one office: two offices in the stored forms with the same rows, in any order, are the same.
 pub fn tables_hold_one_office()
     ensures { (all : Trees) (a b : State) → HoldsFormed all a → HoldsFormed all b → a ≡ b }
+{}
+
+/// A list of commands over a store is one over an office in memory, with the same replies, but that memory runs
+/// out there where the store refuses a command here. So each law over lists in memory holds of a store.
+pub fn applied_lists_are_runs()
+    ensures { (done : List (Command × ℕ)) (before after : State) (replies : List (Result Reply Refusal))
+        → Applies done before replies after → Run done before (map in_memory replies) after }
+{}
+
+/// A list of commands gives from one office the same replies and the same office in whatever stores it is applied,
+/// as long as no store refuses a command. Databases that keep the offices have the same tables then.
+pub fn applied_list_gives_one_office()
+    ensures office { (done : List (Command × ℕ)) (before one other : State)
+        (first second : List (Result Reply Refusal)) → NoneFails first → NoneFails second
+        → Applies done before first one → Applies done before second other
+        → (first ≡ second) × (one ≡ other) }
+    ensures tables { (done : List (Command × ℕ)) (before one other : State)
+        (first second : List (Result Reply Refusal)) (here there : Database)
+        → NoneFails first → NoneFails second
+        → Applies done before first one → Applies done before second other
+        → Keeps here one → Keeps there other → HaveSameTables here there }
+{}
+
+/// After an accepted lodging in a store the same lodging, at any later moment, on any day and after any commands
+/// between, answered or refused, changes nothing. It answers where the appeal is by then, unless the store refuses
+/// it. The office of a store is in order (`Store::show_good`).
+pub fn repeated_lodging_is_applied_once()
+    ensures { (lodging : Lodging) (day later : ℕ) (before mid late after : State) (first : Reply)
+        (done : List (Command × ℕ)) (replies : List (Result Reply Refusal)) (second : Result Reply Refusal)
+        → IsInOrder late → IsInOrder after
+        → MayApply (command.Lodge lodging) day before (Ok first) mid
+        → Applies done mid replies late
+        → MayApply (command.Lodge lodging) later late second after
+        → ((second ≡ Ok (reply.Lodged (stored_state late.relations lodging.number lodging.reference)))
+        ⊎ FailsInStore second)
+        × (after ≡ late) }
+{}
+
+/// The same of a retraction, which answers once more that the appeal is retracted.
+pub fn repeated_retraction_is_applied_once()
+    ensures { (number : ℕ) (reference : Code) (day later : ℕ) (before mid late after : State) (first : Reply)
+        (done : List (Command × ℕ)) (replies : List (Result Reply Refusal)) (second : Result Reply Refusal)
+        → IsInOrder late → IsInOrder after
+        → MayApply (command.Retract number reference) day before (Ok first) mid
+        → Applies done mid replies late
+        → MayApply (command.Retract number reference) later late second after
+        → ((second ≡ Ok reply.Retracted) ⊎ FailsInStore second) × (after ≡ late) }
+{}
+
+/// The same of a decision, which answers that it is unchanged or, where a later grant has superseded the appeal,
+/// that it is not open.
+pub fn repeated_decision_is_applied_once()
+    ensures { (decision : Decision) (day later : ℕ) (before mid late after : State) (first : Reply)
+        (done : List (Command × ℕ)) (replies : List (Result Reply Refusal)) (second : Result Reply Refusal)
+        → IsInOrder late → IsInOrder after
+        → MayApply (command.Decide decision) day before (Ok first) mid
+        → Applies done mid replies late
+        → MayApply (command.Decide decision) later late second after
+        → (((second ≡ Ok reply.Unchanged)
+        ⊎ ((stored_state late.relations decision.number decision.reference ≡ appeal.Superseded)
+        × (second ≡ Err refusal.NotOpenAppeal)))
+        ⊎ FailsInStore second)
+        × (after ≡ late) }
+{}
+
+/// A store that was open and kept its office stops at any moment of a command, and what the stop left is opened:
+/// the office that opening finds is the one before the command or the one after it. Once the command has answered,
+/// it is the one after it. A stop in the middle of a call is a disk that fails from some call on, so `new` is what
+/// the call gave on such a disk, and `may_leave` of it what a crash may have left on the disk.
+pub fn stopped_command_is_made_or_not<S: Alter, T: Alter>()
+    ensures any_moment { (done : Command) (today : ℕ) (old new : OfficeIn S) (answer : Result Reply Refusal)
+        (was now : Held T) (found : State)
+        → IsInOrder old.office → IsKept (state S.Store old.database) old.office
+        → IsTrue (state S.Store old.database).is_open
+        → IsApplied S.Store done today old answer new → HasCleanDisk (state S.Store new.database)
+        → Reopens (state S.Store new.database) (state T.Store was) (state T.Store now) found
+        → IsBeforeOrAfter done today old.office (state T.Store was).now found }
+    ensures answered { (done : Command) (today : ℕ) (old new : OfficeIn S) (answer : Result Reply Refusal)
+        (was now : Held T) (found : State)
+        → IsInOrder old.office → IsKept (state S.Store old.database) old.office
+        → IsApplied S.Store done today old answer new → HasCleanDisk (state S.Store new.database)
+        → Reopens (state S.Store new.database) (state T.Store was) (state T.Store now) found
+        → OnOk answer (IsFoundAs (state T.Store was).now found new.office) }
+{}
+
+/// The day of each session and of each appeal is one from 2000-01-01 to 2199-12-31 in the empty office and in one
+/// that was opened, and a command on such a day, whose rows have such days, keeps it so. (A `Day` is one, and so is
+/// the day of each `Row`.) So the office that is found after a stop is the one before the command or after it, and
+/// not only one with the same texts in the tables (`IsFoundAs`).
+pub fn offices_have_days()
+    ensures empty { HasDays empty_state.relations }
+    ensures opened { (all : Trees) (office : State) → HoldsFormed all office → HasDays office.relations }
+    ensures kept { (done : Command) (today : ℕ) (before after : State) (first : Reply)
+        → HasDays before.relations → IsDay today → HasRowDays done
+        → Step done today before (Ok first) after → HasDays after.relations }
 {}

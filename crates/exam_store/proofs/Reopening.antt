@@ -1,0 +1,64 @@
+-- What the next run opens after a stop in the middle of a command.
+use Rattle.std.proofs.Common.{◌≡◌, ℕ, Result, Ok, Err, OnOk, inl, inr, sym, ap, subst, ◌∙◌}
+use Rattle.std.specs.List.{AllByRecursion}
+use Rattle.sqlite_trees.specs.Tree.{Trees}
+use Rattle.sqlite.specs.Effect.{Database}
+use Rattle.sqlite.specs.State.{State as Shown, HasCleanDisk}
+use Rattle.exam_types.specs.declared.refusal.Refusal.{Refusal}
+use Rattle.exam_tables.specs.Content.{Holds, places}
+use Rattle.exam_tables.specs.Tables.{store_schema}
+use Rattle.exam_rules.specs.Relations.{Relations}
+use Rattle.exam_office.specs.declared.command.Command.{Command}
+use Rattle.exam_office.specs.declared.command.Reply.{Reply}
+use Rattle.exam_office.specs.Orders.{IsInOrder}
+use Rattle.exam_office.specs.State.{State}
+use Rattle.exam_office.specs.Steps.{Step, StepTo, change}
+use Rattle.exam_office.proofs.OneResult.{one_result}
+use Rattle.exam_rows.specs.Inside.{IsOurs}
+use Rattle.exam_rows.specs.Transactions.{Commits}
+use Rattle.exam_store.specs.Applied.{MayApply, TurnsBy}
+use Rattle.exam_store.specs.Kept.{IsKept, Keeps}
+use Rattle.exam_store.specs.Stops.{IsBeforeOrAfter, IsFoundAs, Reopens}
+use Rattle.exam_store.proofs.FormedRows.{same_office}
+
+-- the office after an accepted command is in order
+in_order : (done : Command) (today : ℕ) (before after : State) (reply : Reply) → Step done today before (Ok reply) after → IsInOrder after
+in_order done today before after reply step = inner (change done today before) step
+  where
+    inner : (outcome : Result Relations Refusal) → StepTo done before (Ok reply) after outcome → IsInOrder after
+    inner (Ok r) made = made.3
+    inner (Err e) made = let differ : Ok reply ≡ Err e = made.0 in absurd cc
+
+-- other trees that are the same keep the same office
+moved : (db other : Database) (office : State) → Keeps db office → other.trees ≡ db.trees → IsOurs other → Keeps other office
+moved db other office keeps same ours = record {
+  all = keeps.all;
+  contains = record {
+    schema_is = ours.1.schema_is;
+    rows = subst (λ (trees : Trees). AllByRecursion (λ t. Holds (places t) (trees t.tree) (keeps.all t.tree)) store_schema.tables) (sym same) keeps.contains.rows;
+  };
+  version = keeps.version;
+  held = keeps.held;
+}
+
+module _ (crashed was now : Shown) (found : State) (opens : Reopens crashed was now found) where
+  found_as : (db : Database) (office : State) → Keeps db office → was.now.trees ≡ db.trees → IsInOrder office → IsFoundAs was.now found office
+  found_as db office keeps same order =
+      let kept = moved db was.now office keeps same opens.ours in
+      record { kept = kept; same = λ days. same_office kept.all found office (opens.finds.formed opens.clean kept.all kept.contains) kept.held order days }
+
+  module _ (done : Command) (today : ℕ) (old : Shown) (before : State) (order : IsInOrder before) (kept : IsKept old before) (clean : HasCleanDisk crashed) where
+    pub before_or_after : (reply : Result Reply Refusal) → Commits old crashed reply (TurnsBy done today before) → ((trees : Trees) → old.may_leave trees → trees ≡ old.committed.trees) → IsBeforeOrAfter done today before was.now found
+    before_or_after reply commits settled = elim (commits.survives.crash clean was.now.trees opens.left) [
+      | inl earlier ↦ inl (found_as old.now before kept.0 (settled was.now.trees earlier ∙ ap (λ (db : Database). db.trees) kept.1) order)
+      | inr turned ↦ let made = turned.1 in inr (made.0, made.1, made.2, found_as turned.0 made.1 (made.3 kept.0) turned.2 (in_order done today before made.1 made.0 made.2))
+    ]
+
+    pub after_answer : (reply : Result Reply Refusal) (after : State) → Commits old crashed reply (TurnsBy done today before) → MayApply done today before reply after → OnOk reply (IsFoundAs was.now found after)
+    after_answer (Err e) after commits step = tt
+    after_answer (Ok reply) after commits step =
+        let turned = commits.turned clean in
+        let made = turned.0 in
+        let same : made.1 ≡ after = (one_result done before made.1 after (Ok made.0) (Ok reply) today made.2 step).1 in
+        let keeps : Keeps crashed.now after = subst (Keeps crashed.now) same (made.3 kept.0) in
+        found_as crashed.now after keeps (commits.settled clean was.now.trees opens.left ∙ ap (λ (db : Database). db.trees) turned.1) (in_order done today before after reply step)

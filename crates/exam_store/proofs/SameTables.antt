@@ -1,0 +1,49 @@
+-- Two databases that keep one office have the same tables.
+use Rattle.std.proofs.Common.{List, [], ◌∷◌}
+use Rattle.std.specs.List.{AllByRecursion}
+use Rattle.std.specs.List.Sorted.{IsPermutation}
+use Rattle.std.proofs.lemmas.List.Sorted.{IsPermutation-refl, IsPermutation-sym, IsPermutation-trans}
+use Rattle.sqlite_value.specs.Order.{Row}
+use Rattle.sqlite_trees.specs.Tree.{Trees}
+use Rattle.sqlite_schema.specs.declared.schema.Table.{Table}
+use Rattle.sqlite.specs.Effect.{Database}
+use Rattle.exam_tables.specs.Content.{Holds, places}
+use Rattle.exam_tables.specs.Tables.{store_schema, stored_office, stored_session, stored_paper, stored_hall, stored_candidate, stored_opening, stored_entry, stored_arrangement, stored_appeal, stored_seat, stored_standing}
+use Rattle.exam_office.specs.State.{State}
+use Rattle.exam_rows.specs.Inside.{Contains}
+use Rattle.exam_store.specs.Kept.{HaveSameTables, Keeps}
+
+-- the rows that are meant of one database are meant of another with the same ones
+carried : (tables : List Table) (here there one other all : Trees) → AllByRecursion (λ t. IsPermutation (one t.tree) (other t.tree)) tables
+    → AllByRecursion (λ t. Holds (places t) (here t.tree) (one t.tree)) tables → AllByRecursion (λ t. Holds (places t) (there t.tree) (other t.tree)) tables
+    → AllByRecursion (λ t. Holds (places t) (here t.tree) (all t.tree)) tables → AllByRecursion (λ t. Holds (places t) (there t.tree) (all t.tree)) tables
+carried [] here there one other all same of_here of_there meant = tt
+carried (t ∷ tables) here there one other all same of_here of_there meant = (
+  record {
+    shaped = of_there.0.shaped;
+    same = IsPermutation-trans _ _ _ of_there.0.same (IsPermutation-trans _ _ _ (IsPermutation-sym _ _ same.0) (IsPermutation-trans _ _ _ (IsPermutation-sym _ _ of_here.0.same) meant.0.same));
+  },
+  carried tables here there one other all same.1 of_here.1 of_there.1 meant.1,
+)
+
+-- what holds of each of the eleven tables
+each_table : (P : Table → Type 0) → P stored_office → P stored_session → P stored_paper → P stored_hall → P stored_candidate → P stored_opening → P stored_entry → P stored_arrangement → P stored_appeal → P stored_seat → P stored_standing → AllByRecursion P store_schema.tables
+unfolding store_schema
+each_table P office session paper hall candidate opening entry arrangement appeal seat standing = (office, (session, (paper, (hall, (candidate, (opening, (entry, (arrangement, (appeal, (seat, (standing, tt)))))))))))
+
+both : (xs ys rows : List Row) → IsPermutation xs rows → IsPermutation ys rows → IsPermutation xs ys
+both xs ys rows here there = IsPermutation-trans xs rows ys here (IsPermutation-sym ys rows there)
+
+module _ (here there : Database) (office : State) (one : Keeps here office) (other : Keeps there office) where
+  same_rows : AllByRecursion (λ t. IsPermutation (one.all t.tree) (other.all t.tree)) store_schema.tables
+  same_rows =
+      let x = one.held.facts in
+      let y = other.held.facts in
+      each_table (λ t. IsPermutation (one.all t.tree) (other.all t.tree)) (rw (one.version, other.version) (IsPermutation-refl _)) (both _ _ _ x.sessions y.sessions) (both _ _ _ x.papers y.papers) (both _ _ _ x.halls y.halls) (both _ _ _ x.candidates y.candidates)
+      (both _ _ _ x.openings y.openings) (both _ _ _ x.entries y.entries) (both _ _ _ x.arrangements y.arrangements) (both _ _ _ x.appeals y.appeals) (both _ _ _ one.held.seats other.held.seats) (both _ _ _ x.standing y.standing)
+
+  over : (all : Trees) → Contains here all → Contains there all
+  over all meant = record { schema_is = other.contains.schema_is; rows = carried store_schema.tables here.trees there.trees one.all other.all all same_rows one.contains.rows other.contains.rows meant.rows }
+
+pub same_tables : (here there : Database) (office : State) → Keeps here office → Keeps there office → HaveSameTables here there
+same_tables here there office one other = record { ours = (one.all, one.contains); same = λ all. (over here there office one other all, over there here office other one all) }

@@ -1,0 +1,53 @@
+-- A stop in the middle of a command, and what the next run opens.
+use Rattle.std.specs.Prelude.{◌≡◌, ◌⊎◌, ℕ, All, Ok}
+use Rattle.std.specs.Map.{values_of}
+use Rattle.sqlite.specs.Effect.{Database}
+use Rattle.sqlite.specs.State.{State as Shown, HasCleanDisk}
+use Rattle.exam_types.specs.Days.{IsDay}
+use Rattle.exam_rules.specs.declared.rows.Appeal.{Appeal}
+use Rattle.exam_rules.specs.declared.rows.Session.{Session}
+use Rattle.exam_rules.specs.Relations.{Relations}
+use Rattle.exam_office.specs.declared.command.Command.{Command}
+use Rattle.exam_office.specs.declared.command.Command.TheVariants as command
+use Rattle.exam_office.specs.declared.command.Reply.{Reply}
+use Rattle.exam_office.specs.declared.import_row.Row.{Row}
+use Rattle.exam_office.specs.declared.import_row.Row.TheVariants as row
+use Rattle.exam_office.specs.State.{State}
+use Rattle.exam_office.specs.Steps.{Step}
+use Rattle.exam_rows.specs.Inside.{IsOurs}
+use Rattle.exam_store.specs.Found.{Finds}
+use Rattle.exam_store.specs.Kept.{Keeps}
+
+-- The day of each session and of each appeal is one from 2000-01-01 to 2199-12-31: only these have texts of their own
+-- in the tables.
+pub record HasDays (r : Relations) : Type 0 where
+  pub sessions : All (λ (x : Session). IsDay x.day) (values_of r.sessions)
+  pub appeals : All (λ (a : Appeal). IsDay a.lodged) (values_of r.appeals)
+
+abbrev pub HasRowDay : Row → Type 0
+HasRowDay (row.OfSession s x) = IsDay x.day
+HasRowDay _ = Unit {0}
+
+-- the rows of an import have such days
+abbrev pub HasRowDays : Command → Type 0
+HasRowDays (command.Import import) = All HasRowDay import.rows
+HasRowDays _ = Unit {0}
+
+-- What a crash at this moment may leave is opened, and this office is found in it: on a disk that returns what was
+-- written, where the tables are ours.
+pub record Reopens (crashed was now : Shown) (found : State) : Type 0 where
+  pub left : crashed.may_leave was.now.trees
+  pub ours : IsOurs was.now
+  pub clean : HasCleanDisk now
+  pub finds : Finds was now found
+
+-- The database keeps that office. It is the one that was found in it, if its days are such days.
+pub record IsFoundAs (db : Database) (found office : State) : Type 0 where
+  pub kept : Keeps db office
+  pub same : HasDays office.relations → found ≡ office
+
+-- the office that was found is the one before the command or, made by its step, the one after it
+abbrev pub IsBeforeOrAfter : Command → ℕ → State → Database → State → Type 0
+IsBeforeOrAfter done today before db found =
+    IsFoundAs db found before
+    ⊎ ((reply : Reply) × (after : State) × Step done today before (Ok reply) after × IsFoundAs db found after)
