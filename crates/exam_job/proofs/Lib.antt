@@ -2,3 +2,4 @@ pub mod Given
 pub mod Shown
 pub mod Imported
 pub mod Streaming
+pub mod OneCommand

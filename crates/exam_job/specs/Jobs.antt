@@ -6,7 +6,6 @@ use Rattle.exam_types.specs.declared.refusal.Refusal.{Refusal}
 use Rattle.exam_types.specs.declared.refusal.Refusal.TheVariants.{NoMemory}
 use Rattle.exam_office.specs.declared.command.Command.{Command}
 use Rattle.exam_office.specs.declared.command.Command.TheVariants as command
-use Rattle.exam_office.specs.declared.command.Decision.{Decision}
 use Rattle.exam_office.specs.declared.command.Reply.{Reply}
 use Rattle.exam_office.specs.declared.import_row.Kind.{Kind}
 use Rattle.exam_office.specs.Imports.{ImportRows}
@@ -44,19 +43,13 @@ abbrev pub TellsReply : {W : Type 0} → (W → Option (List ℕ)) → Result Re
 TellsReply contents (Ok reply) before result after = Prints contents (reply_text reply) before result after
 TellsReply contents (Err refusal) before result after = (result ≡ Err (Refused refusal)) × (after ≡ before)
 
--- a command, carried out and told
+-- a command, carried out and told; where memory is short before it, nothing is done
 abbrev pub Commands : {S W : Type 0} → Ghosts S → (W → Option (List ℕ)) → Command → ℕ
     → OfficeIn S → W → Result (Unit {0}) JobFault → OfficeIn S → W → Type 0
 Commands g contents done today old before result new after =
-    (answered : Result Reply Refusal) × IsCarriedOut g done today old answered new
-    × TellsReply contents answered before result after
-
--- a decision, carried out and told; where memory is short before it, nothing is done
-abbrev pub Decides : {S W : Type 0} → Ghosts S → (W → Option (List ℕ)) → Decision → ℕ
-    → OfficeIn S → W → Result (Unit {0}) JobFault → OfficeIn S → W → Type 0
-Decides g contents decision today old before result new after =
     Stops (Refused NoMemory) old before result new after
-    ⊎ Commands g contents (command.Decide decision) today old before result new after
+    ⊎ ((answered : Result Reply Refusal) × IsCarriedOut g done today old answered new
+    × TellsReply contents answered before result after)
 
 -- the import that a file denotes, or its refusal
 abbrev pub Imports : {S W : Type 0} → Ghosts S → (W → Option (List ℕ)) → Result ImportRows Refusal → ℕ
@@ -94,7 +87,7 @@ Does g contents (line.reinstate number paper) today input rest old before result
 Does g contents (line.close_hall session hall) today input rest old before result new after =
     (rest ≡ input) × Commands g contents (command.CloseHall session hall) today old before result new after
 Does g contents (line.decide decision) today input rest old before result new after =
-    (rest ≡ input) × Decides g contents decision today old before result new after
+    (rest ≡ input) × Commands g contents (command.Decide decision) today old before result new after
 Does g contents (line.serve port) today input rest old before result new after =
     (rest ≡ input) × (new ≡ old) × (result ≡ Ok tt) × (after ≡ before)
 Does g contents line.migrate today input rest old before result new after =

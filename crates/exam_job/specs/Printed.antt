@@ -1,5 +1,5 @@
 -- The lines that the program prints.
-use Rattle.std.specs.Prelude.{◌≡◌, ◌==◌, ℕ, List, if◌then◌else◌, ◌++◌, Option, Result, Ok, Err, codes, string_bytes}
+use Rattle.std.specs.Prelude.{◌≡◌, ◌==◌, ◌⊎◌, ℕ, List, if◌then◌else◌, ◌++◌, Option, Result, Ok, Err, codes, string_bytes}
 use Rattle.std.specs.Fmt.{decimal}
 use Rattle.std.specs.Io.KnownBytes.{Appends, Keeps}
 use Rattle.exam_types.specs.Days.{day_text}
@@ -17,7 +17,7 @@ use Rattle.exam_line.specs.declared.line.LineFault.{LineFault}
 use Rattle.exam_line.specs.declared.line.LineFault.TheVariants as line
 use Rattle.exam_rows.specs.declared.send_fault.SendFault.{SendFault}
 use Rattle.exam_rows.specs.declared.send_fault.SendFault.TheVariants as sent
-use Rattle.exam_send.specs.Sending.{AppendsBeginning}
+use Rattle.exam_send.specs.Sending.{AppendsBeginning, AppendsPart}
 use Rattle.exam_job.specs.declared.report.JobFault.{JobFault}
 use Rattle.exam_job.specs.declared.report.JobFault.TheVariants as fault
 
@@ -126,12 +126,16 @@ Flushes contents before (Ok done) after = Keeps (contents before) (contents afte
 Flushes contents before (Err failed) after =
     (failed ≡ fault.Write) × Keeps (contents before) (contents after)
 
--- the exit status, and what standard error has: nothing new, or the fault's line, of which a beginning goes out
--- where that writer fails too
+-- a line on standard error: all of it, or not all where that writer fails
+abbrev pub IsTold : {W : Type 0} → (W → Option (List ℕ)) → List ℕ → W → W → Type 0
+IsTold contents line before after =
+    Appends (contents before) (contents after) line ⊎ AppendsPart (contents before) (contents after) line
+
+-- the exit status, and what standard error has: nothing new, or the fault's line
 abbrev pub Reports : {W : Type 0} → (W → Option (List ℕ)) → Result (Unit {0}) JobFault → W → ℕ → W → Type 0
 Reports contents (Ok done) before status after = (status ≡ 0) × (after ≡ before)
 Reports contents (Err failed) before status after =
-    (status ≡ 1) × AppendsBeginning (contents before) (contents after) (fault_text failed)
+    (status ≡ 1) × IsTold contents (fault_text failed) before after
 
 -- what a writer of this type has taken, where that is known
 abbrev pub Contents : Type 0 → Type 0
@@ -148,6 +152,6 @@ abbrev pub ReportsNoLine : {O E : Type 0} → Contents O → Contents E → Line
 ReportsNoLine contents errors (line.Help text) before untold status after told =
     ReportsHelp contents errors (string_bytes text) before untold status after told
 ReportsNoLine contents errors line.NotUnderstood before untold status after told =
-    (after ≡ before) × (status ≡ 2) × AppendsBeginning (errors untold) (errors told) not_understood_text
+    (after ≡ before) × (status ≡ 2) × IsTold errors not_understood_text untold told
 ReportsNoLine contents errors line.NoMemory before untold status after told =
     (after ≡ before) × Reports errors (Err (fault.Refused NoMemory)) untold status told

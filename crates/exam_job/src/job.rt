@@ -1,6 +1,9 @@
 //! The commands of the program, over any store, reader and writers.
 ghost use Rattle.std.specs.Prelude.{◌≡◌, IfOk, IfErr};
 ghost use Rattle.exam_types.specs.declared.refusal.Refusal.TheVariants.{NoMemory};
+ghost use Rattle.exam_rules.specs.Relations.{Code};
+ghost use Rattle.exam_office.specs.Headline.{IsSeated};
+ghost use Rattle.exam_office.specs.declared.command.Command.TheVariants.{Decide};
 ghost use Rattle.exam_line.specs.Lines.{shown, task_shown};
 ghost use Rattle.exam_job.specs.Jobs as spec;
 
@@ -18,7 +21,7 @@ use std::alloc::Global;
 use std::io::{Read, Write};
 
 /// Carries out the line's command over the store, and gives the exit status. The reader is the import file; the writers
-/// are standard output and standard error.
+/// are standard output and standard error. Whatever became of the line, every session is seated as promised.
 pub fn run_job<S: Alter, R: Read, O: Write, E: Write>(
     alloc: Global,
     line: &Line<'_>,
@@ -27,8 +30,9 @@ pub fn run_job<S: Alter, R: Read, O: Write, E: Write>(
     out: &mut O,
     err: &mut E,
 ) -> u8
-    ensures { spec.Runs S.Store O.contents E.contents (shown line.now) (R.remaining reader.old)
+    ensures runs { spec.Runs S.Store O.contents E.contents (shown line.now) (R.remaining reader.old)
         (R.remaining reader.new) store.old out.old err.old result store.new out.new err.new }
+    ensures headline { (s : Code) → IsSeated store.new.office s }
 {
     match carry_out(alloc, line, store, reader, out) {
         Ok(()) => DONE,
@@ -37,7 +41,25 @@ pub fn run_job<S: Alter, R: Read, O: Write, E: Write>(
 }
 
 /// Carries out the line's command over the store. After `Write` a command stands, though its line went out in part.
+/// Whatever it answers, every session is seated as promised.
 pub fn carry_out<S: Alter, R: Read, O: Write>(
+    alloc: Global,
+    line: &Line<'_>,
+    store: &mut Store<S>,
+    reader: &mut R,
+    out: &mut O,
+) -> Result<(), JobFault>
+    ensures does { spec.Does S.Store O.contents (task_shown line.now.job) line.now.today (R.remaining reader.old)
+        (R.remaining reader.new) store.old out.old result store.new out.new }
+    ensures headline { (s : Code) → IsSeated store.new.office s }
+{
+    let done = carry_out_job(alloc, line, store, reader, out);
+    store.show_seated();
+    done
+}
+
+/// Carries out the line's command over the store.
+fn carry_out_job<S: Alter, R: Read, O: Write>(
     alloc: Global,
     line: &Line<'_>,
     store: &mut Store<S>,
@@ -53,15 +75,15 @@ pub fn carry_out<S: Alter, R: Read, O: Write>(
         Job::Import { kind, .. } => import(alloc, store, *kind, line.today, reader, out),
         Job::Withdraw { number, paper } => {
             let command = Command::Withdraw(*number, *paper);
-            carry_out_command(alloc, store, &command, line.today, out)
+            carry_out_command(alloc, store, command, line.today, out)
         }
         Job::Reinstate { number, paper } => {
             let command = Command::Reinstate(*number, *paper);
-            carry_out_command(alloc, store, &command, line.today, out)
+            carry_out_command(alloc, store, command, line.today, out)
         }
         Job::CloseHall { session, hall } => {
             let command = Command::CloseHall(*session, *hall);
-            carry_out_command(alloc, store, &command, line.today, out)
+            carry_out_command(alloc, store, command, line.today, out)
         }
         Job::Decide(decision) => decide(alloc, store, decision, line.today, out),
         // The program itself serves, over sockets, and migrates, before the office is open: there is nothing to do
@@ -88,7 +110,7 @@ fn import<S: Alter, R: Read, O: Write>(
         store.old out.old result store.new out.new }
 {
     let import = read_import_file(alloc, kind, reader)?;
-    carry_out_command(alloc, store, &Command::Import(import), today, out)
+    carry_out_command(alloc, store, Command::Import(import), today, out)
 }
 
 /// Carries out a decision, which the command takes a copy of.
@@ -99,10 +121,10 @@ fn decide<S: Alter, O: Write>(
     today: Day,
     out: &mut O,
 ) -> Result<(), JobFault>
-    ensures { spec.Decides S.Store O.contents decision.now today store.old out.old result store.new out.new }
+    ensures { spec.Commands S.Store O.contents (Decide decision.now) today store.old out.old result store.new out.new }
 {
     let command = Command::Decide(copy_of(decision)?);
-    carry_out_command(alloc, store, &command, today, out)
+    carry_out_command(alloc, store, command, today, out)
 }
 
 fn copy_of(decision: &Decision) -> Result<Decision, Refusal>
@@ -117,17 +139,20 @@ fn copy_of(decision: &Decision) -> Result<Decision, Refusal>
     })
 }
 
-/// Carries out a command of the office, and prints what it answers.
+/// Carries out a command of the office as a list of one, and prints what it answers.
 fn carry_out_command<S: Alter, O: Write>(
     alloc: Global,
     store: &mut Store<S>,
-    command: &Command,
+    command: Command,
     today: Day,
     out: &mut O,
 ) -> Result<(), JobFault>
-    ensures { spec.Commands S.Store O.contents command.now today store.old out.old result store.new out.new }
+    ensures { spec.Commands S.Store O.contents command today store.old out.old result store.new out.new }
 {
-    tell(store.apply(alloc, command, today), out)
+    let commands = [(command, today)];
+    let mut answers = store.apply_all(alloc, &commands)?;
+    // One command has one answer.
+    tell(answers.pop().unwrap(), out)
 }
 
 /// Prints what a command answered; a refusal is told elsewhere.

@@ -1,7 +1,8 @@
 //! What the program tells on its outputs, and its exit statuses.
-ghost use Rattle.std.specs.Prelude.{◌≡◌, Err};
+ghost use Rattle.std.specs.Prelude.{◌≡◌, Err, OnOk, OnErr};
+ghost use Rattle.std.specs.Io.KnownBytes.{Appends};
 ghost use Rattle.exam_files.specs.declared.sheet_fault.SheetFault.{SheetFault};
-ghost use Rattle.exam_send.specs.Sending.{AppendsBeginning};
+ghost use Rattle.exam_send.specs.Sending.{AppendsPart};
 ghost use Rattle.exam_job.specs.Printed as spec;
 ghost use Rattle.exam_job.specs.declared.report.JobFault.TheVariants.{Refused};
 
@@ -9,7 +10,7 @@ use crate::lines::fault_line;
 use exam_files::SheetFault;
 use exam_line::LineFault;
 use exam_rows::SendFault;
-use exam_send::send;
+use exam_send::{WriteFailed, send};
 use exam_types::Refusal;
 use std::io::Write;
 
@@ -83,7 +84,8 @@ pub fn flush<O: Write>(out: &mut O) -> Result<(), JobFault>
 pub fn print_fault<E: Write>(fault: &JobFault, err: &mut E) -> u8
     ensures { spec.Reports E.contents (Err fault.now) err.old result err.new }
 {
-    print_error(err, fault_line(fault).as_slice());
+    // There is nowhere left to tell that the line did not go out.
+    let _ = print_error(err, fault_line(fault).as_slice());
     FAILED
 }
 
@@ -94,7 +96,7 @@ pub fn print_line_fault<O: Write, E: Write>(fault: &LineFault, out: &mut O, err:
     match fault {
         LineFault::Help(text) => print_help(text.as_bytes(), out, err),
         LineFault::NotUnderstood => {
-            print_error(err, b"line not understood\n");
+            let _ = print_error(err, b"line not understood\n");
             NOT_UNDERSTOOD
         }
         LineFault::NoMemory => print_fault(&JobFault::Refused(Refusal::NoMemory), err),
@@ -111,10 +113,10 @@ fn print_help<O: Write, E: Write>(text: &[u8], out: &mut O, err: &mut E) -> u8
     }
 }
 
-/// Prints a line on standard error, of which a beginning goes out where that fails.
-pub fn print_error<E: Write>(err: &mut E, line: &[u8])
-    ensures { AppendsBeginning (E.contents err.old) (E.contents err.new) line.now }
+/// Prints a line on standard error: all of it or, if a write fails, not all of it.
+pub fn print_error<E: Write>(err: &mut E, line: &[u8]) -> Result<(), WriteFailed>
+    ensures ok { OnOk result (Appends (E.contents err.old) (E.contents err.new) line.now) }
+    ensures err { OnErr result (AppendsPart (E.contents err.old) (E.contents err.new) line.now) }
 {
-    // There is nowhere left to tell that it failed.
-    let _ = send(err, line);
+    send(err, line)
 }

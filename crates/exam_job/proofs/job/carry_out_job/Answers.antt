@@ -1,6 +1,6 @@
 use Rattle.exam_line.specs.declared.line.Job.TheVariants as job
 use Rattle.exam_job.proofs.Imported.{done_as}
-use Rattle.exam_job.proofs.job.carry_out.Goals as goal
+use Rattle.exam_job.proofs.job.carry_out_job.Goals as goal
 
 pub returns-in-Import : goal.returns-in-Import
 returns-in-Import g c =
