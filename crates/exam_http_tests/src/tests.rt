@@ -1,4 +1,42 @@
 //! A candidate's requests over an office in memory.
+
+/// A request of the first candidate, to the end of its head.
+macro_rules! asked {
+    ($line:literal) => {
+        concat!(
+            $line,
+            " HTTP/1.1\r\nHost: office\r\nExam-Code: CODE0001\r\n\r\n"
+        )
+    };
+}
+
+/// A posting of the first candidate, of a body of so many bytes that begins so.
+macro_rules! posted {
+    ($length:literal, $body:literal) => {
+        concat!(
+            "POST /candidates/0000001/appeals HTTP/1.1\r\nHost: office\r\nExam-Code: CODE0001\r\nContent-Length: ",
+            $length,
+            "\r\n\r\n",
+            $body
+        )
+    };
+}
+
+/// An answer whose body has so many bytes.
+macro_rules! answered {
+    ($status:literal, $length:literal, $body:literal) => {
+        concat!(
+            "HTTP/1.1 ",
+            $status,
+            "\r\nContent-Type: application/json\r\nContent-Length: ",
+            $length,
+            "\r\nConnection: close\r\n\r\n",
+            $body
+        )
+    };
+}
+
+mod client;
 mod cuts;
 mod exchanges;
 mod office;

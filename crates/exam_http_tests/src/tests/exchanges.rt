@@ -1,56 +1,41 @@
-//! Requests in turn, with the first line and the body of each answer.
-use super::office::{FIRST_IN_A, FIRST_IN_B, day_of, office_with};
-use exam_http::serve_one;
+//! Requests in turn, each read at once and then byte by byte, with each answer byte for byte.
+use super::client::{Giving, serve};
+use super::office::{FIRST_IN_A, FIRST_IN_B, office_with};
 use exam_office::Kind;
 use exam_store::Store;
 use sqlite::MemStore;
-use std::alloc::Global;
 use std::process::Abort;
 use std::test::Fail;
 
-/// The day, the method with the target, the access code and the body of a request, and the status and the
-/// body of its answer.
-type Exchange<'a> = (&'a str, &'a str, &'a str, &'a str, &'a str, &'a str);
+/// A day, the parts of a request with how often each stands there, and the answer.
+type Exchange<'a> = (&'a str, &'a [(&'a str, usize)], &'a str);
 
-/// What is answered to a request.
-fn answer_to(
-    alloc: Global,
-    store: &mut Store<MemStore>,
-    asked: Exchange<'_>,
-) -> Result<Vec<u8>, Fail> {
-    let (on, line, code, posted, _, _) = asked;
-    let length = posted.len();
-    let request = format!(in alloc;
-        "{line} HTTP/1.1\r\nHost: office\r\nExam-Code: {code}\r\nContent-Length: {length}\r\n\r\n{posted}"
-    )?;
-    let today = day_of(on)?;
-    let mut reader = request.as_str().as_bytes();
-    let mut answer = Vec::new(alloc);
-    match serve_one(alloc, store, today, &mut reader, &mut answer) {
-        Ok(()) => Ok(answer),
-        Err(_) => Err(Fail::new("a fault")),
-    }
-}
+/// The last day on which an appeal against a hall can be lodged, and the next one.
+pub const LAST_DAY: &str = "2027-05-30";
 
-/// Compares the first line and the body of what is answered.
+pub const DAY_AFTER: &str = "2027-05-31";
+
+/// Makes the request twice, the second time byte by byte, and compares both answers.
 pub fn expect_answer<R: Abort + AllocGlobal>(
     rt: &R,
     store: &mut Store<MemStore>,
     asked: Exchange<'_>,
 ) -> Result<(), Fail> {
-    let (_, line, _, _, status, body) = asked;
-    let alloc = rt.alloc();
-    let answer = answer_to(alloc, store, asked)?;
-    let first = format!(in alloc; "HTTP/1.1 {status}\r\n")?;
-    let last = format!(in alloc; "\r\n\r\n{body}")?;
-    assert!(rt;
-        answer.as_slice().starts_with(first.as_str().as_bytes()),
-        "{line}"
-    );
-    assert!(rt;
-        answer.as_slice().ends_with(last.as_str().as_bytes()),
-        "{line}"
-    );
+    let (on, parts, answer) = asked;
+    let mut request = String::new(rt.alloc());
+    for (part, count) in parts {
+        request.push_str(part.repeat(rt.alloc(), *count)?.as_str())?;
+    }
+    for step in [usize::MAX, 1] {
+        let given = Giving {
+            left: request.as_str().as_bytes(),
+            step,
+            fails: false,
+        };
+        let (served, taken) = serve(rt.alloc(), store, on, given, usize::MAX)?;
+        assert_eq!(rt; taken.as_slice(), answer.as_bytes(), "{request}");
+        assert!(rt; served == Ok(()), "{request}");
+    }
     Ok(())
 }
 
@@ -67,93 +52,266 @@ fn exchange<R: Abort + AllocGlobal>(
     Ok(())
 }
 
-const UNKNOWN: &str = "{\"error\":6}";
+/// The answer about nobody and to a wrong code, of 108 bytes.
+const UNKNOWN: &str = answered!("404 Not Found", 11, "{\"error\":6}");
 
-const ONE_SEAT: &str =
-    "{\"seats\":[{\"date\":\"2027-06-01\",\"desk\":1,\"extra\":0,\"finish\":\"10:00\",\
-\"hall\":\"A\",\"needs\":\"-\",\"paper\":\"MA-1\",\"session\":\"S1\",\"start\":\"09:00\"}]}";
+const OTHER_ROUTE: &str = answered!("404 Not Found", 12, "{\"error\":37}");
+
+const BAD_HEAD: &str = answered!("400 Bad Request", 12, "{\"error\":31}");
+
+const SEATS: &[Exchange<'_>] = &[
+    (
+        LAST_DAY,
+        &[(asked!("GET /candidates/0000001/seats"), 1)],
+        answered!(
+            "200 OK",
+            138,
+            "{\"seats\":[{\"date\":\"2027-06-01\",\"desk\":1,\"extra\":0,\"finish\":\"10:00\",\"hall\":\"A\",\"needs\":\"-\",\"paper\":\"MA-1\",\"session\":\"S1\",\"start\":\"09:00\"}]}"
+        ),
+    ),
+    (
+        LAST_DAY,
+        &[(
+            "GET /candidates/0000001/seats HTTP/1.1\r\nHost: office\r\nExam-Code: WRONG001\r\n\r\n",
+            1,
+        )],
+        UNKNOWN,
+    ),
+    (
+        LAST_DAY,
+        &[(asked!("GET /candidates/9999999/seats"), 1)],
+        UNKNOWN,
+    ),
+    (
+        LAST_DAY,
+        &[(asked!("GET /candidates/0000002/seats"), 1)],
+        UNKNOWN,
+    ),
+    (
+        LAST_DAY,
+        &[(
+            "GET /candidates/0000002/seats HTTP/1.0\r\nexam-code:\tCODE0002 \r\n\r\n",
+            1,
+        )],
+        answered!("200 OK", 12, "{\"seats\":[]}"),
+    ),
+    (
+        LAST_DAY,
+        &[(asked!("GET /candidates/0000001/seats?x=1"), 1)],
+        OTHER_ROUTE,
+    ),
+    (
+        LAST_DAY,
+        &[(
+            "GET /candidates/0000001/seats HTTP/1.1\r\nHost: office\r\nExam-Code: CODE0001\r\n",
+            1,
+        )],
+        BAD_HEAD,
+    ),
+];
 
 #[test]
 fn a_candidate_sees_their_seat_and_nobody_elses(rt: HostRuntime) -> Result<(), Fail> {
-    let on = "2027-05-30";
-    let seats = "GET /candidates/0000001/seats";
-    let exchanges = [
-        (on, seats, "CODE0001", "", "200 OK", ONE_SEAT),
-        (on, seats, "WRONG001", "", "404 Not Found", UNKNOWN),
-        (
-            on,
-            "GET /candidates/9999999/seats",
-            "CODE0001",
-            "",
-            "404 Not Found",
-            UNKNOWN,
-        ),
-        (
-            on,
-            "GET /candidates/0000002/seats",
-            "CODE0002",
-            "",
-            "200 OK",
-            "{\"seats\":[]}",
-        ),
-        (
-            on,
-            "GET /candidates/0000001/seats?x=1",
-            "CODE0001",
-            "",
-            "404 Not Found",
-            "{\"error\":37}",
-        ),
-        (
-            on,
-            "PUT /candidates/0000001/seats",
-            "WRONG001",
-            "",
-            "405 Method Not Allowed",
-            "{\"error\":38}",
-        ),
-    ];
-    exchange(&rt, FIRST_IN_A, &exchanges)
+    assert_eq!(rt; UNKNOWN.len(), 108);
+    exchange(&rt, FIRST_IN_A, SEATS)
 }
 
-const AGAINST_B: &str =
-    "{\"hall\":\"B\",\"kind\":\"hall\",\"reason\":\"\",\"ref\":\"HA1\",\"session\":\"S1\"}";
+const AGAINST_B: &str = posted!(
+    65,
+    "{\"hall\":\"B\",\"kind\":\"hall\",\"reason\":\"\",\"ref\":\"HA1\",\"session\":\"S1\"}"
+);
 
-const AGAINST_A: &str =
-    "{\"hall\":\"A\",\"kind\":\"hall\",\"reason\":\"\",\"ref\":\"HA1\",\"session\":\"S1\"}";
+const OPEN: &str = answered!("200 OK", 16, "{\"state\":\"open\"}");
 
-const POST: &str = "POST /candidates/0000001/appeals";
+const RETRACTED: &str = answered!("200 OK", 21, "{\"state\":\"retracted\"}");
 
-const OPEN: &str = "{\"state\":\"open\"}";
+/// The appeal is posted, and the answer may have been lost.
+pub const LODGED: Exchange<'_> = (DAY_AFTER, &[(AGAINST_B, 1)], OPEN);
 
-const RETRACTED: &str = "{\"state\":\"retracted\"}";
+pub const ONE_APPEAL: Exchange<'_> = (
+    DAY_AFTER,
+    &[(asked!("GET /candidates/0000001/appeals"), 1)],
+    answered!(
+        "200 OK",
+        150,
+        "{\"appeals\":[{\"answer\":null,\"kind\":\"hall\",\"lodged\":\"2027-05-30\",\"reason\":\"\",\"ref\":\"HA1\",\"session\":\"S1\",\"standing\":false,\"state\":\"open\",\"subject\":\"B\"}]}"
+    ),
+);
+
+const APPEALS: &[Exchange<'_>] = &[
+    (
+        DAY_AFTER,
+        &[(AGAINST_B, 1)],
+        answered!("409 Conflict", 31, "{\"day\":\"2027-05-30\",\"error\":13}"),
+    ),
+    (LAST_DAY, &[(AGAINST_B, 1)], OPEN),
+    ONE_APPEAL,
+    LODGED,
+    (
+        DAY_AFTER,
+        &[(
+            posted!(
+                65,
+                "{\"hall\":\"A\",\"kind\":\"hall\",\"reason\":\"\",\"ref\":\"HA1\",\"session\":\"S1\"}"
+            ),
+            1,
+        )],
+        answered!("409 Conflict", 12, "{\"error\":14}"),
+    ),
+    (
+        DAY_AFTER,
+        &[(asked!("PUT /candidates/0000001/appeals"), 1)],
+        "HTTP/1.1 405 Method Not Allowed\r\nContent-Type: application/json\r\nContent-Length: 12\r\nAllow: GET, POST\r\nConnection: close\r\n\r\n{\"error\":38}",
+    ),
+    (
+        DAY_AFTER,
+        &[(asked!("DELETE /candidates/0000001/appeals/HA1?x"), 1)],
+        answered!("404 Not Found", 12, "{\"error\":15}"),
+    ),
+    (
+        DAY_AFTER,
+        &[(
+            "DELETE /candidates/0000001/appeals/HA1 HTTP/1.1\r\nHost: office\r\nExam-Code: CODE0002\r\n\r\n",
+            1,
+        )],
+        UNKNOWN,
+    ),
+    (
+        DAY_AFTER,
+        &[(asked!("DELETE /candidates/0000001/appeals/HA1"), 1)],
+        RETRACTED,
+    ),
+    (
+        DAY_AFTER,
+        &[(asked!("DELETE /candidates/0000001/appeals/HA1"), 1)],
+        RETRACTED,
+    ),
+    (DAY_AFTER, &[(AGAINST_B, 1)], RETRACTED),
+];
 
 #[test]
-fn an_appeal_is_lodged_once(rt: HostRuntime) -> Result<(), Fail> {
-    let (on, after) = ("2027-05-30", "2027-05-31");
-    let late = "{\"day\":\"2027-05-30\",\"error\":13}";
-    let taken = "{\"error\":14}";
-    let unread = "{\"error\":36}";
-    let exchanges = [
-        (after, POST, "CODE0001", AGAINST_B, "409 Conflict", late),
-        (on, POST, "CODE0001", AGAINST_B, "200 OK", OPEN),
-        (after, POST, "CODE0001", AGAINST_B, "200 OK", OPEN),
-        (after, POST, "CODE0001", AGAINST_A, "409 Conflict", taken),
-        (after, POST, "CODE0001", "{}", "400 Bad Request", unread),
-    ];
-    exchange(&rt, FIRST_IN_B, &exchanges)
+fn an_appeal_is_lodged_once_and_taken_back_once(rt: HostRuntime) -> Result<(), Fail> {
+    exchange(&rt, FIRST_IN_B, APPEALS)
 }
 
+/// The request for a seat to the line of the code, which would be answered if an empty line followed.
+const SEAT_ASKED: &str =
+    "GET /candidates/0000001/seats HTTP/1.1\r\nHost: office\r\nExam-Code: CODE0001\r\n";
+
+const BAD_HOST: &str = answered!("400 Bad Request", 12, "{\"error\":32}");
+
+const BAD_LENGTH: &str = answered!("400 Bad Request", 12, "{\"error\":33}");
+
+const TOO_LARGE: &str = answered!("413 Content Too Large", 12, "{\"error\":34}");
+
+const BAD_BODY: &str = answered!("400 Bad Request", 12, "{\"error\":36}");
+
+const HOSTILE: &[Exchange<'_>] = &[
+    (
+        LAST_DAY,
+        &[(
+            "GET /candidates/0000001/seats HTTP/1.1\r\nExam-Code: CODE0001\r\n\r\n",
+            1,
+        )],
+        BAD_HOST,
+    ),
+    (
+        LAST_DAY,
+        &[(SEAT_ASKED, 1), ("Host: office\r\n\r\n", 1)],
+        BAD_HOST,
+    ),
+    // 33 lines
+    (
+        LAST_DAY,
+        &[(SEAT_ASKED, 1), ("X: y\r\n", 31), ("\r\n", 1)],
+        BAD_HEAD,
+    ),
+    (
+        LAST_DAY,
+        &[(SEAT_ASKED, 1), ("Content-Length: 4097\r\n\r\n", 1)],
+        TOO_LARGE,
+    ),
+    (
+        LAST_DAY,
+        &[
+            (SEAT_ASKED, 1),
+            ("Transfer-Encoding: chunked\r\n", 1),
+            ("Content-Length: 0\r\n", 2),
+            ("\r\n", 1),
+        ],
+        answered!("501 Not Implemented", 12, "{\"error\":35}"),
+    ),
+    (
+        LAST_DAY,
+        &[(SEAT_ASKED, 1), ("Content-Length: 0\r\n", 2), ("\r\n", 1)],
+        BAD_LENGTH,
+    ),
+    (
+        LAST_DAY,
+        &[(SEAT_ASKED, 1), ("Content-Length: 00000000000\r\n\r\n", 1)],
+        BAD_LENGTH,
+    ),
+    (
+        LAST_DAY,
+        &[
+            (SEAT_ASKED, 1),
+            ("Content-Length: 20\r\n\r\n", 1),
+            ("y", 19),
+        ],
+        BAD_LENGTH,
+    ),
+    (
+        LAST_DAY,
+        &[(
+            posted!(
+                90,
+                "{\"extra\":1.0,\"kind\":\"arrangement\",\"needs\":\"screen\",\"reason\":\"\",\"ref\":\"AR1\",\"session\":\"S1\"}"
+            ),
+            1,
+        )],
+        BAD_BODY,
+    ),
+    (
+        LAST_DAY,
+        &[(
+            posted!(
+                71,
+                "{\"hall\":\"B\",\"kind\":\"hall\",\"reason\":\"\",\"ref\":\"HA1\",\"session\":\"S1\",\"x\":1}"
+            ),
+            1,
+        )],
+        BAD_BODY,
+    ),
+    // arrays in arrays, where a text is wanted
+    (
+        LAST_DAY,
+        &[
+            (
+                posted!(463, "{\"hall\":\"B\",\"kind\":\"hall\",\"reason\":"),
+                1,
+            ),
+            ("[", 200),
+            ("]", 200),
+            (",\"ref\":\"HA1\",\"session\":\"S1\"}", 1),
+        ],
+        BAD_BODY,
+    ),
+    (LAST_DAY, &[(posted!(2, "{}"), 1)], BAD_BODY),
+];
+
 #[test]
-fn an_appeal_is_taken_back_once(rt: HostRuntime) -> Result<(), Fail> {
-    let (on, after) = ("2027-05-30", "2027-05-31");
-    let delete = "DELETE /candidates/0000001/appeals/HA1";
-    let exchanges = [
-        (on, POST, "CODE0001", AGAINST_B, "200 OK", OPEN),
-        (after, delete, "CODE0002", "", "404 Not Found", UNKNOWN),
-        (after, delete, "CODE0001", "", "200 OK", RETRACTED),
-        (after, delete, "CODE0001", "", "200 OK", RETRACTED),
-        (after, POST, "CODE0001", AGAINST_B, "200 OK", RETRACTED),
-    ];
-    exchange(&rt, FIRST_IN_B, &exchanges)
+fn hostile_requests_are_refused(rt: HostRuntime) -> Result<(), Fail> {
+    exchange(&rt, FIRST_IN_A, HOSTILE)
+}
+
+/// 8,192 bytes without an empty line. The server looks for one after each byte: this takes minutes under `rt try`.
+const LONG_HEAD: &[Exchange<'_>] = &[(
+    LAST_DAY,
+    &[(SEAT_ASKED, 1), ("X: ", 1), ("y", 8_114)],
+    TOO_LARGE,
+)];
+
+#[test]
+fn a_head_that_does_not_end_is_too_large(rt: HostRuntime) -> Result<(), Fail> {
+    exchange(&rt, FIRST_IN_A, LONG_HEAD)
 }
