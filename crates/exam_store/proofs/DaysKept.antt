@@ -1,5 +1,5 @@
 -- The days of sessions and of appeals: those of an opened office, and what a command makes of them.
-use Rattle.std.proofs.Common.{All, ◌≡◌, ℕ, Bool, true, false, if◌then◌else◌, Option, Some, None, List, [], ◌∷◌, map, Result, Ok, Err, refl, sym, subst}
+use Rattle.std.proofs.Common.{All, ◌≡◌, ℕ, Bool, true, false, if◌then◌else◌, Option, Some, None, List, [], ◌∷◌, map, Ok, subst}
 use Rattle.std.specs.Prelude.{is_none}
 use Rattle.std.specs.List.{AllByRecursion}
 use Rattle.std.specs.Map.{values_of}
@@ -8,7 +8,6 @@ use Rattle.std.proofs.lemmas.List.Elements.{All-nil, All-cons, All-head, All-tai
 use Rattle.std.proofs.lemmas.Map.Views.{All-values-insert_entry, IfSome-lookup_from_All}
 use Rattle.std.specs.BTreeMap.{is_at}
 use Rattle.sqlite_trees.specs.Tree.{Trees}
-use Rattle.exam_types.specs.declared.refusal.Refusal.{Refusal}
 use Rattle.exam_types.specs.Days.{IsDay}
 use Rattle.exam_rules.specs.declared.rows.Appeal.{Appeal}
 use Rattle.exam_rules.specs.declared.rows.Session.{Session}
@@ -23,11 +22,12 @@ use Rattle.exam_office.specs.declared.command.Reply.{Reply}
 use Rattle.exam_office.specs.declared.import_row.Row.{Row}
 use Rattle.exam_office.specs.declared.import_row.Row.TheVariants as row
 use Rattle.exam_office.specs.Appeals.{appeal_at, is_grant, is_retracted, superseded}
-use Rattle.exam_office.specs.Changes.{unless, with_row, with_rows}
+use Rattle.exam_office.specs.Changes.{with_row, with_rows}
 use Rattle.exam_office.specs.Decisions.{gives_way, giving_way, is_made, with_decided, with_outcome, with_superseded}
 use Rattle.exam_office.specs.Lodgings.{with_appeal, with_lodging, with_retracted, with_retracted_appeal}
 use Rattle.exam_office.specs.State.{State, empty_state}
-use Rattle.exam_office.specs.Steps.{Step, StepTo, change}
+use Rattle.exam_office.specs.Steps.{Step, change}
+use Rattle.exam_office.proofs.Lasting.{made, new_facts}
 use Rattle.exam_rows.specs.Rows.{IsAppeal, IsSession}
 use Rattle.exam_store.specs.Refused.{HoldsFormed}
 use Rattle.exam_store.specs.Stops.{HasDays, HasRowDay, HasRowDays}
@@ -112,10 +112,6 @@ decision_days r d (Some a) days day =
     one_of (is_made r d a) r (with_outcome r d a) days
     (record { sessions = days.sessions; appeals = put_appeal (with_superseded d.number a d.outcome r.appeals) (d.number, d.reference) _ (superseded_days d.number a d.outcome r.appeals days.appeals) day })
 
-made : (refused : Option Refusal) (value r : Relations) → unless refused value ≡ Ok r → value ≡ r
-made None value r is = cc
-made (Some e) value r is = absurd (cc is)
-
 changed_days : (done : Command) (today : ℕ) (before : State) (r : Relations) → HasDays before.relations → IsDay today → HasRowDays done → change done today before ≡ Ok r → HasDays r
 changed_days (command.Import import) today before r days day rows is = subst HasDays (made _ _ r is) (with_rows_days before.relations import.rows days rows)
 changed_days (command.Withdraw c p) today before r days day rows is = subst HasDays (made _ _ r is) (record { sessions = days.sessions; appeals = days.appeals })
@@ -128,8 +124,4 @@ changed_days (command.Decide d) today before r days day rows is =
     subst HasDays (made _ _ r is) (decision_days before.relations d (appeal_at before.relations d.number d.reference) days (stored before.relations d.number d.reference days))
 
 pub command_days : (done : Command) (today : ℕ) (before after : State) (reply : Reply) → HasDays before.relations → IsDay today → HasRowDays done → Step done today before (Ok reply) after → HasDays after.relations
-command_days done today before after reply days day rows step = inner (change done today before) refl step
-  where
-    inner : (outcome : Result Relations Refusal) → change done today before ≡ outcome → StepTo done before (Ok reply) after outcome → HasDays after.relations
-    inner (Ok r) is to = subst HasDays (sym to.0) (changed_days done today before r days day rows is)
-    inner (Err e) is to = let differ : Ok reply ≡ Err e = to.0 in absurd cc
+command_days done today before after reply days day rows step = changed_days done today before after.relations days day rows (new_facts done today before reply after step)

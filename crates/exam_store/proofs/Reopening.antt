@@ -7,12 +7,12 @@ use Rattle.sqlite.specs.State.{State as Shown, HasCleanDisk}
 use Rattle.exam_types.specs.declared.refusal.Refusal.{Refusal}
 use Rattle.exam_tables.specs.Content.{Holds, places}
 use Rattle.exam_tables.specs.Tables.{store_schema}
-use Rattle.exam_rules.specs.Relations.{Relations}
 use Rattle.exam_office.specs.declared.command.Command.{Command}
 use Rattle.exam_office.specs.declared.command.Reply.{Reply}
 use Rattle.exam_office.specs.Orders.{IsInOrder}
 use Rattle.exam_office.specs.State.{State}
-use Rattle.exam_office.specs.Steps.{Step, StepTo, change}
+use Rattle.exam_office.specs.Steps.{Step, StepTo}
+use Rattle.exam_office.proofs.Lasting.{new_facts}
 use Rattle.exam_office.proofs.OneResult.{one_result}
 use Rattle.exam_rows.specs.Inside.{IsOurs}
 use Rattle.exam_rows.specs.Transactions.{Commits}
@@ -23,11 +23,7 @@ use Rattle.exam_store.proofs.FormedRows.{same_office}
 
 -- the office after an accepted command is in order
 in_order : (done : Command) (today : ℕ) (before after : State) (reply : Reply) → Step done today before (Ok reply) after → IsInOrder after
-in_order done today before after reply step = inner (change done today before) step
-  where
-    inner : (outcome : Result Relations Refusal) → StepTo done before (Ok reply) after outcome → IsInOrder after
-    inner (Ok r) made = made.3
-    inner (Err e) made = let differ : Ok reply ≡ Err e = made.0 in absurd cc
+in_order done today before after reply step = (subst (StepTo done before (Ok reply) after) (new_facts done today before reply after step) step).3
 
 -- other trees that are the same keep the same office
 moved : (db other : Database) (office : State) → Keeps db office → other.trees ≡ db.trees → IsOurs other → Keeps other office
