@@ -1,12 +1,12 @@
 -- A command that changes appeals alone leaves the lists of members and open halls; one that sets an entry live or
--- withdrawn changes one list.
+-- withdrawn changes one list, and so does the closing of a hall.
 use Rattle.std.proofs.Common.{◌≡◌, ℕ, Bool, true, false, cond, List, Option, None, Some, ap, sym, subst, ◌∙◌}
 use Rattle.std.specs.Prelude.{is_none}
 use Rattle.std.specs.Option.{option_map_or}
 use Rattle.exam_rules.specs.declared.lists.SessionLists.{SessionLists}
 use Rattle.exam_rules.specs.declared.rows.Appeal.{Appeal}
 use Rattle.exam_rules.specs.declared.rows.Paper.{Paper}
-use Rattle.exam_rules.specs.Lists.{AreListsOf, SetsEntry}
+use Rattle.exam_rules.specs.Lists.{AreListsOf, SetsEntry, closed}
 use Rattle.exam_rules.specs.Relations.{Code, Relations, code_cmp, row_at, same_code}
 use Rattle.exam_office.specs.declared.command.Command.{Command}
 use Rattle.exam_office.specs.declared.command.Command.TheVariants as command
@@ -61,6 +61,11 @@ pub kept_lists : (done : Command) (r t : Relations) (lists : SessionLists) → W
 kept_lists done r t lists was keeps are =
     subst (λ (u : Relations). AreListsOf u lists) (sym was.made)
     (made_lists was.today was.office lists (subst (λ (u : Relations). AreListsOf u lists) (sym was.facts) are) done keeps)
+
+-- ---- a hall closed
+
+pub closing_made : (r t : Relations) (s h : Code) → WasMade (command.CloseHall s h) r t → t ≡ closed r s h
+closing_made r t s h was = was.made ∙ ap (λ (u : Relations). closed u s h) was.facts
 
 -- ---- an entry withdrawn or taken back
 

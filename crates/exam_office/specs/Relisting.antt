@@ -29,6 +29,7 @@ members_before undo.Nothing lists s = listed lists.members.entries s
 members_before (undo.Members t list) lists s =
     if same_code t s then list.items else listed lists.members.entries s
 members_before (undo.Several before) lists s = list_before before.entries lists s
+members_before (undo.Halls t list) lists s = listed lists.members.entries s
 members_before (undo.Whole old) lists s = listed old.members.entries s
 
 -- the open halls of a session with the change taken back
@@ -36,6 +37,8 @@ abbrev pub halls_before : ListUndo → SessionLists → Code → List Code
 halls_before undo.Nothing lists s = listed lists.halls.entries s
 halls_before (undo.Members t list) lists s = listed lists.halls.entries s
 halls_before (undo.Several before) lists s = listed lists.halls.entries s
+halls_before (undo.Halls t list) lists s =
+    if same_code t s then list.items else listed lists.halls.entries s
 halls_before (undo.Whole old) lists s = listed old.halls.entries s
 
 -- each session whose list is put back has one
@@ -44,6 +47,7 @@ HasList undo.Nothing lists = ⊤
 HasList (undo.Members t list) lists = IsTrue (has_row code_cmp lists.members.entries t)
 HasList (undo.Several before) lists =
     (s : Code) → IsTrue (has_row code_cmp before.entries s) → IsTrue (has_row code_cmp lists.members.entries s)
+HasList (undo.Halls t list) lists = IsTrue (has_row code_cmp lists.halls.entries t)
 HasList (undo.Whole old) lists = ⊤
 
 -- the same lists

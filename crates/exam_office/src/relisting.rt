@@ -2,7 +2,8 @@
 ghost use Rattle.std.specs.Prelude.{◌≡◌, ◌∷◌, List, IsTrue, IfOk, IfErr, OnOk, OnErr};
 ghost use Rattle.exam_types.specs.declared.refusal.Refusal.TheVariants.{NoMemory};
 ghost use Rattle.exam_rules.specs.declared.lists.SessionLists.{SessionLists as Lists};
-ghost use Rattle.exam_rules.specs.Lists.{AreListsOf, listed};
+ghost use Rattle.exam_rules.specs.Lists.{AreListsOf, closed, listed};
+ghost use Rattle.exam_rules.specs.Orders.{AreInOrder};
 ghost use Rattle.exam_rules.specs.Relations.{Code, Relations, code_cmp, has_row, relations_of};
 ghost use Rattle.exam_office.specs.declared.command.Command.TheVariants as command;
 ghost use Rattle.exam_office.specs.declared.import_row.Row.{Row as ImportRow};
@@ -15,7 +16,7 @@ use crate::command::Command;
 use crate::import::Import;
 use crate::import_row::{Kind, Row};
 use exam_rules::{BySession, Entrant, Facts, SessionLists, entered_session, session_lists};
-use exam_types::{Number, PaperCode, Refusal, SessionCode};
+use exam_types::{HallCode, Number, PaperCode, Refusal, SessionCode};
 use std::alloc::Global;
 use std::collections::BTreeMap;
 use std::mem;
@@ -29,6 +30,8 @@ pub enum ListUndo {
     Members(SessionCode, Vec<Entrant>),
     /// The members of these sessions were these.
     Several(BySession<Entrant>),
+    /// The open halls of the session were these.
+    Halls(SessionCode, Vec<HallCode>),
     /// The lists were these.
     Whole(SessionLists),
 }
@@ -45,6 +48,7 @@ impl ListUndo {
             ListUndo::Nothing => {}
             ListUndo::Members(session, list) => lists.put_members(&session, list),
             ListUndo::Several(before) => put_back(lists, before),
+            ListUndo::Halls(session, list) => lists.put_halls(&session, list),
             ListUndo::Whole(old) => *lists = old,
         }
     }
@@ -82,7 +86,7 @@ pub fn relist(
             relist_entrant(alloc, facts, lists, *number, paper)
         }
         Command::Import(import) => relist_import(alloc, facts, lists, import),
-        Command::CloseHall(_, _) => list_anew(alloc, facts, lists),
+        Command::CloseHall(session, hall) => relist_halls(alloc, lists, *session, hall),
     }
 }
 
@@ -241,6 +245,23 @@ fn relist_entrant(
         // An entry for a paper that is not there counts nowhere.
         None => list_anew(alloc, facts, lists),
     }
+}
+
+/// Lists the open halls of the session without this one, which has been closed.
+fn relist_halls(
+    alloc: Global,
+    lists: &mut SessionLists,
+    session: SessionCode,
+    hall: &HallCode,
+) -> Result<ListUndo, Refusal>
+    ensures ok { OnOk result ((r : Relations) → AreInOrder r → AreListsOf r lists.old
+        → AreListsOf (closed r session hall.now) lists.new) }
+    ensures back { IfOk result (λ undo. spec.ListsBack undo lists.new lists.old) }
+    ensures same { OnErr result (spec.SameLists lists.old lists.new) }
+    ensures memory { IfErr result (λ e. e ≡ NoMemory) }
+{
+    let halls = lists.close(alloc, session, hall)?;
+    Ok(ListUndo::Halls(session, halls))
 }
 
 /// Lists the members and open halls of all sessions anew.

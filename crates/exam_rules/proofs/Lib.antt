@@ -10,6 +10,7 @@ pub mod Together
 pub mod Turns
 pub mod Listing
 pub mod Entering
+pub mod Closing
 pub mod InForce
 pub mod InOrder
 pub mod NamedDesks

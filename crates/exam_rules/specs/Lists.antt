@@ -1,5 +1,5 @@
 -- The members and the open halls of all sessions, as lists by session.
-use Rattle.std.specs.Prelude.{◌≡◌, ℕ, ◌-◌, length, slice_get, nat_eq, nat_lt, Bool, true, false, List, [], ◌∷◌, ◌++◌, map}
+use Rattle.std.specs.Prelude.{◌≡◌, ℕ, ◌-◌, not, length, slice_get, nat_eq, nat_lt, Bool, true, false, List, [], ◌∷◌, ◌++◌, map}
 use Rattle.std.specs.Prelude.{filter, Option, None, Vec, if◌then◌else◌}
 use Rattle.std.specs.Global.{Global}
 use Rattle.std.specs.List.{filter_map, cons_option}
@@ -9,7 +9,8 @@ use Rattle.std.specs.Ordering.{nat_cmp, is_lt, match_ordering}
 use Rattle.exam_rules.specs.declared.rows.Entry.{Entry}
 use Rattle.exam_rules.specs.declared.lists.Entrant.{Entrant}
 use Rattle.exam_rules.specs.declared.lists.SessionLists.{SessionLists}
-use Rattle.exam_rules.specs.Relations.{Code, Relations, code_cmp, entry_cmp, row_at, has_row, put_row}
+use Rattle.exam_rules.specs.Relations.{Code, Relations, code_cmp, entry_cmp, opening_cmp, same_code}
+use Rattle.exam_rules.specs.Relations.{has_row, put_row, remove_row, row_at}
 use Rattle.exam_rules.specs.Sessions.{members, is_paper_of, least_live_paper}
 use Rattle.exam_rules.specs.Seatings.{open_halls}
 use Rattle.exam_rules.specs.Names.{ListsRise}
@@ -103,3 +104,12 @@ pub record MakesLive (before after : Relations) (s : Code) (c : ℕ) (p : Code) 
   pub candidates : after.candidates ≡ before.candidates
   pub papers : after.papers ≡ before.papers
   pub openings : after.openings ≡ before.openings
+
+-- ---- one hall closed
+
+abbrev pub without_hall : Code → List Code → List Code
+without_hall h halls = filter (λ k. not (same_code k h)) halls
+
+-- the facts without the opening of the hall for the session
+abbrev pub closed : Relations → Code → Code → Relations
+closed r s h = record r { openings = remove_row opening_cmp r.openings (s, h) }

@@ -263,42 +263,55 @@ fn placed(
 }
 
 /// Makes sure that the session has a list of its own, which is empty where it had none.
-fn keep_list(
+fn keep_list<T: Copy + Drop>(
     alloc: Global,
-    members: &mut BySession<Entrant>,
+    lists: &mut BySession<T>,
     session: SessionCode,
 ) -> Result<(), Refusal>
-    ensures same { (s : Code) → listing.listed members.new.entries s ≡ listing.listed members.old.entries s }
-    ensures kept { OnOk result (IsTrue (has_row code_cmp members.new.entries session)) }
-    ensures stay { (s : Code) → IsTrue (has_row code_cmp members.old.entries s)
-        → IsTrue (has_row code_cmp members.new.entries s) }
+    ensures same { (s : Code) → listing.listed lists.new.entries s ≡ listing.listed lists.old.entries s }
+    ensures kept { OnOk result (IsTrue (has_row code_cmp lists.new.entries session)) }
+    ensures stay { (s : Code) → IsTrue (has_row code_cmp lists.old.entries s)
+        → IsTrue (has_row code_cmp lists.new.entries s) }
     ensures memory { IfErr result (λ e. e ≡ NoMemory) }
 {
-    if members.contains_key(&session) {
+    if lists.contains_key(&session) {
         return Ok(());
     }
-    members.insert(session, Vec::new(alloc))?;
+    lists.insert(session, Vec::new(alloc))?;
     Ok(())
 }
 
 /// Puts the list in the place of the session's own, and gives that one. Takes no memory.
-fn exchange(
-    members: &mut BySession<Entrant>,
-    session: &SessionCode,
-    list: Vec<Entrant>,
-) -> Vec<Entrant>
-    requires { IsTrue (has_row code_cmp members.old.entries session.now) }
-    ensures old { result.items ≡ listing.listed members.old.entries session.now }
-    ensures members { (s : Code) → listing.listed members.new.entries s
-        ≡ (if same_code session.now s then list.items else listing.listed members.old.entries s) }
-    ensures kept { IsTrue (has_row code_cmp members.new.entries session.now) }
-    ensures stay { (s : Code) → IsTrue (has_row code_cmp members.old.entries s)
-        → IsTrue (has_row code_cmp members.new.entries s) }
+fn exchange<T: Copy + Drop>(lists: &mut BySession<T>, session: &SessionCode, list: Vec<T>) -> Vec<T>
+    requires { IsTrue (has_row code_cmp lists.old.entries session.now) }
+    ensures old { result.items ≡ listing.listed lists.old.entries session.now }
+    ensures lists { (s : Code) → listing.listed lists.new.entries s
+        ≡ (if same_code session.now s then list.items else listing.listed lists.old.entries s) }
+    ensures kept { IsTrue (has_row code_cmp lists.new.entries session.now) }
+    ensures stay { (s : Code) → IsTrue (has_row code_cmp lists.old.entries s)
+        → IsTrue (has_row code_cmp lists.new.entries s) }
 {
-    match members.get_mut(session) {
+    match lists.get_mut(session) {
         Some(place) => replace(place, list),
         None => list,
     }
+}
+
+/// The halls without this one.
+fn without_hall(
+    alloc: Global,
+    halls: &[HallCode],
+    hall: &HallCode,
+) -> Result<Vec<HallCode>, Refusal>
+    ensures ok { IfOk result (λ list. list.items ≡ listing.without_hall hall.now halls.now) }
+    ensures memory { IfErr result (λ e. e ≡ NoMemory) }
+{
+    let list = halls
+        .iter()
+        .copied()
+        .filter(|other| *other != *hall)
+        .collect(alloc)?;
+    Ok(list)
 }
 
 /// The place of the first entrant whose number is no less, where numbers rise.
@@ -482,6 +495,40 @@ impl SessionLists {
             → IsTrue (has_row code_cmp self.new.members.entries s) }
     {
         let _ = exchange(&mut self.members, session, list);
+    }
+
+    /// Lists the halls of the session without this one, whose opening for it has been taken away. Gives the list
+    /// as it was, which `put_halls` puts back; after a refusal the lists are as they were.
+    pub fn close(
+        &mut self,
+        alloc: Global,
+        session: SessionCode,
+        hall: &HallCode,
+    ) -> Result<Vec<HallCode>, Refusal>
+        ensures ok { OnOk result ((r : Relations) → AreInOrder r → listing.AreListsOf r self.old
+            → listing.AreListsOf (listing.closed r session hall.now) self.new) }
+        ensures old { IfOk result (λ list. list.items ≡ listing.listed self.old.halls.entries session) }
+        ensures back { OnOk result (IsTrue (has_row code_cmp self.new.halls.entries session)) }
+        ensures others { OnOk result ((s : Code) → same_code session s ≡ false
+            → listing.listed self.new.halls.entries s ≡ listing.listed self.old.halls.entries s) }
+        ensures members { self.new.members.entries ≡ self.old.members.entries }
+        ensures err { OnErr result ((s : Code)
+            → listing.listed self.new.halls.entries s ≡ listing.listed self.old.halls.entries s) }
+        ensures memory { IfErr result (λ e. e ≡ NoMemory) }
+    {
+        let list = without_hall(alloc, self.halls_of(&session), hall)?;
+        keep_list(alloc, &mut self.halls, session)?;
+        Ok(exchange(&mut self.halls, &session, list))
+    }
+
+    /// Puts the list in the place of the session's own. Takes no memory.
+    pub fn put_halls(&mut self, session: &SessionCode, list: Vec<HallCode>)
+        requires { IsTrue (has_row code_cmp self.old.halls.entries session.now) }
+        ensures halls { (s : Code) → listing.listed self.new.halls.entries s
+            ≡ (if same_code session.now s then list.items else listing.listed self.old.halls.entries s) }
+        ensures members { self.new.members.entries ≡ self.old.members.entries }
+    {
+        let _ = exchange(&mut self.halls, session, list);
     }
 }
 
