@@ -1,5 +1,5 @@
 -- The lines of a door list are those of the hall's occupants, by desk.
-use Rattle.std.proofs.Common.{◌≡◌, ◌∙◌, ◌+◌, ◌<◌, ◌≤◌, ◌&&◌, ℕ, zero, suc, Bool, true, false, cond, List, [], ◌∷◌, ◌++◌, length, get_or, map, filter, count_by, nat_eq, ◌≢◌, Contains, Option, Some, None, Ok, Err, refl, sym, ap, subst, arith, inl, inr, append_assoc}
+use Rattle.std.proofs.Common.{◌≡◌, ◌∙◌, ◌+◌, ◌<◌, ◌≤◌, ℕ, zero, suc, Bool, true, false, cond, List, [], ◌∷◌, ◌++◌, length, get_or, map, filter, count_by, nat_eq, ◌≢◌, Contains, Option, Some, None, Ok, Err, refl, sym, ap, arith, inl, inr}
 use Rattle.std.specs.List.{AllByRecursion, flat_map, list_any, range_with_len}
 use Rattle.std.specs.List.Sorted.{IsStrictlySortedBy}
 use Rattle.std.specs.Option.{option_map, option_map_or, ok_or}
@@ -29,7 +29,7 @@ use Rattle.exam_office.specs.State.{State}
 use Rattle.exam_office.specs.Views.{View, IsViewOf, has_hall, member_of, opening_of, seat_in, seat_of, seats_of}
 use Rattle.exam_office.proofs.Seated.{is_seated}
 use Rattle.exam_files.specs.DoorLines.{HasLines, own_line}
-use Rattle.exam_files.specs.Doors.{door_heading, door_line, door_list, door_text, is_desk, is_in, line_at, opening_in, sits_in}
+use Rattle.exam_files.specs.Doors.{door_heading, door_line, door_list, door_text, is_in, line_at, sits_in}
 use Rattle.exam_files.specs.Writing.{sheet_if}
 use Rattle.exam_files.proofs.Numbered.{AreApart, IsApart, IsNumbered, at, has, has_is, laid_out, numbers_from, shuffled}
 use Rattle.exam_files.proofs.OfficeSheets.{cons_parts, flipped, opening_is}
