@@ -1,8 +1,7 @@
 -- Texts that grow at their end.
-use Rattle.std.proofs.Common.{◌≡◌, ◌∙◌, ◌+◌, ◌-◌, ◌<◌, ℕ, suc, List, [], ◌∷◌, ◌++◌, length, refl, sym, ap, arith, append_assoc, append-nil, ◌≤◌}
+use Rattle.std.proofs.Common.{◌≡◌, ◌∙◌, ◌+◌, ◌-◌, ◌<◌, ℕ, suc, List, [], ◌∷◌, ◌++◌, refl, sym, ap, arith, append_assoc, append-nil, ◌≤◌}
 use Rattle.std.specs.Prelude.{replicate}
 use Rattle.std.specs.List.{flat_map, range_with_len}
-use Rattle.exam_files.specs.Padding.{right_in}
 
 -- one more piece
 pub more : (t s u p q : List ℕ) → s ≡ t ++ p → u ≡ s ++ q → u ≡ t ++ (p ++ q)
@@ -26,9 +25,3 @@ pub all_spaces : (s all : List ℕ) (i n : ℕ) → n ≤ i → s ++ replicate (
 all_spaces s all i n above is =
     let none : n - i ≡ 0 = omega arith in
     sym (append-nil s) ∙ ap (λ k. s ++ replicate k 32) (sym none) ∙ is
-
--- no width asks for no space
-pub unpadded : (text : List ℕ) → right_in 0 text ≡ text
-unpadded text =
-    let none : 0 - length text ≡ 0 = omega arith in
-    ap (λ k. replicate k 32 ++ text) none

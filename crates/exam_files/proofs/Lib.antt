@@ -1,5 +1,9 @@
+pub mod Accepting
 pub mod Appending
 pub mod Counts
+pub mod DoorLines
+pub mod Fields
+pub mod Numbered
 pub mod OfficeSheets
 pub mod Steps
 pub mod Streaming

@@ -39,7 +39,7 @@ use Rattle.exam_files.specs.Writing.{sheet_if}
 
 -- ---- lists
 
-cons_parts : {A : Type 0} (x y : A) (xs ys : List A) → x ∷ xs ≡ y ∷ ys → (x ≡ y) × (xs ≡ ys)
+pub cons_parts : {A : Type 0} (x y : A) (xs ys : List A) → x ∷ xs ≡ y ∷ ys → (x ≡ y) × (xs ≡ ys)
 cons_parts x y xs ys e = (cc, cc)
 
 -- each is given, so that none is left out
@@ -75,7 +75,7 @@ with_values f (row ∷ rows) all =
 
 -- ---- halls and openings
 
-flipped : (a b : Code) → same_code a b ≡ same_code b a
+pub flipped : (a b : Code) → same_code a b ≡ same_code b a
 flipped a b = same_bool (same_code a b) (same_code b a)
     (λ t. ap (same_code b) (same_code_exact a b t) ∙ same_code_itself b)
     (λ t. ap (same_code a) (same_code_exact b a t) ∙ same_code_itself a)
@@ -136,7 +136,7 @@ module _ (office : State) (s : Code) (view : View) (is : IsViewOf office s view)
       ap (list_any (λ code. same_code code h)) is.hall_codes
       ∙ any_flipped h (keys_of office.relations.halls) ∙ sym (known_among h office.relations.halls)
 
-  opening_is : (h : Code) → opening_of view h ≡ row_at opening_cmp office.relations.openings (s, h)
+  pub opening_is : (h : Code) → opening_of view h ≡ row_at opening_cmp office.relations.openings (s, h)
   opening_is h =
       ap (λ (os : List (Code × Opening)). option_map (λ (opened : Code × Opening). opened.1) (find (λ (opened : Code × Opening). same_code opened.0 h) os)) is.openings
       ∙ opened_row s h office.relations.openings

@@ -1,15 +1,18 @@
 //! The seat export of a session.
-ghost use Rattle.std.specs.Prelude.{◌≡◌, ◌++◌, Ok, OnOk, IfOk, IfErr};
-ghost use Rattle.std.specs.List.{flat_map};
+ghost use Rattle.std.specs.Prelude.{◌≡◌, ◌++◌, ℕ, List, Ok, OnOk, IfOk, IfErr, map};
+ghost use Rattle.csv.specs.Writing.{default_writer, row_text};
 ghost use Rattle.exam_files.specs.Exports as spec;
+ghost use Rattle.exam_files.specs.Held.{Holds};
 ghost use Rattle.exam_files.specs.Writing.{Writes};
 ghost use Rattle.exam_types.specs.declared.refusal.Refusal.TheVariants.{NoMemory};
 
 use crate::sending::send;
 use crate::sheet_fault::SheetFault;
-use crate::sheet_text::{hall_bytes, push_bytes, push_desk};
+use crate::sheet_text::{desk_bytes, hall_bytes};
+use csv::Writer;
 use exam_office::{Seat, SessionView};
 use exam_types::{Refusal, SessionCode};
+use itoa::Buffer;
 use std::alloc::Global;
 use std::io::Write;
 
@@ -28,40 +31,53 @@ pub fn export_seats<W: Write>(
     send(writer, text.as_slice())
 }
 
+/// The whole text, in memory, so that nothing goes out where memory runs out.
 fn export_text(alloc: Global, code: SessionCode, seats: &[Seat]) -> Result<Vec<u8>, Refusal>
     ensures ok { IfOk result (λ text. text.items ≡ spec.export_text code seats.now) }
     ensures memory { IfErr result (λ e. e ≡ NoMemory) }
 {
-    let mut text = Vec::new(alloc);
-    push_bytes(&mut text, b"session,number,paper,hall,desk\n")?;
-    push_records(&mut text, code, seats)?;
-    Ok(text)
-}
-
-fn push_records(text: &mut Vec<u8>, code: SessionCode, seats: &[Seat]) -> Result<(), Refusal>
-    ensures ok { OnOk result (text.new.items
-        ≡ text.old.items ++ flat_map (spec.export_line code) seats.now) }
-    ensures memory { IfErr result (λ e. e ≡ NoMemory) }
-{
+    let mut records = Writer::from_writer(Vec::new(alloc));
+    write_record(
+        &mut records,
+        &[b"session", b"number", b"paper", b"hall", b"desk"],
+    )?;
     for seat in seats {
-        push_record(text, code, seat)?;
+        write_seat(alloc, &mut records, &code, seat)?;
     }
-    Ok(())
+    // Over memory only memory can be wanting.
+    records.into_inner().map_err(|_| Refusal::NoMemory)
 }
 
-fn push_record(text: &mut Vec<u8>, code: SessionCode, seat: &Seat) -> Result<(), Refusal>
-    ensures ok { OnOk result (text.new.items ≡ text.old.items ++ spec.export_line code seat.now) }
+fn write_seat(
+    alloc: Global,
+    records: &mut Writer<Vec<u8>>,
+    code: &SessionCode,
+    seat: &Seat,
+) -> Result<(), Refusal>
+    ensures ok { (bytes : List ℕ) → Holds records.old bytes
+        → OnOk result (Holds records.new (bytes ++ spec.export_line code.now seat.now)) }
     ensures memory { IfErr result (λ e. e ≡ NoMemory) }
 {
-    code.write_to(text)?;
-    push_bytes(text, b",")?;
-    seat.number.write_to(text)?;
-    push_bytes(text, b",")?;
-    seat.paper.write_to(text)?;
-    push_bytes(text, b",")?;
-    push_bytes(text, hall_bytes(&seat.hall))?;
-    push_bytes(text, b",")?;
-    push_desk(text, 0, seat.desk)?;
-    push_bytes(text, b"\n")?;
-    Ok(())
+    let mut number = Vec::new(alloc);
+    seat.number.write_to(&mut number)?;
+    let mut desk = Buffer::new();
+    write_record(
+        records,
+        &[
+            code.as_bytes(),
+            number.as_slice(),
+            seat.paper.as_bytes(),
+            hall_bytes(&seat.hall),
+            desk_bytes(&mut desk, seat.desk),
+        ],
+    )
+}
+
+/// Writes a record. Over memory only memory can be wanting.
+fn write_record(records: &mut Writer<Vec<u8>>, fields: &[&[u8]]) -> Result<(), Refusal>
+    ensures ok { (bytes : List ℕ) → Holds records.old bytes → OnOk result (Holds records.new
+        (bytes ++ row_text default_writer (map (λ field. field.now) fields.now))) }
+    ensures memory { IfErr result (λ e. e ≡ NoMemory) }
+{
+    records.write_fields(fields).map_err(|_| Refusal::NoMemory)
 }

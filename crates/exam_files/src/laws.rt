@@ -1,16 +1,38 @@
-//! Laws of sheets: what each prints is so of the office of which a view is made.
-ghost use Rattle.std.specs.Prelude.{◌≡◌, Ok};
+//! Laws of import files and of sheets.
+ghost use Rattle.std.specs.Prelude.{◌≡◌, ◌↔◌, ℕ, List, Ok};
+ghost use Rattle.exam_rules.specs.Orders.{AreInOrder};
 ghost use Rattle.exam_rules.specs.Relations.{Code, Relations};
+ghost use Rattle.exam_office.specs.Good.{IsGood};
+ghost use Rattle.exam_office.specs.declared.import_row.Kind.{Kind};
+ghost use Rattle.exam_office.specs.declared.import_row.Row.{Row};
 ghost use Rattle.exam_office.specs.State.{State, Seats};
 ghost use Rattle.exam_office.specs.Views.{View, Report, IsViewOf, ShowsShortage};
+ghost use Rattle.exam_files.specs.Accepted.{Accepts};
 ghost use Rattle.exam_files.specs.Attendances.{attendance};
 ghost use Rattle.exam_files.specs.Clashes.{clash_list};
+ghost use Rattle.exam_files.specs.DoorLines.{HasLines};
 ghost use Rattle.exam_files.specs.Doors.{door_list};
 ghost use Rattle.exam_files.specs.Exports.{seat_export};
+ghost use Rattle.exam_files.specs.ImportFiles.{import_of};
 ghost use Rattle.exam_files.specs.OfficeSheets.{attendance_of, clash_list_of, door_list_of, export_of};
 ghost use Rattle.exam_files.specs.OfficeSheets.{register_of};
 ghost use Rattle.exam_files.specs.Registers.{appeal_register};
 ghost use Rattle.exam_files.specs.Shortages.{shortage_text};
+
+/// A file is accepted exactly if it is not too long, it begins with the header, each record after it is a row,
+/// and rows with one key are equal; and then its rows are those of the records, in their order.
+pub fn accepted_files_are_their_rows()
+    ensures { (kind : Kind) (bytes : List ℕ) (rows : List Row)
+        → (import_of kind bytes ≡ Ok (record { kind = kind; rows = rows })) ↔ Accepts kind bytes rows }
+{}
+
+/// A door list has a line for each occupant of the hall, as many as its heading says, by desk from 1. Every
+/// `Office` is good (`Office::show_good`) and in order (`Office::show_order`).
+pub fn door_lists_have_a_line_for_each_occupant()
+    ensures { (office : State) (s hall : Code) (view : View) (text : List ℕ) → IsGood office
+        → AreInOrder office.relations → IsViewOf office s view → door_list view hall ≡ Ok text
+        → HasLines view hall text }
+{}
 
 /// A door list is that of the office, its refusals too.
 pub fn door_lists_are_of_the_office()

@@ -24,8 +24,9 @@ pub use doors::door_list;
 pub use exports::export_seats;
 pub use imports::read_import;
 pub use laws::{
-    appeal_registers_are_of_the_office, attendances_are_of_the_office,
-    clash_lists_are_of_the_office, door_lists_are_of_the_office, exports_are_of_the_office,
+    accepted_files_are_their_rows, appeal_registers_are_of_the_office,
+    attendances_are_of_the_office, clash_lists_are_of_the_office, door_lists_are_of_the_office,
+    door_lists_have_a_line_for_each_occupant, exports_are_of_the_office,
     shortage_sheets_are_of_the_facts,
 };
 pub use register_parts::{register_heading, register_line};

@@ -1,8 +1,10 @@
 //! Pieces of a sheet's text.
-ghost use Rattle.std.specs.Prelude.{◌≡◌, ◌++◌, OnOk, IfErr, replicate};
+ghost use Rattle.std.specs.Prelude.{◌≡◌, ◌++◌, OnOk, IfErr, IsTrue, replicate};
+ghost use Rattle.std.specs.List.{list_all};
 ghost use Rattle.std.specs.Fmt.{decimal};
 ghost use Rattle.exam_files.specs.Padding.{left_in, right_in};
 ghost use Rattle.exam_files.specs.Places.{hall_word, desk_word};
+ghost use Rattle.exam_types.specs.Codes.{is_dashed};
 ghost use Rattle.exam_types.specs.declared.refusal.Refusal.TheVariants.{NoMemory};
 
 use exam_types::{HallCode, Refusal};
@@ -49,15 +51,25 @@ pub fn push_desk(text: &mut Vec<u8>, width: usize, desk: Option<u32>) -> Result<
     ensures ok { OnOk result (text.new.items ≡ text.old.items ++ right_in width (desk_word desk)) }
     ensures memory { IfErr result (λ e. e ≡ NoMemory) }
 {
+    let mut buffer = Buffer::new();
+    push_word_right(text, width, desk_bytes(&mut buffer, desk))
+}
+
+/// The desk number in decimal, or a dash where there is none.
+pub fn desk_bytes(buffer: &mut Buffer, desk: Option<u32>) -> &[u8]
+    ensures value { result.now ≡ desk_word desk }
+    ensures form { IsTrue (list_all is_dashed result.now) }
+{
     match desk {
-        Some(number) => push_right(text, width, number),
-        None => push_word_right(text, width, b"-"),
+        Some(number) => buffer.format(number).as_bytes(),
+        None => b"-",
     }
 }
 
 /// The bytes of the hall's code, or a dash where there is none.
 pub fn hall_bytes(hall: &Option<HallCode>) -> &[u8]
-    ensures { result.now ≡ hall_word hall.now }
+    ensures value { result.now ≡ hall_word hall.now }
+    ensures form { IsTrue (list_all is_dashed result.now) }
 {
     match hall {
         Some(code) => code.as_bytes(),

@@ -5,7 +5,7 @@ pub returns-clause-ok : goal.returns-clause-ok
 returns-clause-ok c =
     let t = c.args.text.now.items in
     let e1 = more t _ _ _ _ c.in_ok-write_to.ensures.ok c.in_ok-push_bytes.ensures.ok in
-    let e2 = more t _ _ _ _ e1 (rw c.hall_bytes.ensures at c.in_ok-push_left.ensures.ok) in
+    let e2 = more t _ _ _ _ e1 (rw c.hall_bytes.ensures.value at c.in_ok-push_left.ensures.ok) in
     let e3 = more t _ _ _ _ e2 c.in_ok-push_bytes-2.ensures.ok in
     let e4 = more t _ _ _ _ e3 c.in_ok-push_desk.ensures.ok in
     let e5 = more t _ _ _ _ e4 c.in_ok-push_bytes-3.ensures.ok in
