@@ -118,3 +118,6 @@ module _ (import : ImportRows) (r t : Relations) (was : WasMade (command.Import 
 
   pub import_enters : AreOfKind import.kind import.rows → import.kind ≡ kind.Entries → EntersRows r import.rows t
   import_enters of is = record { order = was.order; kind = subst (λ k. AreOfKind k import.rows) is of; known = known; facts = made }
+
+  pub import_opens : AreOfKind import.kind import.rows → import.kind ≡ kind.Openings → t ≡ record r { openings = t.openings }
+  import_opens of is = subst (λ (u : Relations). u ≡ record r { openings = u.openings }) (sym made) (import_only kind.Openings r import.rows (subst (λ k. AreOfKind k import.rows) is of))

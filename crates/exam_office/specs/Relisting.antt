@@ -30,6 +30,7 @@ members_before (undo.Members t list) lists s =
     if same_code t s then list.items else listed lists.members.entries s
 members_before (undo.Several before) lists s = list_before before.entries lists s
 members_before (undo.Halls t list) lists s = listed lists.members.entries s
+members_before (undo.AllHalls halls) lists s = listed lists.members.entries s
 members_before (undo.Whole old) lists s = listed old.members.entries s
 
 -- the open halls of a session with the change taken back
@@ -39,6 +40,7 @@ halls_before (undo.Members t list) lists s = listed lists.halls.entries s
 halls_before (undo.Several before) lists s = listed lists.halls.entries s
 halls_before (undo.Halls t list) lists s =
     if same_code t s then list.items else listed lists.halls.entries s
+halls_before (undo.AllHalls halls) lists s = listed halls.entries s
 halls_before (undo.Whole old) lists s = listed old.halls.entries s
 
 -- each session whose list is put back has one
@@ -48,6 +50,7 @@ HasList (undo.Members t list) lists = IsTrue (has_row code_cmp lists.members.ent
 HasList (undo.Several before) lists =
     (s : Code) → IsTrue (has_row code_cmp before.entries s) → IsTrue (has_row code_cmp lists.members.entries s)
 HasList (undo.Halls t list) lists = IsTrue (has_row code_cmp lists.halls.entries t)
+HasList (undo.AllHalls halls) lists = ⊤
 HasList (undo.Whole old) lists = ⊤
 
 -- the same lists

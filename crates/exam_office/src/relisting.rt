@@ -32,6 +32,8 @@ pub enum ListUndo {
     Several(BySession<Entrant>),
     /// The open halls of the session were these.
     Halls(SessionCode, Vec<HallCode>),
+    /// The open halls of all sessions were these.
+    AllHalls(BySession<HallCode>),
     /// The lists were these.
     Whole(SessionLists),
 }
@@ -49,6 +51,7 @@ impl ListUndo {
             ListUndo::Members(session, list) => lists.put_members(&session, list),
             ListUndo::Several(before) => put_back(lists, before),
             ListUndo::Halls(session, list) => lists.put_halls(&session, list),
+            ListUndo::AllHalls(halls) => lists.halls = halls,
             ListUndo::Whole(old) => *lists = old,
         }
     }
@@ -110,7 +113,11 @@ fn relist_import(
             Ok(ListUndo::Nothing)
         }
         Kind::Entries => relist_rows(alloc, facts, lists, rows),
-        Kind::Papers | Kind::Openings => list_anew(alloc, facts, lists),
+        Kind::Openings => {
+            let halls = lists.relist_halls(alloc, facts)?;
+            Ok(ListUndo::AllHalls(halls))
+        }
+        Kind::Papers => list_anew(alloc, facts, lists),
     }
 }
 

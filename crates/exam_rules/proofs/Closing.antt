@@ -1,14 +1,15 @@
--- What the closing of a hall changes in the lists: the session's list of halls is without it.
+-- What changes of openings change in the lists: those of halls alone. That of the session of a hall that is closed is without
+-- it.
 use Rattle.std.proofs.Common.{◌≡◌, not, Bool, true, false, cond, List, [], ◌∷◌, filter, map, Vec, refl, ap, sym, subst, ◌∙◌}
 use Rattle.std.specs.Global.{Global}
-use Rattle.std.specs.BTreeMap.{is_at}
+use Rattle.std.specs.BTreeMap.{BTreeMap, is_at}
 use Rattle.std.specs.Cmp.{Equal-is, IsTotalOrder, on_total, then_total}
 use Rattle.std.specs.Cmp.Lexicographic.{nat_list_cmp_total}
 use Rattle.std.specs.List.{AllByRecursion}
 use Rattle.std.specs.List.Sorted.{IsStrictlySortedBy}
 use Rattle.std.specs.Map.{keys_of}
 use Rattle.std.specs.declared.cmp.Ordering.TheVariants.{Less, Equal}
-use Rattle.std.specs.Ordering.{is_eq}
+use Rattle.std.specs.Ordering.{is_eq, nat_cmp}
 use Rattle.std.proofs.lemmas.Cmp.{tied_itself}
 use Rattle.std.proofs.lemmas.List.Kept.{IsStrictlySortedBy-filter}
 use Rattle.std.proofs.lemmas.Map.Keys.{sorted_head, sorted_tail}
@@ -16,10 +17,11 @@ use Rattle.std.proofs.lemmas.Map.Lookups.{CmpEqualImpliesEq, exact_bytes, exact_
 use Rattle.exam_rules.specs.declared.lists.Entrant.{Entrant}
 use Rattle.exam_rules.specs.declared.lists.SessionLists.{SessionLists}
 use Rattle.exam_rules.specs.declared.rows.Opening.{Opening}
-use Rattle.exam_rules.specs.Lists.{AreListsOf, closed, listed, without_hall}
+use Rattle.exam_rules.specs.Lists.{AreListsOf, closed, entrants, listed, without_hall}
 use Rattle.exam_rules.specs.Orders.{AreInOrder}
 use Rattle.exam_rules.specs.Relations.{Code, Relations, code_cmp, opening_cmp, remove_row, same_code}
 use Rattle.exam_rules.specs.Seatings.{open_halls}
+use Rattle.exam_rules.specs.Sessions as sessions
 use Rattle.exam_rules.proofs.Listing.{entrants_are_members}
 use Rattle.exam_rules.proofs.Naming.{halls_rise, same_code_exact, same_code_itself}
 
@@ -128,3 +130,13 @@ module _ (s h : Code) where
           subst (λ u. IsStrictlySortedBy code_cmp (open_halls (closed r s h) u)) (same_code_exact s t same)
           (subst (IsStrictlySortedBy code_cmp) (sym here) (IsStrictlySortedBy-filter code_cmp (λ k. not (same_code k h)) (open_halls r s) (are.rising s).codes))
       codes t false other = subst (IsStrictlySortedBy code_cmp) (sym (removed_elsewhere t other r.openings)) (are.rising t).codes
+
+-- ---- all halls
+
+pub halls_anew : (r t : Relations) (old new : SessionLists) → AreListsOf r old → t ≡ record r { openings = t.openings } → ((s : Code) → listed new.halls.entries s ≡ open_halls t s) → ((s : Code) → IsStrictlySortedBy code_cmp (open_halls t s)) → new.members ≡ old.members → AreListsOf t new
+halls_anew r t old new are only halls up members = record {
+  numbers = entrants_are_members t;
+  members = λ s. ap (λ (rows : BTreeMap Code (Vec Entrant Global)). listed rows.entries s) members ∙ are.members s ∙ sym (ap (λ (u : Relations). entrants u s) only);
+  halls = halls;
+  rising = λ s. record { numbers = subst (λ (u : Relations). IsStrictlySortedBy nat_cmp (sessions.members u s)) (sym only) (are.rising s).numbers; codes = up s };
+}

@@ -521,6 +521,25 @@ impl SessionLists {
         Ok(exchange(&mut self.halls, &session, list))
     }
 
+    /// Lists the open halls of all sessions anew, where of what the lists show only openings have changed. Gives the
+    /// lists of halls as they were; after a refusal the lists are as they were.
+    pub fn relist_halls(
+        &mut self,
+        alloc: Global,
+        facts: &Facts,
+    ) -> Result<BySession<HallCode>, Refusal>
+        ensures ok { OnOk result ((r : Relations) → listing.AreListsOf r self.old
+            → relations_of facts.now ≡ record r { openings = facts.now.openings.entries }
+            → listing.AreListsOf (relations_of facts.now) self.new) }
+        ensures old { IfOk result (λ halls. halls ≡ self.old.halls) }
+        ensures members { self.new.members ≡ self.old.members }
+        ensures err { OnErr result (self.new.halls ≡ self.old.halls) }
+        ensures memory { IfErr result (λ e. e ≡ NoMemory) }
+    {
+        let halls = halls_by_session(alloc, facts)?;
+        Ok(replace(&mut self.halls, halls))
+    }
+
     /// Puts the list in the place of the session's own. Takes no memory.
     pub fn put_halls(&mut self, session: &SessionCode, list: Vec<HallCode>)
         requires { IsTrue (has_row code_cmp self.old.halls.entries session.now) }
