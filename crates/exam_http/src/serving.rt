@@ -1,9 +1,10 @@
 //! One request, read and answered.
 ghost use Rattle.std.specs.Prelude.{◌≡◌};
+ghost use Rattle.exam_request.specs.Asked.{asked_of};
 ghost use Rattle.exam_http.specs.Serving as spec;
 
 use crate::answering::answer;
-use exam_request::{Answer, Asked, Fault, read_request, write_answer};
+use exam_request::{Asked, read_request, write_answer};
 use exam_store::Store;
 use exam_types::Day;
 use sqlite::Alter;
@@ -59,30 +60,15 @@ fn write_back<S: Alter, W: Write>(
     alloc: Global,
     store: &mut Store<S>,
     today: Day,
-    asked: &Result<Asked<'_>, Fault>,
+    asked: &Asked<'_>,
     writer: &mut W,
 ) -> Result<(), HttpFault>
-    ensures { spec.Replies S.Store W.contents today (spec.asked_as asked.now) store.old writer.old result
+    ensures { spec.Replies S.Store W.contents today (asked_of asked.now) store.old writer.old result
         store.new writer.new }
 {
-    let answer = told(alloc, store, today, asked);
+    let answer = answer(alloc, store, today, asked);
     match write_answer(&answer, writer) {
         Ok(()) => Ok(()),
         Err(_) => Err(HttpFault::Write),
-    }
-}
-
-/// What is told of what was asked.
-fn told<S: Alter>(
-    alloc: Global,
-    store: &mut Store<S>,
-    today: Day,
-    asked: &Result<Asked<'_>, Fault>,
-) -> Answer
-    ensures { spec.AnswersAsked S.Store today store.old (spec.asked_as asked.now) result store.new }
-{
-    match asked {
-        Ok(asked) => answer(alloc, store, today, asked),
-        Err(fault) => Answer::error(fault.number()),
     }
 }
