@@ -7,7 +7,9 @@ ghost use Rattle.sqlite.specs.Steps.{over_memory};
 ghost use Rattle.exam_types.specs.declared.refusal.Refusal.TheVariants.{BadStore, NoMemory, UnknownSession};
 ghost use Rattle.exam_rules.specs.Relations.{Code, code_cmp, has_row};
 ghost use Rattle.exam_rules.specs.Sessions.{IsSessionRefusal};
+ghost use Rattle.exam_office.specs.Good.{IsGood};
 ghost use Rattle.exam_office.specs.Headline.{IsSeated};
+ghost use Rattle.exam_office.specs.Orders.{IsInOrder};
 ghost use Rattle.exam_office.specs.Own.{own_of, shown};
 ghost use Rattle.exam_office.specs.State.{empty_state};
 ghost use Rattle.exam_office.specs.Views.{IsViewOf};
@@ -67,14 +69,17 @@ impl Store<MemStore> {
         ensures office { IfOk result (λ store. store.office ≡ empty_state) }
         ensures kept { IfOk result (λ store. IsKept (state over_memory store.database) store.office
             × IsTrue (state over_memory store.database).is_open) }
+        ensures good { IfOk result (λ store. IsGood store.office × IsInOrder store.office) }
         ensures memory { IfErr result (λ e. e ≡ NoMemory) }
     {
         let mut conn = Connection::open_in_memory(alloc)?;
         save_empty(&mut conn)?;
-        Ok(Store {
+        let store = Store {
             conn,
             office: Office::empty(alloc),
-        })
+        };
+        store.show_good();
+        Ok(store)
     }
 }
 
@@ -93,6 +98,7 @@ impl<S: Alter> Store<S> {
         ensures found { (IsBlank (state S.Store conn).now → ⊥) → IfOk result (λ store.
             Finds (state S.Store conn) (state S.Store store.database) store.office) }
         ensures kept { IfOk result (λ store. KeepsOurs (state S.Store store.database) store.office) }
+        ensures good { IfOk result (λ store. IsGood store.office × IsInOrder store.office) }
         ensures blank { IfErr result (λ e. HasCleanDisk (state S.Store e.1)
             → IsBlank (state S.Store conn).now
             → FailsToCreate (state S.Store conn) (state S.Store e.1) e.0) }
@@ -111,7 +117,7 @@ impl<S: Alter> Store<S> {
         }
     }
 
-    /// Opens the office that is there. The connection comes back beside a refusal: `OldSchema` where it is of
+    /// Opens the good office that is there. The connection comes back beside a refusal: `OldSchema` where it is of
     /// an older version, `BadStore` where the database holds no good office of this version, and `Store` also
     /// where a transaction is under way.
     pub fn open(
@@ -121,6 +127,7 @@ impl<S: Alter> Store<S> {
         ensures found { IfOk result (λ store.
             Finds (state S.Store conn) (state S.Store store.database) store.office) }
         ensures kept { IfOk result (λ store. KeepsOurs (state S.Store store.database) store.office) }
+        ensures good { IfOk result (λ store. IsGood store.office × IsInOrder store.office) }
         ensures refusal { IfErr result (λ e. HasCleanDisk (state S.Store e.1)
             → ((e.0 ≡ Refusal.Store) × IsTrue e.1.in_transaction)
             ⊎ FailsToOpen S.Store conn e.1 e.0) }
@@ -207,6 +214,15 @@ impl<S: Alter> Store<S> {
         self.office.show_seated();
     }
 
+    /// The office is good, and the keys of its tables and of its seats rise. Does nothing.
+    pub fn show_good(&self)
+        ensures good { IsGood self.now.office }
+        ensures order { IsInOrder self.now.office }
+    {
+        self.office.show_good();
+        self.office.show_order();
+    }
+
     /// One session with its plan. Refused as an unknown session where there is no such session.
     pub fn load_session(
         &mut self,
@@ -278,8 +294,11 @@ fn store_of<S: Alter>(
 ) -> Result<Store<S>, (Refusal, Connection<S>)>
     ensures ok { IfOk result (λ store. (store.office ≡ office) × (store.database ≡ conn)
         × (conn.in_transaction ≡ false)) }
+    ensures good { IfOk result (λ store. IsGood store.office × IsInOrder store.office) }
     ensures err { IfErr result (λ e. (e.0 ≡ Refusal.Store) × (e.1 ≡ conn) × IsTrue conn.in_transaction) }
 {
+    office.show_good();
+    office.show_order();
     if conn.is_autocommit() {
         Ok(Store { conn, office })
     } else {
