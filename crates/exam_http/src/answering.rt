@@ -1,6 +1,8 @@
 //! What a request is told, by what it asks and the office.
 ghost use Rattle.std.specs.Prelude.{◌≡◌, ◌⊎◌, option_and_then, option_map, IsSome, IfOk, IfErr, IfNone, List, ℕ};
 ghost use Rattle.exam_types.specs.declared.refusal.Refusal.TheVariants.{NoMemory, UnknownCandidate};
+ghost use Rattle.exam_rules.specs.Relations.{Code};
+ghost use Rattle.exam_office.specs.Headline.{IsSeated};
 ghost use Rattle.exam_office.specs.Own.{own_of, shown};
 ghost use Rattle.exam_request.specs.Answer.{ok_told, refusal_told};
 ghost use Rattle.exam_request.specs.Asked.{asked_of, request_of};
@@ -19,19 +21,23 @@ use exam_types::{Day, Refusal};
 use sqlite::Alter;
 use std::alloc::Global;
 
-/// What is answered on a day. Where memory is short, and then before any command, the answer says so.
+/// What is answered on a day. Where memory is short, and then before any command, the answer says so. Whatever it
+/// says, every session is seated as promised.
 pub fn answer<S: Alter>(
     alloc: Global,
     store: &mut Store<S>,
     today: Day,
     asked: &Asked<'_>,
 ) -> Answer
-    ensures { spec.AnswersAsked S.Store today store.old (asked_of asked.now) result store.new }
+    ensures answers { spec.AnswersAsked S.Store today store.old (asked_of asked.now) result store.new }
+    ensures headline { (s : Code) → IsSeated store.new.office s }
 {
-    match asked {
+    let answer = match asked {
         Asked::Request(request) => answer_request(alloc, store, today, request),
         Asked::Fault(fault) => Answer::error(fault.number()),
-    }
+    };
+    store.show_seated();
+    answer
 }
 
 /// What a request is answered.
