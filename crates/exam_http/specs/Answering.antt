@@ -18,6 +18,7 @@ use Rattle.exam_request.specs.Choices.{candidate_named, choice_of}
 use Rattle.exam_request.specs.Faults.{fault_number}
 use Rattle.exam_request.specs.declared.choice.Choice.{Choice}
 use Rattle.exam_request.specs.declared.choice.Choice.TheVariants as choice
+use Rattle.exam_request.specs.declared.fault.Fault.{Fault}
 
 -- what the office shows of the candidate whom a request names, if there is one
 abbrev pub own_named : State → Request → Option OwnRows
@@ -63,3 +64,8 @@ abbrev pub Answers : {S : Type 0} → Ghosts S → ℕ → OfficeIn S → Reques
 Answers g today old request told new =
     IsBusy old told new
     ⊎ Does g today (own_named old.office request) old (choice_in old.office request) told new
+
+-- what is told of what was asked: a fault by its number, and then nothing changes
+abbrev pub AnswersAsked : {S : Type 0} → Ghosts S → ℕ → OfficeIn S → Result Request Fault → Told → OfficeIn S → Type 0
+AnswersAsked g today old (Ok request) told new = Answers g today old request told new
+AnswersAsked g today old (Err fault) told new = (told ≡ error_told (fault_number fault)) × (new ≡ old)

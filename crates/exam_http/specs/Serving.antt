@@ -3,14 +3,12 @@ use Rattle.std.specs.Prelude.{◌≡◌, ⊤, ℕ, List, Option, Result, Ok, Err
 use Rattle.std.specs.Io.KnownBytes.{Appends}
 use Rattle.sqlite_trees.specs.declared.store.Store.{Ghosts}
 use Rattle.exam_store.specs.Stores.{OfficeIn}
-use Rattle.exam_request.specs.Answer.{Told, answer_text, error_told}
-use Rattle.exam_request.specs.Asked.{Asks, Request, request_of}
-use Rattle.exam_request.specs.Faults.{fault_number}
+use Rattle.exam_request.specs.Answer.{Told, answer_text}
+use Rattle.exam_request.specs.Asked.{Asks, Request}
 use Rattle.exam_send.specs.Given.{Gave}
 use Rattle.exam_send.specs.Sending.{AppendsPart}
 use Rattle.exam_request.specs.declared.fault.Fault.{Fault}
-use Rattle.exam_request.specs.declared.reading.Asked.{Asked}
-use Rattle.exam_http.specs.Answering.{Answers}
+use Rattle.exam_http.specs.Answering.{AnswersAsked}
 use Rattle.exam_http.specs.declared.serving.HttpFault.{HttpFault}
 use Rattle.exam_http.specs.declared.serving.HttpFault.TheVariants.{Read, Write}
 
@@ -18,16 +16,6 @@ use Rattle.exam_http.specs.declared.serving.HttpFault.TheVariants.{Read, Write}
 abbrev pub http_fault_number : HttpFault → ℕ
 http_fault_number Read = 41
 http_fault_number Write = 42
-
--- a request that cannot be read is told its fault, and nothing changes
-abbrev pub AnswersAsked : {S : Type 0} → Ghosts S → ℕ → OfficeIn S → Result Request Fault → Told → OfficeIn S → Type 0
-AnswersAsked g today old (Ok request) told new = Answers g today old request told new
-AnswersAsked g today old (Err fault) told new = (told ≡ error_told (fault_number fault)) × (new ≡ old)
-
--- the parts that were read, as the request that they are
-abbrev pub asked_as : Result Asked Fault → Result Request Fault
-asked_as (Ok asked) = Ok (request_of asked)
-asked_as (Err fault) = Err fault
 
 -- What is told of the bytes that a reader gave, by what they ask.
 pub record Tells {S : Type 0} (g : Ghosts S) (today : ℕ) (input rest : Option (List ℕ)) (old : OfficeIn S)

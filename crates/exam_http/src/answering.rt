@@ -1,9 +1,11 @@
 //! What a request is told, by what it asks and the office.
 ghost use Rattle.std.specs.Prelude.{◌≡◌, ◌⊎◌, option_and_then, option_map, IsSome, IfOk, IfErr, IfNone, List, ℕ};
 ghost use Rattle.exam_types.specs.declared.refusal.Refusal.TheVariants.{NoMemory, UnknownCandidate};
+ghost use Rattle.exam_rules.specs.Relations.{Code};
+ghost use Rattle.exam_office.specs.Headline.{IsSeated};
 ghost use Rattle.exam_office.specs.Own.{own_of, shown};
 ghost use Rattle.exam_request.specs.Answer.{ok_told, refusal_told};
-ghost use Rattle.exam_request.specs.Asked.{request_of};
+ghost use Rattle.exam_request.specs.Asked.{asked_of, request_of};
 ghost use Rattle.exam_request.specs.Bodies as bodies;
 ghost use Rattle.exam_request.specs.Choices.{number_named};
 ghost use Rattle.exam_request.specs.Targets as targets;
@@ -11,7 +13,7 @@ ghost use Rattle.exam_http.specs.Answering as spec;
 
 use exam_office::{AppealState, Own, Reply};
 use exam_request::{
-    Answer, Asked, Choice, Found, appeals_body, candidate_of, choose, clashes_body, find,
+    Answer, Asked, Choice, Found, Request, appeals_body, candidate_of, choose, clashes_body, find,
     seats_body, server_routes,
 };
 use exam_store::Store;
@@ -19,16 +21,35 @@ use exam_types::{Day, Refusal};
 use sqlite::Alter;
 use std::alloc::Global;
 
-/// What a request is told on a day. Where memory is short, and then before any command, the answer says so.
+/// What is answered on a day. Where memory is short, and then before any command, the answer says so. Whatever it
+/// says, every session is seated as promised.
 pub fn answer<S: Alter>(
     alloc: Global,
     store: &mut Store<S>,
     today: Day,
     asked: &Asked<'_>,
 ) -> Answer
-    ensures { spec.Answers S.Store today store.old (request_of asked.now) result store.new }
+    ensures answers { spec.AnswersAsked S.Store today store.old (asked_of asked.now) result store.new }
+    ensures headline { (s : Code) → IsSeated store.new.office s }
 {
-    match chosen(alloc, store, asked) {
+    let answer = match asked {
+        Asked::Request(request) => answer_request(alloc, store, today, request),
+        Asked::Fault(fault) => Answer::error(fault.number()),
+    };
+    store.show_seated();
+    answer
+}
+
+/// What a request is answered.
+fn answer_request<S: Alter>(
+    alloc: Global,
+    store: &mut Store<S>,
+    today: Day,
+    request: &Request<'_>,
+) -> Answer
+    ensures { spec.Answers S.Store today store.old (request_of request.now) result store.new }
+{
+    match chosen(alloc, store, request) {
         Ok((choice, own)) => done(alloc, store, today, choice, own),
         Err(refusal) => Answer::refusal(refusal),
     }
@@ -38,19 +59,19 @@ pub fn answer<S: Alter>(
 fn chosen<S: Alter>(
     alloc: Global,
     store: &mut Store<S>,
-    asked: &Asked<'_>,
+    request: &Request<'_>,
 ) -> Result<(Choice, Option<Own>), Refusal>
-    ensures choice { IfOk result (λ r. r.0 ≡ spec.choice_in store.old.office (request_of asked.now)) }
-    ensures own { IfOk result (λ r. option_map shown r.1 ≡ spec.own_named store.old.office (request_of asked.now)) }
+    ensures choice { IfOk result (λ r. r.0 ≡ spec.choice_in store.old.office (request_of request.now)) }
+    ensures own { IfOk result (λ r. option_map shown r.1 ≡ spec.own_named store.old.office (request_of request.now)) }
     ensures memory { IfErr result (λ e. e ≡ NoMemory) }
     ensures same { store.new ≡ store.old }
 {
     let Ok(routes) = server_routes(alloc) else {
         return Err(Refusal::NoMemory);
     };
-    let found = find(&routes, asked.target);
+    let found = find(&routes, request.target);
     let own = own_rows(alloc, store, &found)?;
-    let choice = choose(alloc, asked, found, own.as_ref())?;
+    let choice = choose(alloc, request, found, own.as_ref())?;
     Ok((choice, own))
 }
 

@@ -1,7 +1,5 @@
 //! What the answers of two offices have in common.
 ghost use Rattle.std.specs.Prelude.{◌≡◌, ℕ};
-ghost use Rattle.exam_office.specs.Good.{IsGood};
-ghost use Rattle.exam_office.specs.Orders.{IsInOrder};
 ghost use Rattle.exam_request.specs.Answer.{Told};
 ghost use Rattle.exam_request.specs.Asked.{Request};
 ghost use Rattle.exam_request.specs.Choices.{IsStranger};
@@ -9,18 +7,20 @@ ghost use Rattle.exam_store.specs.Stores.{OfficeIn};
 ghost use Rattle.exam_http.specs.Alike.{AreAlike};
 ghost use Rattle.exam_http.specs.Answering.{Answers, own_named};
 
+use exam_store::Store;
 use sqlite::Alter;
 
 /// Two offices that show the candidate whom a request names the same answer the request the same on a day,
-/// unless one of them fails: nobody learns anything of another candidate. The office of a store is good and in
-/// order (`Office::show_good`, `Office::show_order`).
-pub fn own_rows_decide_an_answer<S: Alter, T: Alter>()
-    ensures { (today : ℕ) (request : Request) (one one_after : OfficeIn S) (other other_after : OfficeIn T)
-        (first second : Told) → IsGood one.office → IsInOrder one.office → IsGood other.office
-        → IsInOrder other.office → own_named one.office request ≡ own_named other.office request
-        → Answers S.Store today one request first one_after
-        → Answers T.Store today other request second other_after → AreAlike first second }
-{}
+/// unless one of them fails: nobody learns anything of another candidate.
+pub fn own_rows_decide_an_answer<S: Alter, T: Alter>(one: &Store<S>, other: &Store<T>)
+    ensures { (today : ℕ) (request : Request) (one_after : OfficeIn S) (other_after : OfficeIn T)
+        (first second : Told) → own_named one.now.office request ≡ own_named other.now.office request
+        → Answers S.Store today one.now request first one_after
+        → Answers T.Store today other.now request second other_after → AreAlike first second }
+{
+    one.show_good();
+    other.show_good();
+}
 
 /// What a stranger is answered hangs on the request alone, and changes nothing: two offices, whatever they hold,
 /// of neither of which a request shows the code of the candidate whom it names, answer it the same on any days,

@@ -6,5 +6,6 @@ mod laws;
 mod serving;
 
 pub use answering::answer;
+pub use exam_request::{Answer, Asked, Fault, Request};
 pub use laws::{own_rows_decide_an_answer, strangers_are_answered_alike};
 pub use serving::{HttpFault, serve_one};

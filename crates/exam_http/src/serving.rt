@@ -1,9 +1,12 @@
 //! One request, read and answered.
 ghost use Rattle.std.specs.Prelude.{◌≡◌};
+ghost use Rattle.exam_rules.specs.Relations.{Code};
+ghost use Rattle.exam_office.specs.Headline.{IsSeated};
+ghost use Rattle.exam_request.specs.Asked.{asked_of};
 ghost use Rattle.exam_http.specs.Serving as spec;
 
 use crate::answering::answer;
-use exam_request::{Answer, Asked, Fault, read_request, write_answer};
+use exam_request::{Asked, read_request, write_answer};
 use exam_store::Store;
 use exam_types::Day;
 use sqlite::Alter;
@@ -36,7 +39,8 @@ impl HttpFault {
 const LONGEST_REQUEST: usize = 12_288;
 
 /// Reads one request and writes one answer. After `Read` nothing was written and nothing changed; after `Write`
-/// a beginning of the answer went out, not all of it, and a command stands as it was answered.
+/// a beginning of the answer went out, not all of it, and a command stands as it was answered. Whatever came in and
+/// went out, every session is seated as promised.
 pub fn serve_one<S: Alter, R: Read, W: Write>(
     alloc: Global,
     store: &mut Store<S>,
@@ -44,13 +48,17 @@ pub fn serve_one<S: Alter, R: Read, W: Write>(
     reader: &mut R,
     writer: &mut W,
 ) -> Result<(), HttpFault>
-    ensures { spec.Serves S.Store W.contents today (R.remaining reader.old) (R.remaining reader.new) store.old
-        writer.old result store.new writer.new }
+    ensures serves { spec.Serves S.Store W.contents today (R.remaining reader.old) (R.remaining reader.new)
+        store.old writer.old result store.new writer.new }
+    ensures headline { (s : Code) → IsSeated store.new.office s }
 {
     let mut buffer = [0; LONGEST_REQUEST];
     match read_request(reader, &mut buffer) {
         Ok(asked) => write_back(alloc, store, today, &asked, writer),
-        Err(_) => Err(HttpFault::Read),
+        Err(_) => {
+            store.show_seated();
+            Err(HttpFault::Read)
+        }
     }
 }
 
@@ -59,30 +67,16 @@ fn write_back<S: Alter, W: Write>(
     alloc: Global,
     store: &mut Store<S>,
     today: Day,
-    asked: &Result<Asked<'_>, Fault>,
+    asked: &Asked<'_>,
     writer: &mut W,
 ) -> Result<(), HttpFault>
-    ensures { spec.Replies S.Store W.contents today (spec.asked_as asked.now) store.old writer.old result
+    ensures replies { spec.Replies S.Store W.contents today (asked_of asked.now) store.old writer.old result
         store.new writer.new }
+    ensures headline { (s : Code) → IsSeated store.new.office s }
 {
-    let answer = told(alloc, store, today, asked);
+    let answer = answer(alloc, store, today, asked);
     match write_answer(&answer, writer) {
         Ok(()) => Ok(()),
         Err(_) => Err(HttpFault::Write),
-    }
-}
-
-/// What is told of what was asked.
-fn told<S: Alter>(
-    alloc: Global,
-    store: &mut Store<S>,
-    today: Day,
-    asked: &Result<Asked<'_>, Fault>,
-) -> Answer
-    ensures { spec.AnswersAsked S.Store today store.old (spec.asked_as asked.now) result store.new }
-{
-    match asked {
-        Ok(asked) => answer(alloc, store, today, asked),
-        Err(fault) => Answer::error(fault.number()),
     }
 }

@@ -6,8 +6,10 @@ use Rattle.exam_request.specs.Input.{head_of}
 use Rattle.exam_request.specs.declared.fault.Fault.{Fault}
 use Rattle.exam_request.specs.declared.fault.Fault.TheVariants.{Length}
 use Rattle.exam_request.specs.declared.reading.Asked.{Asked}
+use Rattle.exam_request.specs.declared.reading.Asked.TheVariants as asked
 use Rattle.exam_request.specs.declared.reading.Message.{Message}
 use Rattle.exam_request.specs.declared.reading.ReadFailed.{ReadFailed}
+use Rattle.exam_request.specs.declared.reading.Request.{Request as Parts}
 use Rattle.exam_request.specs.declared.reading.Stop.{Stop}
 use Rattle.exam_request.specs.declared.reading.Stop.TheVariants.{Failed, Faulty}
 
@@ -41,19 +43,23 @@ Asks input answer = MatchResult (head_of input)
     (λ fault. answer ≡ Err fault)
 
 -- the parts of a request that a caller is handed
-abbrev pub request_of : Asked → Request
-request_of asked = record {
-  method = asked.method.now;
-  target = asked.target.now;
-  code = option_map (λ c. c.now) asked.code;
-  body = asked.body.now;
+abbrev pub request_of : Parts → Request
+request_of parts = record {
+  method = parts.method.now;
+  target = parts.target.now;
+  code = option_map (λ c. c.now) parts.code;
+  body = parts.body.now;
 }
 
+-- what a caller is handed, as what was asked
+abbrev pub asked_of : Asked → Result Request Fault
+asked_of (asked.Fault fault) = Err fault
+asked_of (asked.Request parts) = Ok (request_of parts)
+
 -- the answer is what these bytes ask
-abbrev pub IsAnswerTo : Result (Result Asked Fault) ReadFailed → List ℕ → Type 0
+abbrev pub IsAnswerTo : Result Asked ReadFailed → List ℕ → Type 0
 IsAnswerTo (Err failed) input = ⊤
-IsAnswerTo (Ok (Ok asked)) input = Asks input (Ok (request_of asked))
-IsAnswerTo (Ok (Err fault)) input = Asks input (Err fault)
+IsAnswerTo (Ok done) input = Asks input (asked_of done)
 
 -- Where a request lies in a buffer.
 

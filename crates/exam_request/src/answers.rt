@@ -1,8 +1,9 @@
 //! Answers. A head and a short body take no memory.
-ghost use Rattle.std.specs.Prelude.{◌≡◌, ◌≤◌, ◌+◌, ◌++◌, OnOk, OnErr, codes, decimal, length};
+ghost use Rattle.std.specs.Prelude.{◌≡◌, ◌≤◌, ◌+◌, ◌++◌, OnOk, OnErr, codes, decimal, length, option_map};
 ghost use Rattle.std.specs.Io.KnownBytes.{Appends};
 ghost use Rattle.arrayvec.specs.ArrayVec.{array_vec_len};
 ghost use Rattle.exam_request.specs.Answer as spec;
+ghost use Rattle.exam_request.specs.Methods.{allow_text};
 ghost use Rattle.exam_send.specs.Sending.{AppendsPart};
 
 use crate::methods::allowed;
@@ -106,6 +107,27 @@ impl Answer {
         }
     }
 
+    /// Its status.
+    pub fn status(&self) -> u16
+        ensures { result ≡ self.now.status }
+    {
+        self.status.as_u16()
+    }
+
+    /// The value of its line `Allow`, if it has one.
+    pub fn allow(&self) -> Option<&'static [u8]>
+        ensures { option_map (λ value. value.now) result ≡ option_map allow_text self.now.allow }
+    {
+        Some(allowed(self.allow?))
+    }
+
+    /// Its body.
+    pub fn body(&self) -> &[u8]
+        ensures { result.now ≡ self.now.body }
+    {
+        self.body.as_slice()
+    }
+
     /// The answer to a refusal.
     pub fn refusal(refusal: Refusal) -> Answer
         ensures { result ≡ spec.refusal_told refusal }
@@ -128,7 +150,7 @@ pub fn write_answer<W: Write>(answer: &Answer, writer: &mut W) -> Result<(), Wri
     ensures err { OnErr result
         (AppendsPart (W.contents writer.old) (W.contents writer.new) (spec.answer_text answer.now)) }
 {
-    let body = answer.body.as_slice();
+    let body = answer.body();
     let head = head(answer.status, answer.allow, body.len());
     send_both(writer, head.as_slice(), body)
 }

@@ -1,19 +1,16 @@
 //! What is done for a request, by what it asks and the rows of the candidate that it names.
-ghost use Rattle.std.specs.Prelude.{◌≡◌, IfOk, IfErr, Option, Some, option_map};
-ghost use Rattle.exam_types.specs.Numbers.{number_in};
+ghost use Rattle.std.specs.Prelude.{◌≡◌, IfOk, IfErr, Some, option_map};
 ghost use Rattle.exam_types.specs.declared.refusal.Refusal.TheVariants.{NoMemory};
-ghost use Rattle.exam_request.specs.Asked.{Request, request_of};
+ghost use Rattle.exam_request.specs.Asked.{request_of};
 ghost use Rattle.exam_request.specs.Choices as spec;
 ghost use Rattle.exam_request.specs.Posted.{IsReadable};
-ghost use Rattle.exam_office.specs.Own.{OwnRows, shown};
-ghost use Rattle.exam_office.specs.declared.command.Command as exam;
-ghost use Rattle.exam_request.specs.declared.choice.Choice.TheVariants as choice;
+ghost use Rattle.exam_office.specs.Own.{shown};
 ghost use Rattle.exam_request.specs.Targets as targets;
 
 use crate::fault::Fault;
 use crate::methods::{allows, is_posting};
 use crate::posted::{Posted, posted_in};
-use crate::reading::Asked;
+use crate::reading::Request;
 use crate::routes::{Found, Route};
 use crate::secret::is_secret;
 use exam_office::{Command, Lodging, Own};
@@ -54,57 +51,57 @@ pub fn candidate_of(found: &Option<Found<'_>>) -> Option<Number>
 /// posted with the candidate's code.
 pub fn choose(
     alloc: Global,
-    asked: &Asked<'_>,
+    request: &Request<'_>,
     found: Option<Found<'_>>,
     own: Option<&Own>,
 ) -> Result<Choice, Refusal>
-    requires { option_map targets.shown found ≡ targets.reading asked.now.target.now }
+    requires { option_map targets.shown found ≡ targets.reading request.now.target.now }
     ensures ok { IfOk result (λ choice. choice
-        ≡ spec.choice_of (request_of asked.now) (option_map (λ o. shown o.now) own.entry)) }
+        ≡ spec.choice_of (request_of request.now) (option_map (λ o. shown o.now) own.entry)) }
     ensures memory { IfErr result (λ e. (e ≡ NoMemory)
-        × spec.ReadsText (request_of asked.now) (option_map (λ o. shown o.now) own.entry)) }
+        × spec.ReadsText (request_of request.now) (option_map (λ o. shown o.now) own.entry)) }
 {
     match found {
-        Some(found) => choose_at(alloc, asked, found, own),
+        Some(found) => choose_at(alloc, request, found, own),
         None => Ok(Choice::Fault(Fault::Route)),
     }
 }
 
 fn choose_at(
     alloc: Global,
-    asked: &Asked<'_>,
+    request: &Request<'_>,
     found: Found<'_>,
     own: Option<&Own>,
 ) -> Result<Choice, Refusal>
-    ensures ok { IfOk result (λ choice. choice ≡ spec.choice_at (request_of asked.now)
+    ensures ok { IfOk result (λ choice. choice ≡ spec.choice_at (request_of request.now)
         (option_map (λ o. shown o.now) own.entry) (targets.shown found.entry)) }
     ensures memory { IfErr result (λ e. (e ≡ NoMemory)
-        × spec.ShowsCode (request_of asked.now) (option_map (λ o. shown o.now) own.entry)
-        × spec.PostsText (request_of asked.now) (targets.shown found.entry)) }
+        × spec.ShowsCode (request_of request.now) (option_map (λ o. shown o.now) own.entry)
+        × spec.PostsText (request_of request.now) (targets.shown found.entry)) }
 {
-    if !allows(found.route, asked.method) {
+    if !allows(found.route, request.method) {
         return Ok(Choice::OtherMethod(found.route));
     }
     match own {
-        Some(own) => choose_for(alloc, asked, found, own),
+        Some(own) => choose_for(alloc, request, found, own),
         None => Ok(Choice::Refused(Refusal::UnknownCandidate)),
     }
 }
 
 fn choose_for(
     alloc: Global,
-    asked: &Asked<'_>,
+    request: &Request<'_>,
     found: Found<'_>,
     own: &Own,
 ) -> Result<Choice, Refusal>
-    ensures ok { IfOk result (λ choice. choice ≡ spec.choice_for (request_of asked.now)
+    ensures ok { IfOk result (λ choice. choice ≡ spec.choice_for (request_of request.now)
         (targets.shown found.entry) (shown own.now)) }
     ensures memory { IfErr result (λ e. (e ≡ NoMemory)
-        × spec.ShowsCode (request_of asked.now) (Some (shown own.now))
-        × spec.PostsText (request_of asked.now) (targets.shown found.entry)) }
+        × spec.ShowsCode (request_of request.now) (Some (shown own.now))
+        × spec.PostsText (request_of request.now) (targets.shown found.entry)) }
 {
-    if has_code(asked.code, &own.code) {
-        choose_own(alloc, asked, found, own.number)
+    if has_code(request.code, &own.code) {
+        choose_own(alloc, request, found, own.number)
     } else {
         Ok(Choice::Refused(Refusal::UnknownCandidate))
     }
@@ -122,19 +119,19 @@ fn has_code(given: Option<&[u8]>, code: &AccessCode) -> bool
 /// What is done for a candidate who has shown their code.
 fn choose_own(
     alloc: Global,
-    asked: &Asked<'_>,
+    request: &Request<'_>,
     found: Found<'_>,
     number: Number,
 ) -> Result<Choice, Refusal>
     ensures ok { IfOk result (λ choice. choice
-        ≡ spec.choice_own (request_of asked.now) number (targets.shown found.entry)) }
+        ≡ spec.choice_own (request_of request.now) number (targets.shown found.entry)) }
     ensures memory { IfErr result (λ e. (e ≡ NoMemory)
-        × spec.PostsText (request_of asked.now) (targets.shown found.entry)) }
+        × spec.PostsText (request_of request.now) (targets.shown found.entry)) }
 {
     match found.route {
         Route::Seats => Ok(Choice::ShowSeats),
         Route::Clashes => Ok(Choice::ShowClashes),
-        Route::Appeals if is_posting(asked.method) => lodging(alloc, number, asked.body),
+        Route::Appeals if is_posting(request.method) => lodging(alloc, number, request.body),
         Route::Appeals => Ok(Choice::ShowAppeals),
         Route::Appeal => Ok(retraction(number, found.reference)),
     }
@@ -170,24 +167,3 @@ fn retraction(number: Number, reference: &[u8]) -> Choice
         None => Choice::Refused(Refusal::UnknownAppeal),
     }
 }
-
-/// Whoever does not show the code of the candidate whom they name is told the same, whether there is such a
-/// candidate or not.
-pub fn strangers_are_told_alike()
-    ensures { (request : Request) (one other : Option OwnRows)
-        → spec.IsStranger request one → spec.IsStranger request other
-        → spec.choice_of request one ≡ spec.choice_of request other }
-{}
-
-/// No text of whoever does not show the code is read, so the choice for them wants no memory.
-pub fn texts_of_strangers_are_not_read()
-    ensures { (request : Request) (own : Option OwnRows) → spec.IsStranger request own
-        → spec.ReadsText request own → ⊥ }
-{}
-
-/// A command is the lodging or the retraction of the candidate whom the request names and whose code it
-/// shows.
-pub fn commands_are_of_who_shows_the_code()
-    ensures { (request : Request) (own : Option OwnRows) (command : exam.Command)
-        → spec.choice_of request own ≡ choice.Do command → spec.IsOwnCommand request own command }
-{}

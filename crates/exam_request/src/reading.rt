@@ -19,9 +19,16 @@ const MOST_HEAD: usize = 8_192;
 /// What ends a head.
 const EMPTY_LINE: &[u8] = b"\r\n\r\n";
 
-/// What a request asks.
+/// What was asked: a request, or the fault of bytes that are none.
 #[derive(Clone, Copy)]
-pub struct Asked<'b> {
+pub enum Asked<'b> {
+    Fault(Fault),
+    Request(Request<'b>),
+}
+
+/// A request.
+#[derive(Clone, Copy)]
+pub struct Request<'b> {
     pub method: &'b [u8],
     pub target: &'b str,
     /// The value of the access code line, where there is exactly one.
@@ -62,26 +69,26 @@ pub struct Message {
 pub fn read_request<'b, R: Read>(
     reader: &mut R,
     buffer: &'b mut [u8],
-) -> Result<Result<Asked<'b>, Fault>, ReadFailed>
+) -> Result<Asked<'b>, ReadFailed>
     requires room { 12288 ≤ length buffer.old }
     ensures { Gave 12288 (R.remaining reader.old) (R.remaining reader.new) (asked.IsAnswerTo result) }
 {
     match read_message(reader, buffer) {
-        Ok(message) => Ok(Ok(asked_in(buffer, message))),
-        Err(Stop::Faulty(fault)) => Ok(Err(fault)),
+        Ok(message) => Ok(Asked::Request(request_in(buffer, message))),
+        Err(Stop::Faulty(fault)) => Ok(Asked::Fault(fault)),
         Err(Stop::Failed) => Err(ReadFailed),
     }
 }
 
 /// The parts of a message.
-fn asked_in<'b>(buffer: &'b [u8], message: Message) -> Asked<'b>
+fn request_in<'b>(buffer: &'b [u8], message: Message) -> Request<'b>
     requires { asked.MessageLiesIn buffer.now message }
     ensures { asked.request_of result ≡ asked.request_at buffer.now message }
 {
     let (head, rest) = buffer.split_at(message.head);
     let spans = message.spans;
     // The target of a head is a text, so nothing is ever put in its place.
-    Asked {
+    Request {
         method: spans.method.of(head),
         target: str::from_utf8(spans.target.of(head)).unwrap_or(""),
         code: code_in(head, spans.code),

@@ -1,7 +1,7 @@
 //! What is done for requests.
 use super::owns::own_rows;
 use exam_office::Command;
-use exam_request::{Asked, Choice, candidate_of, choose, find, server_routes};
+use exam_request::{Choice, Request, candidate_of, choose, find, server_routes};
 use std::alloc::Global;
 use std::test::Fail;
 
@@ -47,7 +47,7 @@ const POSTED: &[u8] =
     b"{\"hall\":\"B\",\"kind\":\"hall\",\"reason\":\"\",\"ref\":\"HA1\",\"session\":\"S1\"}";
 
 /// What is done for a request, where the candidate 0000001 is known.
-fn chosen(alloc: Global, asked: &Asked<'_>) -> Result<Choice, Fail> {
+fn chosen(alloc: Global, asked: &Request<'_>) -> Result<Choice, Fail> {
     let router = server_routes(alloc).ok().ok_or("routes")?;
     let found = find(&router, asked.target);
     let own = own_rows(alloc, Some(1), "")?;
@@ -75,7 +75,7 @@ fn word(choice: &Choice) -> &'static str {
 #[test]
 fn each_request_is_shown_its_own_or_refused(rt: HostRuntime) -> Result<(), Fail> {
     for (method, target, code, done) in ROWS {
-        let asked = Asked {
+        let asked = Request {
             method,
             target,
             code,
@@ -88,7 +88,7 @@ fn each_request_is_shown_its_own_or_refused(rt: HostRuntime) -> Result<(), Fail>
 
 #[test]
 fn a_posting_lodges(rt: HostRuntime) -> Result<(), Fail> {
-    let asked = Asked {
+    let asked = Request {
         method: b"POST",
         target: APPEALS,
         code: CODE,

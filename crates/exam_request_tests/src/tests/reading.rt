@@ -1,5 +1,5 @@
 //! Requests, whole and cut, from readers that give all at once or a byte at a time, and that fail.
-use exam_request::{Asked, Fault, read_request};
+use exam_request::{Asked, Fault, Request, read_request};
 use std::io;
 use std::io::Read;
 use std::process::Abort;
@@ -39,8 +39,8 @@ fn fault_of(input: &[u8]) -> Result<u16, Fail> {
     let mut buffer = [0; 12_288];
     let mut reader = input;
     match read_request(&mut reader, &mut buffer) {
-        Ok(Ok(_)) => Ok(0),
-        Ok(Err(fault)) => Ok(fault.number()),
+        Ok(Asked::Request(_)) => Ok(0),
+        Ok(Asked::Fault(fault)) => Ok(fault.number()),
         Err(_) => Err(Fail::from("a slice never fails")),
     }
 }
@@ -50,7 +50,7 @@ fn expect_fault<R: Abort>(rt: &R, input: &[u8], number: u16) -> Result<(), Fail>
     Ok(())
 }
 
-fn is_get(asked: &Asked<'_>) -> bool {
+fn is_get(asked: &Request<'_>) -> bool {
     asked.method == b"GET".as_slice()
         && asked.target == "/candidates/0000002/seats"
         && asked.code == Some(b"ABCD1234".as_slice())
@@ -62,7 +62,7 @@ fn a_request_is_read_at_once(rt: HostRuntime) -> Result<(), Fail> {
     let mut buffer = [0; 12_288];
     let mut reader = GET;
     match read_request(&mut reader, &mut buffer) {
-        Ok(Ok(asked)) => assert!(rt; is_get(&asked)),
+        Ok(Asked::Request(asked)) => assert!(rt; is_get(&asked)),
         _ => return Err(Fail::from("no request")),
     }
     Ok(())
@@ -77,7 +77,9 @@ fn no_read_is_made_behind_the_body(rt: HostRuntime) -> Result<(), Fail> {
         fails: true,
     };
     match read_request(&mut reader, &mut buffer) {
-        Ok(Ok(asked)) => assert!(rt; asked.body == b"abc".as_slice() && asked.code.is_none()),
+        Ok(Asked::Request(asked)) => assert!(rt;
+            asked.body == b"abc".as_slice() && asked.code.is_none()
+        ),
         _ => return Err(Fail::from("no request")),
     }
     assert_eq!(rt; reader.reads, POST.len() as u32 - 3);
@@ -214,7 +216,7 @@ fn two_code_lines_are_none(rt: HostRuntime) -> Result<(), Fail> {
     let mut reader =
         b"GET / HTTP/1.0\r\nexam-code: ABCD1234\r\nEXAM-CODE: ABCD1234\r\n\r\n".as_slice();
     match read_request(&mut reader, &mut buffer) {
-        Ok(Ok(asked)) => assert!(rt; asked.code.is_none()),
+        Ok(Asked::Request(asked)) => assert!(rt; asked.code.is_none()),
         _ => return Err(Fail::from("no request")),
     }
     Ok(())

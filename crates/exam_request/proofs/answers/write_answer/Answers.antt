@@ -6,5 +6,5 @@ use Rattle.exam_request.proofs.answers.write_answer.Goals as goal
 
 pub returns-clause-err : goal.returns-clause-err
 returns-clause-err g c =
-    let all : c.as_slice.result.now ++ c.as_slice-body.result.now ≡ answer_text c.args.answer.now = search rules in
+    let all : c.as_slice.result.now ++ c.body-body.result.now ≡ answer_text c.args.answer.now = search rules in
     subst (λ text. OnErr c.send_both.result (AppendsPart (g.W.Write.contents c.args.writer.now) (g.W.Write.contents c.send_both.new.writer) text)) all c.send_both.ensures.err
