@@ -16,7 +16,7 @@ use Rattle.exam_day.specs.declared.orders.OrderFault.TheVariants as fault
 use Rattle.exam_day.proofs.Reading.{line_is, no_line}
 
 -- the sheet of a line that was read
-asked_is : (words : List Text) (l : Line) → Answers (Ok l) words → sheet_asked words ≡ sheet_of (task_shown l.job)
+pub asked_is : (words : List Text) (l : Line) → Answers (Ok l) words → sheet_asked words ≡ sheet_of (task_shown l.job)
 asked_is words l h = ap (λ (o : Option Said). option_and_then (λ (s : Said). sheet_of s.task) o) (line_is words l h)
 
 module _ {W : Type 0} (contents : W → Option (List ℕ)) (office : State) (words : List Text) (before : W) where

@@ -1,7 +1,8 @@
 mod Reading
+mod KeptOffice
 mod Sheets
 mod Carried
-mod KeptOffice
 mod Listing
 mod OneOffice
 mod Asked
+mod PrintedAfter

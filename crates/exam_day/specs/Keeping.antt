@@ -1,14 +1,16 @@
--- An office in memory, and its tables.
+-- What becomes of the tables that keep an office.
+use Rattle.sqlite_trees.specs.declared.store.Store.{Ghosts}
 use Rattle.sqlite.specs.Held.{state}
-use Rattle.sqlite.specs.Steps.{over_memory}
-use Rattle.sqlite_trees.specs.declared.memory.MemStore.{MemStore}
+use Rattle.exam_rows.specs.Transactions.{IsSound}
 use Rattle.exam_store.specs.Kept.{IsKept}
 use Rattle.exam_store.specs.Stores.{OfficeIn}
 
 -- the tables keep the office, and that is committed
-unfoldable pub IsKeptInMemory : OfficeIn MemStore → Type 0
-IsKeptInMemory it = IsKept (state over_memory it.database) it.office
+unfoldable pub KeepsIt : {S : Type 0} → Ghosts S → OfficeIn S → Type 0
+KeepsIt g it = IsKept (state g it.database) it.office
 
--- what was kept is kept still
-abbrev pub KeepsOn : OfficeIn MemStore → OfficeIn MemStore → Type 0
-KeepsOn old new = IsKeptInMemory old → IsKeptInMemory new
+-- Where the disk has returned what was written and the connection is open, it was so before, and an office that was
+-- kept is kept still.
+pub record KeepsOn {S : Type 0} (g : Ghosts S) (old new : OfficeIn S) : Type 0 where
+  pub was_sound : IsSound (state g new.database) → IsSound (state g old.database)
+  pub kept : IsSound (state g new.database) → KeepsIt g old → KeepsIt g new

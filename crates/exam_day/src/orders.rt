@@ -3,14 +3,14 @@ ghost use Rattle.std.specs.Prelude.{◌≡◌, map, IfOk, IfErr, OnErr};
 ghost use Rattle.exam_types.specs.declared.refusal.Refusal.TheVariants.{NoMemory};
 ghost use Rattle.exam_line.specs.Lines as lines;
 ghost use Rattle.exam_day.specs.Following as spec;
-ghost use Rattle.exam_day.specs.Memory.{KeepsOn};
+ghost use Rattle.exam_day.specs.Keeping.{KeepsOn};
 ghost use Rattle.exam_day.specs.Orders.{command_of, shown};
 
 use exam_job::{JobFault, carry_out};
 use exam_line::{Line, LineFault, parse_line};
 use exam_store::Store;
 use exam_types::Refusal;
-use sqlite::MemStore;
+use sqlite::Alter;
 use std::alloc::Global;
 use std::io;
 
@@ -36,14 +36,14 @@ pub type Outcome = Result<(), OrderFault>;
 
 /// Follows orders in turn, and gives what became of each. Refused for want of memory before any order, and then
 /// all is as before.
-pub fn follow_all(
+pub fn follow_all<S: Alter>(
     alloc: Global,
-    store: &mut Store<MemStore>,
+    store: &mut Store<S>,
     orders: &[Order<'_>],
 ) -> Result<Vec<Outcome>, Refusal>
     ensures run { IfOk result (λ outcomes.
         spec.AreFollowed (map shown orders.now) store.old.office outcomes.items store.new.office) }
-    ensures kept { KeepsOn store.old store.new }
+    ensures kept { KeepsOn S.Store store.old store.new }
     ensures memory { IfErr result (λ e. e ≡ NoMemory) }
     ensures same { OnErr result (store.new ≡ store.old) }
 {
@@ -56,9 +56,9 @@ pub fn follow_all(
 }
 
 /// Follows one order.
-fn follow(alloc: Global, store: &mut Store<MemStore>, order: &Order<'_>) -> Outcome
+fn follow<S: Alter>(alloc: Global, store: &mut Store<S>, order: &Order<'_>) -> Outcome
     ensures follows { spec.Follows (shown order.now) store.old.office result store.new.office }
-    ensures kept { KeepsOn store.old store.new }
+    ensures kept { KeepsOn S.Store store.old store.new }
 {
     match parse_line(alloc, order.words) {
         Ok(line) => follow_line(alloc, store, &line, order.file),
@@ -67,15 +67,15 @@ fn follow(alloc: Global, store: &mut Store<MemStore>, order: &Order<'_>) -> Outc
 }
 
 /// Follows a line with the file that it imports. What it prints is thrown away.
-fn follow_line(
+fn follow_line<S: Alter>(
     alloc: Global,
-    store: &mut Store<MemStore>,
+    store: &mut Store<S>,
     line: &Line<'_>,
     mut file: &[u8],
 ) -> Outcome
     ensures follows { spec.FollowsCommand (command_of (lines.task_shown line.now.job) file.entry.now)
         line.now.today store.old.office result store.new.office }
-    ensures kept { KeepsOn store.old store.new }
+    ensures kept { KeepsOn S.Store store.old store.new }
 {
     told(carry_out(alloc, line, store, &mut file, &mut io::sink()))
 }

@@ -2,6 +2,7 @@
 use exam_day::{Order, OrderFault, Outcome, print_after};
 use exam_job::JobFault;
 use exam_line::LineFault;
+use exam_store::Store;
 use std::alloc::{AllocError, Global};
 use std::test::Fail;
 
@@ -119,7 +120,14 @@ fn a_day_ends_in_its_door_list(rt: HostRuntime) -> Result<(), Fail> {
     let orders = orders_of(alloc, lines.as_slice())?;
     let asked = words_of(alloc, "door-list S1 A")?;
     let mut out = Vec::new(alloc);
-    let day = print_after(alloc, orders.as_slice(), asked.as_slice(), &mut out)?;
+    let mut store = Store::in_memory(alloc)?;
+    let day = print_after(
+        alloc,
+        &mut store,
+        orders.as_slice(),
+        asked.as_slice(),
+        &mut out,
+    )?;
     for ((command, _, end), outcome) in DAY.iter().zip(day.outcomes.as_slice()) {
         assert_eq!(rt; end_of(outcome), *end, "{command}");
     }

@@ -1,23 +1,23 @@
 use Rattle.std.proofs.Common.{subst, sym}
 use Rattle.std.specs.Prelude.{map, string_bytes}
-use Rattle.exam_office.specs.State.{State, empty_state}
-use Rattle.exam_day.specs.Following.{AreFollowed, EndsInOne}
+use Rattle.exam_office.specs.State.{State}
+use Rattle.exam_day.specs.Following.{EndsInOne}
 use Rattle.exam_day.specs.Orders.{sheet_asked, shown}
+use Rattle.exam_day.proofs.KeptOffice.{then_on}
 use Rattle.exam_day.proofs.OneOffice.{ends_in_one}
-use Rattle.exam_day.proofs.KeptOffice.{kept_at_end, printed_at_end}
+use Rattle.exam_day.proofs.PrintedAfter.{printed_at_end}
 use Rattle.exam_day.proofs.printing.print_after.Goals as goal
 
 pub returns-clause-kept : goal.returns-clause-kept
 returns-clause-kept g c =
-    kept_at_end c.in_ok-store.store c.follow_all.new.store c.print_asked-printed.new.store c.in_ok-store.ensures.kept.0 c.follow_all.ensures.kept c.print_asked-printed.ensures.kept
+    then_on g.S.Store c.args.store.now c.follow_all.new.store c.print_asked-printed.new.store c.follow_all.ensures.kept c.print_asked-printed.ensures.kept
 
 pub returns-clause-sheet : goal.returns-clause-sheet
 returns-clause-sheet g c =
-    printed_at_end c.in_ok-store.store c.follow_all.new.store c.print_asked-printed.new.store c.in_ok-store.ensures.kept.0 c.follow_all.ensures.kept g.O.Write.contents
+    printed_at_end g.S.Store c.args.store.now c.follow_all.new.store c.print_asked-printed.new.store c.follow_all.ensures.kept c.print_asked-printed.ensures.kept g.O.Write.contents
     (sheet_asked (map string_bytes c.args.words.now)) c.args.out.now c.print_asked-printed.result c.print_asked-printed.new.out c.print_asked-printed.ensures.office c.print_asked-printed.ensures.sheet
 
 pub returns-clause-one : goal.returns-clause-one
 returns-clause-one g c =
-    subst (λ (office : State). EndsInOne (map shown c.args.orders.now) empty_state c.in_ok-outcomes.outcomes.items office) (sym c.print_asked-printed.ensures.office)
-    (ends_in_one c.one_step_has_one_result.ensures (map shown c.args.orders.now) empty_state c.follow_all.new.store.office c.in_ok-outcomes.outcomes.items
-    (subst (λ (before : State). AreFollowed (map shown c.args.orders.now) before c.in_ok-outcomes.outcomes.items c.follow_all.new.store.office) c.in_ok-store.ensures.office c.in_ok-outcomes.ensures.run))
+    subst (λ (office : State). EndsInOne (map shown c.args.orders.now) c.args.store.now.office c.in_ok-outcomes.outcomes.items office) (sym c.print_asked-printed.ensures.office)
+    (ends_in_one c.one_step_has_one_result.ensures (map shown c.args.orders.now) c.args.store.now.office c.follow_all.new.store.office c.in_ok-outcomes.outcomes.items c.in_ok-outcomes.ensures.run)
