@@ -1,19 +1,26 @@
 //! A day at the office, over memory. The program reads a script from standard input. A line that begins with `office`
-//! is a command line: the program carries it out and prints it, and then what the command prints. It prints every
-//! other line as it is.
+//! is a command line: the program carries it out and prints it, and then what the command prints. A line that begins
+//! with `curl` is a candidate's request: the program answers it and prints it, and then the body of the answer. It
+//! prints every other line as it is.
 #![tactic(auto)]
 
-use anyhow::Result;
+mod asking;
+
+use anyhow::{Context, Result};
+use asking::answer_to;
 use exam_job::{JobFault, print_fault, print_line_fault, run_job};
 use exam_line::{Job, Line, parse_line};
 use exam_store::Store;
+use exam_types::Day;
 use sqlite::MemStore;
 use std::alloc::{AllocError, Global};
 use std::fs::File;
 use std::io::{Read, empty};
 
 /// The words before those of each command line. The file is never opened: the office is in memory.
-const PROGRAM: [&str; 5] = ["examoffice", "--db", "office.db", "--today", "2027-05-01"];
+const PROGRAM: [&str; 5] = ["examoffice", "--db", "office.db", "--today", TODAY];
+
+const TODAY: &str = "2027-05-01";
 
 fn main(rt: HostRuntime) -> Result<()> {
     let mut store = Store::in_memory(rt.alloc())?;
@@ -25,13 +32,18 @@ fn main(rt: HostRuntime) -> Result<()> {
 
 /// Follows one line of the script.
 fn follow(rt: &HostRuntime, store: &mut Store<MemStore>, line: &str) -> Result<()> {
-    let Some(command) = line.strip_prefix("office ") else {
+    if let Some(command) = line.strip_prefix("office ") {
+        println!(rt; "$ {line}")?;
+        let words = words_of(rt.alloc(), command)?;
+        run_words(rt, store, words.as_slice());
+    } else if line.starts_with("curl ") {
+        println!(rt; "$ {line}")?;
+        let today = Day::parse(TODAY.as_bytes()).context("no date")?;
+        let body = answer_to(rt.alloc(), store, today, line)?;
+        println!(rt; "{body}")?;
+    } else {
         println!(rt; "{line}")?;
-        return Ok(());
-    };
-    println!(rt; "$ {line}")?;
-    let words = words_of(rt.alloc(), command)?;
-    run_words(rt, store, words.as_slice());
+    }
     Ok(())
 }
 
