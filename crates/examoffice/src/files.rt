@@ -17,8 +17,12 @@ use exam_store::Store;
 use exam_types::Refusal;
 use sqlite::{Connection, Error, ErrorCode, FileFrom, FileStore, Start};
 use std::alloc::Global;
-use std::fs::File;
+use std::fs::{self, File, OpenOptions};
 use std::io::ErrorKind;
+use std::os::unix::fs::OpenOptionsExt;
+
+/// A new database can be read and written by its owner alone, since access codes lie in it.
+const NEW_FILE_MODE: u32 = 0o600;
 
 /// What holds the tables of a file. `S` stands for what the file held as it was opened, so that a contract can
 /// speak of it.
@@ -34,6 +38,9 @@ pub fn create_office<S: Start>(
     ensures kept { IfOk result (λ store. KeepsOurs (file_state store.database) store.office) }
     ensures told { IfErr result (λ refusal. IsTrue (is_open_refusal refusal)) }
 {
+    if !has_file(rt, path)? {
+        make_file(rt, path)?;
+    }
     let conn = open_database(rt, path, start)?;
     create_over(rt.alloc(), conn)
 }
@@ -65,7 +72,7 @@ pub fn open_office<S: Start>(
     ensures kept { IfOk result (λ store. KeepsOurs (file_state store.database) store.office) }
     ensures told { IfErr result (λ refusal. IsTrue (is_open_refusal refusal)) }
 {
-    if is_missing(rt, path) {
+    if !has_file(rt, path)? {
         return Err(Refusal::BadStore);
     }
     let conn = open_database(rt, path, start)?;
@@ -90,7 +97,7 @@ fn open_over<S: Start>(
 /// Brings the office at the path to the newest version, and prints from which version to which. Where nothing is
 /// there is no office, and no file is made.
 pub fn migrate_file<S: Start>(rt: &HostRuntime, path: &str, start: S) -> Result<(), JobFault> {
-    if is_missing(rt, path) {
+    if !has_file(rt, path)? {
         return Err(JobFault::Refused(Refusal::BadStore));
     }
     let mut conn = open_database(rt, path, start)?;
@@ -127,10 +134,43 @@ fn open_fault(kind: ErrorKind) -> JobFault
     }
 }
 
-fn is_missing(rt: &HostRuntime, path: &str) -> bool {
-    match File::open(rt, path) {
-        Ok(_) => false,
-        Err(error) => error.kind() == ErrorKind::NotFound,
+/// Whether a file is at the path. A folder, a pipe or a device there is refused: to open it could take forever.
+fn has_file(rt: &HostRuntime, path: &str) -> Result<bool, Refusal>
+    ensures { IfErr result (λ refusal. IsTrue (is_store_refusal refusal)) }
+{
+    match fs::metadata(rt, path) {
+        Ok(found) if found.is_file() => Ok(true),
+        Ok(_) => Err(Refusal::Store),
+        Err(error) if error.kind() == ErrorKind::NotFound => Ok(false),
+        Err(error) => Err(file_refusal(error.kind())),
+    }
+}
+
+/// Makes an empty file where nothing is, which the database then fills.
+fn make_file(rt: &HostRuntime, path: &str) -> Result<(), Refusal>
+    ensures { IfErr result (λ refusal. IsTrue (is_store_refusal refusal)) }
+{
+    // The database takes this for no file at all, and refuses it.
+    if path == ":memory:" {
+        return Err(Refusal::Store);
+    }
+    let mut options = OpenOptions::new();
+    options.write(true).create_new(true).mode(NEW_FILE_MODE);
+    match options.open(rt, path) {
+        Ok(_) => Ok(()),
+        Err(error) => Err(file_refusal(error.kind())),
+    }
+}
+
+/// Why a file cannot be a database.
+fn file_refusal(kind: ErrorKind) -> Refusal
+    ensures memory { kind ≡ ErrorKind.OutOfMemory → result ≡ Refusal.NoMemory }
+    ensures other { kind ≢ ErrorKind.OutOfMemory → result ≡ Refusal.Store }
+{
+    if kind == ErrorKind::OutOfMemory {
+        Refusal::NoMemory
+    } else {
+        Refusal::Store
     }
 }
 

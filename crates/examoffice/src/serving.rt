@@ -9,10 +9,14 @@ use exam_store::Store;
 use exam_types::Day;
 use sqlite::Start;
 use std::io::{self, ErrorKind, Read, Write};
-use std::net::{Ipv4Addr, SocketAddrV4, TcpListener, TcpStream};
+use std::net::{Ipv4Addr, Shutdown, SocketAddrV4, TcpListener, TcpStream};
 use std::time::{Duration, Instant};
 
-/// How many seconds a connection may last, so that a silent client does not hold the office.
+/// How many seconds a client may take to its first byte and between two bytes, so that a silent one does not hold
+/// the office.
+const LONGEST_SILENCE: u64 = 2;
+
+/// How many seconds a connection may last, so that a slow client does not hold the office.
 const LONGEST_CONNECTION: u64 = 10;
 
 /// After so many connections the server ends.
@@ -27,11 +31,13 @@ struct Timed<'s> {
 }
 
 impl Timed<'_> {
-    /// How long the connection may last yet.
-    fn time_left(&self) -> io::Result<Duration> {
-        let left = Duration::from_secs(LONGEST_CONNECTION).saturating_sub(
+    /// How long a read or a write that began at this moment may last yet.
+    fn time_left(&self, began: Instant) -> io::Result<Duration> {
+        let silence = Duration::from_secs(LONGEST_SILENCE).saturating_sub(began.elapsed(self.rt)?);
+        let connection = Duration::from_secs(LONGEST_CONNECTION).saturating_sub(
             self.since.elapsed(self.rt)?,
         );
+        let left = silence.min(connection);
         if left.is_zero() {
             return Err(io::Error::from(ErrorKind::TimedOut));
         }
@@ -41,17 +47,32 @@ impl Timed<'_> {
 
 impl Read for Timed<'_> {
     fn read(&mut self, buf: &mut [u8]) -> io::Result<usize> {
-        self.stream.set_read_timeout(Some(self.time_left()?))?;
+        let began = Instant::now(self.rt)?;
         let mut stream = self.stream;
-        stream.read(buf)
+        for _ in 0..u64::MAX {
+            self.stream.set_read_timeout(Some(self.time_left(began)?))?;
+            match stream.read(buf) {
+                // A signal came first, as when the program was stopped and continued.
+                Err(error) if error.kind() == ErrorKind::Interrupted => {}
+                done => return done,
+            }
+        }
+        Err(io::Error::from(ErrorKind::TimedOut))
     }
 }
 
 impl Write for Timed<'_> {
     fn write(&mut self, buf: &[u8]) -> io::Result<usize> {
-        self.stream.set_write_timeout(Some(self.time_left()?))?;
+        let began = Instant::now(self.rt)?;
         let mut stream = self.stream;
-        stream.write(buf)
+        for _ in 0..u64::MAX {
+            self.stream.set_write_timeout(Some(self.time_left(began)?))?;
+            match stream.write(buf) {
+                Err(error) if error.kind() == ErrorKind::Interrupted => {}
+                done => return done,
+            }
+        }
+        Err(io::Error::from(ErrorKind::TimedOut))
     }
 
     fn flush(&mut self) -> io::Result<()> {
@@ -99,6 +120,9 @@ fn serve_connection<S: Start>(
             connection_fault_line(fault.number()).as_slice(),
         );
     }
+    // The answer ends before the connection is closed: closing it resets a connection whose bytes were not all read,
+    // and a client that sees this first could lose the answer.
+    let _ = stream.shutdown(Shutdown::Write);
 }
 
 fn serve_timed<S: Start>(
