@@ -115,7 +115,8 @@ fn serve_connection<S: Start>(
         Err(_) => Err(HttpFault::Read),
     };
     if let Err(fault) = served {
-        print_error(
+        // There is nowhere left to say that this did not go out.
+        let _ = print_error(
             &mut rt.stderr(),
             connection_fault_line(fault.number()).as_slice(),
         );
