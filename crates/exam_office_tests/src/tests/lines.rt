@@ -57,76 +57,87 @@ fn name(alloc: Global, text: &str) -> Result<Name, Fail> {
     Ok(Name::parse(alloc, text.as_bytes())?.ok_or("name")?)
 }
 
-fn morning(date: &str) -> Result<Session, Fail> {
-    Ok(Session {
-        day: SessionDay::parse(date.as_bytes()).ok_or("day")?,
-        start: StartTime::new(540).ok_or("start")?,
-    })
+fn session_row(code: &str, date: &str) -> Result<Row, Fail> {
+    let code = session(code)?;
+    let day = SessionDay::parse(date.as_bytes()).ok_or("day")?;
+    let start = StartTime::new(540).ok_or("start")?;
+    Ok(Row::OfSession(code, Session { day, start }))
 }
 
-fn hour_paper(alloc: Global, of: &str, required: &str) -> Result<Paper, Fail> {
-    let session = session(of)?;
+/// A paper of an hour.
+fn paper_of(alloc: Global, session: SessionCode, required: Features) -> Result<Paper, Fail> {
     let minutes = ExamMinutes::new(60).ok_or("minutes")?;
-    let required = features(required)?;
+    let title = name(alloc, "Maths")?;
     Ok(Paper {
-        title: name(alloc, "Maths")?,
+        title,
         session,
         minutes,
         required,
     })
 }
 
-fn hall_with(alloc: Global, has: &str) -> Result<Hall, Fail> {
+fn paper_row(alloc: Global, code: &str, of: &str, required: &str) -> Result<Row, Fail> {
+    let code = paper(code)?;
+    let paper = paper_of(alloc, session(of)?, features(required)?)?;
+    Ok(Row::OfPaper(code, paper))
+}
+
+fn hall_row(alloc: Global, code: &str, has: &str) -> Result<Row, Fail> {
+    let code = hall(code)?;
     let features = features(has)?;
-    Ok(Hall {
-        title: name(alloc, "Hall")?,
-        features,
-    })
+    let title = name(alloc, "Hall")?;
+    Ok(Row::OfHall(code, Hall { title, features }))
 }
 
 fn opening(desks: u32, until: u16) -> Result<Opening, Fail> {
+    let desks = DeskCount::new(desks).ok_or("desks")?;
+    let until = ClosingTime::new(until).ok_or("until")?;
     Ok(Opening {
-        desks: DeskCount::new(desks).ok_or("desks")?,
-        until: ClosingTime::new(until).ok_or("until")?,
+        desks,
+        until,
         reserved: false,
     })
 }
 
-fn candidate(alloc: Global) -> Result<Candidate, Fail> {
+fn opening_row(of: &str, code: &str, desks: u32, until: u16) -> Result<Row, Fail> {
+    let opening = opening(desks, until)?;
+    Ok(Row::OfOpening(session(of)?, hall(code)?, opening))
+}
+
+fn candidate_row(alloc: Global, value: u32) -> Result<Row, Fail> {
+    let number = number(value)?;
     let code = AccessCode::parse(b"CODE0001").ok_or("code")?;
-    Ok(Candidate {
-        name: name(alloc, "Bo Berg")?,
-        code,
-    })
+    let name = name(alloc, "Bo Berg")?;
+    Ok(Row::OfCandidate(number, Candidate { name, code }))
 }
 
 pub fn arrangement(needs: &str, extra: u16) -> Result<Arrangement, Fail> {
-    Ok(Arrangement {
-        needs: features(needs)?,
-        extra: Extra::new(extra).ok_or("extra")?,
-    })
+    let needs = features(needs)?;
+    let extra = Extra::new(extra).ok_or("extra")?;
+    Ok(Arrangement { needs, extra })
+}
+
+fn entry_row(value: u32, code: &str) -> Result<Row, Fail> {
+    Ok(Row::OfEntry(number(value)?, paper(code)?))
+}
+
+fn arrangement_row(value: u32, needs: &str, extra: u16) -> Result<Row, Fail> {
+    let arrangement = arrangement(needs, extra)?;
+    Ok(Row::OfArrangement(number(value)?, arrangement))
 }
 
 /// The row that a line names.
 pub fn row_of(alloc: Global, line: Line) -> Result<Row, Fail> {
     match line {
-        Line::Session(code) => Ok(Row::OfSession(session(code)?, morning("2027-06-01")?)),
-        Line::SessionOn(code, date) => Ok(Row::OfSession(session(code)?, morning(date)?)),
-        Line::Paper(code, of, required) => {
-            Ok(Row::OfPaper(paper(code)?, hour_paper(alloc, of, required)?))
-        }
-        Line::Hall(code, has) => Ok(Row::OfHall(hall(code)?, hall_with(alloc, has)?)),
-        Line::Opening(of, code, desks) => {
-            Ok(Row::OfOpening(session(of)?, hall(code)?, opening(desks, 720)?))
-        }
-        Line::OpeningUntil(of, code, until) => {
-            Ok(Row::OfOpening(session(of)?, hall(code)?, opening(1, until)?))
-        }
-        Line::Candidate(value) => Ok(Row::OfCandidate(number(value)?, candidate(alloc)?)),
-        Line::Entry(value, code) => Ok(Row::OfEntry(number(value)?, paper(code)?)),
-        Line::Arrangement(value, needs, extra) => {
-            Ok(Row::OfArrangement(number(value)?, arrangement(needs, extra)?))
-        }
+        Line::Session(code) => session_row(code, "2027-06-01"),
+        Line::SessionOn(code, date) => session_row(code, date),
+        Line::Paper(code, of, required) => paper_row(alloc, code, of, required),
+        Line::Hall(code, has) => hall_row(alloc, code, has),
+        Line::Opening(of, code, desks) => opening_row(of, code, desks, 720),
+        Line::OpeningUntil(of, code, until) => opening_row(of, code, 1, until),
+        Line::Candidate(value) => candidate_row(alloc, value),
+        Line::Entry(value, code) => entry_row(value, code),
+        Line::Arrangement(value, needs, extra) => arrangement_row(value, needs, extra),
     }
 }
 
@@ -152,29 +163,27 @@ fn push(import: &mut Import, row: Row) -> Result<Option<Refusal>, Fail> {
     Ok(import.push(row).err())
 }
 
-/// The first refusal of these lines, if one is refused, and how many rows the import then has.
-pub fn refusal_of(
+/// The import of these lines up to the first that is refused, and its refusal, if one is refused.
+pub fn filled(
     alloc: Global,
     kind: Kind,
     lines: &[Line],
-) -> Result<(Option<Refusal>, usize), Fail> {
+) -> Result<(Import, Option<Refusal>), Fail> {
     let mut import = Import::new(alloc, kind);
     for line in lines {
         let refusal = push(&mut import, row_of(alloc, *line)?)?;
         if refusal.is_some() {
-            return Ok((refusal, import.rows().len()));
+            return Ok((import, refusal));
         }
     }
-    Ok((None, import.rows().len()))
+    Ok((import, None))
 }
 
 /// The import of these lines, none of which is refused.
 pub fn import_of(alloc: Global, kind: Kind, lines: &[Line]) -> Result<Import, Fail> {
-    let mut import = Import::new(alloc, kind);
-    for line in lines {
-        if push(&mut import, row_of(alloc, *line)?)?.is_some() {
-            return Err(Fail::new("a line is refused"));
-        }
+    let (import, refusal) = filled(alloc, kind, lines)?;
+    if refusal.is_some() {
+        return Err(Fail::new("a line is refused"));
     }
     Ok(import)
 }

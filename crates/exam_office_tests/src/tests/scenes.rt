@@ -1,6 +1,8 @@
 //! What happens to an office, in words.
 use super::lines::{Line, hall, import_of, number, paper, session};
-use super::setups::{Fact, Grant, Sitting, facts_of, office_of, reason, reference, subject_of};
+use super::setups::{
+    Fact, Grant, Sitting, facts_of, key_of, office_of, reason, reference, subject_of,
+};
 use exam_office::{
     AppealState, Command, Decision, Kind, Lodging, Office, Outcome, Part, Reply, part_for, run,
     state_of, step, step_part, touched,
@@ -11,9 +13,10 @@ use std::alloc::Global;
 use std::process::Abort;
 use std::test::Fail;
 
-/// A command other than an import.
+/// A command, in words.
 #[derive(Clone, Copy)]
 pub enum Order<'a> {
+    Import(Kind, &'a [Line<'a>]),
     Withdraw(u32, &'a str),
     Reinstate(u32, &'a str),
     CloseHall(&'a str, &'a str),
@@ -45,12 +48,8 @@ pub struct Ruling<'a> {
 /// A command or a look at the office.
 #[derive(Clone, Copy)]
 pub enum Scene<'a> {
-    /// An import of a kind, and how many keys it adds, changes and finds the same.
-    Import(Kind, &'a [Line<'a>], [u32; 3]),
-    /// An import that is refused.
-    Refused(Kind, &'a [Line<'a>], Refusal),
-    /// Another command, and what it answers.
-    Order(Order<'a>, Result<Reply, Refusal>),
+    /// A command, and what it answers.
+    Order(Order<'a>, &'a str),
     /// In which halls candidates sit in a session; `-` is nowhere.
     Seats(&'a str, &'a [(u32, &'a str)]),
     /// At which minute of the day a candidate ends in a session.
@@ -67,40 +66,22 @@ pub enum Scene<'a> {
     AppealCount(usize),
 }
 
-/// What an accepted import answers: how many keys it adds, changes and finds the same.
-pub fn counts(added: u32, changed: u32, same: u32) -> Result<Reply, Refusal> {
-    Ok(Reply::Imported {
-        added,
-        changed,
-        same,
-    })
+/// What happens to an office of these facts and plans.
+#[derive(Clone, Copy)]
+pub struct Story<'a> {
+    pub name: &'a str,
+    pub facts: &'a [Fact<'a>],
+    pub sittings: &'a [Sitting<'a>],
+    pub scenes: &'a [Scene<'a>],
 }
 
-fn today() -> Result<Day, Fail> {
-    Ok(Day::parse(b"2027-05-01").ok_or("day")?)
-}
-
-/// Carries out a command on the office, and first over the part of it that the command reads: this answers the
-/// same, and seats as the office does afterwards.
-fn answer_of<R: Abort + AllocGlobal>(
-    rt: &R,
-    office: &mut Office,
-    command: &Command,
-    today: Day,
-) -> Result<Result<Reply, Refusal>, Fail> {
-    let mut part = part_for(rt.alloc(), office, command)?;
-    let answer = step_part(rt.alloc(), &mut part, command, today);
-    let reply = step(rt.alloc(), office, command, today);
-    assert_eq!(rt; answer, reply);
-    assert!(rt; are_seated(office, &part));
-    Ok(reply)
-}
-
-/// Whether everybody whom the part seats sits so in the office.
-fn are_seated(office: &Office, part: &Part) -> bool {
-    part.plans
-        .iter()
-        .all(|(key, hall)| office.seats().get(key) == Some(hall))
+/// An answer as the scenes spell it.
+fn text_of(alloc: Global, answer: &Result<Reply, Refusal>) -> Result<String, Fail> {
+    match answer {
+        Ok(reply) => Ok(format!(in alloc; "{reply:?}")?),
+        Err(Refusal::PastClosing { day }) => Ok(format!(in alloc; "PastClosing {day}")?),
+        Err(refusal) => Ok(format!(in alloc; "{refusal:?}")?),
+    }
 }
 
 fn day(text: &str) -> Result<Day, Fail> {
@@ -111,37 +92,38 @@ fn day_of(order: Order) -> Result<Day, Fail> {
     match order {
         Order::Lodge(plea) => day(plea.on),
         Order::Decide(ruling) => day(ruling.on),
-        _ => today(),
+        _ => day("2027-05-01"),
     }
 }
 
 fn lodging_of(alloc: Global, plea: Plea) -> Result<Lodging, Fail> {
-    let number = number(plea.number)?;
-    let reference = reference(plea.reference)?;
+    let (number, reference) = key_of(plea.number, plea.reference)?;
     let session = session(plea.session)?;
     let subject = subject_of(plea.subject)?;
+    let reason = reason(alloc, plea.reason)?;
     Ok(Lodging {
         number,
         reference,
         session,
         subject,
-        reason: reason(alloc, plea.reason)?,
+        reason,
     })
 }
 
 fn decision_of(alloc: Global, ruling: Ruling) -> Result<Decision, Fail> {
-    let number = number(ruling.number)?;
-    let reference = reference(ruling.reference)?;
+    let (number, reference) = key_of(ruling.number, ruling.reference)?;
+    let answer = reason(alloc, "ok")?;
     Ok(Decision {
         number,
         reference,
         outcome: ruling.outcome,
-        answer: reason(alloc, "ok")?,
+        answer,
     })
 }
 
 fn command_of(alloc: Global, order: Order) -> Result<Command, Fail> {
     match order {
+        Order::Import(kind, lines) => Ok(Command::Import(import_of(alloc, kind, lines)?)),
         Order::Withdraw(value, code) => Ok(Command::Withdraw(number(value)?, paper(code)?)),
         Order::Reinstate(value, code) => Ok(Command::Reinstate(number(value)?, paper(code)?)),
         Order::CloseHall(of, code) => Ok(Command::CloseHall(session(of)?, hall(code)?)),
@@ -151,55 +133,66 @@ fn command_of(alloc: Global, order: Order) -> Result<Command, Fail> {
     }
 }
 
-fn expect_order<R: Abort + AllocGlobal>(
-    rt: &R,
+/// Whether everybody whom the part seats sits so in the office.
+fn are_seated(office: &Office, part: &Part) -> bool {
+    part.plans
+        .iter()
+        .all(|(key, hall)| office.seats().get(key) == Some(hall))
+}
+
+/// What a command answers on the office. Carried out first over the part of the office that it reads, it answers the
+/// same, and seats as the office does afterwards.
+fn answer_of(
+    alloc: Global,
+    office: &mut Office,
+    command: &Command,
+    today: Day,
+) -> Result<Result<Reply, Refusal>, Fail> {
+    let mut part = part_for(alloc, office, command)?;
+    let answer = step_part(alloc, &mut part, command, today);
+    let reply = step(alloc, office, command, today);
+    if answer != reply || !are_seated(office, &part) {
+        return Err(Fail::new("the part answers otherwise"));
+    }
+    Ok(reply)
+}
+
+/// Whether an order is answered so.
+fn is_answered(
+    alloc: Global,
     office: &mut Office,
     order: Order,
-    wanted: Result<Reply, Refusal>,
-) -> Result<(), Fail> {
-    let command = command_of(rt.alloc(), order)?;
-    let today = day_of(order)?;
-    assert_eq!(rt; answer_of(rt, office, &command, today)?, wanted);
-    Ok(())
+    wanted: &str,
+) -> Result<bool, Fail> {
+    let command = command_of(alloc, order)?;
+    let answer = answer_of(alloc, office, &command, day_of(order)?)?;
+    Ok(text_of(alloc, &answer)?.as_str() == wanted)
 }
 
-/// Where a candidate sits, if they do.
-fn place_of(office: &Office, of: &str, value: u32) -> Result<Option<HallCode>, Fail> {
-    let key = (session(of)?, number(value)?);
-    Ok(office.seats().get(&key).copied())
-}
-
-/// Compares where candidates sit in a session.
-fn expect_places<R: Abort + AllocGlobal>(
-    rt: &R,
-    office: &Office,
-    of: &str,
-    places: &[(u32, &str)],
-) -> Result<(), Fail> {
+/// Whether the candidates sit so in a session.
+fn are_places(office: &Office, of: &str, places: &[(u32, &str)]) -> Result<bool, Fail> {
     for (value, code) in places {
-        let wanted = HallCode::parse(code.as_bytes());
-        assert!(rt; place_of(office, of, *value)? == wanted, "{value}");
+        let key = (session(of)?, number(*value)?);
+        if office.seats().get(&key).copied() != HallCode::parse(code.as_bytes()) {
+            return Ok(false);
+        }
     }
-    Ok(())
+    Ok(true)
 }
 
-/// Compares when a candidate ends in a session.
-fn expect_end<R: Abort + AllocGlobal>(
-    rt: &R,
-    office: &Office,
-    of: &str,
-    value: u32,
-    wanted: u16,
-) -> Result<(), Fail> {
+/// At which minute of the day a candidate ends in a session.
+fn end_of(office: &Office, of: &str, value: u32) -> Result<u16, Fail> {
     let end = finish(office.facts(), &session(of)?, number(value)?).ok_or("finish")?;
-    assert_eq!(rt; end.get(), wanted);
-    Ok(())
+    Ok(end.get())
 }
 
 /// Where an appeal stands.
 fn standing_of(office: &Office, value: u32, code: &str) -> Result<AppealState, Fail> {
-    let key = (number(value)?, reference(code)?);
-    let appeal = office.facts().appeals.get(&key).ok_or("appeal")?;
+    let appeal = office
+        .facts()
+        .appeals
+        .get(&key_of(value, code)?)
+        .ok_or("appeal")?;
     Ok(state_of(&appeal.status))
 }
 
@@ -210,108 +203,71 @@ fn is_withdrawn(office: &Office, value: u32, code: &str) -> Result<bool, Fail> {
     Ok(entry.map_or(false, |entry| !entry.live))
 }
 
-fn expect_answer<R: Abort + AllocGlobal>(
-    rt: &R,
-    office: &mut Office,
-    kind: Kind,
-    lines: &[Line],
-    wanted: Result<Reply, Refusal>,
-) -> Result<(), Fail> {
-    let command = Command::Import(import_of(rt.alloc(), kind, lines)?);
-    assert_eq!(rt; answer_of(rt, office, &command, today()?)?, wanted);
-    Ok(())
-}
-
-fn take<R: Abort + AllocGlobal>(rt: &R, office: &mut Office, scene: &Scene) -> Result<(), Fail> {
+/// Whether a look at the office finds it so. Of a command it says yes.
+fn is_so(office: &Office, scene: &Scene) -> Result<bool, Fail> {
     match scene {
-        Scene::Import(kind, lines, [added, changed, same]) => {
-            expect_answer(rt, office, *kind, lines, counts(*added, *changed, *same))
-        }
-        Scene::Refused(kind, lines, refusal) => {
-            expect_answer(rt, office, *kind, lines, Err(*refusal))
-        }
-        Scene::Order(order, wanted) => expect_order(rt, office, *order, *wanted),
-        Scene::Seats(of, places) => expect_places(rt, office, of, places),
-        Scene::Ends(of, value, end) => expect_end(rt, office, of, *value, *end),
-        Scene::IsWithdrawn(value, code) => {
-            assert!(rt; is_withdrawn(office, *value, code)?);
-            Ok(())
-        }
-        Scene::EntryCount(count) => {
-            assert_eq!(rt; office.facts().entries.len(), *count);
-            Ok(())
-        }
-        Scene::Stands(value, code, wanted) => {
-            assert_eq!(rt; standing_of(office, *value, code)?, *wanted);
-            Ok(())
-        }
-        Scene::AppealCount(count) => {
-            assert_eq!(rt; office.facts().appeals.len(), *count);
-            Ok(())
-        }
-        Scene::SeatCount(count) => {
-            assert_eq!(rt; office.seats().len(), *count);
-            Ok(())
-        }
+        Scene::Order(_, _) => Ok(true),
+        Scene::Seats(of, places) => are_places(office, of, places),
+        Scene::Ends(of, value, end) => Ok(end_of(office, of, *value)? == *end),
+        Scene::IsWithdrawn(value, code) => is_withdrawn(office, *value, code),
+        Scene::EntryCount(count) => Ok(office.facts().entries.len() == *count),
+        Scene::SeatCount(count) => Ok(office.seats().len() == *count),
+        Scene::Stands(value, code, wanted) => Ok(standing_of(office, *value, code)? == *wanted),
+        Scene::AppealCount(count) => Ok(office.facts().appeals.len() == *count),
     }
 }
 
-/// Takes the scenes in order, from an office of these facts and plans.
-pub fn play<R: Abort + AllocGlobal>(
-    rt: &R,
-    facts: &[Fact],
-    sittings: &[Sitting],
-    scenes: &[Scene],
-) -> Result<(), Fail> {
-    let mut office = office_of(rt.alloc(), facts, sittings)?;
-    for scene in scenes {
-        take(rt, &mut office, scene)?;
+/// Takes a scene. Whether the office answers as it should, or looks so.
+fn take(alloc: Global, office: &mut Office, scene: &Scene) -> Result<bool, Fail> {
+    match scene {
+        Scene::Order(order, wanted) => is_answered(alloc, office, *order, wanted),
+        look => is_so(office, look),
+    }
+}
+
+/// Takes the scenes of a story in order. The first that is not as it should be, if one is not.
+fn first_missed(alloc: Global, story: &Story) -> Result<Option<usize>, Fail> {
+    let mut office = office_of(alloc, story.facts, story.sittings)?;
+    for (place, scene) in story.scenes.iter().enumerate() {
+        if !take(alloc, &mut office, scene)? {
+            return Ok(Some(place));
+        }
+    }
+    Ok(None)
+}
+
+/// Takes each story from its beginning.
+pub fn play<R: Abort + AllocGlobal>(rt: &R, stories: &[Story]) -> Result<(), Fail> {
+    for story in stories {
+        let name = story.name;
+        assert_eq!(rt; first_missed(rt.alloc(), story)?, None, "{name}");
     }
     Ok(())
 }
 
-/// What imports of entries answer, run as one list of commands.
-pub fn answers_of(
-    alloc: Global,
-    facts: &[Fact],
-    imports: &[&[Line]],
-) -> Result<Vec<Result<Reply, Refusal>>, Fail> {
-    let today = today()?;
+/// What commands answer, run as one list; a semicolon after each.
+pub fn answers_of(alloc: Global, facts: &[Fact], orders: &[Order]) -> Result<String, Fail> {
     let mut commands = Vec::new(alloc);
-    for lines in imports {
-        commands.push((
-            Command::Import(import_of(alloc, Kind::Entries, lines)?),
-            today,
-        ))?;
+    for order in orders {
+        commands.push((command_of(alloc, *order)?, day_of(*order)?))?;
     }
     let mut office = office_of(alloc, facts, &[])?;
-    Ok(run(alloc, &mut office, &commands)?)
+    let mut text = String::new(alloc);
+    for answer in &run(alloc, &mut office, &commands)? {
+        text.push_str(text_of(alloc, answer)?.as_str())?;
+        text.push(';')?;
+    }
+    Ok(text)
 }
 
 /// The codes of the sessions that a command touches, a blank after each.
-fn touched_text(alloc: Global, facts: &[Fact], command: &Command) -> Result<String, Fail> {
+pub fn touched_by(alloc: Global, facts: &[Fact], order: Order) -> Result<String, Fail> {
     let facts = facts_of(alloc, facts)?;
+    let command = command_of(alloc, order)?;
     let mut text = Vec::new(alloc);
-    for code in &touched(alloc, &facts, command)? {
+    for code in &touched(alloc, &facts, &command)? {
         code.write_to(&mut text)?;
         text.push(b' ')?;
     }
     Ok(String::from_utf8(text).ok().ok_or("text")?)
-}
-
-pub fn touched_by_import(
-    alloc: Global,
-    facts: &[Fact],
-    kind: Kind,
-    lines: &[Line],
-) -> Result<String, Fail> {
-    touched_text(
-        alloc,
-        facts,
-        &Command::Import(import_of(alloc, kind, lines)?),
-    )
-}
-
-pub fn touched_by_order(alloc: Global, facts: &[Fact], order: Order) -> Result<String, Fail> {
-    touched_text(alloc, facts, &command_of(alloc, order)?)
 }

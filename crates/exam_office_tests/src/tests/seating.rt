@@ -1,27 +1,12 @@
 //! Who sits where after an import.
 use super::lines::Line;
-use super::scenes::{Scene, play};
+use super::scenes::{Order, Scene, Story, play};
 use super::setups::{Fact, Grant, OPENED};
 use exam_office::Kind;
 use std::test::Fail;
 
-#[test]
-fn need_moves_another_by_a_chain(rt: HostRuntime) -> Result<(), Fail> {
-    let needs = [Line::Arrangement(2, "step-free", 0)];
-    let scenes = [
-        Scene::Import(Kind::Entries, &[Line::Entry(1, "MA-1")], [1, 0, 0]),
-        Scene::Seats("S1", &[(1, "A"), (2, "-")]),
-        Scene::Import(Kind::Arrangements, &needs, [1, 0, 0]),
-        Scene::Import(Kind::Entries, &[Line::Entry(2, "MA-1")], [1, 0, 0]),
-        Scene::Seats("S1", &[(1, "B"), (2, "A")]),
-        Scene::Import(Kind::Entries, &[Line::Entry(3, "MA-1")], [1, 0, 0]),
-        Scene::Seats("S1", &[(1, "B"), (2, "A"), (3, "-")]),
-    ];
-    play(&rt, &OPENED, &[], &scenes)
-}
-
 /// The halls A, B and C hold two of three needs each, and each of three candidates has one of them.
-const THREE_NEEDS: [Fact<'static>; 10] = [
+const THREE_NEEDS: &[Fact<'static>] = &[
     Fact::School,
     Fact::Row(Line::Opening("S1", "A", 1)),
     Fact::Row(Line::Opening("S1", "B", 1)),
@@ -34,88 +19,9 @@ const THREE_NEEDS: [Fact<'static>; 10] = [
     Fact::Row(Line::Arrangement(3, "reader", 0)),
 ];
 
-#[test]
-fn of_two_equally_short_chains_the_least_is_taken(rt: HostRuntime) -> Result<(), Fail> {
-    let lines = [
-        Line::Entry(1, "MA-1"),
-        Line::Entry(2, "MA-1"),
-        Line::Entry(3, "MA-1"),
-    ];
-    let scenes = [
-        Scene::Import(Kind::Entries, &lines, [3, 0, 0]),
-        Scene::Seats("S1", &[(1, "C"), (2, "B"), (3, "A")]),
-    ];
-    play(&rt, &THREE_NEEDS, &[], &scenes)
-}
-
-#[test]
-fn fewer_desks_put_the_greatest_number_out(rt: HostRuntime) -> Result<(), Fail> {
-    let lines = [Line::Entry(1, "MA-1"), Line::Entry(4, "MA-1")];
-    let scenes = [
-        Scene::Import(Kind::Entries, &lines, [2, 0, 0]),
-        Scene::Seats("S1", &[(1, "A"), (4, "A")]),
-        Scene::Import(Kind::Openings, &[Line::Opening("S1", "A", 1)], [0, 1, 0]),
-        Scene::Seats("S1", &[(1, "A"), (4, "-")]),
-    ];
-    let facts = [Fact::School, Fact::Row(Line::Opening("S1", "A", 2))];
-    play(&rt, &facts, &[], &scenes)
-}
-
-#[test]
-fn who_sits_stays_where_one_desk_is_too_few(rt: HostRuntime) -> Result<(), Fail> {
-    let scenes = [
-        Scene::Import(Kind::Entries, &[Line::Entry(2, "MA-1")], [1, 0, 0]),
-        Scene::Import(Kind::Entries, &[Line::Entry(1, "MA-1")], [1, 0, 0]),
-        Scene::Seats("S1", &[(1, "-"), (2, "A")]),
-    ];
-    let facts = [Fact::School, Fact::Row(Line::Opening("S1", "A", 1))];
-    play(&rt, &facts, &[], &scenes)
-}
-
-#[test]
-fn one_import_seats_in_two_sessions(rt: HostRuntime) -> Result<(), Fail> {
-    let facts = [
-        Fact::School,
-        Fact::Row(Line::Opening("S1", "A", 1)),
-        Fact::Row(Line::Opening("S1", "B", 1)),
-        Fact::Row(Line::Session("S2")),
-        Fact::Row(Line::Paper("PH-2", "S2", "-")),
-        Fact::Row(Line::Opening("S2", "B", 1)),
-    ];
-    let lines = [Line::Entry(1, "MA-1"), Line::Entry(1, "PH-2")];
-    let scenes = [
-        Scene::Import(Kind::Entries, &lines, [2, 0, 0]),
-        Scene::Seats("S1", &[(1, "A")]),
-        Scene::Seats("S2", &[(1, "B")]),
-    ];
-    play(&rt, &facts, &[], &scenes)
-}
-
-#[test]
-fn an_import_repairs_by_the_appeals_that_were_granted(rt: HostRuntime) -> Result<(), Fail> {
-    let facts = [
-        Fact::School,
-        Fact::Row(Line::Opening("S1", "A", 1)),
-        Fact::Row(Line::Opening("S1", "B", 1)),
-        Fact::Row(Line::Arrangement(2, "step-free", 0)),
-        Fact::Row(Line::Entry(1, "MA-1")),
-        Fact::Row(Line::Entry(2, "MA-1")),
-        Fact::Granted(1, "HA1", Grant::AnotherHallThan("B")),
-    ];
-    let more = [Line::Opening("S1", "A", 2)];
-    // The free hall B is barred to the first, so another entry changes nothing for them.
-    let scenes = [
-        Scene::Import(Kind::Entries, &[Line::Entry(3, "MA-1")], [1, 0, 0]),
-        Scene::Seats("S1", &[(1, "-"), (2, "A"), (3, "B")]),
-        Scene::Import(Kind::Openings, &more, [0, 1, 0]),
-        Scene::Seats("S1", &[(1, "A"), (2, "A"), (3, "B")]),
-    ];
-    play(&rt, &facts, &[("S1", 2, "A")], &scenes)
-}
-
 /// The first sits PH-2, which wants a computer, by a granted clash appeal; the third is granted a need of a
 /// screen.
-const GRANTED: [Fact<'static>; 9] = [
+const GRANTED: &[Fact<'static>] = &[
     Fact::School,
     Fact::Row(Line::Opening("S1", "A", 1)),
     Fact::Row(Line::Opening("S1", "B", 1)),
@@ -127,24 +33,171 @@ const GRANTED: [Fact<'static>; 9] = [
     Fact::Granted(3, "AR1", Grant::Needs("screen")),
 ];
 
-#[test]
-fn granted_papers_and_needs_decide_which_hall_fits(rt: HostRuntime) -> Result<(), Fail> {
-    let lines = [Line::Entry(1, "MA-1"), Line::Entry(3, "MA-1")];
-    let scenes = [
-        Scene::Import(Kind::Entries, &[Line::Entry(1, "PH-2")], [1, 0, 0]),
-        Scene::Import(Kind::Entries, &lines, [2, 0, 0]),
-        Scene::Seats("S1", &[(1, "C"), (3, "-")]),
-    ];
-    play(&rt, &GRANTED, &[], &scenes)
-}
+const STORIES: &[Story<'static>] = &[
+    Story {
+        name: "a need moves another by a chain",
+        facts: OPENED,
+        sittings: &[],
+        scenes: &[
+            Scene::Order(
+                Order::Import(Kind::Entries, &[Line::Entry(1, "MA-1")]),
+                "Imported 1 0 0",
+            ),
+            Scene::Seats("S1", &[(1, "A"), (2, "-")]),
+            Scene::Order(
+                Order::Import(Kind::Arrangements, &[Line::Arrangement(2, "step-free", 0)]),
+                "Imported 1 0 0",
+            ),
+            Scene::Order(
+                Order::Import(Kind::Entries, &[Line::Entry(2, "MA-1")]),
+                "Imported 1 0 0",
+            ),
+            Scene::Seats("S1", &[(1, "B"), (2, "A")]),
+            Scene::Order(
+                Order::Import(Kind::Entries, &[Line::Entry(3, "MA-1")]),
+                "Imported 1 0 0",
+            ),
+            Scene::Seats("S1", &[(1, "B"), (2, "A"), (3, "-")]),
+        ],
+    },
+    Story {
+        name: "of two equally short chains the least is taken",
+        facts: THREE_NEEDS,
+        sittings: &[],
+        scenes: &[
+            Scene::Order(
+                Order::Import(
+                    Kind::Entries,
+                    &[
+                        Line::Entry(1, "MA-1"),
+                        Line::Entry(2, "MA-1"),
+                        Line::Entry(3, "MA-1"),
+                    ],
+                ),
+                "Imported 3 0 0",
+            ),
+            Scene::Seats("S1", &[(1, "C"), (2, "B"), (3, "A")]),
+        ],
+    },
+    Story {
+        name: "fewer desks put the greatest number out",
+        facts: &[Fact::School, Fact::Row(Line::Opening("S1", "A", 2))],
+        sittings: &[],
+        scenes: &[
+            Scene::Order(
+                Order::Import(
+                    Kind::Entries,
+                    &[Line::Entry(1, "MA-1"), Line::Entry(4, "MA-1")],
+                ),
+                "Imported 2 0 0",
+            ),
+            Scene::Seats("S1", &[(1, "A"), (4, "A")]),
+            Scene::Order(
+                Order::Import(Kind::Openings, &[Line::Opening("S1", "A", 1)]),
+                "Imported 0 1 0",
+            ),
+            Scene::Seats("S1", &[(1, "A"), (4, "-")]),
+        ],
+    },
+    Story {
+        name: "who sits stays where one desk is too few",
+        facts: &[Fact::School, Fact::Row(Line::Opening("S1", "A", 1))],
+        sittings: &[],
+        scenes: &[
+            Scene::Order(
+                Order::Import(Kind::Entries, &[Line::Entry(2, "MA-1")]),
+                "Imported 1 0 0",
+            ),
+            Scene::Order(
+                Order::Import(Kind::Entries, &[Line::Entry(1, "MA-1")]),
+                "Imported 1 0 0",
+            ),
+            Scene::Seats("S1", &[(1, "-"), (2, "A")]),
+        ],
+    },
+    Story {
+        name: "one import seats in two sessions",
+        facts: &[
+            Fact::School,
+            Fact::Row(Line::Opening("S1", "A", 1)),
+            Fact::Row(Line::Opening("S1", "B", 1)),
+            Fact::Row(Line::Session("S2")),
+            Fact::Row(Line::Paper("PH-2", "S2", "-")),
+            Fact::Row(Line::Opening("S2", "B", 1)),
+        ],
+        sittings: &[],
+        scenes: &[
+            Scene::Order(
+                Order::Import(
+                    Kind::Entries,
+                    &[Line::Entry(1, "MA-1"), Line::Entry(1, "PH-2")],
+                ),
+                "Imported 2 0 0",
+            ),
+            Scene::Seats("S1", &[(1, "A")]),
+            Scene::Seats("S2", &[(1, "B")]),
+        ],
+    },
+    // The free hall B is barred to the first, so another entry changes nothing for them.
+    Story {
+        name: "an import repairs by the appeals that were granted",
+        facts: &[
+            Fact::School,
+            Fact::Row(Line::Opening("S1", "A", 1)),
+            Fact::Row(Line::Opening("S1", "B", 1)),
+            Fact::Row(Line::Arrangement(2, "step-free", 0)),
+            Fact::Row(Line::Entry(1, "MA-1")),
+            Fact::Row(Line::Entry(2, "MA-1")),
+            Fact::Granted(1, "HA1", Grant::AnotherHallThan("B")),
+        ],
+        sittings: &[("S1", 2, "A")],
+        scenes: &[
+            Scene::Order(
+                Order::Import(Kind::Entries, &[Line::Entry(3, "MA-1")]),
+                "Imported 1 0 0",
+            ),
+            Scene::Seats("S1", &[(1, "-"), (2, "A"), (3, "B")]),
+            Scene::Order(
+                Order::Import(Kind::Openings, &[Line::Opening("S1", "A", 2)]),
+                "Imported 0 1 0",
+            ),
+            Scene::Seats("S1", &[(1, "A"), (2, "A"), (3, "B")]),
+        ],
+    },
+    Story {
+        name: "granted papers and needs decide which hall fits",
+        facts: GRANTED,
+        sittings: &[],
+        scenes: &[
+            Scene::Order(
+                Order::Import(Kind::Entries, &[Line::Entry(1, "PH-2")]),
+                "Imported 1 0 0",
+            ),
+            Scene::Order(
+                Order::Import(
+                    Kind::Entries,
+                    &[Line::Entry(1, "MA-1"), Line::Entry(3, "MA-1")],
+                ),
+                "Imported 2 0 0",
+            ),
+            Scene::Seats("S1", &[(1, "C"), (3, "-")]),
+        ],
+    },
+    Story {
+        name: "an import again answers that all is the same",
+        facts: OPENED,
+        sittings: &[],
+        scenes: &[
+            Scene::Order(Order::Import(Kind::Entries, FIRST_TWO), "Imported 2 0 0"),
+            Scene::Order(Order::Import(Kind::Entries, FIRST_TWO), "Imported 0 0 2"),
+            Scene::Seats("S1", &[(1, "A"), (2, "B")]),
+        ],
+    },
+];
+
+const FIRST_TWO: &[Line<'static>] = &[Line::Entry(1, "MA-1"), Line::Entry(2, "MA-1")];
 
 #[test]
-fn an_import_again_answers_that_all_is_the_same(rt: HostRuntime) -> Result<(), Fail> {
-    let lines = [Line::Entry(1, "MA-1"), Line::Entry(2, "MA-1")];
-    let scenes = [
-        Scene::Import(Kind::Entries, &lines, [2, 0, 0]),
-        Scene::Import(Kind::Entries, &lines, [0, 0, 2]),
-        Scene::Seats("S1", &[(1, "A"), (2, "B")]),
-    ];
-    play(&rt, &OPENED, &[], &scenes)
+fn imports_seat(rt: HostRuntime) -> Result<(), Fail> {
+    play(&rt, STORIES)
 }

@@ -2,7 +2,7 @@
 use super::lines::{Line, arrangement, hall, number, paper, row_of, session};
 use exam_office::{Kind, Office, Row, Seats, Table, first_bad_table};
 use exam_rules::{Appeal, Entry, Facts, Status, Subject};
-use exam_types::{Day, Reason, Reference, Refusal};
+use exam_types::{Day, Number, Reason, Reference, Refusal};
 use std::alloc::Global;
 use std::collections::BTreeMap;
 use std::test::Fail;
@@ -40,7 +40,7 @@ pub enum Fact<'a> {
     GrantedHalls(u32),
 }
 
-const SCHOOL: [Line<'static>; 9] = [
+const SCHOOL: &[Line<'static>] = &[
     Line::Session("S1"),
     Line::Paper("MA-1", "S1", "-"),
     Line::Hall("A", "step-free"),
@@ -53,7 +53,7 @@ const SCHOOL: [Line<'static>; 9] = [
 ];
 
 /// The school with the halls A and B opened for S1, a desk each. Nobody is entered.
-pub const OPENED: [Fact<'static>; 3] = [
+pub const OPENED: &[Fact<'static>] = &[
     Fact::School,
     Fact::Row(Line::Opening("S1", "A", 1)),
     Fact::Row(Line::Opening("S1", "B", 1)),
@@ -140,54 +140,57 @@ pub fn reference(code: &str) -> Result<Reference, Fail> {
     Ok(Reference::parse(code.as_bytes()).ok_or("reference")?)
 }
 
-fn appeal(alloc: Global, subject: Subject, status: Status) -> Result<Appeal, Fail> {
+/// The key of a candidate's appeal.
+pub fn key_of(value: u32, code: &str) -> Result<(Number, Reference), Fail> {
+    let number = number(value)?;
+    Ok((number, reference(code)?))
+}
+
+/// Where an appeal stands that is granted, or open.
+fn status_of(alloc: Global, is_granted: bool) -> Result<Status, Fail> {
+    if is_granted {
+        return Ok(Status::Granted(reason(alloc, "ok")?));
+    }
+    Ok(Status::Pending)
+}
+
+fn appeal(alloc: Global, subject: Subject, is_granted: bool) -> Result<Appeal, Fail> {
     let session = session("S1")?;
     let lodged = Day::parse(b"2027-05-20").ok_or("day")?;
+    let reason = reason(alloc, "")?;
+    let status = status_of(alloc, is_granted)?;
     Ok(Appeal {
         session,
         subject,
-        reason: reason(alloc, "")?,
+        reason,
         status,
         lodged,
     })
 }
 
+/// Adds an appeal that is granted, or open.
 fn add_appeal(
     alloc: Global,
     facts: &mut Facts,
-    value: u32,
-    code: &str,
+    key: (Number, Reference),
     grant: Grant,
-    status: Status,
+    is_granted: bool,
 ) -> Result<(), Fail> {
-    let key = (number(value)?, reference(code)?);
-    let appeal = appeal(alloc, subject_of(grant)?, status)?;
-    facts.appeals.insert(key, appeal)?;
+    let appeal = appeal(alloc, subject_of(grant)?, is_granted)?;
+    drop(facts.appeals.insert(key, appeal)?);
     Ok(())
 }
 
-fn add_grant(
-    alloc: Global,
-    facts: &mut Facts,
-    value: u32,
-    code: &str,
-    grant: Grant,
-) -> Result<(), Fail> {
-    let status = Status::Granted(reason(alloc, "ok")?);
-    add_appeal(alloc, facts, value, code, grant, status)
-}
-
 fn add_mark(facts: &mut Facts, value: u32, code: &str) -> Result<(), Fail> {
-    facts
-        .standing
-        .insert((number(value)?, reference(code)?), ())?;
+    facts.standing.insert(key_of(value, code)?, ())?;
     Ok(())
 }
 
 fn add_hall_grants(alloc: Global, facts: &mut Facts, count: u32) -> Result<(), Fail> {
     for value in 0..count {
         let code = format!(in alloc; "R{value}")?;
-        add_grant(alloc, facts, 1, code.as_str(), Grant::AnotherHallThan("A"))?;
+        let key = key_of(1, code.as_str())?;
+        add_appeal(alloc, facts, key, Grant::AnotherHallThan("A"), true)?;
     }
     Ok(())
 }
@@ -200,14 +203,16 @@ fn add_withdrawn(facts: &mut Facts, value: u32, code: &str) -> Result<(), Fail> 
 
 fn add_fact(alloc: Global, facts: &mut Facts, fact: Fact) -> Result<(), Fail> {
     match fact {
-        Fact::School => add_lines(alloc, facts, SCHOOL.as_slice()),
+        Fact::School => add_lines(alloc, facts, SCHOOL),
         Fact::Row(line) => add_line(alloc, facts, line),
         Fact::Rows(kind, first, end) => add_range(alloc, facts, kind, first, end),
         Fact::Withdrawn(value, code) => add_withdrawn(facts, value, code),
-        Fact::Granted(value, code, grant) => add_grant(alloc, facts, value, code, grant),
+        Fact::Granted(value, code, grant) => {
+            add_appeal(alloc, facts, key_of(value, code)?, grant, true)
+        }
         Fact::Marked(value, code) => add_mark(facts, value, code),
         Fact::Lodged(value, code, grant) => {
-            add_appeal(alloc, facts, value, code, grant, Status::Pending)
+            add_appeal(alloc, facts, key_of(value, code)?, grant, false)
         }
         Fact::GrantedHalls(count) => add_hall_grants(alloc, facts, count),
     }
