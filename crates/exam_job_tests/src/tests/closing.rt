@@ -1,18 +1,11 @@
 //! Withdrawals, reinstatements and closed halls.
-use super::{FIRST_IN_A, FIRST_IN_B, ONE_ADDED, ONE_ENTRY, Row, base_office, expect_all};
+use super::{
+    FIRST_IN_A, FIRST_IN_B, NOBODY_IN_A, ONE_ADDED, ONE_ENTRY, Row, TWO_ADDED, TWO_ENTRIES, play,
+};
 use std::test::Fail;
 
-const TWO_ENTRIES: &str = "number,paper\n0000001,MA-1\n0000002,MA-1\n";
-
-const NOBODY_IN_A: &str =
-    "DOOR LIST session S1 hall A\ndate 2027-06-01 start 09:00 desks 1 seated 0\n";
-
 const WITHDRAWN: &[Row<'_>] = &[
-    (
-        "import entries f",
-        TWO_ENTRIES,
-        Ok("added 2 changed 0 same 0\n"),
-    ),
+    ("import entries f", TWO_ENTRIES, Ok(TWO_ADDED)),
     ("withdraw 0000001 MA-1", "", Ok("withdrawn\n")),
     (
         "import entries f",
@@ -26,7 +19,7 @@ const WITHDRAWN: &[Row<'_>] = &[
 
 #[test]
 fn a_withdrawn_entry_stays_withdrawn_after_the_same_import(rt: HostRuntime) -> Result<(), Fail> {
-    expect_all(&rt, &mut base_office(&rt)?, WITHDRAWN)
+    play(&rt, &[WITHDRAWN])
 }
 
 const CLOSED: &[Row<'_>] = &[
@@ -41,7 +34,7 @@ const CLOSED: &[Row<'_>] = &[
 
 #[test]
 fn a_closed_hall_is_closed_once(rt: HostRuntime) -> Result<(), Fail> {
-    expect_all(&rt, &mut base_office(&rt)?, CLOSED)
+    play(&rt, &[CLOSED])
 }
 
 const NOT_ENTERED: &[Row<'_>] = &[
@@ -59,5 +52,5 @@ const NOT_ENTERED: &[Row<'_>] = &[
 
 #[test]
 fn entries_that_cannot_be_withdrawn_or_reinstated_are_told(rt: HostRuntime) -> Result<(), Fail> {
-    expect_all(&rt, &mut base_office(&rt)?, NOT_ENTERED)
+    play(&rt, &[NOT_ENTERED])
 }

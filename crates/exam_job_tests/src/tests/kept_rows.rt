@@ -1,5 +1,8 @@
 //! The rows that the tables hold after commands, over an office that is closed and opened anew.
-use super::{ONE_ENTRY, SECOND_ENTRY, SECOND_NEEDS, base_office, expect_done, expect_refused};
+use super::{
+    FIRST_IN_B, FIRST_TAKES_A, ONE_ADDED, ONE_CHANGED, ONE_ENTRY, Row as Printed, SECOND_NEEDS_A,
+    base_office, expect_all,
+};
 use exam_store::Store;
 use sqlite::types::ValueRef;
 use sqlite::{Alter, Connection, MemStore, Row};
@@ -28,7 +31,7 @@ const ARRANGEMENTS: &str = "SELECT number, needs, extra FROM arrangement ORDER B
 const APPEALS: &str =
     "SELECT number, ref, session, kind, target, needs, extra, reason, state, answer, lodged FROM appeal ORDER BY number, ref";
 
-const STANDING: &str = "SELECT number, ref FROM standing ORDER BY number, ref";
+pub const STANDING: &str = "SELECT number, ref FROM standing ORDER BY number, ref";
 
 const SEATS: &str = "SELECT session, number, hall FROM seat ORDER BY session, number";
 
@@ -72,11 +75,7 @@ fn push_row(alloc: Global, text: &mut String, row: &Row) -> Result<(), Fail> {
 }
 
 /// The rows that a query shows, a line for each.
-pub fn rows_of<S: Alter>(
-    alloc: Global,
-    conn: &mut Connection<S>,
-    sql: &str,
-) -> Result<String, Fail> {
+fn rows_of<S: Alter>(alloc: Global, conn: &mut Connection<S>, sql: &str) -> Result<String, Fail> {
     let mut text = String::new(alloc);
     let rows = conn.query_all(sql, &[])?;
     for row in rows.iter() {
@@ -86,7 +85,7 @@ pub fn rows_of<S: Alter>(
 }
 
 /// The rows of all tables.
-pub fn all_rows_of<S: Alter>(alloc: Global, conn: &mut Connection<S>) -> Result<String, Fail> {
+fn all_rows_of<S: Alter>(alloc: Global, conn: &mut Connection<S>) -> Result<String, Fail> {
     let mut text = String::new(alloc);
     for sql in ALL_TABLES {
         text.push_str(rows_of(alloc, conn, sql)?.as_str())?;
@@ -95,7 +94,7 @@ pub fn all_rows_of<S: Alter>(alloc: Global, conn: &mut Connection<S>) -> Result<
 }
 
 /// Opens the office over a connection.
-pub fn opened(alloc: Global, conn: Connection<MemStore>) -> Result<Store<MemStore>, Fail> {
+fn opened(alloc: Global, conn: Connection<MemStore>) -> Result<Store<MemStore>, Fail> {
     match Store::open(alloc, conn) {
         Ok(store) => Ok(store),
         Err((refusal, conn)) => {
@@ -106,7 +105,7 @@ pub fn opened(alloc: Global, conn: Connection<MemStore>) -> Result<Store<MemStor
 }
 
 /// Compares what a query shows of the closed office, and opens it anew.
-fn expect_rows<R: Abort + AllocGlobal>(
+pub fn expect_rows<R: Abort + AllocGlobal>(
     rt: &R,
     store: Store<MemStore>,
     sql: &str,
@@ -185,90 +184,91 @@ const KEPT_IMPORTS: [KeptImport<'static>; 8] = [
 fn each_import_is_kept_in_its_table(rt: HostRuntime) -> Result<(), Fail> {
     let mut store = base_office(&rt)?;
     for (words, file, reply, table, rows) in KEPT_IMPORTS {
-        expect_done(&rt, &mut store, words, file, reply)?;
+        expect_all(&rt, &mut store, &[(words, file, Ok(reply))])?;
         store = expect_rows(&rt, store, table, rows)?;
     }
     expect_rows(&rt, store, OFFICES, "1|2|\n")?;
     Ok(())
 }
 
+/// Nobody can finish in hall B any more, and hall A is taken by one who needs it.
+const EARLY_B: &str = "session,hall,desks,until,reserved\nS1,B,1,09:59,no\n";
+
 #[test]
 fn seats_are_put_changed_and_deleted(rt: HostRuntime) -> Result<(), Fail> {
+    let early = [("import openings f", EARLY_B, Ok(ONE_CHANGED))];
     let mut store = base_office(&rt)?;
-    let added = "added 1 changed 0 same 0\n";
-    expect_done(&rt, &mut store, "import entries f", ONE_ENTRY, added)?;
-    store = expect_rows(&rt, store, SEATS, "S1|1|A|\n")?;
-    expect_done(
-        &rt,
-        &mut store,
-        "import arrangements f",
-        SECOND_NEEDS,
-        added,
-    )?;
-    expect_done(&rt, &mut store, "import entries f", SECOND_ENTRY, added)?;
-    store = expect_rows(&rt, store, SEATS, "S1|1|B|\nS1|2|A|\n")?;
-    // Nobody can finish in hall B any more, and hall A is taken by one who needs it.
-    let early = "session,hall,desks,until,reserved\nS1,B,1,09:59,no\n";
-    let changed = "added 0 changed 1 same 0\n";
-    expect_done(&rt, &mut store, "import openings f", early, changed)?;
-    expect_rows(&rt, store, SEATS, "S1|2|A|\n")?;
+    for (rows, seats) in [
+        (FIRST_TAKES_A, "S1|1|A|\n"),
+        (SECOND_NEEDS_A, "S1|1|B|\nS1|2|A|\n"),
+        (&early, "S1|2|A|\n"),
+    ] {
+        expect_all(&rt, &mut store, rows)?;
+        store = expect_rows(&rt, store, SEATS, seats)?;
+    }
     Ok(())
 }
 
+/// Files with a good row before a bad one.
+const REFUSED: &[Printed<'_>] = &[
+    (
+        "import entries f",
+        "number,paper\n0000002,MA-1\n0000003,MA-9\n",
+        Err("refused 5\n"),
+    ),
+    (
+        "import openings f",
+        "session,hall,desks,until,reserved\nS1,A,5,12:00,no\nS1,Z,1,12:00,no\n",
+        Err("refused 7\n"),
+    ),
+    (
+        "import papers f",
+        "paper,title,session,minutes,requires\nMA-1,Maths,S1,90,-\nMA-2,Maths,S9,60,-\n",
+        Err("refused 4\n"),
+    ),
+    (
+        "import arrangements f",
+        "number,needs,extra\n0000001,screen,0\n0000009,screen,0\n",
+        Err("refused 6\n"),
+    ),
+];
+
+/// An office that is there already is ready.
+const READY: &[Printed<'_>] = &[
+    ("init", "", Ok("ready\n")),
+    (
+        "import entries f",
+        ONE_ENTRY,
+        Ok("added 0 changed 0 same 1\n"),
+    ),
+];
+
 #[test]
-fn a_refused_import_writes_nothing(rt: HostRuntime) -> Result<(), Fail> {
+fn refused_imports_and_a_second_creation_write_nothing(rt: HostRuntime) -> Result<(), Fail> {
     let alloc = rt.alloc();
     let mut store = base_office(&rt)?;
-    let added = "added 1 changed 0 same 0\n";
-    expect_done(&rt, &mut store, "import entries f", ONE_ENTRY, added)?;
+    expect_all(&rt, &mut store, FIRST_TAKES_A)?;
     let mut conn = store.close();
     let before = all_rows_of(alloc, &mut conn)?;
     let mut store = opened(alloc, conn)?;
-    for (words, file, refusal) in [
-        (
-            "import entries f",
-            "number,paper\n0000002,MA-1\n0000003,MA-9\n",
-            "refused 5\n",
-        ),
-        (
-            "import openings f",
-            "session,hall,desks,until,reserved\nS1,A,5,12:00,no\nS1,Z,1,12:00,no\n",
-            "refused 7\n",
-        ),
-        (
-            "import papers f",
-            "paper,title,session,minutes,requires\nMA-1,Maths,S1,90,-\nMA-2,Maths,S9,60,-\n",
-            "refused 4\n",
-        ),
-        (
-            "import arrangements f",
-            "number,needs,extra\n0000001,screen,0\n0000009,screen,0\n",
-            "refused 6\n",
-        ),
-    ] {
-        expect_refused(&rt, &mut store, words, file, refusal)?;
-    }
+    expect_all(&rt, &mut store, REFUSED)?;
+    let Ok(mut store) = Store::create(alloc, store.close()) else {
+        return Err(Fail::new("a good office is refused"));
+    };
+    expect_all(&rt, &mut store, READY)?;
     let mut conn = store.close();
     assert_eq!(rt; all_rows_of(alloc, &mut conn)?.as_str(), before.as_str());
     Ok(())
 }
 
 #[test]
-fn creating_on_a_good_office_keeps_it(rt: HostRuntime) -> Result<(), Fail> {
-    let alloc = rt.alloc();
+fn a_seat_of_another_best_plan_is_kept(rt: HostRuntime) -> Result<(), Fail> {
     let mut store = base_office(&rt)?;
-    let added = "added 1 changed 0 same 0\n";
-    expect_done(&rt, &mut store, "import entries f", ONE_ENTRY, added)?;
+    expect_all(&rt, &mut store, FIRST_TAKES_A)?;
     let mut conn = store.close();
-    let before = all_rows_of(alloc, &mut conn)?;
-    let Ok(mut store) = Store::create(alloc, conn) else {
-        return Err(Fail::new("a good office is refused"));
-    };
-    let same = "added 0 changed 0 same 1\n";
-    expect_done(&rt, &mut store, "import entries f", ONE_ENTRY, same)?;
-    let mut conn = store.close();
-    assert_eq!(rt; all_rows_of(alloc, &mut conn)?.as_str(), before.as_str());
-    Ok(())
+    conn.execute("UPDATE seat SET hall = 'B'", &[])?;
+    let mut store = opened(rt.alloc(), conn)?;
+    expect_all(&rt, &mut store, &[("door-list S1 B", "", Ok(FIRST_IN_B))])
 }
 
 /// Every kind and state of appeals, all features and each of them alone.
@@ -322,9 +322,11 @@ fn appeals_of_all_kinds_and_states_are_kept(rt: HostRuntime) -> Result<(), Fail>
     }
     let before = rows_of(alloc, &mut conn, APPEALS)?;
     let mut store = opened(alloc, conn)?;
-    let added = "added 1 changed 0 same 0\n";
-    expect_done(&rt, &mut store, "import entries f", ONE_ENTRY, added)?;
-    expect_done(&rt, &mut store, "appeals S1", "", REGISTER)?;
+    let rows = [
+        ("import entries f", ONE_ENTRY, Ok(ONE_ADDED)),
+        ("appeals S1", "", Ok(REGISTER)),
+    ];
+    expect_all(&rt, &mut store, &rows)?;
     let mut conn = store.close();
     assert_eq!(rt;
         rows_of(alloc, &mut conn, APPEALS)?.as_str(),

@@ -1,10 +1,7 @@
 //! An import file and a standard output that fail, and reads that are interrupted.
-use super::{ONE_ADDED, ONE_ENTRY, Outcome, base_office, expect_done, words_of};
-use exam_job::run_job;
-use exam_line::parse_line;
+use super::{ONE_ADDED, ONE_ENTRY, Row, base_office, expect_all, run};
 use exam_store::Store;
 use sqlite::MemStore;
-use std::alloc::Global;
 use std::io::{self, ErrorKind, Read, Write};
 use std::process::Abort;
 use std::test::Fail;
@@ -92,6 +89,8 @@ impl Write for HeldBack {
 /// Where the entries' file is torn: before its first byte, inside its header, inside its row, behind it.
 const TORN_AT: &[usize] = &[0, 5, 20, ONE_ENTRY.len()];
 
+const ENTRIES: &str = "import entries f";
+
 const NOBODY: &str = "session,number,paper,hall,desk\n";
 
 #[test]
@@ -101,11 +100,12 @@ fn torn_import_changes_nothing(rt: HostRuntime) -> Result<(), Fail> {
         let mut torn = Torn {
             bytes: &ONE_ENTRY.as_bytes()[..*at],
         };
-        let outcome = import_entries(rt.alloc(), &mut store, &mut torn)?;
-        assert_eq!(rt; outcome.status, 1, "{at}");
-        assert!(rt; outcome.out.is_empty(), "{at}");
-        assert_eq!(rt; outcome.err.as_slice(), "file fault\n".as_bytes(), "{at}");
-        expect_done(&rt, &mut store, "export S1", "", NOBODY)?;
+        let mut out = Vec::new(rt.alloc());
+        let (status, err) = run(rt.alloc(), &mut store, ENTRIES, &mut torn, &mut out)?;
+        assert_eq!(rt; status, 1, "{at}");
+        assert!(rt; out.is_empty(), "{at}");
+        assert_eq!(rt; err.as_slice(), b"file fault\n".as_slice(), "{at}");
+        expect_all(&rt, &mut store, &[("export S1", "", Ok(NOBODY))])?;
     }
     Ok(())
 }
@@ -117,39 +117,17 @@ fn an_interrupted_read_is_tried_again(rt: HostRuntime) -> Result<(), Fail> {
         bytes: ONE_ENTRY.as_bytes(),
         is_interrupted: false,
     };
-    let outcome = import_entries(rt.alloc(), &mut store, &mut interrupted)?;
-    assert_eq!(rt; outcome.status, 0);
-    assert_eq!(rt; outcome.out.as_slice(), ONE_ADDED.as_bytes());
-    assert!(rt; outcome.err.is_empty());
+    let mut out = Vec::new(rt.alloc());
+    let (status, err) = run(rt.alloc(), &mut store, ENTRIES, &mut interrupted, &mut out)?;
+    assert_eq!(rt; status, 0);
+    assert_eq!(rt; out.as_slice(), ONE_ADDED.as_bytes());
+    assert!(rt; err.is_empty());
     Ok(())
 }
 
-/// Imports entries from this file.
-fn import_entries<R: Read>(
-    alloc: Global,
-    store: &mut Store<MemStore>,
-    file: &mut R,
-) -> Result<Outcome, Fail> {
-    let words = words_of(alloc, "import entries f")?;
-    let mut outcome = Outcome {
-        status: 2,
-        out: Vec::new(alloc),
-        err: Vec::new(alloc),
-    };
-    if let Ok(line) = parse_line(alloc, words.as_slice()) {
-        outcome.status = run_job(
-            alloc,
-            &line,
-            store,
-            file,
-            &mut outcome.out,
-            &mut outcome.err,
-        );
-    }
-    Ok(outcome)
-}
-
 const FIRST_SEATED: &str = "session,number,paper,hall,desk\nS1,0000001,MA-1,A,1\n";
+
+const ENTERED: &[Row<'_>] = &[(ENTRIES, ONE_ENTRY, Ok(ONE_ADDED))];
 
 /// Commands whose line is lost behind so many bytes, what is left of it, and what is exported then.
 const LOST: &[(&str, usize, &str, &str)] = &[
@@ -163,7 +141,7 @@ const LOST: &[(&str, usize, &str, &str)] = &[
 #[test]
 fn a_command_stands_whose_line_is_lost(rt: HostRuntime) -> Result<(), Fail> {
     let mut store = base_office(&rt)?;
-    expect_done(&rt, &mut store, "import entries f", ONE_ENTRY, ONE_ADDED)?;
+    expect_all(&rt, &mut store, ENTERED)?;
     for (words, room, out, exported) in LOST {
         let mut full = Full {
             taken: Vec::new(rt.alloc()),
@@ -171,7 +149,7 @@ fn a_command_stands_whose_line_is_lost(rt: HostRuntime) -> Result<(), Fail> {
         };
         expect_write_fault(&rt, &mut store, words, &mut full)?;
         assert_eq!(rt; full.taken.as_slice(), out.as_bytes(), "{words}");
-        expect_done(&rt, &mut store, "export S1", "", exported)?;
+        expect_all(&rt, &mut store, &[("export S1", "", Ok(*exported))])?;
     }
     Ok(())
 }
@@ -191,14 +169,14 @@ const HELD_BACK: &[(&str, &str, &str)] = &[
 #[test]
 fn a_command_stands_whose_line_is_held_back(rt: HostRuntime) -> Result<(), Fail> {
     let mut store = base_office(&rt)?;
-    expect_done(&rt, &mut store, "import entries f", ONE_ENTRY, ONE_ADDED)?;
+    expect_all(&rt, &mut store, ENTERED)?;
     for (words, out, exported) in HELD_BACK {
         let mut held_back = HeldBack {
             taken: Vec::new(rt.alloc()),
         };
         expect_write_fault(&rt, &mut store, words, &mut held_back)?;
         assert_eq!(rt; held_back.taken.as_slice(), out.as_bytes(), "{words}");
-        expect_done(&rt, &mut store, "export S1", "", exported)?;
+        expect_all(&rt, &mut store, &[("export S1", "", Ok(*exported))])?;
     }
     Ok(())
 }
@@ -210,14 +188,9 @@ fn expect_write_fault<R: Abort + AllocGlobal, O: Write>(
     words: &str,
     out: &mut O,
 ) -> Result<(), Fail> {
-    let line = words_of(rt.alloc(), words)?;
-    let mut err = Vec::new(rt.alloc());
-    let mut reader: &[u8] = b"";
-    let mut status = 2;
-    if let Ok(line) = parse_line(rt.alloc(), line.as_slice()) {
-        status = run_job(rt.alloc(), &line, store, &mut reader, out, &mut err);
-    }
+    let mut nothing: &[u8] = b"";
+    let (status, err) = run(rt.alloc(), store, words, &mut nothing, out)?;
     assert_eq!(rt; status, 1, "{words}");
-    assert_eq!(rt; err.as_slice(), "write fault\n".as_bytes(), "{words}");
+    assert_eq!(rt; err.as_slice(), b"write fault\n".as_slice(), "{words}");
     Ok(())
 }

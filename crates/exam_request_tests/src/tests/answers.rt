@@ -1,8 +1,7 @@
 //! Answers, byte for byte.
 use super::owns::{decided_rows, own_rows};
-use exam_office::AppealState;
-use exam_request::{Answer, Route, appeals_body, clashes_body, seats_body, write_answer};
-use exam_types::{Day, Refusal};
+use exam_request::{Answer, appeals_body, clashes_body, seats_body, write_answer};
+use exam_types::Refusal;
 use std::alloc::Global;
 use std::test::Fail;
 
@@ -12,52 +11,12 @@ fn written(alloc: Global, answer: &Answer) -> Result<Vec<u8>, Fail> {
     Ok(out)
 }
 
-fn ends_with(alloc: Global, answer: &Answer, end: &[u8]) -> Result<bool, Fail> {
-    Ok(written(alloc, answer)?.ends_with(end))
-}
-
 #[test]
-fn an_unknown_candidate_is_told_so(rt: HostRuntime) -> Result<(), Fail> {
-    let answer = written(rt.alloc(), &Answer::error(6))?;
-    let text =
-        b"HTTP/1.1 404 Not Found\r\nContent-Type: application/json\r\nContent-Length: 11\r\nConnection: close\r\n\r\n{\"error\":6}";
-    assert_eq!(rt; answer.as_slice(), text.as_slice());
-    assert_eq!(rt; answer.len(), 108);
-    Ok(())
-}
-
-#[test]
-fn another_method_is_told_which_are_allowed(rt: HostRuntime) -> Result<(), Fail> {
-    let answer = written(rt.alloc(), &Answer::other_method(Route::Appeals))?;
-    let text =
-        b"HTTP/1.1 405 Method Not Allowed\r\nContent-Type: application/json\r\nContent-Length: 12\r\nAllow: GET, POST\r\nConnection: close\r\n\r\n{\"error\":38}";
-    assert_eq!(rt; answer.as_slice(), text.as_slice());
-    Ok(())
-}
-
-#[test]
-fn short_answers(rt: HostRuntime) -> Result<(), Fail> {
-    let alloc = rt.alloc();
-    let day = Day::parse(b"2027-05-30").ok_or("day")?;
-    let open = Answer::state(AppealState::Pending);
-    let late = Answer::refusal(Refusal::PastClosing { day });
+fn want_of_memory_is_told(rt: HostRuntime) -> Result<(), Fail> {
     let short = Answer::refusal(Refusal::NoMemory);
-    assert!(rt;
-        ends_with(
-            alloc,
-            &open,
-            b"Content-Length: 16\r\nConnection: close\r\n\r\n{\"state\":\"open\"}"
-        )?
-    );
-    assert!(rt;
-        ends_with(
-            alloc,
-            &late,
-            b"Content-Length: 31\r\nConnection: close\r\n\r\n{\"day\":\"2027-05-30\",\"error\":13}"
-        )?
-    );
-    assert!(rt; written(alloc, &short)?.starts_with(b"HTTP/1.1 503 Service Unavailable\r\n"));
-    assert!(rt; written(alloc, &late)?.starts_with(b"HTTP/1.1 409 Conflict\r\n"));
+    let text =
+        b"HTTP/1.1 503 Service Unavailable\r\nContent-Type: application/json\r\nContent-Length: 12\r\nConnection: close\r\n\r\n{\"error\":22}";
+    assert_eq!(rt; written(rt.alloc(), &short)?.as_slice(), text.as_slice());
     Ok(())
 }
 
