@@ -1,10 +1,11 @@
 //! What is written is what is read again.
-use super::{BASE, FIRST_TAKES_A, SECOND_NEEDS, SECOND_NEEDS_A, expect_all};
+use super::{BASE, FIRST_TAKES_A, Row, SECOND_NEEDS, SECOND_NEEDS_A, expect_all};
 use exam_store::Store;
 use exam_types::Refusal;
 use sqlite::{Connection, FileStore, Files, Options};
 use sqlite_disk::Memory;
 use std::alloc::Global;
+use std::process::Abort;
 use std::test::Fail;
 
 /// A connection over two files in memory, the log and the database.
@@ -50,19 +51,28 @@ fn blank_office(alloc: Global) -> Result<Store<OnFiles>, Fail> {
     Store::create(alloc, conn).map_err(|(refusal, conn)| failed(refusal, conn))
 }
 
+/// Takes the rows in turn, and opens the office anew before each.
+fn expect_reopened<R: Abort + AllocGlobal>(
+    rt: &R,
+    mut store: Store<OnFiles>,
+    rows: &[Row<'_>],
+) -> Result<Store<OnFiles>, Fail> {
+    for row in rows {
+        store = reopened(rt.alloc(), store)?;
+        expect_all(rt, &mut store, &[*row])?;
+    }
+    Ok(store)
+}
+
 #[test]
 fn an_office_is_read_as_it_was_written(rt: HostRuntime) -> Result<(), Fail> {
-    let alloc = rt.alloc();
-    let mut store = blank_office(alloc)?;
+    let mut store = blank_office(rt.alloc())?;
     let same = "added 0 changed 0 same 1\n";
     let again = [("import arrangements f", SECOND_NEEDS, Ok(same))];
     let ready = [("init", "", Ok("ready\n"))];
     // The one who was seated moves, as they would without the stops between.
     for rows in [&ready, BASE, FIRST_TAKES_A, SECOND_NEEDS_A, &ready, &again] {
-        for row in rows {
-            store = reopened(alloc, store)?;
-            expect_all(&rt, &mut store, &[*row])?;
-        }
+        store = expect_reopened(&rt, store, rows)?;
     }
     Ok(())
 }

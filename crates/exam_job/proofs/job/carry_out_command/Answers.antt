@@ -14,6 +14,6 @@ returns g c =
     inr (
       c.unwrap.result,
       carried g.S.Store c.args.command c.args.today c.args.store.now c.apply_all.new.self answers.items c.pop.new.self.items c.pop.result c.unwrap.result c.in_ok-answers.ensures.each c.apply_all.ensures.kept
-      c.pop.ensures.items c.unwrap.ensures,
+          c.pop.ensures.items c.unwrap.ensures,
       c.tell.ensures,
     )
