@@ -41,8 +41,8 @@ fn words_of(alloc: Global, row: &str) -> Result<Vec<String>, AllocError> {
     Ok(words)
 }
 
-/// Runs the program's command over the store, an import file and a standard output. Gives the exit status, and what went
-/// to the error output.
+/// Runs the program's command over the store, an import file and a standard output. Gives the exit status, and what
+/// went to the error output.
 fn run<S: Alter, R: Read, O: Write>(
     alloc: Global,
     store: &mut Store<S>,

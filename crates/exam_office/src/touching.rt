@@ -333,7 +333,8 @@ fn add_others(
     codes: &mut Codes,
 ) -> Result<(), Refusal>
     ensures ok { OnOk result ((s : Code) → contains code_cmp codes.new s
-        ≡ (((bears_mark decision.now.outcome || spec.ends_standing (relations_of facts.now) decision.now.number appeal.now)
+        ≡ (((bears_mark decision.now.outcome
+        || spec.ends_standing (relations_of facts.now) decision.now.number appeal.now)
         && is_member (relations_of facts.now) s decision.now.number) || contains code_cmp codes.old s)) }
     ensures memory { IfErr result (λ e. e ≡ NoMemory) }
 {
