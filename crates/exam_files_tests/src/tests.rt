@@ -1,5 +1,7 @@
 //! Import files and sheets by example, and writers that fail.
 mod attendances;
+mod bad_files;
+mod bad_headers;
 mod bad_records;
 mod door_lists;
 mod forms;

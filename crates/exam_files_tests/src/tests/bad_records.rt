@@ -1,125 +1,88 @@
-//! Files that denote no import.
-use super::reading::{expect_count, expect_refusal};
+//! Files with one record that denotes no row.
+use super::reading::expect_bad_row;
 use exam_office::Kind;
-use exam_types::Refusal;
-use std::test::Fail;
-
-/// Files whose first record is not the header of their kind.
-const NO_HEADERS: &[(Kind, &str)] = &[
-    (Kind::Candidates, ""),
-    (Kind::Halls, "\n\r\n\n"),
-    (Kind::Entries, "\u{feff}"),
-    (Kind::Entries, "number,paper,\n0000001,MA-1,\n"),
-    (Kind::Entries, "paper,number\n0000001,MA-1\n"),
-    (Kind::Entries, "Number,Paper\n0000001,MA-1\n"),
-    (Kind::Sessions, "hall,title,features\nA,Aula,-\n"),
-];
-
-/// Files with one bad record, that record's number and its first bad column.
-const BAD_ROWS: &[(Kind, &str, u32, u32)] = &[
-    // a count of fields is refused at column 0, whatever the fields are
-    (
-        Kind::Entries,
-        "number,paper\n0000001,MA-1\n0000000,MA-1,\n",
-        2,
-        0,
-    ),
-    (Kind::Entries, "number,paper\n0000000,ma-1\n", 1, 1),
-    (
-        Kind::Halls,
-        "hall,title,features\nA,\"Two\nlines\",-\n",
-        1,
-        2,
-    ),
-    (
-        Kind::Candidates,
-        "number,name,code\n0000001,Bo,CODE001\n",
-        1,
-        3,
-    ),
-    (
-        Kind::Sessions,
-        "session,date,start\nS1,2000-01-10,09:00\n",
-        1,
-        2,
-    ),
-    (
-        Kind::Sessions,
-        "session,date,start\nS1,2027-02-29,09:00\n",
-        1,
-        2,
-    ),
-    (
-        Kind::Sessions,
-        "session,date,start\nS1,2027-06-01,24:00\n",
-        1,
-        3,
-    ),
-    (
-        Kind::Openings,
-        "session,hall,desks,until,reserved\nS1,A,01,12:00,no\n",
-        1,
-        3,
-    ),
-    (
-        Kind::Openings,
-        "session,hall,desks,until,reserved\nS1,A,1,12:00,No\n",
-        1,
-        5,
-    ),
-    (
-        Kind::Arrangements,
-        "number,needs,extra\n0000001,screen+step-free,0\n",
-        1,
-        2,
-    ),
-    (
-        Kind::Papers,
-        "paper,title,session,minutes,requires\nMA-1,Maths,S1,0,-\n",
-        1,
-        4,
-    ),
-    // a bad record behind a good one, before one that contradicts the first
-    (
-        Kind::Arrangements,
-        "number,needs,extra\n0000001,-,25\n0000002,-,101\n0000001,-,50\n",
-        2,
-        3,
-    ),
-];
 
 #[test]
-fn a_bad_header_or_record_is_refused(rt: HostRuntime) {
-    for (kind, file) in NO_HEADERS {
-        expect_refusal(&rt, *kind, file.as_bytes(), Refusal::BadHeader);
-    }
-    for (kind, file, record, column) in BAD_ROWS {
-        let refusal = Refusal::BadRow {
-            record: *record,
-            column: *column,
-        };
-        expect_refusal(&rt, *kind, file.as_bytes(), refusal);
-    }
+fn a_third_record_with_a_bad_number_is_refused(rt: HostRuntime) {
+    let file =
+        b"number,name,code\n0000001,Bo Berg,CODE0001\n0000002,Ada Lin,CODE0002\n000003,Cy Dahl,CODE0003\n";
+    expect_bad_row(&rt, Kind::Candidates, file, 3, 1);
 }
 
 #[test]
-fn a_contradiction_is_refused_at_its_record(rt: HostRuntime) {
-    let file = b"number,needs,extra\n0000001,-,25\n0000002,-,25\n0000001,-,50\nx\n";
-    let refusal = Refusal::RowConflict { record: 3 };
-    expect_refusal(&rt, Kind::Arrangements, file, refusal);
+fn too_few_fields_are_refused(rt: HostRuntime) {
+    let file = b"number,paper\n0000001\n";
+    expect_bad_row(&rt, Kind::Entries, file, 1, 0);
 }
 
 #[test]
-fn a_file_past_the_limit_is_refused(rt: HostRuntime) -> Result<(), Fail> {
-    let file = vec![in rt.alloc(); b'\n'; 4_194_305]?;
-    for (from, refusal) in [(0, Refusal::TooMany), (1, Refusal::BadHeader)] {
-        expect_refusal(&rt, Kind::Halls, &file[from..], refusal);
-    }
-    Ok(())
+fn too_many_fields_are_refused(rt: HostRuntime) {
+    let file = b"number,paper\n0000001,MA-1\n0000000,MA-1,\n";
+    expect_bad_row(&rt, Kind::Entries, file, 2, 0);
 }
 
 #[test]
-fn two_halls_of_one_session_are_no_contradiction(rt: HostRuntime) -> Result<(), Fail> {
-    let file = b"session,hall,desks,until,reserved\nS1,A,1,12:00,no\nS1,B,2,12:00,no\n";
-    expect_count(&rt, Kind::Openings, file, 2)
+fn the_first_bad_column_is_named(rt: HostRuntime) {
+    let file = b"number,paper\n0000000,ma-1\n";
+    expect_bad_row(&rt, Kind::Entries, file, 1, 1);
+}
+
+#[test]
+fn a_line_feed_in_a_title_is_refused(rt: HostRuntime) {
+    let file = b"hall,title,features\nA,\"Two\nlines\",-\n";
+    expect_bad_row(&rt, Kind::Halls, file, 1, 2);
+}
+
+#[test]
+fn a_name_that_is_no_text_is_refused(rt: HostRuntime) {
+    let file = b"number,name,code\n0000001,B\xff,CODE0001\n";
+    expect_bad_row(&rt, Kind::Candidates, file, 1, 2);
+}
+
+#[test]
+fn an_access_code_too_short_is_refused(rt: HostRuntime) {
+    let file = b"number,name,code\n0000001,Bo Berg,CODE001\n";
+    expect_bad_row(&rt, Kind::Candidates, file, 1, 3);
+}
+
+#[test]
+fn a_day_too_early_is_refused(rt: HostRuntime) {
+    let file = b"session,date,start\nS1,2000-01-10,09:00\n";
+    expect_bad_row(&rt, Kind::Sessions, file, 1, 2);
+}
+
+#[test]
+fn a_day_that_is_no_date_is_refused(rt: HostRuntime) {
+    let file = b"session,date,start\nS1,2027-02-29,09:00\n";
+    expect_bad_row(&rt, Kind::Sessions, file, 1, 2);
+}
+
+#[test]
+fn a_start_at_the_end_of_the_day_is_refused(rt: HostRuntime) {
+    let file = b"session,date,start\nS1,2027-06-01,24:00\n";
+    expect_bad_row(&rt, Kind::Sessions, file, 1, 3);
+}
+
+#[test]
+fn desks_with_a_leading_zero_are_refused(rt: HostRuntime) {
+    let file = b"session,hall,desks,until,reserved\nS1,A,01,12:00,no\n";
+    expect_bad_row(&rt, Kind::Openings, file, 1, 3);
+}
+
+#[test]
+fn an_unknown_word_for_reserved_is_refused(rt: HostRuntime) {
+    let file = b"session,hall,desks,until,reserved\nS1,A,1,12:00,No\n";
+    expect_bad_row(&rt, Kind::Openings, file, 1, 5);
+}
+
+#[test]
+fn features_out_of_order_are_refused(rt: HostRuntime) {
+    let file = b"number,needs,extra\n0000001,screen+step-free,0\n";
+    expect_bad_row(&rt, Kind::Arrangements, file, 1, 2);
+}
+
+#[test]
+fn a_paper_of_no_minutes_is_refused(rt: HostRuntime) {
+    let file = b"paper,title,session,minutes,requires\nMA-1,Maths,S1,0,-\n";
+    expect_bad_row(&rt, Kind::Papers, file, 1, 4);
 }

@@ -23,8 +23,19 @@ pub fn hall(code: &[u8]) -> Result<HallCode, Fail> {
 
 /// Reads a file that is refused so.
 pub fn expect_refusal<R: Abort + AllocGlobal>(rt: &R, kind: Kind, file: &[u8], refusal: Refusal) {
-    let found = read_import(rt.alloc(), kind, file).err();
-    assert_eq!(rt; found, Some(refusal), "{file:?}");
+    assert_eq!(rt; read_import(rt.alloc(), kind, file).err(), Some(refusal));
+}
+
+/// Reads a file that is refused for a record, at its first bad column or, for its count of fields, at column
+/// 0.
+pub fn expect_bad_row<R: Abort + AllocGlobal>(
+    rt: &R,
+    kind: Kind,
+    file: &[u8],
+    record: u32,
+    column: u32,
+) {
+    expect_refusal(rt, kind, file, Refusal::BadRow { record, column });
 }
 
 /// Reads a file of so many rows.
