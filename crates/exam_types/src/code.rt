@@ -1,5 +1,5 @@
 //! A short text of bytes in a fixed array, ordered by its bytes.
-ghost use Rattle.std.specs.Prelude.{◌≡◌, ℕ, ◌-◌, ◌≤◌, ◌++◌, length, nat_eq, Bool, IsTrue, OnOk, OnErr, IfErr};
+ghost use Rattle.std.specs.Prelude.{◌≡◌, ℕ, ◌-◌, ◌<◌, ◌≤◌, ◌++◌, length, nat_eq, Bool, IsTrue, OnOk, OnErr, IfErr};
 ghost use Rattle.std.specs.Prelude.{Some, None, if◌then◌else◌, refl};
 ghost use Rattle.exam_types.specs.Codes.{is_code, is_dashed, is_capital_or_digit};
 ghost use Rattle.exam_types.specs.declared.refusal.Refusal.TheVariants.{NoMemory};
@@ -46,12 +46,17 @@ impl Alphabet for Dashed {
     }
 }
 
+/// A kind of code that has at most `GREATEST` bytes, so few that one byte holds how many they are.
+pub trait Kind<const GREATEST: usize> {
+    ghost is_short: { GREATEST < 256 };
+}
+
 /// A code of the kind `K`: `LEAST` to `GREATEST` bytes of its alphabet, which lie in the value itself.
 /// Contracts see its bytes. Ordered by its bytes.
 #[derive_where(Clone, Copy)]
 pub struct Code<K, A: Alphabet, const LEAST: usize, const GREATEST: usize> {
     cells: [u8; GREATEST],
-    len: usize,
+    len: u8,
     kind: PhantomData<(K, A)>,
 }
 
@@ -78,7 +83,10 @@ impl<K, A: Alphabet, const LEAST: usize, const GREATEST: usize> Model
     } };
 }
 
-impl<K, A: Alphabet, const LEAST: usize, const GREATEST: usize> Code<K, A, LEAST, GREATEST> {
+impl<K, A: Alphabet, const LEAST: usize, const GREATEST: usize> Code<K, A, LEAST, GREATEST>
+where
+    K: Kind<GREATEST>,
+{
     /// The code that these bytes are, or none.
     #[tactic(auto, using(crate::proofs::CodeFacts::longest))]
     pub fn parse(bytes: &[u8]) -> Option<Self>
@@ -91,11 +99,13 @@ impl<K, A: Alphabet, const LEAST: usize, const GREATEST: usize> Code<K, A, LEAST
         cells[..bytes.len()].copy_from_slice(bytes);
         Some(Code {
             cells,
-            len: bytes.len(),
+            len: bytes.len() as u8,
             kind: PhantomData,
         })
     }
+}
 
+impl<K, A: Alphabet, const LEAST: usize, const GREATEST: usize> Code<K, A, LEAST, GREATEST> {
     /// Appends the code's bytes. Refused where there is not enough memory.
     pub fn write_to(&self, out: &mut Vec<u8>) -> Result<(), Refusal>
         ensures ok { OnOk result (out.new.items ≡ out.old.items ++ self.now) }
@@ -111,7 +121,7 @@ impl<K, A: Alphabet, const LEAST: usize, const GREATEST: usize> Code<K, A, LEAST
         ensures value { result.now ≡ self.now }
         ensures form { IsTrue (is_code A.allowed LEAST GREATEST self.now) }
     {
-        &self.cells[..self.len]
+        &self.cells[..usize::from(self.len)]
     }
 }
 

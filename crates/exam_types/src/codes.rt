@@ -1,5 +1,7 @@
 //! The codes: the bytes and the lengths of each.
-use crate::code::{CapitalsAndDigits, Code, Dashed};
+ghost use Rattle.std.proofs.Common.{arith};
+
+use crate::code::{CapitalsAndDigits, Code, Dashed, Kind};
 
 /// The length of the shortest session code.
 const SHORTEST_SESSION_CODE: usize = 1;
@@ -13,6 +15,10 @@ pub type SessionCode = Code<SessionCodeKind, Dashed, SHORTEST_SESSION_CODE, LONG
 /// Tells a [`SessionCode`] from the other codes.
 pub struct SessionCodeKind;
 
+impl Kind<LONGEST_SESSION_CODE> for SessionCodeKind {
+    ghost is_short = { Prim.omega arith };
+}
+
 /// The length of the shortest paper code.
 const SHORTEST_PAPER_CODE: usize = 1;
 
@@ -24,6 +30,10 @@ pub type PaperCode = Code<PaperCodeKind, Dashed, SHORTEST_PAPER_CODE, LONGEST_PA
 
 /// Tells a [`PaperCode`] from the other codes.
 pub struct PaperCodeKind;
+
+impl Kind<LONGEST_PAPER_CODE> for PaperCodeKind {
+    ghost is_short = { Prim.omega arith };
+}
 
 /// The length of the shortest hall code.
 const SHORTEST_HALL_CODE: usize = 1;
@@ -37,6 +47,10 @@ pub type HallCode = Code<HallCodeKind, CapitalsAndDigits, SHORTEST_HALL_CODE, LO
 /// Tells a [`HallCode`] from the other codes.
 pub struct HallCodeKind;
 
+impl Kind<LONGEST_HALL_CODE> for HallCodeKind {
+    ghost is_short = { Prim.omega arith };
+}
+
 /// The length of the shortest reference.
 const SHORTEST_REFERENCE: usize = 1;
 
@@ -48,6 +62,10 @@ pub type Reference = Code<ReferenceKind, CapitalsAndDigits, SHORTEST_REFERENCE, 
 
 /// Tells a [`Reference`] from the other codes.
 pub struct ReferenceKind;
+
+impl Kind<LONGEST_REFERENCE> for ReferenceKind {
+    ghost is_short = { Prim.omega arith };
+}
 
 /// The length of the shortest access code.
 const SHORTEST_ACCESS_CODE: usize = 8;
@@ -65,3 +83,7 @@ pub type AccessCode = Code<
 
 /// Tells an [`AccessCode`] from the other codes.
 pub struct AccessCodeKind;
+
+impl Kind<LONGEST_ACCESS_CODE> for AccessCodeKind {
+    ghost is_short = { Prim.omega arith };
+}
