@@ -12,8 +12,7 @@ use Rattle.exam_rules.specs.declared.rows.Hall.{Hall}
 use Rattle.exam_rules.specs.declared.rows.Opening.{Opening}
 use Rattle.exam_rules.specs.declared.rows.Candidate.{Candidate}
 use Rattle.exam_rules.specs.declared.rows.Arrangement.{Arrangement}
-use Rattle.exam_types.specs.Features.{same_features}
-use Rattle.exam_types.specs.declared.features.Features.{Features}
+use Rattle.exam_types.specs.Features.{Features, same_features}
 use Rattle.exam_types.proofs.FeatureFacts.{same_features-is}
 use Rattle.exam_office.specs.declared.import_row.Row.{Row}
 use Rattle.exam_office.specs.declared.import_row.Row.TheVariants as row

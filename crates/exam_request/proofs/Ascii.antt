@@ -12,10 +12,10 @@ use Rattle.exam_office.specs.Words.{arrangement_text}
 use Rattle.exam_rules.specs.declared.rows.Arrangement.{Arrangement}
 use Rattle.exam_types.specs.Days.{date_text, day_text, month_day_of, month_of, year_of}
 use Rattle.exam_types.specs.Digits.{digits}
-use Rattle.exam_types.specs.declared.features.Features.{Features}
-use Rattle.exam_types.specs.Features.{add_name, after_plus, dash_if_empty, features_text}
+use Rattle.exam_types.specs.Features.{Features, feature_names, features_text}
 use Rattle.exam_types.specs.Numbers.{minute_text}
 use Rattle.exam_types.proofs.DayTexts.{day_text-is}
+use Rattle.exam_types.proofs.FeatureFacts.{of_all}
 
 -- ---- bytes that all pass a test
 
@@ -52,26 +52,8 @@ ascii_minute m =
 
 -- ---- feature sets
 
-ascii_after_plus : (t name : List ℕ) → IsAscii t → IsAscii name → IsAscii (after_plus t name)
-ascii_after_plus [] name these those = those
-ascii_after_plus (b ∷ t) name these those = IsAscii-append (b ∷ t) (43 ∷ name) these (IsAscii-cons 43 name (omega arith) those)
-
-ascii_add : (t : List ℕ) (wanted : Bool) (name : List ℕ) → IsAscii t → IsAscii name → IsAscii (add_name t wanted name)
-ascii_add t true name these those = ascii_after_plus t name these those
-ascii_add t false name these those = these
-
-ascii_dash : (t : List ℕ) → IsAscii t → IsAscii (dash_if_empty t)
-ascii_dash [] is = literal (codes "-") refl
-ascii_dash (b ∷ t) is = is
-
 pub ascii_features : (f : Features) → IsAscii (features_text f)
-ascii_features f =
-    ascii_dash _ (ascii_add _ f.computer (codes "computer")
-    (ascii_add _ f.small_room (codes "small-room")
-    (ascii_add _ f.reader (codes "reader")
-    (ascii_add _ f.screen (codes "screen")
-    (ascii_add [] f.step_free (codes "step-free") IsAscii-nil (literal (codes "step-free") refl))
-    (literal (codes "screen") refl)) (literal (codes "reader") refl)) (literal (codes "small-room") refl)) (literal (codes "computer") refl))
+ascii_features f = literal (features_text f) (of_all feature_names (λ set. list_all (λ b. nat_lt b 128) (features_text set)) refl f)
 
 -- ---- what an appeal asks
 

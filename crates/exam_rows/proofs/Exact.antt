@@ -9,7 +9,7 @@ use Rattle.std.proofs.lemmas.Bool.{and_parts}
 use Rattle.std.proofs.lemmas.Bool.Decides.{Decides-eqb}
 use Rattle.std.proofs.lemmas.Map.Lookups.{CmpEqualImpliesEq, exact_unsigned, exact_bytes, exact_pairs}
 use Rattle.std.proofs.lemmas.Slice.Eq.{slice_eq-Decides}
-use Rattle.exam_types.specs.declared.features.Features.{Features}
+use Rattle.exam_types.proofs.FeatureFacts.{same_features-is}
 use Rattle.exam_rules.specs.Relations.{code_cmp, pair_cmp, opening_cmp, entry_cmp, appeal_cmp, seat_cmp}
 use Rattle.exam_rules.specs.declared.rows.Session.{Session}
 use Rattle.exam_rules.specs.declared.rows.Paper.{Paper}
@@ -44,22 +44,6 @@ text a b = (slice_eq-Decides Decides-eqb a b (pointwise nat_eq a b) refl).0
 flag : (a b : Bool) → beq a b ≡ true → a ≡ b
 flag a b = (booleans_Decides a b).0
 
-abbrev same_features : Features → Features → Bool
-same_features x y = beq x.step_free y.step_free && (beq x.screen y.screen && (beq x.reader y.reader && (beq x.small_room y.small_room && beq x.computer y.computer)))
-
-features : (x y : Features) → same_features x y ≡ true → x ≡ y
-features x y h =
-    let h1 = and_parts _ _ h in
-    let h2 = and_parts _ _ h1.1 in
-    let h3 = and_parts _ _ h2.1 in
-    let h4 = and_parts _ _ h3.1 in
-    let a : x.step_free ≡ y.step_free = flag _ _ h1.0 in
-    let b : x.screen ≡ y.screen = flag _ _ h2.0 in
-    let c : x.reader ≡ y.reader = flag _ _ h3.0 in
-    let d : x.small_room ≡ y.small_room = flag _ _ h4.0 in
-    let e : x.computer ≡ y.computer = flag _ _ h4.1 in
-    λ i. record { step_free = a i; screen = b i; reader = c i; small_room = d i; computer = e i }
-
 session_same : (x y : Session) → session_eq.ghosts.eq x y ≡ true → x ≡ y
 session_same x y h =
     let parts = and_parts _ _ h in
@@ -75,14 +59,14 @@ paper_same x y h =
     let a : x.title ≡ y.title = text _ _ h1.0 in
     let b : x.session ≡ y.session = text _ _ h2.0 in
     let c : x.minutes ≡ y.minutes = number _ _ h3.0 in
-    let d : x.required ≡ y.required = features _ _ h3.1 in
+    let d : x.required ≡ y.required = same_features-is _ _ h3.1 in
     λ i. record { title = a i; session = b i; minutes = c i; required = d i }
 
 hall_same : (x y : Hall) → hall_eq.ghosts.eq x y ≡ true → x ≡ y
 hall_same x y h =
     let parts = and_parts _ _ h in
     let a : x.title ≡ y.title = text _ _ parts.0 in
-    let b : x.features ≡ y.features = features _ _ parts.1 in
+    let b : x.features ≡ y.features = same_features-is _ _ parts.1 in
     λ i. record { title = a i; features = b i }
 
 opening_same : (x y : Opening) → opening_eq.ghosts.eq x y ≡ true → x ≡ y
@@ -107,7 +91,7 @@ entry_same x y h = let a : x.live ≡ y.live = flag _ _ h in λ i. record { live
 arrangement_same : (x y : Arrangement) → arrangement_eq.ghosts.eq x y ≡ true → x ≡ y
 arrangement_same x y h =
     let parts = and_parts _ _ h in
-    let a : x.needs ≡ y.needs = features _ _ parts.0 in
+    let a : x.needs ≡ y.needs = same_features-is _ _ parts.0 in
     let b : x.extra ≡ y.extra = number _ _ parts.1 in
     λ i. record { needs = a i; extra = b i }
 

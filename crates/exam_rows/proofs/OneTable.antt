@@ -12,8 +12,7 @@ use Rattle.sqlite_rules.specs.Lists.{Has}
 use Rattle.sqlite_rules.proofs.ListLemmas.{all_has, has_contained, contains_had}
 use Rattle.sqlite_rules.proofs.ProbeLemmas.{mapped_has, has_mapped}
 use Rattle.exam_types.specs.Days.{IsDay, IsSessionDay, day_text, year_of, month_of, month_day_of}
-use Rattle.exam_types.specs.Features.{features_sum, summed_features}
-use Rattle.exam_types.specs.declared.features.Features.{Features}
+use Rattle.exam_types.specs.Features.{Features, features_sum, summed_features}
 use Rattle.exam_types.proofs.DayFacts.{number_of_civil}
 use Rattle.exam_types.proofs.DayTexts.{day_text-is, parts_small, parts_of_text, only_parts}
 use Rattle.exam_types.proofs.FeatureFacts.{set_of_sum}

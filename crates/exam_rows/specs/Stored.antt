@@ -8,8 +8,7 @@ use Rattle.exam_types.specs.Codes.{is_hall_code, is_paper_code}
 use Rattle.exam_types.specs.Days.{day_text}
 use Rattle.exam_types.specs.Numbers.{IsExtra}
 use Rattle.exam_types.specs.Texts.{is_reason}
-use Rattle.exam_types.specs.declared.features.Features.{Features}
-use Rattle.exam_types.specs.Features.{features_sum}
+use Rattle.exam_types.specs.Features.{Features, features_sum}
 use Rattle.exam_rules.specs.declared.rows.Subject.{Subject}
 use Rattle.exam_rules.specs.declared.rows.Subject.TheVariants.{Hall, Clash, Arrangement}
 use Rattle.exam_rules.specs.declared.rows.Status.{Status}

@@ -4,6 +4,7 @@ ghost use Rattle.sqlite_value.specs.Value.{owned};
 ghost use Rattle.sqlite_value.specs.Order.{column};
 ghost use Rattle.sqlite_value.specs.declared.value.Value.TheVariants.{Null, Text};
 ghost use Rattle.exam_types.specs.Codes.{is_hall_code, is_paper_code};
+ghost use Rattle.exam_types.specs.Features.{greatest_sum};
 ghost use Rattle.exam_types.specs.Numbers.{IsExtra};
 ghost use Rattle.exam_types.specs.Texts.{is_reason};
 ghost use Rattle.exam_types.specs.declared.refusal.Refusal.TheVariants.{BadStore};
@@ -46,7 +47,7 @@ pub fn target_of(subject: &Subject) -> &[u8]
 /// The sum of the needs, 0 where no arrangement is asked for.
 pub fn needs_of(subject: &Subject) -> u32
     ensures value { result ≡ stored.needs_of subject.now }
-    ensures range { result ≤ 31 }
+    ensures range { result ≤ greatest_sum }
 {
     match subject {
         Subject::Arrangement(wanted) => wanted.needs.sum(),

@@ -1,7 +1,6 @@
 -- Small offices, and what the definitions say of them, by computation.
 use Rattle.std.specs.Prelude.{◌≡◌, ℕ, true, false, List, [], ◌∷◌, Option, None, Some, refl, codes}
-use Rattle.exam_types.specs.declared.features.Features.{Features}
-use Rattle.exam_types.specs.Features.{no_features}
+use Rattle.exam_types.specs.Features.{Features, no_features, named_features}
 use Rattle.exam_rules.specs.declared.rows.Paper.{Paper}
 use Rattle.exam_rules.specs.declared.rows.Appeal.{Appeal}
 use Rattle.exam_rules.specs.declared.rows.Arrangement.{Arrangement}
@@ -37,7 +36,7 @@ abbrev pub named : ℕ → Code → Code → ℕ × Candidate
 named c name code = (c, record { name = name; code = code })
 
 abbrev pub step_free : Features
-step_free = record no_features { step_free = true }
+step_free = named_features (codes "step-free")
 
 -- of the paper MA-1
 abbrev pub entered : ℕ → (ℕ × Code) × Entry
@@ -140,7 +139,7 @@ stays_in = refl
 abbrev pub two_papers : Relations
 two_papers = record base {
   papers = (codes "MA-1", paper_of 60 no_features)
-      ∷ (codes "PH-2", paper_of 60 (record no_features { computer = true }))
+      ∷ (codes "PH-2", paper_of 60 (named_features (codes "computer")))
       ∷ [];
   entries = entered 3 ∷ ((3, codes "PH-2"), record { live = true }) ∷ [];
 }

@@ -1,92 +1,86 @@
--- Equal feature sets, and the one set with a sum.
-use Rattle.std.proofs.Common.{◌≡◌, ◌∙◌, ℕ, Bool, true, false, Some, None, refl, sym, ap}
-use Rattle.std.specs.Prelude.{◌&&◌, ◌↔◌}
-use Rattle.std.specs.Cmp.{booleans_Decides}
-use Rattle.std.proofs.Math.Bool.{beq}
-use Rattle.exam_types.specs.Features.{Features, same_features, features_sum, summed_features}
+-- Equal feature sets, sets in sets, the one set with a sum, and the one set with a text.
+use mir.Val.{bool_byte}
+use Rattle.std.proofs.Common.{◌≡◌, ◌∙◌, ◌+◌, ◌*◌, ◌/◌, ◌%◌, ◌^◌, ◌<◌, ◌≤◌, ℕ, zero, suc, Bool, true, false, List, [], ◌∷◌, length, nat_eq, bit_and, refl, sym, ap, arith, inl, inr, pow-suc}
+use Rattle.std.specs.Prelude.{◌&&◌, ◌==◌}
+use Rattle.std.proofs.lemmas.Bool.{cases_eq, eq-eqb, ne_eqb, eqb-true, and_parts}
+use Rattle.std.proofs.lemmas.Nat.{and_le_r, and_shr, and_mod}
+use Rattle.exam_types.specs.Features.{Features, Flags, feature_names, features_sum, features_text, all_met, is_met, named_features, part, same_features, sum_among, summed_among, summed_features}
 
-left : (x y : Bool) → (x && y) ≡ true → x ≡ true
-left true y e = refl
-left false y e = cc e
+-- ---- each set, and the sum that it has
 
-right : (x y : Bool) → (x && y) ≡ true → y ≡ true
-right true y e = e
-right false y e = cc e
+-- a test that passes for every set of these names
+abbrev pub is_of_all : (names : List (List ℕ)) → (Flags names → Bool) → Bool
+is_of_all [] test = test tt
+is_of_all (name ∷ names) test = is_of_all names (λ f. test (true, f)) && is_of_all names (λ f. test (false, f))
 
-flags : (a b : Bool) → beq a b ≡ true → a ≡ b
-flags a b = (booleans_Decides a b).0
+pub of_all : (names : List (List ℕ)) (test : Flags names → Bool) → is_of_all names test ≡ true → (f : Flags names) → test f ≡ true
+of_all [] test all f = all
+of_all (name ∷ names) test all (true, f) = of_all names (λ f. test (true, f)) (and_parts _ _ all).0 f
+of_all (name ∷ names) test all (false, f) = of_all names (λ f. test (false, f)) (and_parts _ _ all).1 f
 
-flag_is : (a : Bool) → beq a a ≡ true
-flag_is true = refl
-flag_is false = refl
-
-abbrev of_flags : Bool → Bool → Bool → Bool → Bool → Features
-of_flags a b c d e = record { step_free = a; screen = b; reader = c; small_room = d; computer = e }
-
--- sets with the same features are one set
-pub same_features-is : (x y : Features) → same_features x y ≡ true → x ≡ y
-same_features-is x y e =
-    let e1 = right _ _ e in
-    let e2 = right _ _ e1 in
-    let e3 = right _ _ e2 in
-    ap (λ f. of_flags f x.screen x.reader x.small_room x.computer) (flags _ _ (left _ _ e))
-    ∙ ap (λ f. of_flags y.step_free f x.reader x.small_room x.computer) (flags _ _ (left _ _ e1))
-    ∙ ap (λ f. of_flags y.step_free y.screen f x.small_room x.computer) (flags _ _ (left _ _ e2))
-    ∙ ap (λ f. of_flags y.step_free y.screen y.reader f x.computer) (flags _ _ (left _ _ e3))
-    ∙ ap (λ f. of_flags y.step_free y.screen y.reader y.small_room f) (flags _ _ (right _ _ e3))
-
-pub same_features-itself : (f : Features) → same_features f f ≡ true
-same_features-itself f =
-    rw (flag_is f.step_free, flag_is f.screen, flag_is f.reader, flag_is f.small_room, flag_is f.computer) refl
-
-pub same_features-refl : (x y : Features) → x ≡ y → same_features x y ≡ true
-same_features-refl x y e = rw e (same_features-itself y)
-
-summed : (a b c d e : Bool) → summed_features (features_sum (of_flags a b c d e)) ≡ of_flags a b c d e
-summed true true true true true = refl
-summed true true true true false = refl
-summed true true true false true = refl
-summed true true true false false = refl
-summed true true false true true = refl
-summed true true false true false = refl
-summed true true false false true = refl
-summed true true false false false = refl
-summed true false true true true = refl
-summed true false true true false = refl
-summed true false true false true = refl
-summed true false true false false = refl
-summed true false false true true = refl
-summed true false false true false = refl
-summed true false false false true = refl
-summed true false false false false = refl
-summed false true true true true = refl
-summed false true true true false = refl
-summed false true true false true = refl
-summed false true true false false = refl
-summed false true false true true = refl
-summed false true false true false = refl
-summed false true false false true = refl
-summed false true false false false = refl
-summed false false true true true = refl
-summed false false true true false = refl
-summed false false true false true = refl
-summed false false true false false = refl
-summed false false false true true = refl
-summed false false false true false = refl
-summed false false false false true = refl
-summed false false false false false = refl
+bits_of_sum : (names : List (List ℕ)) (f : Flags names) → summed_among names (sum_among names f) ≡ f
+bits_of_sum [] f = refl
+bits_of_sum (name ∷ names) (true, f) =
+    let low : (1 + 2 * sum_among names f) % 2 ≡ 1 = omega arith in
+    let high : (1 + 2 * sum_among names f) / 2 ≡ sum_among names f = omega arith in
+    rw (low, high, bits_of_sum names f) refl
+bits_of_sum (name ∷ names) (false, f) =
+    let low : (0 + 2 * sum_among names f) % 2 ≡ 0 = omega arith in
+    let high : (0 + 2 * sum_among names f) / 2 ≡ sum_among names f = omega arith in
+    rw (low, high, bits_of_sum names f) refl
 
 -- a sum is that of one set alone, which its powers name
 pub set_of_sum : (f : Features) (sum : ℕ) → features_sum f ≡ sum → summed_features sum ≡ f
-set_of_sum f sum e = ap summed_features (sym e) ∙ summed f.step_free f.screen f.reader f.small_room f.computer
+set_of_sum f sum e = ap summed_features (sym e) ∙ bits_of_sum feature_names f
 
--- the set that is read from a sum is exact where it has that sum
-pub exact_sum : (read f : Features) (sum : ℕ) → read ≡ summed_features sum → features_sum read ≡ sum → (Some read ≡ Some f) ↔ (features_sum f ≡ sum)
-exact_sum read f sum is e = (λ some. same_sum read f some e, λ has. ap Some (is ∙ set_of_sum f sum has))
-  where
-    same_sum : (read f : Features) → Some read ≡ Some f → features_sum read ≡ sum → features_sum f ≡ sum
-    same_sum read f some e = let same : f ≡ read = cc in rw same e
+-- ---- sets in sets
 
--- and where the set that is read has another sum, no set has this one
-pub no_sum : (read f : Features) (sum : ℕ) → read ≡ summed_features sum → (features_sum read ≡ sum → ⊥) → (None ≡ Some f) ↔ (features_sum f ≡ sum)
-no_sum read f sum is never = (λ none. cc none, λ has. absurd (never (ap features_sum (is ∙ set_of_sum f sum has) ∙ has)))
+met_bit : (x y : ℕ) → x < 2 → y < 2 → is_met (y == 1) (x == 1) ≡ nat_eq (bit_and x y) y
+met_bit zero zero l m = refl
+met_bit zero (suc zero) l m = refl
+met_bit (suc zero) zero l m = refl
+met_bit (suc zero) (suc zero) l m = refl
+met_bit (suc (suc x)) y l m = absurd (omega arith)
+met_bit x (suc (suc y)) l m = absurd (omega arith)
+
+halves_equal : (x y : ℕ) → nat_eq (x % 2) (y % 2) && nat_eq (x / 2) (y / 2) ≡ nat_eq x y
+halves_equal x y = elim (cases_eq x y) [
+  | inl e ↦ (let low : x % 2 ≡ y % 2 = ap (λ n. n % 2) e in
+      let high : x / 2 ≡ y / 2 = ap (λ n. n / 2) e in
+      rw (eq-eqb _ _ low, eq-eqb _ _ high, eq-eqb _ _ e) refl)
+  | inr n ↦ elim (cases_eq (x % 2) (y % 2)) [
+    | inl e ↦ (let high : x / 2 ≡ y / 2 → ⊥ = (λ h. n (omega arith)) in rw (eq-eqb _ _ e, ne_eqb _ _ high, ne_eqb _ _ n) refl)
+    | inr m ↦ rw (ne_eqb _ _ m, ne_eqb _ _ n) refl
+  ]
+]
+
+-- a mask has each bit of another where their common bits are the other's
+pub met_bits : (names : List (List ℕ)) (a b : ℕ) → a < 2 ^ length names → b < 2 ^ length names → all_met names (summed_among names a) (summed_among names b) ≡ nat_eq (bit_and a b) b
+met_bits [] a b l m = let c : bit_and a b ≤ b = and_le_r a b in sym (eq-eqb _ _ (omega arith))
+met_bits (name ∷ names) a b l m =
+    ap (λ t. t && all_met names (summed_among names (a / 2)) (summed_among names (b / 2))) (met_bit (a % 2) (b % 2) (omega arith) (omega arith) ∙ ap (λ t. nat_eq t (b % 2)) (sym (and_mod a b 1)))
+    ∙ ap (λ t. nat_eq (bit_and a b % 2) (b % 2) && t) (met_bits names (a / 2) (b / 2) (omega (arith, pow-suc 2 (length names))) (omega (arith, pow-suc 2 (length names))) ∙ ap (λ t. nat_eq t (b / 2)) (sym (and_shr a b 1)))
+    ∙ halves_equal (bit_and a b) b
+
+-- ---- equal sets
+
+-- sets with the same sum are one set
+pub same_features-is : (x y : Features) → same_features x y ≡ true → x ≡ y
+same_features-is x y e = sym (set_of_sum x (features_sum y) (eqb-true _ _ e)) ∙ set_of_sum y (features_sum y) refl
+
+pub same_features-itself : (f : Features) → same_features f f ≡ true
+same_features-itself f = eq-eqb (features_sum f) (features_sum f) refl
+
+pub same_features-refl : (x y : Features) → x ≡ y → same_features x y ≡ true
+same_features-refl x y e = eq-eqb (features_sum x) (features_sum y) (ap features_sum e)
+
+-- ---- texts
+
+-- the set that a set's text names is the set
+pub named_again : (f : Features) → named_features (features_text f) ≡ f
+named_again f = same_features-is _ _ (of_all feature_names (λ f. same_features (named_features (features_text f)) f) refl f)
+
+-- a flag as a byte counts as a part of 1
+pub byte_is : (flag : Bool) → bool_byte flag ≡ part flag 1
+byte_is true = refl
+byte_is false = refl

@@ -5,8 +5,9 @@
 -- - Digits: the last k decimal digits of a number, and the number that digits spell
 -- - Numbers: the ranges of the numbered values, by the constants of src/numbers.rt; seven digits
 --   for a candidate, HH:MM for a time; the value that a text is
--- - Features: the text of a feature set: the names in their order joined by +, or -; the empty set,
---   which set holds another, equality, the sum by which a set is stored
+-- - Features: the names of the features; the text of a feature set: its names in their order joined by
+--   +, or -; the empty set, which set holds another, equality, the sum by which a set is stored
+-- - FeatureSums: a mask is the sum of the set that it is read as (used by the type of sets alone)
 -- - Texts: what a name and a reason are: 1 to 80 and 0 to 200 bytes of UTF-8 with no control
 --   character
 -- - Days: the calendar from 2000 to 2199: leap years, lengths of months, the civil date of a day
@@ -17,6 +18,7 @@ pub mod Codes
 pub mod Days
 pub mod Digits
 pub mod Features
+pub mod FeatureSums
 pub mod Numbers
 pub mod Padding
 pub mod Refusals

@@ -1,5 +1,5 @@
 //! Features of halls, and needs of candidates.
-ghost use Rattle.std.specs.Prelude.{◌≡◌, ◌<◌, ◌≤◌, ◌+◌, ◌↔◌, ◌==◌, ◌++◌, nat_eq, length, IsTrue, Some, OnOk};
+ghost use Rattle.std.specs.Prelude.{◌≡◌, ◌<◌, ◌≤◌, ◌+◌, ◌^◌, ◌↔◌, ◌==◌, ◌++◌, nat_eq, length, map, IsTrue, Some, OnOk};
 ghost use Rattle.std.specs.Prelude.{OnErr, IfErr};
 ghost use Rattle.exam_types.specs.declared.refusal.Refusal.TheVariants.{NoMemory};
 ghost use Rattle.std.specs.List.{list_any, slice_split};
@@ -10,15 +10,42 @@ ghost use Rattle.exam_types.specs.Features as spec;
 use crate::refusal::Refusal;
 use crate::text::append;
 use arrayvec::ArrayVec;
+use std::marker::Model;
 
-/// A set of features.
+/// The features. In a sum the first counts 1, and each further one twice as much as the one before it. Texts list them
+/// in this order. Files hold sums and texts, so a new feature comes last.
+const NAMES: &[&[u8]] = &[
+    b"step-free",
+    b"screen",
+    b"reader",
+    b"small-room",
+    b"computer",
+];
+
+/// The sum of the set of all features.
+const GREATEST_SUM: u32 = (1 << NAMES.len()) - 1;
+
+/// A set of features: bit k of the mask is 1 where the k-th feature is in it.
+/// Contracts see for each feature whether it is in the set.
 #[derive(Clone, Copy, Debug, PartialEq, Eq)]
 pub struct Features {
-    pub step_free: bool,
-    pub screen: bool,
-    pub reader: bool,
-    pub small_room: bool,
-    pub computer: bool,
+    mask: u8,
+}
+
+impl Model for Features {
+    ghost use Rattle.std.specs.Prelude.{◌≤◌};
+    ghost use Rattle.exam_types.specs.Features.{Features, greatest_sum, features_sum, summed_features};
+    ghost use Rattle.exam_types.specs.FeatureSums.{sum_of_summed};
+
+    ghost Value = { Features };
+
+    ghost view = { λ a. summed_features a.mask };
+
+    ghost invariant = { λ a. a.mask ≤ greatest_sum };
+
+    ghost inverse = { λ f. record { mask = features_sum f } };
+
+    ghost inverse_ok = { λ a h i. record { mask = sum_of_summed a.mask h i } };
 }
 
 impl Features {
@@ -26,24 +53,14 @@ impl Features {
     pub fn none() -> Features
         ensures { result ≡ spec.no_features }
     {
-        Features {
-            step_free: false,
-            screen: false,
-            reader: false,
-            small_room: false,
-            computer: false,
-        }
+        Features { mask: 0 }
     }
 
     /// Whether each wanted feature is there.
     pub fn holds(self, wanted: Features) -> bool
         ensures { result ≡ spec.holds_features self wanted }
     {
-        (!wanted.step_free || self.step_free)
-            && (!wanted.screen || self.screen)
-            && (!wanted.reader || self.reader)
-            && (!wanted.small_room || self.small_room)
-            && (!wanted.computer || self.computer)
+        self.mask & wanted.mask == wanted.mask
     }
 
     /// Whether both are one set.
@@ -54,32 +71,27 @@ impl Features {
         self == other
     }
 
-    /// The sum of 1 for step-free, 2 for screen, 4 for reader, 8 for a small room and 16 for a computer.
+    /// The sum of 1 for the first feature, 2 for the next, and so on by powers of two.
     pub fn sum(self) -> u32
         ensures value { result ≡ spec.features_sum self }
-        ensures range { result ≤ 31 }
+        ensures range { result ≤ spec.greatest_sum }
     {
-        part(self.step_free, 1)
-            + part(self.screen, 2)
-            + part(self.reader, 4)
-            + part(self.small_room, 8)
-            + part(self.computer, 16)
+        u32::from(self.mask)
     }
 
     /// The set with this sum, or none.
     pub fn from_sum(sum: u32) -> Option<Features>
         ensures { (f : spec.Features) → (result ≡ Some f) ↔ (spec.features_sum f ≡ sum) }
     {
-        let features = summed_features(sum);
-        if features.sum() == sum {
-            Some(features)
+        if sum <= GREATEST_SUM {
+            Some(Features { mask: sum as u8 })
         } else {
             None
         }
     }
 
     /// The set that these bytes spell, or none.
-    #[tactic(auto, unfolding(crate::specs::Features::features_in))]
+    #[tactic(auto, using(crate::proofs::FeatureFacts::named_again), unfolding(crate::specs::Features::features_in))]
     pub fn parse(bytes: &[u8]) -> Option<Features>
         ensures exact { (f : spec.Features) → (result ≡ Some f) ↔ (spec.features_text f ≡ bytes.now) }
         ensures value { result ≡ spec.features_in bytes.now }
@@ -106,15 +118,23 @@ impl Features {
         ensures { result.items ≡ spec.features_text self.now }
     {
         let mut text = ArrayVec::new();
-        add_name(&mut text, self.step_free, b"step-free");
-        add_name(&mut text, self.screen, b"screen");
-        add_name(&mut text, self.reader, b"reader");
-        add_name(&mut text, self.small_room, b"small-room");
-        add_name(&mut text, self.computer, b"computer");
+        add_names(&mut text, self.mask, NAMES);
         if text.is_empty() {
             text.push(b'-');
         }
         text
+    }
+}
+
+/// Appends the names whose bits are in the mask.
+fn add_names(text: &mut ArrayVec<u8, 64>, mask: u8, names: &[&[u8]])
+    requires { array_vec_len text.old + spec.room_of (map (λ name. name.now) names.now) ≤ 64 }
+    ensures { let all = map (λ name. name.now) names.now in
+        text.new.items ≡ spec.add_names all (spec.summed_among all mask) text.old.items }
+{
+    if let Some((name, others)) = names.split_first() {
+        add_name(text, mask % 2 == 1, name);
+        add_names(text, mask / 2, others);
     }
 }
 
@@ -137,30 +157,20 @@ fn named_features(bytes: &[u8]) -> Features
     ensures { result ≡ spec.named_features bytes.now }
 {
     Features {
-        step_free: has_part(bytes, b"step-free"),
-        screen: has_part(bytes, b"screen"),
-        reader: has_part(bytes, b"reader"),
-        small_room: has_part(bytes, b"small-room"),
-        computer: has_part(bytes, b"computer"),
+        mask: named_among(NAMES, bytes),
     }
 }
 
-fn part(wanted: bool, value: u32) -> u32
-    ensures { result ≡ spec.part wanted value }
+/// The sum of those of these features that the parts between `+` name.
+fn named_among(names: &[&[u8]], bytes: &[u8]) -> u8
+    requires { length names.now ≤ 8 }
+    ensures value { let all = map (λ name. name.now) names.now in
+        result ≡ spec.sum_among all (spec.named_among all bytes.now) }
+    ensures range { result < 2 ^ length names.now }
 {
-    if wanted { value } else { 0 }
-}
-
-/// The features whose powers of two are in the sum.
-fn summed_features(sum: u32) -> Features
-    ensures { result ≡ spec.summed_features sum }
-{
-    Features {
-        step_free: sum % 2 == 1,
-        screen: sum / 2 % 2 == 1,
-        reader: sum / 4 % 2 == 1,
-        small_room: sum / 8 % 2 == 1,
-        computer: sum / 16 % 2 == 1,
+    match names.split_first() {
+        Some((name, others)) => u8::from(has_part(bytes, name)) + 2 * named_among(others, bytes),
+        None => 0,
     }
 }
 

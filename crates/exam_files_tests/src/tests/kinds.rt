@@ -8,14 +8,6 @@ use exam_types::{
 use std::alloc::Global;
 use std::test::Fail;
 
-const NO_FEATURES: Features = Features {
-    step_free: false,
-    screen: false,
-    reader: false,
-    small_room: false,
-    computer: false,
-};
-
 fn name(alloc: Global, text: &[u8]) -> Result<Name, Fail> {
     Ok(Name::parse(alloc, text)?.ok_or("name")?)
 }
@@ -41,11 +33,7 @@ fn a_paper_is_read(rt: HostRuntime) -> Result<(), Fail> {
         title: name(rt.alloc(), b"Maths")?,
         session: session(b"S1")?,
         minutes: ExamMinutes::new(600).ok_or("minutes")?,
-        required: Features {
-            step_free: true,
-            computer: true,
-            ..NO_FEATURES
-        },
+        required: Features::from_sum(17).ok_or("required")?,
     };
     let file = b"paper,title,session,minutes,requires\nMA-1,Maths,S1,600,step-free+computer\n";
     expect_row(&rt, Kind::Papers, file, &Row::OfPaper(paper(b"MA-1")?, row))
@@ -55,7 +43,7 @@ fn a_paper_is_read(rt: HostRuntime) -> Result<(), Fail> {
 fn a_hall_is_read(rt: HostRuntime) -> Result<(), Fail> {
     let row = Hall {
         title: name(rt.alloc(), b"Aula")?,
-        features: NO_FEATURES,
+        features: Features::none(),
     };
     let file = b"hall,title,features\nA,Aula,-\n";
     expect_row(&rt, Kind::Halls, file, &Row::OfHall(hall(b"A")?, row))
@@ -101,10 +89,7 @@ fn an_entry_is_read(rt: HostRuntime) -> Result<(), Fail> {
 #[test]
 fn an_arrangement_is_read(rt: HostRuntime) -> Result<(), Fail> {
     let row = Arrangement {
-        needs: Features {
-            screen: true,
-            ..NO_FEATURES
-        },
+        needs: Features::from_sum(2).ok_or("needs")?,
         extra: Extra::new(100).ok_or("extra")?,
     };
     let file = b"number,needs,extra\n0000001,screen,100\n";

@@ -46,7 +46,7 @@ fn extra_in<R: AllocGlobal>(rt: &R, extra: &[u8]) -> Result<Option<u16>, Fail> {
     };
     let Posted { subject, .. } = posted;
     match subject {
-        Subject::Arrangement(arrangement) if arrangement.needs.screen => {
+        Subject::Arrangement(arrangement) if arrangement.needs.sum() == 2 => {
             Ok(Some(arrangement.extra.get()))
         }
         _ => Err(Fail::from("another subject")),
