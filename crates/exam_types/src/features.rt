@@ -80,6 +80,7 @@ impl Features {
     }
 
     /// The set with this sum, or none.
+    #[tactic(auto, using(crate::proofs::FeatureFacts::set_of_sum, crate::specs::FeatureSums::sum_of_summed))]
     pub fn from_sum(sum: u32) -> Option<Features>
         ensures { (f : spec.Features) → (result ≡ Some f) ↔ (spec.features_sum f ≡ sum) }
     {
