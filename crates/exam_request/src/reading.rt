@@ -1,5 +1,5 @@
 //! A request, read up to the end of its body and no further.
-ghost use Rattle.std.specs.Prelude.{◌≡◌, ◌≤◌, ◌<◌, length, IfSome, option_map};
+ghost use Rattle.std.specs.Prelude.{◌≡◌, ◌≤◌, ◌<◌, length, take, None, IfSome, option_map};
 ghost use Rattle.httparse.specs.Spans.{IsWithin, span_bytes};
 ghost use Rattle.exam_request.specs.Asked as asked;
 ghost use Rattle.exam_request.specs.Input as spec;
@@ -19,7 +19,7 @@ const MOST_HEAD: usize = 8_192;
 /// What ends a head.
 const EMPTY_LINE: &[u8] = b"\r\n\r\n";
 
-/// What was asked: a request, or the fault of bytes that are none.
+/// What was asked: a request, or the fault of bytes that are no request.
 #[derive(Clone, Copy)]
 pub enum Asked<'b> {
     Fault(Fault),
@@ -31,7 +31,7 @@ pub enum Asked<'b> {
 pub struct Request<'b> {
     pub method: &'b [u8],
     pub target: &'b str,
-    /// The value of the access code line, where there is exactly one.
+    /// The value of the access code line, if there is exactly one.
     pub code: Option<&'b [u8]>,
     pub body: &'b [u8],
 }
@@ -63,9 +63,8 @@ pub struct Message {
     pub spans: HeadSpans,
 }
 
-/// Reads one request into the buffer. No read is made once its bytes are in hand, and what follows it is not
-/// looked at. Also of a reader whose bytes no contract knows, as a socket, the answer is what those bytes ask
-/// that it gave.
+/// Reads one request into the buffer. Makes no read once its bytes are in hand, and does not look at what follows it.
+/// For a socket, whose bytes no contract knows, the answer is what the bytes ask that it gave.
 pub fn read_request<'b, R: Read>(
     reader: &mut R,
     buffer: &'b mut [u8],
@@ -87,7 +86,7 @@ fn request_in<'b>(buffer: &'b [u8], message: Message) -> Request<'b>
 {
     let (head, rest) = buffer.split_at(message.head);
     let spans = message.spans;
-    // The target of a head is a text, so nothing is ever put in its place.
+    // The target of a head is a text, so `unwrap_or` never puts anything in its place.
     Request {
         method: spans.method.of(head),
         target: str::from_utf8(spans.target.of(head)).unwrap_or(""),
@@ -125,23 +124,26 @@ fn read_head<R: Read>(reader: &mut R, buffer: &mut [u8]) -> Result<(usize, usize
         if total == filled {
             return Err(Stop::Faulty(Fault::Head));
         }
-        filled = total;
-        if let Some(head) = head_length(&buffer[..filled]) {
-            return Ok((head, filled));
+        if let Some(head) = head_length(&buffer[..total], filled) {
+            return Ok((head, total));
         }
+        filled = total;
     }
     Err(Stop::Faulty(Fault::Size))
 }
 
-/// How many bytes end with the first empty line.
-fn head_length(bytes: &[u8]) -> Option<usize>
+/// How many bytes end with the first empty line, which does not lie within the first `seen` of them. So only the
+/// last three of these are looked at again.
+fn head_length(bytes: &[u8], seen: usize) -> Option<usize>
+    requires within { seen ≤ length bytes.now }
+    requires none { spec.head_len (take seen bytes.now) ≡ None }
     ensures { result ≡ spec.head_len bytes.now }
 {
-    let mut rest = bytes;
-    let mut passed = 0;
+    let mut passed = seen.saturating_sub(EMPTY_LINE.len() - 1);
+    let mut rest = &bytes[passed..];
     while !rest.is_empty() {
         if rest.starts_with(EMPTY_LINE) {
-            return Some(passed + 4);
+            return Some(passed + EMPTY_LINE.len());
         }
         rest = &rest[1..];
         passed += 1;

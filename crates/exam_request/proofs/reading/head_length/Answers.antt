@@ -1,9 +1,18 @@
-use Rattle.std.proofs.Common.{◌≡◌, ◌≤◌, ◌∙◌, ◌+◌, ap, sym, arith, rules, length, true, false}
+use Rattle.std.proofs.Common.{◌≡◌, ◌≤◌, ◌∙◌, ◌+◌, ◌-◌, ap, sym, subst, arith, rules, drop, length, true, false}
 use Rattle.std.specs.Prelude.{option_map}
 use Rattle.std.proofs.lemmas.List.{length-drop}
-use Rattle.exam_request.specs.Input.{begins}
-use Rattle.exam_request.proofs.Finding.{found_here, none_in, not_here, open_range, shifted}
+use Rattle.exam_request.specs.Input.{begins, head_len}
+use Rattle.exam_request.proofs.Finding.{found_here, from_seen, none_in, not_here, open_range, shifted}
 use Rattle.exam_request.proofs.reading.head_length.Goals as goal
+
+pub loop-rest-init : goal.loop-rest-init
+loop-rest-init c =
+    let bytes = c.args.bytes.now in
+    let passed = c.saturating_sub-passed.result in
+    let start : c.saturating_sub-passed.result ≡ c.args.seen - 3 = c.saturating_sub-passed.ensures in
+    let within = c.requires.within in
+    let found = from_seen c.args.seen bytes within c.requires.none in
+    rw open_range (subst (λ p. head_len bytes ≡ option_map (λ n. p + n) (head_len (drop p bytes))) (sym start) found, omega (arith, length-drop passed bytes))
 
 pub returns-then-starts_with : goal.returns-then-starts_with
 returns-then-starts_with c =
