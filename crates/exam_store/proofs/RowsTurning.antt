@@ -1,5 +1,5 @@
 -- The rows that a table has at some keys, put, turn it into itself from what it was at these keys.
-use Rattle.std.proofs.Common.{◌≡◌, Bool, true, false, not, cond, List, [], ◌∷◌, ◌++◌, Option, None, Some, Ordering, is_some, refl, sym, ap, subst, ◌∙◌, append_assoc}
+use Rattle.std.proofs.Common.{◌≡◌, ◌||◌, Bool, true, false, not, cond, List, [], ◌∷◌, ◌++◌, Option, None, Some, Ordering, is_some, refl, sym, ap, subst, ◌∙◌, append_assoc}
 use Rattle.std.specs.Cmp.{Equal-is, IsTotalOrder}
 use Rattle.std.specs.List.{AllByRecursion, cons_option, filter}
 use Rattle.std.specs.List.Sorted.{IsPermutation, IsStrictlySortedBy}
@@ -20,22 +20,19 @@ use Rattle.exam_rows.specs.Differences.{has_key, Turns}
 use Rattle.exam_rows.proofs.RowTurning.{stays}
 use Rattle.exam_store.proofs.PlansTurning.{key_is_row, rises_left, row_left}
 
+-- the rows at the keys of others, of those that are there
+abbrev pub rows_at : {K X Y : Type 0} → (K → K → Ordering) → List (K × X) → List (K × Y) → List (K × X)
+rows_at cmp after [] = []
+rows_at cmp after (e ∷ es) = cons_option (option_map (λ x. (e.0, x)) (row_at cmp after e.0)) (rows_at cmp after es)
+
 module _ {K X Y : Type 0} (cmp : K → K → Ordering) (after : List (K × X)) where
-  -- the row at the key, if it is there, before these
-  abbrev pub with_row_at : K → List (K × X) → List (K × X)
-  with_row_at k rows = cons_option (option_map (λ x. (k, x)) (row_at cmp after k)) rows
-
-  -- the rows at the keys of others
-  abbrev pub rows_at : List (K × Y) → List (K × X)
-  rows_at [] = []
-  rows_at (e ∷ es) = with_row_at e.0 (rows_at es)
-
   -- of the rows so far and those at the other keys, one more is so far
-  pub more_put : (so_far : List (K × X)) (e : K × Y) (es : List (K × Y)) (x : X) → row_at cmp after e.0 ≡ Some x → (so_far ++ (e.0, x) ∷ []) ++ rows_at es ≡ so_far ++ rows_at (e ∷ es)
-  more_put so_far e es x at = append_assoc so_far ((e.0, x) ∷ []) (rows_at es) ∙ ap (λ o. so_far ++ cons_option (option_map (λ v. (e.0, v)) o) (rows_at es)) (sym at)
+  pub more_put : (so_far : List (K × X)) (e : K × Y) (es : List (K × Y)) (x : X) → row_at cmp after e.0 ≡ Some x → (so_far ++ (e.0, x) ∷ []) ++ rows_at cmp after es ≡ so_far ++ rows_at cmp after (e ∷ es)
+  more_put so_far e es x at =
+      append_assoc so_far ((e.0, x) ∷ []) (rows_at cmp after es) ∙ ap (λ o. so_far ++ cons_option (option_map (λ v. (e.0, v)) o) (rows_at cmp after es)) (sym at)
 
-  pub none_put : (so_far : List (K × X)) (e : K × Y) (es : List (K × Y)) → row_at cmp after e.0 ≡ None → so_far ++ rows_at es ≡ so_far ++ rows_at (e ∷ es)
-  none_put so_far e es none = ap (λ o. so_far ++ cons_option (option_map (λ v. (e.0, v)) o) (rows_at es)) (sym none)
+  pub none_put : (so_far : List (K × X)) (e : K × Y) (es : List (K × Y)) → row_at cmp after e.0 ≡ None → so_far ++ rows_at cmp after es ≡ so_far ++ rows_at cmp after (e ∷ es)
+  none_put so_far e es none = ap (λ o. so_far ++ cons_option (option_map (λ v. (e.0, v)) o) (rows_at cmp after es)) (sym none)
 
 module _ {K X : Type 0} {cmp : K → K → Ordering} (total : IsTotalOrder cmp) (exact : CmpEqualImpliesEq cmp) (was : List (K × Option X)) (before after : List (K × X))
     (was_rises : KeysRise cmp was) (before_rises : KeysRise cmp before) (after_rises : KeysRise cmp after) (there : HasRows cmp was after) (back : before ≡ put_back cmp after was) where
