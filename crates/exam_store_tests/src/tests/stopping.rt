@@ -104,13 +104,18 @@ fn full_office(alloc: Global, sql: &str) -> Result<Files<Fused>, Fail> {
     match Store::create(alloc, conn) {
         Ok(store) => {
             let mut conn = store.close();
-            for statements in [BASE, FIRST_SEATED, MORE_ENTERED, sql] {
-                conn.execute_batch(statements)?;
-            }
+            put_rows(&mut conn, sql)?;
             Ok(files_of(conn))
         }
         Err((refusal, conn)) => failed(refusal, conn),
     }
+}
+
+fn put_rows(conn: &mut OnFiles, sql: &str) -> Result<(), Fail> {
+    for statements in [BASE, FIRST_SEATED, MORE_ENTERED, sql] {
+        conn.execute_batch(statements)?;
+    }
+    Ok(())
 }
 
 /// A test that meets a refusal fails.
