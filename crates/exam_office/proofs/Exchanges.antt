@@ -21,7 +21,7 @@ and_false : (b : Bool) → (b && false) ≡ false
 and_false true = refl
 and_false false = refl
 
-same_key : {K : Type 0} (cmp : K → K → Ordering) → CmpEqualImpliesEq cmp → (k q : K) → is_at (cmp q) k ≡ true → q ≡ k
+pub same_key : {K : Type 0} (cmp : K → K → Ordering) → CmpEqualImpliesEq cmp → (k q : K) → is_at (cmp q) k ≡ true → q ≡ k
 same_key cmp exact k q at = exact q k ((Equal-is (cmp q k)).0 at)
 
 module _ {K X : Type 0} (cmp : K → K → Ordering) (total : IsTotalOrder cmp) (exact : CmpEqualImpliesEq cmp) where
@@ -68,7 +68,7 @@ module _ {K X : Type 0} (cmp : K → K → Ordering) (total : IsTotalOrder cmp) 
       inner true at = ap (row_at cmp (remove_row cmp rows k)) (same_key cmp exact k q at) ∙ removed_here rows k up
       inner false away = removed_elsewhere cmp exact rows k q away
 
-  set_rises : (rows : List (K × X)) (k : K) (o : Option X) → KeysRise cmp rows → KeysRise cmp (set_row cmp rows k o)
+  pub set_rises : (rows : List (K × X)) (k : K) (o : Option X) → KeysRise cmp rows → KeysRise cmp (set_row cmp rows k o)
   set_rises rows k (Some x) up = put_rises cmp total rows k x up
   set_rises rows k None up = removed_rises rows k up
 

@@ -51,6 +51,7 @@ pub mod ChosenSessions
 pub mod Parting
 pub mod FactsMade
 pub mod Exchanges
+pub mod GoingBack
 pub mod Undoing
 pub mod WasBefore
 pub mod Making

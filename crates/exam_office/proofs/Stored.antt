@@ -1,16 +1,21 @@
 -- After an import each of its rows is stored, and put again they change nothing.
-use Rattle.std.proofs.Common.{◌≡◌, ℕ, ◌&&◌, ◌||◌, not, Bool, true, false, cond, List, [], ◌∷◌, Some, refl, sym, ap, ◌∙◌, is_some}
+use Rattle.std.proofs.Common.{◌≡◌, ℕ, ◌&&◌, ◌||◌, not, Bool, true, false, cond, List, [], ◌∷◌, Option, None, Some, eq-eqb, refl, sym, ap, ◌∙◌, is_some}
 use Rattle.std.specs.Cmp.{IsTotalOrder, nat_cmp_total, then_total, on_total}
 use Rattle.std.specs.Cmp.Lexicographic.{nat_list_cmp_total}
 use Rattle.std.specs.List.{AllByRecursion}
 use Rattle.std.specs.Ordering.{is_eq, nat_cmp}
-use Rattle.std.proofs.lemmas.Bool.{and_parts, not-false}
+use Rattle.std.specs.Option.{option_map}
+use Rattle.std.proofs.lemmas.Bool.{and_from, and_parts, not-false}
+use Rattle.exam_rules.specs.declared.rows.Entry.{Entry}
+use Rattle.exam_rules.proofs.Naming.{same_code_itself}
 use Rattle.exam_rules.specs.Orders.{AreInOrder, KeysRise}
 use Rattle.exam_rules.specs.Relations.{Code, Relations, code_cmp, entry_cmp, opening_cmp, appeal_cmp, has_row, put_row, row_at}
 use Rattle.exam_office.specs.declared.import_row.Row.{Row}
 use Rattle.exam_office.specs.declared.import_row.Row.TheVariants as row
 use Rattle.exam_office.specs.Changes.{with_row, with_rows}
 use Rattle.exam_office.specs.Imports.{conflicts, has_key, is_consistent, key_of, same_row}
+use Rattle.exam_office.specs.Replies.{is_stored}
+use Rattle.exam_office.specs.SameRows.{same_arrangement, same_candidate, same_hall, same_opening, same_paper, same_session}
 use Rattle.exam_office.specs.contracts.import_row.KeyOrd.TheImpl as keys
 use Rattle.exam_office.proofs.ImportKeys.{cmp_same}
 use Rattle.exam_office.proofs.ImportRowsEqual.{row_exact}
@@ -66,9 +71,31 @@ pub rows_in_order : (r : Relations) (rows : List Row) → AreInOrder r → AreIn
 rows_in_order r [] up = up
 rows_in_order r (x ∷ rows) up = rows_in_order (with_row r x) rows (row_in_order r x up)
 
+-- ---- a row that is found the same is stored
+
+found_same : {X : Type 0} (agree : X → X → Bool) (x : X) → ((y : X) → agree x y ≡ true → x ≡ y) → (o : Option X) → option_map (agree x) o ≡ Some true → o ≡ Some x
+found_same agree x exact None e = absurd (let differ : None ≡ Some true = e in cc)
+found_same agree x exact (Some y) e = let same : agree x y ≡ true = cc in ap Some (sym (exact y same))
+
+pub stored_same : (r : Relations) (x : Row) → is_stored r x ≡ Some true → IsStored r x
+stored_same r (row.OfSession s x) e = found_same same_session x (λ y same. let one : row.OfSession s x ≡ row.OfSession s y = row_exact (row.OfSession s x) (row.OfSession s y) (and_from _ _ (same_code_itself s) same) in cc) (row_at code_cmp r.sessions s) e
+stored_same r (row.OfPaper p x) e = found_same same_paper x (λ y same. let one : row.OfPaper p x ≡ row.OfPaper p y = row_exact (row.OfPaper p x) (row.OfPaper p y) (and_from _ _ (same_code_itself p) same) in cc) (row_at code_cmp r.papers p) e
+stored_same r (row.OfHall h x) e = found_same same_hall x (λ y same. let one : row.OfHall h x ≡ row.OfHall h y = row_exact (row.OfHall h x) (row.OfHall h y) (and_from _ _ (same_code_itself h) same) in cc) (row_at code_cmp r.halls h) e
+stored_same r (row.OfOpening s h x) e =
+    found_same same_opening x
+    (λ y same. let one : row.OfOpening s h x ≡ row.OfOpening s h y = row_exact (row.OfOpening s h x) (row.OfOpening s h y) (and_from _ _ (same_code_itself s) (and_from _ _ (same_code_itself h) same)) in cc)
+    (row_at opening_cmp r.openings (s, h)) e
+stored_same r (row.OfCandidate c x) e = found_same same_candidate x (λ y same. let one : row.OfCandidate c x ≡ row.OfCandidate c y = row_exact (row.OfCandidate c x) (row.OfCandidate c y) (and_from _ _ (eq-eqb c c refl) same) in cc) (row_at nat_cmp r.candidates c) e
+stored_same r (row.OfEntry c p) e = inner (row_at entry_cmp r.entries (c, p)) e
+  where
+    inner : (o : Option Entry) → option_map (λ _. true) o ≡ Some true → is_some o ≡ true
+    inner None e = absurd (let differ : None ≡ Some true = e in cc)
+    inner (Some x) e = refl
+stored_same r (row.OfArrangement c x) e = found_same same_arrangement x (λ y same. let one : row.OfArrangement c x ≡ row.OfArrangement c y = row_exact (row.OfArrangement c x) (row.OfArrangement c y) (and_from _ _ (eq-eqb c c refl) same) in cc) (row_at nat_cmp r.arrangements c) e
+
 -- ---- a stored row put again
 
-row_again : (r : Relations) (x : Row) → AreInOrder r → IsStored r x → with_row r x ≡ r
+pub row_again : (r : Relations) (x : Row) → AreInOrder r → IsStored r x → with_row r x ≡ r
 row_again r (row.OfSession s x) up at = ap (λ rows. record r { sessions = rows }) (put_same code_cmp nat_list_cmp_total r.sessions s x up.sessions at)
 row_again r (row.OfPaper p x) up at = ap (λ rows. record r { papers = rows }) (put_same code_cmp nat_list_cmp_total r.papers p x up.papers at)
 row_again r (row.OfHall h x) up at = ap (λ rows. record r { halls = rows }) (put_same code_cmp nat_list_cmp_total r.halls h x up.halls at)

@@ -1,16 +1,16 @@
 -- A change of the facts is taken back, and an import changes its own table only.
-use Rattle.std.proofs.Common.{◌≡◌, ℕ, Bool, true, false, cond, List, [], ◌∷◌, None, Some, is_some, refl, ap, sym, subst, ◌∙◌}
+use Rattle.std.proofs.Common.{◌≡◌, ℕ, Bool, true, false, cond, List, [], ◌∷◌, Option, None, Some, is_some, refl, ap, sym, subst, ◌∙◌}
 use Rattle.std.specs.Cmp.{IsTotalOrder, tied_itself}
 use Rattle.std.specs.Map.{remove_entry}
 use Rattle.std.specs.BTreeMap.{insert_entry, is_at}
 use Rattle.std.specs.declared.cmp.Ordering.{Ordering}
 use Rattle.std.specs.declared.cmp.Ordering.TheVariants.{Less, Equal, Greater}
-use Rattle.std.specs.Ordering.{is_eq, match_ordering}
+use Rattle.std.specs.Ordering.{is_eq, match_ordering, nat_cmp}
 use Rattle.std.proofs.lemmas.List.Elements.{All-head, All-tail}
 use Rattle.exam_rules.specs.declared.rows.Appeal.{Appeal}
 use Rattle.exam_rules.specs.declared.rows.Entry.{Entry}
 use Rattle.exam_rules.specs.Orders.{KeysRise}
-use Rattle.exam_rules.specs.Relations.{Code, Relations, appeal_cmp, entry_cmp, has_row, put_row, remove_row, row_at}
+use Rattle.exam_rules.specs.Relations.{Code, Relations, appeal_cmp, code_cmp, entry_cmp, has_row, opening_cmp, put_row, remove_row, row_at}
 use Rattle.exam_office.specs.declared.import_row.Kind.{Kind}
 use Rattle.exam_office.specs.declared.import_row.Kind.TheVariants as kind
 use Rattle.exam_office.specs.declared.import_row.Row.{Row}
@@ -19,7 +19,9 @@ use Rattle.exam_office.specs.declared.undo.Undo.{Undo}
 use Rattle.exam_office.specs.declared.undo.Undo.TheVariants as undo
 use Rattle.exam_office.specs.Changes.{with_row, with_rows}
 use Rattle.exam_office.specs.Imports.{AreOfKind, kind_of}
-use Rattle.exam_office.specs.Undoing.{ChangesOnly, IsTableOf, TakesBack}
+use Rattle.exam_office.specs.declared.kept.KeptRows.{KeptRows}
+use Rattle.exam_office.specs.Exchanges.{GoBack, put_back as put_rows_back}
+use Rattle.exam_office.specs.Undoing.{AreNone, ChangesOnly, RowsGoBack, TakesBack}
 use Rattle.exam_office.proofs.AppealKeys.{appeals_total}
 use Rattle.exam_office.proofs.Repeating.{put_found, put_same}
 
@@ -71,20 +73,70 @@ pub new_appeal_back : (r : Relations) (k : ℕ × Code) (x : Appeal) → row_at 
 new_appeal_back r k x none =
     (ap is_some (put_found appeal_cmp appeals_total r.appeals k x), ap (λ (rows : List ((ℕ × Code) × Appeal)). record r { appeals = rows }) (put_removed appeal_cmp appeals_total r.appeals k x none))
 
--- ---- a whole table
-
--- what differs in one table only is as before once that table is set back
-pub table_back : (k : Kind) (u : Undo) (r t : Relations) → IsTableOf k u r → ChangesOnly k r t → TakesBack u t r
-table_back kind.Sessions (undo.Sessions m) r t is only = (tt, ap (λ (s : Relations). record s { sessions = m.entries }) only ∙ ap (λ rows. record r { sessions = rows }) is)
-table_back kind.Papers (undo.Papers m) r t is only = (tt, ap (λ (s : Relations). record s { papers = m.entries }) only ∙ ap (λ rows. record r { papers = rows }) is)
-table_back kind.Halls (undo.Halls m) r t is only = (tt, ap (λ (s : Relations). record s { halls = m.entries }) only ∙ ap (λ rows. record r { halls = rows }) is)
-table_back kind.Openings (undo.Openings m) r t is only = (tt, ap (λ (s : Relations). record s { openings = m.entries }) only ∙ ap (λ rows. record r { openings = rows }) is)
-table_back kind.Candidates (undo.Candidates m) r t is only = (tt, ap (λ (s : Relations). record s { candidates = m.entries }) only ∙ ap (λ rows. record r { candidates = rows }) is)
-table_back kind.Entries (undo.Entries m) r t is only = (tt, ap (λ (s : Relations). record s { entries = m.entries }) only ∙ ap (λ rows. record r { entries = rows }) is)
-table_back kind.Arrangements (undo.Arrangements m) r t is only = (tt, ap (λ (s : Relations). record s { arrangements = m.entries }) only ∙ ap (λ rows. record r { arrangements = rows }) is)
-table_back k u r t is only = absurd is
-
 -- ---- the rows of an import
+
+none_goes_back : {K X : Type 0} (cmp : K → K → Ordering) (was : List (K × Option X)) (rows : List (K × X)) → was ≡ [] → GoBack cmp was rows rows
+none_goes_back cmp was rows none = record {
+  there = λ k has. absurd (let differ : false ≡ true = sym (ap (λ kept. has_row cmp kept k) none) ∙ has in cc);
+  back = ap (put_rows_back cmp rows) none;
+}
+
+-- where nothing is kept yet, nothing has changed
+pub none_back : (kept : KeptRows) (r : Relations) → AreNone kept → RowsGoBack kept r r
+none_back kept r none = record {
+  sessions = none_goes_back code_cmp kept.sessions.entries r.sessions none.sessions;
+  papers = none_goes_back code_cmp kept.papers.entries r.papers none.papers;
+  halls = none_goes_back code_cmp kept.halls.entries r.halls none.halls;
+  openings = none_goes_back opening_cmp kept.openings.entries r.openings none.openings;
+  candidates = none_goes_back nat_cmp kept.candidates.entries r.candidates none.candidates;
+  entries = none_goes_back entry_cmp kept.entries.entries r.entries none.entries;
+  arrangements = none_goes_back nat_cmp kept.arrangements.entries r.arrangements none.arrangements;
+  appeals = refl;
+  standing = refl;
+}
+
+-- table by table
+pub all_back : {kept : KeptRows} {t r : Relations} → GoBack code_cmp kept.sessions.entries t.sessions r.sessions → GoBack code_cmp kept.papers.entries t.papers r.papers → GoBack code_cmp kept.halls.entries t.halls r.halls
+    → GoBack opening_cmp kept.openings.entries t.openings r.openings → GoBack nat_cmp kept.candidates.entries t.candidates r.candidates → GoBack entry_cmp kept.entries.entries t.entries r.entries
+    → GoBack nat_cmp kept.arrangements.entries t.arrangements r.arrangements → t.appeals ≡ r.appeals → t.standing ≡ r.standing → RowsGoBack kept t r
+all_back sessions papers halls openings candidates entries arrangements appeals standing = record {
+  sessions = sessions;
+  papers = papers;
+  halls = halls;
+  openings = openings;
+  candidates = candidates;
+  entries = entries;
+  arrangements = arrangements;
+  appeals = appeals;
+  standing = standing;
+}
+
+-- with all rows as they were the facts are the first ones
+pub rows_back : (kept : KeptRows) (t r : Relations) → RowsGoBack kept t r → TakesBack (undo.Rows kept) t r
+rows_back kept t r back = (
+  record {
+    sessions = back.sessions.there;
+    papers = back.papers.there;
+    halls = back.halls.there;
+    openings = back.openings.there;
+    candidates = back.candidates.there;
+    entries = back.entries.there;
+    arrangements = back.arrangements.there;
+  },
+  λ i. record {
+    sessions = back.sessions.back i;
+    papers = back.papers.back i;
+    halls = back.halls.back i;
+    openings = back.openings.back i;
+    candidates = back.candidates.back i;
+    entries = back.entries.back i;
+    arrangements = back.arrangements.back i;
+    appeals = back.appeals i;
+    standing = back.standing i;
+  },
+)
+
+-- ---- the table of an import
 
 pub only_same : (k : Kind) (r : Relations) → ChangesOnly k r r
 only_same kind.Sessions r = refl

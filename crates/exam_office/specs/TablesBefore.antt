@@ -8,6 +8,7 @@ use Rattle.exam_office.specs.declared.before.Before.TheVariants as was
 use Rattle.exam_office.specs.declared.before.PlansBefore.{PlansBefore}
 use Rattle.exam_office.specs.declared.before.PlansBefore.TheVariants as were
 use Rattle.exam_office.specs.declared.before.TablesBefore.{TablesBefore as Told}
+use Rattle.exam_office.specs.Exchanges.{HasRows, put_back}
 use Rattle.exam_office.specs.State.{Seats}
 
 -- the table before the command is as told
@@ -15,6 +16,8 @@ abbrev pub WasTable : {K X : Type 0} → (K → K → Ordering) → Before K X �
 WasTable cmp was.Same before after = before ≡ after
 WasTable cmp (was.Row k) before after =
     IsTrue (has_row cmp after k.now) × (remove_row cmp before k.now ≡ remove_row cmp after k.now)
+WasTable cmp (was.Rows rows) before after =
+    HasRows cmp rows.now.entries after × (before ≡ put_back cmp after rows.now.entries)
 WasTable cmp (was.Table rows) before after = rows.now.entries ≡ before
 
 -- each table of facts is as told

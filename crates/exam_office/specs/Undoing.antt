@@ -1,10 +1,61 @@
 -- How a change of the facts is taken back, and which table an import changes.
-use Rattle.std.specs.Prelude.{◌≡◌, ⊤, IsTrue}
-use Rattle.exam_rules.specs.Relations.{Relations, appeal_cmp, entry_cmp, has_row, put_row, remove_row}
+use Rattle.std.specs.Prelude.{◌≡◌, ⊤, IsTrue, []}
+use Rattle.std.specs.Ordering.{nat_cmp}
+use Rattle.exam_rules.specs.Relations.{Relations, appeal_cmp, code_cmp, entry_cmp, has_row, opening_cmp, put_row, remove_row}
 use Rattle.exam_office.specs.declared.import_row.Kind.{Kind}
 use Rattle.exam_office.specs.declared.import_row.Kind.TheVariants as kind
+use Rattle.exam_office.specs.declared.kept.KeptRows.{KeptRows}
 use Rattle.exam_office.specs.declared.undo.Undo.{Undo}
 use Rattle.exam_office.specs.declared.undo.Undo.TheVariants as undo
+use Rattle.exam_office.specs.Exchanges.{GoBack, HasRows, put_back}
+
+-- ---- the rows of an import
+
+-- no row is kept
+pub record AreNone (kept : KeptRows) : Type 0 where
+  pub sessions : kept.sessions.entries ≡ []
+  pub papers : kept.papers.entries ≡ []
+  pub halls : kept.halls.entries ≡ []
+  pub openings : kept.openings.entries ≡ []
+  pub candidates : kept.candidates.entries ≡ []
+  pub entries : kept.entries.entries ≡ []
+  pub arrangements : kept.arrangements.entries ≡ []
+
+-- each key that was changed has a row, so that it gets another one back without memory, or loses it
+pub record AreThere (kept : KeptRows) (r : Relations) : Type 0 where
+  pub sessions : HasRows code_cmp kept.sessions.entries r.sessions
+  pub papers : HasRows code_cmp kept.papers.entries r.papers
+  pub halls : HasRows code_cmp kept.halls.entries r.halls
+  pub openings : HasRows opening_cmp kept.openings.entries r.openings
+  pub candidates : HasRows nat_cmp kept.candidates.entries r.candidates
+  pub entries : HasRows entry_cmp kept.entries.entries r.entries
+  pub arrangements : HasRows nat_cmp kept.arrangements.entries r.arrangements
+
+-- the facts with the rows as they were
+abbrev pub with_kept : KeptRows → Relations → Relations
+with_kept kept r = record r {
+  sessions = put_back code_cmp r.sessions kept.sessions.entries;
+  papers = put_back code_cmp r.papers kept.papers.entries;
+  halls = put_back code_cmp r.halls kept.halls.entries;
+  openings = put_back opening_cmp r.openings kept.openings.entries;
+  candidates = put_back nat_cmp r.candidates kept.candidates.entries;
+  entries = put_back entry_cmp r.entries kept.entries.entries;
+  arrangements = put_back nat_cmp r.arrangements kept.arrangements.entries;
+}
+
+-- the new facts become the old ones, table by table
+pub record RowsGoBack (kept : KeptRows) (new old : Relations) : Type 0 where
+  pub sessions : GoBack code_cmp kept.sessions.entries new.sessions old.sessions
+  pub papers : GoBack code_cmp kept.papers.entries new.papers old.papers
+  pub halls : GoBack code_cmp kept.halls.entries new.halls old.halls
+  pub openings : GoBack opening_cmp kept.openings.entries new.openings old.openings
+  pub candidates : GoBack nat_cmp kept.candidates.entries new.candidates old.candidates
+  pub entries : GoBack entry_cmp kept.entries.entries new.entries old.entries
+  pub arrangements : GoBack nat_cmp kept.arrangements.entries new.arrangements old.arrangements
+  pub appeals : new.appeals ≡ old.appeals
+  pub standing : new.standing ≡ old.standing
+
+-- ---- any change
 
 -- the facts with the change taken back
 abbrev pub restored : Undo → Relations → Relations
@@ -12,28 +63,18 @@ restored undo.Nothing r = r
 restored (undo.Entry k x) r = record r { entries = put_row entry_cmp r.entries k x }
 restored (undo.NewAppeal k) r = record r { appeals = remove_row appeal_cmp r.appeals k }
 restored (undo.Appeal k x) r = record r { appeals = put_row appeal_cmp r.appeals k x }
-restored (undo.Sessions m) r = record r { sessions = m.entries }
-restored (undo.Papers m) r = record r { papers = m.entries }
-restored (undo.Halls m) r = record r { halls = m.entries }
+restored (undo.Rows kept) r = with_kept kept r
 restored (undo.Openings m) r = record r { openings = m.entries }
-restored (undo.Candidates m) r = record r { candidates = m.entries }
-restored (undo.Entries m) r = record r { entries = m.entries }
-restored (undo.Arrangements m) r = record r { arrangements = m.entries }
 restored (undo.Decisions m marks) r = record r { appeals = m.entries; standing = marks.entries }
 
--- the key that is named has a row, so that it gets another one back without memory, or loses it
+-- each key that is named has a row, so that it gets another one back without memory, or loses it
 abbrev pub IsThere : Undo → Relations → Type 0
 IsThere undo.Nothing r = ⊤
 IsThere (undo.Entry k x) r = IsTrue (has_row entry_cmp r.entries k)
 IsThere (undo.NewAppeal k) r = IsTrue (has_row appeal_cmp r.appeals k)
 IsThere (undo.Appeal k x) r = IsTrue (has_row appeal_cmp r.appeals k)
-IsThere (undo.Sessions m) r = ⊤
-IsThere (undo.Papers m) r = ⊤
-IsThere (undo.Halls m) r = ⊤
+IsThere (undo.Rows kept) r = AreThere kept r
 IsThere (undo.Openings m) r = ⊤
-IsThere (undo.Candidates m) r = ⊤
-IsThere (undo.Entries m) r = ⊤
-IsThere (undo.Arrangements m) r = ⊤
 IsThere (undo.Decisions m marks) r = ⊤
 
 -- the new facts become the old ones
@@ -49,14 +90,3 @@ ChangesOnly kind.Openings r t = t ≡ record r { openings = t.openings }
 ChangesOnly kind.Candidates r t = t ≡ record r { candidates = t.candidates }
 ChangesOnly kind.Entries r t = t ≡ record r { entries = t.entries }
 ChangesOnly kind.Arrangements r t = t ≡ record r { arrangements = t.arrangements }
-
--- it sets back the table of the kind, as it is in these facts
-abbrev pub IsTableOf : Kind → Undo → Relations → Type 0
-IsTableOf kind.Sessions (undo.Sessions m) r = m.entries ≡ r.sessions
-IsTableOf kind.Papers (undo.Papers m) r = m.entries ≡ r.papers
-IsTableOf kind.Halls (undo.Halls m) r = m.entries ≡ r.halls
-IsTableOf kind.Openings (undo.Openings m) r = m.entries ≡ r.openings
-IsTableOf kind.Candidates (undo.Candidates m) r = m.entries ≡ r.candidates
-IsTableOf kind.Entries (undo.Entries m) r = m.entries ≡ r.entries
-IsTableOf kind.Arrangements (undo.Arrangements m) r = m.entries ≡ r.arrangements
-IsTableOf k u r = ⊥

@@ -14,6 +14,9 @@ pub enum Before<'a, K: Ord, V> {
     Same,
     /// The same but for the row at this key, which the table has after the command.
     Row(&'a K),
+    /// The same but for the rows at these keys, all of which the table has after the command. Each had this row
+    /// before it, or none.
+    Rows(&'a BTreeMap<K, Option<V>>),
     /// This one.
     Table(&'a BTreeMap<K, V>),
 }

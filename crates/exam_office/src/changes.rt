@@ -2,12 +2,9 @@
 ghost use Rattle.std.specs.Prelude.{◌≡◌, ◌⊎◌, ◌<◌, ◌^◌, ◌+◌, ◌-◌, is_none, not, false, if◌then◌else◌, length, None, Some, IfOk, IfErr, OnOk, OnErr};
 ghost use Rattle.std.specs.Option.{option_map, option_map_or};
 ghost use Rattle.std.specs.Result.{result_err};
-ghost use Rattle.exam_rules.specs.Relations.{opening_cmp, relations_of, row_at};
+ghost use Rattle.exam_rules.specs.Relations.{Relations, opening_cmp, relations_of, row_at};
 ghost use Rattle.exam_types.specs.declared.refusal.Refusal.TheVariants.{NoMemory};
-ghost use Rattle.exam_office.specs.declared.import_row.Row.TheVariants as variant;
-ghost use Rattle.exam_office.specs.declared.import_row.Kind.{Kind as ImportKind};
 ghost use Rattle.exam_office.specs.Changes as changes;
-ghost use Rattle.exam_office.specs.Imports.{AreOfKind};
 ghost use Rattle.exam_office.specs.Replies as replies;
 ghost use Rattle.exam_office.specs.SameRows.{same_opening};
 ghost use Rattle.exam_office.specs.Undoing as undoing;
@@ -15,20 +12,23 @@ ghost use Rattle.exam_office.specs.Undoing as undoing;
 use crate::command::Reply;
 use crate::import::Import;
 use crate::import_row::Row;
+use crate::kept::{KeptRows, put_kept};
 use crate::references;
-use crate::rows::put;
-use crate::undo::{Undo, set_aside};
+use crate::undo::Undo;
 use exam_rules::{Entry, Facts, Opening};
-use exam_types::{HallCode, Number, PaperCode, Refusal, SessionCode};
+use exam_types::{HallCode, Refusal, SessionCode};
+use std::alloc::Global;
 
 /// Adds the rows of an import, and gives how this is taken back and what the import answers. Refused for the
 /// first row, in the order of the file, that refers to what is not there; and where there is not enough memory.
 /// After a refusal the facts are as before. No limit is tested.
-pub fn import_rows(facts: &mut Facts, import: &Import) -> Result<(Undo, Reply), Refusal>
+pub fn import_rows(
+    alloc: Global,
+    facts: &mut Facts,
+    import: &Import,
+) -> Result<(Undo, Reply), Refusal>
     ensures ok { OnOk result (relations_of facts.new
         ≡ changes.with_rows (relations_of facts.old) import.now.rows) }
-    ensures only { OnOk result
-        (undoing.ChangesOnly import.now.kind (relations_of facts.old) (relations_of facts.new)) }
     ensures back { IfOk result (λ answer.
         undoing.TakesBack answer.0 (relations_of facts.new) (relations_of facts.old)) }
     ensures reply { IfOk result (λ answer. answer.1
@@ -40,25 +40,22 @@ pub fn import_rows(facts: &mut Facts, import: &Import) -> Result<(Undo, Reply), 
 {
     check_rows(facts, import.rows())?;
     let reply = count_rows(facts, import);
-    Ok((set_rows(facts, import)?, reply))
+    Ok((set_rows(alloc, facts, import.rows())?, reply))
 }
 
-/// Sets each row in turn in a copy of the table, and gives how this is taken back.
-fn set_rows(facts: &mut Facts, import: &Import) -> Result<Undo, Refusal>
-    ensures ok { OnOk result (relations_of facts.new
-        ≡ changes.with_rows (relations_of facts.old) import.now.rows) }
-    ensures only { OnOk result
-        (undoing.ChangesOnly import.now.kind (relations_of facts.old) (relations_of facts.new)) }
+/// Sets each row in turn, and gives how this is taken back.
+fn set_rows(alloc: Global, facts: &mut Facts, rows: &[Row]) -> Result<Undo, Refusal>
+    ensures ok { OnOk result (relations_of facts.new ≡ changes.with_rows (relations_of facts.old) rows.now) }
     ensures back { IfOk result (λ undo.
         undoing.TakesBack undo (relations_of facts.new) (relations_of facts.old)) }
     ensures memory { IfErr result (λ e. e ≡ NoMemory) }
     ensures same { OnErr result (relations_of facts.new ≡ relations_of facts.old) }
 {
-    let undo = set_aside(facts, import.kind())?;
-    match put_rows(facts, import.rows()) {
-        Ok(()) => Ok(undo),
+    let mut kept = KeptRows::none(alloc);
+    match put_rows(facts, &mut kept, rows) {
+        Ok(()) => Ok(Undo::Rows(kept)),
         Err(refusal) => {
-            undo.take_back(facts);
+            kept.take_back(facts);
             Err(refusal)
         }
     }
@@ -94,60 +91,71 @@ fn check_row(facts: &Facts, row: &Row) -> Result<(), Refusal>
     }
 }
 
-/// Sets each row in turn. Also a refusal changes only the table of the rows.
-fn put_rows(facts: &mut Facts, rows: &[Row]) -> Result<(), Refusal>
+/// Sets each row in turn, and keeps the rows that this changes, also where it is refused.
+fn put_rows(facts: &mut Facts, kept: &mut KeptRows, rows: &[Row]) -> Result<(), Refusal>
     ensures ok { OnOk result (relations_of facts.new ≡ changes.with_rows (relations_of facts.old) rows.now) }
-    ensures only { (k : ImportKind) → AreOfKind k rows.now
-        → undoing.ChangesOnly k (relations_of facts.old) (relations_of facts.new) }
+    ensures back { (first : Relations) → undoing.RowsGoBack kept.old (relations_of facts.old) first
+        → undoing.RowsGoBack kept.new (relations_of facts.new) first }
     ensures memory { IfErr result (λ e. e ≡ NoMemory) }
 {
     for row in rows {
-        put_row(facts, row)?;
+        put_row(facts, kept, row)?;
     }
     Ok(())
 }
 
 /// Adds a row with a new key, and sets a present key to the row. An entry that is there is left alone, and a
-/// new one is live. After a refusal the facts are as before.
-pub(crate) fn put_row(facts: &mut Facts, row: &Row) -> Result<(), Refusal>
+/// new one is live. Keeps what it changes.
+fn put_row(facts: &mut Facts, kept: &mut KeptRows, row: &Row) -> Result<(), Refusal>
     ensures ok { OnOk result (relations_of facts.new ≡ changes.with_row (relations_of facts.old) row.now) }
+    ensures back { (first : Relations) → undoing.RowsGoBack kept.old (relations_of facts.old) first
+        → undoing.RowsGoBack kept.new (relations_of facts.new) first }
     ensures memory { IfErr result (λ e. e ≡ NoMemory) }
-    ensures err { OnErr result (relations_of facts.new ≡ relations_of facts.old) }
 {
-    match row {
-        Row::OfSession(code, session) => put(&mut facts.sessions, *code, *session),
-        Row::OfPaper(code, paper) => {
-            let copy = paper.clone()?;
-            put(&mut facts.papers, *code, copy)
-        }
-        Row::OfHall(code, hall) => {
-            let copy = hall.clone()?;
-            put(&mut facts.halls, *code, copy)
-        }
-        Row::OfOpening(session, hall, opening) => {
-            put(&mut facts.openings, (*session, *hall), *opening)
-        }
-        Row::OfCandidate(number, candidate) => {
-            let copy = candidate.clone()?;
-            put(&mut facts.candidates, *number, copy)
-        }
-        Row::OfEntry(number, paper) => put_entry(facts, *number, *paper),
-        Row::OfArrangement(number, arrangement) => {
-            put(&mut facts.arrangements, *number, *arrangement)
-        }
+    facts.show_order();
+    match is_stored(facts, row) {
+        Some(true) => Ok(()),
+        Some(false) | None => set_row(facts, kept, row),
     }
 }
 
-fn put_entry(facts: &mut Facts, number: Number, paper: PaperCode) -> Result<(), Refusal>
-    ensures ok { OnOk result (relations_of facts.new
-        ≡ changes.with_row (relations_of facts.old) (variant.OfEntry number paper)) }
+/// Sets a key to a row that it does not have, and keeps what it was.
+fn set_row(facts: &mut Facts, kept: &mut KeptRows, row: &Row) -> Result<(), Refusal>
+    requires { replies.is_same (relations_of facts.old) row.now ≡ false }
+    ensures ok { OnOk result (relations_of facts.new ≡ changes.with_row (relations_of facts.old) row.now) }
+    ensures back { (first : Relations) → undoing.RowsGoBack kept.old (relations_of facts.old) first
+        → undoing.RowsGoBack kept.new (relations_of facts.new) first }
     ensures memory { IfErr result (λ e. e ≡ NoMemory) }
-    ensures err { OnErr result (relations_of facts.new ≡ relations_of facts.old) }
 {
-    if facts.entries.contains_key(&(number, paper)) {
-        return Ok(());
+    match row {
+        Row::OfSession(code, session) => {
+            put_kept(&mut facts.sessions, &mut kept.sessions, *code, *session)
+        }
+        Row::OfPaper(code, paper) => {
+            let copy = paper.clone()?;
+            put_kept(&mut facts.papers, &mut kept.papers, *code, copy)
+        }
+        Row::OfHall(code, hall) => {
+            let copy = hall.clone()?;
+            put_kept(&mut facts.halls, &mut kept.halls, *code, copy)
+        }
+        Row::OfOpening(session, hall, opening) => {
+            let key = (*session, *hall);
+            put_kept(&mut facts.openings, &mut kept.openings, key, *opening)
+        }
+        Row::OfCandidate(number, candidate) => {
+            let copy = candidate.clone()?;
+            put_kept(&mut facts.candidates, &mut kept.candidates, *number, copy)
+        }
+        Row::OfEntry(number, paper) => {
+            let (key, entry) = ((*number, *paper), Entry { live: true });
+            put_kept(&mut facts.entries, &mut kept.entries, key, entry)
+        }
+        Row::OfArrangement(number, arrangement) => {
+            let (facts, kept) = (&mut facts.arrangements, &mut kept.arrangements);
+            put_kept(facts, kept, *number, *arrangement)
+        }
     }
-    put(&mut facts.entries, (number, paper), Entry { live: true })
 }
 
 /// How the distinct rows stand to the facts.

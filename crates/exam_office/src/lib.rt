@@ -13,6 +13,7 @@ mod entries;
 mod grants;
 mod import;
 mod import_row;
+mod kept;
 mod laws;
 mod lending;
 mod limits;

@@ -94,7 +94,7 @@ pub fn make(
 {
     let sessions = touched(alloc, &part.facts, command)?;
     let decided = newly_decided(&part.facts, command);
-    let (facts, reply) = change(&mut part.facts, &part.plans, command, today)?;
+    let (facts, reply) = change(alloc, &mut part.facts, &part.plans, command, today)?;
     match settled(alloc, &part.facts, lists, &sessions, &part.plans, command) {
         Ok((listed, next)) => {
             let reply = last_reply(&part.facts, &part.plans, &next, decided, command, reply);
@@ -125,6 +125,7 @@ fn put_plans(plans: &mut Seats, next: Option<Seats>) -> Option<Seats>
 /// Makes the change of a command in the facts, before any limit is tested. Gives how it is taken back, and what
 /// the command answers if it does not depend on the plans.
 fn change(
+    alloc: Global,
     facts: &mut Facts,
     plans: &Seats,
     command: &Command,
@@ -144,7 +145,7 @@ fn change(
     ensures same { OnErr result (relations_of facts.new ≡ relations_of facts.old) }
 {
     match command {
-        Command::Import(import) => import_rows(facts, import),
+        Command::Import(import) => import_rows(alloc, facts, import),
         Command::Withdraw(number, paper) => {
             Ok((withdraw(facts, *number, *paper)?, Reply::Withdrawn))
         }

@@ -1,9 +1,10 @@
 //! One row of a table.
-ghost use Rattle.std.specs.Prelude.{◌≡◌, IsTrue, Some, IfErr, OnOk, OnErr};
+ghost use Rattle.std.specs.Prelude.{◌≡◌, IsSome, IsTrue, Some, IfErr, OnOk, OnErr};
 ghost use Rattle.std.specs.BTreeMap.{insert_entry};
 ghost use Rattle.exam_types.specs.declared.refusal.Refusal.TheVariants.{NoMemory};
 ghost use Rattle.exam_rules.specs.Orders.{KeysRise};
 ghost use Rattle.exam_rules.specs.Relations.{has_row, put_row, row_at};
+ghost use Rattle.exam_office.specs.Exchanges.{set_row};
 
 use exam_types::Refusal;
 use std::collections::BTreeMap;
@@ -31,4 +32,22 @@ pub fn exchange<K: Ord + Copy, V: Drop>(rows: &mut BTreeMap<K, V>, key: K, row: 
         // It does not come to this.
         Err(refused) => refused.value.1,
     }
+}
+
+/// Sets a key to a row, or takes its row away. Takes no memory, as a key that is set has a row already.
+pub fn set<K: Ord + Copy, V: Drop>(rows: &mut BTreeMap<K, V>, key: K, row: Option<V>)
+    requires { IsSome row → IsTrue (has_row K.cmp rows.old.entries key) }
+    ensures set { rows.new.entries ≡ set_row K.cmp rows.old.entries key row }
+    ensures rises { KeysRise K.cmp rows.new.entries }
+{
+    match row {
+        Some(row) => {
+            let _ = exchange(rows, key, row);
+        }
+        None => {
+            let _ = rows.remove(&key);
+        }
+    }
+    // The length of a map tells that its keys rise.
+    let _ = rows.len();
 }

@@ -1,12 +1,13 @@
 //! The seats of some sessions in the place of others.
-ghost use Rattle.std.specs.Prelude.{◌≡◌, ℕ, false, IsSome, IsTrue, OnOk, IfErr};
+ghost use Rattle.std.specs.Prelude.{◌≡◌, ℕ, false, IsTrue, OnOk, IfErr};
 ghost use Rattle.exam_types.specs.declared.refusal.Refusal.TheVariants.{NoMemory};
 ghost use Rattle.exam_rules.specs.Orders.{KeysRise};
 ghost use Rattle.exam_rules.specs.Relations.{Code, has_row, row_at, seat_cmp};
 ghost use Rattle.exam_office.specs.Exchanges as spec;
 
 use crate::office::Seats;
-use exam_types::{HallCode, Number, Refusal, SessionCode};
+use crate::rows::set;
+use exam_types::Refusal;
 
 /// Seats everybody as in the new plans. After a refusal some of them may be seated so, and everybody else is as
 /// before.
@@ -38,26 +39,7 @@ pub fn take_back_seats(seats: &mut Seats, old: &Seats, new: &Seats)
     // The length of a map tells that its keys rise.
     let _ = seats.len();
     for (key, _) in new {
-        set_seat(seats, key, old.get(key).copied());
-    }
-}
-
-/// Seats the candidate in the hall, or takes their seat away.
-fn set_seat(seats: &mut Seats, key: &(SessionCode, Number), hall: Option<HallCode>)
-    requires { IsSome hall → IsTrue (has_row seat_cmp seats.old.entries key.now) }
-    ensures set { seats.new.entries ≡ spec.set_row seat_cmp seats.old.entries key.now hall }
-    ensures rises { KeysRise seat_cmp seats.new.entries }
-{
-    match hall {
-        // The candidate sits somewhere, so the new hall takes the place of that one.
-        Some(hall) => {
-            let Ok(_) = seats.insert(*key, hall) else {
-                unreachable!()
-            };
-        }
-        None => {
-            let _ = seats.remove(key);
-        }
+        set(seats, *key, old.get(key).copied());
     }
 }
 

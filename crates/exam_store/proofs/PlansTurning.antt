@@ -49,7 +49,7 @@ absent None is = refl
 absent (Some x) is = cc
 
 module _ {K X : Type 0} {cmp : K → K → Ordering} (total : IsTotalOrder cmp) (exact : CmpEqualImpliesEq cmp) where
-  key_is_row : (rows : List (K × X)) (k : K) → has_key cmp rows k ≡ has_row cmp rows k
+  pub key_is_row : (rows : List (K × X)) (k : K) → has_key cmp rows k ≡ has_row cmp rows k
   key_is_row [] k = refl
   key_is_row (e ∷ rows) k = inner (is_eq (cmp k e.0)) (key_is_row rows k)
     where
@@ -61,10 +61,10 @@ module _ {K X : Type 0} {cmp : K → K → Ordering} (total : IsTotalOrder cmp) 
   key_is_one [] k = refl
   key_is_one (e ∷ rows) k = ap (λ b. is_eq (cmp k e.0) || b) (key_is_one rows k)
 
-  rises_left : (p : K → Bool) (rows : List (K × X)) → KeysRise cmp rows → KeysRise cmp (filter (λ e. p e.0) rows)
+  pub rises_left : (p : K → Bool) (rows : List (K × X)) → KeysRise cmp rows → KeysRise cmp (filter (λ e. p e.0) rows)
   rises_left p rows up = subst (IsStrictlySortedBy cmp) (filtered_keys p rows) (IsStrictlySortedBy-filter cmp p (keys_of rows) up)
 
-  row_left : (p : K → Bool) (rows : List (K × X)) (k : K) → row_at cmp (filter (λ e. p e.0) rows) k ≡ cond (p k) (row_at cmp rows k) None
+  pub row_left : (p : K → Bool) (rows : List (K × X)) (k : K) → row_at cmp (filter (λ e. p e.0) rows) k ≡ cond (p k) (row_at cmp rows k) None
   row_left p rows k = lookup-filter-keys (is_at (cmp k)) p (p k) (λ j at. ap p (sym (exact k j ((Equal-is (cmp k j)).0 at)))) rows
 
   module _ (old new before after : List (K × X)) (old_rises : KeysRise cmp old) (new_rises : KeysRise cmp new) (before_rises : KeysRise cmp before) (after_rises : KeysRise cmp after)

@@ -5,6 +5,7 @@ ghost use Rattle.sqlite.specs.State.{HasCleanDisk};
 ghost use Rattle.exam_types.specs.declared.refusal.Refusal.TheVariants.{NoMemory};
 ghost use Rattle.exam_rules.specs.Orders.{KeysRise};
 ghost use Rattle.exam_rules.specs.Relations.{has_row, remove_row, seat_cmp};
+ghost use Rattle.exam_office.specs.Exchanges.{HasRows, put_back};
 ghost use Rattle.exam_office.specs.State.{Seats as SeatRows};
 ghost use Rattle.exam_office.specs.TablesBefore.{WasTable, WerePlans};
 ghost use Rattle.exam_rows.specs.Differences.{AreExact};
@@ -76,6 +77,7 @@ fn difference_since<'a, K: Ord, V: PartialEq>(
     match before {
         Before::Same => Ok(no_difference(alloc)),
         Before::Row(key) => row_put(alloc, key, after),
+        Before::Rows(was) => rows_put(alloc, was, after),
         Before::Table(old) => difference_of(alloc, old, after),
     }
 }
@@ -118,6 +120,31 @@ fn row_put<'a, K: Ord, V: PartialEq>(
     let mut put = Vec::new(alloc);
     if let Some(row) = after.get(key) {
         put.push((key, row))?;
+    }
+    Ok(Difference {
+        put,
+        delete: Vec::new(alloc),
+    })
+}
+
+/// What puts the rows at these keys, all of which the table has.
+fn rows_put<'a, K: Ord, V: PartialEq>(
+    alloc: Global,
+    was: &'a BTreeMap<K, Option<V>>,
+    after: &'a BTreeMap<K, V>,
+) -> Result<Difference<'a, K, V>, AllocError>
+    ensures { (old : List (K × V)) → AreExact K.cmp V.eq → KeysRise K.cmp old
+        → HasRows K.cmp was.now.entries after.now.entries
+        → old ≡ put_back K.cmp after.now.entries was.now.entries
+        → IfOk result (TurnsTable K.cmp old after.now.entries) }
+{
+    // The length of a map tells that its keys rise.
+    let (_, _) = (was.len(), after.len());
+    let mut put = Vec::new(alloc);
+    for (key, _) in was {
+        if let Some(row) = after.get(key) {
+            put.push((key, row))?;
+        }
     }
     Ok(Difference {
         put,

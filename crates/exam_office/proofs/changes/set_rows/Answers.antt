@@ -1,26 +1,21 @@
 use Rattle.std.proofs.Common.{subst, ◌∙◌}
 use Rattle.exam_rules.specs.Relations.{Relations, relations_of}
-use Rattle.exam_office.specs.declared.import_row.Kind.{Kind}
-use Rattle.exam_office.specs.Undoing.{ChangesOnly, IsTableOf, TakesBack}
-use Rattle.exam_office.proofs.Undoing.{table_back}
+use Rattle.exam_office.specs.Undoing.{RowsGoBack, TakesBack}
+use Rattle.exam_office.specs.declared.undo.Undo.TheVariants as undo
+use Rattle.exam_office.proofs.Undoing.{none_back, rows_back}
 use Rattle.exam_office.proofs.changes.set_rows.Goals as goal
+
+pub take_back-requires : goal.take_back-requires
+take_back-requires c =
+    let old : Relations = relations_of c.args.facts.now in
+    (rows_back c.put_rows.new.kept (relations_of c.put_rows.new.facts) old (c.put_rows.ensures.back old (none_back c.none-kept.result old c.none-kept.ensures))).0
 
 pub returns-in-Ok-clause-back : goal.returns-in-Ok-clause-back
 returns-in-Ok-clause-back c =
-    let kind : Kind = c.args.import.now.kind in
     let old : Relations = relations_of c.args.facts.now in
-    let new : Relations = relations_of c.put_rows.new.facts in
-    table_back kind c.in_ok-undo.undo old new
-    (subst (λ (k : Kind). IsTableOf k c.in_ok-undo.undo old) c.kind.ensures c.in_ok-undo.ensures.ok)
-    (subst (λ (r : Relations). ChangesOnly kind r new) c.set_aside.ensures.same (c.put_rows.ensures.only kind c.rows.ensures.kind))
+    rows_back c.put_rows.new.kept (relations_of c.put_rows.new.facts) old (c.put_rows.ensures.back old (none_back c.none-kept.result old c.none-kept.ensures))
 
 pub returns-in-Err-clause-same : goal.returns-in-Err-clause-same
 returns-in-Err-clause-same c =
-    let kind : Kind = c.args.import.now.kind in
     let old : Relations = relations_of c.args.facts.now in
-    let new : Relations = relations_of c.put_rows.new.facts in
-    let back : TakesBack c.in_ok-undo.undo new old =
-    table_back kind c.in_ok-undo.undo old new
-    (subst (λ (k : Kind). IsTableOf k c.in_ok-undo.undo old) c.kind.ensures c.in_ok-undo.ensures.ok)
-    (subst (λ (r : Relations). ChangesOnly kind r new) c.set_aside.ensures.same (c.put_rows.ensures.only kind c.rows.ensures.kind)) in
-    c.take_back.ensures ∙ back.1
+    c.take_back.ensures ∙ (rows_back c.put_rows.new.kept (relations_of c.put_rows.new.facts) old (c.put_rows.ensures.back old (none_back c.none-kept.result old c.none-kept.ensures))).1
