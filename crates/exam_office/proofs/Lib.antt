@@ -64,3 +64,4 @@ pub mod KeptImports
 pub mod EnteredRows
 pub mod ListsPutBack
 pub mod AmongOwn
+pub mod KeptRows
