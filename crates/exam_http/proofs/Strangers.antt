@@ -1,11 +1,11 @@
 -- The answer to a stranger depends on the request alone, and changes nothing.
-use Rattle.std.proofs.Common.{◌≡◌, ◌∙◌, ℕ, Option, None, Some, Bool, true, false, cond, refl, sym, subst, inl, inr}
+use Rattle.std.proofs.Common.{◌≡◌, ◌∙◌, ℕ, Option, None, Some, Bool, true, false, cond, sym, subst, inl, inr}
 use Rattle.sqlite_trees.specs.declared.store.Store.{Ghosts}
 use Rattle.exam_types.specs.declared.refusal.Refusal.TheVariants.{UnknownCandidate}
 use Rattle.exam_store.specs.Stores.{OfficeIn}
 use Rattle.exam_request.specs.Answer.{Told, method_told, refusal_told}
 use Rattle.exam_request.specs.Asked.{Request}
-use Rattle.exam_request.specs.Choices.{IsStranger, ShowsCode, choice_by, choice_of}
+use Rattle.exam_request.specs.Choices.{IsStranger, ShowsCode, choice_by}
 use Rattle.exam_request.specs.Methods.{is_allowed}
 use Rattle.exam_request.specs.Targets.{Target, reading}
 use Rattle.exam_request.specs.declared.choice.Choice.TheVariants as choice
