@@ -1,65 +1,50 @@
--- What a stranger is answered hangs on the request alone, and changes nothing.
-use Rattle.std.specs.Prelude.{⊤}
-use Rattle.std.proofs.Common.{◌≡◌, ◌∙◌, ℕ, Option, None, Some, Bool, true, false, cond, refl, sym, subst, inl, inr}
+-- The answer to a stranger depends on the request alone, and changes nothing.
+use Rattle.std.proofs.Common.{◌≡◌, ◌∙◌, ℕ, Option, None, Some, Bool, true, false, cond, sym, subst, inl, inr}
 use Rattle.sqlite_trees.specs.declared.store.Store.{Ghosts}
 use Rattle.exam_types.specs.declared.refusal.Refusal.TheVariants.{UnknownCandidate}
-use Rattle.exam_office.specs.Own.{OwnRows}
 use Rattle.exam_store.specs.Stores.{OfficeIn}
-use Rattle.exam_request.specs.Answer.{Told}
+use Rattle.exam_request.specs.Answer.{Told, method_told, refusal_told}
 use Rattle.exam_request.specs.Asked.{Request}
-use Rattle.exam_request.specs.Choices.{IsStranger, choice_by, choice_of}
+use Rattle.exam_request.specs.Choices.{IsStranger, ShowsCode, choice_by}
 use Rattle.exam_request.specs.Methods.{is_allowed}
 use Rattle.exam_request.specs.Targets.{Target, reading}
-use Rattle.exam_request.specs.declared.choice.Choice.{Choice}
 use Rattle.exam_request.specs.declared.choice.Choice.TheVariants as choice
+use Rattle.exam_request.specs.declared.choice.Named.{Named}
 use Rattle.exam_request.proofs.Chosen.{alike}
-use Rattle.exam_http.specs.Alike.{AreAlike}
-use Rattle.exam_http.specs.Answering.{Answers, Does, own_named}
+use Rattle.exam_http.specs.Alike.{AreSame, stranger_told, stranger_told_at}
+use Rattle.exam_http.specs.Answering.{Answers, AnswersFound, Does, choice_in, named_in}
 
--- nothing is shown, and nothing is done
-abbrev IsPlain : Choice → Type 0
-IsPlain (choice.Fault fault) = ⊤
-IsPlain (choice.OtherMethod route) = ⊤
-IsPlain (choice.Refused refusal) = ⊤
-IsPlain other = ⊥
+-- a stranger shows no code
+no_code : (request : Request) (named : Option Named) → IsStranger request named → ShowsCode request named → ⊥
+no_code request None is shows = shows
+no_code request (Some named) is shows = cc (is, shows)
 
-plain_by : (request : Request) (found : Option Target) → IsPlain (choice_by request None found)
-plain_by request None = tt
-plain_by request (Some t) = by (is_allowed t.route request.method)
-  where
-    by : (v : Bool) → IsPlain (cond v (choice.Refused UnknownCandidate) (choice.OtherMethod t.route))
-    by true = tt
-    by false = tt
+module _ {S : Type 0} (g : Ghosts S) (today : ℕ) (one one_after : OfficeIn S) (told : Told) (request : Request) where
+  -- what is done for an unknown candidate
+  nobody : (found : Option Target) → Does g today one (choice_by request None found) told one_after → (told ≡ stranger_told_at request found) × (one_after ≡ one)
+  nobody None does = does
+  nobody (Some t) does = by (is_allowed t.route request.method) does
+    where
+      by : (v : Bool) → Does g today one (cond v (choice.Refused UnknownCandidate) (choice.OtherMethod t.route)) told one_after
+          → (told ≡ cond v (refusal_told UnknownCandidate) (method_told t.route)) × (one_after ≡ one)
+      by true does = does
+      by false does = does
 
-module _ {S T : Type 0} (g : Ghosts S) (h : Ghosts T) (today later : ℕ) (one one_after : OfficeIn S) (other other_after : OfficeIn T) (first second : Told) where
-  told_alike : (own own_2 : Option OwnRows) (c : Choice) → IsPlain c → Does g today own one c first one_after → Does h later own_2 other c second other_after
-      → AreAlike first second × (one_after ≡ one)
-  told_alike own own_2 (choice.Fault fault) plain a b = (inr (inr (a.0 ∙ sym b.0)), a.1)
-  told_alike own own_2 (choice.OtherMethod route) plain a b = (inr (inr (a.0 ∙ sym b.0)), a.1)
-  told_alike own own_2 (choice.Refused refused) plain a b = (inr (inr (a.0 ∙ sym b.0)), a.1)
-  told_alike own own_2 choice.ShowSeats plain a b = absurd plain
-  told_alike own own_2 choice.ShowClashes plain a b = absurd plain
-  told_alike own own_2 choice.ShowAppeals plain a b = absurd plain
-  told_alike own own_2 (choice.Do command) plain a b = absurd plain
+  done : IsStranger request (named_in one.office request) → Does g today one (choice_in one.office request) told one_after → (told ≡ stranger_told request) × (one_after ≡ one)
+  done is does =
+      nobody (reading request.target) (subst (λ c. Does g today one c told one_after) (alike request (named_in one.office request) None is tt) does)
 
-  unchanged : (own : Option OwnRows) (c : Choice) → IsPlain c → Does g today own one c first one_after → one_after ≡ one
-  unchanged own (choice.Fault fault) plain a = a.1
-  unchanged own (choice.OtherMethod route) plain a = a.1
-  unchanged own (choice.Refused refused) plain a = a.1
-  unchanged own choice.ShowSeats plain a = absurd plain
-  unchanged own choice.ShowClashes plain a = absurd plain
-  unchanged own choice.ShowAppeals plain a = absurd plain
-  unchanged own (choice.Do command) plain a = absurd plain
+  pub stranger_found : IsStranger request (named_in one.office request) → AnswersFound g today one request told one_after → (told ≡ stranger_told request) × (one_after ≡ one)
+  stranger_found is (inl (shows, busy)) = absurd (no_code request (named_in one.office request) is shows)
+  stranger_found is (inr does) = done is does
 
-  pub strangers_alike : (request : Request) → IsStranger request (own_named one.office request) → IsStranger request (own_named other.office request)
-      → Answers g today one request first one_after → Answers h later other request second other_after → AreAlike first second × (one_after ≡ one)
-  strangers_alike request is are (inl busy) b = (inl (inl busy.0), busy.1)
-  strangers_alike request is are (inr a) (inl busy) = (
-    inr (inl (inl busy.0)),
-    unchanged (own_named one.office request) (choice_of request None) (plain_by request (reading request.target))
-        (subst (λ c. Does g today (own_named one.office request) one c first one_after) (alike request (own_named one.office request) None is tt) a),
-  )
-  strangers_alike request is are (inr a) (inr b) =
-      told_alike (own_named one.office request) (own_named other.office request) (choice_of request None) (plain_by request (reading request.target))
-      (subst (λ c. Does g today (own_named one.office request) one c first one_after) (alike request (own_named one.office request) None is tt) a)
-      (subst (λ c. Does h later (own_named other.office request) other c second other_after) (alike request (own_named other.office request) None are tt) b)
+pub strangers_alike : {S T : Type 0} (g : Ghosts S) (h : Ghosts T) (today later : ℕ) (one one_after : OfficeIn S) (other other_after : OfficeIn T) (first second : Told) (request : Request)
+    → IsStranger request (named_in one.office request) → IsStranger request (named_in other.office request)
+    → Answers g today one request first one_after → Answers h later other request second other_after → AreSame first second × (one_after ≡ one)
+strangers_alike g h today later one one_after other other_after first second request is are (inl busy) b = (inl busy.0, busy.1)
+strangers_alike g h today later one one_after other other_after first second request is are (inr a) (inl busy) =
+    (inr (inl busy.0), (done g today one one_after first request is a).1)
+strangers_alike g h today later one one_after other other_after first second request is are (inr a) (inr b) =
+    let mine = done g today one one_after first request is a in
+    let theirs = done h later other other_after second request are b in
+    (inr (inr (mine.0 ∙ sym theirs.0)), mine.1)

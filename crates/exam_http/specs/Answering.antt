@@ -1,10 +1,12 @@
--- What is told of a request, and what becomes of the office.
-use Rattle.std.specs.Prelude.{◌≡◌, ◌⊎◌, ℕ, List, Option, Some, None, Result, Ok, Err, option_and_then}
+-- The answer to a request, and what becomes of the office.
+use Rattle.std.specs.Prelude.{◌≡◌, ◌⊎◌, ⊤, ℕ, Option, IsSome, IsSomeAnd, Result, Ok, Err, option_and_then, option_map}
 use Rattle.sqlite_trees.specs.declared.store.Store.{Ghosts}
 use Rattle.exam_types.specs.declared.refusal.Refusal.{Refusal}
-use Rattle.exam_types.specs.declared.refusal.Refusal.TheVariants.{NoMemory, UnknownCandidate}
+use Rattle.exam_types.specs.declared.refusal.Refusal.TheVariants.{NoMemory}
 use Rattle.exam_office.specs.declared.command.AppealState.{AppealState}
 use Rattle.exam_office.specs.declared.command.AppealState.TheVariants as state
+use Rattle.exam_office.specs.declared.command.Command.{Command}
+use Rattle.exam_office.specs.declared.command.Command.TheVariants as command
 use Rattle.exam_office.specs.declared.command.Reply.{Reply}
 use Rattle.exam_office.specs.declared.command.Reply.TheVariants as reply
 use Rattle.exam_office.specs.Own.{OwnRows, own_of}
@@ -13,59 +15,90 @@ use Rattle.exam_store.specs.Applied.{IsApplied}
 use Rattle.exam_store.specs.Stores.{OfficeIn}
 use Rattle.exam_request.specs.Answer.{Told, error_told, method_told, ok_told, refusal_told, state_told}
 use Rattle.exam_request.specs.Asked.{Request}
-use Rattle.exam_request.specs.Bodies.{appeals_body, clashes_body, seats_body}
-use Rattle.exam_request.specs.Choices.{candidate_named, choice_of}
+use Rattle.exam_request.specs.Bodies.{page_body}
+use Rattle.exam_request.specs.Choices.{ShowsCode, candidate_named, choice_of}
 use Rattle.exam_request.specs.Faults.{fault_number}
 use Rattle.exam_request.specs.declared.choice.Choice.{Choice}
 use Rattle.exam_request.specs.declared.choice.Choice.TheVariants as choice
+use Rattle.exam_request.specs.declared.choice.Named.{Named}
 use Rattle.exam_request.specs.declared.fault.Fault.{Fault}
 
 -- what the office shows of the candidate whom a request names, if there is one
 abbrev pub own_named : State → Request → Option OwnRows
 own_named office request = option_and_then (own_of office) (candidate_named request)
 
+-- a candidate's number and access code
+abbrev pub named_as : OwnRows → Named
+named_as own = record { number = own.number; code = own.code }
+
+-- the candidate whom a request names, if there is one
+abbrev pub named_in : State → Request → Option Named
+named_in office request = option_map named_as (own_named office request)
+
 -- what is done for a request
 abbrev pub choice_in : State → Request → Choice
-choice_in office request = choice_of request (own_named office request)
+choice_in office request = choice_of request (named_in office request)
 
--- where the appeal stands after an accepted lodging or retraction
+-- the state of the appeal after an accepted lodging or retraction
 abbrev pub state_after : Reply → AppealState
 state_after (reply.Lodged stored) = stored
 state_after other = state.Retracted
 
--- what is told of a command
+-- the answer to a command
 abbrev pub TellsReply : Result Reply Refusal → Told → Type 0
 TellsReply (Ok answered) told = told ≡ state_told (state_after answered)
 TellsReply (Err refusal) told = told ≡ refusal_told refusal
 
--- a body over the own rows, where there is such a candidate
-abbrev pub Shows : (OwnRows → List ℕ) → Option OwnRows → Told → Type 0
-Shows body None told = told ≡ refusal_told UnknownCandidate
-Shows body (Some own) told = told ≡ ok_told (body own)
-
--- What is told of a choice, by the own rows of the candidate, and what becomes of the office: a lodging and a
--- retraction are applied to it, and anything else leaves it as it is.
-abbrev pub Does : {S : Type 0} → Ghosts S → ℕ → Option OwnRows → OfficeIn S → Choice → Told → OfficeIn S → Type 0
-Does g today own old (choice.Fault fault) told new = (told ≡ error_told (fault_number fault)) × (new ≡ old)
-Does g today own old (choice.OtherMethod route) told new = (told ≡ method_told route) × (new ≡ old)
-Does g today own old (choice.Refused refusal) told new = (told ≡ refusal_told refusal) × (new ≡ old)
-Does g today own old choice.ShowSeats told new = Shows seats_body own told × (new ≡ old)
-Does g today own old choice.ShowClashes told new = Shows clashes_body own told × (new ≡ old)
-Does g today own old choice.ShowAppeals told new = Shows appeals_body own told × (new ≡ old)
-Does {S} g today own old (choice.Do command) told new =
+-- a command is applied, and its reply or refusal is answered
+abbrev pub DoesCommand : {S : Type 0} → Ghosts S → ℕ → OfficeIn S → Command → Told → OfficeIn S → Type 0
+DoesCommand g today old command told new =
     (answered : Result Reply Refusal) × IsApplied g command today old answered new × TellsReply answered told
 
--- the answer to want of memory, and nothing has changed
+-- The answer to a choice, and what becomes of the office: a lodging and a retraction are applied to it, and anything
+-- else leaves it as it is.
+abbrev pub Does : {S : Type 0} → Ghosts S → ℕ → OfficeIn S → Choice → Told → OfficeIn S → Type 0
+Does g today old (choice.Fault fault) told new = (told ≡ error_told (fault_number fault)) × (new ≡ old)
+Does g today old (choice.OtherMethod route) told new = (told ≡ method_told route) × (new ≡ old)
+Does g today old (choice.Refused refusal) told new = (told ≡ refusal_told refusal) × (new ≡ old)
+Does g today old (choice.Show number page) told new =
+    IsSomeAnd (own_of old.office number) (λ own. told ≡ ok_told (page_body page own)) × (new ≡ old)
+Does g today old (choice.Lodge lodging) told new =
+    DoesCommand g today old (command.Lodge lodging) told new
+Does g today old (choice.Retract number reference) told new =
+    DoesCommand g today old (command.Retract number reference) told new
+
+-- memory ran out, and nothing has changed
 abbrev pub IsBusy : {S : Type 0} → OfficeIn S → Told → OfficeIn S → Type 0
 IsBusy old told new = (told ≡ refusal_told NoMemory) × (new ≡ old)
 
--- what a request is told on a day, by what it asks and the own rows of the candidate whom it names
+-- the answer to a request on a day, by what it asks and what the office shows of the candidate whom it names
 abbrev pub Answers : {S : Type 0} → Ghosts S → ℕ → OfficeIn S → Request → Told → OfficeIn S → Type 0
 Answers g today old request told new =
-    IsBusy old told new
-    ⊎ Does g today (own_named old.office request) old (choice_in old.office request) told new
+    IsBusy old told new ⊎ Does g today old (choice_in old.office request) told new
 
--- what is told of what was asked: a fault by its number, and then nothing changes
+-- the answer to what was asked: a fault is answered by its number, and then nothing changes
 abbrev pub AnswersAsked : {S : Type 0} → Ghosts S → ℕ → OfficeIn S → Result Request Fault → Told → OfficeIn S → Type 0
 AnswersAsked g today old (Ok request) told new = Answers g today old request told new
 AnswersAsked g today old (Err fault) told new = (told ≡ error_told (fault_number fault)) × (new ≡ old)
+
+-- ---- when memory may run out
+
+-- once the route is found, memory is taken only for a request that shows the code
+abbrev pub AnswersFound : {S : Type 0} → Ghosts S → ℕ → OfficeIn S → Request → Told → OfficeIn S → Type 0
+AnswersFound g today old request told new =
+    (ShowsCode request (named_in old.office request) × IsBusy old told new)
+    ⊎ Does g today old (choice_in old.office request) told new
+
+-- a page that is shown is of a candidate of the office
+abbrev pub IsOfOffice : State → Choice → Type 0
+IsOfOffice office (choice.Show number page) = IsSome (own_of office number)
+IsOfOffice office other = ⊤
+
+-- a page is shown
+abbrev pub IsShow : Choice → Type 0
+IsShow (choice.Show number page) = ⊤
+IsShow other = ⊥
+
+-- the answer to a choice, or 22 for a page
+abbrev pub MayDo : {S : Type 0} → Ghosts S → ℕ → OfficeIn S → Choice → Told → OfficeIn S → Type 0
+MayDo g today old chosen told new = (IsShow chosen × IsBusy old told new) ⊎ Does g today old chosen told new

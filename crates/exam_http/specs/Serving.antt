@@ -12,19 +12,19 @@ use Rattle.exam_http.specs.Answering.{AnswersAsked}
 use Rattle.exam_http.specs.declared.serving.HttpFault.{HttpFault}
 use Rattle.exam_http.specs.declared.serving.HttpFault.TheVariants.{Read, Write}
 
--- the number by which a fault of a connection is told
+-- the number that is printed for a fault of a connection
 abbrev pub http_fault_number : HttpFault → ℕ
 http_fault_number Read = 41
 http_fault_number Write = 42
 
--- What is told of the bytes that a reader gave, by what they ask.
+-- The answer to the bytes that a reader gave, by what they ask.
 pub record Tells {S : Type 0} (g : Ghosts S) (today : ℕ) (input rest : Option (List ℕ)) (old : OfficeIn S)
     (told : Told) (new : OfficeIn S) : Type 0 where
   pub asked : Result Request Fault
   pub gave : Gave 12288 input rest (λ bytes. Asks bytes asked)
   pub answers : AnswersAsked g today old asked told new
 
--- what is told of what was asked, and how much of it went out
+-- the answer to what was asked, and how much of it went out
 abbrev pub Replies : {S W : Type 0} → Ghosts S → (W → Option (List ℕ)) → ℕ → Result Request Fault
     → OfficeIn S → W → Result (Unit {0}) HttpFault → OfficeIn S → W → Type 0
 Replies g contents today asked old before (Ok done) new after =
@@ -35,8 +35,8 @@ Replies g contents today asked old before (Err Write) new after =
     (told : Told) × AnswersAsked g today old asked told new
     × AppendsPart (contents before) (contents after) (answer_text told)
 
--- Where it succeeds, all of the answer is written. After a failed read nothing was written and nothing changed;
--- after a failed write a beginning of the answer went out, not all of it, and what was done stands.
+-- If nothing fails, all of the answer is written. After a failed read nothing was written and nothing changed. After
+-- a failed write a beginning of the answer went out, not all of it, and what was done is not undone.
 abbrev pub Serves : {S W : Type 0} → Ghosts S → (W → Option (List ℕ)) → ℕ → Option (List ℕ) → Option (List ℕ)
     → OfficeIn S → W → Result (Unit {0}) HttpFault → OfficeIn S → W → Type 0
 Serves g contents today input rest old before (Ok done) new after =

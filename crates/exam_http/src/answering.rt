@@ -1,9 +1,9 @@
-//! What a request is told, by what it asks and the office.
-ghost use Rattle.std.specs.Prelude.{◌≡◌, ◌⊎◌, option_and_then, option_map, IsSome, IfOk, IfErr, IfNone, List, ℕ};
-ghost use Rattle.exam_types.specs.declared.refusal.Refusal.TheVariants.{NoMemory, UnknownCandidate};
+//! Answers a request, by what it asks and the office.
+ghost use Rattle.std.specs.Prelude.{◌≡◌, ◌⊎◌, option_and_then, option_map, IsSome, IsSomeAnd, IfOk, IfErr};
+ghost use Rattle.exam_types.specs.declared.refusal.Refusal.TheVariants.{NoMemory};
 ghost use Rattle.exam_rules.specs.Relations.{Code};
 ghost use Rattle.exam_office.specs.Headline.{IsSeated};
-ghost use Rattle.exam_office.specs.Own.{own_of, shown};
+ghost use Rattle.exam_office.specs.Own.{own_of};
 ghost use Rattle.exam_request.specs.Answer.{ok_told, refusal_told};
 ghost use Rattle.exam_request.specs.Asked.{asked_of, request_of};
 ghost use Rattle.exam_request.specs.Bodies as bodies;
@@ -11,18 +11,18 @@ ghost use Rattle.exam_request.specs.Choices.{number_named};
 ghost use Rattle.exam_request.specs.Targets as targets;
 ghost use Rattle.exam_http.specs.Answering as spec;
 
-use exam_office::{AppealState, Own, Reply};
+use exam_office::{AppealState, Command, Reply};
 use exam_request::{
-    Answer, Asked, Choice, Found, Request, appeals_body, candidate_of, choose, clashes_body, find,
-    seats_body, server_routes,
+    Answer, Asked, Choice, Found, Named, Page, Request, candidate_of, choose, find, page_body,
+    server_routes,
 };
 use exam_store::Store;
-use exam_types::{Day, Refusal};
+use exam_types::{Day, Number, Refusal};
 use sqlite::Alter;
 use std::alloc::Global;
 
-/// What is answered on a day. Where memory is short, and then before any command, the answer says so. Whatever it
-/// says, every session is seated as promised.
+/// Answers on a day what was asked. If memory runs out, it does so before any command, and the answer is 22. Whatever
+/// the answer, every session is seated as promised.
 pub fn answer<S: Alter>(
     alloc: Global,
     store: &mut Store<S>,
@@ -40,7 +40,7 @@ pub fn answer<S: Alter>(
     answer
 }
 
-/// What a request is answered.
+/// Answers a request.
 fn answer_request<S: Alter>(
     alloc: Global,
     store: &mut Store<S>,
@@ -49,114 +49,85 @@ fn answer_request<S: Alter>(
 ) -> Answer
     ensures { spec.Answers S.Store today store.old (request_of request.now) result store.new }
 {
-    match chosen(alloc, store, request) {
-        Ok((choice, own)) => done(alloc, store, today, choice, own),
+    match server_routes(alloc) {
+        Ok(routes) => answer_found(alloc, store, today, request, find(&routes, request.target)),
+        Err(_) => Answer::refusal(Refusal::NoMemory),
+    }
+}
+
+/// Answers a request whose target says this. The access code comes first: it alone is looked up, without memory, until
+/// the request has shown it. So a stranger's request takes no memory here, and makes no rows of a candidate.
+fn answer_found<S: Alter>(
+    alloc: Global,
+    store: &mut Store<S>,
+    today: Day,
+    request: &Request<'_>,
+    found: Option<Found<'_>>,
+) -> Answer
+    requires { option_map targets.shown found ≡ targets.reading request.now.target.now }
+    ensures { spec.AnswersFound S.Store today store.old (request_of request.now) result store.new }
+{
+    let named = named_by(store, &found);
+    match choose(alloc, request, found, named) {
+        Ok(choice) => done(alloc, store, today, choice),
         Err(refusal) => Answer::refusal(refusal),
     }
 }
 
-/// What is done for a request, and the own rows of the candidate whom it names.
-fn chosen<S: Alter>(
-    alloc: Global,
-    store: &mut Store<S>,
-    request: &Request<'_>,
-) -> Result<(Choice, Option<Own>), Refusal>
-    ensures choice { IfOk result (λ r. r.0 ≡ spec.choice_in store.old.office (request_of request.now)) }
-    ensures own { IfOk result (λ r. option_map shown r.1 ≡ spec.own_named store.old.office (request_of request.now)) }
-    ensures memory { IfErr result (λ e. e ≡ NoMemory) }
-    ensures same { store.new ≡ store.old }
+/// The candidate whom a target names, if there is one.
+fn named_by<S: Alter>(store: &Store<S>, found: &Option<Found<'_>>) -> Option<Named>
+    ensures { result ≡ option_map spec.named_as (option_and_then (own_of store.now.office)
+        (number_named (option_map targets.shown found.now))) }
 {
-    let Ok(routes) = server_routes(alloc) else {
-        return Err(Refusal::NoMemory);
-    };
-    let found = find(&routes, request.target);
-    let own = own_rows(alloc, store, &found)?;
-    let choice = choose(alloc, request, found, own.as_ref())?;
-    Ok((choice, own))
+    let number = candidate_of(found)?;
+    let code = store.access_code(number)?;
+    Some(Named { number, code })
 }
 
-/// The own rows of the candidate whom a target names.
-fn own_rows<S: Alter>(
-    alloc: Global,
-    store: &mut Store<S>,
-    found: &Option<Found<'_>>,
-) -> Result<Option<Own>, Refusal>
-    ensures ok { IfOk result (λ own. option_map shown own
-        ≡ option_and_then (own_of store.old.office) (number_named (option_map targets.shown found.now))) }
-    ensures memory { IfErr result (λ e. (e ≡ NoMemory) × IsSome (option_and_then (own_of store.old.office)
-        (number_named (option_map targets.shown found.now)))) }
-    ensures same { store.new ≡ store.old }
-{
-    match candidate_of(found) {
-        Some(number) => store.view_candidate(alloc, number),
-        None => Ok(None),
-    }
-}
-
-/// Does what was chosen, and tells of it.
-fn done<S: Alter>(
-    alloc: Global,
-    store: &mut Store<S>,
-    today: Day,
-    choice: Choice,
-    own: Option<Own>,
-) -> Answer
-    ensures { spec.IsBusy store.old result store.new ⊎ spec.Does S.Store today (option_map shown own)
-        store.old choice result store.new }
+/// Does what was chosen, and answers it.
+fn done<S: Alter>(alloc: Global, store: &mut Store<S>, today: Day, choice: Choice) -> Answer
+    requires { spec.IsOfOffice store.old.office choice }
+    ensures { spec.MayDo S.Store today store.old choice result store.new }
 {
     match choice {
         Choice::Fault(fault) => Answer::error(fault.number()),
         Choice::OtherMethod(route) => Answer::other_method(route),
         Choice::Refused(refusal) => Answer::refusal(refusal),
-        Choice::ShowSeats => seats(alloc, &own),
-        Choice::ShowClashes => clashes(alloc, &own),
-        Choice::ShowAppeals => appeals(alloc, &own),
-        Choice::Do(command) => told(store.apply(alloc, &command, today)),
+        Choice::Show(number, page) => show(alloc, store, number, page),
+        Choice::Lodge(lodging) => told(store.apply(alloc, &Command::Lodge(lodging), today)),
+        Choice::Retract(number, reference) => {
+            told(store.apply(alloc, &Command::Retract(number, reference), today))
+        }
     }
 }
 
-/// The answer that shows a candidate their seats.
-fn seats(alloc: Global, own: &Option<Own>) -> Answer
-    ensures body { (result ≡ refusal_told NoMemory) ⊎ spec.Shows bodies.seats_body (option_map shown own.now) result }
-    ensures unknown { IfNone own.now (result ≡ refusal_told UnknownCandidate) }
+/// Shows a candidate a page, over their own rows, which are made here and nowhere else.
+fn show<S: Alter>(alloc: Global, store: &mut Store<S>, number: Number, page: Page) -> Answer
+    requires { IsSome (own_of store.old.office number) }
+    ensures body { (result ≡ refusal_told NoMemory) ⊎ IsSomeAnd (own_of store.old.office number)
+        (λ own. result ≡ ok_told (bodies.page_body page own)) }
+    ensures same { store.new ≡ store.old }
 {
-    match own {
-        Some(own) => with_body(seats_body(alloc, own)),
-        None => Answer::refusal(Refusal::UnknownCandidate),
-    }
-}
-
-/// The answer that shows a candidate their clashes.
-fn clashes(alloc: Global, own: &Option<Own>) -> Answer
-    ensures body { (result ≡ refusal_told NoMemory) ⊎ spec.Shows bodies.clashes_body (option_map shown own.now) result }
-    ensures unknown { IfNone own.now (result ≡ refusal_told UnknownCandidate) }
-{
-    match own {
-        Some(own) => with_body(clashes_body(alloc, own)),
-        None => Answer::refusal(Refusal::UnknownCandidate),
-    }
-}
-
-/// The answer that shows a candidate their appeals.
-fn appeals(alloc: Global, own: &Option<Own>) -> Answer
-    ensures body { (result ≡ refusal_told NoMemory) ⊎ spec.Shows bodies.appeals_body (option_map shown own.now) result }
-    ensures unknown { IfNone own.now (result ≡ refusal_told UnknownCandidate) }
-{
-    match own {
-        Some(own) => with_body(appeals_body(alloc, own)),
-        None => Answer::refusal(Refusal::UnknownCandidate),
-    }
-}
-
-/// An answer with this body, or the answer to want of memory.
-fn with_body(body: Result<Vec<u8>, Refusal>) -> Answer
-    ensures ok { IfOk body (λ bytes. result ≡ ok_told bytes.items) }
-    ensures err { IfErr body (λ e. result ≡ refusal_told e) }
-{
-    match body {
-        Ok(bytes) => Answer::ok(bytes),
+    match own_page(alloc, store, number, page) {
+        Ok(body) => Answer::ok(body),
         Err(refusal) => Answer::refusal(refusal),
     }
+}
+
+fn own_page<S: Alter>(
+    alloc: Global,
+    store: &mut Store<S>,
+    number: Number,
+    page: Page,
+) -> Result<Vec<u8>, Refusal>
+    requires { IsSome (own_of store.old.office number) }
+    ensures body { IfOk result (λ body. IsSomeAnd (own_of store.old.office number)
+        (λ own. body.items ≡ bodies.page_body page own)) }
+    ensures memory { IfErr result (λ e. e ≡ NoMemory) }
+    ensures same { store.new ≡ store.old }
+{
+    let own = store.view_candidate(alloc, number)?.unwrap();
+    page_body(alloc, page, &own)
 }
 
 /// The answer to a lodging or a retraction.

@@ -4,14 +4,14 @@ ghost use Rattle.exam_request.specs.Answer.{Told};
 ghost use Rattle.exam_request.specs.Asked.{Request};
 ghost use Rattle.exam_request.specs.Choices.{IsStranger};
 ghost use Rattle.exam_store.specs.Stores.{OfficeIn};
-ghost use Rattle.exam_http.specs.Alike.{AreAlike};
-ghost use Rattle.exam_http.specs.Answering.{Answers, own_named};
+ghost use Rattle.exam_http.specs.Alike.{AreAlike, AreSame, stranger_told};
+ghost use Rattle.exam_http.specs.Answering.{Answers, AnswersFound, named_in, own_named};
 
 use exam_store::Store;
 use sqlite::Alter;
 
-/// Two offices that show the candidate whom a request names the same answer the request the same on a day,
-/// unless one of them fails: nobody learns anything of another candidate.
+/// Two offices show the candidate whom a request names the same. Then they answer the request the same on a day, unless
+/// one of them fails: so nobody learns anything of another candidate.
 pub fn own_rows_decide_an_answer<S: Alter, T: Alter>(one: &Store<S>, other: &Store<T>)
     ensures { (today : ℕ) (request : Request) (one_after : OfficeIn S) (other_after : OfficeIn T)
         (first second : Told) → own_named one.now.office request ≡ own_named other.now.office request
@@ -22,14 +22,18 @@ pub fn own_rows_decide_an_answer<S: Alter, T: Alter>(one: &Store<S>, other: &Sto
     other.show_good();
 }
 
-/// What a stranger is answered hangs on the request alone, and changes nothing: two offices, whatever they hold,
-/// of neither of which a request shows the code of the candidate whom it names, answer it the same on any days,
-/// unless one of them fails.
+/// A stranger's request does not show the code of the candidate whom it names, or there is no such candidate. Once its
+/// routes are made, its answer is one function of the request, whatever the office holds and whatever the day, nothing
+/// changes, and no memory is taken. Before that, memory may run out for the routes.
 pub fn strangers_are_answered_alike<S: Alter, T: Alter>()
-    ensures { (today later : ℕ) (request : Request) (one one_after : OfficeIn S) (other other_after : OfficeIn T)
-        (first second : Told) → IsStranger request (own_named one.office request)
-        → IsStranger request (own_named other.office request)
+    ensures found { (today : ℕ) (request : Request) (one one_after : OfficeIn S) (told : Told)
+        → IsStranger request (named_in one.office request)
+        → AnswersFound S.Store today one request told one_after
+        → (told ≡ stranger_told request) × (one_after ≡ one) }
+    ensures whole { (today later : ℕ) (request : Request) (one one_after : OfficeIn S) (other other_after : OfficeIn T)
+        (first second : Told) → IsStranger request (named_in one.office request)
+        → IsStranger request (named_in other.office request)
         → Answers S.Store today one request first one_after
         → Answers T.Store later other request second other_after
-        → AreAlike first second × (one_after ≡ one) }
+        → AreSame first second × (one_after ≡ one) }
 {}

@@ -24,7 +24,7 @@ pub enum HttpFault {
 }
 
 impl HttpFault {
-    /// The number by which the fault is told.
+    /// The number that is printed for the fault.
     pub fn number(self) -> u16
         ensures { result ≡ spec.http_fault_number self }
     {
@@ -35,12 +35,12 @@ impl HttpFault {
     }
 }
 
-/// The greatest head with the greatest body, in bytes.
+/// The length of the longest head and the longest body together.
 const LONGEST_REQUEST: usize = 12_288;
 
-/// Reads one request and writes one answer. After `Read` nothing was written and nothing changed; after `Write`
-/// a beginning of the answer went out, not all of it, and a command stands as it was answered. Whatever came in and
-/// went out, every session is seated as promised.
+/// Reads one request and writes one answer. After `Read` nothing was written and nothing changed. After `Write` a
+/// beginning of the answer went out, not all of it, and a command that was carried out is not undone. Whatever came in
+/// and went out, every session is seated as promised.
 pub fn serve_one<S: Alter, R: Read, W: Write>(
     alloc: Global,
     store: &mut Store<S>,
@@ -62,7 +62,7 @@ pub fn serve_one<S: Alter, R: Read, W: Write>(
     }
 }
 
-/// Answers what was asked.
+/// Answers what was asked, and writes the answer.
 fn write_back<S: Alter, W: Write>(
     alloc: Global,
     store: &mut Store<S>,

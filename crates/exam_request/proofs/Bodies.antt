@@ -95,7 +95,7 @@ parts buf n k filled h =
     let e : filled ≡ n + m = omega arith in
     (take-take n filled buf (omega arith), ap (λ f. take k (drop n (take f buf))) e ∙ ap (take k) (drop-take n m buf) ∙ take-take k m (drop n buf) (omega arith))
 
--- a message that is in hand stands in the buffer
+-- a message that is in hand lies in the buffer
 pub message_in : (old new : Option (List ℕ)) (buf : List ℕ) (n : ℕ) (s : HeadSpans) (filled : ℕ) → HeadRead old new (take filled buf) n → JudgedAt (take n (take filled buf)) s
     → n + s.body_length ≤ filled → filled ≤ length buf → filled ≤ 12288 → FindsMessage old new buf (Ok (record { head = n; spans = s }))
 message_in old new buf n s filled h j few size most =

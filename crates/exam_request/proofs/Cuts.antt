@@ -13,7 +13,7 @@ pub record IsWhole (path : List ℕ) : Type 0 where
   pub segment_is : segment path ≡ path
   pub slash : has_slash path ≡ false
 
--- a path with a slash, and what stands behind the first
+-- a path with a slash, and the bytes behind the first
 pub record IsCut (path rest : List ℕ) : Type 0 where
   pub behind_is : behind path ≡ Some rest
   pub text : path ≡ part path ++ 47 ∷ rest
@@ -45,7 +45,7 @@ no_slash_later (suc n) (b ∷ path) h = by (b == 47) h (no_slash_later n path)
     by true h later = absurd (true≢false h)
     by false h later = later h
 
--- a parameter before a slash leaves the slash where something stands before it
+-- a parameter before a slash leaves the slash if some byte precedes it
 pub cuts_none : (path : List ℕ) → has_slash path ≡ false → cuts path (47 ∷ []) ≡ false
 cuts_none path h = by (pointwise nat_eq (47 ∷ []) (drop (length path - 1) path)) refl
   where

@@ -1,4 +1,4 @@
--- A day has no byte that JSON escapes, so its text stands in the body as it is.
+-- A day has no byte that JSON escapes, so its text is in the body as it is.
 use Rattle.std.proofs.Common.{◌≡◌, ◌∙◌, ◌++◌, ◌+◌, ◌<◌, ◌%◌, ◌/◌, ℕ, zero, suc, List, [], ◌∷◌, refl, sym, ap, subst, append_assoc, arith}
 use Rattle.std.specs.Prelude.{codes}
 use Rattle.std.specs.Fmt.{digits as decimal_digits}

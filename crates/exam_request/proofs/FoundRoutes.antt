@@ -51,7 +51,7 @@ pub is_text : (t : List ℕ) → ((i : ℕ) → Fits w8 (get_or t i 0)) → IsTe
 is_text [] h = tt
 is_text (b ∷ t) h = (omega (arith, (h 0).fits), is_text t (λ i. h (suc i)))
 
--- ---- where the parts stand
+-- ---- where the parts lie
 
 number_stands : (route : Route) (n r : List ℕ) → IsPart n → part (n ++ behind_number route r) ≡ n
 number_stands Seats n r h = (part_ends n (codes "seats") h.1).0

@@ -1,4 +1,4 @@
--- An answer: what it tells, and its bytes.
+-- An answer: what it says, and its bytes.
 use Rattle.std.specs.Prelude.{ℕ, List, [], ◌∷◌, ◌++◌, ◌==◌, ◌||◌, ◌&&◌, Option, Some, None, codes}
 use Rattle.std.specs.Prelude.{decimal, length, nat_le, if◌then◌else◌}
 use Rattle.http.specs.StatusCode.{code_digits}
@@ -38,7 +38,7 @@ phrase_text n =
     else if n == 503 then codes "Service Unavailable"
     else []
 
--- what an answer tells: its status, in an answer 405 the route whose methods are allowed, and its body
+-- what an answer says: its status, in an answer 405 the route whose methods are allowed, and its body
 pub record Told : Type 0 where
   pub status : ℕ
   pub allow : Option Route
@@ -52,7 +52,7 @@ status_line n = codes "HTTP/1.1 " ++ (code_digits n ++ (32 ∷ (phrase_text n ++
 abbrev pub header_line : List ℕ → List ℕ → List ℕ
 header_line name value = name ++ (codes ": " ++ (value ++ codes "\r\n"))
 
--- the line of the methods, where there is one
+-- the line of the methods, if there is one
 abbrev pub allow_line : Option Route → List ℕ
 allow_line None = []
 allow_line (Some route) = header_line (codes "Allow") (allow_text route)
@@ -101,6 +101,6 @@ abbrev pub refusal_told : Refusal → Told
 refusal_told (PastClosing day) = closing_told day
 refusal_told refusal = error_told (refusal_number refusal)
 
--- the answer to an accepted lodging or retraction: where the appeal stands
+-- the answer to an accepted lodging or retraction: the state of the appeal
 abbrev pub state_told : AppealState → Told
 state_told state = ok_told (object_text ((codes "state", text (state_word state)) ∷ []))

@@ -63,7 +63,7 @@ IsAnswerTo (Ok done) input = Asks input (asked_of done)
 
 -- Where a request lies in a buffer.
 
--- the head stands first, and the body behind it
+-- the head comes first, and the body behind it
 abbrev pub request_at : List ℕ → Message → Request
 request_at buffer m =
     request_with (said_at (take m.head buffer) m.spans) (take m.spans.body_length (drop m.head buffer))

@@ -1,4 +1,4 @@
--- The bodies that show a candidate their own rows: members stand in rising byte order of their names.
+-- The bodies that show a candidate their own rows: members come in rising byte order of their names.
 use Rattle.std.specs.Prelude.{ℕ, List, [], ◌∷◌, Option, Some, None, codes, map}
 use Rattle.std.specs.List.{flat_map}
 use Rattle.exam_office.specs.Appeals.{state_of}
@@ -12,6 +12,8 @@ use Rattle.exam_office.specs.declared.own.OwnAppeal.{OwnAppeal}
 use Rattle.exam_request.specs.Json.{Object, flag, list_body, number, or_null, text}
 use Rattle.exam_office.specs.Own.{OwnRows, OwnSessionRow}
 use Rattle.exam_request.specs.declared.own_bodies.MissedPaper.{MissedPaper}
+use Rattle.exam_request.specs.declared.own_bodies.Page.{Page}
+use Rattle.exam_request.specs.declared.own_bodies.Page.TheVariants as page
 use Rattle.exam_office.specs.Words.{kind_word, state_word, subject_text}
 
 -- ---- seats
@@ -62,7 +64,7 @@ clashes_body own = list_body (codes "clashes") (map clash_object (missed_papers 
 
 -- ---- appeals
 
--- the reason of the decision, where there was one
+-- the reason of the decision, if there was one
 abbrev pub decision_reason : Status → Option (List ℕ)
 decision_reason status.Pending = None
 decision_reason (status.Granted answer) = Some answer
@@ -87,3 +89,11 @@ appeal_object own =
 -- all of the candidate's appeals, by reference
 abbrev pub appeals_body : OwnRows → List ℕ
 appeals_body own = list_body (codes "appeals") (map appeal_object own.appeals)
+
+-- ---- a page
+
+-- the body of each page
+abbrev pub page_body : Page → OwnRows → List ℕ
+page_body page.Seats own = seats_body own
+page_body page.Clashes own = clashes_body own
+page_body page.Appeals own = appeals_body own

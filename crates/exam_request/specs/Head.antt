@@ -49,7 +49,7 @@ only_place Absent = None
 only_place (One place) = Some place
 only_place Many = None
 
--- the value of the one line, where there is one
+-- the value of the one line, if there is one
 abbrev pub only_value : Found → Option (List ℕ)
 only_value absent = None
 only_value (one value) = Some value
@@ -80,7 +80,7 @@ length_from value =
     (if nat_lt 4096 (digits_value value) then Err Size else Ok (digits_value value))
     else Err Length
 
--- the length of the body, which is nothing where no line gives it
+-- the length of the body, which is 0 if no line gives it
 abbrev pub length_in : Found → Result ℕ Fault
 length_in absent = Ok 0
 length_in (one value) = length_from value
@@ -97,7 +97,7 @@ pub record Said : Type 0 where
 abbrev pub lines_of : List ℕ → RequestHead → Found
 lines_of name h = found_in (values_of name (map name_and_value h.fields))
 
--- what a head says, where the length of its body is one
+-- what a head says, if the length of its body is one
 abbrev pub with_length : RequestHead → Result ℕ Fault → Result Said Fault
 with_length h (Err fault) = Err fault
 with_length h (Ok n) = Ok (record {

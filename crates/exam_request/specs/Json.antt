@@ -2,18 +2,18 @@
 use Rattle.std.specs.Prelude.{ℕ, Bool, true, false, List, [], ◌∷◌, ◌++◌, Option, Some, None, codes, decimal}
 use Rattle.json.specs.Print.{quoted}
 
--- what stands at a member
+-- the value of a member
 pub data Datum : Type 0 where
   null : Datum
   number : ℕ → Datum
   flag : Bool → Datum
   text : List ℕ → Datum
 
--- the members, each a name and what stands there
+-- the members, each a name and its value
 abbrev pub Object : Type 0
 Object = List (List ℕ × Datum)
 
--- what stands at a member, as it is written: a text stands in quotes, with a backslash before a quote or a backslash
+-- a value as it is written: a text has quotes around it, and a backslash before a quote or a backslash
 abbrev pub text_of : Datum → List ℕ
 text_of null = codes "null"
 text_of (number n) = decimal n
@@ -26,12 +26,12 @@ abbrev pub or_null : {A : Type 0} → (A → Datum) → Option A → Datum
 or_null f None = null
 or_null f (Some x) = f x
 
--- a list's texts: `before` stands before the first, a comma before each other, and `close` behind the last
+-- a list's texts: `before` precedes the first, a comma each other, and `close` follows the last
 abbrev pub listed : {A : Type 0} → (A → List ℕ) → List ℕ → List ℕ → List A → List ℕ
 listed f before close [] = close
 listed f before close (x ∷ rest) = before ++ (f x ++ listed f (codes ",") close rest)
 
--- a name in quotes, a colon and what stands there
+-- a name in quotes, a colon and the value
 abbrev pub member_text : List ℕ × Datum → List ℕ
 member_text m = quoted m.0 ++ (codes ":" ++ text_of m.1)
 

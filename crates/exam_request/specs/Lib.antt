@@ -4,12 +4,12 @@
 --   first fault; what a request asks
 -- - Posted: what the body of a posting lodges
 -- - Targets, Table: how a target is read, and the table of routes that gives it
--- - Methods, Choices: the methods of each route; what is done for a request, by the candidate's own
---   rows
+-- - Methods, Choices: the methods of each route; what is done for a request, by the candidate whom it
+--   names and their access code
 -- - Json, Bodies: how members are written; the bodies that show a candidate their rows
 -- - Faults, Answer: the numbers of faults; the status, head and body of each answer
--- - Values, SeatRows, Written: what the program's own parts stand for: the serde_json value that an
---   object is written from, the texts of a seat, the body of an answer
+-- - Values, SeatRows, Written: what the program's own parts mean: the serde_json value that an object
+--   is written from, the texts of a seat, the body of an answer
 pub mod Answer
 pub mod Asked
 pub mod Bodies

@@ -11,7 +11,7 @@ is_allowed Clashes method = bytes_eq method (codes "GET")
 is_allowed Appeals method = bytes_eq method (codes "GET") || bytes_eq method (codes "POST")
 is_allowed Appeal method = bytes_eq method (codes "DELETE")
 
--- the route's methods, as a refused one is told them
+-- the route's methods, as the answer to any other method lists them
 abbrev pub allow_text : Route → List ℕ
 allow_text Seats = codes "GET"
 allow_text Clashes = codes "GET"

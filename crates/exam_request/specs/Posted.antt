@@ -21,7 +21,7 @@ abbrev pub count_of : json.Members → ℕ
 count_of json.no_members = 0
 count_of (json.member name value rest) = suc (count_of rest)
 
--- how many members the object has as it is written, where a name that comes twice counts twice
+-- how many members the object has as it is written: a name that comes twice counts twice
 abbrev pub members_written : List ℕ → Option ℕ
 members_written text = option_map count_of (option_and_then json_find.as_object (json.document text))
 
@@ -29,7 +29,7 @@ members_written text = option_map count_of (option_and_then json_find.as_object 
 abbrev pub text_at : List ℕ → Data → Option (List ℕ)
 text_at name value = option_and_then as_str (get name value)
 
--- the same, where it has the form of its value
+-- the same, if it has the form of its value
 abbrev pub value_at : (List ℕ → Bool) → List ℕ → Data → Option (List ℕ)
 value_at is_value name value =
     option_and_then (λ text. if is_value text then Some text else None) (text_at name value)

@@ -8,7 +8,7 @@ use Rattle.matchit.specs.declared.error.InsertError.{InsertError}
 use Rattle.exam_request.specs.declared.routes.Route.{Route}
 use Rattle.exam_request.specs.declared.routes.Route.TheVariants.{Appeal, Appeals, Clashes, Seats}
 
--- the routes and one more, where its text reads as a route
+-- the routes and one more, if its text reads as a route
 abbrev pub with_read : Result Scan InsertError → Route → RowsOf (RouteOf Route) → RowsOf (RouteOf Route)
 with_read (Ok s) route rows = placed ((route_from s route).pattern, route_from s route) rows
 with_read (Err e) route rows = rows

@@ -7,7 +7,7 @@ use Rattle.exam_request.specs.declared.routes.Found.{Found}
 use Rattle.exam_request.specs.declared.routes.Route.{Route}
 use Rattle.exam_request.specs.declared.routes.Route.TheVariants.{Appeal, Appeals, Clashes, Seats}
 
--- a route with what stands for its names; the reference is empty where the route has none
+-- a route with the parts that fill its names; the reference is empty if the route has none
 pub record Target : Type 0 where
   pub route : Route
   pub number : List ℕ
@@ -22,12 +22,12 @@ abbrev pub part : List ℕ → List ℕ
 part [] = []
 part (b ∷ rest) = if b == 47 then [] else b ∷ part rest
 
--- the bytes behind the first slash, where there is one
+-- the bytes behind the first slash, if there is one
 abbrev pub behind : List ℕ → Option (List ℕ)
 behind [] = None
 behind (b ∷ rest) = if b == 47 then Some rest else behind rest
 
--- the bytes behind a beginning, where they begin with it
+-- the bytes behind a beginning, if they begin with it
 abbrev pub rest_after : List ℕ → List ℕ → Option (List ℕ)
 rest_after [] text = Some text
 rest_after (b ∷ bs) [] = None
@@ -38,13 +38,13 @@ abbrev pub is_empty : List ℕ → Bool
 is_empty [] = true
 is_empty (b ∷ rest) = false
 
--- what stands behind the slash after `appeals`: a reference, to the end of the target
+-- the target behind the slash after `appeals`: a reference, to the end
 abbrev pub at_reference : List ℕ → List ℕ → Option Target
 at_reference number text =
     if is_empty text || has_slash text then None
     else Some (record { route = Appeal; number = number; reference = text })
 
--- what stands behind the slash after the number
+-- the target behind the slash after the number
 abbrev pub at_number : List ℕ → List ℕ → Option Target
 at_number number text =
     if bytes_eq text (codes "seats") then Some (record { route = Seats; number = number; reference = [] })
@@ -54,7 +54,7 @@ at_number number text =
     Some (record { route = Appeals; number = number; reference = [] })
     else option_and_then (at_reference number) (rest_after (codes "appeals/") text)
 
--- what stands behind `/candidates/`: a number and more
+-- the target behind `/candidates/`: a number and more
 abbrev pub at_candidates : List ℕ → Option Target
 at_candidates text =
     if is_empty (part text) then None else option_and_then (at_number (part text)) (behind text)
@@ -63,7 +63,7 @@ at_candidates text =
 abbrev pub reading : List ℕ → Option Target
 reading target = option_and_then at_candidates (rest_after (codes "/candidates/") target)
 
--- where the reference stands in a target with a number of this length
+-- the reference in a target with a number of this length
 abbrev pub reference_in : Route → ℕ → List ℕ → List ℕ
 reference_in Seats number target = []
 reference_in Clashes number target = []
@@ -74,7 +74,7 @@ reference_in Appeal number target = part (drop (number + 21) target)
 abbrev pub IsPart : List ℕ → Type 0
 IsPart text = (0 < length text) × (has_slash text ≡ false)
 
--- what stands behind the number in the text of a target
+-- the text of a target behind its number
 abbrev pub behind_number : Route → List ℕ → List ℕ
 behind_number Seats reference = codes "/seats"
 behind_number Clashes reference = codes "/clashes"
@@ -85,13 +85,13 @@ behind_number Appeal reference = codes "/appeals/" ++ reference
 abbrev pub target_text : Target → List ℕ
 target_text t = codes "/candidates/" ++ t.number ++ behind_number t.route t.reference
 
--- a part where the route has a reference, and nothing where it has none
+-- a part if the route has a reference, and nothing if it has none
 abbrev pub IsReferenceOf : Route → List ℕ → Type 0
 IsReferenceOf Seats reference = reference ≡ []
 IsReferenceOf Clashes reference = reference ≡ []
 IsReferenceOf Appeals reference = reference ≡ []
 IsReferenceOf Appeal reference = IsPart reference
 
--- the parts may stand in a target of this route
+-- a target of this route can have these parts
 abbrev pub HasParts : Target → Type 0
 HasParts t = IsPart t.number × IsReferenceOf t.route t.reference

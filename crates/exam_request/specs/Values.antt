@@ -3,7 +3,7 @@ use Rattle.std.specs.Prelude.{[], ◌∷◌}
 use Rattle.serde_json.specs.Data as values
 use Rattle.exam_request.specs.Json.{Datum, Object, flag, null, number, text}
 
--- what stands at a member
+-- the value of a member
 abbrev pub data_of : Datum → values.Data
 data_of null = values.null
 data_of (number n) = values.number (values.unsigned n)

@@ -41,7 +41,7 @@ impl Body {
     }
 }
 
-/// An answer. Contracts see what it tells.
+/// An answer. Contracts see its status, the route of its line `Allow`, and its body.
 #[derive(Drop)]
 pub struct Answer {
     status: StatusCode,

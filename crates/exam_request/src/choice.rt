@@ -1,21 +1,31 @@
-//! What is done for a request, by what it asks and the rows of the candidate that it names.
-ghost use Rattle.std.specs.Prelude.{◌≡◌, IfOk, IfErr, Some, option_map};
+//! What is done for a request, by what it asks and the candidate whom it names.
+ghost use Rattle.std.specs.Prelude.{◌≡◌, IfOk, IfErr, IfSome, option_map};
 ghost use Rattle.exam_types.specs.declared.refusal.Refusal.TheVariants.{NoMemory};
 ghost use Rattle.exam_request.specs.Asked.{request_of};
 ghost use Rattle.exam_request.specs.Choices as spec;
 ghost use Rattle.exam_request.specs.Posted.{IsReadable};
-ghost use Rattle.exam_office.specs.Own.{shown};
 ghost use Rattle.exam_request.specs.Targets as targets;
 
 use crate::fault::Fault;
 use crate::methods::{allows, is_posting};
+use crate::own_bodies::Page;
 use crate::posted::{Posted, posted_in};
 use crate::reading::Request;
 use crate::routes::{Found, Route};
 use crate::secret::is_secret;
-use exam_office::{Command, Lodging, Own};
+use exam_office::Lodging;
 use exam_types::{AccessCode, Number, Reference, Refusal};
 use std::alloc::Global;
+
+/// What the code of a request is compared with if there is no such candidate. Showing it lets nobody in.
+const CODE_OF_NOBODY: &[u8] = b"00000000";
+
+/// The candidate whom a request names, and the code that lets them in.
+#[derive(Clone, Copy)]
+pub struct Named {
+    pub number: Number,
+    pub code: AccessCode,
+}
 
 /// What is done for a request.
 #[derive(Drop)]
@@ -26,17 +36,15 @@ pub enum Choice {
     OtherMethod(Route),
     /// The request is refused.
     Refused(Refusal),
-    /// The candidate is shown their seats.
-    ShowSeats,
-    /// The candidate is shown their clashes.
-    ShowClashes,
-    /// The candidate is shown their appeals.
-    ShowAppeals,
-    /// The candidate lodges an appeal, or takes one back.
-    Do(Command),
+    /// The candidate is shown a page.
+    Show(Number, Page),
+    /// The candidate lodges an appeal.
+    Lodge(Lodging),
+    /// The candidate takes an appeal back.
+    Retract(Number, Reference),
 }
 
-/// The candidate whom a target names: the rows of this number are the own rows of the request.
+/// The candidate whom a target names, whether the office has one of this number or not.
 pub fn candidate_of(found: &Option<Found<'_>>) -> Option<Number>
     ensures { result ≡ spec.number_named (option_map targets.shown found.now) }
 {
@@ -46,23 +54,20 @@ pub fn candidate_of(found: &Option<Found<'_>>) -> Option<Number>
     }
 }
 
-/// What is done for a request that has this route, by the own rows of the candidate whom it names; none where
-/// there is no such candidate. Refused where there is not enough memory: it is taken only for a text that is
-/// posted with the candidate's code.
+/// What is done for a request whose target says this, by the candidate whom it names, if there is one. Refused if
+/// memory runs out, which only a text that is posted with the candidate's code can cause.
 pub fn choose(
     alloc: Global,
     request: &Request<'_>,
     found: Option<Found<'_>>,
-    own: Option<&Own>,
+    named: Option<Named>,
 ) -> Result<Choice, Refusal>
     requires { option_map targets.shown found ≡ targets.reading request.now.target.now }
-    ensures ok { IfOk result (λ choice. choice
-        ≡ spec.choice_of (request_of request.now) (option_map (λ o. shown o.now) own.entry)) }
-    ensures memory { IfErr result (λ e. (e ≡ NoMemory)
-        × spec.ReadsText (request_of request.now) (option_map (λ o. shown o.now) own.entry)) }
+    ensures ok { IfOk result (λ choice. choice ≡ spec.choice_of (request_of request.now) named) }
+    ensures memory { IfErr result (λ e. (e ≡ NoMemory) × spec.ReadsText (request_of request.now) named) }
 {
     match found {
-        Some(found) => choose_at(alloc, request, found, own),
+        Some(found) => choose_at(alloc, request, found, named),
         None => Ok(Choice::Fault(Fault::Route)),
     }
 }
@@ -71,47 +76,55 @@ fn choose_at(
     alloc: Global,
     request: &Request<'_>,
     found: Found<'_>,
-    own: Option<&Own>,
+    named: Option<Named>,
 ) -> Result<Choice, Refusal>
-    ensures ok { IfOk result (λ choice. choice ≡ spec.choice_at (request_of request.now)
-        (option_map (λ o. shown o.now) own.entry) (targets.shown found.entry)) }
-    ensures memory { IfErr result (λ e. (e ≡ NoMemory)
-        × spec.ShowsCode (request_of request.now) (option_map (λ o. shown o.now) own.entry)
+    ensures ok { IfOk result (λ choice. choice
+        ≡ spec.choice_at (request_of request.now) named (targets.shown found.entry)) }
+    ensures memory { IfErr result (λ e. (e ≡ NoMemory) × spec.ShowsCode (request_of request.now) named
         × spec.PostsText (request_of request.now) (targets.shown found.entry)) }
 {
-    if !allows(found.route, request.method) {
-        return Ok(Choice::OtherMethod(found.route));
-    }
-    match own {
-        Some(own) => choose_for(alloc, request, found, own),
-        None => Ok(Choice::Refused(Refusal::UnknownCandidate)),
+    if allows(found.route, request.method) {
+        choose_known(alloc, request, found, named)
+    } else {
+        Ok(Choice::OtherMethod(found.route))
     }
 }
 
-fn choose_for(
+/// Compares the code first. An unknown candidate takes the same steps as one whose code the request does not show,
+/// so that the time of an answer does not tell which of the two it is.
+fn choose_known(
     alloc: Global,
     request: &Request<'_>,
     found: Found<'_>,
-    own: &Own,
+    named: Option<Named>,
 ) -> Result<Choice, Refusal>
-    ensures ok { IfOk result (λ choice. choice ≡ spec.choice_for (request_of request.now)
-        (targets.shown found.entry) (shown own.now)) }
-    ensures memory { IfErr result (λ e. (e ≡ NoMemory)
-        × spec.ShowsCode (request_of request.now) (Some (shown own.now))
+    ensures ok { IfOk result (λ choice. choice
+        ≡ spec.choice_of_known (request_of request.now) (targets.shown found.entry) named) }
+    ensures memory { IfErr result (λ e. (e ≡ NoMemory) × spec.ShowsCode (request_of request.now) named
         × spec.PostsText (request_of request.now) (targets.shown found.entry)) }
 {
-    if has_code(request.code, &own.code) {
-        choose_own(alloc, request, found, own.number)
-    } else {
-        Ok(Choice::Refused(Refusal::UnknownCandidate))
+    let shows_code = has_code(request.code, code_of(&named));
+    match named {
+        Some(named) if shows_code => choose_own(alloc, request, found, named.number),
+        _ => Ok(Choice::Refused(Refusal::UnknownCandidate)),
     }
 }
 
-fn has_code(given: Option<&[u8]>, code: &AccessCode) -> bool
+/// The code of the candidate, or of nobody if there is none.
+fn code_of(named: &Option<Named>) -> &[u8]
+    ensures { IfSome named.now (λ n. result.now ≡ n.code) }
+{
+    match named {
+        Some(named) => named.code.as_bytes(),
+        None => CODE_OF_NOBODY,
+    }
+}
+
+fn has_code(given: Option<&[u8]>, code: &[u8]) -> bool
     ensures { result ≡ spec.has_code (option_map (λ g. g.now) given.entry) code.now }
 {
     match given {
-        Some(given) => is_secret(given, code.as_bytes()),
+        Some(given) => is_secret(given, code),
         None => false,
     }
 }
@@ -129,10 +142,10 @@ fn choose_own(
         × spec.PostsText (request_of request.now) (targets.shown found.entry)) }
 {
     match found.route {
-        Route::Seats => Ok(Choice::ShowSeats),
-        Route::Clashes => Ok(Choice::ShowClashes),
+        Route::Seats => Ok(Choice::Show(number, Page::Seats)),
+        Route::Clashes => Ok(Choice::Show(number, Page::Clashes)),
         Route::Appeals if is_posting(request.method) => lodging(alloc, number, request.body),
-        Route::Appeals => Ok(Choice::ShowAppeals),
+        Route::Appeals => Ok(Choice::Show(number, Page::Appeals)),
         Route::Appeal => Ok(retraction(number, found.reference)),
     }
 }
@@ -142,7 +155,7 @@ fn lodging(alloc: Global, number: Number, body: &[u8]) -> Result<Choice, Refusal
     ensures memory { IfErr result (λ e. (e ≡ NoMemory) × IsReadable body.now) }
 {
     match posted_in(alloc, body)? {
-        Some(posted) => Ok(Choice::Do(Command::Lodge(lodged(number, posted)))),
+        Some(posted) => Ok(Choice::Lodge(lodged(number, posted))),
         None => Ok(Choice::Fault(Fault::Body)),
     }
 }
@@ -163,7 +176,7 @@ fn retraction(number: Number, reference: &[u8]) -> Choice
     ensures { result ≡ spec.retraction number reference.now }
 {
     match Reference::parse(reference) {
-        Some(reference) => Choice::Do(Command::Retract(number, reference)),
+        Some(reference) => Choice::Retract(number, reference),
         None => Choice::Refused(Refusal::UnknownAppeal),
     }
 }

@@ -11,7 +11,7 @@ pub enum Fault {
     /// more than 32 lines, or a bare line feed.
     #[error("the head is not one")]
     Head,
-    /// The host is not given as its version wants (RFC 9112, section 3.2): once in HTTP/1.1, at most once in 1.0.
+    /// The host is not given as the version demands (RFC 9112, section 3.2): once in HTTP/1.1, at most once in 1.0.
     #[error("the host line is missing or repeated")]
     Host,
     /// The length of the body is not one (RFC 9112, section 6.3), or the input is cut before the body ends.

@@ -45,7 +45,7 @@ pub fn judge(head: &[u8]) -> Result<HeadSpans, Fault>
     }
 }
 
-/// The request whose head is just these bytes, where there is room for its lines.
+/// The request whose head is just these bytes, if there is room for its lines.
 fn whole_request(head: &[u8], headers: &mut [HeaderSpan]) -> Option<RequestSpans>
     ensures within { IfSome result (IsRequestWithin head.now headers.new) }
     ensures whole { IfSome result (IsRequestOf head.now headers.new) }
@@ -84,7 +84,7 @@ fn said_by(head: &[u8], request: &RequestSpans, headers: &[HeaderSpan]) -> Resul
     })
 }
 
-/// Version 1.1 wants exactly one host line, and 1.0 at most one.
+/// Version 1.1 demands exactly one host line, and 1.0 at most one.
 fn has_right_host(minor: u8, host: Lines) -> bool
     ensures { (head : List ℕ) → result ≡ spec.has_right_host minor (spec.shown head host) }
 {
@@ -95,7 +95,7 @@ fn has_right_host(minor: u8, host: Lines) -> bool
     }
 }
 
-/// How long the body is, which is empty where no line says it.
+/// How long the body is: empty if no line says it.
 fn body_length(head: &[u8], lengths: Lines) -> Result<usize, Fault>
     requires { IfSome (spec.only_place lengths) (IsWithin (length head.now)) }
     ensures length { result ≡ spec.length_in (spec.shown head.now lengths) }

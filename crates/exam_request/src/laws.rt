@@ -1,10 +1,8 @@
 //! Laws that no call is needed for.
 ghost use Rattle.std.specs.Prelude.{◌≡◌, List, ℕ, Option, Result};
-ghost use Rattle.exam_office.specs.Own.{OwnRows};
-ghost use Rattle.exam_office.specs.declared.command.Command.{Command};
 ghost use Rattle.exam_request.specs.Asked.{Asks, Request};
 ghost use Rattle.exam_request.specs.Choices as spec;
-ghost use Rattle.exam_request.specs.declared.choice.Choice.TheVariants as choice;
+ghost use Rattle.exam_request.specs.declared.choice.Named.{Named};
 ghost use Rattle.exam_request.specs.declared.fault.Fault.{Fault};
 
 /// An input asks one thing: the bytes of a request alone determine what it asks, or its fault.
@@ -13,23 +11,22 @@ pub fn requests_ask_one_thing()
         → Asks input one → Asks input other → one ≡ other }
 {}
 
-/// Whoever does not show the code of the candidate whom they name is told the same, whether there is such a
-/// candidate or not.
+/// What is done for a stranger depends on the request alone, whether there is such a candidate or not. A stranger's
+/// request does not show the code of the candidate whom it names.
 pub fn strangers_are_told_alike()
-    ensures { (request : Request) (one other : Option OwnRows)
+    ensures { (request : Request) (one other : Option Named)
         → spec.IsStranger request one → spec.IsStranger request other
         → spec.choice_of request one ≡ spec.choice_of request other }
 {}
 
-/// No text of whoever does not show the code is read, so the choice for them wants no memory.
+/// No posted text of a stranger is read, so the choice for them takes no memory.
 pub fn texts_of_strangers_are_not_read()
-    ensures { (request : Request) (own : Option OwnRows) → spec.IsStranger request own
-        → spec.ReadsText request own → ⊥ }
+    ensures { (request : Request) (named : Option Named) → spec.IsStranger request named
+        → spec.ReadsText request named → ⊥ }
 {}
 
-/// A command is the lodging or the retraction of the candidate whom the request names and whose code it
-/// shows.
-pub fn commands_are_of_who_shows_the_code()
-    ensures { (request : Request) (own : Option OwnRows) (command : Command)
-        → spec.choice_of request own ≡ choice.Do command → spec.IsOwnCommand request own command }
+/// Only the candidate whom the request names, and whose code it shows, sees a page, lodges an appeal or takes one back.
+pub fn choices_are_of_who_shows_the_code()
+    ensures { (request : Request) (named : Option Named)
+        → spec.IsOwnChoice request named (spec.choice_of request named) }
 {}

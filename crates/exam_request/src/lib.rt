@@ -17,13 +17,13 @@ mod secret;
 mod status;
 
 pub use answers::{Answer, write_answer};
-pub use choice::{Choice, candidate_of, choose};
+pub use choice::{Choice, Named, candidate_of, choose};
 pub use fault::Fault;
 pub use laws::{
-    commands_are_of_who_shows_the_code, requests_ask_one_thing, strangers_are_told_alike,
+    choices_are_of_who_shows_the_code, requests_ask_one_thing, strangers_are_told_alike,
     texts_of_strangers_are_not_read,
 };
-pub use own_bodies::{appeals_body, clashes_body, seats_body};
+pub use own_bodies::{Page, appeals_body, clashes_body, page_body, seats_body};
 pub use posted::{Posted, posted_in};
 pub use reading::{Asked, ReadFailed, Request, read_request};
 pub use routes::{Found, Route, find, reading_is_exact, routes_read, server_routes};

@@ -25,7 +25,7 @@ pub fn put_text(object: &mut Object, alloc: Global, name: &str, text: &str) -> R
     Ok(serde_json::put(object, alloc, name, value)?)
 }
 
-/// Sets a member to a text, or to null where there is none.
+/// Sets a member to a text, or to null if there is none.
 pub fn put_text_or_null(
     object: &mut Object,
     alloc: Global,
@@ -66,7 +66,7 @@ pub fn put_flag(object: &mut Object, alloc: Global, name: &str, flag: bool) -> R
     Ok(serde_json::put(object, alloc, name, Value::Bool(flag))?)
 }
 
-/// Sets a member to a number, or to null where there is none.
+/// Sets a member to a number, or to null if there is none.
 pub fn put_number_or_null(
     object: &mut Object,
     alloc: Global,

@@ -19,6 +19,26 @@ use exam_types::{HallCode, PaperCode, Refusal, SessionCode};
 use serde_json::{Map, Value};
 use std::alloc::Global;
 
+/// What a candidate is shown.
+#[derive(Clone, Copy, Debug, PartialEq, Eq)]
+pub enum Page {
+    Seats,
+    Clashes,
+    Appeals,
+}
+
+/// The body that shows a candidate this page.
+pub fn page_body(alloc: Global, page: Page, own: &Own) -> Result<Vec<u8>, Refusal>
+    ensures ok { IfOk result (λ body. body.items ≡ spec.page_body page (shown own.now)) }
+    ensures memory { IfErr result (λ e. e ≡ NoMemory) }
+{
+    match page {
+        Page::Seats => seats_body(alloc, own),
+        Page::Clashes => clashes_body(alloc, own),
+        Page::Appeals => appeals_body(alloc, own),
+    }
+}
+
 /// The body that shows a candidate's seats.
 pub fn seats_body(alloc: Global, own: &Own) -> Result<Vec<u8>, Refusal>
     ensures ok { IfOk result (λ body. body.items ≡ spec.seats_body (shown own.now)) }
@@ -41,7 +61,7 @@ fn seat_values(alloc: Global, sessions: &[OwnSession]) -> Result<Vec<Value>, Ref
     Ok(values)
 }
 
-/// What is told of a seat and has no bytes of its own.
+/// The texts of a seat that the office does not keep as bytes.
 #[derive(Drop)]
 struct SeatTexts {
     date: Vec<u8>,
@@ -104,7 +124,7 @@ fn seat_value(alloc: Global, own: &OwnSession, texts: &SeatTexts) -> Result<Valu
     Ok(Value::Object(seat))
 }
 
-/// The code's text, where there is a hall.
+/// The code's text, if there is a hall.
 fn hall_text(hall: &Option<HallCode>) -> Option<&str>
     ensures { option_map (λ h. h.now) result ≡ hall.now }
 {
@@ -294,7 +314,7 @@ fn appeal_value_of(
     Ok(Value::Object(shown))
 }
 
-/// The reason of the decision, where there was one.
+/// The reason of the decision, if there was one.
 fn decision_reason(status: &Status) -> Option<&str>
     ensures { option_map (λ r. r.now) result ≡ spec.decision_reason status.now }
 {

@@ -33,8 +33,8 @@ pub struct Posted {
     pub reason: Reason,
 }
 
-/// What a body lodges, or none where it is not the JSON object (RFC 8259) of an appeal, with its members and no
-/// other, each once. Refused where there is not enough memory: it is taken only for a text, and not for an empty one.
+/// What a body lodges, or none if it is not the JSON object (RFC 8259) of an appeal, with its members and no other,
+/// each once. Refused if memory runs out, which only a text that is not empty can cause.
 pub fn posted_in(alloc: Global, body: &[u8]) -> Result<Option<Posted>, Refusal>
     ensures posted { IfOk result (λ posted. posted ≡ spec.posted_of body.now) }
     ensures memory { IfErr result (λ e. (e ≡ NoMemory) × spec.IsReadable body.now) }
@@ -45,7 +45,7 @@ pub fn posted_in(alloc: Global, body: &[u8]) -> Result<Option<Posted>, Refusal>
     }
 }
 
-/// The bytes as text, where they are UTF-8.
+/// The bytes as text, if they are UTF-8.
 fn text_of(bytes: &[u8]) -> Option<&str>
     ensures some { IfSome result (λ text. (text.now ≡ bytes.now) × IsTrue (is_utf8 bytes.now)) }
     ensures none { IfNone result (is_utf8 bytes.now ≡ false) }
@@ -69,8 +69,8 @@ fn lodged_in(alloc: Global, text: &str) -> Result<Option<Posted>, Refusal>
     }
 }
 
-/// How many members an object has as it is written. A [`Value`] keeps only the last of a name that comes
-/// twice, so they are counted in the tree that keeps them all.
+/// How many members an object has as it is written. A [`Value`] keeps only the last member of a name that comes twice,
+/// so this counts in the tree, which keeps them all.
 fn members_written(alloc: Global, text: &str) -> Result<Option<usize>, Refusal>
     ensures count { IfOk result (λ count. count ≡ spec.members_written text.now) }
     ensures memory { IfErr result (λ e. (e ≡ NoMemory) × (0 < length text.now)) }

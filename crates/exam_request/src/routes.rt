@@ -1,4 +1,4 @@
-//! Which route a target has, and the parts of the target that stand for its names.
+//! Which route a target has, and the parts of the target that fill its names.
 ghost use Rattle.std.specs.Prelude.{◌≡◌, ◌↔◌, ◌≤◌, length, IfErr, IfOk, OnOk, List, Some, drop};
 ghost use Rattle.std.specs.Prelude.{option_map, ℕ};
 ghost use Rattle.matchit.specs.declared.error.InsertError.TheVariants.{OutOfMemory};
@@ -20,7 +20,7 @@ pub enum Route {
     Appeal,
 }
 
-/// The route of a target with its number, and with its reference, which is empty where the route has none.
+/// The route of a target with its number, and with its reference, which is empty if the route has none.
 #[derive(Clone, Copy)]
 pub struct Found<'t> {
     pub route: Route,
@@ -28,7 +28,7 @@ pub struct Found<'t> {
     pub reference: &'t [u8],
 }
 
-/// One more route, where it conflicts with none.
+/// Adds a route that conflicts with none.
 fn add(router: &mut Router<Route>, pattern: &str, route: Route) -> Result<(), InsertError>
     requires { IsFree pattern.now router.old }
     ensures rows { OnOk result (router.new ≡ with_route pattern.now route router.old) }
@@ -70,7 +70,7 @@ fn part_at(bytes: &[u8], start: usize) -> &[u8]
     rest
 }
 
-/// The reference behind a number of this length, or nothing where the route has none.
+/// The reference behind a number of this length, or nothing if the route has none.
 fn reference_at(route: Route, bytes: &[u8], number: usize) -> &[u8]
     requires { number ≤ length bytes.now }
     ensures { result.now ≡ reference_in route number bytes.now }
@@ -99,7 +99,7 @@ pub fn find<'t>(router: &Router<Route>, target: &'t str) -> Option<Found<'t>>
     })
 }
 
-/// What the router keeps finds what the reading says, and nothing else.
+/// The router finds what the reading says, and nothing else.
 pub fn routes_read()
     ensures { (target : List ℕ) → IsText target
         → option_map (λ r. r.value) (first table target) ≡ option_map (λ t. t.route) (reading target) }

@@ -29,7 +29,7 @@ use crate::loading::load_version;
 use crate::saving::save;
 use exam_office::{Command, Draft, Office, Own, Reply, SessionView};
 use exam_rows::{AppealText, NEWEST, SendFault, is_blank, save_empty, version_of};
-use exam_types::{Day, Number, Refusal, SessionCode};
+use exam_types::{AccessCode, Day, Number, Refusal, SessionCode};
 use sqlite::{Alter, Connection, MemStore};
 use std::alloc::Global;
 use std::io::Write;
@@ -234,6 +234,13 @@ impl<S: Alter> Store<S> {
         ensures same { self.new ≡ self.old }
     {
         self.office.session_view(alloc, session)
+    }
+
+    /// The access code of a candidate, or none where there is no such candidate. Takes no memory.
+    pub fn access_code(&self, number: Number) -> Option<AccessCode>
+        ensures { result ≡ option_map (λ own. own.code) (own_of self.now.office number) }
+    {
+        Some(self.office.facts().candidates.get(&number)?.code)
     }
 
     /// What the office shows of one candidate, or none where there is no such candidate.

@@ -1,7 +1,6 @@
 //! What is done for requests.
-use super::owns::own_rows;
-use exam_office::Command;
-use exam_request::{Choice, Request, candidate_of, choose, find, server_routes};
+use exam_request::{Choice, Named, Page, Request, candidate_of, choose, find, server_routes};
+use exam_types::{AccessCode, Number};
 use std::alloc::Global;
 use std::test::Fail;
 
@@ -50,10 +49,17 @@ const POSTED: &[u8] =
 fn chosen(alloc: Global, asked: &Request<'_>) -> Result<Choice, Fail> {
     let router = server_routes(alloc).ok().ok_or("routes")?;
     let found = find(&router, asked.target);
-    let own = own_rows(alloc, Some(1), "")?;
-    let known = candidate_of(&found).is_some_and(|number| number.get() == 1);
-    let own = if known { Some(&own) } else { None };
-    Ok(choose(alloc, asked, found, own)?)
+    let named = match candidate_of(&found) {
+        Some(number) if number.get() == 1 => Some(named_with(number)?),
+        _ => None,
+    };
+    Ok(choose(alloc, asked, found, named)?)
+}
+
+/// The candidate of this number, who has the first code.
+fn named_with(number: Number) -> Result<Named, Fail> {
+    let code = AccessCode::parse(b"CODE0001").ok_or("code")?;
+    Ok(Named { number, code })
 }
 
 fn word(choice: &Choice) -> &'static str {
@@ -63,11 +69,11 @@ fn word(choice: &Choice) -> &'static str {
         Choice::OtherMethod(_) => "method",
         Choice::Refused(refusal) if refusal.number() == 6 => "refused 6",
         Choice::Refused(refusal) if refusal.number() == 15 => "refused 15",
-        Choice::ShowSeats => "seats",
-        Choice::ShowClashes => "clashes",
-        Choice::ShowAppeals => "appeals",
-        Choice::Do(Command::Lodge(_)) => "lodge",
-        Choice::Do(Command::Retract(..)) => "retract",
+        Choice::Show(_, Page::Seats) => "seats",
+        Choice::Show(_, Page::Clashes) => "clashes",
+        Choice::Show(_, Page::Appeals) => "appeals",
+        Choice::Lodge(_) => "lodge",
+        Choice::Retract(..) => "retract",
         _ => "other",
     }
 }

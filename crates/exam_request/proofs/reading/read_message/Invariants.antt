@@ -3,7 +3,7 @@ use Rattle.exam_request.specs.Input.{HeadRead}
 use Rattle.exam_request.proofs.Bodies.{JudgedAt}
 use Rattle.exam_request.proofs.reading.read_message.Given as goal
 
--- the head stands in what is in hand, and says how long the body is
+-- the head is in hand, and says how long the body is
 abbrev pub invariant-loop-filled : goal.invariant-loop-filled
 invariant-loop-filled g l = (l.filled ≤ length l.buffer) × (l.filled ≤ 12288) × (l.end ≤ length l.buffer) × (l.end ≤ 12288) × (l.head + l.spans.body_length ≡ l.end)
     × HeadRead (g.R.Read.remaining l.fn.reader) (g.R.Read.remaining l.reader) (take l.filled l.buffer) l.head × JudgedAt (take l.head (take l.filled l.buffer)) l.spans
