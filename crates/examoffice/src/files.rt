@@ -18,7 +18,7 @@ use exam_types::Refusal;
 use sqlite::{Connection, Error, ErrorCode, FileFrom, FileStore, Start};
 use std::alloc::Global;
 use std::fs::{self, File, OpenOptions};
-use std::io::ErrorKind;
+use std::io::{ErrorKind, Write};
 use std::os::unix::fs::OpenOptionsExt;
 
 /// A new database can be read and written by its owner alone, since access codes lie in it.
@@ -96,12 +96,17 @@ fn open_over<S: Start>(
 
 /// Brings the office at the path to the newest version, and prints from which version to which. Where nothing is
 /// there is no office, and no file is made.
-pub fn migrate_file<S: Start>(rt: &HostRuntime, path: &str, start: S) -> Result<(), JobFault> {
+pub fn migrate_file<S: Start, O: Write>(
+    rt: &HostRuntime,
+    path: &str,
+    start: S,
+    out: &mut O,
+) -> Result<(), JobFault> {
     if !has_file(rt, path)? {
         return Err(JobFault::Refused(Refusal::BadStore));
     }
     let mut conn = open_database(rt, path, start)?;
-    let told = migrate_office(rt.alloc(), &mut conn, &mut rt.stdout());
+    let told = migrate_office(rt.alloc(), &mut conn, out);
     // The migration is committed by now, so a failure here takes nothing back.
     let _ = conn.close();
     told

@@ -19,9 +19,6 @@ const LONGEST_SILENCE: u64 = 2;
 /// How many seconds a connection may last, so that a slow client does not hold the office.
 const LONGEST_CONNECTION: u64 = 10;
 
-/// After so many connections the server ends.
-const MOST_CONNECTIONS: usize = 4_294_967_295;
-
 /// A connection whose reads and writes fail once its time is over.
 #[derive(Drop)]
 struct Timed<'s> {
@@ -81,11 +78,13 @@ impl Write for Timed<'_> {
 }
 
 /// Serves one connection after the other on the port, with the day as today. Says so once the port is bound.
-pub fn serve<S: Start>(
+pub fn serve<S: Start, O: Write, E: Write>(
     rt: &HostRuntime,
     store: &mut Store<OfficeFile<S>>,
     today: Day,
     port: u16,
+    out: &mut O,
+    err: &mut E,
 ) -> Result<(), JobFault>
     ensures { IfErr result (λ fault. (fault ≡ Net) ⊎ (fault ≡ Write)) }
 {
@@ -93,10 +92,23 @@ pub fn serve<S: Start>(
     let Ok(listener) = TcpListener::bind(rt, address) else {
         return Err(JobFault::Net);
     };
-    print(&mut rt.stdout(), serving_line(port).as_slice())?;
-    for stream in listener.incoming().take(MOST_CONNECTIONS) {
+    print(out, serving_line(port).as_slice())?;
+    serve_each(rt, store, today, &listener, err)
+}
+
+/// Serves one connection after the other, until one cannot be accepted.
+pub fn serve_each<S: Start, E: Write>(
+    rt: &HostRuntime,
+    store: &mut Store<OfficeFile<S>>,
+    today: Day,
+    listener: &TcpListener,
+    err: &mut E,
+) -> Result<(), JobFault>
+    ensures { IfErr result (λ fault. fault ≡ Net) }
+{
+    for stream in listener.incoming() {
         match stream {
-            Ok(stream) => serve_connection(rt, store, today, &stream),
+            Ok(stream) => serve_connection(rt, store, today, &stream, err),
             Err(_) => return Err(JobFault::Net),
         }
     }
@@ -104,11 +116,12 @@ pub fn serve<S: Start>(
 }
 
 /// Serves one request, and tells the fault where the connection failed.
-fn serve_connection<S: Start>(
+fn serve_connection<S: Start, E: Write>(
     rt: &HostRuntime,
     store: &mut Store<OfficeFile<S>>,
     today: Day,
     stream: &TcpStream,
+    err: &mut E,
 ) {
     let served = match Instant::now(rt) {
         Ok(since) => serve_timed(rt, store, today, stream, since),
@@ -116,10 +129,7 @@ fn serve_connection<S: Start>(
     };
     if let Err(fault) = served {
         // There is nowhere left to say that this did not go out.
-        let _ = print_error(
-            &mut rt.stderr(),
-            connection_fault_line(fault.number()).as_slice(),
-        );
+        let _ = print_error(err, connection_fault_line(fault.number()).as_slice());
     }
     // The answer ends before the connection is closed: closing it resets a connection whose bytes were not all read,
     // and a client that sees this first could lose the answer.
