@@ -1,6 +1,16 @@
-//! Sheets to writers that take little at a time or fail, and registers from sources that do not keep their word. What
-//! files and sheets there are is shown where the whole program runs.
-mod office;
+//! Import files and sheets by example, and writers that fail.
+mod attendances;
+mod bad_files;
+mod bad_headers;
+mod bad_records;
+mod door_lists;
+mod forms;
+mod kinds;
+mod offices;
+mod reading;
+mod registers;
 mod sheets;
+mod shortage_sheets;
 mod slow;
 mod streams;
+mod writers;

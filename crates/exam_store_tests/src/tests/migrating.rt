@@ -1,5 +1,5 @@
 //! Offices of version 1 are brought to the newest version, whole or not at all.
-use super::{BASE, FIRST_SEATED, expect_each, office_of, refusal_of_opening};
+use super::{base_office, refusal_of_opening, seated_office};
 use exam_office::{Command, Reply};
 use exam_store::{Store, migrate};
 use exam_types::{Day, Number, PaperCode, Refusal};
@@ -12,7 +12,10 @@ pub const BACK: &str = "DROP TABLE standing; UPDATE office SET version = 1";
 
 /// An office of version 1 with one candidate seated, after these statements.
 fn old_office(alloc: Global, sql: &str) -> Result<Connection<MemStore>, Fail> {
-    office_of(alloc, &[BASE, FIRST_SEATED, BACK, sql])
+    let mut conn = seated_office(alloc)?;
+    conn.execute_batch(BACK)?;
+    conn.execute_batch(sql)?;
+    Ok(conn)
 }
 
 /// The refusal of making an office in what this connection holds, if it is refused.
@@ -26,15 +29,23 @@ fn refusal_of_creating(alloc: Global, conn: Connection<MemStore>) -> Option<Refu
     }
 }
 
-/// Whatever else is wrong with it.
 #[test]
 fn an_old_office_is_not_opened(rt: HostRuntime) -> Result<(), Fail> {
     let alloc = rt.alloc();
-    let old = Some(Refusal::OldSchema);
-    assert_eq!(rt; refusal_of_opening(alloc, old_office(alloc, "")?), old);
-    assert_eq!(rt; refusal_of_creating(alloc, old_office(alloc, "")?), old);
-    let statements = "DELETE FROM seat\nDROP TABLE seat\n";
-    expect_each(&rt, &[BASE, FIRST_SEATED], statements, BACK, old)
+    // Whatever else is wrong with it.
+    for sql in ["", "DELETE FROM seat", "DROP TABLE seat"] {
+        assert_eq!(rt;
+            refusal_of_opening(alloc, old_office(alloc, sql)?),
+            Some(Refusal::OldSchema),
+            "{sql}"
+        );
+        assert_eq!(rt;
+            refusal_of_creating(alloc, old_office(alloc, sql)?),
+            Some(Refusal::OldSchema),
+            "{sql}"
+        );
+    }
+    Ok(())
 }
 
 /// Withdraws the entry of the first candidate.
@@ -45,11 +56,6 @@ fn withdraw(alloc: Global, store: &mut Store<MemStore>) -> Result<Reply, Fail> {
     Ok(store.apply(alloc, &Command::Withdraw(first, paper), today)?)
 }
 
-/// How many rows a query shows.
-fn count(conn: &mut Connection<MemStore>, sql: &str) -> Result<usize, Fail> {
-    Ok(conn.query_all(sql, &[])?.len())
-}
-
 #[test]
 fn an_old_office_is_migrated(rt: HostRuntime) -> Result<(), Fail> {
     let alloc = rt.alloc();
@@ -57,51 +63,59 @@ fn an_old_office_is_migrated(rt: HostRuntime) -> Result<(), Fail> {
     assert_eq!(rt; migrate(alloc, &mut conn)?, (1, 2));
     // Again, and nothing is written.
     assert_eq!(rt; migrate(alloc, &mut conn)?, (2, 2));
-    assert_eq!(rt; count(&mut conn, "SELECT number FROM seat")?, 1);
-    assert_eq!(rt; count(&mut conn, "SELECT number FROM standing")?, 0);
+    assert_eq!(rt;
+        conn.query_all("SELECT number FROM seat", &[])?.len(),
+        1usize
+    );
+    assert_eq!(rt;
+        conn.query_all("SELECT number FROM standing", &[])?.len(),
+        0usize
+    );
     let Ok(mut store) = Store::open(alloc, conn) else {
         return Err(Fail::new("no office"));
     };
     assert!(rt; matches!(withdraw(alloc, &mut store)?, Reply::Withdrawn));
     let mut conn = store.close();
-    assert_eq!(rt; count(&mut conn, "SELECT number FROM seat")?, 0);
+    assert_eq!(rt;
+        conn.query_all("SELECT number FROM seat", &[])?.len(),
+        0usize
+    );
     assert_eq!(rt; refusal_of_opening(alloc, conn), None);
     Ok(())
-}
-
-/// Rows and tables that no office of version 1 has.
-const NO_OLD_OFFICES: &str = "\
-UPDATE office SET version = 2
-UPDATE session SET start = 1440
-UPDATE paper SET minutes = 601
-UPDATE hall SET features = 32
-UPDATE opening SET desks = 0
-UPDATE candidate SET code = 'code0009' WHERE number = 3
-UPDATE entry SET live = 2
-INSERT INTO arrangement VALUES (1, 32, 0)
-INSERT INTO appeal VALUES (1, 'R1', 'S1', 1, 'A', 0, 0, '', 0, NULL, '2027-05-01')
-DELETE FROM seat
-DROP TABLE office
-CREATE TABLE standing (number INTEGER NOT NULL, ref TEXT NOT NULL, PRIMARY KEY (number, ref)) STRICT
-";
-
-/// Whether these tables are refused.
-fn is_not_migrated(alloc: Global, conn: Connection<MemStore>) -> bool {
-    let mut conn = conn;
-    let answer = migrate(alloc, &mut conn);
-    drop(conn);
-    answer == Err(Refusal::BadStore)
 }
 
 #[test]
 fn what_is_no_good_office_is_not_migrated(rt: HostRuntime) -> Result<(), Fail> {
     let alloc = rt.alloc();
-    for sql in NO_OLD_OFFICES.lines() {
-        assert!(rt; is_not_migrated(alloc, old_office(alloc, sql)?), "{sql}");
+    for sql in [
+        "UPDATE office SET version = 2",
+        "UPDATE session SET start = 1440",
+        "UPDATE paper SET minutes = 601",
+        "UPDATE hall SET features = 32",
+        "UPDATE opening SET desks = 0",
+        "UPDATE candidate SET code = 'code0009' WHERE number = 3",
+        "UPDATE entry SET live = 2",
+        "INSERT INTO arrangement VALUES (1, 32, 0)",
+        "INSERT INTO appeal VALUES (1, 'R1', 'S1', 1, 'A', 0, 0, '', 0, NULL, '2027-05-01')",
+        "DELETE FROM seat",
+        "DROP TABLE office",
+        "CREATE TABLE standing (number INTEGER NOT NULL, ref TEXT NOT NULL, PRIMARY KEY (number, ref)) STRICT",
+    ] {
+        let mut conn = old_office(alloc, sql)?;
+        assert_eq!(rt;
+            migrate(alloc, &mut conn).err(),
+            Some(Refusal::BadStore),
+            "{sql}"
+        );
+        drop(conn);
     }
-    assert!(rt; is_not_migrated(alloc, Connection::open_in_memory(alloc)?));
+    let mut nothing = Connection::open_in_memory(alloc)?;
+    assert_eq!(rt; migrate(alloc, &mut nothing).err(), Some(Refusal::BadStore));
+    drop(nothing);
     // A bad office of the newest version is judged too.
-    let bad = office_of(alloc, &[BASE, "UPDATE hall SET features = 32"])?;
-    assert!(rt; is_not_migrated(alloc, bad));
+    let mut bad = base_office(alloc)?;
+    bad.execute("UPDATE hall SET features = 32", &[])?;
+    assert_eq!(rt; migrate(alloc, &mut bad).err(), Some(Refusal::BadStore));
+    drop(bad);
     Ok(())
 }
