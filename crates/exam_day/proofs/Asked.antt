@@ -9,10 +9,10 @@ use Rattle.exam_line.specs.declared.line.Line.{Line}
 use Rattle.exam_line.specs.declared.line.LineFault.{LineFault}
 use Rattle.exam_line.specs.declared.line.LineFault.TheVariants.{NoMemory}
 use Rattle.exam_line.specs.declared.line.Sheet.{Sheet}
-use Rattle.exam_day.specs.Following.{Outcome}
+use Rattle.exam_day.specs.Following.{LineEnd}
 use Rattle.exam_day.specs.Orders.{line_of, sheet_asked, sheet_of}
 use Rattle.exam_day.specs.Printing.{PrintsAsked}
-use Rattle.exam_day.specs.declared.orders.OrderFault.TheVariants as fault
+use Rattle.exam_day.specs.declared.orders.LineStop.TheVariants as stop
 use Rattle.exam_day.proofs.Reading.{line_is, no_line}
 
 -- the sheet of a line that was read
@@ -20,19 +20,19 @@ pub asked_is : (words : List Text) (l : Line) → Answers (Ok l) words → sheet
 asked_is words l h = ap (λ (o : Option Said). option_and_then (λ (s : Said). sheet_of s.task) o) (line_is words l h)
 
 module _ {W : Type 0} (contents : W → Option (List ℕ)) (office : State) (words : List Text) (before : W) where
-  pub unread : (f : LineFault) → Answers (Err f) words → PrintsAsked contents office (sheet_asked words) before (Err (fault.Line f)) before
+  pub unread : (f : LineFault) → Answers (Err f) words → PrintsAsked contents office (sheet_asked words) before (Err (stop.NoLine f)) before
   unread f h = by (no_line words f h)
     where
-      short : (asked : Option (Code × Sheet)) → PrintsAsked contents office asked before (Err (fault.Line NoMemory)) before
+      short : (asked : Option (Code × Sheet)) → PrintsAsked contents office asked before (Err (stop.NoLine NoMemory)) before
       short None = (NoMemory, refl, refl)
       short (Some asked) = inl (refl, refl)
 
-      by : (f ≡ NoMemory) ⊎ (line_of words ≡ None) → PrintsAsked contents office (sheet_asked words) before (Err (fault.Line f)) before
-      by (inl is) = subst (λ g. PrintsAsked contents office (sheet_asked words) before (Err (fault.Line g)) before) (sym is) (short (sheet_asked words))
+      by : (f ≡ NoMemory) ⊎ (line_of words ≡ None) → PrintsAsked contents office (sheet_asked words) before (Err (stop.NoLine f)) before
+      by (inl is) = subst (λ g. PrintsAsked contents office (sheet_asked words) before (Err (stop.NoLine g)) before) (sym is) (short (sheet_asked words))
       by (inr is) =
-          subst (λ asked. PrintsAsked contents office asked before (Err (fault.Line f)) before)
+          subst (λ asked. PrintsAsked contents office asked before (Err (stop.NoLine f)) before)
           (sym (ap (λ (o : Option Said). option_and_then (λ (s : Said). sheet_of s.task) o) is)) (f, refl, refl)
 
-  pub printed : (l : Line) (outcome : Outcome) (after : W) → Answers (Ok l) words → PrintsAsked contents office (sheet_of (task_shown l.job)) before outcome after
-      → PrintsAsked contents office (sheet_asked words) before outcome after
-  printed l outcome after h prints = subst (λ asked. PrintsAsked contents office asked before outcome after) (sym (asked_is words l h)) prints
+  pub printed : (l : Line) (end : LineEnd) (after : W) → Answers (Ok l) words → PrintsAsked contents office (sheet_of (task_shown l.job)) before end after
+      → PrintsAsked contents office (sheet_asked words) before end after
+  printed l end after h prints = subst (λ asked. PrintsAsked contents office asked before end after) (sym (asked_is words l h)) prints

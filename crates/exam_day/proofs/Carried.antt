@@ -16,7 +16,7 @@ use Rattle.exam_store.specs.Stores.{OfficeIn}
 use Rattle.exam_job.specs.Jobs.{Commands, Does, Imports, ImportsFile, IsCarriedOut, Stops, TellsReply, denoted, unread, short}
 use Rattle.exam_job.specs.declared.report.JobFault.{JobFault}
 use Rattle.exam_job.specs.declared.report.JobFault.TheVariants.{File, Net, Refused, Write}
-use Rattle.exam_day.specs.Following.{Fails, FollowsCommand, IsDone, Outcome, TellsAnswer, is_failure, told}
+use Rattle.exam_day.specs.Following.{Fails, FollowsCommand, IsDone, LineEnd, TellsAnswer, is_failure, told}
 use Rattle.exam_day.specs.Orders.{command_of, import_command}
 use Rattle.exam_day.specs.Keeping.{KeepsOn}
 use Rattle.exam_day.proofs.KeptOffice.{committed, unchanged}
@@ -47,9 +47,9 @@ module _ {S W : Type 0} (g : Ghosts S) (contents : W → Option (List ℕ)) (tod
       (inl (answered, carried.applied.step, answer answered result tells), committed g old new answered carried.applied.made carried.kept)
 
   -- whatever the file denotes
-  import_failed : (import : Result ImportRows Refusal) (outcome : Outcome) → Fails old.office outcome new.office → FollowsCommand (Some (import_command import)) today old.office outcome new.office
-  import_failed (Ok rows) outcome fails = inr fails
-  import_failed (Err refusal) outcome fails = inr fails
+  import_failed : (import : Result ImportRows Refusal) (end : LineEnd) → Fails old.office end new.office → FollowsCommand (Some (import_command import)) today old.office end new.office
+  import_failed (Ok rows) end fails = inr fails
+  import_failed (Err refusal) end fails = inr fails
 
   -- ---- an import
 

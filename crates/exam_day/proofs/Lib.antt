@@ -2,7 +2,9 @@ mod Reading
 mod KeptOffice
 mod Sheets
 mod Carried
-mod Listing
 mod OneOffice
+mod Served
+mod Sparing
+mod Listing
 mod Asked
 mod PrintedAfter

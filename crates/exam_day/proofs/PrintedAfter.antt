@@ -8,7 +8,7 @@ use Rattle.exam_line.specs.declared.line.Sheet.{Sheet}
 use Rattle.exam_line.specs.declared.line.Sheet.TheVariants as sheet
 use Rattle.exam_rows.specs.Transactions.{IsSound}
 use Rattle.exam_store.specs.Stores.{OfficeIn}
-use Rattle.exam_day.specs.Following.{Outcome}
+use Rattle.exam_day.specs.Following.{LineEnd}
 use Rattle.exam_day.specs.Keeping.{KeepsIt, KeepsOn}
 use Rattle.exam_day.specs.Printing.{PrintsAsked, RestsOn, RestsOnAsked}
 
@@ -21,10 +21,10 @@ rests_more_asked P Q more None p = tt
 rests_more_asked P Q more (Some asked) p = rests_more P Q more asked.1 p
 
 module _ {S : Type 0} (g : Ghosts S) (old mid new : OfficeIn S) (on : KeepsOn g old mid) (still : KeepsOn g mid new) where
-  pub printed_at_end : {W : Type 0} (contents : W → Option (List ℕ)) (asked : Option (Code × Sheet)) (before : W) (outcome : Outcome) (after : W) → new.office ≡ mid.office
-      → (RestsOnAsked (IsSound (state g new.database) × KeepsIt g mid) asked → PrintsAsked contents mid.office asked before outcome after)
-      → RestsOnAsked (IsSound (state g new.database) × KeepsIt g old) asked → PrintsAsked contents new.office asked before outcome after
-  printed_at_end contents asked before outcome after same prints rested =
-      subst (λ (o : State). PrintsAsked contents o asked before outcome after) (sym same)
+  pub printed_at_end : {W : Type 0} (contents : W → Option (List ℕ)) (asked : Option (Code × Sheet)) (before : W) (end : LineEnd) (after : W) → new.office ≡ mid.office
+      → (RestsOnAsked (IsSound (state g new.database) × KeepsIt g mid) asked → PrintsAsked contents mid.office asked before end after)
+      → RestsOnAsked (IsSound (state g new.database) × KeepsIt g old) asked → PrintsAsked contents new.office asked before end after
+  printed_at_end contents asked before end after same prints rested =
+      subst (λ (o : State). PrintsAsked contents o asked before end after) (sym same)
       (prints (rests_more_asked (IsSound (state g new.database) × KeepsIt g old) (IsSound (state g new.database) × KeepsIt g mid)
       (λ (p : IsSound (state g new.database) × KeepsIt g old). (p.0, on.kept (still.was_sound p.0) p.1)) asked rested))

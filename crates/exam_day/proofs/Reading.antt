@@ -12,9 +12,9 @@ use Rattle.exam_line.specs.Lines.{Answers, Said, said}
 use Rattle.exam_line.specs.declared.line.Line.{Line}
 use Rattle.exam_line.specs.declared.line.LineFault.{LineFault}
 use Rattle.exam_line.specs.declared.line.LineFault.TheVariants.{Help, NoMemory, NotUnderstood}
-use Rattle.exam_day.specs.Following.{Follows, FollowsCommand, FollowsLine, Outcome}
-use Rattle.exam_day.specs.Orders.{Given, command_of, line_of, said_unless}
-use Rattle.exam_day.specs.declared.orders.OrderFault.TheVariants as fault
+use Rattle.exam_day.specs.Following.{FollowsCommand, FollowsLine, FollowsWords, LineEnd}
+use Rattle.exam_day.specs.Orders.{command_of, line_of, said_unless}
+use Rattle.exam_day.specs.declared.orders.LineStop.TheVariants as stop
 
 pub line_is : (words : List Text) (l : Line) → Answers (Ok l) words → line_of words ≡ Some (lines.shown l)
 unfolding line_of
@@ -33,23 +33,23 @@ no_line words NotUnderstood (inl h) = inr (ap (λ faults. said_unless faults (sa
 no_line words NotUnderstood (inr h) = inr (nothing_said (fault_of grammar words) h.0 (said words) h.1)
 
 -- want of memory, before anything is done
-short : (asked : Option (Result Command Refusal)) (today : ℕ) (office : State) → FollowsCommand asked today office (Err (fault.Line NoMemory)) office
+short : (asked : Option (Result Command Refusal)) (today : ℕ) (office : State) → FollowsCommand asked today office (Err (stop.NoLine NoMemory)) office
 short None today office = refl
 short (Some (Ok done)) today office = inr (refl, refl)
 short (Some (Err refusal)) today office = inr (refl, refl)
 
-short_line : (line : Option Said) (order : Given) (office : State) → FollowsLine line order office (Err (fault.Line NoMemory)) office
-short_line None order office = (NoMemory, refl, tt, refl)
-short_line (Some s) order office = short (command_of s.task order.file) s.today office
+short_line : (line : Option Said) (words : List Text) (file : List ℕ) (office : State) → FollowsLine line words file office (Err (stop.NoLine NoMemory)) office
+short_line None words file office = (NoMemory, refl, tt, refl)
+short_line (Some s) words file office = short (command_of s.task file) s.today office
 
-pub unread : (order : Given) (f : LineFault) (office : State) → Answers (Err f) order.words → Follows order office (Err (fault.Line f)) office
-unread order f office h = by (no_line order.words f h)
+pub unread : (words : List Text) (file : List ℕ) (f : LineFault) (office : State) → Answers (Err f) words → FollowsWords words file office (Err (stop.NoLine f)) office
+unread words file f office h = by (no_line words f h)
   where
-    by : (f ≡ NoMemory) ⊎ (line_of order.words ≡ None) → Follows order office (Err (fault.Line f)) office
-    by (inl is) = subst (λ g. Follows order office (Err (fault.Line g)) office) (sym is) (short_line (line_of order.words) order office)
-    by (inr is) = subst (λ l. FollowsLine l order office (Err (fault.Line f)) office) (sym is) (f, refl, h, refl)
+    by : (f ≡ NoMemory) ⊎ (line_of words ≡ None) → FollowsWords words file office (Err (stop.NoLine f)) office
+    by (inl is) = subst (λ g. FollowsWords words file office (Err (stop.NoLine g)) office) (sym is) (short_line (line_of words) words file office)
+    by (inr is) = subst (λ l. FollowsLine l words file office (Err (stop.NoLine f)) office) (sym is) (f, refl, h, refl)
 
 -- a line that was read is followed
-pub followed : (order : Given) (l : Line) (before after : State) (outcome : Outcome) → Answers (Ok l) order.words
-    → FollowsCommand (command_of (lines.task_shown l.job) order.file) l.today before outcome after → Follows order before outcome after
-followed order l before after outcome h follows = subst (λ line. FollowsLine line order before outcome after) (sym (line_is order.words l h)) follows
+pub followed : (words : List Text) (file : List ℕ) (l : Line) (before after : State) (end : LineEnd) → Answers (Ok l) words
+    → FollowsCommand (command_of (lines.task_shown l.job) file) l.today before end after → FollowsWords words file before end after
+followed words file l before after end h follows = subst (λ line. FollowsLine line words file before end after) (sym (line_is words l h)) follows

@@ -11,10 +11,11 @@ ghost use Rattle.exam_day.specs.Keeping.{KeepsIt, KeepsOn};
 ghost use Rattle.exam_day.specs.Orders.{sheet_asked, sheet_of, shown};
 ghost use Rattle.exam_day.specs.Printing.{PrintsAsked, RestsOnAsked};
 
-use crate::orders::{Order, OrderFault, Outcome, follow_all, told};
+use crate::orders::{LineEnd, LineStop, Order, Outcome, follow_all, told};
 use exam_job::carry_out;
 use exam_line::{Job, Line, LineFault, parse_line};
 use exam_office::one_step_has_one_result;
+use exam_request::requests_ask_one_thing;
 use exam_store::Store;
 use exam_types::Refusal;
 use sqlite::Alter;
@@ -27,7 +28,7 @@ pub struct EndOfDay {
     /// What became of each order.
     pub outcomes: Vec<Outcome>,
     /// What became of the sheet.
-    pub printed: Outcome,
+    pub printed: LineEnd,
 }
 
 /// Follows orders in turn over the office in a store, and then prints the sheet that the words ask for. Refused
@@ -41,6 +42,8 @@ pub fn print_after<S: Alter, O: Write>(
 ) -> Result<EndOfDay, Refusal>
     ensures run { IfOk result (λ day.
         spec.AreFollowed (map shown orders.now) store.old.office day.outcomes.items store.new.office) }
+    ensures spares { IfOk result (λ day. spec.EachSparesOthers (map shown orders.now) store.old.office
+        day.outcomes.items store.new.office) }
     ensures sheet { RestsOnAsked (IsSound (state S.Store store.new.database) × KeepsIt S.Store store.old)
         (sheet_asked (map string_bytes words.now))
         → IfOk result (λ day. PrintsAsked O.contents store.new.office
@@ -58,6 +61,7 @@ pub fn print_after<S: Alter, O: Write>(
     let printed = print_asked(alloc, store, words, out);
     store.show_seated();
     one_step_has_one_result();
+    requests_ask_one_thing();
     Ok(EndOfDay { outcomes, printed })
 }
 
@@ -67,7 +71,7 @@ fn print_asked<S: Alter, O: Write>(
     store: &mut Store<S>,
     words: &[String],
     out: &mut O,
-) -> Outcome
+) -> LineEnd
     ensures sheet { RestsOnAsked (IsSound (state S.Store store.new.database) × KeepsIt S.Store store.old)
         (sheet_asked (map string_bytes words.now)) → PrintsAsked O.contents store.old.office
         (sheet_asked (map string_bytes words.now)) out.old result out.new }
@@ -76,7 +80,7 @@ fn print_asked<S: Alter, O: Write>(
 {
     match parse_line(alloc, words) {
         Ok(line) => print_line(alloc, store, &line, out),
-        Err(fault) => Err(OrderFault::Line(fault)),
+        Err(fault) => Err(LineStop::NoLine(fault)),
     }
 }
 
@@ -86,7 +90,7 @@ fn print_line<S: Alter, O: Write>(
     store: &mut Store<S>,
     line: &Line<'_>,
     out: &mut O,
-) -> Outcome
+) -> LineEnd
     ensures sheet { RestsOnAsked (IsSound (state S.Store store.new.database) × KeepsIt S.Store store.old)
         (sheet_of (lines.task_shown line.now.job)) → PrintsAsked O.contents store.old.office
         (sheet_of (lines.task_shown line.now.job)) out.old result out.new }
@@ -96,7 +100,7 @@ fn print_line<S: Alter, O: Write>(
     if is_sheet(line) {
         told(carry_out(alloc, line, store, &mut io::empty(), out))
     } else {
-        Err(OrderFault::Line(LineFault::NotUnderstood))
+        Err(LineStop::NoLine(LineFault::NotUnderstood))
     }
 }
 

@@ -1,12 +1,13 @@
 //! A day, from its first import to a door list.
-use exam_day::{Order, OrderFault, Outcome, print_after};
+use exam_day::{LineEnd, LineStop, Order, Outcome, print_after};
 use exam_job::JobFault;
 use exam_line::LineFault;
 use exam_store::Store;
+use exam_types::Day;
 use std::alloc::{AllocError, Global};
 use std::test::Fail;
 
-/// What becomes of an order, a refusal by its number.
+/// What becomes of a line, a refusal by its number.
 #[derive(Clone, Copy, Debug, PartialEq, Eq)]
 enum End {
     Done,
@@ -15,70 +16,103 @@ enum End {
     Failed,
 }
 
-fn end_of(outcome: &Outcome) -> End {
-    match outcome {
+fn end_of(end: &LineEnd) -> End {
+    match end {
         Ok(()) => End::Done,
-        Err(OrderFault::Job(JobFault::Refused(refusal))) => End::Refused(refusal.number()),
-        Err(OrderFault::Line(LineFault::NotUnderstood)) => End::NotUnderstood,
+        Err(LineStop::Job(JobFault::Refused(refusal))) => End::Refused(refusal.number()),
+        Err(LineStop::NoLine(LineFault::NotUnderstood)) => End::NotUnderstood,
         Err(_) => End::Failed,
     }
 }
 
-/// Each order's command, the file that it imports, and what becomes of it.
-const DAY: &[(&str, &str, End)] = &[
-    (
+/// An order, and what becomes of it.
+#[derive(Clone, Copy)]
+enum Step {
+    /// A command, the file that it imports, and its end.
+    Line(&'static str, &'static str, End),
+    /// A request, and how its answer begins and ends.
+    Request(&'static str, &'static str, &'static str),
+}
+
+/// The first candidate does not want to sit in hall B.
+const AGAINST_B: &str =
+    "POST /candidates/0000001/appeals HTTP/1.1\r\nHost: office\r\nExam-Code: CODE0001\r\n\
+Content-Length: 65\r\n\r\n{\"hall\":\"B\",\"kind\":\"hall\",\"reason\":\"\",\"ref\":\"HA1\",\"session\":\"S1\"}";
+
+/// Somebody who does not know the first candidate's code asks for the seats.
+const STRANGER: &str =
+    "GET /candidates/0000001/seats HTTP/1.1\r\nHost: office\r\nExam-Code: CODE0002\r\n\r\n";
+
+const DAY: &[Step] = &[
+    Step::Line(
         "import sessions f",
         "session,date,start\nS1,2027-06-01,09:00\n",
         End::Done,
     ),
-    (
+    Step::Line(
         "import papers f",
         "paper,title,session,minutes,requires\nMA-1,Maths,S1,60,-\n",
         End::Done,
     ),
-    (
+    Step::Line(
         "import halls f",
         "hall,title,features\nA,Hall A,step-free\nB,Hall B,-\n",
         End::Done,
     ),
-    (
+    Step::Line(
         "import openings f",
         "session,hall,desks,until,reserved\nS1,A,1,12:00,no\nS1,B,1,12:00,no\n",
         End::Done,
     ),
-    (
+    Step::Line(
         "import candidates f",
         "number,name,code\n0000001,Bo Berg,CODE0001\n0000002,Ada Lin,CODE0002\n0000003,Cy Dahl,CODE0003\n",
         End::Done,
     ),
-    (
+    Step::Line(
         "import entries f",
         "number,paper\n0000001,MA-1\n",
         End::Done,
     ),
-    (
+    Step::Line(
         "import entries f",
         "number,paper\n0000001,MA-9\n",
         End::Refused(5),
     ),
-    (
+    Step::Line(
         "import arrangements f",
         "number,needs,extra\n0000002,step-free,0\n",
         End::Done,
     ),
-    (
+    Step::Line(
         "import entries f",
         "number,paper\n0000002,MA-1\n0000003,MA-1\n",
         End::Done,
     ),
-    ("withdraw 1 MA-1", "", End::NotUnderstood),
-    ("withdraw 0000003 MA-1", "", End::Done),
-    ("withdraw 0000003 MA-1", "", End::Refused(9)),
+    Step::Line("withdraw 1 MA-1", "", End::NotUnderstood),
+    Step::Line("reinstate 0000003 MA-1", "", End::Refused(10)),
+    Step::Request(
+        STRANGER,
+        "HTTP/1.1 404 Not Found\r\n",
+        "\r\n\r\n{\"error\":6}",
+    ),
+    Step::Request(
+        AGAINST_B,
+        "HTTP/1.1 200 OK\r\n",
+        "\r\n\r\n{\"state\":\"open\"}",
+    ),
+    Step::Line("decide 0000001 HA1 granted draught", "", End::Done),
+    Step::Request(
+        AGAINST_B,
+        "HTTP/1.1 200 OK\r\n",
+        "\r\n\r\n{\"state\":\"granted\"}",
+    ),
 ];
 
-/// The second candidate needs the one hall that is step-free, so the first has moved.
-const SECOND_IN_A: &str =
-    "DOOR LIST session S1 hall A\ndate 2027-06-01 start 09:00 desks 1 seated 1\n   1 0000002 MA-1         Ada Lin\n";
+/// The second candidate needs the one hall that is step-free and has it. The first one sat in the other hall, and
+/// lost that desk to the third one by the grant.
+const THIRD_IN_B: &str =
+    "DOOR LIST session S1 hall B\ndate 2027-06-01 start 09:00 desks 1 seated 1\n   1 0000003 MA-1         Cy Dahl\n";
 
 /// The words of a command line.
 fn words_of(alloc: Global, command: &str) -> Result<Vec<String>, AllocError> {
@@ -92,33 +126,55 @@ fn words_of(alloc: Global, command: &str) -> Result<Vec<String>, AllocError> {
     Ok(words)
 }
 
-/// The command lines of the day.
+/// The command lines of the day, no words for a request.
 fn lines_of(alloc: Global) -> Result<Vec<Vec<String>>, AllocError> {
     let mut lines = Vec::new(alloc);
-    for (command, _, _) in DAY {
-        lines.push(words_of(alloc, command)?)?;
+    for step in DAY {
+        lines.push(match step {
+            Step::Line(command, _, _) => words_of(alloc, command)?,
+            Step::Request(..) => Vec::new(alloc),
+        })?;
     }
     Ok(lines)
 }
 
-/// The day's orders over its command lines.
-fn orders_of<'o>(alloc: Global, lines: &'o [Vec<String>]) -> Result<Vec<Order<'o>>, AllocError> {
-    let mut orders = Vec::new(alloc);
-    for ((_, file, _), line) in DAY.iter().zip(lines) {
-        orders.push(Order {
-            words: line.as_slice(),
+/// The order of a step, whose words these are.
+fn order_of<'o>(step: &Step, words: &'o [String], today: Day) -> Order<'o> {
+    match step {
+        Step::Line(_, file, _) => Order::Line {
+            words,
             file: file.as_bytes(),
-        })?;
+        },
+        Step::Request(request, _, _) => Order::Request {
+            bytes: request.as_bytes(),
+            today,
+        },
     }
-    Ok(orders)
+}
+
+/// Whether this becomes of the step's order.
+fn ends_so(step: &Step, outcome: &Outcome) -> bool {
+    match (step, outcome) {
+        (Step::Line(_, _, wanted), Outcome::Line(end)) => end_of(end) == *wanted,
+        (Step::Request(_, first, last), Outcome::Request(answered)) => {
+            answered.served.is_ok()
+                && answered.answer.as_slice().starts_with(first.as_bytes())
+                && answered.answer.as_slice().ends_with(last.as_bytes())
+        }
+        _ => false,
+    }
 }
 
 #[test]
 fn a_day_ends_in_its_door_list(rt: HostRuntime) -> Result<(), Fail> {
     let alloc = rt.alloc();
+    let today = Day::parse(b"2027-05-01").ok_or("a day")?;
     let lines = lines_of(alloc)?;
-    let orders = orders_of(alloc, lines.as_slice())?;
-    let asked = words_of(alloc, "door-list S1 A")?;
+    let mut orders = Vec::new(alloc);
+    for (step, words) in DAY.iter().zip(lines.as_slice()) {
+        orders.push(order_of(step, words.as_slice(), today))?;
+    }
+    let asked = words_of(alloc, "door-list S1 B")?;
     let mut out = Vec::new(alloc);
     let mut store = Store::in_memory(alloc)?;
     let day = print_after(
@@ -128,10 +184,10 @@ fn a_day_ends_in_its_door_list(rt: HostRuntime) -> Result<(), Fail> {
         asked.as_slice(),
         &mut out,
     )?;
-    for ((command, _, end), outcome) in DAY.iter().zip(day.outcomes.as_slice()) {
-        assert_eq!(rt; end_of(outcome), *end, "{command}");
+    for (place, (step, outcome)) in DAY.iter().zip(day.outcomes.as_slice()).enumerate() {
+        assert!(rt; ends_so(step, outcome), "{place}");
     }
     assert!(rt; day.printed.is_ok());
-    assert_eq!(rt; out.as_slice(), SECOND_IN_A.as_bytes());
+    assert_eq!(rt; out.as_slice(), THIRD_IN_B.as_bytes());
     Ok(())
 }

@@ -1,7 +1,7 @@
 use Rattle.std.proofs.Common.{◌≡◌, ◌≤◌, length, take}
 use Rattle.std.specs.Prelude.{map, vec_len}
 use Rattle.std.specs.Vec.{vec_capacity}
-use Rattle.exam_day.specs.Following.{AreFollowed}
+use Rattle.exam_day.specs.Following.{AreFollowed, EachSparesOthers}
 use Rattle.exam_day.specs.Keeping.{KeepsOn}
 use Rattle.exam_day.specs.Orders.{shown}
 use Rattle.exam_day.proofs.orders.follow_all.Given as goal
@@ -10,6 +10,7 @@ use Rattle.exam_day.proofs.orders.follow_all.Given as goal
 abbrev pub invariant-orders : goal.invariant-orders
 invariant-orders g l = record {
   so_far : AreFollowed (map shown (take l.order-index l.orders)) l.fn.store.office l.outcomes.items l.store.office;
+  spares : EachSparesOthers (map shown (take l.order-index l.orders)) l.fn.store.office l.outcomes.items l.store.office;
   kept : KeepsOn g.S.Store l.fn.store l.store;
   answered : vec_len l.outcomes ≡ l.order-index;
   room : length l.orders ≤ vec_capacity l.outcomes;
