@@ -1,5 +1,5 @@
 -- What a line does to an office in a store is what its order asks of the office.
-use Rattle.std.proofs.Common.{◌≡◌, ◌∙◌, ℕ, List, Option, Some, refl, sym, ap, subst, inl, inr}
+use Rattle.std.proofs.Common.{◌≡◌, ℕ, List, Option, Some, refl, sym, ap, subst, inl, inr}
 use Rattle.std.specs.Prelude.{Result, Ok, Err, IsTrue}
 use Rattle.sqlite_trees.specs.declared.store.Store.{Ghosts}
 use Rattle.exam_types.specs.declared.refusal.Refusal.{Refusal}
@@ -13,7 +13,7 @@ use Rattle.exam_files.specs.ImportFiles.{import_of}
 use Rattle.exam_line.specs.Lines.{Task}
 use Rattle.exam_line.specs.Lines as line
 use Rattle.exam_store.specs.Stores.{OfficeIn}
-use Rattle.exam_job.specs.Jobs.{Commands, Does, Imports, ImportsFile, IsCarriedOut, Stops, TellsReply, denoted, unread, short}
+use Rattle.exam_job.specs.Jobs.{Commands, Does, Imports, ImportsFile, Stops, TellsReply, denoted, unread, short}
 use Rattle.exam_job.specs.declared.report.JobFault.{JobFault}
 use Rattle.exam_job.specs.declared.report.JobFault.TheVariants.{File, Net, Refused, Write}
 use Rattle.exam_theorem.specs.Following.{Fails, FollowsCommand, IsDone, LineEnd, TellsAnswer, is_failure, told}

@@ -1,5 +1,5 @@
 -- One more order after others.
-use Rattle.std.proofs.Common.{◌≡◌, ◌∙◌, ℕ, List, [], ◌∷◌, ◌++◌, refl, sym, ap, subst}
+use Rattle.std.proofs.Common.{◌≡◌, ◌∙◌, List, [], ◌∷◌, ◌++◌, refl, sym, ap, subst}
 use Rattle.std.specs.Prelude.{map}
 use Rattle.exam_office.specs.State.{State}
 use Rattle.exam_theorem.specs.Following.{AreEach}

@@ -11,7 +11,7 @@ use Rattle.exam_office.specs.Own.{OwnRows}
 use Rattle.exam_office.specs.State.{State}
 use Rattle.exam_office.specs.Steps.{Step}
 use Rattle.exam_line.specs.Lines.{Said}
-use Rattle.exam_request.specs.Answer.{Told, answer_text, refusal_told}
+use Rattle.exam_request.specs.Answer.{Told, refusal_told}
 use Rattle.exam_request.specs.Asked.{Asks, Request}
 use Rattle.exam_request.specs.declared.choice.Choice.{Choice}
 use Rattle.exam_request.specs.declared.choice.Choice.TheVariants as choice
@@ -21,9 +21,9 @@ use Rattle.exam_rows.specs.Faults.{is_store_refusal}
 use Rattle.exam_http.specs.Alike.{IsFailure as IsFailureTold}
 use Rattle.exam_http.specs.Answering.{TellsReply, choice_in, own_named}
 use Rattle.exam_http.specs.declared.serving.HttpFault.{HttpFault}
-use Rattle.exam_theorem.specs.Following.{AreFollowed, EndsInOne, Fails, Follows, FollowsCommand, FollowsLine, IsDone, IsFailure, IsFailureOf, IsRefused, LineEnd, NoneFails, TellsAnswer, is_failure}
+use Rattle.exam_theorem.specs.Following.{AreFollowed, EndsInOne, Follows, FollowsCommand, FollowsLine, IsDone, IsFailure, IsFailureOf, IsRefused, LineEnd, NoneFails, TellsAnswer, is_failure}
 use Rattle.exam_theorem.specs.Orders.{Given, command_of, line_of, of_line, of_request}
-use Rattle.exam_theorem.specs.Requests.{AnswersAsked, Does, Serves, Tells}
+use Rattle.exam_theorem.specs.Requests.{AnswersAsked, Does, Serves}
 use Rattle.exam_theorem.specs.declared.orders.Outcome.{Outcome}
 use Rattle.exam_theorem.specs.declared.orders.Outcome.TheVariants as outcome
 

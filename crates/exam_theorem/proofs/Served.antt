@@ -1,6 +1,6 @@
 -- A request that is served over the office in a store is followed.
-use Rattle.std.proofs.Common.{◌≡◌, ◌∙◌, ℕ, List, [], ◌++◌, Option, None, Some, refl, sym, ap, subst, inl, inr}
-use Rattle.std.specs.Prelude.{Result, Ok, Err, IfSome}
+use Rattle.std.proofs.Common.{◌≡◌, ◌∙◌, ℕ, List, [], ◌++◌, Option, Some, sym, ap, subst, inl, inr}
+use Rattle.std.specs.Prelude.{Result, Ok, Err}
 use Rattle.std.specs.Io.KnownBytes.{Appends}
 use Rattle.sqlite.specs.Effect.{Database}
 use Rattle.sqlite.specs.Held.{state}
@@ -16,7 +16,7 @@ use Rattle.exam_store.specs.Kept.{Keeps, Rekeeps}
 use Rattle.exam_store.specs.Stores.{OfficeIn}
 use Rattle.exam_send.specs.Sending.{AppendsPart}
 use Rattle.exam_request.specs.Answer.{Told, answer_text}
-use Rattle.exam_request.specs.Asked.{Asks, Request}
+use Rattle.exam_request.specs.Asked.{Request}
 use Rattle.exam_request.specs.declared.choice.Choice.{Choice}
 use Rattle.exam_request.specs.declared.choice.Choice.TheVariants as choice
 use Rattle.exam_request.specs.declared.fault.Fault.{Fault}

@@ -1,7 +1,6 @@
 use Rattle.std.proofs.Common.{◌≡◌, ◌+◌, ◌∷◌, ◌++◌, [], take, ap, sym, ◌∙◌, arith}
 use Rattle.std.proofs.lemmas.List.{take_more}
 use Rattle.exam_theorem.specs.Following.{Follows, SparesOthers}
-use Rattle.exam_theorem.specs.Orders.{shown}
 use Rattle.exam_theorem.proofs.KeptOffice.{then_on}
 use Rattle.exam_theorem.proofs.Listing.{next_of_each}
 use Rattle.exam_theorem.proofs.orders.follow_all.Goals as goal

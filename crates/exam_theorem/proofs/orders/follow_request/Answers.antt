@@ -1,4 +1,4 @@
-use Rattle.std.proofs.Common.{None, Some, ap, refl}
+use Rattle.std.proofs.Common.{Some, ap, refl}
 use Rattle.exam_theorem.proofs.Served.{served}
 use Rattle.exam_theorem.proofs.Sparing.{request_spares}
 use Rattle.exam_theorem.proofs.orders.follow_request.Goals as goal
