@@ -1,6 +1,0 @@
-//! An example of a day, from its imports to a sheet. It stands beside `exam_day`, so that the gate proves that
-//! crate once.
-#![tactic(auto)]
-
-#[cfg(test)]
-mod tests;

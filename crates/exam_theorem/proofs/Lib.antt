@@ -1,0 +1,10 @@
+mod Reading
+mod KeptOffice
+mod Sheets
+mod Carried
+mod OneOffice
+mod Served
+mod Sparing
+mod Listing
+mod Asked
+mod PrintedAfter

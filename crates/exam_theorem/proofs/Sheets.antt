@@ -1,0 +1,51 @@
+-- A sheet is printed of an office, which is kept.
+use Rattle.std.proofs.Common.{◌≡◌, ℕ, Bool, true, false, List, Option, Some, Result, refl, ap, inr}
+use Rattle.std.specs.Prelude.{is_some}
+use Rattle.sqlite.specs.Held.{state}
+use Rattle.sqlite_trees.specs.declared.store.Store.{Ghosts}
+use Rattle.exam_rules.specs.Relations.{Code, code_cmp, has_row}
+use Rattle.exam_line.specs.Lines.{Task}
+use Rattle.exam_line.specs.Lines as line
+use Rattle.exam_line.specs.declared.line.Sheet.{Sheet}
+use Rattle.exam_line.specs.declared.line.Sheet.TheVariants as sheet
+use Rattle.exam_rows.specs.Transactions.{IsSound}
+use Rattle.exam_store.specs.Stores.{OfficeIn}
+use Rattle.exam_job.specs.Jobs.{Does}
+use Rattle.exam_job.specs.Sheets.{PrintsAppeals}
+use Rattle.exam_job.specs.declared.report.JobFault.{JobFault}
+use Rattle.exam_theorem.specs.Following.{told}
+use Rattle.exam_theorem.specs.Keeping.{KeepsIt, KeepsOn}
+use Rattle.exam_theorem.specs.Orders.{sheet_of}
+use Rattle.exam_theorem.specs.Printing.{PrintsAsked, RestsOn, RestsOnAsked}
+use Rattle.exam_theorem.proofs.KeptOffice.{read_alone, unchanged}
+
+module _ {S W : Type 0} (g : Ghosts S) (contents : W → Option (List ℕ)) (today : ℕ) (input rest : Option (List ℕ)) (old new : OfficeIn S) (before : W) (result : Result (Unit {0}) JobFault) (after : W) where
+  appeals_kept : (s : Code) → PrintsAppeals g contents s old before result new after → KeepsOn g old new
+  appeals_kept s prints = by (has_row code_cmp old.office.relations.sessions s) refl
+    where
+      by : (known : Bool) → has_row code_cmp old.office.relations.sessions s ≡ known → KeepsOn g old new
+      by true known = read_alone g old new result prints.office prints.survives (λ clean. prints.left clean known)
+      by false known = unchanged g old new (prints.unknown known).1
+
+  -- a sheet leaves the office, and what keeps it
+  pub sheet_keeps : (s : Code) (which : Sheet) → Does g contents (line.print s which) today input rest old before result new after → (new.office ≡ old.office) × KeepsOn g old new
+  sheet_keeps s sheet.Appeals h = (h.1.office, appeals_kept s h.1)
+  sheet_keeps s which h = (ap (λ (o : OfficeIn S). o.office) h.1, unchanged g old new h.1)
+
+  pub task_keeps : (task : Task) → is_some (sheet_of task) ≡ true → Does g contents task today input rest old before result new after → (new.office ≡ old.office) × KeepsOn g old new
+  task_keeps (line.print s which) asks h = sheet_keeps s which h
+  task_keeps other asks h = absurd cc
+
+  abbrev Rested : Type 0
+  Rested = IsSound (state g new.database) × KeepsIt g old
+
+  printed : (s : Code) (which : Sheet) → Does g contents (line.print s which) today input rest old before result new after → RestsOn Rested which
+      → PrintsAsked contents old.office (Some (s, which)) before (told result) after
+  unfolding KeepsIt
+  printed s sheet.Appeals h rested = inr (result, refl, h.1.sheet rested.0.0 rested.1.0)
+  printed s which h rested = inr (result, refl, h.2)
+
+  pub task_printed : (task : Task) → is_some (sheet_of task) ≡ true → Does g contents task today input rest old before result new after → RestsOnAsked Rested (sheet_of task)
+      → PrintsAsked contents old.office (sheet_of task) before (told result) after
+  task_printed (line.print s which) asks h rested = printed s which h rested
+  task_printed other asks h rested = absurd cc

@@ -1,0 +1,143 @@
+-- Whom a line costs a seat, and that a request costs nobody one.
+use Rattle.std.proofs.Common.{◌≡◌, ℕ, List, Option, None, Some, refl, sym, ap, subst, inl, inr}
+use Rattle.std.specs.Prelude.{Result, Ok, Err, IsSome}
+use Rattle.clap.specs.Words.{Text}
+use Rattle.exam_types.specs.declared.refusal.Refusal.{Refusal}
+use Rattle.exam_plan.specs.Matching.{Keeps, Plan, Seating}
+use Rattle.exam_rules.specs.Relations.{Code, Relations}
+use Rattle.exam_rules.specs.Seatings.{plan_of, seating}
+use Rattle.exam_office.specs.declared.command.Command.{Command}
+use Rattle.exam_office.specs.declared.command.Command.TheVariants as command
+use Rattle.exam_office.specs.declared.command.Lodging.{Lodging}
+use Rattle.exam_office.specs.declared.command.Reply.{Reply}
+use Rattle.exam_office.specs.Good.{IsGood}
+use Rattle.exam_office.specs.Orders.{IsInOrder}
+use Rattle.exam_office.specs.Own.{OwnRows}
+use Rattle.exam_office.specs.State.{State}
+use Rattle.exam_office.specs.Steps.{SeatsOn, Step, StepTo, change}
+use Rattle.exam_line.specs.Lines.{Said}
+use Rattle.exam_request.specs.Answer.{Told}
+use Rattle.exam_request.specs.Asked.{Request}
+use Rattle.exam_request.specs.Choices.{IsBy, IsOwnCommand, choice_of}
+use Rattle.exam_request.specs.declared.choice.Choice.{Choice}
+use Rattle.exam_request.specs.declared.choice.Choice.TheVariants as choice
+use Rattle.exam_request.specs.declared.fault.Fault.{Fault}
+use Rattle.exam_store.specs.Applied.{MayApply}
+use Rattle.exam_http.specs.Answering.{choice_in, own_named}
+use Rattle.exam_http.specs.declared.serving.HttpFault.{HttpFault}
+use Rattle.exam_http.specs.declared.serving.HttpFault.TheVariants.{Read, Write}
+use Rattle.exam_theorem.specs.Following.{FollowsCommand, FollowsLine, FollowsWords, LineEnd, Spares}
+use Rattle.exam_theorem.specs.Orders.{CommandMayUnseat, GivenMayUnseat, LineMayUnseat, command_of, line_of, of_line, of_request}
+use Rattle.exam_theorem.specs.Requests.{AnswersAsked, Does, Serves}
+
+-- nobody leaves a seat where all plans stay
+seats_stay : (Excepted : ℕ → Type 0) (before after : State) → after.seats ≡ before.seats → (s : Code) → Keeps Excepted (seating after.relations s) (plan_of before.seats s) (plan_of after.seats s)
+seats_stay Excepted before after same s = λ c sat member other. subst (λ (seats : List ((Code × ℕ) × Code)). IsSome (plan_of seats s c)) (sym same) sat
+
+-- ---- a line
+
+-- whom a step seats for certain
+seated_on : (done : Command) (g : Seating ℕ Code) (p q : Plan ℕ Code) → SeatsOn done g p q → Keeps (CommandMayUnseat done) g p q
+seated_on (command.Import import) g p q on = λ c sat member other. absurd (other tt)
+seated_on (command.CloseHall session hall) g p q on = λ c sat member other. absurd (other tt)
+seated_on (command.Withdraw number paper) g p q on = on
+seated_on (command.Reinstate number paper) g p q on = on
+seated_on (command.Lodge lodging) g p q on = on
+seated_on (command.Retract number reference) g p q on = on
+seated_on (command.Decide decision) g p q on = on
+
+module _ (before after : State) where
+  -- in each session all others sit on
+  abbrev KeepsOthers : (ℕ → Type 0) → Type 0
+  KeepsOthers Excepted = (s : Code) → Keeps Excepted (seating after.relations s) (plan_of before.seats s) (plan_of after.seats s)
+
+  stays : (Excepted : ℕ → Type 0) → after ≡ before → KeepsOthers Excepted
+  stays Excepted same = seats_stay Excepted before after (ap (λ (o : State). o.seats) same)
+
+  made : (done : Command) (reply : Reply) (changed : Result Relations Refusal) → StepTo done before (Ok reply) after changed → KeepsOthers (CommandMayUnseat done)
+  made done reply (Err e) h = absurd cc
+  made done reply (Ok r) h = λ s.
+      seated_on done (seating after.relations s) (plan_of before.seats s) (plan_of after.seats s)
+      (subst (λ (t : Relations). SeatsOn done (seating t s) (plan_of before.seats s) (plan_of after.seats s)) (sym h.0) (h.1 s).kept)
+
+  applied : (done : Command) (today : ℕ) (answered : Result Reply Refusal) → MayApply done today before answered after → KeepsOthers (CommandMayUnseat done)
+  applied done today (Ok reply) may = made done reply (change done today before) may
+  applied done today (Err e) may = stays (CommandMayUnseat done) may.0
+
+  commanded : (asked : Option (Result Command Refusal)) (today : ℕ) (end : LineEnd) → FollowsCommand asked today before end after → KeepsOthers (GivenMayUnseat asked)
+  commanded None today end h = stays (GivenMayUnseat None) h
+  commanded (Some (Ok done)) today end (inl (answered, may, tells)) = applied done today answered may
+  commanded (Some (Ok done)) today end (inr fails) = stays (CommandMayUnseat done) fails.1
+  commanded (Some (Err refusal)) today end (inl told) = stays (GivenMayUnseat (Some (Err refusal))) told.1
+  commanded (Some (Err refusal)) today end (inr fails) = stays (GivenMayUnseat (Some (Err refusal))) fails.1
+
+  lined : (line : Option Said) (words : List Text) (file : List ℕ) (end : LineEnd) → FollowsLine line words file before end after → KeepsOthers (LineMayUnseat line file)
+  lined None words file end h = stays (LineMayUnseat None file) h.3
+  lined (Some said) words file end h = commanded (command_of said.task file) said.today end h
+
+  pub line_spares : (words : List Text) (file : List ℕ) (end : LineEnd) → FollowsWords words file before end after → Spares (of_line words file) before after
+  line_spares words file end h = lined (line_of words) words file end h
+
+  -- ---- a request
+
+  in_order : (done : Command) (reply : Reply) (changed : Result Relations Refusal) → StepTo done before (Ok reply) after changed → IsInOrder after
+  in_order done reply (Err e) h = absurd cc
+  in_order done reply (Ok r) h = h.3
+
+-- lodging and retracting move nobody
+abbrev pub LodgingMovesNobody : Type 0
+LodgingMovesNobody =
+    (lodging : Lodging) (day : ℕ) (before after : State) (first : Reply) → IsGood before → IsInOrder before → IsInOrder after
+    → Step (command.Lodge lodging) day before (Ok first) after → after.seats ≡ before.seats
+
+abbrev pub RetractingMovesNobody : Type 0
+RetractingMovesNobody =
+    (number : ℕ) (reference : Code) (day : ℕ) (before after : State) (first : Reply) → IsGood before → IsInOrder before → IsInOrder after
+    → Step (command.Retract number reference) day before (Ok first) after → after.seats ≡ before.seats
+
+-- a command is the candidate's own
+abbrev pub OwnCommands : Type 0
+OwnCommands =
+    (request : Request) (own : Option OwnRows) (done : Command) → choice_of request own ≡ choice.Do done → IsOwnCommand request own done
+
+module _ (lodging : LodgingMovesNobody) (retracting : RetractingMovesNobody) (own_commands : OwnCommands) (before : State) (good : IsGood before) (order : IsInOrder before) (today : ℕ) (after : State) where
+  same_seats : after ≡ before → after.seats ≡ before.seats
+  same_seats same = ap (λ (o : State). o.seats) same
+
+  by_own : (number : ℕ) (done : Command) (answered : Result Reply Refusal) → IsBy number done → MayApply done today before answered after → after.seats ≡ before.seats
+  by_own number (command.Lodge l) (Ok reply) is may =
+      lodging l today before after reply good order (in_order before after (command.Lodge l) reply (change (command.Lodge l) today before) may) may
+  by_own number (command.Retract c reference) (Ok reply) is may =
+      retracting c reference today before after reply good order (in_order before after (command.Retract c reference) reply (change (command.Retract c reference) today before) may) may
+  by_own number (command.Import import) (Ok reply) is may = absurd is
+  by_own number (command.Withdraw c p) (Ok reply) is may = absurd is
+  by_own number (command.Reinstate c p) (Ok reply) is may = absurd is
+  by_own number (command.CloseHall s h) (Ok reply) is may = absurd is
+  by_own number (command.Decide d) (Ok reply) is may = absurd is
+  by_own number done (Err e) is may = same_seats may.0
+
+  own_command : (request : Request) (own : Option OwnRows) (done : Command) (answered : Result Reply Refusal) → IsOwnCommand request own done → MayApply done today before answered after → after.seats ≡ before.seats
+  own_command request None done answered is may = absurd is
+  own_command request (Some rows) done answered is may = by_own rows.number done answered is.1 may
+
+  chosen : (request : Request) (own : Option OwnRows) (c : Choice) (told : Told) → choice_of request own ≡ c → Does today own before c told after → after.seats ≡ before.seats
+  chosen request own (choice.Do done) told is (answered, may, tells) = own_command request own done answered (own_commands request own done is) may
+  chosen request own (choice.Fault fault) told is h = same_seats h.1
+  chosen request own (choice.OtherMethod route) told is h = same_seats h.1
+  chosen request own (choice.Refused refusal) told is h = same_seats h.1
+  chosen request own choice.ShowSeats told is h = same_seats h.1
+  chosen request own choice.ShowClashes told is h = same_seats h.1
+  chosen request own choice.ShowAppeals told is h = same_seats h.1
+
+  answered_stays : (asked : Result Request Fault) (told : Told) → AnswersAsked today before asked told after → after.seats ≡ before.seats
+  answered_stays (Err fault) told h = same_seats h.1
+  answered_stays (Ok request) told (inl busy) = same_seats busy.1
+  answered_stays (Ok request) told (inr h) = chosen request (own_named before request) (choice_in before request) told refl h
+
+  served_stays : (bytes : List ℕ) (result : Result (Unit {0}) HttpFault) (answer : List ℕ) → Serves bytes today before result answer after → after.seats ≡ before.seats
+  served_stays bytes (Ok done) answer (told, h, is) = answered_stays h.asked told h.answers
+  served_stays bytes (Err Read) answer h = same_seats h.1
+  served_stays bytes (Err Write) answer (told, h, part) = answered_stays h.asked told h.answers
+
+  pub request_spares : (bytes : List ℕ) (result : Result (Unit {0}) HttpFault) (answer : List ℕ) → Serves bytes today before result answer after → Spares (of_request bytes today) before after
+  request_spares bytes result answer h = seats_stay (λ c. ⊥) before after (served_stays bytes result answer h)

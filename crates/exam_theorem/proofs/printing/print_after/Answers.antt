@@ -1,0 +1,23 @@
+use Rattle.std.proofs.Common.{subst, sym}
+use Rattle.std.specs.Prelude.{map, string_bytes}
+use Rattle.exam_office.specs.State.{State}
+use Rattle.exam_theorem.specs.Following.{EndsInOne}
+use Rattle.exam_theorem.specs.Orders.{sheet_asked, shown}
+use Rattle.exam_theorem.proofs.KeptOffice.{then_on}
+use Rattle.exam_theorem.proofs.OneOffice.{ends_in_one}
+use Rattle.exam_theorem.proofs.PrintedAfter.{printed_at_end}
+use Rattle.exam_theorem.proofs.printing.print_after.Goals as goal
+
+pub returns-clause-kept : goal.returns-clause-kept
+returns-clause-kept g c =
+    then_on g.S.Store c.args.store.now c.follow_all.new.store c.print_asked-printed.new.store c.follow_all.ensures.kept c.print_asked-printed.ensures.kept
+
+pub returns-clause-sheet : goal.returns-clause-sheet
+returns-clause-sheet g c =
+    printed_at_end g.S.Store c.args.store.now c.follow_all.new.store c.print_asked-printed.new.store c.follow_all.ensures.kept c.print_asked-printed.ensures.kept g.O.Write.contents
+    (sheet_asked (map string_bytes c.args.words.now)) c.args.out.now c.print_asked-printed.result c.print_asked-printed.new.out c.print_asked-printed.ensures.office c.print_asked-printed.ensures.sheet
+
+pub returns-clause-one : goal.returns-clause-one
+returns-clause-one g c =
+    subst (λ (office : State). EndsInOne (map shown c.args.orders.now) c.args.store.now.office c.in_ok-outcomes.outcomes.items office) (sym c.print_asked-printed.ensures.office)
+    (ends_in_one c.one_step_has_one_result.ensures c.requests_ask_one_thing.ensures (map shown c.args.orders.now) c.args.store.now.office c.follow_all.new.store.office c.in_ok-outcomes.outcomes.items c.in_ok-outcomes.ensures.run)

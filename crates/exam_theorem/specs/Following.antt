@@ -1,0 +1,147 @@
+-- What becomes of orders.
+use Rattle.std.specs.Prelude.{◌≡◌, ◌⊎◌, ⊤, ℕ, All, Bool, true, false, IsTrue, List, [], ◌∷◌, Option, Some, None}
+use Rattle.std.specs.Prelude.{Result, Ok, Err}
+use Rattle.clap.specs.Words.{Text}
+use Rattle.exam_types.specs.declared.refusal.Refusal.{Refusal}
+use Rattle.exam_plan.specs.Matching.{Keeps}
+use Rattle.exam_rules.specs.Relations.{Code}
+use Rattle.exam_rules.specs.Seatings.{plan_of, seating}
+use Rattle.exam_office.specs.declared.command.Command.{Command}
+use Rattle.exam_office.specs.declared.command.Reply.{Reply}
+use Rattle.exam_office.specs.Headline.{IsSeated}
+use Rattle.exam_office.specs.State.{State}
+use Rattle.exam_line.specs.Lines.{Answers, Said}
+use Rattle.exam_line.specs.declared.line.LineFault.{LineFault}
+use Rattle.exam_line.specs.declared.line.LineFault.TheVariants.{NoMemory}
+use Rattle.exam_request.specs.Answer.{Told, answer_text}
+use Rattle.exam_store.specs.Applied.{MayApply}
+use Rattle.exam_http.specs.Alike.{IsFailure as IsFailureTold}
+use Rattle.exam_http.specs.declared.serving.HttpFault.{HttpFault}
+use Rattle.exam_rows.specs.Faults.{is_store_refusal}
+use Rattle.exam_job.specs.declared.report.JobFault.{JobFault}
+use Rattle.exam_job.specs.declared.report.JobFault.TheVariants.{File, Refused, Write}
+use Rattle.exam_theorem.specs.Orders.{Given, MayUnseat, command_of, line_of, of_line, of_request}
+use Rattle.exam_theorem.specs.Requests.{FollowsRequest}
+use Rattle.exam_theorem.specs.declared.orders.LineStop.{LineStop}
+use Rattle.exam_theorem.specs.declared.orders.LineStop.TheVariants.{NoLine, Job}
+use Rattle.exam_theorem.specs.declared.orders.Outcome.{Outcome}
+use Rattle.exam_theorem.specs.declared.orders.Outcome.TheVariants as outcome
+
+-- ---- a command line
+
+-- done, or why not
+abbrev pub LineEnd : Type 0
+LineEnd = Result (Unit {0}) LineStop
+
+-- what became of a line that was read
+abbrev pub told : Result (Unit {0}) JobFault → LineEnd
+told (Ok done) = Ok done
+told (Err fault) = Err (Job fault)
+
+-- want of memory, a failed read, or a database that failed or is no office
+abbrev pub is_failure : LineEnd → Bool
+is_failure (Err (NoLine NoMemory)) = true
+is_failure (Err (Job File)) = true
+is_failure (Err (Job (Refused refusal))) = is_store_refusal refusal
+is_failure other = false
+
+-- there was a failure, and nothing changed
+abbrev pub Fails : State → LineEnd → State → Type 0
+Fails before end after = IsTrue (is_failure end) × (after ≡ before)
+
+-- the refusal is told, or there was a failure before it; nothing changed
+abbrev pub IsRefused : Refusal → State → LineEnd → State → Type 0
+IsRefused refusal before end after =
+    ((end ≡ Err (Job (Refused refusal))) × (after ≡ before)) ⊎ Fails before end after
+
+-- what is told of an answer: that it is done, whether or not its line went out, or the refusal
+abbrev pub TellsAnswer : Result Reply Refusal → LineEnd → Type 0
+TellsAnswer (Ok reply) end = (end ≡ Ok tt) ⊎ (end ≡ Err (Job Write))
+TellsAnswer (Err refusal) end = end ≡ Err (Job (Refused refusal))
+
+-- the command's step is made, or refused, and told, or there was a failure before it
+abbrev pub IsDone : Command → ℕ → State → LineEnd → State → Type 0
+IsDone done today before end after =
+    ((answered : Result Reply Refusal) × MayApply done today before answered after × TellsAnswer answered end)
+    ⊎ Fails before end after
+
+-- a command of the office is done, an import file that denotes none is refused, and nothing else changes the office
+abbrev pub FollowsCommand : Option (Result Command Refusal) → ℕ → State → LineEnd → State → Type 0
+FollowsCommand None today before end after = after ≡ before
+FollowsCommand (Some (Ok done)) today before end after = IsDone done today before end after
+FollowsCommand (Some (Err refusal)) today before end after = IsRefused refusal before end after
+
+-- the words are no line, which is told, and nothing changes
+abbrev pub IsNoLine : List Text → State → LineEnd → State → Type 0
+IsNoLine words before end after =
+    (fault : LineFault) × (end ≡ Err (NoLine fault)) × Answers (Err fault) words × (after ≡ before)
+
+abbrev pub FollowsLine : Option Said → List Text → List ℕ → State → LineEnd → State → Type 0
+FollowsLine None words file before end after = IsNoLine words before end after
+FollowsLine (Some said) words file before end after =
+    FollowsCommand (command_of said.task file) said.today before end after
+
+-- what becomes of the words of a command line, with the file that it imports
+abbrev pub FollowsWords : List Text → List ℕ → State → LineEnd → State → Type 0
+FollowsWords words file before end after = FollowsLine (line_of words) words file before end after
+
+-- ---- orders
+
+-- what becomes of an order
+abbrev pub Follows : Given → State → Outcome → State → Type 0
+Follows (of_line words file) before (outcome.Line end) after = FollowsWords words file before end after
+Follows (of_request bytes today) before (outcome.Request answered) after =
+    FollowsRequest bytes today before answered after
+Follows (of_line words file) before (outcome.Request answered) after = ⊥
+Follows (of_request bytes today) before (outcome.Line end) after = ⊥
+
+-- each order leads, in this way, on from the office that the one before it left
+abbrev pub AreEach : (Given → State → Outcome → State → Type 0) → List Given → State → List Outcome → State → Type 0
+AreEach Leads [] before [] after = after ≡ before
+AreEach Leads (order ∷ orders) before (outcome ∷ outcomes) after =
+    (mid : State) × Leads order before outcome mid × AreEach Leads orders mid outcomes after
+AreEach Leads [] before (outcome ∷ outcomes) after = ⊥
+AreEach Leads (order ∷ orders) before [] after = ⊥
+
+-- each order is followed in the office that the one before it left
+abbrev pub AreFollowed : List Given → State → List Outcome → State → Type 0
+AreFollowed = AreEach Follows
+
+-- ---- seats that are kept
+
+-- in each session everybody who sat and is still a member sits, except those whom the order may cost a seat
+abbrev pub Spares : Given → State → State → Type 0
+Spares order before after = (s : Code) → Keeps (MayUnseat order) (seating after.relations s)
+    (plan_of before.seats s) (plan_of after.seats s)
+
+-- an order is followed, all others are spared, and every session is seated as promised
+pub record SparesOthers (order : Given) (before : State) (outcome : Outcome) (after : State) : Type 0 where
+  pub follows : Follows order before outcome after
+  pub spares : Spares order before after
+  pub seated : (s : Code) → IsSeated after s
+
+-- each order spares others, in the office that the one before it left
+abbrev pub EachSparesOthers : List Given → State → List Outcome → State → Type 0
+EachSparesOthers = AreEach SparesOthers
+
+-- ---- one office
+
+-- the request was not read, or there was no room for its answer, or that tells a failure
+abbrev pub IsFailureOf : Result (Unit {0}) HttpFault → List ℕ → Type 0
+IsFailureOf (Err fault) answer = ⊤
+IsFailureOf (Ok done) answer = (told : Told) × IsFailureTold told × (answer ≡ answer_text told)
+
+-- a line or a request met a failure
+abbrev pub IsFailure : Outcome → Type 0
+IsFailure (outcome.Line end) = IsTrue (is_failure end)
+IsFailure (outcome.Request answered) = IsFailureOf answered.served answered.answer.items
+
+-- none met a failure
+abbrev pub NoneFails : List Outcome → Type 0
+NoneFails outcomes = All (λ outcome. IsFailure outcome → ⊥) outcomes
+
+-- however else the orders are followed, they end in the same office, where none meets a failure
+abbrev pub EndsInOne : List Given → State → List Outcome → State → Type 0
+EndsInOne orders before outcomes after =
+    NoneFails outcomes → (others : List Outcome) (other : State) → AreFollowed orders before others other
+    → NoneFails others → other ≡ after

@@ -1,0 +1,13 @@
+-- The definitions that contracts of this crate cite. Each file says:
+--
+-- - Orders: what an order says: the words of a command line with the bytes of the file that it imports, or the
+--   bytes of a request; which command a line gives; whom an order may cost a seat
+-- - Requests: what becomes of a request, and what it is told
+-- - Following: what becomes of orders, one after the other
+-- - Printing: the sheet that words ask for
+-- - Keeping: the tables of a database that keep an office
+pub mod Orders
+pub mod Requests
+pub mod Following
+pub mod Printing
+pub mod Keeping

@@ -1,0 +1,161 @@
+//! What comes in, and what becomes of it.
+ghost use Rattle.std.specs.Prelude.{◌≡◌, map, IfOk, IfErr, OnErr, string_bytes};
+ghost use Rattle.exam_types.specs.declared.refusal.Refusal.TheVariants.{NoMemory};
+ghost use Rattle.exam_rules.specs.Relations.{Code};
+ghost use Rattle.exam_office.specs.Headline.{IsSeated};
+ghost use Rattle.exam_line.specs.Lines as lines;
+ghost use Rattle.exam_theorem.specs.Following as spec;
+ghost use Rattle.exam_theorem.specs.Keeping.{KeepsOn};
+ghost use Rattle.exam_theorem.specs.Orders.{command_of, of_line, of_request, shown};
+ghost use Rattle.exam_theorem.specs.Requests.{FollowsRequest};
+
+use exam_http::{HttpFault, serve_one};
+use exam_job::{JobFault, carry_out};
+use exam_line::{Line, LineFault, parse_line};
+use exam_office::{lodging_and_retracting_move_nobody, one_step_has_one_result};
+use exam_request::commands_are_of_who_shows_the_code;
+use exam_store::Store;
+use exam_types::{Day, Refusal};
+use sqlite::Alter;
+use std::alloc::Global;
+use std::io;
+
+/// What comes in.
+#[derive(Clone, Copy)]
+pub enum Order<'o> {
+    /// The words of a command line, the program's name first, and the bytes of the file that it imports, if it
+    /// does.
+    Line { words: &'o [String], file: &'o [u8] },
+    /// The bytes of a request over HTTP, and the day on which it comes.
+    Request { bytes: &'o [u8], today: Day },
+}
+
+/// Why a command line was not carried out.
+#[derive(Drop)]
+pub enum LineStop {
+    /// The words are no line.
+    NoLine(LineFault),
+    /// The line was not carried out, or what it prints did not go out.
+    Job(JobFault),
+}
+
+/// What became of a command line.
+pub type LineEnd = Result<(), LineStop>;
+
+/// What became of a request: the bytes of its answer, or why they are not all there.
+#[derive(Drop)]
+pub struct Answered {
+    pub served: Result<(), HttpFault>,
+    pub answer: Vec<u8>,
+}
+
+/// What became of an order.
+#[derive(Drop)]
+pub enum Outcome {
+    Line(LineEnd),
+    Request(Answered),
+}
+
+/// Follows orders in turn, and gives what became of each. Refused for want of memory before any order, and then
+/// all is as before.
+pub fn follow_all<S: Alter>(
+    alloc: Global,
+    store: &mut Store<S>,
+    orders: &[Order<'_>],
+) -> Result<Vec<Outcome>, Refusal>
+    ensures run { IfOk result (λ outcomes.
+        spec.AreFollowed (map shown orders.now) store.old.office outcomes.items store.new.office) }
+    ensures spares { IfOk result (λ outcomes. spec.EachSparesOthers (map shown orders.now) store.old.office
+        outcomes.items store.new.office) }
+    ensures kept { KeepsOn S.Store store.old store.new }
+    ensures memory { IfErr result (λ e. e ≡ NoMemory) }
+    ensures same { OnErr result (store.new ≡ store.old) }
+{
+    // Room for all outcomes first, so that nothing fails once an order is followed.
+    let mut outcomes = Vec::with_capacity(alloc, orders.len())?;
+    'orders: for order in orders {
+        outcomes.push_reserved(follow(alloc, store, order));
+    }
+    Ok(outcomes)
+}
+
+/// Follows one order.
+fn follow<S: Alter>(alloc: Global, store: &mut Store<S>, order: &Order<'_>) -> Outcome
+    ensures follows { spec.Follows (shown order.now) store.old.office result store.new.office }
+    ensures spares { spec.Spares (shown order.now) store.old.office store.new.office }
+    ensures headline { (s : Code) → IsSeated store.new.office s }
+    ensures kept { KeepsOn S.Store store.old store.new }
+{
+    let outcome = match *order {
+        Order::Line { words, file } => Outcome::Line(follow_words(alloc, store, words, file)),
+        Order::Request { bytes, today } => {
+            Outcome::Request(follow_request(alloc, store, bytes, today))
+        }
+    };
+    store.show_seated();
+    outcome
+}
+
+/// Follows the words of a command line.
+fn follow_words<S: Alter>(
+    alloc: Global,
+    store: &mut Store<S>,
+    words: &[String],
+    file: &[u8],
+) -> LineEnd
+    ensures follows { spec.FollowsWords (map string_bytes words.now) file.now store.old.office result
+        store.new.office }
+    ensures spares { spec.Spares (of_line (map string_bytes words.now) file.now) store.old.office store.new.office }
+    ensures kept { KeepsOn S.Store store.old store.new }
+{
+    match parse_line(alloc, words) {
+        Ok(line) => follow_line(alloc, store, &line, file),
+        Err(fault) => Err(LineStop::NoLine(fault)),
+    }
+}
+
+/// Follows a line with the file that it imports. What it prints is thrown away.
+fn follow_line<S: Alter>(
+    alloc: Global,
+    store: &mut Store<S>,
+    line: &Line<'_>,
+    mut file: &[u8],
+) -> LineEnd
+    ensures follows { spec.FollowsCommand (command_of (lines.task_shown line.now.job) file.entry.now)
+        line.now.today store.old.office result store.new.office }
+    ensures kept { KeepsOn S.Store store.old store.new }
+{
+    told(carry_out(alloc, line, store, &mut file, &mut io::sink()))
+}
+
+/// What became of a line that was read.
+pub fn told(job: Result<(), JobFault>) -> LineEnd
+    ensures { result ≡ spec.told job }
+{
+    match job {
+        Ok(()) => Ok(()),
+        Err(fault) => Err(LineStop::Job(fault)),
+    }
+}
+
+/// Follows a request, and keeps its answer.
+fn follow_request<S: Alter>(
+    alloc: Global,
+    store: &mut Store<S>,
+    mut bytes: &[u8],
+    today: Day,
+) -> Answered
+    ensures follows { FollowsRequest bytes.entry.now today store.old.office result store.new.office }
+    ensures spares { spec.Spares (of_request bytes.entry.now today) store.old.office store.new.office }
+    ensures kept { KeepsOn S.Store store.old store.new }
+{
+    // A command has one result, so the office that the tables keep is the one that it led to.
+    one_step_has_one_result();
+    // It is a lodging or a retraction, which in a good office moves nobody.
+    commands_are_of_who_shows_the_code();
+    lodging_and_retracting_move_nobody();
+    store.show_good();
+    let mut answer = Vec::new(alloc);
+    let served = serve_one(alloc, store, today, &mut bytes, &mut answer);
+    Answered { served, answer }
+}

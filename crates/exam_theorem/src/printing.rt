@@ -1,0 +1,112 @@
+//! An office after orders, and a sheet of it.
+ghost use Rattle.std.specs.Prelude.{◌≡◌, map, is_some, IfOk, IfErr, OnErr, string_bytes};
+ghost use Rattle.sqlite.specs.Held.{state};
+ghost use Rattle.exam_types.specs.declared.refusal.Refusal.TheVariants.{NoMemory};
+ghost use Rattle.exam_rules.specs.Relations.{Code};
+ghost use Rattle.exam_office.specs.Headline.{IsSeated};
+ghost use Rattle.exam_line.specs.Lines as lines;
+ghost use Rattle.exam_rows.specs.Transactions.{IsSound};
+ghost use Rattle.exam_theorem.specs.Following as spec;
+ghost use Rattle.exam_theorem.specs.Keeping.{KeepsIt, KeepsOn};
+ghost use Rattle.exam_theorem.specs.Orders.{sheet_asked, sheet_of, shown};
+ghost use Rattle.exam_theorem.specs.Printing.{PrintsAsked, RestsOnAsked};
+
+use crate::orders::{LineEnd, LineStop, Order, Outcome, follow_all, told};
+use exam_job::carry_out;
+use exam_line::{Job, Line, LineFault, parse_line};
+use exam_office::one_step_has_one_result;
+use exam_request::requests_ask_one_thing;
+use exam_store::Store;
+use exam_types::Refusal;
+use sqlite::Alter;
+use std::alloc::Global;
+use std::io::{self, Write};
+
+/// What became of orders, and of a sheet after them.
+#[derive(Drop)]
+pub struct EndOfDay {
+    /// What became of each order.
+    pub outcomes: Vec<Outcome>,
+    /// What became of the sheet.
+    pub printed: LineEnd,
+}
+
+/// Follows orders in turn over the office in a store, and then prints the sheet that the words ask for. Refused
+/// for want of memory before any order. Whatever it answers, every session is seated as promised.
+pub fn print_after<S: Alter, O: Write>(
+    alloc: Global,
+    store: &mut Store<S>,
+    orders: &[Order<'_>],
+    words: &[String],
+    out: &mut O,
+) -> Result<EndOfDay, Refusal>
+    ensures run { IfOk result (λ day.
+        spec.AreFollowed (map shown orders.now) store.old.office day.outcomes.items store.new.office) }
+    ensures spares { IfOk result (λ day. spec.EachSparesOthers (map shown orders.now) store.old.office
+        day.outcomes.items store.new.office) }
+    ensures sheet { RestsOnAsked (IsSound (state S.Store store.new.database) × KeepsIt S.Store store.old)
+        (sheet_asked (map string_bytes words.now))
+        → IfOk result (λ day. PrintsAsked O.contents store.new.office
+        (sheet_asked (map string_bytes words.now)) out.old day.printed out.new) }
+    ensures headline { (s : Code) → IsSeated store.new.office s }
+    ensures kept { KeepsOn S.Store store.old store.new }
+    ensures one { IfOk result (λ day. spec.EndsInOne (map shown orders.now) store.old.office day.outcomes.items
+        store.new.office) }
+    ensures memory { IfErr result (λ e. e ≡ NoMemory) }
+    ensures same { OnErr result ((store.new ≡ store.old) × (out.new ≡ out.old)) }
+{
+    // What an office promises is shown here for a refusal, and once more after the orders.
+    store.show_seated();
+    let outcomes = follow_all(alloc, store, orders)?;
+    let printed = print_asked(alloc, store, words, out);
+    store.show_seated();
+    one_step_has_one_result();
+    requests_ask_one_thing();
+    Ok(EndOfDay { outcomes, printed })
+}
+
+/// Prints the sheet that the words ask for.
+fn print_asked<S: Alter, O: Write>(
+    alloc: Global,
+    store: &mut Store<S>,
+    words: &[String],
+    out: &mut O,
+) -> LineEnd
+    ensures sheet { RestsOnAsked (IsSound (state S.Store store.new.database) × KeepsIt S.Store store.old)
+        (sheet_asked (map string_bytes words.now)) → PrintsAsked O.contents store.old.office
+        (sheet_asked (map string_bytes words.now)) out.old result out.new }
+    ensures office { store.new.office ≡ store.old.office }
+    ensures kept { KeepsOn S.Store store.old store.new }
+{
+    match parse_line(alloc, words) {
+        Ok(line) => print_line(alloc, store, &line, out),
+        Err(fault) => Err(LineStop::NoLine(fault)),
+    }
+}
+
+/// Prints the sheet of a line that asks for one.
+fn print_line<S: Alter, O: Write>(
+    alloc: Global,
+    store: &mut Store<S>,
+    line: &Line<'_>,
+    out: &mut O,
+) -> LineEnd
+    ensures sheet { RestsOnAsked (IsSound (state S.Store store.new.database) × KeepsIt S.Store store.old)
+        (sheet_of (lines.task_shown line.now.job)) → PrintsAsked O.contents store.old.office
+        (sheet_of (lines.task_shown line.now.job)) out.old result out.new }
+    ensures office { store.new.office ≡ store.old.office }
+    ensures kept { KeepsOn S.Store store.old store.new }
+{
+    if is_sheet(line) {
+        told(carry_out(alloc, line, store, &mut io::empty(), out))
+    } else {
+        Err(LineStop::NoLine(LineFault::NotUnderstood))
+    }
+}
+
+/// Whether the line asks for a sheet.
+fn is_sheet(line: &Line<'_>) -> bool
+    ensures { result ≡ is_some (sheet_of (lines.task_shown line.now.job)) }
+{
+    matches!(&line.job, Job::Sheet { .. })
+}
