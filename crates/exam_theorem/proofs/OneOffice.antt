@@ -6,8 +6,8 @@ use Rattle.clap.specs.Words.{Text}
 use Rattle.exam_types.specs.declared.refusal.Refusal.{Refusal}
 use Rattle.exam_types.specs.declared.refusal.Refusal.TheVariants as refusal
 use Rattle.exam_office.specs.declared.command.Command.{Command}
+use Rattle.exam_office.specs.declared.command.Command.TheVariants as command
 use Rattle.exam_office.specs.declared.command.Reply.{Reply}
-use Rattle.exam_office.specs.Own.{OwnRows}
 use Rattle.exam_office.specs.State.{State}
 use Rattle.exam_office.specs.Steps.{Step}
 use Rattle.exam_line.specs.Lines.{Said}
@@ -19,11 +19,11 @@ use Rattle.exam_request.specs.declared.fault.Fault.{Fault}
 use Rattle.exam_store.specs.Applied.{MayApply}
 use Rattle.exam_rows.specs.Faults.{is_store_refusal}
 use Rattle.exam_http.specs.Alike.{IsFailure as IsFailureTold}
-use Rattle.exam_http.specs.Answering.{TellsReply, choice_in, own_named}
+use Rattle.exam_http.specs.Answering.{TellsReply, choice_in}
 use Rattle.exam_http.specs.declared.serving.HttpFault.{HttpFault}
 use Rattle.exam_theorem.specs.Following.{AreFollowed, EndsInOne, Follows, FollowsCommand, FollowsLine, IsDone, IsFailure, IsFailureOf, IsRefused, LineEnd, NoneFails, TellsAnswer, is_failure}
 use Rattle.exam_theorem.specs.Orders.{Given, command_of, line_of, of_line, of_request}
-use Rattle.exam_theorem.specs.Requests.{AnswersAsked, Does, Serves}
+use Rattle.exam_theorem.specs.Requests.{AnswersAsked, Does, DoesCommand, Serves}
 use Rattle.exam_theorem.specs.declared.orders.Outcome.{Outcome}
 use Rattle.exam_theorem.specs.declared.orders.Outcome.TheVariants as outcome
 
@@ -96,21 +96,23 @@ module _ (one_result : OneResult) where
       fine (failed e told bad (tells ∙ ap refusal_told same))
 
   module _ (today : ℕ) (before one other : State) (first second : Told) (none : IsFailureTold first → ⊥) (neither : IsFailureTold second → ⊥) where
-    one_choice : (own : Option OwnRows) (chosen : Choice) → Does today own before chosen first one → Does today own before chosen second other → one ≡ other
-    one_choice own (choice.Do done) (p, may, tells) (q, might, says) =
+    one_command_told : (done : Command) → DoesCommand today before done first one → DoesCommand today before done second other → one ≡ other
+    one_command_told done (p, may, tells) (q, might, says) =
         one_step done today before one other p q (replied_none first none p tells) (replied_none second neither q says) may might
-    one_choice own (choice.Fault fault) here there = here.1 ∙ sym there.1
-    one_choice own (choice.OtherMethod route) here there = here.1 ∙ sym there.1
-    one_choice own (choice.Refused e) here there = here.1 ∙ sym there.1
-    one_choice own choice.ShowSeats here there = here.1 ∙ sym there.1
-    one_choice own choice.ShowClashes here there = here.1 ∙ sym there.1
-    one_choice own choice.ShowAppeals here there = here.1 ∙ sym there.1
+
+    one_choice : (chosen : Choice) → Does today before chosen first one → Does today before chosen second other → one ≡ other
+    one_choice (choice.Lodge lodging) here there = one_command_told (command.Lodge lodging) here there
+    one_choice (choice.Retract number reference) here there = one_command_told (command.Retract number reference) here there
+    one_choice (choice.Fault fault) here there = here.1 ∙ sym there.1
+    one_choice (choice.OtherMethod route) here there = here.1 ∙ sym there.1
+    one_choice (choice.Refused e) here there = here.1 ∙ sym there.1
+    one_choice (choice.Show number page) here there = here.1 ∙ sym there.1
 
     one_asked : (asked : Result Request Fault) → AnswersAsked today before asked first one → AnswersAsked today before asked second other → one ≡ other
     one_asked (Err fault) here there = here.1 ∙ sym there.1
     one_asked (Ok request) (inl busy) there = absurd (none (inl busy.0))
     one_asked (Ok request) (inr here) (inl busy) = absurd (neither (inl busy.0))
-    one_asked (Ok request) (inr here) (inr there) = one_choice (own_named before request) (choice_in before request) here there
+    one_asked (Ok request) (inr here) (inr there) = one_choice (choice_in before request) here there
 
   module _ (one_thing : OneAsked) where
     one_served : (bytes : List ℕ) (today : ℕ) (before one other : State) (p q : Result (Unit {0}) HttpFault) (first second : List ℕ)

@@ -7,8 +7,8 @@ use Rattle.sqlite.specs.Held.{state}
 use Rattle.sqlite_trees.specs.declared.store.Store.{Ghosts}
 use Rattle.exam_types.specs.declared.refusal.Refusal.{Refusal}
 use Rattle.exam_office.specs.declared.command.Command.{Command}
+use Rattle.exam_office.specs.declared.command.Command.TheVariants as command
 use Rattle.exam_office.specs.declared.command.Reply.{Reply}
-use Rattle.exam_office.specs.Own.{OwnRows}
 use Rattle.exam_office.specs.State.{State}
 use Rattle.exam_rows.specs.Transactions.{IsSound}
 use Rattle.exam_store.specs.Applied.{IsApplied}
@@ -21,12 +21,12 @@ use Rattle.exam_request.specs.declared.choice.Choice.{Choice}
 use Rattle.exam_request.specs.declared.choice.Choice.TheVariants as choice
 use Rattle.exam_request.specs.declared.fault.Fault.{Fault}
 use Rattle.exam_http.specs.Answering as http
-use Rattle.exam_http.specs.Answering.{choice_in, own_named}
+use Rattle.exam_http.specs.Answering.{choice_in}
 use Rattle.exam_http.specs.Serving as serving
 use Rattle.exam_http.specs.declared.serving.HttpFault.{HttpFault}
 use Rattle.exam_http.specs.declared.serving.HttpFault.TheVariants.{Read, Write}
 use Rattle.exam_theorem.specs.Keeping.{KeepsOn}
-use Rattle.exam_theorem.specs.Requests.{AnswersAsked, Does, IsPart, Serves, Tells}
+use Rattle.exam_theorem.specs.Requests.{AnswersAsked, Does, DoesCommand, IsPart, Serves, Tells}
 use Rattle.exam_theorem.proofs.KeptOffice.{committed, unchanged}
 use Rattle.exam_theorem.proofs.OneOffice.{OneResult}
 
@@ -45,21 +45,23 @@ module _ {S : Type 0} (g : Ghosts S) (one_result : OneResult) (today : ℕ) (old
       subst (λ (o : State). Keeps (state g new.database).now o) (sym applied.step.0)
       (subst (λ (db : Database). Keeps db old.office) (sym (applied.made.same sound).0) kept)
 
-  does : (own : Option OwnRows) (chosen : Choice) (told : Told) → http.Does g today own old chosen told new → Does today own old.office chosen told new.office × KeepsOn g old new
-  does own (choice.Fault fault) told h = ((h.0, office_stays h.1), unchanged g old new h.1)
-  does own (choice.OtherMethod route) told h = ((h.0, office_stays h.1), unchanged g old new h.1)
-  does own (choice.Refused refusal) told h = ((h.0, office_stays h.1), unchanged g old new h.1)
-  does own choice.ShowSeats told h = ((h.0, office_stays h.1), unchanged g old new h.1)
-  does own choice.ShowClashes told h = ((h.0, office_stays h.1), unchanged g old new h.1)
-  does own choice.ShowAppeals told h = ((h.0, office_stays h.1), unchanged g old new h.1)
-  does own (choice.Do done) told (answered, applied, tells) =
+  commanded : (done : Command) (told : Told) → http.DoesCommand g today old done told new → DoesCommand today old.office done told new.office × KeepsOn g old new
+  commanded done told (answered, applied, tells) =
       ((answered, applied.step, tells), committed g old new answered applied.made (rekeeps done answered applied))
+
+  does : (chosen : Choice) (told : Told) → http.Does g today old chosen told new → Does today old.office chosen told new.office × KeepsOn g old new
+  does (choice.Fault fault) told h = ((h.0, office_stays h.1), unchanged g old new h.1)
+  does (choice.OtherMethod route) told h = ((h.0, office_stays h.1), unchanged g old new h.1)
+  does (choice.Refused refusal) told h = ((h.0, office_stays h.1), unchanged g old new h.1)
+  does (choice.Show number page) told h = ((h.0, office_stays h.1), unchanged g old new h.1)
+  does (choice.Lodge lodging) told h = commanded (command.Lodge lodging) told h
+  does (choice.Retract number reference) told h = commanded (command.Retract number reference) told h
 
   answers : (asked : Result Request Fault) (told : Told) → http.AnswersAsked g today old asked told new → AnswersAsked today old.office asked told new.office × KeepsOn g old new
   answers (Err fault) told h = ((h.0, office_stays h.1), unchanged g old new h.1)
   answers (Ok request) told (inl busy) = (inl (busy.0, office_stays busy.1), unchanged g old new busy.1)
   answers (Ok request) told (inr h) =
-      let done = does (own_named old.office request) (choice_in old.office request) told h in (inr done.0, done.1)
+      let done = does (choice_in old.office request) told h in (inr done.0, done.1)
 
   module _ (bytes : List ℕ) (rest : Option (List ℕ)) where
     tells : (told : Told) → serving.Tells g today (Some bytes) rest old told new → Tells bytes today old.office told new.office × KeepsOn g old new

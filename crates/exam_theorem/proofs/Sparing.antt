@@ -12,18 +12,16 @@ use Rattle.exam_office.specs.declared.command.Lodging.{Lodging}
 use Rattle.exam_office.specs.declared.command.Reply.{Reply}
 use Rattle.exam_office.specs.Good.{IsGood}
 use Rattle.exam_office.specs.Orders.{IsInOrder}
-use Rattle.exam_office.specs.Own.{OwnRows}
 use Rattle.exam_office.specs.State.{State}
 use Rattle.exam_office.specs.Steps.{SeatsOn, Step, StepTo, change}
 use Rattle.exam_line.specs.Lines.{Said}
 use Rattle.exam_request.specs.Answer.{Told}
 use Rattle.exam_request.specs.Asked.{Request}
-use Rattle.exam_request.specs.Choices.{IsBy, IsOwnCommand, choice_of}
 use Rattle.exam_request.specs.declared.choice.Choice.{Choice}
 use Rattle.exam_request.specs.declared.choice.Choice.TheVariants as choice
 use Rattle.exam_request.specs.declared.fault.Fault.{Fault}
 use Rattle.exam_store.specs.Applied.{MayApply}
-use Rattle.exam_http.specs.Answering.{choice_in, own_named}
+use Rattle.exam_http.specs.Answering.{choice_in}
 use Rattle.exam_http.specs.declared.serving.HttpFault.{HttpFault}
 use Rattle.exam_http.specs.declared.serving.HttpFault.TheVariants.{Read, Write}
 use Rattle.exam_theorem.specs.Following.{FollowsCommand, FollowsLine, FollowsWords, LineEnd, Spares}
@@ -95,44 +93,31 @@ RetractingMovesNobody =
     (number : ℕ) (reference : Code) (day : ℕ) (before after : State) (first : Reply) → IsGood before → IsInOrder before → IsInOrder after
     → Step (command.Retract number reference) day before (Ok first) after → after.seats ≡ before.seats
 
--- a command is the candidate's own
-abbrev pub OwnCommands : Type 0
-OwnCommands =
-    (request : Request) (own : Option OwnRows) (done : Command) → choice_of request own ≡ choice.Do done → IsOwnCommand request own done
-
-module _ (lodging : LodgingMovesNobody) (retracting : RetractingMovesNobody) (own_commands : OwnCommands) (before : State) (good : IsGood before) (order : IsInOrder before) (today : ℕ) (after : State) where
+module _ (lodging : LodgingMovesNobody) (retracting : RetractingMovesNobody) (before : State) (good : IsGood before) (order : IsInOrder before) (today : ℕ) (after : State) where
   same_seats : after ≡ before → after.seats ≡ before.seats
   same_seats same = ap (λ (o : State). o.seats) same
 
-  by_own : (number : ℕ) (done : Command) (answered : Result Reply Refusal) → IsBy number done → MayApply done today before answered after → after.seats ≡ before.seats
-  by_own number (command.Lodge l) (Ok reply) is may =
-      lodging l today before after reply good order (in_order before after (command.Lodge l) reply (change (command.Lodge l) today before) may) may
-  by_own number (command.Retract c reference) (Ok reply) is may =
-      retracting c reference today before after reply good order (in_order before after (command.Retract c reference) reply (change (command.Retract c reference) today before) may) may
-  by_own number (command.Import import) (Ok reply) is may = absurd is
-  by_own number (command.Withdraw c p) (Ok reply) is may = absurd is
-  by_own number (command.Reinstate c p) (Ok reply) is may = absurd is
-  by_own number (command.CloseHall s h) (Ok reply) is may = absurd is
-  by_own number (command.Decide d) (Ok reply) is may = absurd is
-  by_own number done (Err e) is may = same_seats may.0
+  lodged : (l : Lodging) (answered : Result Reply Refusal) → MayApply (command.Lodge l) today before answered after → after.seats ≡ before.seats
+  lodged l (Ok reply) may = lodging l today before after reply good order (in_order before after (command.Lodge l) reply (change (command.Lodge l) today before) may) may
+  lodged l (Err e) may = same_seats may.0
 
-  own_command : (request : Request) (own : Option OwnRows) (done : Command) (answered : Result Reply Refusal) → IsOwnCommand request own done → MayApply done today before answered after → after.seats ≡ before.seats
-  own_command request None done answered is may = absurd is
-  own_command request (Some rows) done answered is may = by_own rows.number done answered is.1 may
+  retracted : (number : ℕ) (reference : Code) (answered : Result Reply Refusal) → MayApply (command.Retract number reference) today before answered after → after.seats ≡ before.seats
+  retracted number reference (Ok reply) may =
+      retracting number reference today before after reply good order (in_order before after (command.Retract number reference) reply (change (command.Retract number reference) today before) may) may
+  retracted number reference (Err e) may = same_seats may.0
 
-  chosen : (request : Request) (own : Option OwnRows) (c : Choice) (told : Told) → choice_of request own ≡ c → Does today own before c told after → after.seats ≡ before.seats
-  chosen request own (choice.Do done) told is (answered, may, tells) = own_command request own done answered (own_commands request own done is) may
-  chosen request own (choice.Fault fault) told is h = same_seats h.1
-  chosen request own (choice.OtherMethod route) told is h = same_seats h.1
-  chosen request own (choice.Refused refusal) told is h = same_seats h.1
-  chosen request own choice.ShowSeats told is h = same_seats h.1
-  chosen request own choice.ShowClashes told is h = same_seats h.1
-  chosen request own choice.ShowAppeals told is h = same_seats h.1
+  chosen : (c : Choice) (told : Told) → Does today before c told after → after.seats ≡ before.seats
+  chosen (choice.Lodge l) told (answered, may, tells) = lodged l answered may
+  chosen (choice.Retract number reference) told (answered, may, tells) = retracted number reference answered may
+  chosen (choice.Fault fault) told h = same_seats h.1
+  chosen (choice.OtherMethod route) told h = same_seats h.1
+  chosen (choice.Refused refusal) told h = same_seats h.1
+  chosen (choice.Show number page) told h = same_seats h.1
 
   answered_stays : (asked : Result Request Fault) (told : Told) → AnswersAsked today before asked told after → after.seats ≡ before.seats
   answered_stays (Err fault) told h = same_seats h.1
   answered_stays (Ok request) told (inl busy) = same_seats busy.1
-  answered_stays (Ok request) told (inr h) = chosen request (own_named before request) (choice_in before request) told refl h
+  answered_stays (Ok request) told (inr h) = chosen (choice_in before request) told h
 
   served_stays : (bytes : List ℕ) (result : Result (Unit {0}) HttpFault) (answer : List ℕ) → Serves bytes today before result answer after → after.seats ≡ before.seats
   served_stays bytes (Ok done) answer (told, h, is) = answered_stays h.asked told h.answers

@@ -13,7 +13,6 @@ use exam_http::{HttpFault, serve_one};
 use exam_job::{JobFault, carry_out};
 use exam_line::{Line, LineFault, parse_line};
 use exam_office::{lodging_and_retracting_move_nobody, one_step_has_one_result};
-use exam_request::commands_are_of_who_shows_the_code;
 use exam_store::Store;
 use exam_types::{Day, Refusal};
 use sqlite::Alter;
@@ -151,8 +150,7 @@ fn follow_request<S: Alter>(
 {
     // A command has one result, so the office that the tables keep is the one that it led to.
     one_step_has_one_result();
-    // It is a lodging or a retraction, which in a good office moves nobody.
-    commands_are_of_who_shows_the_code();
+    // In a good office a lodging and a retraction move nobody.
     lodging_and_retracting_move_nobody();
     store.show_good();
     let mut answer = Vec::new(alloc);

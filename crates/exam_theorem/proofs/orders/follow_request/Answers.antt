@@ -15,6 +15,6 @@ returns-clause-kept g c =
 
 pub returns-clause-spares : goal.returns-clause-spares
 returns-clause-spares g c =
-    request_spares c.lodging_and_retracting_move_nobody.ensures.lodging c.lodging_and_retracting_move_nobody.ensures.retracting c.commands_are_of_who_shows_the_code.ensures
+    request_spares c.lodging_and_retracting_move_nobody.ensures.lodging c.lodging_and_retracting_move_nobody.ensures.retracting
     c.args.store.now.office c.show_good.ensures.good c.show_good.ensures.order c.args.today c.serve_one-served.new.store.office c.args.bytes.now c.serve_one-served.result c.serve_one-served.new.writer.items
     (returns-clause-follows g c)
