@@ -157,17 +157,21 @@ impl<S: Alter> Store<S> {
         // The office is the draft's until it is saved or taken back.
         let office = mem::replace(&mut self.office, Office::empty(alloc));
         match Draft::of(alloc, office, command, today) {
-            Ok(draft) => match save(alloc, &mut self.conn, &draft) {
-                Ok(()) => {
-                    let (office, reply) = draft.finish();
-                    self.office = office;
-                    Ok(reply)
+            Ok(draft) => {
+                // No command takes a row away from a good office but an opening.
+                draft.show_good();
+                match save(alloc, &mut self.conn, &draft) {
+                    Ok(()) => {
+                        let (office, reply) = draft.finish();
+                        self.office = office;
+                        Ok(reply)
+                    }
+                    Err(refusal) => {
+                        self.office = draft.take_back();
+                        Err(refusal)
+                    }
                 }
-                Err(refusal) => {
-                    self.office = draft.take_back();
-                    Err(refusal)
-                }
-            },
+            }
             Err((refusal, office)) => {
                 self.office = office;
                 Err(refusal)

@@ -7,3 +7,8 @@ pub returns-in-Same : goal.returns-in-Same
 returns-in-Same g c old exact up was =
     let same = subst (λ b. WasTable g.K.Ord.cmp b old c.args.after.now.entries) c.in-Same.is was in
     subst (λ new. TurnsTable g.K.Ord.cmp old new c.no_difference.result) same (c.no_difference.ensures old)
+
+pub returns-in-Row : goal.returns-in-Row
+returns-in-Row g c old exact up was =
+    let told = subst (λ b. WasTable g.K.Ord.cmp b old c.args.after.now.entries) c.in-Row.is was in
+    rw c.new.ensures.items (c.in_ok-row_put.ensures old exact up told.0 told.1)
