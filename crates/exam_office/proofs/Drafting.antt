@@ -26,6 +26,8 @@ use Rattle.exam_office.specs.Steps.{Step, StepTo}
 use Rattle.exam_office.specs.Touched.{touches}
 use Rattle.exam_office.proofs.Exchanges.{all_put_at, all_put_rises, back_again, without_old_at, without_old_rises}
 use Rattle.exam_office.proofs.FactsMade.{made_marks, made_refers, made_single}
+use Rattle.exam_office.specs.KeptRows.{KeepsRows}
+use Rattle.exam_office.proofs.KeptRows.{step_keeps}
 use Rattle.exam_office.proofs.Lasting.{new_facts}
 use Rattle.exam_office.proofs.Parting.{made_back, touched_read}
 use Rattle.exam_office.proofs.SameSeats.{seats_exact, seats_total}
@@ -192,6 +194,7 @@ drafted done today office old part was lists seats made good up agrees ordered r
     mixed = subst (AreMixed made.plans new) (sym put) (mixed_put done office old up agrees t new rises made.plans plans_back);
     order = (subst (StepTo done office (Ok made.reply) after) (new_facts done today office made.reply after step) step).3;
     was_order = subst IsInOrder (sym before) up;
+    kept = subst (λ (x : State). KeepsRows x.relations t) (sym before) (step_keeps done today office made.reply after good step).0;
   };
   before = before;
   step = step;

@@ -48,18 +48,18 @@ use Rattle.exam_office.proofs.SameSeats.{seats_exact, seats_total}
 -- ---- an appeal and what becomes of it
 
 -- decided so, with this answer and with the mark or without it, or superseded since
-abbrev Stands : Outcome → List ℕ → Bool → Status → Type 0
+abbrev pub Stands : Outcome → List ℕ → Bool → Status → Type 0
 Stands outcome answer marked st = (is_decided outcome answer marked st ≡ true) ⊎ (state_of st ≡ state.Superseded)
 
 -- it asks the same, and one that is retracted, decided or superseded stays so
-record Continues (a b : Appeal) : Type 0 where
-  session : b.session ≡ a.session
-  subject : b.subject ≡ a.subject
-  reason : b.reason ≡ a.reason
-  retracted : a.status ≡ status.Retracted → b.status ≡ status.Retracted
-  decided : (m : Outcome) (answer : List ℕ) (marked : Bool) → is_decided m answer marked a.status ≡ true → Stands m answer marked b.status
-  closed : is_open a.status ≡ false → is_open b.status ≡ false
-  superseded : state_of a.status ≡ state.Superseded → state_of b.status ≡ state.Superseded
+pub record Continues (a b : Appeal) : Type 0 where
+  pub session : b.session ≡ a.session
+  pub subject : b.subject ≡ a.subject
+  pub reason : b.reason ≡ a.reason
+  pub retracted : a.status ≡ status.Retracted → b.status ≡ status.Retracted
+  pub decided : (m : Outcome) (answer : List ℕ) (marked : Bool) → is_decided m answer marked a.status ≡ true → Stands m answer marked b.status
+  pub closed : is_open a.status ≡ false → is_open b.status ≡ false
+  pub superseded : state_of a.status ≡ state.Superseded → state_of b.status ≡ state.Superseded
 
 continues_itself : (a : Appeal) → Continues a a
 continues_itself a = record { session = refl; subject = refl; reason = refl; retracted = λ is. is; decided = λ m answer marked is. inl is; closed = λ is. is; superseded = λ is. is }
@@ -102,16 +102,16 @@ stands_closed m answer marked st stands = inner (is_open st) refl stands
     inner true open_yet (inr is) = open_standing st open_yet is
 
 -- an appeal at the key, which continues this one
-record GoesOn (r : Relations) (k : ℕ × Code) (a : Appeal) : Type 0 where
-  then : Appeal
-  stored : row_at appeal_cmp r.appeals k ≡ Some then
-  continues : Continues a then
+pub record GoesOn (r : Relations) (k : ℕ × Code) (a : Appeal) : Type 0 where
+  pub then : Appeal
+  pub stored : row_at appeal_cmp r.appeals k ≡ Some then
+  pub continues : Continues a then
 
 -- every candidate and every appeal is there still, and one that is decided keeps its mark, or that it has none
-record Carries (r t : Relations) : Type 0 where
-  candidates : (c : ℕ) → has_row nat_cmp r.candidates c ≡ true → has_row nat_cmp t.candidates c ≡ true
-  appeals : (k : ℕ × Code) (a : Appeal) → row_at appeal_cmp r.appeals k ≡ Some a → GoesOn t k a
-  marks : (k : ℕ × Code) (a : Appeal) → row_at appeal_cmp r.appeals k ≡ Some a → is_open a.status ≡ false → is_marked t k ≡ is_marked r k
+pub record Carries (r t : Relations) : Type 0 where
+  pub candidates : (c : ℕ) → has_row nat_cmp r.candidates c ≡ true → has_row nat_cmp t.candidates c ≡ true
+  pub appeals : (k : ℕ × Code) (a : Appeal) → row_at appeal_cmp r.appeals k ≡ Some a → GoesOn t k a
+  pub marks : (k : ℕ × Code) (a : Appeal) → row_at appeal_cmp r.appeals k ≡ Some a → is_open a.status ≡ false → is_marked t k ≡ is_marked r k
 
 carries_itself : (r : Relations) → Carries r r
 carries_itself r = record { candidates = λ c has. has; appeals = λ k a at. record { then = a; stored = at; continues = continues_itself a }; marks = λ k a at closed. refl }
@@ -340,7 +340,7 @@ decision_carries r day d ok = inner (appeal_at r d.number d.reference) refl
     inner None at = carries_itself r
     inner (Some a) at = by_case a at (is_made r d a) (ap (λ o. first_refusal (decision_checks r day d o)) (sym at) ∙ ok)
 
-change_carries : (done : Command) (day : ℕ) (before : State) (t : Relations) → change done day before ≡ Ok t → Carries before.relations t
+pub change_carries : (done : Command) (day : ℕ) (before : State) (t : Relations) → change done day before ≡ Ok t → Carries before.relations t
 change_carries (command.Import import) day before t is =
     let new = made (import_refusal before.relations import.rows) (with_rows before.relations import.rows) t is in
     subst (Carries before.relations) new (carries_import before.relations (with_rows before.relations import.rows) (import_candidates before.relations import.rows) (import_appeals before.relations import.rows) (import_standing before.relations import.rows))

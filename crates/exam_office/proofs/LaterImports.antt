@@ -35,14 +35,14 @@ use Rattle.exam_office.proofs.Stored.{IsStored, rows_again, rows_stored}
 -- ---- the rows of imports and what becomes of them
 
 -- every row is there still, of an entry with any live mark
-record Holds (r t : Relations) : Type 0 where
-  sessions : t.sessions ≡ r.sessions
-  papers : t.papers ≡ r.papers
-  halls : t.halls ≡ r.halls
-  openings : t.openings ≡ r.openings
-  candidates : t.candidates ≡ r.candidates
-  entries : (k : ℕ × Code) → has_row entry_cmp r.entries k ≡ true → has_row entry_cmp t.entries k ≡ true
-  arrangements : t.arrangements ≡ r.arrangements
+pub record Holds (r t : Relations) : Type 0 where
+  pub sessions : t.sessions ≡ r.sessions
+  pub papers : t.papers ≡ r.papers
+  pub halls : t.halls ≡ r.halls
+  pub openings : t.openings ≡ r.openings
+  pub candidates : t.candidates ≡ r.candidates
+  pub entries : (k : ℕ × Code) → has_row entry_cmp r.entries k ≡ true → has_row entry_cmp t.entries k ≡ true
+  pub arrangements : t.arrangements ≡ r.arrangements
 
 holds_both : (r t u : Relations) → Holds r t → Holds t u → Holds r u
 holds_both r t u one two = record {
@@ -107,7 +107,7 @@ decision_holds r d = inner (appeal_at r d.number d.reference)
     inner None = holds_itself r
     inner (Some a) = by_case a (is_made r d a)
 
-change_holds : (done : Command) (day : ℕ) (before : State) (t : Relations) → imports_or_closes done ≡ false → change done day before ≡ Ok t → Holds before.relations t
+pub change_holds : (done : Command) (day : ℕ) (before : State) (t : Relations) → imports_or_closes done ≡ false → change done day before ≡ Ok t → Holds before.relations t
 change_holds (command.Import import) day before t leaves is = absurd (let differ : true ≡ false = leaves in cc)
 change_holds (command.Withdraw c p) day before t leaves is =
     subst (Holds before.relations) (made (withdrawal_refusal before.relations c p) (with_live before.relations c p false) t is) (holds_live before.relations c p false)

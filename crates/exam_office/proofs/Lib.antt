@@ -63,3 +63,4 @@ pub mod KeptImports
 pub mod EnteredRows
 pub mod ListsPutBack
 pub mod AmongOwn
+pub mod KeptRows

@@ -290,7 +290,7 @@ import_standing r (x ∷ rows) = import_standing (with_row r x) rows ∙ standin
 
 -- ---- what was there for an import is there for the same import after it
 
-grows_rows : (r : Relations) (rows : List Row) → Grows r (with_rows r rows)
+pub grows_rows : (r : Relations) (rows : List Row) → Grows r (with_rows r rows)
 grows_rows r [] = grows_none r
 grows_rows r (x ∷ rows) = grows_both r (with_row r x) (with_rows (with_row r x) rows) (grows_row r x) (grows_rows (with_row r x) rows)
 

@@ -91,7 +91,7 @@ numbers_filtered {X} p (e ∷ es) c x out = inner (nat_cmp c e.0) (numbers_filte
     inner Equal rest = refl
     inner Greater rest = ap (λ ns. cond (p e.0) (e.0 ∷ ns) ns) rest
 
-openings_exact : CmpEqualImpliesEq opening_cmp
+pub openings_exact : CmpEqualImpliesEq opening_cmp
 openings_exact = exact_pairs code_cmp code_cmp exact_bytes exact_bytes
 
 -- a code that does not name the session is another

@@ -9,6 +9,7 @@ use Rattle.exam_office.specs.declared.part.Part.{Part}
 use Rattle.exam_office.specs.declared.part_steps.Made.{Made}
 use Rattle.exam_office.specs.Exchanges.{taken_back, without_old}
 use Rattle.exam_office.specs.Good.{IsGood}
+use Rattle.exam_office.specs.KeptRows.{KeepsRows}
 use Rattle.exam_office.specs.NextPlans.{Plans}
 use Rattle.exam_office.specs.Orders.{IsInOrder}
 use Rattle.exam_office.specs.Parts.{Agrees}
@@ -80,6 +81,7 @@ pub record IsDraft (part : Part) (lists : SessionLists) (seats : Seats) (made : 
   pub mixed : AreMixed made.plans part.plans.entries seats
   pub order : IsInOrder (state_after part seats made)
   pub was_order : IsInOrder (state_before part seats made)
+  pub kept : KeepsRows (state_before part seats made).relations (state_after part seats made).relations
 
 -- the office is good, these are its seats, and the part agrees with it on what the command reads
 abbrev pub IsOfficeOf : Command → Seats → State → State → Type 0

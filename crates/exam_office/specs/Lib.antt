@@ -39,6 +39,8 @@
 -- - Headline: what an office promises of every session: whoever sits is a member and has a hall
 --   that fits them and a desk of their own in it, and no lawful plan seats more
 -- - Between: commands of which none is an import or the closing of a hall
+-- - KeptRows: the rows that a command leaves in the tables: all, but for the opening that the closing of a hall
+--   takes away
 -- - Views: a session as it is shown: its row, the halls, its openings, members, papers, clashes and
 --   appeals, and its seating problem with a best plan; the seats and the shortages that such a view
 --   shows; and the same said of the office, by numbers and codes
@@ -58,6 +60,7 @@ pub mod Good
 pub mod Singles
 pub mod Steps
 pub mod Between
+pub mod KeptRows
 pub mod Orders
 pub mod TablesBefore
 pub mod Touched

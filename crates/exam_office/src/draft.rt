@@ -5,6 +5,7 @@ ghost use Rattle.exam_rules.specs.Lists.{AreListsOf, listed};
 ghost use Rattle.exam_rules.specs.Relations.{Code, relations_of};
 ghost use Rattle.exam_office.specs.Drafts as spec;
 ghost use Rattle.exam_office.specs.Good.{IsGood};
+ghost use Rattle.exam_office.specs.KeptRows.{KeepsRows};
 ghost use Rattle.exam_office.specs.Orders.{IsInOrder};
 ghost use Rattle.exam_office.specs.Parts.{IsRefusedIn, state_of};
 ghost use Rattle.exam_office.specs.Relisting.{HasList, halls_before, members_before};
@@ -143,12 +144,14 @@ impl Draft {
         }
     }
 
-    /// The offices before and after the command are good, and their keys rise. Does nothing.
+    /// The offices before and after the command are good, their keys rise, and no row of the facts is gone but an
+    /// opening. Does nothing.
     pub fn show_good(&self)
         ensures before { IsGood self.now.before }
         ensures after { IsGood self.now.after }
         ensures before_rises { IsInOrder self.now.before }
         ensures after_rises { IsInOrder self.now.after }
+        ensures kept { KeepsRows self.now.before.relations self.now.after.relations }
     {
         // The read of a field shows what the type keeps.
         let _ = &self.seats;

@@ -20,6 +20,7 @@ ghost use Rattle.exam_office.specs.Changes.{imported};
 ghost use Rattle.exam_office.specs.Good.{IsGood};
 ghost use Rattle.exam_office.specs.Headline.{IsSeated};
 ghost use Rattle.exam_office.specs.Imports.{ImportRows, distinct_rows, is_consistent};
+ghost use Rattle.exam_office.specs.KeptRows.{KeepsOpenings, KeepsRows};
 ghost use Rattle.exam_office.specs.Orders.{IsInOrder};
 ghost use Rattle.exam_office.specs.Replies.{import_reply};
 ghost use Rattle.exam_office.specs.State.{State};
@@ -141,4 +142,12 @@ pub fn untouched_session_stays()
         → touches before.relations done s ≡ false
         → SameSeating (seating before.relations s) (seating after.relations s)
         × SamePlan (plan_of after.seats s) (plan_of before.seats s) }
+{}
+
+/// No command takes a row away from the facts, but that the closing of a hall takes the one opening. So nothing that
+/// was imported is ever deleted. Every `Office` is good (`Office::show_good`).
+pub fn only_closing_takes_a_row_away()
+    ensures { (done : Command) (today : ℕ) (before after : State) (reply : Reply)
+        → IsGood before → Step done today before (Ok reply) after
+        → KeepsRows before.relations after.relations × KeepsOpenings done before.relations after.relations }
 {}

@@ -48,8 +48,8 @@ absent : {X : Type 0} (o : Option X) → is_some o ≡ false → o ≡ None
 absent None is = refl
 absent (Some x) is = cc
 
-module _ {K X : Type 0} {cmp : K → K → Ordering} (total : IsTotalOrder cmp) (exact : CmpEqualImpliesEq cmp) where
-  key_is_row : (rows : List (K × X)) (k : K) → has_key cmp rows k ≡ has_row cmp rows k
+module _ {K X : Type 0} {cmp : K → K → Ordering} where
+  pub key_is_row : (rows : List (K × X)) (k : K) → has_key cmp rows k ≡ has_row cmp rows k
   key_is_row [] k = refl
   key_is_row (e ∷ rows) k = inner (is_eq (cmp k e.0)) (key_is_row rows k)
     where
@@ -57,6 +57,7 @@ module _ {K X : Type 0} {cmp : K → K → Ordering} (total : IsTotalOrder cmp) 
       inner true rest = refl
       inner false rest = rest
 
+module _ {K X : Type 0} {cmp : K → K → Ordering} (total : IsTotalOrder cmp) (exact : CmpEqualImpliesEq cmp) where
   key_is_one : (rows : List (K × X)) (k : K) → is_one_of cmp (keys_of rows) k ≡ has_key cmp rows k
   key_is_one [] k = refl
   key_is_one (e ∷ rows) k = ap (λ b. is_eq (cmp k e.0) || b) (key_is_one rows k)

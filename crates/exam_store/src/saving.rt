@@ -5,6 +5,7 @@ ghost use Rattle.sqlite.specs.State.{HasCleanDisk};
 ghost use Rattle.exam_types.specs.declared.refusal.Refusal.TheVariants.{NoMemory};
 ghost use Rattle.exam_rules.specs.Orders.{KeysRise};
 ghost use Rattle.exam_rules.specs.Relations.{has_row, remove_row, seat_cmp};
+ghost use Rattle.exam_office.specs.KeptRows.{KeepsKeys};
 ghost use Rattle.exam_office.specs.State.{Seats as SeatRows};
 ghost use Rattle.exam_office.specs.TablesBefore.{WasTable, WerePlans};
 ghost use Rattle.exam_rows.specs.Differences.{AreExact};
@@ -12,10 +13,10 @@ ghost use Rattle.exam_rows.specs.Faults.{is_store_refusal};
 ghost use Rattle.exam_rows.specs.Inside.{IsOurs};
 ghost use Rattle.exam_rows.specs.Transactions.{Commits};
 ghost use Rattle.exam_store.specs.Kept.{Rekeeps};
-ghost use Rattle.exam_store.specs.Saves.{FailsToSave, TurnsTable, TurnsTables};
+ghost use Rattle.exam_store.specs.Saves.{FailsToSave, TurnsRows, TurnsTable, TurnsTables};
 
 use exam_office::{Before, Draft, PlansBefore};
-use exam_rows::{Changes, Difference, difference_of, save_changes};
+use exam_rows::{Changes, Difference, Keyed, difference_of, save_changes};
 use exam_types::{HallCode, Number, Refusal, SessionCode};
 use sqlite::{Alter, Connection};
 use std::alloc::{AllocError, Global};
@@ -45,25 +46,42 @@ fn changes_of(alloc: Global, draft: &Draft) -> Result<Changes<'_>, Refusal>
     ensures turns { IfOk result (TurnsTables draft.now.before draft.now.after) }
     ensures memory { IfErr result (λ e. e ≡ NoMemory) }
 {
-    // The keys of an office rise.
+    // The keys of an office rise, and no row is gone but of openings.
     draft.show_good();
     let before = draft.tables_before();
     let after = draft.facts();
     Ok(Changes {
-        sessions: difference_since(alloc, before.sessions, &after.sessions)?,
-        papers: difference_since(alloc, before.papers, &after.papers)?,
-        halls: difference_since(alloc, before.halls, &after.halls)?,
+        sessions: rows_since(alloc, before.sessions, &after.sessions)?,
+        papers: rows_since(alloc, before.papers, &after.papers)?,
+        halls: rows_since(alloc, before.halls, &after.halls)?,
         openings: difference_since(alloc, before.openings, &after.openings)?,
-        candidates: difference_since(alloc, before.candidates, &after.candidates)?,
-        entries: difference_since(alloc, before.entries, &after.entries)?,
-        arrangements: difference_since(alloc, before.arrangements, &after.arrangements)?,
-        appeals: difference_since(alloc, before.appeals, &after.appeals)?,
-        standing: difference_since(alloc, before.standing, &after.standing)?,
+        candidates: rows_since(alloc, before.candidates, &after.candidates)?,
+        entries: rows_since(alloc, before.entries, &after.entries)?,
+        arrangements: rows_since(alloc, before.arrangements, &after.arrangements)?,
+        appeals: rows_since(alloc, before.appeals, &after.appeals)?,
+        standing: rows_since(alloc, before.standing, &after.standing)?,
         seats: seats_since(alloc, draft.plans_before())?,
     })
 }
 
-/// What makes the table after a command of the one before it.
+/// What makes the table after a command of the one before it, which loses no row.
+fn rows_since<'a, K: Ord, V: PartialEq>(
+    alloc: Global,
+    before: Before<'a, K, V>,
+    after: &'a BTreeMap<K, V>,
+) -> Result<Vec<Keyed<'a, K, V>>, AllocError>
+    ensures { (old : List (K × V)) → AreExact K.cmp V.eq → KeysRise K.cmp old
+        → WasTable K.cmp before.entry old after.now.entries → KeepsKeys K.cmp old after.now.entries
+        → IfOk result (TurnsRows K.cmp old after.now.entries) }
+{
+    match before {
+        Before::Same => Ok(Vec::new(alloc)),
+        Before::Row(key) => row_put(alloc, key, after),
+        Before::Table(old) => Ok(difference_of(alloc, old, after)?.put),
+    }
+}
+
+/// What makes the table after a command of the one before it, which may lose rows.
 fn difference_since<'a, K: Ord, V: PartialEq>(
     alloc: Global,
     before: Before<'a, K, V>,
@@ -75,7 +93,10 @@ fn difference_since<'a, K: Ord, V: PartialEq>(
 {
     match before {
         Before::Same => Ok(no_difference(alloc)),
-        Before::Row(key) => row_put(alloc, key, after),
+        Before::Row(key) => Ok(Difference {
+            put: row_put(alloc, key, after)?,
+            delete: Vec::new(alloc),
+        }),
         Before::Table(old) => difference_of(alloc, old, after),
     }
 }
@@ -109,18 +130,15 @@ fn row_put<'a, K: Ord, V: PartialEq>(
     alloc: Global,
     key: &'a K,
     after: &'a BTreeMap<K, V>,
-) -> Result<Difference<'a, K, V>, AllocError>
+) -> Result<Vec<Keyed<'a, K, V>>, AllocError>
     ensures { (old : List (K × V)) → AreExact K.cmp V.eq → KeysRise K.cmp old
         → IsTrue (has_row K.cmp after.now.entries key.now)
         → remove_row K.cmp old key.now ≡ remove_row K.cmp after.now.entries key.now
-        → IfOk result (TurnsTable K.cmp old after.now.entries) }
+        → IfOk result (TurnsRows K.cmp old after.now.entries) }
 {
     let mut put = Vec::new(alloc);
     if let Some(row) = after.get(key) {
         put.push((key, row))?;
     }
-    Ok(Difference {
-        put,
-        delete: Vec::new(alloc),
-    })
+    Ok(put)
 }
