@@ -6,6 +6,8 @@ ghost use Rattle.std.specs.Prelude.{◌≡◌, ◌≢◌};
 mod files;
 mod running;
 mod serving;
+#[cfg(test)]
+mod tests;
 
 use exam_line::LineFault;
 use running::run;
