@@ -2,4 +2,6 @@
 --
 -- - Opening: what is opened of the files, by what they held; the refusal for each error
 --   of an opening
+-- - Serving: what serving connections does to the office, and what it prints
 pub mod Opening
+pub mod Serving

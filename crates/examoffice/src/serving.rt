@@ -1,6 +1,8 @@
 //! The office on a port of this machine.
 ghost use Rattle.std.specs.Prelude.{◌≡◌, ◌⊎◌, IfErr};
+ghost use Rattle.sqlite.specs.Files.{over_files};
 ghost use Rattle.exam_job.specs.declared.report.JobFault.TheVariants.{Net, Write};
+ghost use Rattle.examoffice.specs.Serving.{Announces, ServesEach, ServesOne};
 
 use crate::files::OfficeFile;
 use exam_http::{HttpFault, serve_one};
@@ -86,7 +88,9 @@ pub fn serve<S: Start, O: Write, E: Write>(
     out: &mut O,
     err: &mut E,
 ) -> Result<(), JobFault>
-    ensures { IfErr result (λ fault. (fault ≡ Net) ⊎ (fault ≡ Write)) }
+    ensures fault { IfErr result (λ fault. (fault ≡ Net) ⊎ (fault ≡ Write)) }
+    ensures printed { Announces O.contents port out.old result out.new }
+    ensures served { ServesEach over_files today store.old store.new }
 {
     let address = SocketAddrV4::new(Ipv4Addr::LOCALHOST, port);
     let Ok(listener) = TcpListener::bind(rt, address) else {
@@ -104,9 +108,10 @@ pub fn serve_each<S: Start, E: Write>(
     listener: &TcpListener,
     err: &mut E,
 ) -> Result<(), JobFault>
-    ensures { IfErr result (λ fault. fault ≡ Net) }
+    ensures fault { IfErr result (λ fault. fault ≡ Net) }
+    ensures served { ServesEach over_files today store.old store.new }
 {
-    for stream in listener.incoming() {
+    'connections: for stream in listener.incoming() {
         match stream {
             Ok(stream) => serve_connection(rt, store, today, &stream, err),
             Err(_) => return Err(JobFault::Net),
@@ -122,7 +127,9 @@ fn serve_connection<S: Start, E: Write>(
     today: Day,
     stream: &TcpStream,
     err: &mut E,
-) {
+)
+    ensures { ServesOne over_files today store.old store.new }
+{
     let served = match Instant::now(rt) {
         Ok(since) => serve_timed(rt, store, today, stream, since),
         Err(_) => Err(HttpFault::Read),
@@ -142,7 +149,9 @@ fn serve_timed<S: Start>(
     today: Day,
     stream: &TcpStream,
     since: Instant,
-) -> Result<(), HttpFault> {
+) -> Result<(), HttpFault>
+    ensures { ServesOne over_files today store.old store.new }
+{
     let mut reader = Timed { stream, rt, since };
     let mut writer = Timed { stream, rt, since };
     serve_one(rt.alloc(), store, today, &mut reader, &mut writer)
