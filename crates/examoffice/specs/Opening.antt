@@ -11,8 +11,11 @@ use Rattle.sqlite_wal.specs.Recovery.{Image}
 use Rattle.exam_types.specs.declared.refusal.Refusal.{Refusal}
 use Rattle.exam_types.specs.declared.refusal.Refusal.TheVariants.{NoMemory, Store, BadStore}
 use Rattle.exam_office.specs.State.{State as Office, empty_state}
+use Rattle.exam_line.specs.Lines.{Task}
+use Rattle.exam_line.specs.Lines as line
 use Rattle.exam_rows.specs.Versions.{IsBlank}
 use Rattle.exam_store.specs.Found.{Finds}
+use Rattle.exam_store.specs.Stores.{OfficeIn}
 
 -- the connection has the database that the files held
 abbrev pub IsOver : {S : Type 0} → Ghosts S → Image → Held S → Type 0
@@ -28,6 +31,11 @@ MakesIn {S} g image now office =
     (was : Held S) × IsOver g image was
     × (IsBlank (state g was).now → office ≡ empty_state)
     × ((IsBlank (state g was).now → ⊥) → Finds (state g was) (state g now) office)
+
+-- opening for this command: only `init` makes an office where there was nothing
+abbrev pub OpensFor : {S : Type 0} → Ghosts S → Image → Task → OfficeIn S → Type 0
+OpensFor g image line.init store = MakesIn g image store.database store.office
+OpensFor g image other store = OpensIn g image store.database store.office
 
 -- want of memory, a file that is no database, or another failure
 abbrev pub opening_refusal : Error → Refusal

@@ -11,6 +11,7 @@ ghost use Rattle.exam_store.specs.Found.{Finds, is_open_refusal};
 ghost use Rattle.exam_store.specs.Kept.{KeepsOurs};
 ghost use Rattle.exam_job.specs.Reading.{IsReadFault};
 ghost use Rattle.examoffice.specs.Opening.{IsOver, MakesIn, OpensIn, opening_refusal};
+ghost use Rattle.examoffice.specs.Running.{MigratesIn};
 
 use exam_job::{JobFault, migrate_office};
 use exam_store::Store;
@@ -101,7 +102,9 @@ pub fn migrate_file<S: Start, O: Write>(
     path: &str,
     start: S,
     out: &mut O,
-) -> Result<(), JobFault> {
+) -> Result<(), JobFault>
+    ensures { MigratesIn over_files (image_at S.Start) O.contents out.old result out.new }
+{
     if !has_file(rt, path)? {
         return Err(JobFault::Refused(Refusal::BadStore));
     }

@@ -1,4 +1,12 @@
 //! A command line, carried out over the file that it names.
+ghost use Rattle.std.specs.Prelude.{IfOk, IfErr, IsTrue, map, string_bytes};
+ghost use Rattle.std.specs.Process.{exit_status};
+ghost use Rattle.sqlite.specs.Files.{over_files};
+ghost use Rattle.sqlite_wal.specs.Files.{image_at};
+ghost use Rattle.exam_line.specs.Lines.{shown, task_shown};
+ghost use Rattle.exam_job.specs.Printed.{ReportsNoLine};
+ghost use Rattle.examoffice.specs.Running as spec;
+
 use crate::files::{
     OfficeFile, close_office, create_office, migrate_file, open_import, open_office,
 };
@@ -17,7 +25,12 @@ pub fn run<S: Start, O: Write, E: Write>(
     start: S,
     out: &mut O,
     err: &mut E,
-) -> ExitCode {
+) -> ExitCode
+    ensures words { IfOk words (λ words. spec.RunsWords over_files (image_at S.Start) O.contents E.contents
+        (map string_bytes words.items) out.old err.old (exit_status result) out.new err.new) }
+    ensures none { IfErr words (λ fault. ReportsNoLine O.contents E.contents fault out.old err.old
+        (exit_status result) out.new err.new) }
+{
     let status = match words {
         Ok(words) => run_words(rt, words.as_slice(), start, out, err),
         Err(fault) => print_line_fault(&fault, out, err),
@@ -32,7 +45,10 @@ fn run_words<S: Start, O: Write, E: Write>(
     start: S,
     out: &mut O,
     err: &mut E,
-) -> u8 {
+) -> u8
+    ensures { spec.RunsWords over_files (image_at S.Start) O.contents E.contents (map string_bytes words.now)
+        out.old err.old result out.new err.new }
+{
     match parse_line(rt.alloc(), words) {
         Ok(line) => run_line(rt, &line, start, out, err),
         Err(fault) => print_line_fault(&fault, out, err),
@@ -46,7 +62,10 @@ fn run_line<S: Start, O: Write, E: Write>(
     start: S,
     out: &mut O,
     err: &mut E,
-) -> u8 {
+) -> u8
+    ensures { spec.RunsLine over_files (image_at S.Start) O.contents E.contents (shown line.now)
+        out.old err.old result out.new err.new }
+{
     match run_task(rt, line, start, out, err) {
         Ok(()) => DONE,
         Err(fault) => print_fault(&fault, err),
@@ -60,7 +79,11 @@ fn run_task<S: Start, O: Write, E: Write>(
     start: S,
     out: &mut O,
     err: &mut E,
-) -> Result<(), JobFault> {
+) -> Result<(), JobFault>
+    ensures does { spec.DoesTask over_files (image_at S.Start) O.contents (task_shown line.now.job) line.now.today
+        out.old result out.new }
+    ensures quiet { spec.TellsNothing (task_shown line.now.job) err.old err.new }
+{
     match &line.job {
         Job::Migrate => migrate_file(rt, line.db, start, out),
         _ => run_open(rt, line, start, out, err),
@@ -74,7 +97,11 @@ fn run_open<S: Start, O: Write, E: Write>(
     start: S,
     out: &mut O,
     err: &mut E,
-) -> Result<(), JobFault> {
+) -> Result<(), JobFault>
+    ensures does { spec.DoesOpen over_files (image_at S.Start) O.contents (task_shown line.now.job) line.now.today
+        out.old result out.new }
+    ensures quiet { spec.TellsNothing (task_shown line.now.job) err.old err.new }
+{
     let mut store = match &line.job {
         Job::Init => create_office(rt, line.db, start)?,
         _ => open_office(rt, line.db, start)?,
@@ -91,7 +118,11 @@ fn run_over<S: Start, O: Write, E: Write>(
     store: &mut Store<OfficeFile<S>>,
     out: &mut O,
     err: &mut E,
-) -> Result<(), JobFault> {
+) -> Result<(), JobFault>
+    ensures does { spec.DoesOver over_files O.contents (task_shown line.now.job) line.now.today
+        store.old out.old result store.new out.new }
+    ensures quiet { spec.TellsNothing (task_shown line.now.job) err.old err.new }
+{
     match &line.job {
         Job::Import { file, .. } => {
             let mut file = open_import(rt, file)?;
