@@ -3,7 +3,7 @@ use crate::files::{
     OfficeFile, close_office, create_office, migrate_file, open_import, open_office,
 };
 use crate::serving::serve;
-use exam_job::{DONE, JobFault, carry_out, print_fault, print_line_fault};
+use exam_job::{DONE, JobFault, print_fault, print_line_fault, run_job};
 use exam_line::{Job, Line, LineFault, parse_line};
 use exam_store::Store;
 use sqlite::Start;
@@ -39,7 +39,7 @@ fn run_words<S: Start, O: Write, E: Write>(
     }
 }
 
-/// Carries the line out over the file that it names, and tells the fault where it fails.
+/// Carries the line out over the file that it names, and gives the exit status.
 fn run_line<S: Start, O: Write, E: Write>(
     rt: &HostRuntime,
     line: &Line<'_>,
@@ -48,7 +48,7 @@ fn run_line<S: Start, O: Write, E: Write>(
     err: &mut E,
 ) -> u8 {
     match run_task(rt, line, start, out, err) {
-        Ok(()) => DONE,
+        Ok(status) => status,
         Err(fault) => print_fault(&fault, err),
     }
 }
@@ -60,9 +60,12 @@ fn run_task<S: Start, O: Write, E: Write>(
     start: S,
     out: &mut O,
     err: &mut E,
-) -> Result<(), JobFault> {
+) -> Result<u8, JobFault> {
     match &line.job {
-        Job::Migrate => migrate_file(rt, line.db, start, out),
+        Job::Migrate => {
+            migrate_file(rt, line.db, start, out)?;
+            Ok(DONE)
+        }
         _ => run_open(rt, line, start, out, err),
     }
 }
@@ -74,7 +77,7 @@ fn run_open<S: Start, O: Write, E: Write>(
     start: S,
     out: &mut O,
     err: &mut E,
-) -> Result<(), JobFault> {
+) -> Result<u8, JobFault> {
     let mut store = match &line.job {
         Job::Init => create_office(rt, line.db, start)?,
         _ => open_office(rt, line.db, start)?,
@@ -91,13 +94,16 @@ fn run_over<S: Start, O: Write, E: Write>(
     store: &mut Store<OfficeFile<S>>,
     out: &mut O,
     err: &mut E,
-) -> Result<(), JobFault> {
+) -> Result<u8, JobFault> {
     match &line.job {
         Job::Import { file, .. } => {
             let mut file = open_import(rt, file)?;
-            carry_out(rt.alloc(), line, store, &mut file, out)
+            Ok(run_job(rt.alloc(), line, store, &mut file, out, err))
         }
-        Job::Serve { port } => serve(rt, store, line.today, *port, out, err),
-        _ => carry_out(rt.alloc(), line, store, &mut empty(), out),
+        Job::Serve { port } => {
+            serve(rt, store, line.today, *port, out, err)?;
+            Ok(DONE)
+        }
+        _ => Ok(run_job(rt.alloc(), line, store, &mut empty(), out, err)),
     }
 }

@@ -19,6 +19,9 @@ const LONGEST_SILENCE: u64 = 2;
 /// How many seconds a connection may last, so that a slow client does not hold the office.
 const LONGEST_CONNECTION: u64 = 10;
 
+/// After so many connections the server ends.
+const MOST_CONNECTIONS: usize = 4_294_967_295;
+
 /// A connection whose reads and writes fail once its time is over.
 #[derive(Drop)]
 struct Timed<'s> {
@@ -96,7 +99,7 @@ pub fn serve<S: Start, O: Write, E: Write>(
     serve_each(rt, store, today, &listener, err)
 }
 
-/// Serves one connection after the other, until one cannot be accepted.
+/// Serves one connection after the other, until one cannot be accepted, or there were as many as it serves.
 pub fn serve_each<S: Start, E: Write>(
     rt: &HostRuntime,
     store: &mut Store<OfficeFile<S>>,
@@ -106,7 +109,7 @@ pub fn serve_each<S: Start, E: Write>(
 ) -> Result<(), JobFault>
     ensures { IfErr result (λ fault. fault ≡ Net) }
 {
-    for stream in listener.incoming() {
+    for stream in listener.incoming().take(MOST_CONNECTIONS) {
         match stream {
             Ok(stream) => serve_connection(rt, store, today, &stream, err),
             Err(_) => return Err(JobFault::Net),
