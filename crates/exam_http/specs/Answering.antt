@@ -49,37 +49,61 @@ abbrev pub TellsReply : Result Reply Refusal → Told → Type 0
 TellsReply (Ok answered) told = told ≡ state_told (state_after answered)
 TellsReply (Err refusal) told = told ≡ refusal_told refusal
 
--- a command is applied, and its reply or refusal is answered
-abbrev pub DoesCommand : {S : Type 0} → Ghosts S → ℕ → OfficeIn S → Command → Told → OfficeIn S → Type 0
-DoesCommand g today old command told new =
-    (answered : Result Reply Refusal) × IsApplied g command today old answered new × TellsReply answered told
+-- ---- for any way in which a command is applied: `Applies` relates it to what it answers and to what it leaves
 
--- The answer to a choice, and what becomes of the office: a lodging and a retraction are applied to it, and anything
--- else leaves it as it is.
-abbrev pub Does : {S : Type 0} → Ghosts S → ℕ → OfficeIn S → Choice → Told → OfficeIn S → Type 0
-Does g today old (choice.Fault fault) told new = (told ≡ error_told (fault_number fault)) × (new ≡ old)
-Does g today old (choice.OtherMethod route) told new = (told ≡ method_told route) × (new ≡ old)
-Does g today old (choice.Refused refusal) told new = (told ≡ refusal_told refusal) × (new ≡ old)
-Does g today old (choice.Show number page) told new =
-    IsSomeAnd (own_of old.office number) (λ own. told ≡ ok_told (page_body page own)) × (new ≡ old)
-Does g today old (choice.Lodge lodging) told new =
-    DoesCommand g today old (command.Lodge lodging) told new
-Does g today old (choice.Retract number reference) told new =
-    DoesCommand g today old (command.Retract number reference) told new
+-- a command is applied, and its reply or refusal is answered
+abbrev pub DoesCommandBy : {O : Type 0} → (Command → Result Reply Refusal → O → Type 0) → Command → Told → O → Type 0
+DoesCommandBy Applies command told new =
+    (answered : Result Reply Refusal) × Applies command answered new × TellsReply answered told
+
+-- The answer to a choice over this office, and what becomes of what holds it: a lodging and a retraction are applied,
+-- and anything else leaves it as it is.
+abbrev pub DoesBy : {O : Type 0} → (Command → Result Reply Refusal → O → Type 0) → State → O → Choice → Told → O → Type 0
+DoesBy Applies office old (choice.Fault fault) told new = (told ≡ error_told (fault_number fault)) × (new ≡ old)
+DoesBy Applies office old (choice.OtherMethod route) told new = (told ≡ method_told route) × (new ≡ old)
+DoesBy Applies office old (choice.Refused refusal) told new = (told ≡ refusal_told refusal) × (new ≡ old)
+DoesBy Applies office old (choice.Show number page) told new =
+    IsSomeAnd (own_of office number) (λ own. told ≡ ok_told (page_body page own)) × (new ≡ old)
+DoesBy Applies office old (choice.Lodge lodging) told new = DoesCommandBy Applies (command.Lodge lodging) told new
+DoesBy Applies office old (choice.Retract number reference) told new =
+    DoesCommandBy Applies (command.Retract number reference) told new
 
 -- memory ran out, and nothing has changed
-abbrev pub IsBusy : {S : Type 0} → OfficeIn S → Told → OfficeIn S → Type 0
+abbrev pub IsBusy : {O : Type 0} → O → Told → O → Type 0
 IsBusy old told new = (told ≡ refusal_told NoMemory) × (new ≡ old)
 
--- the answer to a request on a day, by what it asks and what the office shows of the candidate whom it names
-abbrev pub Answers : {S : Type 0} → Ghosts S → ℕ → OfficeIn S → Request → Told → OfficeIn S → Type 0
-Answers g today old request told new =
-    IsBusy old told new ⊎ Does g today old (choice_in old.office request) told new
+-- the answer to a request, by what it asks and what the office shows of the candidate whom it names
+abbrev pub AnswersBy : {O : Type 0} → (Command → Result Reply Refusal → O → Type 0) → State → O → Request → Told → O → Type 0
+AnswersBy Applies office old request told new =
+    IsBusy old told new ⊎ DoesBy Applies office old (choice_in office request) told new
 
 -- the answer to what was asked: a fault is answered by its number, and then nothing changes
+abbrev pub AnswersAskedBy : {O : Type 0} → (Command → Result Reply Refusal → O → Type 0) → State → O
+    → Result Request Fault → Told → O → Type 0
+AnswersAskedBy Applies office old (Ok request) told new = AnswersBy Applies office old request told new
+AnswersAskedBy Applies office old (Err fault) told new = (told ≡ error_told (fault_number fault)) × (new ≡ old)
+
+-- ---- for a command that is applied on a day to the office in a store
+
+-- how a command is applied
+abbrev pub AppliesIn : {S : Type 0} → Ghosts S → ℕ → OfficeIn S → Command → Result Reply Refusal → OfficeIn S → Type 0
+AppliesIn g today old command answered new = IsApplied g command today old answered new
+
+-- a command is applied, and its reply or refusal is answered
+abbrev pub DoesCommand : {S : Type 0} → Ghosts S → ℕ → OfficeIn S → Command → Told → OfficeIn S → Type 0
+DoesCommand g today old = DoesCommandBy (AppliesIn g today old)
+
+-- the answer to a choice, and what becomes of the office
+abbrev pub Does : {S : Type 0} → Ghosts S → ℕ → OfficeIn S → Choice → Told → OfficeIn S → Type 0
+Does g today old = DoesBy (AppliesIn g today old) old.office old
+
+-- the answer to a request
+abbrev pub Answers : {S : Type 0} → Ghosts S → ℕ → OfficeIn S → Request → Told → OfficeIn S → Type 0
+Answers g today old = AnswersBy (AppliesIn g today old) old.office old
+
+-- the answer to what was asked
 abbrev pub AnswersAsked : {S : Type 0} → Ghosts S → ℕ → OfficeIn S → Result Request Fault → Told → OfficeIn S → Type 0
-AnswersAsked g today old (Ok request) told new = Answers g today old request told new
-AnswersAsked g today old (Err fault) told new = (told ≡ error_told (fault_number fault)) × (new ≡ old)
+AnswersAsked g today old = AnswersAskedBy (AppliesIn g today old) old.office old
 
 -- ---- when memory may run out
 

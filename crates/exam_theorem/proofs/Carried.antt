@@ -25,7 +25,7 @@ use Rattle.exam_theorem.proofs.Sheets.{sheet_keeps}
 module _ {S W : Type 0} (g : Ghosts S) (contents : W → Option (List ℕ)) (today : ℕ) (file : List ℕ) (rest : Option (List ℕ)) (old new : OfficeIn S) (before after : W) where
   -- ---- a command
 
-  -- its step is told
+  -- the line ends as its step does
   answer : (answered : Result Reply Refusal) (result : Result (Unit {0}) JobFault) → TellsReply contents answered before result after → TellsAnswer answered (told result)
   answer (Ok reply) (Ok done) tells = inl refl
   answer (Ok reply) (Err Write) tells = inr refl

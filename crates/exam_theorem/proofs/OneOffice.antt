@@ -82,7 +82,7 @@ module _ (one_result : OneResult) where
 
   -- ---- requests
 
-  -- a refusal of the store is told as a failure
+  -- the answer to a refusal of the store is that to a failure
   failed : (e : Refusal) (told : Told) → IsTrue (is_store_refusal e) → told ≡ refusal_told e → IsFailureTold told
   failed refusal.NoMemory told is tells = inl tells
   failed refusal.Store told is tells = inr (inl tells)

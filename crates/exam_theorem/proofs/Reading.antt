@@ -32,7 +32,7 @@ no_line words (Help text) h = inr (nothing_said (fault_of grammar words) _ (said
 no_line words NotUnderstood (inl h) = inr (ap (λ faults. said_unless faults (said words)) h.0 ∙ h.1)
 no_line words NotUnderstood (inr h) = inr (nothing_said (fault_of grammar words) h.0 (said words) h.1)
 
--- want of memory, before anything is done
+-- memory runs out before anything is done
 short : (asked : Option (Result Command Refusal)) (today : ℕ) (office : State) → FollowsCommand asked today office (Err (stop.NoLine NoMemory)) office
 short None today office = refl
 short (Some (Ok done)) today office = inr (refl, refl)

@@ -38,7 +38,7 @@ abbrev pub told : Result (Unit {0}) JobFault → LineEnd
 told (Ok done) = Ok done
 told (Err fault) = Err (Job fault)
 
--- want of memory, a failed read, or a database that failed or is no office
+-- memory ran out, a read failed, the database failed, or it holds no office
 abbrev pub is_failure : LineEnd → Bool
 is_failure (Err (NoLine NoMemory)) = true
 is_failure (Err (Job File)) = true
@@ -49,17 +49,17 @@ is_failure other = false
 abbrev pub Fails : State → LineEnd → State → Type 0
 Fails before end after = IsTrue (is_failure end) × (after ≡ before)
 
--- the refusal is told, or there was a failure before it; nothing changed
+-- it is refused so, or there was a failure before; nothing changed
 abbrev pub IsRefused : Refusal → State → LineEnd → State → Type 0
 IsRefused refusal before end after =
     ((end ≡ Err (Job (Refused refusal))) × (after ≡ before)) ⊎ Fails before end after
 
--- what is told of an answer: that it is done, whether or not its line went out, or the refusal
+-- how the line of a command ends, by its answer: it is done, whether or not what it prints went out, or it is refused
 abbrev pub TellsAnswer : Result Reply Refusal → LineEnd → Type 0
 TellsAnswer (Ok reply) end = (end ≡ Ok tt) ⊎ (end ≡ Err (Job Write))
 TellsAnswer (Err refusal) end = end ≡ Err (Job (Refused refusal))
 
--- the command's step is made, or refused, and told, or there was a failure before it
+-- the command makes its step or is refused, and the line ends so; or there was a failure before
 abbrev pub IsDone : Command → ℕ → State → LineEnd → State → Type 0
 IsDone done today before end after =
     ((answered : Result Reply Refusal) × MayApply done today before answered after × TellsAnswer answered end)
@@ -71,7 +71,7 @@ FollowsCommand None today before end after = after ≡ before
 FollowsCommand (Some (Ok done)) today before end after = IsDone done today before end after
 FollowsCommand (Some (Err refusal)) today before end after = IsRefused refusal before end after
 
--- the words are no line, which is told, and nothing changes
+-- the words are no line: that is the answer, and nothing changes
 abbrev pub IsNoLine : List Text → State → LineEnd → State → Type 0
 IsNoLine words before end after =
     (fault : LineFault) × (end ≡ Err (NoLine fault)) × Answers (Err fault) words × (after ≡ before)
@@ -126,7 +126,7 @@ EachSparesOthers = AreEach SparesOthers
 
 -- ---- one office
 
--- the request was not read, or there was no room for its answer, or that tells a failure
+-- the request was not read, or there was no room for its answer, or that is the answer to a failure
 abbrev pub IsFailureOf : Result (Unit {0}) HttpFault → List ℕ → Type 0
 IsFailureOf (Err fault) answer = ⊤
 IsFailureOf (Ok done) answer = (told : Told) × IsFailureTold told × (answer ≡ answer_text told)

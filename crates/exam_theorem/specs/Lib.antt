@@ -2,7 +2,7 @@
 --
 -- - Orders: what an order says: the words of a command line with the bytes of the file that it imports, or the
 --   bytes of a request; which command a line gives; whom an order may cost a seat
--- - Requests: what becomes of a request, and what it is told
+-- - Requests: what becomes of a request, and its answer
 -- - Following: what becomes of orders, one after the other
 -- - Printing: the sheet that words ask for
 -- - Keeping: the tables of a database that keep an office

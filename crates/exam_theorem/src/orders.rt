@@ -55,7 +55,7 @@ pub enum Outcome {
     Request(Answered),
 }
 
-/// Follows orders in turn, and gives what became of each. Refused for want of memory before any order, and then
+/// Follows orders in turn, and gives what became of each. Refused if memory runs out before the first order, and then
 /// all is as before.
 pub fn follow_all<S: Alter>(
     alloc: Global,

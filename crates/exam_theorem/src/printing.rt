@@ -31,8 +31,8 @@ pub struct EndOfDay {
     pub printed: LineEnd,
 }
 
-/// Follows orders in turn over the office in a store, and then prints the sheet that the words ask for. Refused
-/// for want of memory before any order. Whatever it answers, every session is seated as promised.
+/// Follows orders in turn over the office in a store, and then prints the sheet that the words ask for. Refused if
+/// memory runs out before the first order. Whatever it answers, every session is seated as promised.
 pub fn print_after<S: Alter, O: Write>(
     alloc: Global,
     store: &mut Store<S>,
