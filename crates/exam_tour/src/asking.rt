@@ -1,25 +1,28 @@
 //! A candidate's request, as a line for `curl` says it.
+ghost use Rattle.exam_rules.specs.Relations.{Code};
+ghost use Rattle.exam_office.specs.Headline.{IsSeated};
+
 use anyhow::{Context, Result};
 use exam_http::serve_one;
 use exam_store::Store;
 use exam_types::Day;
-use sqlite::MemStore;
+use sqlite::Alter;
 use std::alloc::Global;
 use std::str;
 
 /// Where the office would serve.
 const SERVER: &str = "http://127.0.0.1:8080";
 
-/// The body of what is answered to the request of a line. The line has quotes around the header of the access code
-/// and around the body that it posts, if it posts one.
-pub fn answer_to(
+/// The body of what is answered to the bytes of a request. Whatever is answered, every session is seated as promised.
+pub fn answer_to<S: Alter>(
     alloc: Global,
-    store: &mut Store<MemStore>,
+    store: &mut Store<S>,
     today: Day,
-    line: &str,
-) -> Result<String> {
-    let request = request_of(alloc, line)?;
-    let mut reader = request.as_str().as_bytes();
+    request: &str,
+) -> Result<String>
+    ensures { (s : Code) → IsSeated store.new.office s }
+{
+    let mut reader = request.as_bytes();
     let mut answer = Vec::new(alloc);
     serve_one(alloc, store, today, &mut reader, &mut answer)?;
     let text = str::from_utf8(answer.as_slice())?;
@@ -29,8 +32,9 @@ pub fn answer_to(
     Ok(String::from_str(alloc, body)?)
 }
 
-/// The bytes of the request.
-fn request_of(alloc: Global, line: &str) -> Result<String> {
+/// The bytes of a request, as a line says it. The line has quotes around the header of the access code, and around the
+/// body that it posts, if it posts one.
+pub fn request_of(alloc: Global, line: &str) -> Result<String> {
     let mut parts = line.split('\'');
     let _ = parts.next();
     let code = parts.next().context("a line without an access code")?;
