@@ -18,7 +18,7 @@ use Rattle.sqlite.proofs.InsideLemmas.{keeps_then}
 use Rattle.exam_types.specs.declared.refusal.Refusal.{Refusal}
 use Rattle.exam_types.specs.declared.refusal.Refusal.TheVariants.{NoMemory}
 use Rattle.exam_tables.specs.Content.{ContainsIn}
-use Rattle.exam_tables.specs.Grows.{schema_0, schema_10}
+use Rattle.exam_tables.specs.Grows.{made_0, made_10}
 use Rattle.exam_tables.specs.Refusals.{Fails}
 use Rattle.exam_tables.specs.Tables.{store_schema}
 use Rattle.exam_tables.proofs.Changes.{contains_same}
@@ -106,11 +106,11 @@ no_marks db all none was = contains_same store_schema db _ _ was (all_of _ (λ s
     same u = elim (cases_Bool (u == 17)) [ inl is ↦ rw is (subst (λ n. [] ≡ all n) (sym (eqb-true u 17 is)) (sym none)) | inr other ↦ rw other refl ]
 
 -- nothing is the schema with no tables, and the ten tables are those of version 1
-pub blank_is_empty : (db : Database) → IsBlank db → HasNoRows schema_0 db
-unfolding schema_0
+pub blank_is_empty : (db : Database) → IsBlank db → HasNoRows made_0 db
+unfolding made_0
 blank_is_empty db is = record { schema_is = is; rows = tt }
 
-pub first_is_empty : (db : Database) → HasNoRows schema_10 db → HasFirst (λ tree. []) db
+pub first_is_empty : (db : Database) → HasNoRows made_10 db → HasFirst (λ tree. []) db
 first_is_empty db was = (subst (λ s. HasNoRows s db) making.first_is was, refl)
 
 -- the same of states

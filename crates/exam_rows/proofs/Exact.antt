@@ -1,5 +1,5 @@
 -- Rows are the same where `==` says so, and so are keys that compare as equal.
-use Rattle.std.proofs.Common.{◌≡◌, ◌&&◌, ℕ, Bool, true, List, Ordering, refl, ap}
+use Rattle.std.proofs.Common.{◌≡◌, ℕ, Bool, true, List, Ordering, refl, ap}
 use Rattle.std.specs.Cmp.{booleans_Decides}
 use Rattle.std.specs.Cmp.Lexicographic.{pointwise}
 use Rattle.std.specs.Ordering.{nat_cmp}

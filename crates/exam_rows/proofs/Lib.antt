@@ -16,7 +16,6 @@ pub mod Reading
 pub mod Refusing
 pub mod RowTurning
 pub mod SavedRows
-pub mod SavedTrees
 pub mod Steps
 pub mod Turning
 pub mod Undoing

@@ -31,7 +31,7 @@ module _ {E R : Type 0} (f : E → R) (IsOne : E → Type 0) where
   pub no_form : (rows : List R) (entries : List E) (i : ℕ) (r : R) → i < length rows → r ≡ get_or rows i r → ((e : E) → IsOne e → r ≡ f e → ⊥) → AllByRecursion IsOne entries → IsPermutation rows (map f entries) → ⊥
   no_form rows entries i r below is none all same = All-permutation (λ z. r ≡ z → ⊥) (map f entries) rows (IsPermutation-sym _ _ same) (none_is r entries none all) i r below is
 
-module _ {K X : Type 0} {cmp : K → K → Ordering} (total : IsTotalOrder cmp) {key : List ℕ} {row : K → X → Row} {key_of : K → Row} (match : KeysMatch cmp key row key_of) (k : K) (v : X) where
+module _ {K X : Type 0} {cmp : K → K → Ordering} (total : IsTotalOrder cmp) {key : List ℕ} {row : K → X → Row} (match : KeysMatch cmp key row) (k : K) (v : X) where
   abbrev stored : K × X → Row
   stored e = row e.0 e.1
 

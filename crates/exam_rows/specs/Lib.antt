@@ -17,7 +17,7 @@
 --   statement that is refused while it writes its rows, before any foreign key is tested
 -- - Streamed: the appeals of a session, as a text of which each part goes out as soon as its row is
 --   read
--- - Writes: what changes put and delete, table by table, parents first and then children first
+-- - Writes: what changes put, table by table, parents first, and the seats and the openings that they delete then
 -- - Transactions: one transaction, whole or not at all, and what a crash leaves of it
 pub mod Differences
 pub mod Faults

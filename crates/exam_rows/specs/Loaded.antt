@@ -22,10 +22,8 @@ use Rattle.exam_rules.specs.Orders.{KeysRise}
 use Rattle.exam_rows.specs.Faults.{refusal_of}
 
 -- Two rows of a table have the same key in SQL exactly where their keys compare as equal.
-pub record KeysMatch {K X : Type 0} (cmp : K → K → Ordering) (key : List ℕ) (row : K → X → Row)
-    (key_of : K → Row) : Type 0 where
+pub record KeysMatch {K X : Type 0} (cmp : K → K → Ordering) (key : List ℕ) (row : K → X → Row) : Type 0 where
   pub rows : (a b : K × X) → same_key key (Null ∷ row a.0 a.1) (Null ∷ row b.0 b.1) ≡ is_eq (cmp a.0 b.0)
-  pub keys : (a : K × X) (k : K) → same_key key (Null ∷ row a.0 a.1) (Null ∷ key_of k) ≡ is_eq (cmp a.0 k)
 
 -- these rows, as they are shown, are those of these entries, which have the forms of the table
 pub record AreRowsOf {K X : Type 0} (cmp : K → K → Ordering) (IsRow : K → X → Type 0)

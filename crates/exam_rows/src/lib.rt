@@ -24,6 +24,6 @@ pub use loading::load_facts;
 pub use schema::{NEWEST, has_marks, is_blank, version_of};
 pub use send_fault::SendFault;
 pub use streaming::send_appeals;
-pub use table::{Table, load_rows};
+pub use table::{StoredRows, load_rows};
 pub use tables::seats::Seats;
 pub use writing::{Changes, save_changes, save_empty, save_widened};

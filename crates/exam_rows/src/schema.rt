@@ -4,7 +4,7 @@ ghost use Rattle.std.specs.Bool.{Decides};
 ghost use Rattle.sqlite.specs.Held.{state};
 ghost use Rattle.sqlite.specs.State.{HasCleanDisk, IsUnchanged, Survives};
 ghost use Rattle.sqlite_value.specs.Order.{column};
-ghost use Rattle.exam_tables.specs.Grows.{schema_0, schema_5, schema_10};
+ghost use Rattle.exam_tables.specs.Grows.{made_0, made_5, made_10};
 ghost use Rattle.exam_tables.specs.Made.{ContainsMade, lists_marks};
 ghost use Rattle.exam_tables.specs.Texts.{load_office};
 ghost use Rattle.exam_types.specs.declared.refusal.Refusal.TheVariants.{BadStore};
@@ -91,7 +91,7 @@ fn put_version<S: Alter>(tx: &mut Transaction<'_, S>) -> Result<(), Refusal>
 /// The tables that refer to none, or to sessions alone.
 fn create_parents<S: Alter>(tx: &mut Transaction<'_, S>) -> Result<(), Refusal>
     ensures same_reference { tx.new.conn.ghost_name ≡ tx.old.conn.ghost_name }
-    ensures made { Leads (HasNoRows schema_0) (HasNoRows schema_5)
+    ensures made { Leads (HasNoRows made_0) (HasNoRows made_5)
         (state S.Store tx.old.conn.now) (state S.Store tx.new.conn.now) result }
 {
     run(
@@ -124,7 +124,7 @@ fn create_parents<S: Alter>(tx: &mut Transaction<'_, S>) -> Result<(), Refusal>
 /// The tables that refer to those.
 fn create_children<S: Alter>(tx: &mut Transaction<'_, S>) -> Result<(), Refusal>
     ensures same_reference { tx.new.conn.ghost_name ≡ tx.old.conn.ghost_name }
-    ensures made { Leads (HasNoRows schema_5) (HasNoRows schema_10)
+    ensures made { Leads (HasNoRows made_5) (HasNoRows made_10)
         (state S.Store tx.old.conn.now) (state S.Store tx.new.conn.now) result }
 {
     run(

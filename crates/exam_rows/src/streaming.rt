@@ -19,7 +19,7 @@ ghost use Rattle.exam_rows.specs.Streamed as spec;
 use crate::appeal_text::AppealText;
 use crate::faults::refusal_of;
 use crate::send_fault::SendFault;
-use crate::table::Table;
+use crate::table::StoredRows;
 use crate::tables::appeals::Appeals;
 use exam_rules::Appeal;
 use exam_types::{Number, Reference, Refusal, SessionCode};

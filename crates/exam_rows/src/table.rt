@@ -19,12 +19,12 @@ use sqlite::{Alter, Connection, Row, Transaction};
 use std::alloc::Global;
 use std::collections::BTreeMap;
 
-/// How the rows of a table are put, deleted and read.
+/// How the rows of a table are put and read.
 ///
-/// A row is put by its whole key, whether it is there or not, and deleted by its whole key. A row that others may
-/// refer to is changed in place: one that is replaced is deleted first, and is then looked for in the tables that
-/// refer to it, which have no index for that.
-pub trait Table {
+/// A row is put by its whole key, whether it is there or not. A row that others may refer to is changed in place: one
+/// that is replaced is deleted first, and is then looked for in the tables that refer to it, which have no index for
+/// that.
+pub trait StoredRows {
     type Key: Ord + Drop;
 
     type Value: PartialEq + Drop;
@@ -34,17 +34,13 @@ pub trait Table {
 
     ghost key_places: { List ℕ };
 
-    /// The statements that put a row, that delete one, and that show all.
+    /// The statements that put a row, and that show all.
     ghost put_text: { List ℕ };
-
-    ghost delete_text: { List ℕ };
 
     ghost load_text: { List ℕ };
 
-    /// The columns of a row, and those of its key.
+    /// The columns of a row.
     ghost row_of: { Self.Key → Self.Value → Columns };
-
-    ghost key_of: { Self.Key → Columns };
 
     /// The rows that there may be.
     ghost IsRow: { Self.Key → Self.Value → Type 0 };
@@ -62,12 +58,6 @@ pub trait Table {
         ensures same_reference { tx.new.conn.ghost_name ≡ tx.old.conn.ghost_name }
         ensures made { Makes (state S.Store tx.old.conn.now) (state S.Store tx.new.conn.now) result
             (put_of Self.put_text Self.tree Self.key_places (Self.row_of key.now value.now) ∷ []) };
-
-    /// Takes away the row with this key, if there is one.
-    fn delete<S: Alter>(tx: &mut Transaction<'_, S>, key: &Self::Key) -> Result<(), Refusal>
-        ensures same_reference { tx.new.conn.ghost_name ≡ tx.old.conn.ghost_name }
-        ensures made { Makes (state S.Store tx.old.conn.now) (state S.Store tx.new.conn.now) result
-            (delete_of Self.delete_text Self.tree Self.key_places (Self.key_of key.now) ∷ []) };
 
     /// All rows, as they are shown.
     fn shown<S: Alter>(conn: &mut Connection<S>) -> Result<Vec<Row>, Refusal>
@@ -92,8 +82,22 @@ pub trait Table {
         ensures memory { WantsMemoryOfRow row.now result };
 }
 
+/// A table that can lose rows. No command takes a row away from any other.
+pub trait Shrinks: StoredRows {
+    /// The statement that deletes a row, and the columns of its key.
+    ghost delete_text: { List ℕ };
+
+    ghost key_of: { Self.Key → Columns };
+
+    /// Takes away the row with this key, if there is one.
+    fn delete<S: Alter>(tx: &mut Transaction<'_, S>, key: &Self::Key) -> Result<(), Refusal>
+        ensures same_reference { tx.new.conn.ghost_name ≡ tx.old.conn.ghost_name }
+        ensures made { Makes (state S.Store tx.old.conn.now) (state S.Store tx.new.conn.now) result
+            (delete_of Self.delete_text Self.tree Self.key_places (Self.key_of key.now) ∷ []) };
+}
+
 /// Sets these rows.
-pub fn put_rows<T: Table, S: Alter>(
+pub fn put_rows<T: StoredRows, S: Alter>(
     alloc: Global,
     tx: &mut Transaction<'_, S>,
     rows: &[Keyed<'_, T::Key, T::Value>],
@@ -109,7 +113,7 @@ pub fn put_rows<T: Table, S: Alter>(
 }
 
 /// Takes away the rows with these keys.
-pub fn delete_rows<T: Table, S: Alter>(
+pub fn delete_rows<T: Shrinks, S: Alter>(
     tx: &mut Transaction<'_, S>,
     keys: &[&T::Key],
 ) -> Result<(), Refusal>
@@ -124,7 +128,7 @@ pub fn delete_rows<T: Table, S: Alter>(
 }
 
 /// The whole table.
-pub fn load_rows<T: Table, S: Alter>(
+pub fn load_rows<T: StoredRows, S: Alter>(
     alloc: Global,
     conn: &mut Connection<S>,
 ) -> Result<BTreeMap<T::Key, T::Value>, Refusal>
@@ -133,7 +137,7 @@ pub fn load_rows<T: Table, S: Alter>(
         → HoldsTable T.Key.cmp T.IsRow T.row_of table.entries (all T.tree)
         × IsUnchanged (state S.Store conn.old) (state S.Store conn.new)) }
     ensures bad { HasCleanDisk (state S.Store conn.new)
-        → KeysMatch T.Key.cmp T.key_places T.row_of T.key_of
+        → KeysMatch T.Key.cmp T.key_places T.row_of
         → IfErr result (IsLoadRefusal (FailsToLoadFrom T.Holds T.load_text
         (state S.Store conn.old) (state S.Store conn.new))
         ((all : _) → T.Holds (state S.Store conn.old).now all
@@ -151,10 +155,13 @@ pub fn load_rows<T: Table, S: Alter>(
 }
 
 /// The table with these rows.
-fn read_rows<T: Table>(alloc: Global, rows: &[Row]) -> Result<BTreeMap<T::Key, T::Value>, Refusal>
+fn read_rows<T: StoredRows>(
+    alloc: Global,
+    rows: &[Row],
+) -> Result<BTreeMap<T::Key, T::Value>, Refusal>
     ensures rows { IfOk result (λ table. AreRowsOf T.Key.cmp T.IsRow T.row_of rows.now table.entries) }
     ensures bad { IfErr result (λ e. (e ≡ NoMemory) ⊎ ((e ≡ BadStore)
-        × (KeysMatch T.Key.cmp T.key_places T.row_of T.key_of
+        × (KeysMatch T.Key.cmp T.key_places T.row_of
         → (entries : _) → AreRowsOf T.Key.cmp T.IsRow T.row_of rows.now entries → ⊥))) }
     ensures told { IfErr result (λ e. IsTrue (is_store_refusal e)) }
 {

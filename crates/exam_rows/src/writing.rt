@@ -8,10 +8,9 @@ ghost use Rattle.exam_rows.specs.Inside.{Becomes, FailsToWrite, IsOurs, Makes};
 ghost use Rattle.exam_rows.specs.Transactions.{Commits};
 ghost use Rattle.exam_rows.specs.Versions.{FailsToCreate, IsBlank, IsFirst, IsMade, Widens};
 ghost use Rattle.exam_rows.specs.Writes.{timetable_put, halls_put, candidates_put, plans_put, all_put};
-ghost use Rattle.exam_rows.specs.Writes.{timetable_deleted, halls_deleted, candidates_deleted, plans_deleted};
 ghost use Rattle.exam_rows.specs.Writes.{all_deleted, all_saved};
 
-use crate::differences::Difference;
+use crate::differences::{Difference, Keyed};
 use crate::faults::refusal_of;
 use crate::schema::{create_tables, widen_tables};
 use crate::table::{delete_rows, put_rows};
@@ -30,18 +29,19 @@ use exam_types::{HallCode, Number, PaperCode, Reference, Refusal, SessionCode};
 use sqlite::{Alter, Connection, Transaction};
 use std::alloc::Global;
 
-/// What makes the tables of one office those of another.
+/// What makes the tables of one office those of another: the rows to put, and of the tables that can lose rows also the
+/// keys to delete.
 #[derive(Drop)]
 pub struct Changes<'a> {
-    pub sessions: Difference<'a, SessionCode, Session>,
-    pub papers: Difference<'a, PaperCode, Paper>,
-    pub halls: Difference<'a, HallCode, Hall>,
+    pub sessions: Vec<Keyed<'a, SessionCode, Session>>,
+    pub papers: Vec<Keyed<'a, PaperCode, Paper>>,
+    pub halls: Vec<Keyed<'a, HallCode, Hall>>,
     pub openings: Difference<'a, (SessionCode, HallCode), Opening>,
-    pub candidates: Difference<'a, Number, Candidate>,
-    pub entries: Difference<'a, (Number, PaperCode), Entry>,
-    pub arrangements: Difference<'a, Number, Arrangement>,
-    pub appeals: Difference<'a, (Number, Reference), Appeal>,
-    pub standing: Difference<'a, (Number, Reference), ()>,
+    pub candidates: Vec<Keyed<'a, Number, Candidate>>,
+    pub entries: Vec<Keyed<'a, (Number, PaperCode), Entry>>,
+    pub arrangements: Vec<Keyed<'a, Number, Arrangement>>,
+    pub appeals: Vec<Keyed<'a, (Number, Reference), Appeal>>,
+    pub standing: Vec<Keyed<'a, (Number, Reference), ()>>,
     pub seats: Difference<'a, (SessionCode, Number), HallCode>,
 }
 
@@ -70,8 +70,8 @@ fn put_timetable<S: Alter>(
     ensures made { Makes (state S.Store tx.old.conn.now) (state S.Store tx.new.conn.now) result
         (timetable_put changes.now) }
 {
-    put_rows::<Sessions, S>(alloc, tx, changes.sessions.put.as_slice())?;
-    put_rows::<Papers, S>(alloc, tx, changes.papers.put.as_slice())
+    put_rows::<Sessions, S>(alloc, tx, changes.sessions.as_slice())?;
+    put_rows::<Papers, S>(alloc, tx, changes.papers.as_slice())
 }
 
 fn put_halls<S: Alter>(
@@ -83,7 +83,7 @@ fn put_halls<S: Alter>(
     ensures made { Makes (state S.Store tx.old.conn.now) (state S.Store tx.new.conn.now) result
         (halls_put changes.now) }
 {
-    put_rows::<Halls, S>(alloc, tx, changes.halls.put.as_slice())?;
+    put_rows::<Halls, S>(alloc, tx, changes.halls.as_slice())?;
     put_rows::<Openings, S>(alloc, tx, changes.openings.put.as_slice())
 }
 
@@ -96,9 +96,9 @@ fn put_candidates<S: Alter>(
     ensures made { Makes (state S.Store tx.old.conn.now) (state S.Store tx.new.conn.now) result
         (candidates_put changes.now) }
 {
-    put_rows::<Candidates, S>(alloc, tx, changes.candidates.put.as_slice())?;
-    put_rows::<Entries, S>(alloc, tx, changes.entries.put.as_slice())?;
-    put_rows::<Arrangements, S>(alloc, tx, changes.arrangements.put.as_slice())
+    put_rows::<Candidates, S>(alloc, tx, changes.candidates.as_slice())?;
+    put_rows::<Entries, S>(alloc, tx, changes.entries.as_slice())?;
+    put_rows::<Arrangements, S>(alloc, tx, changes.arrangements.as_slice())
 }
 
 fn put_plans<S: Alter>(
@@ -110,65 +110,19 @@ fn put_plans<S: Alter>(
     ensures made { Makes (state S.Store tx.old.conn.now) (state S.Store tx.new.conn.now) result
         (plans_put changes.now) }
 {
-    put_rows::<Appeals, S>(alloc, tx, changes.appeals.put.as_slice())?;
-    put_rows::<Standing, S>(alloc, tx, changes.standing.put.as_slice())?;
+    put_rows::<Appeals, S>(alloc, tx, changes.appeals.as_slice())?;
+    put_rows::<Standing, S>(alloc, tx, changes.standing.as_slice())?;
     put_rows::<Seats, S>(alloc, tx, changes.seats.put.as_slice())
 }
 
-/// Takes away the rows that are gone, children first. Seats that have moved out of a hall are set by then.
+/// Takes away the rows that are gone. Seats that have moved out of a hall are set by then.
 fn delete_all<S: Alter>(tx: &mut Transaction<'_, S>, changes: &Changes<'_>) -> Result<(), Refusal>
     ensures same_reference { tx.new.conn.ghost_name ≡ tx.old.conn.ghost_name }
     ensures made { Makes (state S.Store tx.old.conn.now) (state S.Store tx.new.conn.now) result
         (all_deleted changes.now) }
 {
-    delete_plans(tx, changes)?;
-    delete_candidates(tx, changes)?;
-    delete_halls(tx, changes)?;
-    delete_timetable(tx, changes)
-}
-
-fn delete_plans<S: Alter>(tx: &mut Transaction<'_, S>, changes: &Changes<'_>) -> Result<(), Refusal>
-    ensures same_reference { tx.new.conn.ghost_name ≡ tx.old.conn.ghost_name }
-    ensures made { Makes (state S.Store tx.old.conn.now) (state S.Store tx.new.conn.now) result
-        (plans_deleted changes.now) }
-{
     delete_rows::<Seats, S>(tx, changes.seats.delete.as_slice())?;
-    delete_rows::<Standing, S>(tx, changes.standing.delete.as_slice())?;
-    delete_rows::<Appeals, S>(tx, changes.appeals.delete.as_slice())
-}
-
-fn delete_candidates<S: Alter>(
-    tx: &mut Transaction<'_, S>,
-    changes: &Changes<'_>,
-) -> Result<(), Refusal>
-    ensures same_reference { tx.new.conn.ghost_name ≡ tx.old.conn.ghost_name }
-    ensures made { Makes (state S.Store tx.old.conn.now) (state S.Store tx.new.conn.now) result
-        (candidates_deleted changes.now) }
-{
-    delete_rows::<Arrangements, S>(tx, changes.arrangements.delete.as_slice())?;
-    delete_rows::<Entries, S>(tx, changes.entries.delete.as_slice())?;
-    delete_rows::<Candidates, S>(tx, changes.candidates.delete.as_slice())
-}
-
-fn delete_halls<S: Alter>(tx: &mut Transaction<'_, S>, changes: &Changes<'_>) -> Result<(), Refusal>
-    ensures same_reference { tx.new.conn.ghost_name ≡ tx.old.conn.ghost_name }
-    ensures made { Makes (state S.Store tx.old.conn.now) (state S.Store tx.new.conn.now) result
-        (halls_deleted changes.now) }
-{
-    delete_rows::<Openings, S>(tx, changes.openings.delete.as_slice())?;
-    delete_rows::<Halls, S>(tx, changes.halls.delete.as_slice())
-}
-
-fn delete_timetable<S: Alter>(
-    tx: &mut Transaction<'_, S>,
-    changes: &Changes<'_>,
-) -> Result<(), Refusal>
-    ensures same_reference { tx.new.conn.ghost_name ≡ tx.old.conn.ghost_name }
-    ensures made { Makes (state S.Store tx.old.conn.now) (state S.Store tx.new.conn.now) result
-        (timetable_deleted changes.now) }
-{
-    delete_rows::<Papers, S>(tx, changes.papers.delete.as_slice())?;
-    delete_rows::<Sessions, S>(tx, changes.sessions.delete.as_slice())
+    delete_rows::<Openings, S>(tx, changes.openings.delete.as_slice())
 }
 
 /// Makes the changes, in one transaction or not at all. Refused as a failure also where a transaction is under way.

@@ -6,6 +6,7 @@ pub mod KeysHold
 pub mod Marking
 pub mod Newest
 pub mod PlansTurning
+pub mod PutsAlone
 pub mod RowsTurning
 pub mod Referring
 pub mod Registering

@@ -11,7 +11,7 @@ use Rattle.exam_office.specs.State.{State, empty_state}
 use Rattle.exam_rows.specs.declared.writing.Changes.{Changes}
 use Rattle.exam_rows.specs.Held.{HoldsRows}
 use Rattle.exam_store.specs.Kept.{HoldsOffice}
-use Rattle.exam_rows.specs.Inside.{Becomes, Contains, IsOurs}
+use Rattle.exam_rows.specs.Inside.{Becomes, IsOurs, written}
 use Rattle.exam_store.specs.Found.{Finds, version_texts}
 use Rattle.exam_store.specs.Kept.{KeepsOurs, Keeps, Rekeeps}
 use Rattle.exam_store.specs.Refused.{HoldsFormed}
@@ -23,35 +23,34 @@ use Rattle.sqlite.proofs.Callers.{unchanged_then}
 use Rattle.exam_tables.specs.Texts.{load_office}
 use Rattle.exam_rows.proofs.Holding.{held_facts}
 use Rattle.exam_rows.specs.Rows.{session_row, paper_row, hall_row, candidate_row, opening_row, entry_row, arrangement_row, appeal_row, standing_row, seat_row}
-use Rattle.exam_rows.specs.Writes as writes
+use Rattle.exam_rows.specs.Writes.{all_saved}
 use Rattle.exam_store.specs.Saves.{TurnsTables}
-use Rattle.exam_rows.proofs.SavedTrees.{all_saved, saved_are}
 use Rattle.exam_rows.specs.Versions.{HasVersion, new_tables, IsMade, version}
-use Rattle.exam_rows.proofs.EachTree.{sessions_after, papers_after, halls_after, openings_after, candidates_after, entries_after, arrangements_after, appeals_after, standing_after, seats_after, version_after}
-use Rattle.exam_rows.proofs.SavedRows.{table_saved, sessions_match, papers_match, halls_match, openings_match, candidates_match, entries_match, arrangements_match, appeals_match, standing_match, seats_match}
+use Rattle.exam_rows.proofs.EachTree.{whole}
+use Rattle.exam_rows.proofs.SavedRows.{openings_named, seats_named, table_put, table_saved, sessions_match, papers_match, halls_match, openings_match, candidates_match, entries_match, arrangements_match, appeals_match, standing_match, seats_match}
 
 -- the rows of each table are those of the new office
-pub holds_after : (before after : State) (c : Changes) (all : Trees) → TurnsTables before after c → HoldsOffice all before → HoldsOffice (all_saved c all) after
+pub holds_after : (before after : State) (c : Changes) (all : Trees) → TurnsTables before after c → HoldsOffice all before → HoldsOffice (written (all_saved c) all) after
 holds_after before after c all turns was = record {
   facts = record {
-    sessions = subst (HoldsRows session_row after.relations.sessions) (sym (sessions_after c all)) (table_saved sessions_match 1 all _ _ _ _ turns.sessions was.facts.sessions);
-    papers = subst (HoldsRows paper_row after.relations.papers) (sym (papers_after c all)) (table_saved papers_match 3 all _ _ _ _ turns.papers was.facts.papers);
-    halls = subst (HoldsRows hall_row after.relations.halls) (sym (halls_after c all)) (table_saved halls_match 5 all _ _ _ _ turns.halls was.facts.halls);
-    openings = subst (HoldsRows opening_row after.relations.openings) (sym (openings_after c all)) (table_saved openings_match 8 all _ _ _ _ turns.openings was.facts.openings);
-    candidates = subst (HoldsRows candidate_row after.relations.candidates) (sym (candidates_after c all)) (table_saved candidates_match 7 all _ _ _ _ turns.candidates was.facts.candidates);
-    entries = subst (HoldsRows entry_row after.relations.entries) (sym (entries_after c all)) (table_saved entries_match 10 all _ _ _ _ turns.entries was.facts.entries);
-    arrangements = subst (HoldsRows arrangement_row after.relations.arrangements) (sym (arrangements_after c all)) (table_saved arrangements_match 12 all _ _ _ _ turns.arrangements was.facts.arrangements);
-    appeals = subst (HoldsRows appeal_row after.relations.appeals) (sym (appeals_after c all)) (table_saved appeals_match 13 all _ _ _ _ turns.appeals was.facts.appeals);
-    standing = subst (HoldsRows standing_row after.relations.standing) (sym (standing_after c all)) (table_saved standing_match 17 all _ _ _ _ turns.standing was.facts.standing);
+    sessions = subst (HoldsRows session_row after.relations.sessions) (sym (whole c all 1)) (table_put sessions_match _ _ _ _ turns.sessions was.facts.sessions);
+    papers = subst (HoldsRows paper_row after.relations.papers) (sym (whole c all 3)) (table_put papers_match _ _ _ _ turns.papers was.facts.papers);
+    halls = subst (HoldsRows hall_row after.relations.halls) (sym (whole c all 5)) (table_put halls_match _ _ _ _ turns.halls was.facts.halls);
+    openings = subst (HoldsRows opening_row after.relations.openings) (sym (whole c all 8)) (table_saved openings_match openings_named _ _ _ _ _ turns.openings was.facts.openings);
+    candidates = subst (HoldsRows candidate_row after.relations.candidates) (sym (whole c all 7)) (table_put candidates_match _ _ _ _ turns.candidates was.facts.candidates);
+    entries = subst (HoldsRows entry_row after.relations.entries) (sym (whole c all 10)) (table_put entries_match _ _ _ _ turns.entries was.facts.entries);
+    arrangements = subst (HoldsRows arrangement_row after.relations.arrangements) (sym (whole c all 12)) (table_put arrangements_match _ _ _ _ turns.arrangements was.facts.arrangements);
+    appeals = subst (HoldsRows appeal_row after.relations.appeals) (sym (whole c all 13)) (table_put appeals_match _ _ _ _ turns.appeals was.facts.appeals);
+    standing = subst (HoldsRows standing_row after.relations.standing) (sym (whole c all 17)) (table_put standing_match _ _ _ _ turns.standing was.facts.standing);
   };
-  seats = subst (HoldsRows seat_row after.seats) (sym (seats_after c all)) (table_saved seats_match 15 all _ _ _ _ turns.seats was.seats);
+  seats = subst (HoldsRows seat_row after.seats) (sym (whole c all 15)) (table_saved seats_match seats_named _ _ _ _ _ turns.seats was.seats);
 }
 
-pub rekeeps : (before after : State) (c : Changes) (old new : Database) → TurnsTables before after c → Becomes (writes.all_saved c) old new → Rekeeps before after old new
+pub rekeeps : (before after : State) (c : Changes) (old new : Database) → TurnsTables before after c → Becomes (all_saved c) old new → Rekeeps before after old new
 rekeeps before after c old new turns becomes was = record {
-  all = all_saved c was.all;
-  contains = subst (Contains new) (saved_are c was.all) (becomes was.all was.contains);
-  version = version_after c was.all ∙ was.version;
+  all = written (all_saved c) was.all;
+  contains = becomes was.all was.contains;
+  version = whole c was.all 0 ∙ was.version;
   held = holds_after before after c was.all turns was.held;
 }
 

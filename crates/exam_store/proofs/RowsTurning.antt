@@ -6,19 +6,23 @@ use Rattle.std.specs.List.Sorted.{IsPermutation, IsStrictlySortedBy}
 use Rattle.std.specs.Map.{keys_of}
 use Rattle.std.specs.Option.{option_map}
 use Rattle.std.specs.BTreeMap.{is_at}
-use Rattle.std.specs.Ordering.{is_eq}
 use Rattle.std.proofs.lemmas.List.Sorted.{IsPermutation-sym, IsPermutation-filter_both}
-use Rattle.std.proofs.lemmas.Map.Keys.{sorted_head, sorted_tail}
+use Rattle.std.proofs.lemmas.Map.Keys.{sorted_tail}
 use Rattle.std.proofs.lemmas.Map.Lookups.{CmpEqualImpliesEq}
 use Rattle.exam_rules.specs.Orders.{KeysRise}
 use Rattle.exam_rules.specs.Relations.{has_row, row_at}
 use Rattle.exam_office.specs.Exchanges.{HasRows, put_back}
 use Rattle.exam_office.proofs.Exchanges.{has_first, has_later}
 use Rattle.exam_office.proofs.GoingBack.{or_row, put_back_at}
-use Rattle.exam_office.proofs.Repeating.{past_all, same_rows}
+use Rattle.exam_office.proofs.Repeating.{same_rows}
 use Rattle.exam_rows.specs.Differences.{has_key, Turns}
 use Rattle.exam_rows.proofs.RowTurning.{stays}
 use Rattle.exam_store.proofs.PlansTurning.{key_is_row, rises_left, row_left}
+
+-- none of these is among no keys
+pub none_deleted : {E : Type 0} (rows : List E) → AllByRecursion (λ n. false ≡ false) rows
+none_deleted [] = tt
+none_deleted (e ∷ rows) = (refl, none_deleted rows)
 
 -- the rows at the keys of others, of those that are there
 abbrev pub rows_at : {K X Y : Type 0} → (K → K → Ordering) → List (K × X) → List (K × Y) → List (K × X)
@@ -103,10 +107,6 @@ module _ {K X : Type 0} {cmp : K → K → Ordering} (total : IsTotalOrder cmp) 
       inner k true known = refl
       inner k false unknown =
           ap (λ (rows : List (K × X)). row_at cmp rows k) back ∙ put_back_at cmp total exact was after k was_rises after_rises ∙ no_row (row_at cmp was k) (row_at cmp after k) unknown
-
-  none_deleted : (rows : List (K × X)) → AllByRecursion (λ n. false ≡ false) rows
-  none_deleted [] = tt
-  none_deleted (e ∷ rows) = (refl, none_deleted rows)
 
   pub rows_turn : Turns cmp before after (rows_at cmp after was) []
   rows_turn = record {

@@ -1,5 +1,6 @@
 -- The changes that save an office, and why it is not saved.
-use Rattle.std.specs.Prelude.{ℕ, List, Option, map}
+use Rattle.std.specs.Prelude.{ℕ, List, [], Option, map}
+use Rattle.std.specs.Borrow.{Bor}
 use Rattle.std.specs.declared.cmp.Ordering.{Ordering}
 use Rattle.std.specs.Map.Iter.{deref_pair}
 use Rattle.std.specs.Ordering.{nat_cmp}
@@ -15,20 +16,26 @@ use Rattle.exam_rows.specs.Inside.{RefusesOne, RefusesOneRow, FailsFor}
 use Rattle.exam_rows.specs.Writes.{all_saved}
 use Rattle.exam_store.specs.Kept.{Keeps}
 
+-- the rows that are put turn a table that loses none
+abbrev pub TurnsRows : {K V : Type 0} → (K → K → Ordering) → List (K × V) → List (K × V) → List (Bor K × Bor V)
+    → Type 0
+TurnsRows cmp old new puts = Turns cmp old new (map deref_pair puts) []
+
+-- the difference turns one that can lose rows
 abbrev pub TurnsTable : {K V : Type 0} → (K → K → Ordering) → List (K × V) → List (K × V) → Difference K V → Type 0
 TurnsTable cmp old new d = Turns cmp old new (map deref_pair d.put.items) (map (λ k. k.now) d.delete.items)
 
 -- the changes turn each table of the one office into that of the other
 pub record TurnsTables (before after : State) (c : Changes) : Type 0 where
-  pub sessions : TurnsTable code_cmp before.relations.sessions after.relations.sessions c.sessions
-  pub papers : TurnsTable code_cmp before.relations.papers after.relations.papers c.papers
-  pub halls : TurnsTable code_cmp before.relations.halls after.relations.halls c.halls
+  pub sessions : TurnsRows code_cmp before.relations.sessions after.relations.sessions c.sessions.items
+  pub papers : TurnsRows code_cmp before.relations.papers after.relations.papers c.papers.items
+  pub halls : TurnsRows code_cmp before.relations.halls after.relations.halls c.halls.items
   pub openings : TurnsTable opening_cmp before.relations.openings after.relations.openings c.openings
-  pub candidates : TurnsTable nat_cmp before.relations.candidates after.relations.candidates c.candidates
-  pub entries : TurnsTable entry_cmp before.relations.entries after.relations.entries c.entries
-  pub arrangements : TurnsTable nat_cmp before.relations.arrangements after.relations.arrangements c.arrangements
-  pub appeals : TurnsTable appeal_cmp before.relations.appeals after.relations.appeals c.appeals
-  pub standing : TurnsTable appeal_cmp before.relations.standing after.relations.standing c.standing
+  pub candidates : TurnsRows nat_cmp before.relations.candidates after.relations.candidates c.candidates.items
+  pub entries : TurnsRows entry_cmp before.relations.entries after.relations.entries c.entries.items
+  pub arrangements : TurnsRows nat_cmp before.relations.arrangements after.relations.arrangements c.arrangements.items
+  pub appeals : TurnsRows appeal_cmp before.relations.appeals after.relations.appeals c.appeals.items
+  pub standing : TurnsRows appeal_cmp before.relations.standing after.relations.standing c.standing.items
   pub seats : TurnsTable seat_cmp before.seats after.seats c.seats
 
 -- ---- why an office is not saved

@@ -6,6 +6,8 @@ ghost use Rattle.exam_types.specs.declared.refusal.Refusal.TheVariants.{NoMemory
 ghost use Rattle.exam_rules.specs.Orders.{KeysRise};
 ghost use Rattle.exam_rules.specs.Relations.{has_row, remove_row, seat_cmp};
 ghost use Rattle.exam_office.specs.Exchanges.{HasRows, put_back};
+ghost use Rattle.exam_office.specs.Good.{IsGood};
+ghost use Rattle.exam_office.specs.KeptRows.{KeepsRows};
 ghost use Rattle.exam_office.specs.State.{Seats as SeatRows};
 ghost use Rattle.exam_office.specs.TablesBefore.{WasTable, WerePlans};
 ghost use Rattle.exam_rows.specs.Differences.{AreExact};
@@ -23,8 +25,9 @@ use std::alloc::{AllocError, Global};
 use std::collections::BTreeMap;
 
 /// Makes the tables of the office before a command those of the office after it, in one transaction or not at
-/// all.
+/// all. No command takes a row away from a good office but an opening.
 pub fn save<S: Alter>(alloc: Global, conn: &mut Connection<S>, draft: &Draft) -> Result<(), Refusal>
+    requires { IsGood draft.now.before → KeepsRows draft.now.before.relations draft.now.after.relations }
     ensures made { Commits (state S.Store conn.old) (state S.Store conn.new) result
         (Rekeeps draft.now.before draft.now.after) }
     ensures failed { conn.old.in_transaction ≡ false → HasCleanDisk (state S.Store conn.new)
@@ -41,25 +44,26 @@ pub fn save<S: Alter>(alloc: Global, conn: &mut Connection<S>, draft: &Draft) ->
 }
 
 /// What makes the tables of the office before a command those of the office after it. Goes over the tables that
-/// the command may have changed in more than one row, and over no other.
+/// the command may have changed in more than one row, and over no other. A table that loses no row needs puts alone.
 fn changes_of(alloc: Global, draft: &Draft) -> Result<Changes<'_>, Refusal>
+    requires { IsGood draft.now.before → KeepsRows draft.now.before.relations draft.now.after.relations }
     ensures turns { IfOk result (TurnsTables draft.now.before draft.now.after) }
     ensures memory { IfErr result (λ e. e ≡ NoMemory) }
 {
-    // The keys of an office rise.
+    // Before the command the office is good, and its keys rise.
     draft.show_good();
     let before = draft.tables_before();
     let after = draft.facts();
     Ok(Changes {
-        sessions: difference_since(alloc, before.sessions, &after.sessions)?,
-        papers: difference_since(alloc, before.papers, &after.papers)?,
-        halls: difference_since(alloc, before.halls, &after.halls)?,
+        sessions: difference_since(alloc, before.sessions, &after.sessions)?.put,
+        papers: difference_since(alloc, before.papers, &after.papers)?.put,
+        halls: difference_since(alloc, before.halls, &after.halls)?.put,
         openings: difference_since(alloc, before.openings, &after.openings)?,
-        candidates: difference_since(alloc, before.candidates, &after.candidates)?,
-        entries: difference_since(alloc, before.entries, &after.entries)?,
-        arrangements: difference_since(alloc, before.arrangements, &after.arrangements)?,
-        appeals: difference_since(alloc, before.appeals, &after.appeals)?,
-        standing: difference_since(alloc, before.standing, &after.standing)?,
+        candidates: difference_since(alloc, before.candidates, &after.candidates)?.put,
+        entries: difference_since(alloc, before.entries, &after.entries)?.put,
+        arrangements: difference_since(alloc, before.arrangements, &after.arrangements)?.put,
+        appeals: difference_since(alloc, before.appeals, &after.appeals)?.put,
+        standing: difference_since(alloc, before.standing, &after.standing)?.put,
         seats: seats_since(alloc, draft.plans_before())?,
     })
 }

@@ -1,19 +1,15 @@
 -- The table appeal: what its texts mean, and what they do.
 use Rattle.std.proofs.Common.{◌≡◌, ◌⊎◌, IsTrue, lit≤, ℕ, ℤ, List, [], ◌∷◌, codes, map, length, false, Some, None, Option, Result, OnOk, refl, Bool, true, slice_get}
-use Rattle.std.specs.List.{AllByRecursion, list_all}
+use Rattle.std.specs.List.{AllByRecursion}
 use Rattle.std.specs.List.Sorted.{IsPermutation}
 use Rattle.sqlite.specs.Kind.TheVariants.{Text as KindText}
 use Rattle.sqlite_rules.specs.Cast.{cast}
 use Rattle.sqlite_value.specs.declared.value.Value.TheVariants.{Null, Int, Text}
-use Rattle.sqlite_value.specs.declared.keys.Collation.TheVariants.{Binary}
 use Rattle.sqlite_value.specs.Order.{Row}
-use Rattle.sqlite_value.specs.Keys.{first_key}
 use Rattle.sqlite_trees.specs.Tree.{Trees, with_tree}
-use Rattle.sqlite_sql.specs.Term.{Term, lit, col, op2, holds}
-use Rattle.sqlite_sql.specs.declared.ops.BinaryOp.TheVariants.{Compare}
-use Rattle.sqlite_sql.specs.declared.ops.CompareOp.TheVariants.{Eq}
+use Rattle.sqlite_sql.specs.Term.{Term, lit, col}
 use Rattle.sqlite_schema.specs.declared.command.Conflict.TheVariants.{Replace}
-use Rattle.sqlite_schema.specs.declared.command.Command.TheVariants.{InsertOr, Delete, Select}
+use Rattle.sqlite_schema.specs.declared.command.Command.TheVariants.{InsertOr, Select}
 use Rattle.sqlite_schema.specs.declared.command.Source.TheVariants.{Values}
 use Rattle.sqlite_tied.specs.Compute.{everything}
 use Rattle.sqlite.specs.declared.error.Error.{Error}
@@ -24,19 +20,18 @@ use Rattle.sqlite.specs.Effect.{Database}
 use Rattle.sqlite.specs.Listing.{understood, reads_listing}
 use Rattle.sqlite.specs.State.{State, Executes, FailsToQuery, Shown, IsUnchanged}
 use Rattle.sqlite.proofs.Callers.{IsPlain, command_of}
-use Rattle.exam_tables.specs.Content.{ContainsIn, places, bare, put, delete, same_key}
+use Rattle.exam_tables.specs.Content.{ContainsIn, put}
 use Rattle.exam_tables.specs.Made.{made_schema, ContainsMade}
 use Rattle.exam_tables.specs.Plain.{one_table}
 use Rattle.exam_tables.specs.Refusals.{Refuses, RefusesRows, is_failure}
 use Rattle.exam_tables.specs.Tables.{store_schema, first_schema, stored_appeal}
-use Rattle.exam_tables.specs.Texts.{put_appeal, delete_appeal, load_appeal}
+use Rattle.exam_tables.specs.Texts.{put_appeal, load_appeal}
 use Rattle.exam_tables.proofs.Failing.{Answers, IsWhole, answers}
 use Rattle.exam_tables.proofs.Fits.{Fits, fits_chosen}
 use Rattle.exam_tables.proofs.KeysHold as keys
 use Rattle.exam_tables.proofs.References.{Stand, refers}
 use Rattle.exam_tables.proofs.Keys.{cast_int}
 use Rattle.exam_tables.proofs.Statements.{put_by, put_sets}
-use Rattle.exam_tables.proofs.Deletes.{delete_by, delete_takes}
 use Rattle.exam_tables.proofs.QueryFails.{query_fails}
 use Rattle.exam_tables.proofs.Loads.{shown_by}
 use Rattle.exam_tables.proofs.TableFacts.{appeal_keyed}
@@ -84,40 +79,6 @@ put_answers old new number reference session kind target needs extra reason stat
 pub put_refused : (limit : Option ℕ) (db : Database) (all : Trees) (number : ℤ) (reference : List ℕ) (session : List ℕ) (kind : ℤ) (target : List ℕ) (needs : ℤ) (extra : ℤ) (reason : List ℕ) (state : ℤ) (answer : Option (List ℕ)) (lodged : List ℕ) → ContainsIn store_schema db all → Stand (with_tree all 13 (put (1 ∷ 2 ∷ []) (Null ∷ row number reference session kind target needs extra reason state answer lodged) (all 13))) → Refuses limit db put_text (row number reference session kind target needs extra reason state answer lodged) → RefusesRows limit db put_text (row number reference session kind target needs extra reason state answer lodged)
 put_refused limit db all number reference session kind target needs extra reason state answer lodged was stand = keys.put_refused store_schema 8 stored_appeal (1 ∷ 2 ∷ []) (1 ∷ 2 ∷ []) appeal_keyed limit db all was put_text Replace [] terms 12 put_is put_plain (row number reference session kind target needs extra reason state answer lodged) (row number reference session kind target needs extra reason state answer lodged)
     (put_sets store_schema 8 stored_appeal (1 ∷ 2 ∷ []) (1 ∷ 2 ∷ []) appeal_keyed limit terms 12 (row number reference session kind target needs extra reason state answer lodged) (Null) (columns number reference session kind target needs extra reason state answer lodged) (row number reference session kind target needs extra reason state answer lodged) (fits number reference session kind target needs extra reason state answer lodged) refl) (λ next holds. refers next _ holds stand)
-
-abbrev pub delete_text : List ℕ
-delete_text = delete_appeal
-
-abbrev key_terms : List Term
-key_terms = op2 (Compare Eq Binary) (col 1 1) (col 0 0) ∷ op2 (Compare Eq Binary) (col 1 2) (col 0 1) ∷ []
-
-delete_is : command_of (understood store_schema delete_text) ≡ Delete 8 (record { lets = []; body = one_table 13 key_terms (col 1 0 ∷ []) [] })
-unfolding understood everything store_schema
-delete_is = refl
-
-delete_plain : IsPlain (understood store_schema delete_text)
-unfolding understood everything store_schema
-delete_plain = (refl, refl)
-
-key_means : (params r : Row) → list_all (holds (params ∷ r ∷ [])) key_terms ≡ same_key (1 ∷ 2 ∷ []) (bare (places stored_appeal) r) (Null ∷ params)
-unfolding first_key
-key_means params r = refl
-
-pub deletes : (old new : State) (number : ℤ) (reference : List ℕ) (r : Result ℕ Error) → Executes delete_text (Int number ∷ Text reference ∷ []) old new r
-    → OnOk r ((all : Trees) → ContainsIn store_schema old.now all → ContainsIn store_schema new.now (with_tree all 13 (delete (1 ∷ 2 ∷ []) (Null ∷ Int number ∷ Text reference ∷ []) (all 13))))
-deletes old new number reference r h = delete_by store_schema 8 stored_appeal (1 ∷ 2 ∷ []) (1 ∷ 2 ∷ []) appeal_keyed key_terms delete_text delete_is delete_plain (λ db. refl) old new (Int number ∷ Text reference ∷ []) r (key_means (Int number ∷ Text reference ∷ [])) h
-
-delete_whole : IsWhole delete_text 2 (understood store_schema delete_text)
-unfolding understood everything store_schema
-delete_whole = (lit≤ tt, refl)
-
-pub delete_answers : (old new : State) (number : ℤ) (reference : List ℕ) → old.now.schema ≡ store_schema → Answers delete_text (Int number ∷ Text reference ∷ []) old new
-delete_answers old new number reference has = answers delete_text (Int number ∷ Text reference ∷ []) old new store_schema has _ delete_is tt delete_plain delete_whole
-
--- where each row that is left has what it refers to, no foreign key refuses the delete
-pub delete_refused : (limit : Option ℕ) (db : Database) (all : Trees) (number : ℤ) (reference : List ℕ) → ContainsIn store_schema db all → Stand (with_tree all 13 (delete (1 ∷ 2 ∷ []) (Null ∷ Int number ∷ Text reference ∷ []) (all 13))) → Refuses limit db delete_text (Int number ∷ Text reference ∷ []) → RefusesRows limit db delete_text (Int number ∷ Text reference ∷ [])
-delete_refused limit db all number reference was stand = keys.delete_refused store_schema 8 stored_appeal (1 ∷ 2 ∷ []) (1 ∷ 2 ∷ []) appeal_keyed limit db all was delete_text key_terms delete_is delete_plain (Int number ∷ Text reference ∷ [])
-    (delete_takes store_schema 8 stored_appeal (1 ∷ 2 ∷ []) (1 ∷ 2 ∷ []) appeal_keyed key_terms limit (λ db. refl) (Int number ∷ Text reference ∷ []) (key_means (Int number ∷ Text reference ∷ []))) (λ next holds. refers next _ holds stand)
 
 abbrev pub load_text : List ℕ
 load_text = load_appeal

@@ -12,7 +12,7 @@ use Rattle.sqlite_sql.specs.Term.{Term, lit, col, op2, eval_all, holds}
 use Rattle.sqlite_sql.specs.declared.ops.BinaryOp.TheVariants.{Compare}
 use Rattle.sqlite_sql.specs.declared.ops.CompareOp.TheVariants.{Eq}
 use Rattle.sqlite_schema.specs.declared.command.Conflict.TheVariants.{Abort}
-use Rattle.sqlite_schema.specs.declared.command.Command.TheVariants.{InsertOr, Delete, Select}
+use Rattle.sqlite_schema.specs.declared.command.Command.TheVariants.{InsertOr, Select}
 use Rattle.sqlite_schema.specs.declared.command.Source.TheVariants.{Values}
 use Rattle.sqlite_tied.specs.Compute.{everything}
 use Rattle.sqlite.specs.declared.error.Error.{Error}
@@ -23,19 +23,18 @@ use Rattle.sqlite.specs.Effect.{Database}
 use Rattle.sqlite.specs.Listing.{understood, reads_listing}
 use Rattle.sqlite.specs.State.{State, Executes, FailsToQuery, Shown, IsUnchanged}
 use Rattle.sqlite.proofs.Callers.{IsPlain, command_of}
-use Rattle.exam_tables.specs.Content.{ContainsIn, places, bare, put, delete, same_key, same_rowid}
+use Rattle.exam_tables.specs.Content.{ContainsIn, places, bare, put, same_key, same_rowid}
 use Rattle.exam_tables.specs.Made.{made_schema, ContainsMade}
 use Rattle.exam_tables.specs.Plain.{one_table, on_conflict}
 use Rattle.exam_tables.specs.Refusals.{Refuses, RefusesRows, is_failure}
 use Rattle.exam_tables.specs.Tables.{store_schema, first_schema, stored_hall}
-use Rattle.exam_tables.specs.Texts.{put_hall, delete_hall, load_hall}
+use Rattle.exam_tables.specs.Texts.{put_hall, load_hall}
 use Rattle.exam_tables.proofs.Failing.{Answers, IsWhole, answers}
 use Rattle.exam_tables.proofs.Fits.{Fits, fits_chosen}
 use Rattle.exam_tables.proofs.KeysHold as keys
 use Rattle.exam_tables.proofs.References.{Stand, refers}
 use Rattle.exam_tables.proofs.Keys.{cast_int, text_same}
 use Rattle.exam_tables.proofs.Statements.{upsert_by, upsert_sets}
-use Rattle.exam_tables.proofs.Deletes.{delete_by, delete_takes}
 use Rattle.exam_tables.proofs.QueryFails.{query_fails}
 use Rattle.exam_tables.proofs.Loads.{shown_by}
 use Rattle.exam_tables.proofs.TableFacts.{hall_keyed}
@@ -96,40 +95,6 @@ put_answers old new code title features has = answers put_text (row code title f
 pub put_refused : (limit : Option ℕ) (db : Database) (all : Trees) (code : List ℕ) (title : List ℕ) (features : ℤ) → ContainsIn store_schema db all → Stand (with_tree all 5 (put (1 ∷ []) (Null ∷ row code title features) (all 5))) → Refuses limit db put_text (row code title features) → RefusesRows limit db put_text (row code title features)
 put_refused limit db all code title features was stand = keys.put_refused store_schema 3 stored_hall (1 ∷ []) (1 ∷ []) hall_keyed limit db all was put_text Abort (on_conflict (1 ∷ []) 5 there project ∷ []) terms 4 put_is put_plain (row code title features) (row code title features)
     (upsert_sets store_schema 3 stored_hall (1 ∷ []) (1 ∷ []) hall_keyed limit terms 4 there project (λ db. refl) (row code title features) (Null) (columns code title features) (row code title features) (fits code title features) refl (picked code title features) (written code title features)) (λ next holds. refers next _ holds stand)
-
-abbrev pub delete_text : List ℕ
-delete_text = delete_hall
-
-abbrev key_terms : List Term
-key_terms = op2 (Compare Eq Binary) (col 1 1) (col 0 0) ∷ []
-
-delete_is : command_of (understood store_schema delete_text) ≡ Delete 3 (record { lets = []; body = one_table 5 key_terms (col 1 0 ∷ []) [] })
-unfolding understood everything store_schema
-delete_is = refl
-
-delete_plain : IsPlain (understood store_schema delete_text)
-unfolding understood everything store_schema
-delete_plain = (refl, refl)
-
-key_means : (params r : Row) → list_all (holds (params ∷ r ∷ [])) key_terms ≡ same_key (1 ∷ []) (bare (places stored_hall) r) (Null ∷ params)
-unfolding first_key
-key_means params r = refl
-
-pub deletes : (old new : State) (code : List ℕ) (r : Result ℕ Error) → Executes delete_text (Text code ∷ []) old new r
-    → OnOk r ((all : Trees) → ContainsIn store_schema old.now all → ContainsIn store_schema new.now (with_tree all 5 (delete (1 ∷ []) (Null ∷ Text code ∷ []) (all 5))))
-deletes old new code r h = delete_by store_schema 3 stored_hall (1 ∷ []) (1 ∷ []) hall_keyed key_terms delete_text delete_is delete_plain (λ db. refl) old new (Text code ∷ []) r (key_means (Text code ∷ [])) h
-
-delete_whole : IsWhole delete_text 1 (understood store_schema delete_text)
-unfolding understood everything store_schema
-delete_whole = (lit≤ tt, refl)
-
-pub delete_answers : (old new : State) (code : List ℕ) → old.now.schema ≡ store_schema → Answers delete_text (Text code ∷ []) old new
-delete_answers old new code has = answers delete_text (Text code ∷ []) old new store_schema has _ delete_is tt delete_plain delete_whole
-
--- where each row that is left has what it refers to, no foreign key refuses the delete
-pub delete_refused : (limit : Option ℕ) (db : Database) (all : Trees) (code : List ℕ) → ContainsIn store_schema db all → Stand (with_tree all 5 (delete (1 ∷ []) (Null ∷ Text code ∷ []) (all 5))) → Refuses limit db delete_text (Text code ∷ []) → RefusesRows limit db delete_text (Text code ∷ [])
-delete_refused limit db all code was stand = keys.delete_refused store_schema 3 stored_hall (1 ∷ []) (1 ∷ []) hall_keyed limit db all was delete_text key_terms delete_is delete_plain (Text code ∷ [])
-    (delete_takes store_schema 3 stored_hall (1 ∷ []) (1 ∷ []) hall_keyed key_terms limit (λ db. refl) (Text code ∷ []) (key_means (Text code ∷ []))) (λ next holds. refers next _ holds stand)
 
 abbrev pub load_text : List ℕ
 load_text = load_hall

@@ -1,17 +1,13 @@
 -- The table standing: what its texts mean, and what they do.
 use Rattle.std.proofs.Common.{◌≡◌, ◌⊎◌, IsTrue, lit≤, ℕ, ℤ, List, [], ◌∷◌, codes, map, length, false, Result, OnOk, Option, refl}
-use Rattle.std.specs.List.{AllByRecursion, list_all}
+use Rattle.std.specs.List.{AllByRecursion}
 use Rattle.std.specs.List.Sorted.{IsPermutation}
 use Rattle.sqlite_value.specs.declared.value.Value.TheVariants.{Null, Int, Text}
-use Rattle.sqlite_value.specs.declared.keys.Collation.TheVariants.{Binary}
 use Rattle.sqlite_value.specs.Order.{Row}
-use Rattle.sqlite_value.specs.Keys.{first_key}
 use Rattle.sqlite_trees.specs.Tree.{Trees, with_tree}
-use Rattle.sqlite_sql.specs.Term.{Term, lit, col, op2, holds}
-use Rattle.sqlite_sql.specs.declared.ops.BinaryOp.TheVariants.{Compare}
-use Rattle.sqlite_sql.specs.declared.ops.CompareOp.TheVariants.{Eq}
+use Rattle.sqlite_sql.specs.Term.{Term, lit, col}
 use Rattle.sqlite_schema.specs.declared.command.Conflict.TheVariants.{Replace}
-use Rattle.sqlite_schema.specs.declared.command.Command.TheVariants.{InsertOr, Delete, Select}
+use Rattle.sqlite_schema.specs.declared.command.Command.TheVariants.{InsertOr, Select}
 use Rattle.sqlite_schema.specs.declared.command.Source.TheVariants.{Values}
 use Rattle.sqlite_tied.specs.Compute.{everything}
 use Rattle.sqlite.specs.declared.error.Error.{Error}
@@ -21,18 +17,17 @@ use Rattle.sqlite.specs.Effect.{Database}
 use Rattle.sqlite.specs.Listing.{understood, reads_listing}
 use Rattle.sqlite.specs.State.{State, Executes, FailsToQuery, Shown, IsUnchanged}
 use Rattle.sqlite.proofs.Callers.{IsPlain, command_of}
-use Rattle.exam_tables.specs.Content.{ContainsIn, places, bare, put, delete, same_key}
+use Rattle.exam_tables.specs.Content.{ContainsIn, put}
 use Rattle.exam_tables.specs.Plain.{one_table}
 use Rattle.exam_tables.specs.Refusals.{Refuses, RefusesRows, is_failure}
 use Rattle.exam_tables.specs.Tables.{store_schema, stored_standing}
-use Rattle.exam_tables.specs.Texts.{put_standing, delete_standing, load_standing}
+use Rattle.exam_tables.specs.Texts.{put_standing, load_standing}
 use Rattle.exam_tables.proofs.Failing.{Answers, IsWhole, answers}
 use Rattle.exam_tables.proofs.Fits.{Fits, fits_chosen}
 use Rattle.exam_tables.proofs.KeysHold as keys
 use Rattle.exam_tables.proofs.References.{Stand, refers}
 use Rattle.exam_tables.proofs.Keys.{cast_int}
 use Rattle.exam_tables.proofs.Statements.{put_by, put_sets}
-use Rattle.exam_tables.proofs.Deletes.{delete_by, delete_takes}
 use Rattle.exam_tables.proofs.QueryFails.{query_fails}
 use Rattle.exam_tables.proofs.Loads.{shown_by}
 use Rattle.exam_tables.proofs.TableFacts.{standing_keyed}
@@ -76,40 +71,6 @@ put_answers old new number ref has = answers put_text (row number ref) old new s
 pub put_refused : (limit : Option ℕ) (db : Database) (all : Trees) (number : ℤ) (ref : List ℕ) → ContainsIn store_schema db all → Stand (with_tree all 17 (put (1 ∷ 2 ∷ []) (Null ∷ row number ref) (all 17))) → Refuses limit db put_text (row number ref) → RefusesRows limit db put_text (row number ref)
 put_refused limit db all number ref was stand = keys.put_refused store_schema 10 stored_standing (1 ∷ 2 ∷ []) (1 ∷ 2 ∷ []) standing_keyed limit db all was put_text Replace [] terms 3 put_is put_plain (row number ref) (row number ref)
     (put_sets store_schema 10 stored_standing (1 ∷ 2 ∷ []) (1 ∷ 2 ∷ []) standing_keyed limit terms 3 (row number ref) (Null) (columns number ref) (row number ref) (fits number ref) refl) (λ next holds. refers next _ holds stand)
-
-abbrev pub delete_text : List ℕ
-delete_text = delete_standing
-
-abbrev key_terms : List Term
-key_terms = op2 (Compare Eq Binary) (col 1 1) (col 0 0) ∷ op2 (Compare Eq Binary) (col 1 2) (col 0 1) ∷ []
-
-delete_is : command_of (understood store_schema delete_text) ≡ Delete 10 (record { lets = []; body = one_table 17 key_terms (col 1 0 ∷ []) [] })
-unfolding understood everything store_schema
-delete_is = refl
-
-delete_plain : IsPlain (understood store_schema delete_text)
-unfolding understood everything store_schema
-delete_plain = (refl, refl)
-
-key_means : (params r : Row) → list_all (holds (params ∷ r ∷ [])) key_terms ≡ same_key (1 ∷ 2 ∷ []) (bare (places stored_standing) r) (Null ∷ params)
-unfolding first_key
-key_means params r = refl
-
-pub deletes : (old new : State) (number : ℤ) (ref : List ℕ) (r : Result ℕ Error) → Executes delete_text (Int number ∷ Text ref ∷ []) old new r
-    → OnOk r ((all : Trees) → ContainsIn store_schema old.now all → ContainsIn store_schema new.now (with_tree all 17 (delete (1 ∷ 2 ∷ []) (Null ∷ Int number ∷ Text ref ∷ []) (all 17))))
-deletes old new number ref r h = delete_by store_schema 10 stored_standing (1 ∷ 2 ∷ []) (1 ∷ 2 ∷ []) standing_keyed key_terms delete_text delete_is delete_plain (λ db. refl) old new (Int number ∷ Text ref ∷ []) r (key_means (Int number ∷ Text ref ∷ [])) h
-
-delete_whole : IsWhole delete_text 2 (understood store_schema delete_text)
-unfolding understood everything store_schema
-delete_whole = (lit≤ tt, refl)
-
-pub delete_answers : (old new : State) (number : ℤ) (ref : List ℕ) → old.now.schema ≡ store_schema → Answers delete_text (Int number ∷ Text ref ∷ []) old new
-delete_answers old new number ref has = answers delete_text (Int number ∷ Text ref ∷ []) old new store_schema has _ delete_is tt delete_plain delete_whole
-
--- where each row that is left has what it refers to, no foreign key refuses the delete
-pub delete_refused : (limit : Option ℕ) (db : Database) (all : Trees) (number : ℤ) (ref : List ℕ) → ContainsIn store_schema db all → Stand (with_tree all 17 (delete (1 ∷ 2 ∷ []) (Null ∷ Int number ∷ Text ref ∷ []) (all 17))) → Refuses limit db delete_text (Int number ∷ Text ref ∷ []) → RefusesRows limit db delete_text (Int number ∷ Text ref ∷ [])
-delete_refused limit db all number ref was stand = keys.delete_refused store_schema 10 stored_standing (1 ∷ 2 ∷ []) (1 ∷ 2 ∷ []) standing_keyed limit db all was delete_text key_terms delete_is delete_plain (Int number ∷ Text ref ∷ [])
-    (delete_takes store_schema 10 stored_standing (1 ∷ 2 ∷ []) (1 ∷ 2 ∷ []) standing_keyed key_terms limit (λ db. refl) (Int number ∷ Text ref ∷ []) (key_means (Int number ∷ Text ref ∷ []))) (λ next holds. refers next _ holds stand)
 
 abbrev pub load_text : List ℕ
 load_text = load_standing

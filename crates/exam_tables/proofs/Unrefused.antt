@@ -9,13 +9,13 @@ use Rattle.sqlite.specs.Listing.{understood}
 use Rattle.sqlite.specs.State.{State, ExecutesInside}
 use Rattle.exam_tables.specs.Refusals.{Fails}
 use Rattle.exam_tables.specs.Tables.{office, office_text, session, session_text, paper, paper_text, hall, hall_text, candidate, candidate_text, opening, opening_text, entry, entry_text, arrangement, arrangement_text, appeal, appeal_text, seat, seat_text, standing, standing_text, first_schema}
-use Rattle.exam_tables.specs.Grows.{schema_0, schema_1, schema_2, schema_3, schema_4, schema_5, schema_6, schema_7, schema_8, schema_9, schema_10}
+use Rattle.exam_tables.specs.Grows.{made_0, made_1, made_2, made_3, made_4, made_5, made_6, made_7, made_8, made_9, made_10}
 use Rattle.exam_tables.proofs.Failing.{IsWhole}
 use Rattle.exam_tables.proofs.CreateFails.{IsFree, fails_create}
 use Rattle.exam_tables.proofs.Making as making
 
-office_free : IsFree schema_0 office office_text
-unfolding everything encode value_cmp fits_kind is_free_name same_name begins lib.Ieee.is_nan lib.Ieee.lt schema_0
+office_free : IsFree made_0 office office_text
+unfolding everything encode value_cmp fits_kind is_free_name same_name begins lib.Ieee.is_nan lib.Ieee.lt made_0
 office_free = record {
   name = refl;
   keys = refl;
@@ -30,15 +30,15 @@ office_free = record {
   short = lit< tt;
 }
 
-office_whole : IsWhole office_text 0 (understood schema_0 office_text)
-unfolding understood everything schema_0
+office_whole : IsWhole office_text 0 (understood made_0 office_text)
+unfolding understood everything made_0
 office_whole = (lit≤ tt, refl)
 
-pub office_fails : (old new : State) → old.now.schema ≡ schema_0 → (e : Error) → ExecutesInside 0 office_text [] old new (Err e) → Fails old new ⊥ e
-office_fails old new has = fails_create schema_0 office office_text making.office_reads.0 making.office_plain office_whole making.office_reads.1 making.office_is making.office_next.1 office_free old new has
+pub office_fails : (old new : State) → old.now.schema ≡ made_0 → (e : Error) → ExecutesInside 0 office_text [] old new (Err e) → Fails old new ⊥ e
+office_fails old new has = fails_create made_0 office office_text making.office_reads.0 making.office_plain office_whole making.office_reads.1 making.office_is making.office_next.1 office_free old new has
 
-session_free : IsFree schema_1 session session_text
-unfolding everything encode value_cmp fits_kind is_free_name same_name begins lib.Ieee.is_nan lib.Ieee.lt schema_1
+session_free : IsFree made_1 session session_text
+unfolding everything encode value_cmp fits_kind is_free_name same_name begins lib.Ieee.is_nan lib.Ieee.lt made_1
 session_free = record {
   name = refl;
   keys = refl;
@@ -53,15 +53,15 @@ session_free = record {
   short = lit< tt;
 }
 
-session_whole : IsWhole session_text 0 (understood schema_1 session_text)
-unfolding understood everything schema_1
+session_whole : IsWhole session_text 0 (understood made_1 session_text)
+unfolding understood everything made_1
 session_whole = (lit≤ tt, refl)
 
-pub session_fails : (old new : State) → old.now.schema ≡ schema_1 → (e : Error) → ExecutesInside 0 session_text [] old new (Err e) → Fails old new ⊥ e
-session_fails old new has = fails_create schema_1 session session_text making.session_reads.0 making.session_plain session_whole making.session_reads.1 making.session_is making.session_next.1 session_free old new has
+pub session_fails : (old new : State) → old.now.schema ≡ made_1 → (e : Error) → ExecutesInside 0 session_text [] old new (Err e) → Fails old new ⊥ e
+session_fails old new has = fails_create made_1 session session_text making.session_reads.0 making.session_plain session_whole making.session_reads.1 making.session_is making.session_next.1 session_free old new has
 
-paper_free : IsFree schema_2 paper paper_text
-unfolding everything encode value_cmp fits_kind is_free_name same_name begins lib.Ieee.is_nan lib.Ieee.lt schema_2
+paper_free : IsFree made_2 paper paper_text
+unfolding everything encode value_cmp fits_kind is_free_name same_name begins lib.Ieee.is_nan lib.Ieee.lt made_2
 paper_free = record {
   name = refl;
   keys = refl;
@@ -76,15 +76,15 @@ paper_free = record {
   short = lit< tt;
 }
 
-paper_whole : IsWhole paper_text 0 (understood schema_2 paper_text)
-unfolding understood everything schema_2
+paper_whole : IsWhole paper_text 0 (understood made_2 paper_text)
+unfolding understood everything made_2
 paper_whole = (lit≤ tt, refl)
 
-pub paper_fails : (old new : State) → old.now.schema ≡ schema_2 → (e : Error) → ExecutesInside 0 paper_text [] old new (Err e) → Fails old new ⊥ e
-paper_fails old new has = fails_create schema_2 paper paper_text making.paper_reads.0 making.paper_plain paper_whole making.paper_reads.1 making.paper_is making.paper_next.1 paper_free old new has
+pub paper_fails : (old new : State) → old.now.schema ≡ made_2 → (e : Error) → ExecutesInside 0 paper_text [] old new (Err e) → Fails old new ⊥ e
+paper_fails old new has = fails_create made_2 paper paper_text making.paper_reads.0 making.paper_plain paper_whole making.paper_reads.1 making.paper_is making.paper_next.1 paper_free old new has
 
-hall_free : IsFree schema_3 hall hall_text
-unfolding everything encode value_cmp fits_kind is_free_name same_name begins lib.Ieee.is_nan lib.Ieee.lt schema_3
+hall_free : IsFree made_3 hall hall_text
+unfolding everything encode value_cmp fits_kind is_free_name same_name begins lib.Ieee.is_nan lib.Ieee.lt made_3
 hall_free = record {
   name = refl;
   keys = refl;
@@ -99,15 +99,15 @@ hall_free = record {
   short = lit< tt;
 }
 
-hall_whole : IsWhole hall_text 0 (understood schema_3 hall_text)
-unfolding understood everything schema_3
+hall_whole : IsWhole hall_text 0 (understood made_3 hall_text)
+unfolding understood everything made_3
 hall_whole = (lit≤ tt, refl)
 
-pub hall_fails : (old new : State) → old.now.schema ≡ schema_3 → (e : Error) → ExecutesInside 0 hall_text [] old new (Err e) → Fails old new ⊥ e
-hall_fails old new has = fails_create schema_3 hall hall_text making.hall_reads.0 making.hall_plain hall_whole making.hall_reads.1 making.hall_is making.hall_next.1 hall_free old new has
+pub hall_fails : (old new : State) → old.now.schema ≡ made_3 → (e : Error) → ExecutesInside 0 hall_text [] old new (Err e) → Fails old new ⊥ e
+hall_fails old new has = fails_create made_3 hall hall_text making.hall_reads.0 making.hall_plain hall_whole making.hall_reads.1 making.hall_is making.hall_next.1 hall_free old new has
 
-candidate_free : IsFree schema_4 candidate candidate_text
-unfolding everything encode value_cmp fits_kind is_free_name same_name begins lib.Ieee.is_nan lib.Ieee.lt schema_4
+candidate_free : IsFree made_4 candidate candidate_text
+unfolding everything encode value_cmp fits_kind is_free_name same_name begins lib.Ieee.is_nan lib.Ieee.lt made_4
 candidate_free = record {
   name = refl;
   keys = refl;
@@ -122,15 +122,15 @@ candidate_free = record {
   short = lit< tt;
 }
 
-candidate_whole : IsWhole candidate_text 0 (understood schema_4 candidate_text)
-unfolding understood everything schema_4
+candidate_whole : IsWhole candidate_text 0 (understood made_4 candidate_text)
+unfolding understood everything made_4
 candidate_whole = (lit≤ tt, refl)
 
-pub candidate_fails : (old new : State) → old.now.schema ≡ schema_4 → (e : Error) → ExecutesInside 0 candidate_text [] old new (Err e) → Fails old new ⊥ e
-candidate_fails old new has = fails_create schema_4 candidate candidate_text making.candidate_reads.0 making.candidate_plain candidate_whole making.candidate_reads.1 making.candidate_is making.candidate_next.1 candidate_free old new has
+pub candidate_fails : (old new : State) → old.now.schema ≡ made_4 → (e : Error) → ExecutesInside 0 candidate_text [] old new (Err e) → Fails old new ⊥ e
+candidate_fails old new has = fails_create made_4 candidate candidate_text making.candidate_reads.0 making.candidate_plain candidate_whole making.candidate_reads.1 making.candidate_is making.candidate_next.1 candidate_free old new has
 
-opening_free : IsFree schema_5 opening opening_text
-unfolding everything encode value_cmp fits_kind is_free_name same_name begins lib.Ieee.is_nan lib.Ieee.lt schema_5
+opening_free : IsFree made_5 opening opening_text
+unfolding everything encode value_cmp fits_kind is_free_name same_name begins lib.Ieee.is_nan lib.Ieee.lt made_5
 opening_free = record {
   name = refl;
   keys = refl;
@@ -145,15 +145,15 @@ opening_free = record {
   short = lit< tt;
 }
 
-opening_whole : IsWhole opening_text 0 (understood schema_5 opening_text)
-unfolding understood everything schema_5
+opening_whole : IsWhole opening_text 0 (understood made_5 opening_text)
+unfolding understood everything made_5
 opening_whole = (lit≤ tt, refl)
 
-pub opening_fails : (old new : State) → old.now.schema ≡ schema_5 → (e : Error) → ExecutesInside 0 opening_text [] old new (Err e) → Fails old new ⊥ e
-opening_fails old new has = fails_create schema_5 opening opening_text making.opening_reads.0 making.opening_plain opening_whole making.opening_reads.1 making.opening_is making.opening_next.1 opening_free old new has
+pub opening_fails : (old new : State) → old.now.schema ≡ made_5 → (e : Error) → ExecutesInside 0 opening_text [] old new (Err e) → Fails old new ⊥ e
+opening_fails old new has = fails_create made_5 opening opening_text making.opening_reads.0 making.opening_plain opening_whole making.opening_reads.1 making.opening_is making.opening_next.1 opening_free old new has
 
-entry_free : IsFree schema_6 entry entry_text
-unfolding everything encode value_cmp fits_kind is_free_name same_name begins lib.Ieee.is_nan lib.Ieee.lt schema_6
+entry_free : IsFree made_6 entry entry_text
+unfolding everything encode value_cmp fits_kind is_free_name same_name begins lib.Ieee.is_nan lib.Ieee.lt made_6
 entry_free = record {
   name = refl;
   keys = refl;
@@ -168,15 +168,15 @@ entry_free = record {
   short = lit< tt;
 }
 
-entry_whole : IsWhole entry_text 0 (understood schema_6 entry_text)
-unfolding understood everything schema_6
+entry_whole : IsWhole entry_text 0 (understood made_6 entry_text)
+unfolding understood everything made_6
 entry_whole = (lit≤ tt, refl)
 
-pub entry_fails : (old new : State) → old.now.schema ≡ schema_6 → (e : Error) → ExecutesInside 0 entry_text [] old new (Err e) → Fails old new ⊥ e
-entry_fails old new has = fails_create schema_6 entry entry_text making.entry_reads.0 making.entry_plain entry_whole making.entry_reads.1 making.entry_is making.entry_next.1 entry_free old new has
+pub entry_fails : (old new : State) → old.now.schema ≡ made_6 → (e : Error) → ExecutesInside 0 entry_text [] old new (Err e) → Fails old new ⊥ e
+entry_fails old new has = fails_create made_6 entry entry_text making.entry_reads.0 making.entry_plain entry_whole making.entry_reads.1 making.entry_is making.entry_next.1 entry_free old new has
 
-arrangement_free : IsFree schema_7 arrangement arrangement_text
-unfolding everything encode value_cmp fits_kind is_free_name same_name begins lib.Ieee.is_nan lib.Ieee.lt schema_7
+arrangement_free : IsFree made_7 arrangement arrangement_text
+unfolding everything encode value_cmp fits_kind is_free_name same_name begins lib.Ieee.is_nan lib.Ieee.lt made_7
 arrangement_free = record {
   name = refl;
   keys = refl;
@@ -191,15 +191,15 @@ arrangement_free = record {
   short = lit< tt;
 }
 
-arrangement_whole : IsWhole arrangement_text 0 (understood schema_7 arrangement_text)
-unfolding understood everything schema_7
+arrangement_whole : IsWhole arrangement_text 0 (understood made_7 arrangement_text)
+unfolding understood everything made_7
 arrangement_whole = (lit≤ tt, refl)
 
-pub arrangement_fails : (old new : State) → old.now.schema ≡ schema_7 → (e : Error) → ExecutesInside 0 arrangement_text [] old new (Err e) → Fails old new ⊥ e
-arrangement_fails old new has = fails_create schema_7 arrangement arrangement_text making.arrangement_reads.0 making.arrangement_plain arrangement_whole making.arrangement_reads.1 making.arrangement_is making.arrangement_next.1 arrangement_free old new has
+pub arrangement_fails : (old new : State) → old.now.schema ≡ made_7 → (e : Error) → ExecutesInside 0 arrangement_text [] old new (Err e) → Fails old new ⊥ e
+arrangement_fails old new has = fails_create made_7 arrangement arrangement_text making.arrangement_reads.0 making.arrangement_plain arrangement_whole making.arrangement_reads.1 making.arrangement_is making.arrangement_next.1 arrangement_free old new has
 
-appeal_free : IsFree schema_8 appeal appeal_text
-unfolding everything encode value_cmp fits_kind is_free_name same_name begins lib.Ieee.is_nan lib.Ieee.lt schema_8
+appeal_free : IsFree made_8 appeal appeal_text
+unfolding everything encode value_cmp fits_kind is_free_name same_name begins lib.Ieee.is_nan lib.Ieee.lt made_8
 appeal_free = record {
   name = refl;
   keys = refl;
@@ -214,15 +214,15 @@ appeal_free = record {
   short = lit< tt;
 }
 
-appeal_whole : IsWhole appeal_text 0 (understood schema_8 appeal_text)
-unfolding understood everything schema_8
+appeal_whole : IsWhole appeal_text 0 (understood made_8 appeal_text)
+unfolding understood everything made_8
 appeal_whole = (lit≤ tt, refl)
 
-pub appeal_fails : (old new : State) → old.now.schema ≡ schema_8 → (e : Error) → ExecutesInside 0 appeal_text [] old new (Err e) → Fails old new ⊥ e
-appeal_fails old new has = fails_create schema_8 appeal appeal_text making.appeal_reads.0 making.appeal_plain appeal_whole making.appeal_reads.1 making.appeal_is making.appeal_next.1 appeal_free old new has
+pub appeal_fails : (old new : State) → old.now.schema ≡ made_8 → (e : Error) → ExecutesInside 0 appeal_text [] old new (Err e) → Fails old new ⊥ e
+appeal_fails old new has = fails_create made_8 appeal appeal_text making.appeal_reads.0 making.appeal_plain appeal_whole making.appeal_reads.1 making.appeal_is making.appeal_next.1 appeal_free old new has
 
-seat_free : IsFree schema_9 seat seat_text
-unfolding everything encode value_cmp fits_kind is_free_name same_name begins lib.Ieee.is_nan lib.Ieee.lt schema_9
+seat_free : IsFree made_9 seat seat_text
+unfolding everything encode value_cmp fits_kind is_free_name same_name begins lib.Ieee.is_nan lib.Ieee.lt made_9
 seat_free = record {
   name = refl;
   keys = refl;
@@ -237,15 +237,15 @@ seat_free = record {
   short = lit< tt;
 }
 
-seat_whole : IsWhole seat_text 0 (understood schema_9 seat_text)
-unfolding understood everything schema_9
+seat_whole : IsWhole seat_text 0 (understood made_9 seat_text)
+unfolding understood everything made_9
 seat_whole = (lit≤ tt, refl)
 
-pub seat_fails : (old new : State) → old.now.schema ≡ schema_9 → (e : Error) → ExecutesInside 0 seat_text [] old new (Err e) → Fails old new ⊥ e
-seat_fails old new has = fails_create schema_9 seat seat_text making.seat_reads.0 making.seat_plain seat_whole making.seat_reads.1 making.seat_is making.seat_next.1 seat_free old new has
+pub seat_fails : (old new : State) → old.now.schema ≡ made_9 → (e : Error) → ExecutesInside 0 seat_text [] old new (Err e) → Fails old new ⊥ e
+seat_fails old new has = fails_create made_9 seat seat_text making.seat_reads.0 making.seat_plain seat_whole making.seat_reads.1 making.seat_is making.seat_next.1 seat_free old new has
 
-standing_free : IsFree schema_10 standing standing_text
-unfolding everything encode value_cmp fits_kind is_free_name same_name begins lib.Ieee.is_nan lib.Ieee.lt schema_10
+standing_free : IsFree made_10 standing standing_text
+unfolding everything encode value_cmp fits_kind is_free_name same_name begins lib.Ieee.is_nan lib.Ieee.lt made_10
 standing_free = record {
   name = refl;
   keys = refl;
@@ -260,12 +260,12 @@ standing_free = record {
   short = lit< tt;
 }
 
-standing_whole : IsWhole standing_text 0 (understood schema_10 standing_text)
-unfolding understood everything schema_10
+standing_whole : IsWhole standing_text 0 (understood made_10 standing_text)
+unfolding understood everything made_10
 standing_whole = (lit≤ tt, refl)
 
-pub standing_fails : (old new : State) → old.now.schema ≡ schema_10 → (e : Error) → ExecutesInside 0 standing_text [] old new (Err e) → Fails old new ⊥ e
-standing_fails old new has = fails_create schema_10 standing standing_text making.standing_reads.0 making.standing_plain standing_whole making.standing_reads.1 making.standing_is making.standing_next.1 standing_free old new has
+pub standing_fails : (old new : State) → old.now.schema ≡ made_10 → (e : Error) → ExecutesInside 0 standing_text [] old new (Err e) → Fails old new ⊥ e
+standing_fails old new has = fails_create made_10 standing standing_text making.standing_reads.0 making.standing_plain standing_whole making.standing_reads.1 making.standing_is making.standing_next.1 standing_free old new has
 
 -- the text that adds it to the tables of the first version is refused by none that have them, whatever their rows
 pub adding_fails : (old new : State) → old.now.schema ≡ first_schema → (e : Error) → ExecutesInside 0 standing_text [] old new (Err e) → Fails old new ⊥ e

@@ -1,30 +1,18 @@
--- The texts that put a row of a table, whether its key is there or not, that delete one by its key, that load
--- all rows, and that read the appeals of a session.
+-- The texts that put a row of a table, whether its key is there or not, that delete an opening or a seat by its key,
+-- that load all rows, and that read the appeals of a session.
 use Rattle.std.specs.Prelude.{ℕ, List, [], ◌∷◌, ◌++◌, codes}
 
 abbrev pub put_session : List ℕ
 put_session = codes "INSERT INTO session (code, day, start) VALUES (?1, ?2, ?3) ON CONFLICT (code) DO UPDATE SET day = excluded.day, start = excluded.start"
 
-abbrev pub delete_session : List ℕ
-delete_session = codes "DELETE FROM session WHERE code = ?1"
-
 abbrev pub put_paper : List ℕ
 put_paper = codes "INSERT INTO paper (code, title, session, minutes, requires) VALUES (?1, ?2, ?3, ?4, ?5) ON CONFLICT (code) DO UPDATE SET title = excluded.title, session = excluded.session, minutes = excluded.minutes, requires = excluded.requires"
-
-abbrev pub delete_paper : List ℕ
-delete_paper = codes "DELETE FROM paper WHERE code = ?1"
 
 abbrev pub put_hall : List ℕ
 put_hall = codes "INSERT INTO hall (code, title, features) VALUES (?1, ?2, ?3) ON CONFLICT (code) DO UPDATE SET title = excluded.title, features = excluded.features"
 
-abbrev pub delete_hall : List ℕ
-delete_hall = codes "DELETE FROM hall WHERE code = ?1"
-
 abbrev pub put_candidate : List ℕ
 put_candidate = codes "INSERT INTO candidate (number, name, code) VALUES (?1, ?2, ?3) ON CONFLICT (number) DO UPDATE SET name = excluded.name, code = excluded.code"
-
-abbrev pub delete_candidate : List ℕ
-delete_candidate = codes "DELETE FROM candidate WHERE number = ?1"
 
 abbrev pub put_opening : List ℕ
 put_opening = codes "INSERT INTO opening (session, hall, desks, until, reserved) VALUES (?1, ?2, ?3, ?4, ?5) ON CONFLICT (session, hall) DO UPDATE SET desks = excluded.desks, until = excluded.until, reserved = excluded.reserved"
@@ -35,20 +23,11 @@ delete_opening = codes "DELETE FROM opening WHERE session = ?1 AND hall = ?2"
 abbrev pub put_entry : List ℕ
 put_entry = codes "INSERT OR REPLACE INTO entry (number, paper, live) VALUES (?1, ?2, ?3)"
 
-abbrev pub delete_entry : List ℕ
-delete_entry = codes "DELETE FROM entry WHERE number = ?1 AND paper = ?2"
-
 abbrev pub put_arrangement : List ℕ
 put_arrangement = codes "INSERT OR REPLACE INTO arrangement (number, needs, extra) VALUES (?1, ?2, ?3)"
 
-abbrev pub delete_arrangement : List ℕ
-delete_arrangement = codes "DELETE FROM arrangement WHERE number = ?1"
-
 abbrev pub put_appeal : List ℕ
 put_appeal = codes "INSERT OR REPLACE INTO appeal (number, ref, session, kind, target, needs, extra, reason, state, answer, lodged) VALUES (?1, ?2, ?3, ?4, ?5, ?6, ?7, ?8, ?9, ?10, ?11)"
-
-abbrev pub delete_appeal : List ℕ
-delete_appeal = codes "DELETE FROM appeal WHERE number = ?1 AND ref = ?2"
 
 abbrev pub put_seat : List ℕ
 put_seat = codes "INSERT OR REPLACE INTO seat (session, number, hall) VALUES (?1, ?2, ?3)"
@@ -58,9 +37,6 @@ delete_seat = codes "DELETE FROM seat WHERE session = ?1 AND number = ?2"
 
 abbrev pub put_standing : List ℕ
 put_standing = codes "INSERT OR REPLACE INTO standing (number, ref) VALUES (?1, ?2)"
-
-abbrev pub delete_standing : List ℕ
-delete_standing = codes "DELETE FROM standing WHERE number = ?1 AND ref = ?2"
 
 -- sets the version
 abbrev pub put_version : List ℕ

@@ -2,7 +2,7 @@
 ghost use Rattle.std.specs.Prelude.{ℕ, List, [], ◌∷◌};
 ghost use Rattle.sqlite_value.specs.declared.value.Value.TheVariants.{Text};
 ghost use Rattle.exam_tables.specs.Made.{ContainsMade};
-ghost use Rattle.exam_tables.specs.Texts.{put_appeal, delete_appeal, load_appeal};
+ghost use Rattle.exam_tables.specs.Texts.{put_appeal, load_appeal};
 ghost use Rattle.exam_rows.specs.Rows.{appeal_row, IsAppeal};
 ghost use Rattle.exam_rows.specs.Stored as stored;
 ghost use Rattle.sqlite.specs.Held.{state};
@@ -15,7 +15,7 @@ use crate::statements::{all_rows, run};
 use crate::subjects::{
     answer_of, extra_of, kind_of, needs_of, state_of, status_at, subject_at, target_of,
 };
-use crate::table::Table;
+use crate::table::StoredRows;
 use exam_rules::Appeal;
 use exam_types::{Number, Reference, Refusal};
 use sqlite::types::ValueRef;
@@ -25,7 +25,7 @@ use std::alloc::Global;
 /// The appeals, by candidate and reference.
 pub struct Appeals;
 
-impl Table for Appeals {
+impl StoredRows for Appeals {
     type Key = (Number, Reference);
 
     type Value = Appeal;
@@ -36,13 +36,9 @@ impl Table for Appeals {
 
     ghost put_text = { put_appeal };
 
-    ghost delete_text = { delete_appeal };
-
     ghost load_text = { load_appeal };
 
     ghost row_of = { appeal_row };
-
-    ghost key_of = { λ key. stored.whole key.0 ∷ Text key.1 ∷ [] };
 
     ghost IsRow = { IsAppeal };
 
@@ -56,20 +52,6 @@ impl Table for Appeals {
     ) -> Result<(), Refusal> {
         let lodged = day_text(alloc, appeal.lodged)?;
         put_appeal(tx, key, appeal, lodged.as_slice())
-    }
-
-    fn delete<S: Alter>(
-        tx: &mut Transaction<'_, S>,
-        key: &(Number, Reference),
-    ) -> Result<(), Refusal> {
-        run(
-            tx,
-            "DELETE FROM appeal WHERE number = ?1 AND ref = ?2",
-            &[
-                ValueRef::Int(i64::from(key.0.get())),
-                ValueRef::Text(key.1.as_bytes()),
-            ],
-        )
     }
 
     fn shown<S: Alter>(conn: &mut Connection<S>) -> Result<Vec<Row>, Refusal> {

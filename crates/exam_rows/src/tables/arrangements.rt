@@ -2,13 +2,13 @@
 ghost use Rattle.std.specs.Prelude.{ℕ, List, [], ◌∷◌};
 ghost use Rattle.sqlite_value.specs.declared.value.Value.TheVariants.{Text};
 ghost use Rattle.exam_tables.specs.Made.{ContainsMade};
-ghost use Rattle.exam_tables.specs.Texts.{put_arrangement, delete_arrangement, load_arrangement};
+ghost use Rattle.exam_tables.specs.Texts.{put_arrangement, load_arrangement};
 ghost use Rattle.exam_rows.specs.Rows.{arrangement_row, IsArrangement};
 ghost use Rattle.exam_rows.specs.Stored as stored;
 
 use crate::columns::{extra_at, features_at, number_at};
 use crate::statements::{all_rows, run};
-use crate::table::Table;
+use crate::table::StoredRows;
 use exam_rules::Arrangement;
 use exam_types::{Number, Refusal};
 use sqlite::types::ValueRef;
@@ -18,7 +18,7 @@ use std::alloc::Global;
 /// The imported arrangements, by candidate.
 pub struct Arrangements;
 
-impl Table for Arrangements {
+impl StoredRows for Arrangements {
     type Key = Number;
 
     type Value = Arrangement;
@@ -29,13 +29,9 @@ impl Table for Arrangements {
 
     ghost put_text = { put_arrangement };
 
-    ghost delete_text = { delete_arrangement };
-
     ghost load_text = { load_arrangement };
 
     ghost row_of = { arrangement_row };
-
-    ghost key_of = { λ number. stored.whole number ∷ [] };
 
     ghost IsRow = { IsArrangement };
 
@@ -55,14 +51,6 @@ impl Table for Arrangements {
                 ValueRef::Int(i64::from(arrangement.needs.sum())),
                 ValueRef::Int(i64::from(arrangement.extra.get())),
             ],
-        )
-    }
-
-    fn delete<S: Alter>(tx: &mut Transaction<'_, S>, number: &Number) -> Result<(), Refusal> {
-        run(
-            tx,
-            "DELETE FROM arrangement WHERE number = ?1",
-            &[ValueRef::Int(i64::from(number.get()))],
         )
     }
 

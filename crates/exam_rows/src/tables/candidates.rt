@@ -2,13 +2,13 @@
 ghost use Rattle.std.specs.Prelude.{ℕ, List, [], ◌∷◌};
 ghost use Rattle.sqlite_value.specs.declared.value.Value.TheVariants.{Text};
 ghost use Rattle.exam_tables.specs.Made.{ContainsMade};
-ghost use Rattle.exam_tables.specs.Texts.{put_candidate, delete_candidate, load_candidate};
+ghost use Rattle.exam_tables.specs.Texts.{put_candidate, load_candidate};
 ghost use Rattle.exam_rows.specs.Rows.{candidate_row, IsCandidate};
 ghost use Rattle.exam_rows.specs.Stored as stored;
 
 use crate::columns::{access_code_at, name_at, number_at};
 use crate::statements::{all_rows, run};
-use crate::table::Table;
+use crate::table::StoredRows;
 use exam_rules::Candidate;
 use exam_types::{Number, Refusal};
 use sqlite::types::ValueRef;
@@ -18,7 +18,7 @@ use std::alloc::Global;
 /// The candidates, by their numbers.
 pub struct Candidates;
 
-impl Table for Candidates {
+impl StoredRows for Candidates {
     type Key = Number;
 
     type Value = Candidate;
@@ -29,13 +29,9 @@ impl Table for Candidates {
 
     ghost put_text = { put_candidate };
 
-    ghost delete_text = { delete_candidate };
-
     ghost load_text = { load_candidate };
 
     ghost row_of = { candidate_row };
-
-    ghost key_of = { λ number. stored.whole number ∷ [] };
 
     ghost IsRow = { IsCandidate };
 
@@ -55,14 +51,6 @@ impl Table for Candidates {
                 ValueRef::Text(candidate.name.as_str().as_bytes()),
                 ValueRef::Text(candidate.code.as_bytes()),
             ],
-        )
-    }
-
-    fn delete<S: Alter>(tx: &mut Transaction<'_, S>, number: &Number) -> Result<(), Refusal> {
-        run(
-            tx,
-            "DELETE FROM candidate WHERE number = ?1",
-            &[ValueRef::Int(i64::from(number.get()))],
         )
     }
 

@@ -2,13 +2,13 @@
 ghost use Rattle.std.specs.Prelude.{ℕ, List, [], ◌∷◌};
 ghost use Rattle.sqlite_value.specs.declared.value.Value.TheVariants.{Text};
 ghost use Rattle.exam_tables.specs.Made.{ContainsMade};
-ghost use Rattle.exam_tables.specs.Texts.{put_entry, delete_entry, load_entry};
+ghost use Rattle.exam_tables.specs.Texts.{put_entry, load_entry};
 ghost use Rattle.exam_rows.specs.Rows.{entry_row, IsEntry};
 ghost use Rattle.exam_rows.specs.Stored as stored;
 
 use crate::columns::{flag, flag_at, number_at, paper_code_at};
 use crate::statements::{all_rows, run};
-use crate::table::Table;
+use crate::table::StoredRows;
 use exam_rules::Entry;
 use exam_types::{Number, PaperCode, Refusal};
 use sqlite::types::ValueRef;
@@ -18,7 +18,7 @@ use std::alloc::Global;
 /// The entries, by candidate and paper.
 pub struct Entries;
 
-impl Table for Entries {
+impl StoredRows for Entries {
     type Key = (Number, PaperCode);
 
     type Value = Entry;
@@ -29,13 +29,9 @@ impl Table for Entries {
 
     ghost put_text = { put_entry };
 
-    ghost delete_text = { delete_entry };
-
     ghost load_text = { load_entry };
 
     ghost row_of = { entry_row };
-
-    ghost key_of = { λ key. stored.whole key.0 ∷ Text key.1 ∷ [] };
 
     ghost IsRow = { IsEntry };
 
@@ -54,20 +50,6 @@ impl Table for Entries {
                 ValueRef::Int(i64::from(key.0.get())),
                 ValueRef::Text(key.1.as_bytes()),
                 ValueRef::Int(flag(entry.live)),
-            ],
-        )
-    }
-
-    fn delete<S: Alter>(
-        tx: &mut Transaction<'_, S>,
-        key: &(Number, PaperCode),
-    ) -> Result<(), Refusal> {
-        run(
-            tx,
-            "DELETE FROM entry WHERE number = ?1 AND paper = ?2",
-            &[
-                ValueRef::Int(i64::from(key.0.get())),
-                ValueRef::Text(key.1.as_bytes()),
             ],
         )
     }

@@ -2,13 +2,13 @@
 ghost use Rattle.std.specs.Prelude.{ℕ, List, [], ◌∷◌};
 ghost use Rattle.sqlite_value.specs.declared.value.Value.TheVariants.{Text};
 ghost use Rattle.exam_tables.specs.Made.{ContainsMade};
-ghost use Rattle.exam_tables.specs.Texts.{put_hall, delete_hall, load_hall};
+ghost use Rattle.exam_tables.specs.Texts.{put_hall, load_hall};
 ghost use Rattle.exam_rows.specs.Rows.{hall_row, IsHall};
 ghost use Rattle.exam_rows.specs.Stored as stored;
 
 use crate::columns::{features_at, hall_code_at, name_at};
 use crate::statements::{all_rows, run};
-use crate::table::Table;
+use crate::table::StoredRows;
 use exam_rules::Hall;
 use exam_types::{HallCode, Refusal};
 use sqlite::types::ValueRef;
@@ -18,7 +18,7 @@ use std::alloc::Global;
 /// The halls, by their codes.
 pub struct Halls;
 
-impl Table for Halls {
+impl StoredRows for Halls {
     type Key = HallCode;
 
     type Value = Hall;
@@ -29,13 +29,9 @@ impl Table for Halls {
 
     ghost put_text = { put_hall };
 
-    ghost delete_text = { delete_hall };
-
     ghost load_text = { load_hall };
 
     ghost row_of = { hall_row };
-
-    ghost key_of = { λ code. Text code ∷ [] };
 
     ghost IsRow = { IsHall };
 
@@ -55,14 +51,6 @@ impl Table for Halls {
                 ValueRef::Text(hall.title.as_str().as_bytes()),
                 ValueRef::Int(i64::from(hall.features.sum())),
             ],
-        )
-    }
-
-    fn delete<S: Alter>(tx: &mut Transaction<'_, S>, code: &HallCode) -> Result<(), Refusal> {
-        run(
-            tx,
-            "DELETE FROM hall WHERE code = ?1",
-            &[ValueRef::Text(code.as_bytes())],
         )
     }
 

@@ -10,7 +10,7 @@ use crate::columns::{
     closing_time_at, desk_count_at, flag, flag_at, hall_code_at, session_code_at,
 };
 use crate::statements::{all_rows, run};
-use crate::table::Table;
+use crate::table::{Shrinks, StoredRows};
 use exam_rules::Opening;
 use exam_types::{HallCode, Refusal, SessionCode};
 use sqlite::types::ValueRef;
@@ -20,7 +20,7 @@ use std::alloc::Global;
 /// The halls opened for sessions, by session and hall.
 pub struct Openings;
 
-impl Table for Openings {
+impl StoredRows for Openings {
     type Key = (SessionCode, HallCode);
 
     type Value = Opening;
@@ -31,13 +31,9 @@ impl Table for Openings {
 
     ghost put_text = { put_opening };
 
-    ghost delete_text = { delete_opening };
-
     ghost load_text = { load_opening };
 
     ghost row_of = { opening_row };
-
-    ghost key_of = { λ key. Text key.0 ∷ Text key.1 ∷ [] };
 
     ghost IsRow = { IsOpening };
 
@@ -58,20 +54,6 @@ impl Table for Openings {
                 ValueRef::Int(i64::from(opening.desks.get())),
                 ValueRef::Int(i64::from(opening.until.get())),
                 ValueRef::Int(flag(opening.reserved)),
-            ],
-        )
-    }
-
-    fn delete<S: Alter>(
-        tx: &mut Transaction<'_, S>,
-        key: &(SessionCode, HallCode),
-    ) -> Result<(), Refusal> {
-        run(
-            tx,
-            "DELETE FROM opening WHERE session = ?1 AND hall = ?2",
-            &[
-                ValueRef::Text(key.0.as_bytes()),
-                ValueRef::Text(key.1.as_bytes()),
             ],
         )
     }
@@ -100,5 +82,25 @@ impl Table for Openings {
                 reserved,
             },
         ))
+    }
+}
+
+impl Shrinks for Openings {
+    ghost delete_text = { delete_opening };
+
+    ghost key_of = { λ key. Text key.0 ∷ Text key.1 ∷ [] };
+
+    fn delete<S: Alter>(
+        tx: &mut Transaction<'_, S>,
+        key: &(SessionCode, HallCode),
+    ) -> Result<(), Refusal> {
+        run(
+            tx,
+            "DELETE FROM opening WHERE session = ?1 AND hall = ?2",
+            &[
+                ValueRef::Text(key.0.as_bytes()),
+                ValueRef::Text(key.1.as_bytes()),
+            ],
+        )
     }
 }

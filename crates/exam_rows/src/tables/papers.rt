@@ -2,13 +2,13 @@
 ghost use Rattle.std.specs.Prelude.{ℕ, List, [], ◌∷◌};
 ghost use Rattle.sqlite_value.specs.declared.value.Value.TheVariants.{Text};
 ghost use Rattle.exam_tables.specs.Made.{ContainsMade};
-ghost use Rattle.exam_tables.specs.Texts.{put_paper, delete_paper, load_paper};
+ghost use Rattle.exam_tables.specs.Texts.{put_paper, load_paper};
 ghost use Rattle.exam_rows.specs.Rows.{paper_row, IsPaper};
 ghost use Rattle.exam_rows.specs.Stored as stored;
 
 use crate::columns::{exam_minutes_at, features_at, name_at, paper_code_at, session_code_at};
 use crate::statements::{all_rows, run};
-use crate::table::Table;
+use crate::table::StoredRows;
 use exam_rules::Paper;
 use exam_types::{PaperCode, Refusal};
 use sqlite::types::ValueRef;
@@ -18,7 +18,7 @@ use std::alloc::Global;
 /// The papers, by their codes.
 pub struct Papers;
 
-impl Table for Papers {
+impl StoredRows for Papers {
     type Key = PaperCode;
 
     type Value = Paper;
@@ -29,13 +29,9 @@ impl Table for Papers {
 
     ghost put_text = { put_paper };
 
-    ghost delete_text = { delete_paper };
-
     ghost load_text = { load_paper };
 
     ghost row_of = { paper_row };
-
-    ghost key_of = { λ code. Text code ∷ [] };
 
     ghost IsRow = { IsPaper };
 
@@ -57,14 +53,6 @@ impl Table for Papers {
                 ValueRef::Int(i64::from(paper.minutes.get())),
                 ValueRef::Int(i64::from(paper.required.sum())),
             ],
-        )
-    }
-
-    fn delete<S: Alter>(tx: &mut Transaction<'_, S>, code: &PaperCode) -> Result<(), Refusal> {
-        run(
-            tx,
-            "DELETE FROM paper WHERE code = ?1",
-            &[ValueRef::Text(code.as_bytes())],
         )
     }
 

@@ -8,7 +8,7 @@ ghost use Rattle.exam_rows.specs.Stored as stored;
 
 use crate::columns::{hall_code_at, number_at, session_code_at};
 use crate::statements::{all_rows, run};
-use crate::table::Table;
+use crate::table::{Shrinks, StoredRows};
 use exam_types::{HallCode, Number, Refusal, SessionCode};
 use sqlite::types::ValueRef;
 use sqlite::{Alter, Connection, Row, Transaction};
@@ -17,7 +17,7 @@ use std::alloc::Global;
 /// Where each seated candidate sits, by session and candidate.
 pub struct Seats;
 
-impl Table for Seats {
+impl StoredRows for Seats {
     type Key = (SessionCode, Number);
 
     type Value = HallCode;
@@ -28,13 +28,9 @@ impl Table for Seats {
 
     ghost put_text = { put_seat };
 
-    ghost delete_text = { delete_seat };
-
     ghost load_text = { load_seat };
 
     ghost row_of = { seat_row };
-
-    ghost key_of = { λ key. Text key.0 ∷ stored.whole key.1 ∷ [] };
 
     ghost IsRow = { IsSeat };
 
@@ -57,20 +53,6 @@ impl Table for Seats {
         )
     }
 
-    fn delete<S: Alter>(
-        tx: &mut Transaction<'_, S>,
-        key: &(SessionCode, Number),
-    ) -> Result<(), Refusal> {
-        run(
-            tx,
-            "DELETE FROM seat WHERE session = ?1 AND number = ?2",
-            &[
-                ValueRef::Text(key.0.as_bytes()),
-                ValueRef::Int(i64::from(key.1.get())),
-            ],
-        )
-    }
-
     fn shown<S: Alter>(conn: &mut Connection<S>) -> Result<Vec<Row>, Refusal> {
         all_rows(conn, "SELECT session, number, hall FROM seat")
     }
@@ -83,5 +65,25 @@ impl Table for Seats {
         let number = number_at(row, 1)?;
         let hall = hall_code_at(row, 2)?;
         Ok(((session, number), hall))
+    }
+}
+
+impl Shrinks for Seats {
+    ghost delete_text = { delete_seat };
+
+    ghost key_of = { λ key. Text key.0 ∷ stored.whole key.1 ∷ [] };
+
+    fn delete<S: Alter>(
+        tx: &mut Transaction<'_, S>,
+        key: &(SessionCode, Number),
+    ) -> Result<(), Refusal> {
+        run(
+            tx,
+            "DELETE FROM seat WHERE session = ?1 AND number = ?2",
+            &[
+                ValueRef::Text(key.0.as_bytes()),
+                ValueRef::Int(i64::from(key.1.get())),
+            ],
+        )
     }
 }

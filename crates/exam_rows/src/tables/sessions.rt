@@ -3,7 +3,7 @@ ghost use Rattle.std.specs.Prelude.{◌≡◌, ℕ, pos, List, [], ◌∷◌, Is
 ghost use Rattle.sqlite.specs.Held.{state};
 ghost use Rattle.exam_rows.specs.Inside.{Makes, put_of};
 ghost use Rattle.exam_tables.specs.Made.{ContainsMade};
-ghost use Rattle.exam_tables.specs.Texts.{put_session, delete_session, load_session};
+ghost use Rattle.exam_tables.specs.Texts.{put_session, load_session};
 ghost use Rattle.exam_rows.specs.Rows.{session_row, IsSession};
 ghost use Rattle.exam_rows.specs.Reading.{MayRead};
 ghost use Rattle.exam_rows.specs.Stored as stored;
@@ -11,7 +11,7 @@ ghost use Rattle.sqlite_value.specs.declared.value.Value.TheVariants.{Text};
 
 use crate::columns::{day_text, session_code_at, session_day_at, start_at};
 use crate::statements::{all_rows, run};
-use crate::table::Table;
+use crate::table::StoredRows;
 use exam_rules::Session;
 use exam_types::{Refusal, SessionCode, StartTime};
 use sqlite::types::ValueRef;
@@ -21,7 +21,7 @@ use std::alloc::Global;
 /// The sessions, by their codes.
 pub struct Sessions;
 
-impl Table for Sessions {
+impl StoredRows for Sessions {
     type Key = SessionCode;
 
     type Value = Session;
@@ -32,13 +32,9 @@ impl Table for Sessions {
 
     ghost put_text = { put_session };
 
-    ghost delete_text = { delete_session };
-
     ghost load_text = { load_session };
 
     ghost row_of = { session_row };
-
-    ghost key_of = { λ code. Text code ∷ [] };
 
     ghost IsRow = { IsSession };
 
@@ -52,14 +48,6 @@ impl Table for Sessions {
     ) -> Result<(), Refusal> {
         let day = day_text(alloc, session.day.day())?;
         put_session(tx, code, day.as_slice(), session.start)
-    }
-
-    fn delete<S: Alter>(tx: &mut Transaction<'_, S>, code: &SessionCode) -> Result<(), Refusal> {
-        run(
-            tx,
-            "DELETE FROM session WHERE code = ?1",
-            &[ValueRef::Text(code.as_bytes())],
-        )
     }
 
     fn shown<S: Alter>(conn: &mut Connection<S>) -> Result<Vec<Row>, Refusal> {

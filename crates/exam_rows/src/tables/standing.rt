@@ -1,14 +1,14 @@
 //! The table of marks.
 ghost use Rattle.std.specs.Prelude.{ℕ, List, [], ◌∷◌};
 ghost use Rattle.sqlite_value.specs.declared.value.Value.TheVariants.{Text};
-ghost use Rattle.exam_tables.specs.Texts.{put_standing, delete_standing, load_standing};
+ghost use Rattle.exam_tables.specs.Texts.{put_standing, load_standing};
 ghost use Rattle.exam_rows.specs.Inside.{Contains};
 ghost use Rattle.exam_rows.specs.Rows.{standing_row, IsStanding};
 ghost use Rattle.exam_rows.specs.Stored as stored;
 
 use crate::columns::{number_at, reference_at};
 use crate::statements::{all_rows, run};
-use crate::table::Table;
+use crate::table::StoredRows;
 use exam_types::{Number, Reference, Refusal};
 use sqlite::types::ValueRef;
 use sqlite::{Alter, Connection, Row, Transaction};
@@ -17,7 +17,7 @@ use std::alloc::Global;
 /// The marks of standing grants, by candidate and reference. Version 1 has no such table.
 pub struct Standing;
 
-impl Table for Standing {
+impl StoredRows for Standing {
     type Key = (Number, Reference);
 
     type Value = ();
@@ -28,13 +28,9 @@ impl Table for Standing {
 
     ghost put_text = { put_standing };
 
-    ghost delete_text = { delete_standing };
-
     ghost load_text = { load_standing };
 
     ghost row_of = { standing_row };
-
-    ghost key_of = { λ key. stored.whole key.0 ∷ Text key.1 ∷ [] };
 
     ghost IsRow = { IsStanding };
 
@@ -49,20 +45,6 @@ impl Table for Standing {
         run(
             tx,
             "INSERT OR REPLACE INTO standing (number, ref) VALUES (?1, ?2)",
-            &[
-                ValueRef::Int(i64::from(key.0.get())),
-                ValueRef::Text(key.1.as_bytes()),
-            ],
-        )
-    }
-
-    fn delete<S: Alter>(
-        tx: &mut Transaction<'_, S>,
-        key: &(Number, Reference),
-    ) -> Result<(), Refusal> {
-        run(
-            tx,
-            "DELETE FROM standing WHERE number = ?1 AND ref = ?2",
             &[
                 ValueRef::Int(i64::from(key.0.get())),
                 ValueRef::Text(key.1.as_bytes()),

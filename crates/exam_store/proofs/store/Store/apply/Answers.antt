@@ -1,5 +1,8 @@
-use Rattle.std.proofs.Common.{◌≡◌, false, rules}
+use Rattle.std.proofs.Common.{◌≡◌, Ok, false, rules, subst, sym}
 use Rattle.sqlite.specs.Held.{state}
+use Rattle.exam_office.specs.State.{State}
+use Rattle.exam_office.specs.Steps.{Step}
+use Rattle.exam_office.proofs.KeptRows.{step_keeps}
 use Rattle.exam_rows.proofs.Committing.{commits_weaker, commits_ok, commits_err}
 use Rattle.exam_store.proofs.Applying.{draft_turns, draft_fails}
 use Rattle.exam_store.proofs.store.Store.apply.Goals as goal
@@ -25,3 +28,10 @@ returns-in-Err-save-clause-refusal g c =
     let fails = draft_fails c.args.command.now c.args.today c.in-Ok.draft _ c.self.inside.office c.in-Ok.ensures.before c.replace-office.ensures.value c.in-Ok.ensures.step in
     let ended : c.self.inside.conn.in_transaction ≡ false = search rules in
     rw (← c.self.view_is) (λ clean ours. fails old new c.in-Err-save.refusal (c.in-Err-save.ensures.failed ended clean ours))
+
+pub save-requires : goal.save-requires
+save-requires g c = λ good.
+    let done = c.args.command.now in
+    let draft = c.in-Ok.draft in
+    let step = subst (λ (office : State). Step done c.args.today office (Ok draft.reply) draft.after) (sym c.in-Ok.ensures.before) c.in-Ok.ensures.step in
+    (step_keeps done c.args.today draft.before draft.reply draft.after good step).0
