@@ -154,8 +154,8 @@ pub fn load_rows<T: StoredRows, S: Alter>(
     read_rows::<T>(alloc, rows.as_slice())
 }
 
-/// The table with these rows.
-fn read_rows<T: StoredRows>(
+/// The table with these rows. Refused as a bad store where they are the rows of none.
+pub fn read_rows<T: StoredRows>(
     alloc: Global,
     rows: &[Row],
 ) -> Result<BTreeMap<T::Key, T::Value>, Refusal>
