@@ -1,12 +1,16 @@
 -- What calls that only read leave.
-use Rattle.std.proofs.Common.{◌≡◌, ◌⊎◌, Bool, ℕ, List, [], inl, inr, Result, Ok, Err, IfOk, IfErr, OnOk, IsTrue, refl, sym, ap, subst, ◌∙◌}
+use Rattle.std.proofs.Common.{◌≡◌, ◌⊎◌, Bool, ℕ, List, [], Option, None, Some, inl, inr, Result, Ok, Err, IfOk, IfErr, OnOk, IsTrue, refl, sym, ap, subst, ◌∙◌}
 use Rattle.sqlite_value.specs.Order.{Row}
+use Rattle.sqlite_schema.specs.declared.command.Returning.{Returning}
+use Rattle.sqlite_trees.specs.declared.error.StoreError.{StoreError}
+use Rattle.sqlite_trees.specs.declared.error.StoreError.TheVariants as cause
 use Rattle.sqlite_trees.specs.Tree.{Trees}
+use Rattle.sqlite.specs.Clock.{timed}
 use Rattle.sqlite.specs.Effect.{Database}
 use Rattle.sqlite.specs.declared.error.Error.{Error}
 use Rattle.sqlite.specs.declared.error.Error.TheVariants.{SqliteFailure}
 use Rattle.sqlite.specs.declared.error.ErrorCode.TheVariants.{OutOfMemory}
-use Rattle.sqlite.specs.State.{State, CommitsShowing, Shown, FailsToQuery, IsUnchanged, Survives}
+use Rattle.sqlite.specs.State.{State, CommitsShowing, Shown, FailsToQuery, FailsToShow, IsNotRun, IsUnchanged, Survives, store_error}
 use Rattle.sqlite.proofs.Callers.{unchanged_then}
 use Rattle.sqlite.proofs.StateLemmas.{survives_then, survives_weaker}
 use Rattle.exam_types.specs.declared.refusal.Refusal.{Refusal}
@@ -94,3 +98,24 @@ understood_before text old mid same is = subst (λ db. IsUnderstood db text) sam
 pub understood_still : {A E P : Type 0} (result : Result A E) → P → OnOk result P
 understood_still (Ok value) is = is
 understood_still (Err e) is = tt
+
+-- the disk is never told as a bad store
+no_disk : (why : StoreError) → refusal_of (store_error why) ≡ BadStore → ⊥
+no_disk cause.OutOfMemory e = absurd cc
+no_disk cause.Io e = absurd cc
+no_disk cause.Corrupt e = absurd cc
+no_disk cause.Full e = absurd cc
+no_disk cause.Broken e = absurd cc
+no_disk cause.Unstorable e = absurd cc
+
+-- a query that is told as a bad store has changed nothing
+pub bad_unchanged : (text : List ℕ) (params : Row) (old new : State) (e : Error) → FailsToQuery text params old new e → refusal_of e ≡ BadStore → IsUnchanged old new
+unfolding FailsToQuery IsNotRun
+bad_unchanged text params old new e (inl (inl (none, same))) bad = same
+bad_unchanged text params old new e (inl (inr (why, told, has, back, tells))) bad = absurd (no_disk why (sym (ap refusal_of told) ∙ bad))
+bad_unchanged text params old new e (inr (c, it, fails)) bad = of_rows c.returning fails
+  where
+    of_rows : (what : Option Returning) → FailsToShow old new text c (timed params c.formats it.now) e what → IsUnchanged old new
+    of_rows None h = h.3
+    of_rows (Some what) (inl h) = h.1
+    of_rows (Some what) (inr (why, told, has, back, tells)) = absurd (no_disk why (sym (ap refusal_of told) ∙ bad))

@@ -166,6 +166,8 @@ pub fn version_of<S: Alter>(conn: &mut Connection<S>) -> Result<u8, Refusal>
         → (version : _) → IsVersion version → HasVersion version all → ⊥)) }
     ensures left { HasCleanDisk (state S.Store conn.new)
         → OnlyReads (state S.Store conn.old) (state S.Store conn.new) result }
+    ensures unchanged { HasCleanDisk (state S.Store conn.new) → IfErr result (λ e. e ≡ BadStore
+        → IsUnchanged (state S.Store conn.old) (state S.Store conn.new)) }
     ensures survives { Survives (state S.Store conn.old) (state S.Store conn.new) (λ _. ⊥) }
     ensures understood { HasCleanDisk (state S.Store conn.new)
         → OnOk result (IsUnderstood (state S.Store conn.old).now load_office) }

@@ -150,8 +150,11 @@ pub fn load_rows<T: Table, S: Alter>(
     read_rows::<T>(alloc, rows.as_slice())
 }
 
-/// The table with these rows.
-fn read_rows<T: Table>(alloc: Global, rows: &[Row]) -> Result<BTreeMap<T::Key, T::Value>, Refusal>
+/// The table with these rows. Refused as a bad store where they are the rows of none.
+pub fn read_rows<T: Table>(
+    alloc: Global,
+    rows: &[Row],
+) -> Result<BTreeMap<T::Key, T::Value>, Refusal>
     ensures rows { IfOk result (λ table. AreRowsOf T.Key.cmp T.IsRow T.row_of rows.now table.entries) }
     ensures bad { IfErr result (λ e. (e ≡ NoMemory) ⊎ ((e ≡ BadStore)
         × (KeysMatch T.Key.cmp T.key_places T.row_of T.key_of

@@ -3,7 +3,7 @@ use Rattle.std.proofs.lemmas.Result.{IfOk-weaker, IfErr-weaker}
 use Rattle.sqlite.specs.Held.{state}
 use Rattle.exam_tables.proofs.OfOffice as office
 use Rattle.exam_tables.proofs.Quiet.{office_is_query, shown_unchanged, failed_unchanged}
-use Rattle.exam_rows.proofs.Leaving.{query_survives, reads_only, shown_understood, understood_still, fails_to_load}
+use Rattle.exam_rows.proofs.Leaving.{bad_unchanged, query_survives, reads_only, shown_understood, understood_still, fails_to_load}
 use Rattle.exam_rows.proofs.Versioned.{version_held, version_shown}
 use Rattle.exam_rows.proofs.schema.version_of.Goals as goal
 
@@ -53,3 +53,13 @@ returns-in_err-rows-clause-bad g c = λ clean.
 pub returns-clause-understood : goal.returns-clause-understood
 returns-clause-understood g c = λ clean.
     understood_still c.version_in.result (shown_understood office.load_text (state g.S.Store c.args.conn.now) (state g.S.Store c.all_rows.new.conn) c.in_ok-rows.rows.items (c.in_ok-rows.ensures.shown clean))
+
+pub returns-clause-unchanged : goal.returns-clause-unchanged
+returns-clause-unchanged g c = λ clean.
+    IfErr-weaker c.version_in.result _ _ (λ e why bad. shown_unchanged office.load_text office_is_query [] (state g.S.Store c.args.conn.now) (state g.S.Store c.all_rows.new.conn) c.in_ok-rows.rows.items (c.in_ok-rows.ensures.shown clean)) c.version_in.ensures.bad
+
+pub returns-in_err-rows-clause-unchanged : goal.returns-in_err-rows-clause-unchanged
+returns-in_err-rows-clause-unchanged g c = λ clean.
+    let is : c.from_residual.result ≡ Err c.in_err-rows.field-0.0 = search rules in
+    let it = c.in_err-rows.ensures.failed clean in
+    rw is (λ bad. bad_unchanged office.load_text [] (state g.S.Store c.args.conn.now) (state g.S.Store c.all_rows.new.conn) it.0 it.2 (sym it.1 ∙ bad))
