@@ -1,0 +1,22 @@
+-- What the command prints that looks for the first bad table.
+use Rattle.std.specs.Prelude.{◌≡◌, ℕ, List, Option, None, Some, Result, Ok, Err}
+use Rattle.exam_check.specs.Lines.{check_text}
+use Rattle.exam_check.specs.declared.tables.Table.{Table}
+use Rattle.exam_job.specs.Printed.{Prints}
+use Rattle.exam_job.specs.declared.report.JobFault.{JobFault}
+
+-- 0 where there is none
+abbrev pub check_status : Option Table → ℕ
+check_status None = 0
+check_status (Some t) = 1
+
+-- the exit status where the line went out
+abbrev pub status_of : ℕ → Result (Unit {0}) JobFault → Result ℕ JobFault
+status_of status (Ok done) = Ok status
+status_of status (Err fault) = Err fault
+
+-- the line for the table, or for none, and the exit status
+abbrev pub TellsTable : {W : Type 0} → (W → Option (List ℕ)) → Option Table → W → Result ℕ JobFault → W → Type 0
+TellsTable contents found before result after =
+    (printed : Result (Unit {0}) JobFault) × Prints contents (check_text found) before printed after
+    × (result ≡ status_of (check_status found) printed)
