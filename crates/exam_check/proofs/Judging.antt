@@ -1,5 +1,5 @@
 -- No table is bad exactly where the tables of the newest version hold a good office.
-use Rattle.std.proofs.Common.{◌≡◌, ◌≢◌, ◌⊎◌, ◌↔◌, ℕ, List, [], ◌∷◌, Option, None, Some, Ok, Bool, true, false, inl, inr, IsTrue, refl, sym, ap, subst, ◌∙◌}
+use Rattle.std.proofs.Common.{◌≡◌, ◌≢◌, ◌⊎◌, ◌↔◌, ℕ, List, [], ◌∷◌, Option, None, Some, Result, Ok, Err, Bool, true, false, inl, inr, IsTrue, refl, sym, ap, subst, ◌∙◌}
 use Rattle.std.specs.Prelude.{option_map}
 use Rattle.std.specs.Cmp.Derive.{both_true}
 use Rattle.std.specs.List.{AllByRecursion}
@@ -12,13 +12,14 @@ use Rattle.sqlite_trees.specs.Tree.{Trees}
 use Rattle.sqlite_value.specs.Order.{Row}
 use Rattle.sqlite_value.specs.declared.value.Value.TheVariants.{Null}
 use Rattle.sqlite_resolve.specs.declared.compiled.Compiled.{Compiled}
+use Rattle.sqlite_resolve.specs.declared.error.CompileError.{CompileError}
 use Rattle.sqlite_resolve.specs.declared.error.CompileError.TheVariants.{NoSuchTable, NoSuchColumn}
 use Rattle.sqlite.specs.declared.error.Error.{Error}
 use Rattle.sqlite.specs.declared.error.Error.TheVariants.{SqliteFailure, SqlInputError}
 use Rattle.sqlite.specs.declared.error.ErrorCode.TheVariants.{OutOfMemory}
 use Rattle.sqlite.specs.Effect.{Database}
 use Rattle.sqlite.specs.Held.{Held, state}
-use Rattle.sqlite.specs.Listing.{understood}
+use Rattle.sqlite.specs.Listing.{understood, listing_schema}
 use Rattle.sqlite.specs.State.{HasCleanDisk}
 use Rattle.exam_types.specs.declared.refusal.Refusal.{Refusal}
 use Rattle.exam_types.specs.declared.refusal.Refusal.TheVariants.{NoMemory, Store, BadStore, OldSchema}
@@ -139,9 +140,16 @@ named (SqlInputError NoSuchColumn) = inl refl
 named _ = inr (inr refl)
 
 -- in version 1 the text that loads the marks is not understood
+first_unknown : understood first_schema load_standing ≡ Err NoSuchTable
+unfolding understood everything first_schema listing_schema
+first_unknown = refl
+
+err_is_ok : (r : Result Compiled CompileError) (c : Compiled) → r ≡ Err NoSuchTable → r ≡ Ok c → ⊥
+err_is_ok (Ok d) c none is = absurd cc
+err_is_ok (Err e) c none is = absurd cc
+
 first_understood : (c : Compiled) → understood first_schema load_standing ≡ Ok c → ⊥
-unfolding understood everything first_schema
-first_understood c is = absurd cc
+first_understood c is = err_is_ok (understood first_schema load_standing) c first_unknown is
 
 -- where it is, the tables are those of the newest version
 pub newest_tables : (db : Database) (all : Trees) → IsUnderstood db load_standing → ContainsMade db all → Contains db all
@@ -185,7 +193,7 @@ module _ {S : Type 0} (g : Ghosts S) (old new : Held S) (all : Trees) (was : Con
         | inr (inl lacks) ↦ some (is ∙ lacks)
         | inr (inr store) ↦ sound (is ∙ store)
       ]
-  refused e (inl (inr (inr (is, none, newest)))) some sound first =
+  refused e (inl (inr (inr (is, (none, newest))))) some sound first =
       let good = holds_good (state g old).now all first in
       none_held e (none all good.0) good
   refused e (inr (is, old_one)) some sound first =
