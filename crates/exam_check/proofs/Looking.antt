@@ -48,6 +48,9 @@ module _ {S : Type 0} (g : Ghosts S) (old mid new : Held S) where
     told = next.told;
   }
 
+  pub fails_then : {A B C : Type 0} (x : A) (e : Refusal) → Looks {A = A} g old mid (Ok x) → Looks {A = B} g mid new (Err e) → Looks {A = C} g old new (Err e)
+  fails_then x e first next = looks_then x (Err e) first (record { early = next.early; survives = next.survives; left = next.left; bad = next.bad; refused = next.refused; told = next.told })
+
 -- what is made of what was read, which may want memory
 pub looks_on : {S A B : Type 0} (g : Ghosts S) (old new : Held S) (x : A) (result : Result B Refusal) → Looks {A = A} g old new (Ok x) → IfErr result (λ e. e ≡ NoMemory) → Looks g old new result
 looks_on g old new x result read lacks = record {
