@@ -1,5 +1,5 @@
 -- The first bad table, of those that could be read and those that could not.
-use Rattle.std.proofs.Common.{◌≡◌, ◌<◌, ◌≤◌, ℕ, suc, List, [], ◌∷◌, Option, None, Some, ⊤, inl, inr, refl, sym, ap, subst, ◌∙◌, arith}
+use Rattle.std.proofs.Common.{◌≡◌, ◌<◌, ◌≤◌, ℕ, suc, List, [], ◌∷◌, Option, None, Some, inl, inr, refl, sym, ap, subst, ◌∙◌, arith}
 use Rattle.sqlite_trees.specs.Tree.{Trees}
 use Rattle.exam_office.specs.Good.{IsFirstBadOf}
 use Rattle.exam_office.specs.State.{State}
@@ -9,7 +9,7 @@ use Rattle.exam_check.specs.Reading.{AreRead, IsReadAs}
 
 -- the tables stand at these places, one after the other
 abbrev pub ArePlaced : ℕ → List Table → Type 0
-ArePlaced n [] = ⊤
+ArePlaced n [] = Unit {0}
 ArePlaced n (t ∷ ts) = (place t ≡ n) × ArePlaced (suc n) ts
 
 same_table : (a b : Table) → ◌≡◌ {A = Option Table} (Some a) (Some b) → a ≡ b

@@ -8,8 +8,9 @@ use Rattle.exam_types.specs.declared.refusal.Refusal.TheVariants.{NoMemory, BadS
 use Rattle.exam_office.specs.declared.tables.Table.{Table as OfficeTable}
 use Rattle.exam_office.specs.State.{State as Office}
 use Rattle.exam_rows.specs.Inside.{Contains}
-use Rattle.exam_rows.specs.Loaded.{AreUnderstood}
-use Rattle.exam_check.specs.Reading.{AreRead, IsReadAs}
+use Rattle.exam_tables.specs.Texts.{load_office, load_texts}
+use Rattle.exam_rows.specs.Loaded.{AreUnderstood, IsUnderstood}
+use Rattle.exam_check.specs.Reading.{AreRead, IsReadAs, table_texts}
 
 -- a database that is left as it was has the rows that it had
 pub still_contains : (old mid : State) (all : Trees) → IsUnchanged old mid → Contains old.now all → Contains mid.now all
@@ -22,6 +23,11 @@ all_before old mid texts same is = subst (λ (db : Database). AreUnderstood db t
 pub understood_all : (db : Database) (xs ys : List (List ℕ)) → AreUnderstood db xs → AreUnderstood db ys → AreUnderstood db (xs ++ ys)
 understood_all db [] ys one other = other
 understood_all db (x ∷ xs) ys one other = (one.0, understood_all db xs ys one.1 other)
+
+-- what loads the tables is understood, in whichever order it is said
+pub in_load_order : (db : Database) → IsUnderstood db load_office → AreUnderstood db table_texts → AreUnderstood db load_texts
+in_load_order db version (session, (paper, (hall, (opening, (candidate, (entry, (arrangement, (appeal, (standing, (seat, none)))))))))) =
+    (version, (session, (paper, (hall, (candidate, (opening, (entry, (arrangement, (appeal, (seat, (standing, none)))))))))))
 
 -- the rows of a table are those of no entries, so they are those of no office
 pub read_as : (t : OfficeTable) (before after : Option OfficeTable) (Has HasNone HoldsNone : Type 0) → IsReadAs t before after Has HasNone → (HasNone → HoldsNone) → IsReadAs t before after Has HoldsNone

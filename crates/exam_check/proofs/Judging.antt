@@ -121,6 +121,10 @@ office_good all o (facts, seats) good =
       ((seats, good.best), tt))))))))),
     )
 
+-- what is found of an office's tables is found of the database
+pub found_as : (db : Database) (all : Trees) (bad : Option OfficeTable) → HasGoodVersion db all × (o : State) × IsFirstBadIn all o tables bad → IsFirstBadTable db all (option_map table_of bad)
+found_as db all bad (good, o, judged) = inr (good, o, bad, judged, refl)
+
 pub holds_good : (db : Database) (all : Trees) → IsFirstBadTable db all None → HoldsGood version db all
 holds_good db all (inl (wrong, is)) = absurd (none_is_some table.Office is)
 holds_good db all (inr (good, o, bad, judged, is)) =

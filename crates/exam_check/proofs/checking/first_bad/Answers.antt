@@ -1,17 +1,15 @@
-use Rattle.std.proofs.Common.{◌≡◌, ◌++◌, ◌∷◌, [], Err, refl, subst, rules}
+use Rattle.std.proofs.Common.{◌≡◌, Err, refl, subst, rules}
 use Rattle.sqlite.specs.Effect.{Database}
 use Rattle.sqlite.specs.Held.{state}
-use Rattle.exam_tables.specs.Texts.{held_texts, load_standing}
 use Rattle.exam_rows.specs.Inside.{Contains}
-use Rattle.exam_rows.specs.Loaded.{AreUnderstood}
 use Rattle.exam_rows.specs.Versions.{HasVersion, version}
 use Rattle.exam_store.proofs.Marking.{of_newest, older, still_made}
 use Rattle.exam_office.specs.Good.{tables}
-use Rattle.exam_check.specs.Reading.{office_in}
+use Rattle.exam_check.specs.Reading.{office_in, table_texts}
 use Rattle.exam_check.proofs.First.{first_in}
-use Rattle.exam_check.proofs.Found.{was_so}
+use Rattle.exam_check.proofs.Found.{all_before, in_load_order}
 use Rattle.exam_check.proofs.Judging.{newest_tables}
-use Rattle.exam_check.proofs.Looking.{looks_ok, looks_old, looks_on, looks_then, version_looks}
+use Rattle.exam_check.proofs.Looking.{fails_then, looks_ok, looks_old, looks_on, looks_then, version_looks}
 use Rattle.exam_check.proofs.checking.first_bad.Goals as goal
 
 pub returns-in_err-version-clause-looks : goal.returns-in_err-version-clause-looks
@@ -29,7 +27,7 @@ pub returns-in_err-read-clause-looks : goal.returns-in_err-read-clause-looks
 returns-in_err-read-clause-looks g c =
     let is : c.from_residual-in_err-read.result ≡ Err c.in_err-read.field-0.0 = search rules in
     let first = looks_ok g.S.Store c.args.conn.now c.version_of.new.conn c.in_ok-version.version c.version_of.ensures.early c.version_of.ensures.survives c.in_ok-version.ensures.left in
-    rw is (looks_then g.S.Store c.args.conn.now c.version_of.new.conn c.read_tables.new.conn _ _ first c.in_err-read.ensures.looks)
+    rw is (fails_then g.S.Store c.args.conn.now c.version_of.new.conn c.read_tables.new.conn _ _ first c.in_err-read.ensures.looks)
 
 pub returns-in_err-bad-clause-looks : goal.returns-in_err-bad-clause-looks
 returns-in_err-bad-clause-looks g c =
@@ -47,8 +45,8 @@ returns-clause-looks g c =
 pub returns-clause-understood : goal.returns-clause-understood
 returns-clause-understood g c = λ clean.
     let clean_1 = c.in_ok-read.ensures.looks.early clean in
-    let same = c.in_ok-version.ensures.left clean_1 in
-    (c.in_ok-version.ensures.understood clean_1, was_so (λ (db : Database). AreUnderstood db (held_texts ++ load_standing ∷ [])) (state g.S.Store c.args.conn.now) (state g.S.Store c.version_of.new.conn) same (c.in_ok-read.ensures.understood clean))
+    let old = state g.S.Store c.args.conn.now in
+    in_load_order old.now (c.in_ok-version.ensures.understood clean_1) (all_before old (state g.S.Store c.version_of.new.conn) table_texts (c.in_ok-version.ensures.left clean_1) (c.in_ok-read.ensures.understood clean))
 
 pub returns-clause-found : goal.returns-clause-found
 returns-clause-found g c = λ clean all was.
@@ -56,10 +54,10 @@ returns-clause-found g c = λ clean all was.
     let mid = state g.S.Store c.version_of.new.conn in
     let it = c.in_ok-version.ensures.ok (c.in_ok-read.ensures.looks.early clean) all was in
     let newest : c.in_ok-version.version ≡ version = search rules in
-    let known = (c.in_ok-read.ensures.understood clean).1.1.1.1.1.1.1.1.1.0 in
+    let known = (c.in_ok-read.ensures.understood clean).1.1.1.1.1.1.1.1.0 in
     let contains = newest_tables mid.now all known (still_made old mid all it.1 was) in
     (
-      (of_newest old.now all (was_so (λ (db : Database). Contains db all) old mid it.1 contains), subst (λ v. HasVersion v all) newest it.0),
+      (of_newest old.now all (subst (λ (db : Database). Contains db all) it.1.0.now_is contains), subst (λ v. HasVersion v all) newest it.0),
       office_in c.in_ok-read.read,
       first_in all (office_in c.in_ok-read.read) c.in_ok-bad.bad c.in_ok-read.read.unread c.first_of.result 0 tables (refl, (refl, (refl, (refl, (refl, (refl, (refl, (refl, (refl, (refl, tt)))))))))) (c.in_ok-read.ensures.read clean all contains)
           c.in_ok-bad.ensures.ok c.first_of.ensures,
