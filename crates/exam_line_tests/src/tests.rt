@@ -151,6 +151,8 @@ macro_rules! listed {
 fn help_names_each_command(rt: HostRuntime) -> Result<(), Fail> {
     for name in [
         listed!("init"),
+        listed!("migrate"),
+        listed!("check"),
         listed!("import"),
         listed!("withdraw"),
         listed!("reinstate"),

@@ -105,10 +105,7 @@ pub fn migrate_file<S: Start, O: Write>(
     start: S,
     out: &mut O,
 ) -> Result<(), JobFault> {
-    if !has_file(rt, path)? {
-        return Err(JobFault::Refused(Refusal::BadStore));
-    }
-    let mut conn = open_database(rt, path, start)?;
+    let mut conn = open_present(rt, path, start)?;
     let told = migrate_office(rt.alloc(), &mut conn, out);
     // The migration is committed by now, so a failure here takes nothing back.
     let _ = conn.close();
@@ -135,14 +132,25 @@ fn first_bad_at<S: Start>(
 ) -> Result<Option<Table>, Refusal>
     ensures { IfErr result (λ refusal. IsTrue (is_check_refusal refusal)) }
 {
-    if !has_file(rt, path)? {
-        return Ok(Some(Table::Office));
-    }
-    match open_database(rt, path, start) {
+    match open_present(rt, path, start) {
         Ok(conn) => check_over(rt.alloc(), conn),
         Err(Refusal::BadStore) => Ok(Some(Table::Office)),
         Err(refusal) => Err(refusal),
     }
+}
+
+/// Opens the database at the path. Refused as a bad store where nothing is, or what is no database.
+fn open_present<S: Start>(
+    rt: &HostRuntime,
+    path: &str,
+    start: S,
+) -> Result<Connection<OfficeFile<S>>, Refusal>
+    ensures { IfErr result (λ refusal. IsTrue (is_store_refusal refusal)) }
+{
+    if !has_file(rt, path)? {
+        return Err(Refusal::BadStore);
+    }
+    open_database(rt, path, start)
 }
 
 /// The first bad table of the database, which is closed. Nothing was written, so a failure of that changes nothing.
