@@ -70,8 +70,7 @@ good_office all o (sessions, (papers, (halls, (openings, (candidates, (entries, 
     let paper = and_parts _ _ papers.1 in
     let opening = and_parts _ _ openings.1 in
     let entry = and_parts _ _ entries.1 in
-    let appeal = and_parts _ _ appeals.1.0 in
-    (
+    let appeal = and_parts _ _ appeals.1.0 in (
       (
         record {
           sessions = sessions.0;
@@ -107,18 +106,33 @@ office_good all o (facts, seats) good =
     let limit_3 = and_parts _ _ limit_2.1 in
     let limit_4 = and_parts _ _ limit_3.1 in
     let limit_5 = and_parts _ _ limit_4.1 in
-    let limit_6 = and_parts _ _ limit_5.1 in
-    (
+    let limit_6 = and_parts _ _ limit_5.1 in (
       (facts.sessions, limit_1.0),
-      ((facts.papers, both_true limit_2.0 refer_1.0),
-      ((facts.halls, limit_3.0),
-      ((facts.openings, both_true limit_4.0 refer_2.0),
-      ((facts.candidates, limit_5.0),
-      ((facts.entries, both_true limit_6.0 refer_3.0),
-      ((facts.arrangements, refer_4.0),
-      ((facts.appeals, (both_true limit_6.1 refer_4.1, good.single)),
-      ((facts.standing, good.marks),
-      ((seats, good.best), tt))))))))),
+      (
+        (facts.papers, both_true limit_2.0 refer_1.0),
+        (
+          (facts.halls, limit_3.0),
+          (
+            (facts.openings, both_true limit_4.0 refer_2.0),
+            (
+              (facts.candidates, limit_5.0),
+              (
+                (facts.entries, both_true limit_6.0 refer_3.0),
+                (
+                  (facts.arrangements, refer_4.0),
+                  (
+                    (facts.appeals, (both_true limit_6.1 refer_4.1, good.single)),
+                    (
+                      (facts.standing, good.marks),
+                      ((seats, good.best), tt),
+                    ),
+                  ),
+                ),
+              ),
+            ),
+          ),
+        ),
+      ),
     )
 
 -- what is found of an office's tables is found of the database

@@ -8,15 +8,12 @@ ghost use Rattle.exam_rows.specs.Loaded.{AreUnderstood, HoldsTable};
 ghost use Rattle.exam_check.specs.Reading as spec;
 
 use crate::tables::first_unread;
-use exam_office::Seats as Plans;
-use exam_office::Table as OfficeTable;
+use exam_office::{Seats as Plans, Table as OfficeTable};
 use exam_rows::{
     Appeals, Arrangements, Candidates, Entries, Halls, Openings, Papers, Seats, Sessions, Standing,
     Table, read_rows,
 };
-use exam_rules::{
-    Appeal, Arrangement, Candidate, Entry, Facts, Hall, Opening, Paper, Session,
-};
+use exam_rules::{Appeal, Arrangement, Candidate, Entry, Facts, Hall, Opening, Paper, Session};
 use exam_types::{HallCode, Number, PaperCode, Reference, Refusal, SessionCode};
 use sqlite::{Alter, Connection};
 use std::alloc::Global;
@@ -143,7 +140,12 @@ fn read_register<S: Alter>(
 {
     let candidates = read_table::<Candidates, S>(alloc, conn, OfficeTable::Candidates, unread)?;
     let entries = read_table::<Entries, S>(alloc, conn, OfficeTable::Entries, unread)?;
-    let arrangements = read_table::<Arrangements, S>(alloc, conn, OfficeTable::Arrangements, unread)?;
+    let arrangements = read_table::<Arrangements, S>(
+        alloc,
+        conn,
+        OfficeTable::Arrangements,
+        unread,
+    )?;
     let appeals = read_table::<Appeals, S>(alloc, conn, OfficeTable::Appeals, unread)?;
     let standing = read_table::<Standing, S>(alloc, conn, OfficeTable::Standing, unread)?;
     Ok(Register {

@@ -74,7 +74,10 @@ const NO_OFFICE: &[(&str, Table)] = &[
     ("DELETE FROM office", Table::Office),
     ("DROP TABLE office", Table::Office),
     ("DROP TABLE standing", Table::Office),
-    ("DROP TABLE seat; UPDATE paper SET minutes = 601", Table::Office),
+    (
+        "DROP TABLE seat; UPDATE paper SET minutes = 601",
+        Table::Office,
+    ),
     (
         "DROP TABLE arrangement; CREATE TABLE arrangement (number INTEGER NOT NULL, needs INTEGER NOT NULL, PRIMARY KEY (number)) STRICT",
         Table::Office,
@@ -238,10 +241,14 @@ fn found_of_many(alloc: Global, kind: &str, many: u32) -> Result<Option<Table>, 
             }
             "hall" => format!(in alloc; "INSERT INTO hall VALUES ('X{number}', 'X', 0)")?,
             "opening" => {
-                format!(in alloc; "INSERT INTO hall VALUES ('X{number}', 'X', 0); INSERT INTO opening VALUES ('S1', 'X{number}', 1, 720, 1)")?
+                format!(in alloc;
+                    "INSERT INTO hall VALUES ('X{number}', 'X', 0); INSERT INTO opening VALUES ('S1', 'X{number}', 1, 720, 1)"
+                )?
             }
             _ => {
-                format!(in alloc; "INSERT INTO appeal VALUES (1, 'X{number}', 'S1', 1, 'A', 0, 0, '', 3, 'No', '2027-05-01')")?
+                format!(in alloc;
+                    "INSERT INTO appeal VALUES (1, 'X{number}', 'S1', 1, 'A', 0, 0, '', 3, 'No', '2027-05-01')"
+                )?
             }
         };
         conn.execute_batch(sql.as_str())?;
@@ -272,7 +279,10 @@ fn halls_and_openings_have_limits(rt: HostRuntime) -> Result<(), Fail> {
 
 #[test]
 fn papers_have_a_limit(rt: HostRuntime) -> Result<(), Fail> {
-    assert_eq!(rt; found_of_many(rt.alloc(), "paper", 2000)?, Some(Table::Paper));
+    assert_eq!(rt;
+        found_of_many(rt.alloc(), "paper", 2000)?,
+        Some(Table::Paper)
+    );
     Ok(())
 }
 
@@ -281,11 +291,15 @@ fn found_of_candidates(alloc: Global, doublings: u32) -> Result<Option<Table>, F
     let mut conn = office_after(alloc, "")?;
     let mut many: u32 = 3;
     for _ in 0..doublings {
-        let sql = format!(in alloc; "INSERT INTO candidate SELECT number + {many}, name, code FROM candidate")?;
+        let sql = format!(in alloc;
+            "INSERT INTO candidate SELECT number + {many}, name, code FROM candidate"
+        )?;
         conn.execute_batch(sql.as_str())?;
         many = many.wrapping_mul(2);
     }
-    conn.execute_batch("DELETE FROM seat; DELETE FROM entry; INSERT INTO entry SELECT number, 'MA-1', 1 FROM candidate")?;
+    conn.execute_batch(
+        "DELETE FROM seat; DELETE FROM entry; INSERT INTO entry SELECT number, 'MA-1', 1 FROM candidate",
+    )?;
     Ok(check(alloc, &mut conn)?)
 }
 
@@ -293,16 +307,25 @@ fn found_of_candidates(alloc: Global, doublings: u32) -> Result<Option<Table>, F
 #[test]
 fn candidates_and_members_have_limits(rt: HostRuntime) -> Result<(), Fail> {
     assert_eq!(rt; found_of_candidates(rt.alloc(), 11)?, Some(Table::Entry));
-    assert_eq!(rt; found_of_candidates(rt.alloc(), 13)?, Some(Table::Candidate));
+    assert_eq!(rt;
+        found_of_candidates(rt.alloc(), 13)?,
+        Some(Table::Candidate)
+    );
     Ok(())
 }
 
 #[test]
 fn an_older_office_is_refused(rt: HostRuntime) -> Result<(), Fail> {
     for sql in ["", "; DELETE FROM seat", "; DROP TABLE seat"] {
-        let old = format!(in rt.alloc(); "DROP TABLE standing; UPDATE office SET version = 1{sql}")?;
+        let old = format!(in rt.alloc();
+            "DROP TABLE standing; UPDATE office SET version = 1{sql}"
+        )?;
         let mut conn = office_after(rt.alloc(), old.as_str())?;
-        assert_eq!(rt; check(rt.alloc(), &mut conn), Err(Refusal::OldSchema), "{sql}");
+        assert_eq!(rt;
+            check(rt.alloc(), &mut conn),
+            Err(Refusal::OldSchema),
+            "{sql}"
+        );
     }
     Ok(())
 }

@@ -1,5 +1,5 @@
 //! The database and the import file at a path.
-ghost use Rattle.std.specs.Prelude.{◌≡◌, ◌≢◌, false, IfOk, IfErr, IsTrue};
+ghost use Rattle.std.specs.Prelude.{◌≡◌, ◌≢◌, ◌⊎◌, false, IfOk, IfErr, IsTrue};
 ghost use Rattle.sqlite.specs.State.{HasCleanDisk};
 ghost use Rattle.sqlite.specs.Files.{file_state, over_files, IsBlankAs};
 ghost use Rattle.sqlite_store.specs.FileStore.{view};
@@ -11,7 +11,7 @@ ghost use Rattle.exam_store.specs.Found.{Finds, is_open_refusal};
 ghost use Rattle.exam_store.specs.Kept.{KeepsOurs};
 ghost use Rattle.exam_check.specs.Refused.{is_check_refusal};
 ghost use Rattle.exam_job.specs.Reading.{IsReadFault};
-ghost use Rattle.examoffice.specs.Checking.{TellsTable};
+ghost use Rattle.examoffice.specs.Checking.{FindsTable, FoundIn, TellsTable};
 ghost use Rattle.examoffice.specs.Opening.{IsOver, MakesIn, OpensIn, opening_refusal};
 
 use exam_check::{Table, check, check_line};
@@ -125,12 +125,10 @@ pub fn check_file<S: Start, O: Write>(
 }
 
 /// The first bad table of the database at the path.
-fn first_bad_at<S: Start>(
-    rt: &HostRuntime,
-    path: &str,
-    start: S,
-) -> Result<Option<Table>, Refusal>
-    ensures { IfErr result (λ refusal. IsTrue (is_check_refusal refusal)) }
+fn first_bad_at<S: Start>(rt: &HostRuntime, path: &str, start: S) -> Result<Option<Table>, Refusal>
+    ensures found { IfOk result (λ found. (found ≡ Some Table.Office)
+        ⊎ FindsTable over_files (image_at S.Start) found) }
+    ensures told { IfErr result (λ refusal. IsTrue (is_check_refusal refusal)) }
 {
     match open_present(rt, path, start) {
         Ok(conn) => check_over(rt.alloc(), conn),
@@ -145,7 +143,8 @@ fn open_present<S: Start>(
     path: &str,
     start: S,
 ) -> Result<Connection<OfficeFile<S>>, Refusal>
-    ensures { IfErr result (λ refusal. IsTrue (is_store_refusal refusal)) }
+    ensures found { IfOk result (IsOver over_files (image_at S.Start)) }
+    ensures told { IfErr result (λ refusal. IsTrue (is_store_refusal refusal)) }
 {
     if !has_file(rt, path)? {
         return Err(Refusal::BadStore);
@@ -158,7 +157,8 @@ fn check_over<S: Start>(
     alloc: Global,
     mut conn: Connection<OfficeFile<S>>,
 ) -> Result<Option<Table>, Refusal>
-    ensures { IfErr result (λ refusal. IsTrue (is_check_refusal refusal)) }
+    ensures found { IfOk result (FoundIn over_files conn) }
+    ensures told { IfErr result (λ refusal. IsTrue (is_check_refusal refusal)) }
 {
     let found = check(alloc, &mut conn);
     let _ = conn.close();

@@ -55,8 +55,7 @@ returns-clause-found g c = λ clean all was.
     let it = c.in_ok-version.ensures.ok (c.in_ok-read.ensures.looks.early clean) all was in
     let newest : c.in_ok-version.version ≡ version = search rules in
     let known = (c.in_ok-read.ensures.understood clean).1.1.1.1.1.1.1.1.0 in
-    let contains = newest_tables mid.now all known (still_made old mid all it.1 was) in
-    (
+    let contains = newest_tables mid.now all known (still_made old mid all it.1 was) in (
       (of_newest old.now all (subst (λ (db : Database). Contains db all) it.1.0.now_is contains), subst (λ v. HasVersion v all) newest it.0),
       office_in c.in_ok-read.read,
       first_in all (office_in c.in_ok-read.read) c.in_ok-bad.bad c.in_ok-read.read.unread c.first_of.result 0 tables (refl, (refl, (refl, (refl, (refl, (refl, (refl, (refl, (refl, (refl, tt)))))))))) (c.in_ok-read.ensures.read clean all contains)
