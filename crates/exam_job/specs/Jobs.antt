@@ -72,8 +72,8 @@ pub data ImportsFile {S W : Type 0} (g : Ghosts S) (contents : W → Option (Lis
 
 -- ---- lines
 
--- What a line's command does; opening the store was all that `init` asks, and the program itself serves and
--- migrates. Nothing is read but for an import.
+-- What a line's command does; opening the store was all that `init` asks, and the program itself serves, migrates
+-- and checks. Nothing is read but for an import.
 abbrev pub Does : {S W : Type 0} → Ghosts S → (W → Option (List ℕ)) → Task → ℕ → Option (List ℕ)
     → Option (List ℕ) → OfficeIn S → W → Result (Unit {0}) JobFault → OfficeIn S → W → Type 0
 Does g contents line.init today input rest old before result new after =
@@ -91,6 +91,8 @@ Does g contents (line.decide decision) today input rest old before result new af
 Does g contents (line.serve port) today input rest old before result new after =
     (rest ≡ input) × (new ≡ old) × (result ≡ Ok tt) × (after ≡ before)
 Does g contents line.migrate today input rest old before result new after =
+    (rest ≡ input) × (new ≡ old) × (result ≡ Ok tt) × (after ≡ before)
+Does g contents line.check today input rest old before result new after =
     (rest ≡ input) × (new ≡ old) × (result ≡ Ok tt) × (after ≡ before)
 Does g contents (line.print session sheet.Appeals) today input rest old before result new after =
     (rest ≡ input) × PrintsAppeals g contents session old before result new after

@@ -86,9 +86,9 @@ fn carry_out_job<S: Alter, R: Read, O: Write>(
             carry_out_command(alloc, store, command, line.today, out)
         }
         Job::Decide(decision) => decide(alloc, store, decision, line.today, out),
-        // The program itself serves, over sockets, and migrates, before the office is open: there is nothing to do
-        // over this store.
-        Job::Serve { .. } | Job::Migrate => Ok(()),
+        // The program itself serves, over sockets, and migrates and checks, before the office is open: there is
+        // nothing to do over this store.
+        Job::Serve { .. } | Job::Migrate | Job::Check => Ok(()),
         Job::Sheet {
             session,
             sheet: Sheet::Appeals,

@@ -38,6 +38,7 @@ abbrev pub changes : List (Text × List Text)
 changes =
     (codes "init", [])
     ∷ (codes "migrate", [])
+    ∷ (codes "check", [])
     ∷ (codes "import", codes "kind" ∷ codes "file" ∷ [])
     ∷ (codes "withdraw", codes "number" ∷ codes "paper" ∷ [])
     ∷ (codes "reinstate", codes "number" ∷ codes "paper" ∷ [])

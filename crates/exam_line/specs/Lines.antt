@@ -32,6 +32,7 @@ use Rattle.exam_line.specs.declared.line.Sheet.TheVariants.{DoorList, Attendance
 pub data Task : Type 0 where
   init : Task
   migrate : Task
+  check : Task
   import : Kind → Text → Task
   withdraw : ℕ → Text → Task
   reinstate : ℕ → Text → Task
@@ -49,6 +50,7 @@ pub record Said : Type 0 where
 abbrev pub task_shown : Job → Task
 task_shown job.Init = init
 task_shown job.Migrate = migrate
+task_shown job.Check = check
 task_shown (job.Import kind file) = import kind file.now
 task_shown (job.Withdraw number paper) = withdraw number paper
 task_shown (job.Reinstate number paper) = reinstate number paper
@@ -161,12 +163,13 @@ abbrev pub plain_task_of : Text → List Row → Option Task
 plain_task_of name words =
     if bytes_eq name (codes "init") then Some init
     else (if bytes_eq name (codes "migrate") then Some migrate
+    else (if bytes_eq name (codes "check") then Some check
     else (if bytes_eq name (codes "import") then import_of words
     else (if bytes_eq name (codes "withdraw") then option_map (λ e. withdraw e.0 e.1) (entry_of words)
     else (if bytes_eq name (codes "reinstate") then option_map (λ e. reinstate e.0 e.1) (entry_of words)
     else (if bytes_eq name (codes "close-hall") then option_map (λ o. close_hall o.0 o.1) (opening_of words)
     else (if bytes_eq name (codes "serve") then option_map serve (value_of port_in (codes "port") words)
-    else print_of name words))))))
+    else print_of name words)))))))
 
 -- the command with this name and these words
 abbrev pub task_of : Text → List Row → Option Task

@@ -24,6 +24,7 @@ fn with_changes<'a>(alloc: Global, command: Command<'a>) -> Result<Command<'a>, 
 {
     let command = with_job(alloc, command, "init", help::INIT, &[])?;
     let command = with_job(alloc, command, "migrate", help::MIGRATE, &[])?;
+    let command = with_job(alloc, command, "check", help::CHECK, &[])?;
     let file = [("kind", help::KIND), ("file", help::FILE)];
     let command = with_job(alloc, command, "import", help::IMPORT, &file)?;
     let entry = [("number", help::NUMBER), ("paper", help::PAPER)];

@@ -12,6 +12,9 @@ pub const INIT: &str = "Creates an empty office, or checks that the file already
 pub const MIGRATE: &str =
     "Carries an office that an earlier version of this program made over to this version's tables";
 
+pub const CHECK: &str =
+    "Prints `good`, or the first bad table of a file that you do not trust, such as `bad seat`";
+
 pub const IMPORT: &str =
     "Adds the rows of a CSV file, changes those with a known key, and seats candidates";
 
@@ -66,7 +69,7 @@ pub const SESSION: &str = "The code of a session, such as MON-AM";
 pub const HALL: &str = "The code of a hall, such as GYM";
 
 pub const STATUSES: &str =
-    "Exit status: 0 done, 1 refused or a file failed, 2 the line was not understood.{n}{n}\
+    "Exit status: 0 done, 1 refused, a bad table or a file failed, 2 the line was not understood.{n}{n}\
 A refused command changes nothing. It prints `refused` and a number:{n}   \
 1 a bad row, with its record and column (0: a wrong number of fields): correct the file, import all of it again{n}   \
 2 the first line is not the header of this kind: copy the header from examples/{n}   \
@@ -85,7 +88,7 @@ A refused command changes nothing. It prints `refused` and a number:{n}   \
 20 a limit below would be passed, or the file is too long: open fewer halls, or split the file{n}  \
 22 not enough memory: try again when the machine has more{n}  \
 23 the database cannot be used now: stop `serve`, look at the disk and the permissions{n}  \
-24 the file holds no office: check --db; `init` makes an office{n}  \
+24 the file holds no office: `check` names the bad table; `init` makes an office{n}  \
 25 the hall is not open for the session: import openings first{n}  \
 26 the appeal asks no arrangement: decide `granted`{n}  \
 27 an earlier version of this program made the office: run `migrate` first{n}{n}\

@@ -21,6 +21,8 @@ pub enum Job<'a> {
     Init,
     /// Carries an office of an earlier version over.
     Migrate,
+    /// Looks for the first bad table of the database.
+    Check,
     /// Imports the file at the path.
     Import {
         kind: Kind,
@@ -178,6 +180,7 @@ fn read_plain_job<'a>(name: &str, words: &ArgMatches<'a>) -> Option<Job<'a>>
     match name {
         "init" => Some(Job::Init),
         "migrate" => Some(Job::Migrate),
+        "check" => Some(Job::Check),
         "import" => import_of(words),
         "withdraw" => {
             let (number, paper) = entry_of(words)?;

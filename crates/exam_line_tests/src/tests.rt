@@ -28,6 +28,7 @@ fn job_name(job: &Job<'_>) -> &'static str {
     match job {
         Job::Init => "init",
         Job::Migrate => "migrate",
+        Job::Check => "check",
         Job::Import { .. } => "import",
         Job::Withdraw { .. } => "withdraw",
         Job::Reinstate { .. } => "reinstate",
@@ -60,6 +61,7 @@ macro_rules! given {
 const UNDERSTOOD: &[(&str, &str)] = &[
     (given!("init"), "init"),
     (given!("migrate"), "migrate"),
+    (given!("check"), "check"),
     (given!("import|entries|a b.csv"), "import"),
     (given!("withdraw|0000001|MA-1"), "withdraw"),
     (given!("reinstate|0000001|MA-1"), "reinstate"),
@@ -89,6 +91,7 @@ const NOT_UNDERSTOOD: &[&str] = &[
     given!("door-list|S1"),
     given!("clashes|s1"),
     given!("migrate|2"),
+    given!("check|seat"),
     given!("door-list|S1|A|B"),
     given!("withdraw|1|MA-1"),
     given!("decide|0000001|HA1|refused|-5 degrees"),
@@ -148,6 +151,8 @@ macro_rules! listed {
 fn help_names_each_command(rt: HostRuntime) -> Result<(), Fail> {
     for name in [
         listed!("init"),
+        listed!("migrate"),
+        listed!("check"),
         listed!("import"),
         listed!("withdraw"),
         listed!("reinstate"),

@@ -84,4 +84,5 @@ module _ {S W : Type 0} (g : Ghosts S) (contents : W → Option (List ℕ)) (tod
   follows (line.decide decision) result h = commanded (command.Decide decision) result h.1
   follows (line.serve port) result h = office_stays h.1
   follows line.migrate result h = office_stays h.1
+  follows line.check result h = office_stays h.1
   follows (line.print session which) result h = sheet_keeps g contents today (Some file) rest old new before result after session which h

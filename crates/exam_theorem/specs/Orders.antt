@@ -50,6 +50,7 @@ command_of (line.close_hall session hall) file = Some (Ok (command.CloseHall ses
 command_of (line.decide decision) file = Some (Ok (command.Decide decision))
 command_of (line.serve port) file = None
 command_of line.migrate file = None
+command_of line.check file = None
 command_of (line.print session sheet) file = None
 
 -- the session and the sheet of a line that prints one

@@ -1,5 +1,5 @@
 //! The database and the import file at a path.
-ghost use Rattle.std.specs.Prelude.{◌≡◌, ◌≢◌, false, IfOk, IfErr, IsTrue};
+ghost use Rattle.std.specs.Prelude.{◌≡◌, ◌≢◌, ◌⊎◌, false, IfOk, IfErr, IsTrue};
 ghost use Rattle.sqlite.specs.State.{HasCleanDisk};
 ghost use Rattle.sqlite.specs.Files.{file_state, over_files, IsBlankAs};
 ghost use Rattle.sqlite_store.specs.FileStore.{view};
@@ -9,10 +9,13 @@ ghost use Rattle.exam_rows.specs.Versions.{IsBlank};
 ghost use Rattle.exam_office.specs.State.{empty_state};
 ghost use Rattle.exam_store.specs.Found.{Finds, is_open_refusal};
 ghost use Rattle.exam_store.specs.Kept.{KeepsOurs};
+ghost use Rattle.exam_check.specs.Refused.{is_check_refusal};
 ghost use Rattle.exam_job.specs.Reading.{IsReadFault};
+ghost use Rattle.examoffice.specs.Checking.{FindsTable, FoundIn, TellsTable};
 ghost use Rattle.examoffice.specs.Opening.{IsOver, MakesIn, OpensIn, opening_refusal};
 
-use exam_job::{JobFault, migrate_office};
+use exam_check::{Table, check, check_line};
+use exam_job::{DONE, FAILED, JobFault, migrate_office, print};
 use exam_store::Store;
 use exam_types::Refusal;
 use sqlite::{Connection, Error, ErrorCode, FileFrom, FileStore, Start};
@@ -102,14 +105,75 @@ pub fn migrate_file<S: Start, O: Write>(
     start: S,
     out: &mut O,
 ) -> Result<(), JobFault> {
-    if !has_file(rt, path)? {
-        return Err(JobFault::Refused(Refusal::BadStore));
-    }
-    let mut conn = open_database(rt, path, start)?;
+    let mut conn = open_present(rt, path, start)?;
     let told = migrate_office(rt.alloc(), &mut conn, out);
     // The migration is committed by now, so a failure here takes nothing back.
     let _ = conn.close();
     told
+}
+
+/// Prints `good`, or the first bad table of the database at the path, and gives the exit status. A file that is no
+/// database has a bad table `office`, and so has no file at all; no file is made.
+pub fn check_file<S: Start, O: Write>(
+    rt: &HostRuntime,
+    path: &str,
+    start: S,
+    out: &mut O,
+) -> Result<u8, JobFault> {
+    let found = first_bad_at(rt, path, start)?;
+    tell_table(found, out)
+}
+
+/// The first bad table of the database at the path.
+fn first_bad_at<S: Start>(rt: &HostRuntime, path: &str, start: S) -> Result<Option<Table>, Refusal>
+    ensures found { IfOk result (λ found. (found ≡ Some Table.Office)
+        ⊎ FindsTable over_files (image_at S.Start) found) }
+    ensures told { IfErr result (λ refusal. IsTrue (is_check_refusal refusal)) }
+{
+    match open_present(rt, path, start) {
+        Ok(conn) => check_over(rt.alloc(), conn),
+        Err(Refusal::BadStore) => Ok(Some(Table::Office)),
+        Err(refusal) => Err(refusal),
+    }
+}
+
+/// Opens the database at the path. Refused as a bad store where nothing is, or what is no database.
+fn open_present<S: Start>(
+    rt: &HostRuntime,
+    path: &str,
+    start: S,
+) -> Result<Connection<OfficeFile<S>>, Refusal>
+    ensures found { IfOk result (IsOver over_files (image_at S.Start)) }
+    ensures told { IfErr result (λ refusal. IsTrue (is_store_refusal refusal)) }
+{
+    if !has_file(rt, path)? {
+        return Err(Refusal::BadStore);
+    }
+    open_database(rt, path, start)
+}
+
+/// The first bad table of the database, which is closed. Nothing was written, so a failure of that changes nothing.
+fn check_over<S: Start>(
+    alloc: Global,
+    mut conn: Connection<OfficeFile<S>>,
+) -> Result<Option<Table>, Refusal>
+    ensures found { IfOk result (FoundIn over_files conn) }
+    ensures told { IfErr result (λ refusal. IsTrue (is_check_refusal refusal)) }
+{
+    let found = check(alloc, &mut conn);
+    let _ = conn.close();
+    found
+}
+
+/// Prints the line for the first bad table, or for none, and gives the exit status.
+fn tell_table<O: Write>(found: Option<Table>, out: &mut O) -> Result<u8, JobFault>
+    ensures { TellsTable O.contents found out.old result out.new }
+{
+    print(out, check_line(found))?;
+    match found {
+        None => Ok(DONE),
+        Some(_) => Ok(FAILED),
+    }
 }
 
 /// Closes the office. What was answered stands already, so a failure here takes nothing back.

@@ -1,6 +1,6 @@
 //! A command line, carried out over the file that it names.
 use crate::files::{
-    OfficeFile, close_office, create_office, migrate_file, open_import, open_office,
+    OfficeFile, check_file, close_office, create_office, migrate_file, open_import, open_office,
 };
 use crate::serving::serve;
 use exam_job::{DONE, JobFault, print_fault, print_line_fault, run_job};
@@ -53,7 +53,8 @@ fn run_line<S: Start, O: Write, E: Write>(
     }
 }
 
-/// Carries the line out over the office that it names, or brings that to the newest version.
+/// Carries the line out over the office that it names, or brings that to the newest version, or looks for the first bad
+/// table.
 fn run_task<S: Start, O: Write, E: Write>(
     rt: &HostRuntime,
     line: &Line<'_>,
@@ -66,6 +67,7 @@ fn run_task<S: Start, O: Write, E: Write>(
             migrate_file(rt, line.db, start, out)?;
             Ok(DONE)
         }
+        Job::Check => check_file(rt, line.db, start, out),
         _ => run_open(rt, line, start, out, err),
     }
 }

@@ -17,6 +17,8 @@ type End = (u8, &'static str, &'static str);
 const LINES: &[(&str, &str, End)] = &[
     ("none.db", "export S1", (1, "", "refused 24\n")),
     ("none.db", "migrate", (1, "", "refused 24\n")),
+    ("none.db", "check", (1, "bad office\n", "")),
+    ("sessions.csv", "check", (1, "bad office\n", "")),
     ("a.db", "init", (0, "ready\n", "")),
     (
         "a.db",
@@ -38,8 +40,10 @@ const LINES: &[(&str, &str, End)] = &[
     ("b.db", "init", (0, "ready\n", "")),
     ("b.db", "export S1", (1, "", "refused 4\n")),
     ("b.db", "migrate", (0, "already 2\n", "")),
+    ("b.db", "check", (0, "good\n", "")),
     ("folder.db", "init", (1, "", "refused 23\n")),
     ("folder.db", "export S1", (1, "", "refused 23\n")),
+    ("folder.db", "check", (1, "", "refused 23\n")),
 ];
 
 fn words_of(alloc: Global, database: &str, command: &str) -> Result<Vec<String>, AllocError> {

@@ -1,0 +1,5 @@
+pub mod First
+pub mod Found
+pub mod Judging
+pub mod Looking
+pub mod OurTables

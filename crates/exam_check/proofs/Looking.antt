@@ -1,0 +1,136 @@
+-- Calls that only read, one after the other.
+use Rattle.std.proofs.Common.{◌≡◌, ◌⊎◌, ℕ, List, [], inl, inr, Result, Ok, Err, IfErr, IsTrue, refl, sym, ap, subst, ◌∙◌}
+use Rattle.std.proofs.lemmas.Result.{IfErr-weaker}
+use Rattle.std.specs.List as lists
+use Rattle.sqlite_trees.specs.declared.store.Store.{Ghosts}
+use Rattle.sqlite_trees.specs.Tree.{Trees}
+use Rattle.sqlite.specs.Effect.{Database}
+use Rattle.sqlite.specs.Held.{Held, state}
+use Rattle.sqlite.specs.State.{State, HasCleanDisk, IsUnchanged, Survives}
+use Rattle.sqlite.proofs.Callers.{unchanged_then}
+use Rattle.exam_types.specs.declared.refusal.Refusal.{Refusal}
+use Rattle.exam_types.specs.declared.refusal.Refusal.TheVariants.{NoMemory, Store, BadStore, OldSchema}
+use Rattle.exam_tables.specs.Made.{ContainsMade}
+use Rattle.exam_tables.specs.Texts.{load_office, load_texts}
+use Rattle.exam_rows.specs.Faults.{is_store_refusal}
+use Rattle.exam_rows.specs.Inside.{Contains}
+use Rattle.exam_rows.specs.Loaded.{FailsThen, FailsToLoad, FailsToLoadFrom, IsLoadRefusal, OnlyReads, Told}
+use Rattle.exam_rows.specs.Versions.{HasVersion, IsVersion, version}
+use Rattle.exam_rows.proofs.Leaving.{bad_unchanged, both_survive, reads_only, still_itself, still_then, then_reads}
+use Rattle.exam_rows.proofs.LoadTexts.{office_loads}
+use Rattle.exam_store.proofs.Marking.{made_of, opens_as}
+use Rattle.exam_check.specs.FirstBad.{HasGoodVersion}
+use Rattle.exam_check.specs.Reading.{Looks}
+use Rattle.exam_check.specs.Refused.{FailsToCheck}
+
+-- a call that reads, after one that succeeded
+
+fails_later : {S : Type 0} (g : Ghosts S) (old mid new : Held S) → IsUnchanged (state g old) (state g mid) → (e : Refusal) → (e ≡ BadStore) ⊎ FailsToCheck g mid new e → (e ≡ BadStore) ⊎ FailsToCheck g old new e
+fails_later g old mid new same e (inl bad) = inl bad
+fails_later g old mid new same e (inr (inl lacks)) = inr (inl lacks)
+fails_later g old mid new same e (inr (inr (inl ((at, still, text, loads, fails), store)))) =
+    inr (inr (inl ((at, still_then (state g old) (state g mid) (state g at) same still, text, loads, fails), store)))
+fails_later g old mid new same e (inr (inr (inr (is, old_one)))) =
+    inr (inr (inr (is, λ all was. old_one all (subst (λ (db : Database). ContainsMade db all) (sym same.0.now_is) was))))
+
+module _ {S : Type 0} (g : Ghosts S) (old mid new : Held S) where
+  pub looks_then : {A B : Type 0} (x : A) (result : Result B Refusal) → Looks {A = A} g old mid (Ok x) → Looks g mid new result → Looks g old new result
+  looks_then x result first next = record {
+    early = λ clean. first.early (next.early clean);
+    survives = both_survive (state g old) (state g mid) (state g new) first.survives next.survives;
+    left = λ clean. then_reads (state g old) (state g mid) (state g new) result (first.left (next.early clean)) (next.left clean);
+    bad = λ clean.
+        let same = first.left (next.early clean) in
+        IfErr-weaker result _ _ (λ e why bad.
+        let it = why bad in
+        (unchanged_then (state g old) (state g mid) (state g new) same it.0, λ all good. it.1 all (subst (λ (db : Database). HasGoodVersion db all) (sym same.0.now_is) good))) (next.bad clean);
+    refused = λ clean. IfErr-weaker result _ _ (fails_later g old mid new (first.left (next.early clean))) (next.refused clean);
+    told = next.told;
+  }
+
+  pub fails_then : {A B C : Type 0} (x : A) (e : Refusal) → Looks {A = A} g old mid (Ok x) → Looks {A = B} g mid new (Err e) → Looks {A = C} g old new (Err e)
+  fails_then x e first next = looks_then x (Err e) first (record { early = next.early; survives = next.survives; left = next.left; bad = next.bad; refused = next.refused; told = next.told })
+
+-- what is made of what was read, which may want memory
+pub looks_on : {S A B : Type 0} (g : Ghosts S) (old new : Held S) (x : A) (result : Result B Refusal) → Looks {A = A} g old new (Ok x) → IfErr result (λ e. e ≡ NoMemory) → Looks g old new result
+looks_on g old new x result read lacks = record {
+  early = read.early;
+  survives = read.survives;
+  left = λ clean. reads_only (state g old) (state g new) result (read.left clean);
+  bad = λ clean. IfErr-weaker result _ _ (λ e lack bad. absurd (let same : NoMemory ≡ BadStore = sym lack ∙ bad in cc)) lacks;
+  refused = λ clean. IfErr-weaker result _ _ (λ e lack. inr (inl lack)) lacks;
+  told = IfErr-weaker result _ _ (λ e lack. rw lack refl) lacks;
+}
+
+-- what any call that reads may answer
+one_of : (e : Refusal) → IsTrue (is_store_refusal e) → (e ≡ BadStore) ⊎ ((e ≡ NoMemory) ⊎ (e ≡ Store))
+one_of NoMemory told = inr (inl refl)
+one_of Store told = inr (inr refl)
+one_of BadStore told = inl refl
+one_of _ told = absurd cc
+
+module _ {S : Type 0} (g : Ghosts S) (old new : Held S) where
+  -- why a query fails that is refused as a failure
+  fails_as : (text : List ℕ) → lists.Contains load_texts text → (e : Refusal) → Told text (state g old) (state g new) e → (e ≡ BadStore) ⊎ ((e ≡ NoMemory) ⊎ (e ≡ Store)) → (e ≡ BadStore) ⊎ FailsToCheck g old new e
+  fails_as text loads e told (inl bad) = inl bad
+  fails_as text loads e told (inr (inl lacks)) = inr (inl lacks)
+  fails_as text loads e told (inr (inr store)) =
+      inr (inr (inl ((old, still_itself (state g old), text, loads, (told, λ there bad. let same : Store ≡ BadStore = sym store ∙ bad in absurd cc)), store)))
+
+  -- the query that shows a table
+  pub query_looks : {A : Type 0} (text : List ℕ) (Holds : Database → Trees → Type 0) (result : Result A Refusal) → lists.Contains load_texts text → ((db : Database) (all : Trees) → Contains db all → Holds db all)
+      → (HasCleanDisk (state g new) → HasCleanDisk (state g old)) → Survives (state g old) (state g new) (λ _. ⊥) → (HasCleanDisk (state g new) → OnlyReads (state g old) (state g new) result)
+      → (HasCleanDisk (state g new) → IfErr result (FailsToLoadFrom Holds text (state g old) (state g new))) → IfErr result (λ e. IsTrue (is_store_refusal e)) → Looks g old new result
+  query_looks text Holds result loads newest early survives left failed told = record {
+    early = early;
+    survives = survives;
+    left = left;
+    bad = λ clean. IfErr-weaker result _ _ (λ e fails bad.
+        (bad_unchanged text [] (state g old) (state g new) fails.0.0 fails.0.2 (sym fails.0.1 ∙ bad), λ all good. fails.1 (all, newest (state g old).now all good.0.0) bad)) (failed clean);
+    refused = λ clean. both result (λ e fails named. fails_as text loads e fails.0 (one_of e named)) (failed clean) told;
+    told = IfErr-weaker result _ _ opens_as told;
+  }
+    where
+      both : {A : Type 0} {P Q R : Refusal → Type 0} (r : Result A Refusal) → ((e : Refusal) → P e → Q e → R e) → IfErr r P → IfErr r Q → IfErr r R
+      both (Ok x) f p q = tt
+      both (Err e) f p q = f e p q
+
+  no_version : (e : Refusal) → IsLoadRefusal (FailsToLoad load_office (state g old) (state g new)) ((all : Trees) → ContainsMade (state g old).now all → (v : ℕ) → IsVersion v → HasVersion v all → ⊥) e → e ≡ BadStore → (all : Trees) → HasGoodVersion (state g old).now all → ⊥
+  no_version e (inl lacks) bad all good = let same : NoMemory ≡ BadStore = sym lacks ∙ bad in absurd cc
+  no_version e (inr (inl fails)) bad all good = fails.1 (all, made_of version (state g old).now all good.0) bad
+  no_version e (inr (inr (is, none))) bad all good = none all (made_of version (state g old).now all good.0) version (inr refl) good.1
+
+  unread_version : (e : Refusal) → IsLoadRefusal (FailsToLoad load_office (state g old) (state g new)) ((all : Trees) → ContainsMade (state g old).now all → (v : ℕ) → IsVersion v → HasVersion v all → ⊥) e → IsTrue (is_store_refusal e) → (e ≡ BadStore) ⊎ FailsToCheck g old new e
+  unread_version e (inl lacks) named = inr (inl lacks)
+  unread_version e (inr (inl fails)) named = fails_as load_office office_loads e fails.0 (one_of e named)
+  unread_version e (inr (inr (is, none))) named = inl is
+
+  -- the version that could not be read
+  pub version_looks : {A : Type 0} (e : Refusal) → (HasCleanDisk (state g new) → HasCleanDisk (state g old)) → Survives (state g old) (state g new) (λ _. ⊥) → (HasCleanDisk (state g new) → OnlyReads {A = A} (state g old) (state g new) (Err e))
+      → (HasCleanDisk (state g new) → e ≡ BadStore → IsUnchanged (state g old) (state g new))
+      → (HasCleanDisk (state g new) → IsLoadRefusal (FailsToLoad load_office (state g old) (state g new)) ((all : Trees) → ContainsMade (state g old).now all → (v : ℕ) → IsVersion v → HasVersion v all → ⊥) e)
+      → IsTrue (is_store_refusal e) → Looks {A = A} g old new (Err e)
+  version_looks e early survives left unchanged none told = record {
+    early = early;
+    survives = survives;
+    left = left;
+    bad = λ clean bad. (unchanged clean bad, no_version e (none clean) bad);
+    refused = λ clean. unread_version e (none clean) told;
+    told = opens_as e told;
+  }
+
+  -- what was read
+  pub looks_ok : {A : Type 0} (x : A) → (HasCleanDisk (state g new) → HasCleanDisk (state g old)) → Survives (state g old) (state g new) (λ _. ⊥) → (HasCleanDisk (state g new) → IsUnchanged (state g old) (state g new)) → Looks {A = A} g old new (Ok x)
+  looks_ok x early survives left = record { early = early; survives = survives; left = left; bad = λ clean. tt; refused = λ clean. tt; told = tt }
+
+  -- the office of an older version
+  pub looks_old : {A : Type 0} → (HasCleanDisk (state g new) → HasCleanDisk (state g old)) → Survives (state g old) (state g new) (λ _. ⊥) → (HasCleanDisk (state g new) → IsUnchanged (state g old) (state g new))
+      → (HasCleanDisk (state g new) → (all : Trees) → ContainsMade (state g old).now all → HasVersion 1 all) → Looks {A = A} g old new (Err OldSchema)
+  looks_old early survives left first = record {
+    early = early;
+    survives = survives;
+    left = λ clean. inl (left clean);
+    bad = λ clean bad. let same : OldSchema ≡ BadStore = bad in absurd cc;
+    refused = λ clean. inr (inr (inr (refl, first clean)));
+    told = refl;
+  }

@@ -1,0 +1,99 @@
+-- The first bad table of a database.
+use Rattle.std.specs.Prelude.{◌≡◌, ◌⊎◌, ◌<◌, ℕ, List, [], ◌∷◌, Option, None, Some, option_map}
+use Rattle.std.specs.Ordering.{nat_cmp}
+use Rattle.sqlite_trees.specs.Tree.{Trees}
+use Rattle.sqlite.specs.Effect.{Database}
+use Rattle.exam_rules.specs.Relations.{code_cmp, opening_cmp, entry_cmp, appeal_cmp, seat_cmp}
+use Rattle.exam_office.specs.Good.{IsTableGood, tables}
+use Rattle.exam_office.specs.State.{State}
+use Rattle.exam_office.specs.declared.tables.Table.{Table as OfficeTable}
+use Rattle.exam_office.specs.declared.tables.Table.TheVariants as office
+use Rattle.exam_rows.specs.Loaded.{HoldsTable}
+use Rattle.exam_rows.specs.Rows.{session_row, paper_row, hall_row, candidate_row, opening_row, entry_row}
+use Rattle.exam_rows.specs.Rows.{arrangement_row, appeal_row, standing_row, seat_row}
+use Rattle.exam_rows.specs.Rows.{IsSession, IsPaper, IsHall, IsCandidate, IsOpening, IsEntry, IsArrangement}
+use Rattle.exam_rows.specs.Rows.{IsAppeal, IsStanding, IsSeat}
+use Rattle.exam_rows.specs.Versions.{ContainsOf, HasVersion, version}
+use Rattle.exam_check.specs.declared.tables.Table.{Table}
+use Rattle.exam_check.specs.declared.tables.Table.TheVariants as table
+
+-- the table in which the database keeps this table of an office
+abbrev pub table_of : OfficeTable → Table
+table_of office.Sessions = table.Session
+table_of office.Papers = table.Paper
+table_of office.Halls = table.Hall
+table_of office.Openings = table.Opening
+table_of office.Candidates = table.Candidate
+table_of office.Entries = table.Entry
+table_of office.Arrangements = table.Arrangement
+table_of office.Appeals = table.Appeal
+table_of office.Standing = table.Standing
+table_of office.Seats = table.Seat
+
+-- the rows that are meant in this table are those of the office, each in its stored form
+abbrev pub HoldsTableOf : Trees → State → OfficeTable → Type 0
+HoldsTableOf all o office.Sessions = HoldsTable code_cmp IsSession session_row o.relations.sessions (all 1)
+HoldsTableOf all o office.Papers = HoldsTable code_cmp IsPaper paper_row o.relations.papers (all 3)
+HoldsTableOf all o office.Halls = HoldsTable code_cmp IsHall hall_row o.relations.halls (all 5)
+HoldsTableOf all o office.Openings = HoldsTable opening_cmp IsOpening opening_row o.relations.openings (all 8)
+HoldsTableOf all o office.Candidates =
+    HoldsTable nat_cmp IsCandidate candidate_row o.relations.candidates (all 7)
+HoldsTableOf all o office.Entries = HoldsTable entry_cmp IsEntry entry_row o.relations.entries (all 10)
+HoldsTableOf all o office.Arrangements =
+    HoldsTable nat_cmp IsArrangement arrangement_row o.relations.arrangements (all 12)
+HoldsTableOf all o office.Appeals = HoldsTable appeal_cmp IsAppeal appeal_row o.relations.appeals (all 13)
+HoldsTableOf all o office.Standing = HoldsTable appeal_cmp IsStanding standing_row o.relations.standing (all 17)
+HoldsTableOf all o office.Seats = HoldsTable seat_cmp IsSeat seat_row o.seats (all 15)
+
+-- the rows of the table are those of no office: one has no stored form, or two have the same key
+abbrev pub HoldsNoTable : Trees → OfficeTable → Type 0
+HoldsNoTable all t = (o : State) → HoldsTableOf all o t → ⊥
+
+-- What is found where these tables are looked at in order: the first whose rows are those of no office, or that
+-- is not good beside the tables before it; or none. Of the office only the tables that were looked at count.
+abbrev pub IsFirstBadIn : Trees → State → List OfficeTable → Option OfficeTable → Type 0
+IsFirstBadIn all o [] found = found ≡ None
+IsFirstBadIn all o (t ∷ ts) found =
+    ((HoldsNoTable all t ⊎ (HoldsTableOf all o t × (IsTableGood o t → ⊥))) × (found ≡ Some t))
+    ⊎ (HoldsTableOf all o t × IsTableGood o t × IsFirstBadIn all o ts found)
+
+-- The tables are those of the newest version, and the table `office` has its number and no other row.
+abbrev pub HasGoodVersion : Database → Trees → Type 0
+HasGoodVersion db all = ContainsOf version db all × HasVersion version all
+
+-- the first bad table of a database with these rows, or none
+abbrev pub IsFirstBadTable : Database → Trees → Option Table → Type 0
+IsFirstBadTable db all found =
+    ((HasGoodVersion db all → ⊥) × (found ≡ Some table.Office))
+    ⊎ (HasGoodVersion db all × (o : State) × (bad : Option OfficeTable)
+    × IsFirstBadIn all o tables bad × (found ≡ option_map table_of bad))
+
+-- ---- the first of two tables
+
+-- the place in the order in which an office's tables are looked at
+abbrev pub place : OfficeTable → ℕ
+place office.Sessions = 0
+place office.Papers = 1
+place office.Halls = 2
+place office.Openings = 3
+place office.Candidates = 4
+place office.Entries = 5
+place office.Arrangements = 6
+place office.Appeals = 7
+place office.Standing = 8
+place office.Seats = 9
+
+abbrev pub IsFirstOfTwo : OfficeTable → OfficeTable → OfficeTable → Type 0
+IsFirstOfTwo one other first =
+    ((place one < place other) × (first ≡ one)) ⊎ ((place one < place other → ⊥) × (first ≡ other))
+
+abbrev pub IsFirstOf : Option OfficeTable → Option OfficeTable → Option OfficeTable → Type 0
+IsFirstOf None other first = first ≡ other
+IsFirstOf (Some one) None first = first ≡ Some one
+IsFirstOf (Some one) (Some other) first =
+    (it : OfficeTable) × IsFirstOfTwo one other it × (first ≡ Some it)
+
+-- the table that could not be read first, where this one could not be read either
+abbrev pub first_unread : Option OfficeTable → OfficeTable → OfficeTable
+first_unread (Some first) t = first
+first_unread None t = t

@@ -1,0 +1,23 @@
+-- What is printed of a database that was checked.
+use Rattle.std.specs.Prelude.{ℕ, List, ◌++◌, Option, None, Some, codes}
+use Rattle.exam_check.specs.declared.tables.Table.{Table}
+use Rattle.exam_check.specs.declared.tables.Table.TheVariants as table
+
+-- the name of the table in the database
+abbrev pub table_word : Table → List ℕ
+table_word table.Office = codes "office"
+table_word table.Session = codes "session"
+table_word table.Paper = codes "paper"
+table_word table.Hall = codes "hall"
+table_word table.Opening = codes "opening"
+table_word table.Candidate = codes "candidate"
+table_word table.Entry = codes "entry"
+table_word table.Arrangement = codes "arrangement"
+table_word table.Appeal = codes "appeal"
+table_word table.Standing = codes "standing"
+table_word table.Seat = codes "seat"
+
+-- the line for the first bad table, or for none
+abbrev pub check_text : Option Table → List ℕ
+check_text None = codes "good\n"
+check_text (Some t) = codes "bad " ++ table_word t ++ codes "\n"

@@ -1,0 +1,65 @@
+//! The first bad table of a database.
+ghost use Rattle.std.specs.Prelude.{◌≡◌, ◌⊎◌, IsTrue, IfOk, IfErr, OnOk};
+ghost use Rattle.sqlite.specs.Held.{state};
+ghost use Rattle.sqlite.specs.State.{HasCleanDisk, Survives};
+ghost use Rattle.exam_office.specs.Good.{tables};
+ghost use Rattle.exam_office.specs.State.{State};
+ghost use Rattle.exam_tables.specs.Made.{ContainsMade};
+ghost use Rattle.exam_tables.specs.Texts.{load_texts};
+ghost use Rattle.exam_rows.specs.Loaded.{AreUnderstood, OnlyReads};
+ghost use Rattle.exam_check.specs.FirstBad.{HasGoodVersion, IsFirstBadIn, IsFirstBadTable};
+ghost use Rattle.exam_check.specs.Reading.{Looks};
+ghost use Rattle.exam_check.specs.Refused.{FailsToCheck, is_check_refusal};
+
+use crate::reading::read_tables;
+use crate::tables::{Table, first_of, table_of};
+use exam_office::{Table as OfficeTable, first_bad_table};
+use exam_rows::{NEWEST, version_of};
+use exam_types::Refusal;
+use sqlite::{Alter, Connection};
+use std::alloc::Global;
+
+/// The first bad table of the database, or none where it holds a good office. Only reads. Refused as `OldSchema` if
+/// the office is of an older version.
+pub fn check<S: Alter>(alloc: Global, conn: &mut Connection<S>) -> Result<Option<Table>, Refusal>
+    ensures found { HasCleanDisk (state S.Store conn.new) → IfOk result (λ found. (all : _)
+        → ContainsMade (state S.Store conn.old).now all
+        → IsFirstBadTable (state S.Store conn.old).now all found) }
+    ensures understood { HasCleanDisk (state S.Store conn.new) → IfOk result (λ found.
+        (found ≡ Some Table.Office) ⊎ AreUnderstood (state S.Store conn.old).now load_texts) }
+    ensures left { HasCleanDisk (state S.Store conn.new)
+        → OnlyReads (state S.Store conn.old) (state S.Store conn.new) result }
+    ensures survives { Survives (state S.Store conn.old) (state S.Store conn.new) (λ _. ⊥) }
+    ensures refusal { HasCleanDisk (state S.Store conn.new)
+        → IfErr result (FailsToCheck S.Store conn.old conn.new) }
+    ensures told { IfErr result (λ e. IsTrue (is_check_refusal e)) }
+{
+    match first_bad(alloc, conn) {
+        Ok(None) => Ok(None),
+        Ok(Some(bad)) => Ok(Some(table_of(bad))),
+        Err(Refusal::BadStore) => Ok(Some(Table::Office)),
+        Err(refusal) => Err(refusal),
+    }
+}
+
+/// The first bad table of those that the office of the newest version has. Refused as a bad store where a table, a
+/// column or the version is missing.
+fn first_bad<S: Alter>(
+    alloc: Global,
+    conn: &mut Connection<S>,
+) -> Result<Option<OfficeTable>, Refusal>
+    ensures looks { Looks S.Store conn.old conn.new result }
+    ensures found { HasCleanDisk (state S.Store conn.new) → IfOk result (λ bad. (all : _)
+        → ContainsMade (state S.Store conn.old).now all
+        → HasGoodVersion (state S.Store conn.old).now all × (o : State) × IsFirstBadIn all o tables bad) }
+    ensures understood { HasCleanDisk (state S.Store conn.new)
+        → OnOk result (AreUnderstood (state S.Store conn.old).now load_texts) }
+{
+    let version = version_of(conn)?;
+    if version != NEWEST {
+        return Err(Refusal::OldSchema);
+    }
+    let read = read_tables(alloc, conn)?;
+    let bad = first_bad_table(alloc, &read.facts, &read.seats)?;
+    Ok(first_of(bad, read.unread))
+}

@@ -1,0 +1,31 @@
+//! Laws of the first bad table.
+ghost use Rattle.std.specs.Prelude.{◌≢◌, ◌↔◌};
+ghost use Rattle.sqlite_trees.specs.Tree.{Trees};
+ghost use Rattle.sqlite.specs.Effect.{Database};
+ghost use Rattle.sqlite.specs.Held.{Held, state};
+ghost use Rattle.sqlite.specs.State.{HasCleanDisk};
+ghost use Rattle.exam_types.specs.declared.refusal.Refusal.{Refusal};
+ghost use Rattle.exam_types.specs.declared.refusal.Refusal.TheVariants as refusal;
+ghost use Rattle.exam_office.specs.Good.{IsGood};
+ghost use Rattle.exam_office.specs.State.{State};
+ghost use Rattle.exam_tables.specs.Made.{ContainsMade};
+ghost use Rattle.exam_rows.specs.Versions.{version};
+ghost use Rattle.exam_store.specs.Found.{FailsToOpen, Finds, HoldsGood};
+ghost use Rattle.exam_check.specs.FirstBad.{IsFirstBadTable};
+
+use sqlite::Alter;
+
+/// `check` finds no bad table exactly where `Store::open` accepts, unless memory runs out or a query fails: the one
+/// definition says that the tables are those of the newest version and hold a good office of it. What was opened has
+/// no bad table, and what was refused, but for 22 and 23, has one.
+pub fn check_finds_nothing_exactly_where_open_accepts<S: Alter>()
+    ensures good { (db : Database) (all : Trees) → IsFirstBadTable db all None ↔ HoldsGood version db all }
+    ensures accepted { (old new : Held S) (office : State) (all : Trees)
+        → ContainsMade (state S.Store old).now all → HasCleanDisk (state S.Store new)
+        → Finds (state S.Store old) (state S.Store new) office → IsGood office
+        → IsFirstBadTable (state S.Store old).now all None }
+    ensures refused { (old new : Held S) (e : Refusal) (all : Trees)
+        → ContainsMade (state S.Store old).now all → FailsToOpen S.Store old new e
+        → e ≢ refusal.NoMemory → e ≢ refusal.Store
+        → IsFirstBadTable (state S.Store old).now all None → ⊥ }
+{}

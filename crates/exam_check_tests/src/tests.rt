@@ -1,0 +1,348 @@
+//! An office as the rows of its tables, and what makes a table of it bad.
+use exam_check::{Table, check, check_line};
+use exam_store::Store;
+use exam_types::Refusal;
+use sqlite::{Connection, MemStore};
+use std::alloc::Global;
+use std::test::Fail;
+
+/// One session with one paper, and two halls with a desk each. The first candidate sits in hall B, since the second,
+/// who needs step-free access, sits in hall A.
+const SEATED: &str = "INSERT INTO session VALUES ('S1', '2027-06-01', 540); \
+INSERT INTO paper VALUES ('MA-1', 'Maths', 'S1', 60, 0); \
+INSERT INTO hall VALUES ('A', 'Hall A', 1); \
+INSERT INTO hall VALUES ('B', 'Hall B', 0); \
+INSERT INTO opening VALUES ('S1', 'A', 1, 720, 0); \
+INSERT INTO opening VALUES ('S1', 'B', 1, 720, 0); \
+INSERT INTO candidate VALUES (1, 'Bo Berg', 'CODE0001'); \
+INSERT INTO candidate VALUES (2, 'Ada Lin', 'CODE0002'); \
+INSERT INTO candidate VALUES (3, 'Cy Dahl', 'CODE0003'); \
+INSERT INTO arrangement VALUES (2, 1, 0); \
+INSERT INTO entry VALUES (1, 'MA-1', 1); \
+INSERT INTO entry VALUES (2, 'MA-1', 1); \
+INSERT INTO seat VALUES ('S1', 1, 'B'); \
+INSERT INTO seat VALUES ('S1', 2, 'A')";
+
+/// That office after these statements.
+fn office_after(alloc: Global, sql: &str) -> Result<Connection<MemStore>, Fail> {
+    let mut conn = Store::in_memory(alloc)?.close();
+    conn.execute_batch(SEATED)?;
+    conn.execute_batch(sql)?;
+    Ok(conn)
+}
+
+/// What `check` finds of that office after these statements.
+fn found_after(alloc: Global, sql: &str) -> Result<Option<Table>, Fail> {
+    let mut conn = office_after(alloc, sql)?;
+    Ok(check(alloc, &mut conn)?)
+}
+
+/// Whether opening accepts that office after these statements.
+fn is_opened_after(alloc: Global, sql: &str) -> Result<bool, Fail> {
+    match Store::open(alloc, office_after(alloc, sql)?) {
+        Ok(_) => Ok(true),
+        Err((_, conn)) => {
+            drop(conn);
+            Ok(false)
+        }
+    }
+}
+
+/// Finds in that office after each of these statements the first bad table.
+fn finds_each(alloc: Global, bad: &[(&str, Table)]) -> Result<(), Fail> {
+    for (sql, table) in bad {
+        if found_after(alloc, sql)? != Some(*table) {
+            return Err(Fail::new(sql));
+        }
+    }
+    Ok(())
+}
+
+#[test]
+fn a_good_office_has_no_bad_table(rt: HostRuntime) -> Result<(), Fail> {
+    assert_eq!(rt; found_after(rt.alloc(), "")?, None);
+    assert!(rt; is_opened_after(rt.alloc(), "")?);
+    assert!(rt; !is_opened_after(rt.alloc(), "DELETE FROM seat WHERE number = 1")?);
+    Ok(())
+}
+
+/// The version, or a table or a column that is missing.
+const NO_OFFICE: &[(&str, Table)] = &[
+    ("UPDATE office SET version = 7", Table::Office),
+    ("UPDATE office SET one = 2", Table::Office),
+    ("INSERT INTO office VALUES (2, 2)", Table::Office),
+    ("DELETE FROM office", Table::Office),
+    ("DROP TABLE office", Table::Office),
+    ("DROP TABLE standing", Table::Office),
+    (
+        "DROP TABLE seat; UPDATE paper SET minutes = 601",
+        Table::Office,
+    ),
+    (
+        "DROP TABLE arrangement; CREATE TABLE arrangement (number INTEGER NOT NULL, needs INTEGER NOT NULL, PRIMARY KEY (number)) STRICT",
+        Table::Office,
+    ),
+];
+
+#[test]
+fn what_is_no_office_is_found(rt: HostRuntime) -> Result<(), Fail> {
+    finds_each(rt.alloc(), NO_OFFICE)
+}
+
+/// Rows of no stored form.
+const NO_FORM: &[(&str, Table)] = &[
+    (
+        "INSERT INTO session VALUES ('s2', '2027-06-01', 540)",
+        Table::Session,
+    ),
+    ("UPDATE paper SET minutes = 601", Table::Paper),
+    ("UPDATE hall SET features = -1", Table::Hall),
+    ("UPDATE opening SET desks = 0", Table::Opening),
+    (
+        "INSERT INTO candidate VALUES (9, 'Flo Ray', 'code0009')",
+        Table::Candidate,
+    ),
+    ("UPDATE entry SET live = 2", Table::Entry),
+    ("UPDATE arrangement SET extra = 101", Table::Arrangement),
+    (
+        "INSERT INTO appeal VALUES (1, 'R1', 'S1', 1, 'A', 0, 0, '', 6, NULL, '2027-05-01')",
+        Table::Appeal,
+    ),
+];
+
+#[test]
+fn rows_of_no_form_are_found(rt: HostRuntime) -> Result<(), Fail> {
+    finds_each(rt.alloc(), NO_FORM)
+}
+
+/// A target that is not there; two granted appeals for an arrangement and two for a clash, or two open ones, of one
+/// candidate and session; marks of a hall appeal, and of one that is open.
+const APPEALS: &[(&str, Table)] = &[
+    (
+        "INSERT INTO appeal VALUES (1, 'R1', 'S1', 1, 'Z', 0, 0, '', 1, NULL, '2027-05-01')",
+        Table::Appeal,
+    ),
+    (
+        "INSERT INTO appeal VALUES (1, 'R1', 'S1', 2, 'ZZ-1', 0, 0, '', 1, NULL, '2027-05-01')",
+        Table::Appeal,
+    ),
+    (
+        "INSERT INTO appeal VALUES (3, 'R1', 'S1', 3, '', 0, 25, '', 2, 'Yes', '2027-05-01'); \
+INSERT INTO appeal VALUES (3, 'R2', 'S1', 3, '', 0, 50, '', 2, 'Yes', '2027-05-01')",
+        Table::Appeal,
+    ),
+    (
+        "INSERT INTO appeal VALUES (3, 'R1', 'S1', 2, 'MA-1', 0, 0, '', 2, 'Yes', '2027-05-01'); \
+INSERT INTO appeal VALUES (3, 'R2', 'S1', 2, 'MA-1', 0, 0, '', 2, 'Yes', '2027-05-01')",
+        Table::Appeal,
+    ),
+    (
+        "INSERT INTO appeal VALUES (3, 'R1', 'S1', 1, 'A', 0, 0, '', 1, NULL, '2027-05-01'); \
+INSERT INTO appeal VALUES (3, 'R2', 'S1', 1, 'B', 0, 0, '', 1, NULL, '2027-05-01')",
+        Table::Appeal,
+    ),
+    (
+        "INSERT INTO appeal VALUES (3, 'R1', 'S1', 1, 'A', 0, 0, '', 2, 'Yes', '2027-05-01'); \
+INSERT INTO standing VALUES (3, 'R1')",
+        Table::Standing,
+    ),
+    (
+        "INSERT INTO appeal VALUES (3, 'R1', 'S1', 3, '', 0, 25, '', 1, NULL, '2027-05-01'); \
+INSERT INTO standing VALUES (3, 'R1')",
+        Table::Standing,
+    ),
+];
+
+#[test]
+fn bad_appeals_and_marks_are_found(rt: HostRuntime) -> Result<(), Fail> {
+    finds_each(rt.alloc(), APPEALS)
+}
+
+/// A seat that a sweep would give, one for nobody, two at one desk, a hall that does not fit; and several bad tables,
+/// of which the first is found.
+const SEATS: &[(&str, Table)] = &[
+    ("DELETE FROM seat WHERE number = 1", Table::Seat),
+    ("INSERT INTO seat VALUES ('S1', 3, 'B')", Table::Seat),
+    ("UPDATE seat SET hall = 'A'", Table::Seat),
+    (
+        "UPDATE opening SET desks = 2; UPDATE seat SET hall = 'B'",
+        Table::Seat,
+    ),
+    (
+        "DELETE FROM seat WHERE number = 1; UPDATE paper SET minutes = 601",
+        Table::Paper,
+    ),
+    (
+        "UPDATE hall SET features = -1; \
+INSERT INTO appeal VALUES (1, 'R1', 'S1', 1, 'Z', 0, 0, '', 1, NULL, '2027-05-01')",
+        Table::Hall,
+    ),
+    (
+        "INSERT INTO appeal VALUES (1, 'R1', 'S1', 1, 'Z', 0, 0, '', 1, NULL, '2027-05-01'); \
+DELETE FROM seat WHERE number = 1",
+        Table::Appeal,
+    ),
+];
+
+#[test]
+fn bad_seats_are_found_last(rt: HostRuntime) -> Result<(), Fail> {
+    finds_each(rt.alloc(), SEATS)
+}
+
+/// Tables that are made again without what they refer to, so that the database takes rows that refer to nothing.
+const LOOSE: &[(&str, Table)] = &[
+    (
+        "DROP TABLE seat; CREATE TABLE seat (session TEXT NOT NULL, number INTEGER NOT NULL, hall TEXT NOT NULL, PRIMARY KEY (session, number)) STRICT; \
+INSERT INTO seat VALUES ('S1', 1, 'Z')",
+        Table::Seat,
+    ),
+    (
+        "DROP TABLE seat; CREATE TABLE seat (session TEXT NOT NULL, number INTEGER NOT NULL, hall TEXT NOT NULL, PRIMARY KEY (session, number)) STRICT; \
+INSERT INTO seat VALUES ('s1', 1, 'B')",
+        Table::Seat,
+    ),
+    (
+        "DROP TABLE standing; CREATE TABLE standing (number INTEGER NOT NULL, ref TEXT NOT NULL, PRIMARY KEY (number, ref)) STRICT; \
+INSERT INTO standing VALUES (1, 'R1')",
+        Table::Standing,
+    ),
+    (
+        "DROP TABLE standing; CREATE TABLE standing (number INTEGER NOT NULL, ref TEXT NOT NULL, PRIMARY KEY (number, ref)) STRICT; \
+INSERT INTO standing VALUES (1, 'r1')",
+        Table::Standing,
+    ),
+    (
+        "DROP TABLE arrangement; CREATE TABLE arrangement (number INTEGER NOT NULL, needs INTEGER NOT NULL, extra INTEGER NOT NULL, PRIMARY KEY (number)) STRICT; \
+INSERT INTO arrangement VALUES (9, 0, 25)",
+        Table::Arrangement,
+    ),
+    (
+        "DROP TABLE entry; CREATE TABLE entry (number INTEGER NOT NULL, paper TEXT NOT NULL, live INTEGER NOT NULL, PRIMARY KEY (number, paper)) STRICT; \
+INSERT INTO entry VALUES (1, 'ZZ-1', 1)",
+        Table::Entry,
+    ),
+];
+
+#[test]
+fn rows_that_refer_to_nothing_are_found(rt: HostRuntime) -> Result<(), Fail> {
+    finds_each(rt.alloc(), LOOSE)
+}
+
+/// That office with so many more sessions, papers, halls, openings, appeals of one candidate, and candidates.
+fn found_of_many(alloc: Global, kind: &str, many: u32) -> Result<Option<Table>, Fail> {
+    let mut conn = office_after(alloc, "")?;
+    for number in 0..many {
+        let sql = match kind {
+            "session" => {
+                format!(in alloc; "INSERT INTO session VALUES ('X{number}', '2027-06-01', 540)")?
+            }
+            "paper" => {
+                format!(in alloc; "INSERT INTO paper VALUES ('X{number}', 'X', 'S1', 60, 0)")?
+            }
+            "hall" => format!(in alloc; "INSERT INTO hall VALUES ('X{number}', 'X', 0)")?,
+            "opening" => {
+                format!(in alloc;
+                    "INSERT INTO hall VALUES ('X{number}', 'X', 0); INSERT INTO opening VALUES ('S1', 'X{number}', 1, 720, 1)"
+                )?
+            }
+            _ => {
+                format!(in alloc;
+                    "INSERT INTO appeal VALUES (1, 'X{number}', 'S1', 1, 'A', 0, 0, '', 3, 'No', '2027-05-01')"
+                )?
+            }
+        };
+        conn.execute_batch(sql.as_str())?;
+    }
+    Ok(check(alloc, &mut conn)?)
+}
+
+/// Whether so many more rows are good, and one more is one too many for the table.
+fn has_limit(alloc: Global, kind: &str, many: u32, table: Table) -> Result<bool, Fail> {
+    let within = found_of_many(alloc, kind, many)?;
+    let beyond = found_of_many(alloc, kind, many + 1)?;
+    Ok(within.is_none() && beyond == Some(table))
+}
+
+#[test]
+fn sessions_and_appeals_have_limits(rt: HostRuntime) -> Result<(), Fail> {
+    assert!(rt; has_limit(rt.alloc(), "session", 399, Table::Session)?);
+    assert!(rt; has_limit(rt.alloc(), "appeal", 64, Table::Appeal)?);
+    Ok(())
+}
+
+#[test]
+fn halls_and_openings_have_limits(rt: HostRuntime) -> Result<(), Fail> {
+    assert!(rt; has_limit(rt.alloc(), "hall", 498, Table::Hall)?);
+    assert!(rt; has_limit(rt.alloc(), "opening", 126, Table::Opening)?);
+    Ok(())
+}
+
+#[test]
+fn papers_have_a_limit(rt: HostRuntime) -> Result<(), Fail> {
+    assert_eq!(rt;
+        found_of_many(rt.alloc(), "paper", 2000)?,
+        Some(Table::Paper)
+    );
+    Ok(())
+}
+
+/// Doubles the three candidates so often, each entered for the paper.
+fn found_of_candidates(alloc: Global, doublings: u32) -> Result<Option<Table>, Fail> {
+    let mut conn = office_after(alloc, "")?;
+    let mut many: u32 = 3;
+    for _ in 0..doublings {
+        let sql = format!(in alloc;
+            "INSERT INTO candidate SELECT number + {many}, name, code FROM candidate"
+        )?;
+        conn.execute_batch(sql.as_str())?;
+        many = many.wrapping_mul(2);
+    }
+    conn.execute_batch(
+        "DELETE FROM seat; DELETE FROM entry; INSERT INTO entry SELECT number, 'MA-1', 1 FROM candidate",
+    )?;
+    Ok(check(alloc, &mut conn)?)
+}
+
+/// 6,144 candidates are more than a session may have, 24,576 more than an office may have.
+#[test]
+fn candidates_and_members_have_limits(rt: HostRuntime) -> Result<(), Fail> {
+    assert_eq!(rt; found_of_candidates(rt.alloc(), 11)?, Some(Table::Entry));
+    assert_eq!(rt;
+        found_of_candidates(rt.alloc(), 13)?,
+        Some(Table::Candidate)
+    );
+    Ok(())
+}
+
+#[test]
+fn an_older_office_is_refused(rt: HostRuntime) -> Result<(), Fail> {
+    for sql in ["", "; DELETE FROM seat", "; DROP TABLE seat"] {
+        let old = format!(in rt.alloc();
+            "DROP TABLE standing; UPDATE office SET version = 1{sql}"
+        )?;
+        let mut conn = office_after(rt.alloc(), old.as_str())?;
+        assert_eq!(rt;
+            check(rt.alloc(), &mut conn),
+            Err(Refusal::OldSchema),
+            "{sql}"
+        );
+    }
+    Ok(())
+}
+
+#[test]
+fn another_database_has_no_office(rt: HostRuntime) -> Result<(), Fail> {
+    let mut conn = Connection::open_in_memory(rt.alloc())?;
+    assert_eq!(rt; check(rt.alloc(), &mut conn), Ok(Some(Table::Office)));
+    conn.execute_batch("CREATE TABLE shelf (code TEXT NOT NULL, PRIMARY KEY (code)) STRICT")?;
+    assert_eq!(rt; check(rt.alloc(), &mut conn), Ok(Some(Table::Office)));
+    Ok(())
+}
+
+#[test]
+fn lines_name_the_table(rt: HostRuntime) -> Result<(), Fail> {
+    assert!(rt; check_line(None) == b"good\n".as_slice());
+    assert!(rt; check_line(Some(Table::Office)) == b"bad office\n".as_slice());
+    assert!(rt; check_line(Some(Table::Seat)) == b"bad seat\n".as_slice());
+    Ok(())
+}

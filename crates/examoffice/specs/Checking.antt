@@ -1,0 +1,40 @@
+-- What the command finds and prints that looks for the first bad table.
+use Rattle.std.specs.Prelude.{◌≡◌, ℕ, List, Option, None, Some, Result, Ok, Err}
+use Rattle.sqlite.specs.Held.{Held, state}
+use Rattle.sqlite.specs.State.{HasCleanDisk}
+use Rattle.sqlite_trees.specs.declared.store.Store.{Ghosts}
+use Rattle.sqlite_trees.specs.Tree.{Trees}
+use Rattle.sqlite_wal.specs.Recovery.{Image}
+use Rattle.exam_tables.specs.Made.{ContainsMade}
+use Rattle.exam_check.specs.FirstBad.{IsFirstBadTable}
+use Rattle.exam_check.specs.Lines.{check_text}
+use Rattle.exam_check.specs.declared.tables.Table.{Table}
+use Rattle.exam_job.specs.Printed.{Prints}
+use Rattle.exam_job.specs.declared.report.JobFault.{JobFault}
+use Rattle.examoffice.specs.Opening.{IsOver}
+
+-- the first bad table of the database that was there, as it was seen while the disk returned what was written
+abbrev pub FoundIn : {S : Type 0} → Ghosts S → Held S → Option Table → Type 0
+FoundIn {S} g was found =
+    (now : Held S) × (HasCleanDisk (state g now) → (all : Trees) → ContainsMade (state g was).now all
+    → IsFirstBadTable (state g was).now all found)
+
+-- that of the database that the files held
+abbrev pub FindsTable : {S : Type 0} → Ghosts S → Image → Option Table → Type 0
+FindsTable {S} g image found = (was : Held S) × IsOver g image was × FoundIn g was found
+
+-- 0 where there is none
+abbrev pub check_status : Option Table → ℕ
+check_status None = 0
+check_status (Some t) = 1
+
+-- the exit status where the line went out
+abbrev pub status_of : ℕ → Result (Unit {0}) JobFault → Result ℕ JobFault
+status_of status (Ok done) = Ok status
+status_of status (Err fault) = Err fault
+
+-- the line for the table, or for none, and the exit status
+abbrev pub TellsTable : {W : Type 0} → (W → Option (List ℕ)) → Option Table → W → Result ℕ JobFault → W → Type 0
+TellsTable contents found before result after =
+    (printed : Result (Unit {0}) JobFault) × Prints contents (check_text found) before printed after
+    × (result ≡ status_of (check_status found) printed)
