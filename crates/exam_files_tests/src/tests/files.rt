@@ -223,12 +223,7 @@ fn a_record_that_contradicts_an_earlier_one_is_refused(rt: HostRuntime) -> Resul
 }
 
 /// Compares what is told of a file.
-fn expect<R: Abort + AllocGlobal>(
-    rt: &R,
-    kind: Kind,
-    file: &[u8],
-    told: &str,
-) -> Result<(), Fail> {
+fn expect<R: Abort + AllocGlobal>(rt: &R, kind: Kind, file: &[u8], told: &str) -> Result<(), Fail> {
     let mut office = Office::empty(rt.alloc());
     let found = imported(rt.alloc(), &mut office, kind, file)?;
     assert_eq!(rt; found.as_str(), told);

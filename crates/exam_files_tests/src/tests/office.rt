@@ -76,11 +76,13 @@ fn refused(alloc: Global, refusal: Refusal) -> Result<String, Fail> {
 pub fn taken(alloc: Global, office: &mut Office, command: &Command) -> Result<String, Fail> {
     let today = Day::parse(b"2027-05-30").ok_or("day")?;
     match step(alloc, office, command, today) {
-        Ok(Reply::Imported {
-            added,
-            changed,
-            same,
-        }) => Ok(format!(in alloc; "> added {added} changed {changed} same {same}\n")?),
+        Ok(
+            Reply::Imported {
+                added,
+                changed,
+                same,
+            },
+        ) => Ok(format!(in alloc; "> added {added} changed {changed} same {same}\n")?),
         Ok(_) => Ok(String::from_str(alloc, "> done\n")?),
         Err(refusal) => refused(alloc, refusal),
     }
@@ -135,11 +137,7 @@ fn file_of(rest: &str) -> &str {
 }
 
 /// Plays a text at the office, and compares what is told with it.
-pub fn played<R: Abort + AllocGlobal>(
-    rt: &R,
-    office: &mut Office,
-    text: &str,
-) -> Result<(), Fail> {
+pub fn played<R: Abort + AllocGlobal>(rt: &R, office: &mut Office, text: &str) -> Result<(), Fail> {
     for part in text.split("$ ").skip(1) {
         let (line, rest) = part.split_once('\n').ok_or("line")?;
         let told = told(rt.alloc(), office, line, file_of(rest))?;

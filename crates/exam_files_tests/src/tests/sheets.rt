@@ -165,7 +165,10 @@ fn view<R: Abort + AllocGlobal>(rt: &R) -> Result<SessionView, Fail> {
     played(rt, &mut office, BASE)?;
     played(rt, &mut office, ENTERED)?;
     let lodge = Command::Lodge(lodging(rt.alloc())?);
-    assert_eq!(rt; taken(rt.alloc(), &mut office, &lodge)?.as_str(), "> done\n");
+    assert_eq!(rt;
+        taken(rt.alloc(), &mut office, &lodge)?.as_str(),
+        "> done\n"
+    );
     view_of(rt.alloc(), &office)
 }
 
