@@ -27,9 +27,9 @@ use Rattle.exam_check.specs.declared.reading.Timetable.{Timetable}
 
 -- what the loads of this product's tables have in common: keys are told apart as in SQL, the text is one of the
 -- eleven, and it shows the rows of the newest tables
-pub record IsOurTable {K X : Type 0} (cmp : K → K → Ordering) (key : List ℕ) (row : K → X → Row) (key_of : K → Row)
+pub record IsOurTable {K X : Type 0} (cmp : K → K → Ordering) (key : List ℕ) (row : K → X → Row)
     (text : List ℕ) (Holds : Database → Trees → Type 0) : Type 0 where
-  pub keys : KeysMatch cmp key row key_of
+  pub keys : KeysMatch cmp key row
   pub loads : lists.Contains load_texts text
   pub newest : (db : Database) (all : Trees) → Contains db all → Holds db all
 

@@ -4,24 +4,18 @@ use Rattle.sqlite.specs.Held.{Held, state}
 use Rattle.sqlite.specs.State.{HasCleanDisk}
 use Rattle.sqlite_trees.specs.declared.store.Store.{Ghosts}
 use Rattle.sqlite_trees.specs.Tree.{Trees}
-use Rattle.sqlite_wal.specs.Recovery.{Image}
 use Rattle.exam_tables.specs.Made.{ContainsMade}
 use Rattle.exam_check.specs.FirstBad.{IsFirstBadTable}
 use Rattle.exam_check.specs.Lines.{check_text}
 use Rattle.exam_check.specs.declared.tables.Table.{Table}
 use Rattle.exam_job.specs.Printed.{Prints}
 use Rattle.exam_job.specs.declared.report.JobFault.{JobFault}
-use Rattle.examoffice.specs.Opening.{IsOver}
 
 -- the first bad table of the database that was there, as it was seen while the disk returned what was written
 abbrev pub FoundIn : {S : Type 0} → Ghosts S → Held S → Option Table → Type 0
 FoundIn {S} g was found =
     (now : Held S) × (HasCleanDisk (state g now) → (all : Trees) → ContainsMade (state g was).now all
     → IsFirstBadTable (state g was).now all found)
-
--- that of the database that the files held
-abbrev pub FindsTable : {S : Type 0} → Ghosts S → Image → Option Table → Type 0
-FindsTable {S} g image found = (was : Held S) × IsOver g image was × FoundIn g was found
 
 -- 0 where there is none
 abbrev pub check_status : Option Table → ℕ

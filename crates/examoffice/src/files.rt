@@ -1,5 +1,5 @@
 //! The database and the import file at a path.
-ghost use Rattle.std.specs.Prelude.{◌≡◌, ◌≢◌, ◌⊎◌, false, IfOk, IfErr, IsTrue};
+ghost use Rattle.std.specs.Prelude.{◌≡◌, ◌≢◌, false, IfOk, IfErr, IsTrue};
 ghost use Rattle.sqlite.specs.State.{HasCleanDisk};
 ghost use Rattle.sqlite.specs.Files.{file_state, over_files, IsBlankAs};
 ghost use Rattle.sqlite_store.specs.FileStore.{view};
@@ -11,7 +11,7 @@ ghost use Rattle.exam_store.specs.Found.{Finds, is_open_refusal};
 ghost use Rattle.exam_store.specs.Kept.{KeepsOurs};
 ghost use Rattle.exam_check.specs.Refused.{is_check_refusal};
 ghost use Rattle.exam_job.specs.Reading.{IsReadFault};
-ghost use Rattle.examoffice.specs.Checking.{FindsTable, FoundIn, TellsTable};
+ghost use Rattle.examoffice.specs.Checking.{FoundIn, TellsTable};
 ghost use Rattle.examoffice.specs.Opening.{IsOver, MakesIn, OpensIn, opening_refusal};
 
 use exam_check::{Table, check, check_line};
@@ -120,21 +120,12 @@ pub fn check_file<S: Start, O: Write>(
     start: S,
     out: &mut O,
 ) -> Result<u8, JobFault> {
-    let found = first_bad_at(rt, path, start)?;
+    let found = match open_present(rt, path, start) {
+        Ok(conn) => check_over(rt.alloc(), conn)?,
+        Err(Refusal::BadStore) => Some(Table::Office),
+        Err(refusal) => return Err(JobFault::Refused(refusal)),
+    };
     tell_table(found, out)
-}
-
-/// The first bad table of the database at the path.
-fn first_bad_at<S: Start>(rt: &HostRuntime, path: &str, start: S) -> Result<Option<Table>, Refusal>
-    ensures found { IfOk result (λ found. (found ≡ Some Table.Office)
-        ⊎ FindsTable over_files (image_at S.Start) found) }
-    ensures told { IfErr result (λ refusal. IsTrue (is_check_refusal refusal)) }
-{
-    match open_present(rt, path, start) {
-        Ok(conn) => check_over(rt.alloc(), conn),
-        Err(Refusal::BadStore) => Ok(Some(Table::Office)),
-        Err(refusal) => Err(refusal),
-    }
 }
 
 /// Opens the database at the path. Refused as a bad store where nothing is, or what is no database.
