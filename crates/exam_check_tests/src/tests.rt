@@ -256,24 +256,24 @@ fn found_of_many(alloc: Global, kind: &str, many: u32) -> Result<Option<Table>, 
     Ok(check(alloc, &mut conn)?)
 }
 
-/// Whether so many more rows are good, and one more is one too many for the table.
-fn has_limit(alloc: Global, kind: &str, many: u32, table: Table) -> Result<bool, Fail> {
-    let within = found_of_many(alloc, kind, many)?;
-    let beyond = found_of_many(alloc, kind, many + 1)?;
+/// Whether so many more rows are one too many for the table, and one fewer is good.
+fn has_limit(alloc: Global, kind: &str, too_many: u32, table: Table) -> Result<bool, Fail> {
+    let within = found_of_many(alloc, kind, too_many.saturating_sub(1))?;
+    let beyond = found_of_many(alloc, kind, too_many)?;
     Ok(within.is_none() && beyond == Some(table))
 }
 
 #[test]
 fn sessions_and_appeals_have_limits(rt: HostRuntime) -> Result<(), Fail> {
-    assert!(rt; has_limit(rt.alloc(), "session", 399, Table::Session)?);
-    assert!(rt; has_limit(rt.alloc(), "appeal", 64, Table::Appeal)?);
+    assert!(rt; has_limit(rt.alloc(), "session", 400, Table::Session)?);
+    assert!(rt; has_limit(rt.alloc(), "appeal", 65, Table::Appeal)?);
     Ok(())
 }
 
 #[test]
 fn halls_and_openings_have_limits(rt: HostRuntime) -> Result<(), Fail> {
-    assert!(rt; has_limit(rt.alloc(), "hall", 498, Table::Hall)?);
-    assert!(rt; has_limit(rt.alloc(), "opening", 126, Table::Opening)?);
+    assert!(rt; has_limit(rt.alloc(), "hall", 499, Table::Hall)?);
+    assert!(rt; has_limit(rt.alloc(), "opening", 127, Table::Opening)?);
     Ok(())
 }
 
