@@ -219,7 +219,10 @@ fn chain_goes_on_from_hall_127_to_hall_128(rt: HostRuntime) -> Result<(), Fail> 
     let masks = [[1 << 127, 1], [0, 3], [1 << 127, 0]];
     let problem = masked_problem(rt.alloc(), 130, masks.as_slice())?;
     let (plan, dead) = swept_dead(rt.alloc(), &problem)?;
-    assert_eq!(rt; plan.as_slice(), [Some(128), Some(129), Some(127)].as_slice());
+    assert_eq!(rt;
+        plan.as_slice(),
+        [Some(128), Some(129), Some(127)].as_slice()
+    );
     assert_eq!(rt; dead.len(), 0);
     Ok(())
 }
@@ -234,7 +237,10 @@ fn halls_126_to_130_alone_fit(rt: HostRuntime) -> Result<(), Fail> {
     );
     assert_eq!(rt; dead.as_slice(), [126, 127, 128, 129, 130].as_slice());
     let short = shortage(rt.alloc(), &problem, &swept(rt.alloc(), &problem)?)?;
-    assert_eq!(rt; short.halls.as_slice(), [126, 127, 128, 129, 130].as_slice());
+    assert_eq!(rt;
+        short.halls.as_slice(),
+        [126, 127, 128, 129, 130].as_slice()
+    );
     assert!(rt; short.unseated == 1 && counts_to(&short.candidates, 6));
     Ok(())
 }
