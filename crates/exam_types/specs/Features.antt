@@ -13,6 +13,7 @@ feature_names =
     ∷ codes "reader"
     ∷ codes "small-room"
     ∷ codes "computer"
+    ∷ codes "quiet"
     ∷ []
 
 -- for each name, whether it is in the set

@@ -20,6 +20,7 @@ const NAMES: &[&[u8]] = &[
     b"reader",
     b"small-room",
     b"computer",
+    b"quiet",
 ];
 
 /// The sum of the set of all features.
