@@ -1,16 +1,7 @@
-//! Import files and sheets by example, and writers that fail.
-mod attendances;
-mod bad_files;
-mod bad_headers;
-mod bad_records;
-mod door_lists;
-mod forms;
-mod kinds;
-mod offices;
-mod reading;
-mod registers;
+//! Import files and sheets by example, sheets to writers that take little at a time or fail, and registers from sources
+//! that do not keep their word.
+mod files;
+mod office;
 mod sheets;
-mod shortage_sheets;
 mod slow;
 mod streams;
-mod writers;

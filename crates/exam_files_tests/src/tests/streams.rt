@@ -1,5 +1,5 @@
 //! Registers whose rows come one by one, from a source that keeps its word and from others.
-use super::reading::session;
+use super::office::session;
 use super::slow::Slow;
 use exam_files::{SheetFault, register_stream};
 use exam_office::{AppealRow, AppealSource, AppealState, ListedAppeals};
@@ -58,6 +58,9 @@ fn row() -> Option<AppealRow> {
 
 const LINE: &[u8] = b"0000001 HA1              hall        open       2027-05-30 B\n";
 
+/// The bytes of the heading.
+const HEADING: usize = 29;
+
 /// What a writer with so much room takes of a register of that count from the source, and the answer.
 fn streamed<A: AppealSource>(
     alloc: Global,
@@ -65,8 +68,9 @@ fn streamed<A: AppealSource>(
     count: u32,
     room: usize,
 ) -> Result<(Result<(), SheetFault>, Vec<u8>), Fail> {
+    let session = session().ok_or("session")?;
     let mut out = Slow::new(alloc, 7, room);
-    let answer = register_stream(alloc, &session(b"S1")?, count, source, &mut out);
+    let answer = register_stream(alloc, &session, count, source, &mut out);
     let Slow { taken, .. } = out;
     Ok((answer, taken))
 }
@@ -81,56 +85,55 @@ fn a_register_of_rows_in_memory_has_a_line_for_each(rt: HostRuntime) -> Result<(
         text.as_slice()
             .starts_with(b"APPEALS session S1\nappeals 2\n0000001 HA1 ")
     );
-    assert!(rt; text.as_slice().ends_with(LINE));
-    assert_eq!(rt; text.len(), 29 + 2 * LINE.len());
+    assert!(rt; text.as_slice().ends_with(LINE) && text.len() == HEADING + 2 * LINE.len());
     Ok(())
 }
 
-#[test]
-fn no_more_rows_are_asked_for_than_were_counted(rt: HostRuntime) -> Result<(), Fail> {
-    let mut source = Careless {
-        left: 5,
-        end: End::Over,
-    };
-    let (answer, text) = streamed(rt.alloc(), &mut source, 2, 1000)?;
-    assert!(rt; answer == Ok(()));
-    assert_eq!(rt; text.len(), 29 + 2 * LINE.len());
-    assert_eq!(rt; source.left, 3);
-    Ok(())
+/// How many rows a source gives and how it ends, how many were counted, the refusal or 0, how many bytes go out in a
+/// heading of 29 and lines of 61, and how many rows are left.
+type Given = (u32, End, u32, u16, usize, u32);
+
+/// No more rows are asked for than were counted, one that ends early is a bad store, and a refusal is handed on.
+const GIVEN: &[Given] = &[
+    (5, End::Over, 2, 0, 151, 3),
+    (1, End::Over, 2, 24, 90, 0),
+    (1, End::Lost, 3, 23, 90, 0),
+];
+
+/// The number of the refusal, 0 of none, and 42 where the writer fails.
+fn number_of(answer: Result<(), SheetFault>) -> u16 {
+    match answer {
+        Ok(()) => 0,
+        Err(SheetFault::Refused(refusal)) => refusal.number(),
+        Err(SheetFault::Write) => 42,
+    }
 }
 
 #[test]
-fn a_source_that_ends_early_is_a_bad_store(rt: HostRuntime) -> Result<(), Fail> {
-    let mut source = Careless {
-        left: 1,
-        end: End::Over,
-    };
-    let (answer, text) = streamed(rt.alloc(), &mut source, 2, 1000)?;
-    assert!(rt; answer == Err(SheetFault::Refused(Refusal::BadStore)));
-    assert_eq!(rt; text.len(), 29 + LINE.len());
-    Ok(())
-}
-
-#[test]
-fn what_the_source_refuses_is_handed_on(rt: HostRuntime) -> Result<(), Fail> {
-    let mut source = Careless {
-        left: 1,
-        end: End::Lost,
-    };
-    let (answer, text) = streamed(rt.alloc(), &mut source, 3, 1000)?;
-    assert!(rt; answer == Err(SheetFault::Refused(Refusal::Store)));
-    assert_eq!(rt; text.len(), 29 + LINE.len());
+fn a_source_that_gives_another_count_is_told(rt: HostRuntime) -> Result<(), Fail> {
+    for (given, end, count, wanted, length, left) in GIVEN {
+        let mut source = Careless {
+            left: *given,
+            end: *end,
+        };
+        let (answer, text) = streamed(rt.alloc(), &mut source, *count, 1000)?;
+        assert_eq!(rt;
+            (number_of(answer), text.len()),
+            (*wanted, *length),
+            "{given}"
+        );
+        assert_eq!(rt; source.left, *left, "{given}");
+    }
     Ok(())
 }
 
 #[test]
 fn a_register_is_cut_where_its_writer_fails(rt: HostRuntime) -> Result<(), Fail> {
-    for room in 0..29 + LINE.len() {
+    for room in 0..HEADING + LINE.len() {
         let rows = [row().ok_or("row")?];
         let mut source = ListedAppeals { rows: &rows };
         let (answer, text) = streamed(rt.alloc(), &mut source, 1, room)?;
-        assert!(rt; answer == Err(SheetFault::Write));
-        assert_eq!(rt; text.len(), room);
+        assert!(rt; answer == Err(SheetFault::Write) && text.len() == room);
     }
     Ok(())
 }
