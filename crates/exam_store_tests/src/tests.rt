@@ -1,76 +1,92 @@
 //! An office as the rows of its tables.
-mod appeals;
 mod doctored;
 mod lists;
 mod migrating;
 mod opening;
-mod stopping;
 
 use exam_store::Store;
-use exam_types::Refusal;
 use sqlite::{Connection, MemStore};
 use std::alloc::Global;
+use std::process::Abort;
 use std::test::Fail;
 
+/// The number of the refusal of tables that hold no office.
+const BAD_STORE: u16 = 24;
+
 /// One session with one paper, two halls with a desk each, and three candidates.
-const BASE: [&str; 9] = [
-    "INSERT INTO session VALUES ('S1', '2027-06-01', 540)",
-    "INSERT INTO paper VALUES ('MA-1', 'Maths', 'S1', 60, 0)",
-    "INSERT INTO hall VALUES ('A', 'Hall A', 1)",
-    "INSERT INTO hall VALUES ('B', 'Hall B', 0)",
-    "INSERT INTO opening VALUES ('S1', 'A', 1, 720, 0)",
-    "INSERT INTO opening VALUES ('S1', 'B', 1, 720, 0)",
-    "INSERT INTO candidate VALUES (1, 'Bo Berg', 'CODE0001')",
-    "INSERT INTO candidate VALUES (2, 'Ada Lin', 'CODE0002')",
-    "INSERT INTO candidate VALUES (3, 'Cy Dahl', 'CODE0003')",
-];
+const BASE: &str = "\
+INSERT INTO session VALUES ('S1', '2027-06-01', 540);
+INSERT INTO paper VALUES ('MA-1', 'Maths', 'S1', 60, 0);
+INSERT INTO hall VALUES ('A', 'Hall A', 1), ('B', 'Hall B', 0);
+INSERT INTO opening VALUES ('S1', 'A', 1, 720, 0), ('S1', 'B', 1, 720, 0);
+INSERT INTO candidate VALUES (1, 'Bo Berg', 'CODE0001'), (2, 'Ada Lin', 'CODE0002'), (3, 'Cy Dahl', 'CODE0003')";
 
 /// The first candidate is entered, and has the desk of hall A.
-const FIRST_SEATED: [&str; 2] = [
-    "INSERT INTO entry VALUES (1, 'MA-1', 1)",
-    "INSERT INTO seat VALUES ('S1', 1, 'A')",
-];
+const FIRST_SEATED: &str = "\
+INSERT INTO entry VALUES (1, 'MA-1', 1);
+INSERT INTO seat VALUES ('S1', 1, 'A')";
 
-/// A closed office in memory with these rows.
-fn office_of(alloc: Global, rows: &[&str]) -> Result<Connection<MemStore>, Fail> {
-    let mut conn = Store::in_memory(alloc)?.close();
-    for sql in rows {
-        conn.execute(sql, &[])?;
-    }
+/// Runs statements over a connection.
+fn after(conn: Connection<MemStore>, sql: &str) -> Result<Connection<MemStore>, Fail> {
+    let mut conn = conn;
+    conn.execute_batch(sql)?;
     Ok(conn)
 }
 
-/// The base office.
-fn base_office(alloc: Global) -> Result<Connection<MemStore>, Fail> {
-    office_of(alloc, &BASE)
+/// A closed empty office in memory.
+fn empty_office(alloc: Global) -> Result<Connection<MemStore>, Fail> {
+    Ok(Store::in_memory(alloc)?.close())
+}
+
+/// A closed office in memory after these statements.
+fn office_of(alloc: Global, statements: &[&str]) -> Result<Connection<MemStore>, Fail> {
+    let mut conn = empty_office(alloc)?;
+    for sql in statements {
+        conn = after(conn, sql)?;
+    }
+    Ok(conn)
 }
 
 /// The base office with its first candidate seated.
 fn seated_office(alloc: Global) -> Result<Connection<MemStore>, Fail> {
-    let mut conn = base_office(alloc)?;
-    for sql in FIRST_SEATED {
-        conn.execute(sql, &[])?;
-    }
-    Ok(conn)
+    office_of(alloc, &[BASE, FIRST_SEATED])
 }
 
-/// The refusal of opening what this connection holds after these statements, if it is refused.
-fn refusal_after(
-    alloc: Global,
-    mut conn: Connection<MemStore>,
-    sql: &str,
-) -> Result<Option<Refusal>, Fail> {
-    conn.execute_batch(sql)?;
-    Ok(refusal_of_opening(alloc, conn))
-}
-
-/// The refusal of opening what this connection holds, if it is refused.
-fn refusal_of_opening(alloc: Global, conn: Connection<MemStore>) -> Option<Refusal> {
+/// The number of the refusal of opening what this connection holds, or 0 if it is opened.
+fn refusal_of_opening(alloc: Global, conn: Connection<MemStore>) -> u16 {
     match Store::open(alloc, conn) {
-        Ok(_) => None,
+        Ok(_) => 0,
         Err((refusal, conn)) => {
             drop(conn);
-            Some(refusal)
+            refusal.number()
         }
     }
+}
+
+/// The number of the refusal of making an office in what this connection holds, or 0 if it is made.
+fn refusal_of_creating(alloc: Global, conn: Connection<MemStore>) -> u16 {
+    match Store::create(alloc, conn) {
+        Ok(_) => 0,
+        Err((refusal, conn)) => {
+            drop(conn);
+            refusal.number()
+        }
+    }
+}
+
+/// Compares the number of the refusal, 0 of none, of opening an office of these rows after a line of statements and
+/// those that come then, for each line.
+fn expect_each<R: Abort + AllocGlobal>(
+    rt: &R,
+    rows: &[&str],
+    lines: &str,
+    then: &str,
+    refusal: u16,
+) -> Result<(), Fail> {
+    for sql in lines.lines() {
+        let conn = after(office_of(rt.alloc(), rows)?, sql)?;
+        let found = refusal_of_opening(rt.alloc(), after(conn, then)?);
+        assert_eq!(rt; found, refusal, "{sql}");
+    }
+    Ok(())
 }
