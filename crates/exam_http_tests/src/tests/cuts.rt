@@ -1,7 +1,7 @@
-//! A posting that fails at each of its bytes, and one whose answer does.
+//! Requests that fail at each of their bytes, and answers that do.
 use super::client::{Giving, serve};
 use super::exchanges::{LAST_DAY, LODGED, ONE_APPEAL, expect_answer};
-use super::office::{FIRST_IN_B, office_with};
+use super::office::{FIRST_IN_A, FIRST_IN_B, office_with};
 use exam_http::HttpFault;
 use exam_store::Store;
 use sqlite::MemStore;
@@ -17,8 +17,11 @@ Content-Length: 65\r\n\r\n{\"hall\":\"B\",\"kind\":\"hall\",\"reason\":\"\",\"re
 const ANSWER: &[u8] = b"HTTP/1.1 200 OK\r\nContent-Type: application/json\r\nContent-Length: 16\r\n\
 Connection: close\r\n\r\n{\"state\":\"open\"}";
 
-/// What becomes of a posting that fails behind these bytes, and what goes out where so many bytes are taken.
-fn post(
+/// More bytes than an answer has.
+const UNLIMITED: usize = 1_000_000;
+
+/// What becomes of a request that fails behind these bytes, and what goes out where so many bytes are taken.
+fn sent(
     alloc: Global,
     store: &mut Store<MemStore>,
     given: &[u8],
@@ -32,14 +35,52 @@ fn post(
     serve(alloc, store, LAST_DAY, request, most)
 }
 
-#[test]
-fn a_posting_that_is_cut_changes_nothing(rt: HostRuntime) -> Result<(), Fail> {
-    let mut store = office_with(rt.alloc(), FIRST_IN_B)?;
-    for given in 0..POSTING.len() {
-        let (served, taken) = post(rt.alloc(), &mut store, &POSTING[..given], ANSWER.len())?;
+/// The request fails behind each number of its bytes: nothing is answered.
+fn expect_unread<R: Abort + AllocGlobal>(
+    rt: &R,
+    store: &mut Store<MemStore>,
+    request: &[u8],
+) -> Result<(), Fail> {
+    for given in 0..request.len() {
+        let (served, taken) = sent(rt.alloc(), store, &request[..given], UNLIMITED)?;
         assert!(rt; served == Err(HttpFault::Read), "{given}");
         assert!(rt; taken.is_empty(), "{given}");
     }
+    Ok(())
+}
+
+/// The answer is lost behind so many bytes.
+fn expect_cut<R: Abort + AllocGlobal>(
+    rt: &R,
+    store: &mut Store<MemStore>,
+    (request, answer): (&[u8], &[u8]),
+    most: usize,
+) -> Result<(), Fail> {
+    let (served, taken) = sent(rt.alloc(), store, request, most)?;
+    assert!(rt; served == Err(HttpFault::Write), "{most}");
+    assert!(rt;
+        taken.len() == most && answer.starts_with(taken.as_slice()),
+        "{most}"
+    );
+    Ok(())
+}
+
+/// The answer is lost behind each number of its bytes.
+fn expect_unwritten<R: Abort + AllocGlobal>(
+    rt: &R,
+    store: &mut Store<MemStore>,
+    exchange: (&[u8], &[u8]),
+) -> Result<(), Fail> {
+    for most in 0..exchange.1.len() {
+        expect_cut(rt, store, exchange, most)?;
+    }
+    Ok(())
+}
+
+#[test]
+fn a_posting_that_is_cut_changes_nothing(rt: HostRuntime) -> Result<(), Fail> {
+    let mut store = office_with(rt.alloc(), FIRST_IN_B)?;
+    expect_unread(&rt, &mut store, POSTING)?;
     assert_eq!(rt; appeal_count(store)?, 0);
     Ok(())
 }
@@ -48,28 +89,49 @@ fn a_posting_that_is_cut_changes_nothing(rt: HostRuntime) -> Result<(), Fail> {
 #[test]
 fn an_appeal_stands_whose_answer_is_cut(rt: HostRuntime) -> Result<(), Fail> {
     let mut store = office_with(rt.alloc(), FIRST_IN_B)?;
-    expect_cut(&rt, &mut store, 10)?;
+    expect_cut(&rt, &mut store, (POSTING, ANSWER), 10)?;
     expect_answer(&rt, &mut store, LODGED)?;
-    for most in 0..ANSWER.len() {
-        expect_cut(&rt, &mut store, most)?;
-    }
+    expect_unwritten(&rt, &mut store, (POSTING, ANSWER))?;
     expect_answer(&rt, &mut store, ONE_APPEAL)?;
     assert_eq!(rt; appeal_count(store)?, 1);
     Ok(())
 }
 
-/// Posts the appeal, and loses the answer behind so many bytes.
-fn expect_cut<R: Abort + AllocGlobal>(
-    rt: &R,
-    store: &mut Store<MemStore>,
-    most: usize,
-) -> Result<(), Fail> {
-    let (served, taken) = post(rt.alloc(), store, POSTING, most)?;
-    assert!(rt; served == Err(HttpFault::Write), "{most}");
-    assert!(rt;
-        taken.len() == most && ANSWER.starts_with(taken.as_slice()),
-        "{most}"
-    );
+/// Requests that are answered with rows, refused, or faults.
+const REQUESTS: &[(&str, &str)] = &[
+    (
+        asked!("GET /candidates/0000001/seats"),
+        answered!(
+            "200 OK",
+            138,
+            "{\"seats\":[{\"date\":\"2027-06-01\",\"desk\":1,\"extra\":0,\"finish\":\"10:00\",\"hall\":\"A\",\"needs\":\"-\",\"paper\":\"MA-1\",\"session\":\"S1\",\"start\":\"09:00\"}]}"
+        ),
+    ),
+    (
+        asked!("DELETE /candidates/0000001/appeals/HA1"),
+        answered!("404 Not Found", 12, "{\"error\":15}"),
+    ),
+    (
+        asked!("GET /candidates/9999999/seats"),
+        answered!("404 Not Found", 11, "{\"error\":6}"),
+    ),
+    (
+        "GET /candidates/0000001/seats HTTP/1.1\r\nExam-Code: CODE0001\r\n\r\n",
+        answered!("400 Bad Request", 12, "{\"error\":32}"),
+    ),
+    (
+        posted!(2, "{}"),
+        answered!("400 Bad Request", 12, "{\"error\":36}"),
+    ),
+];
+
+#[test]
+fn each_read_and_each_write_may_fail(rt: HostRuntime) -> Result<(), Fail> {
+    let mut store = office_with(rt.alloc(), FIRST_IN_A)?;
+    for (request, answer) in REQUESTS {
+        expect_unread(&rt, &mut store, request.as_bytes())?;
+        expect_unwritten(&rt, &mut store, (request.as_bytes(), answer.as_bytes()))?;
+    }
     Ok(())
 }
 
