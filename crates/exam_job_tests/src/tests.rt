@@ -1,36 +1,41 @@
-//! Short days at a small office, through all layers over a database in memory.
+//! Short days at a small office, through all layers over a database in memory, as texts that are played.
+//!
+//! In the text of a day `$ ` begins a command of the program, a candidate's request, or `sql` over the tables. The day
+//! of a command or a request stands behind `on` where it counts. The lines below are its import file, its body or its
+//! statement. Behind `> ` stands what it prints, shows or is answered, and behind `! ` what a refused command prints
+//! on the error output. The office is closed and opened anew before each command.
 mod appeals;
 mod closing;
 mod imports;
 mod kept_rows;
 mod line_faults;
 mod outputs;
-mod reopening;
 mod seating;
 mod standing;
+mod tables;
 
 use exam_http::serve_one;
 use exam_job::run_job;
-use exam_line::parse_line;
-use exam_store::Store;
-use exam_types::Day;
-use sqlite::{Alter, MemStore};
+use exam_line::{Line, parse_line};
+use exam_store::{Store, migrate};
+use exam_types::{Day, Refusal};
+use sqlite::{Alter, Connection, MemStore};
 use std::alloc::{AllocError, Global};
 use std::io::{Read, Write};
 use std::process::Abort;
 use std::str;
 use std::test::Fail;
 
-/// The day of a row that names none.
+/// The day of a command that names none.
 const MAY_1: &str = "2027-05-01";
 
-/// The words of a row, and its day, which may be named behind them.
-fn parted(row: &str) -> (&str, &str) {
-    row.split_once(" on ").unwrap_or((row, MAY_1))
+/// A command, and its day, which may be named behind it.
+fn parted(line: &str) -> (&str, &str) {
+    line.split_once(" on ").unwrap_or((line, MAY_1))
 }
 
-fn words_of(alloc: Global, row: &str) -> Result<Vec<String>, AllocError> {
-    let (line, day) = parted(row);
+fn words_of(alloc: Global, line: &str) -> Result<Vec<String>, AllocError> {
+    let (line, day) = parted(line);
     let mut words = Vec::new(alloc);
     for word in ["examoffice", "--db", "f", "--today", day] {
         words.push(String::from_str(alloc, word)?)?;
@@ -41,181 +46,300 @@ fn words_of(alloc: Global, row: &str) -> Result<Vec<String>, AllocError> {
     Ok(words)
 }
 
+/// Runs the program's command. Gives the exit status.
+fn run_line<S: Alter, R: Read, O: Write>(
+    alloc: Global,
+    store: &mut Store<S>,
+    line: &Line<'_>,
+    file: &mut R,
+    out: &mut O,
+    err: &mut Vec<u8>,
+) -> u8 {
+    run_job(alloc, line, store, file, out, err)
+}
+
 /// Runs the program's command over the store, an import file and a standard output. Gives the exit status, and what
 /// went to the error output.
 fn run<S: Alter, R: Read, O: Write>(
     alloc: Global,
     store: &mut Store<S>,
-    row: &str,
+    line: &str,
     file: &mut R,
     out: &mut O,
 ) -> Result<(u8, Vec<u8>), Fail> {
-    let words = words_of(alloc, row)?;
+    let words = words_of(alloc, line)?;
     let mut err = Vec::new(alloc);
-    match parse_line(alloc, words.as_slice()) {
-        Ok(line) => Ok((run_job(alloc, &line, store, file, out, &mut err), err)),
-        Err(_) => Ok((2, err)),
+    let status = match parse_line(alloc, words.as_slice()) {
+        Ok(line) => run_line(alloc, store, &line, file, out, &mut err),
+        Err(_) => 2,
+    };
+    Ok((status, err))
+}
+
+/// The bytes of a candidate's request with this body. Their access code is `CODE0001` for the target
+/// `/candidates/0000001/appeals`.
+fn request_of(alloc: Global, line: &str, body: &str) -> Result<String, Fail> {
+    let (_, target) = line.split_once("/candidates/000").ok_or("target")?;
+    let (code, _) = target.split_once('/').ok_or("target")?;
+    let length = body.len();
+    Ok(format!(in alloc;
+        "{line} HTTP/1.0\r\nExam-Code: CODE{code}\r\nContent-Length: {length}\r\n\r\n{body}"
+    )?)
+}
+
+/// Serves a request. Gives the bytes of the answer.
+fn served<S: Alter>(
+    alloc: Global,
+    store: &mut Store<S>,
+    today: Day,
+    request: &str,
+) -> Result<Vec<u8>, Fail> {
+    let mut reader = request.as_bytes();
+    let mut answer = Vec::new(alloc);
+    match serve_one(alloc, store, today, &mut reader, &mut answer) {
+        Ok(()) => Ok(answer),
+        Err(_) => Err(Fail::new("a fault")),
     }
 }
 
-/// Asks the server as the candidate of a target such as `/candidates/0000001/appeals`, whose access code is then
-/// `CODE0001`, with the bytes as the body. Gives the body of the answer.
+/// The body of an answer, as a line behind the mark of what is printed.
+fn body_of(alloc: Global, answer: &[u8]) -> Result<String, Fail> {
+    let (_, body) = str::from_utf8(answer)?
+        .split_once("\r\n\r\n")
+        .ok_or("body")?;
+    Ok(format!(in alloc; "> {body}\n")?)
+}
+
+/// Asks the server as a candidate. Gives the body of the answer.
 fn ask<S: Alter>(
     alloc: Global,
     store: &mut Store<S>,
-    row: &str,
-    posted: &[u8],
-) -> Result<Vec<u8>, Fail> {
-    let (line, day) = parted(row);
+    line: &str,
+    body: &str,
+) -> Result<String, Fail> {
+    let (line, day) = parted(line);
     let today = Day::parse(day.as_bytes()).ok_or("day")?;
-    let (_, target) = line.split_once("/candidates/000").ok_or("target")?;
-    let (code, _) = target.split_once('/').ok_or("target")?;
-    let length = posted.len();
-    let head = format!(in alloc;
-        "{line} HTTP/1.0\r\nExam-Code: CODE{code}\r\nContent-Length: {length}\r\n\r\n"
-    )?;
-    let mut request = Vec::from_slice(alloc, head.as_str().as_bytes())?;
-    request.extend_from_slice(posted)?;
-    let mut reader = request.as_slice();
-    let mut answer = Vec::new(alloc);
-    serve_one(alloc, store, today, &mut reader, &mut answer)?;
-    let (_, body) = str::from_utf8(answer.as_slice())?
-        .split_once("\r\n\r\n")
-        .ok_or("body")?;
-    Ok(Vec::from_slice(alloc, body.as_bytes())?)
+    let request = request_of(alloc, line, body.trim_end())?;
+    let answer = served(alloc, store, today, request.as_str())?;
+    body_of(alloc, answer.as_slice())
 }
 
-/// A command or a candidate's request, both with the day behind `on` where it counts; its import file or body; and what
-/// it prints: on standard output or in the body of the answer, and on the error output where a command is refused.
-type Row<'a> = (&'a str, &'a str, Result<&'a str, &'a str>);
+/// What a command printed, behind the mark that a text has for its status and its two outputs.
+fn marked(alloc: Global, status: u8, out: &[u8], err: &[u8]) -> Result<String, Fail> {
+    let mark = match (status, out.is_empty(), err.is_empty()) {
+        (0, _, true) => ">",
+        (1, true, false) => "!",
+        _ => "?",
+    };
+    let out = str::from_utf8(out)?;
+    let err = str::from_utf8(err)?;
+    Ok(format!(in alloc; "{mark} {out}{err}")?)
+}
+
+/// Runs a command or asks the server. Gives what is printed.
+fn printed<S: Alter>(
+    alloc: Global,
+    store: &mut Store<S>,
+    line: &str,
+    file: &str,
+) -> Result<String, Fail> {
+    if line.contains("/candidates/") {
+        return ask(alloc, store, line, file);
+    }
+    let mut reader = file.as_bytes();
+    let mut out = Vec::new(alloc);
+    let (status, err) = run(alloc, store, line, &mut reader, &mut out)?;
+    marked(alloc, status, out.as_slice(), err.as_slice())
+}
+
+/// What the program prints of a refusal to open the office.
+fn refused(alloc: Global, refusal: Refusal) -> Result<String, Fail> {
+    let number = refusal.number();
+    Ok(format!(in alloc; "! refused {number}\n")?)
+}
+
+/// Opens the office over a connection, or makes it there, as the command asks.
+fn opened<S: Alter>(
+    alloc: Global,
+    conn: Connection<S>,
+    line: &str,
+) -> Result<Store<S>, (Refusal, Connection<S>)> {
+    if line == "init" {
+        Store::create(alloc, conn)
+    } else {
+        Store::open(alloc, conn)
+    }
+}
+
+/// The office over a connection.
+fn office_of(alloc: Global, conn: Connection<MemStore>) -> Result<Store<MemStore>, Fail> {
+    match Store::open(alloc, conn) {
+        Ok(store) => Ok(store),
+        Err((refusal, conn)) => {
+            drop(conn);
+            Err(Fail::new(refusal))
+        }
+    }
+}
+
+/// Brings the office over a connection to the newest version. Gives what the program prints.
+fn migrated<S: Alter>(alloc: Global, conn: &mut Connection<S>) -> Result<String, Fail> {
+    match migrate(alloc, conn) {
+        Ok((old, new)) if old == new => Ok(format!(in alloc; "> already {new}\n")?),
+        Ok((old, new)) => Ok(format!(in alloc; "> migrated {old} to {new}\n")?),
+        Err(refusal) => refused(alloc, refusal),
+    }
+}
+
+/// Takes a command or a request at the closed office. Gives what is printed.
+fn answered<S: Alter + Drop>(
+    alloc: Global,
+    conn: Connection<S>,
+    line: &str,
+    file: &str,
+) -> Result<(Connection<S>, String), Fail> {
+    match opened(alloc, conn, line) {
+        Ok(store) => {
+            let mut store = store;
+            let printed = printed(alloc, &mut store, line, file)?;
+            Ok((store.close(), printed))
+        }
+        Err((refusal, conn)) => Ok((conn, refused(alloc, refusal)?)),
+    }
+}
+
+/// Takes a command, a request or a statement at the closed office. Gives what is printed or shown.
+fn told<S: Alter + Drop>(
+    alloc: Global,
+    conn: Connection<S>,
+    line: &str,
+    file: &str,
+) -> Result<(Connection<S>, String), Fail> {
+    let mut conn = conn;
+    match line {
+        "sql" => {
+            let shown = tables::shown(alloc, &mut conn, file)?;
+            Ok((conn, shown))
+        }
+        "migrate" => {
+            let printed = migrated(alloc, &mut conn)?;
+            Ok((conn, printed))
+        }
+        _ => answered(alloc, conn, line, file),
+    }
+}
+
+/// The lines below a command up to what is printed.
+fn file_of(rest: &str) -> &str {
+    match (rest.split_once("> "), rest.split_once("! ")) {
+        (Some((file, _)), _) | (None, Some((file, _))) => file,
+        (None, None) => rest,
+    }
+}
+
+/// A command of a text, its file, and what it prints.
+fn step_of(part: &str) -> Option<(&str, &str, &str)> {
+    let (line, rest) = part.split_once('\n')?;
+    let file = file_of(rest);
+    Some((line, file, rest.strip_prefix(file)?))
+}
+
+/// Plays a day at the closed office, and compares what is told of it with its text.
+fn played<R: Abort + AllocGlobal, S: Alter + Drop>(
+    rt: &R,
+    conn: Connection<S>,
+    day: &str,
+) -> Result<Connection<S>, Fail> {
+    let mut conn = conn;
+    for part in day.split("$ ").skip(1) {
+        let (line, file, wanted) = step_of(part).ok_or("step")?;
+        let (left, found) = told(rt.alloc(), conn, line, file)?;
+        assert_eq!(rt; found.as_str(), wanted, "{line}");
+        conn = left;
+    }
+    Ok(conn)
+}
+
+/// Plays days in turn at the base office.
+fn play<R: Abort + AllocGlobal>(rt: &R, days: &[&str]) -> Result<(), Fail> {
+    let mut conn = base_office(rt)?;
+    for day in days {
+        conn = played(rt, conn, day)?;
+    }
+    Ok(())
+}
+
+/// A closed empty office in memory.
+fn empty_office(alloc: Global) -> Result<Connection<MemStore>, Fail> {
+    Ok(Store::in_memory(alloc)?.close())
+}
+
+/// The closed office in memory after the base day.
+fn base_office<R: Abort + AllocGlobal>(rt: &R) -> Result<Connection<MemStore>, Fail> {
+    played(rt, empty_office(rt.alloc())?, BASE)
+}
 
 /// One session with one paper, and two halls with a desk each.
-const BASE: &[Row<'_>] = &[
-    (
-        "import sessions f",
-        "session,date,start\nS1,2027-06-01,09:00\n",
-        Ok(ONE_ADDED),
-    ),
-    (
-        "import papers f",
-        "paper,title,session,minutes,requires\nMA-1,Maths,S1,60,-\n",
-        Ok(ONE_ADDED),
-    ),
-    (
-        "import halls f",
-        "hall,title,features\nA,Hall A,step-free\nB,Hall B,-\n",
-        Ok(TWO_ADDED),
-    ),
-    (
-        "import openings f",
-        "session,hall,desks,until,reserved\nS1,A,1,12:00,no\nS1,B,1,12:00,no\n",
-        Ok(TWO_ADDED),
-    ),
-    (
-        "import candidates f",
-        "number,name,code\n0000001,Bo Berg,CODE0001\n0000002,Ada Lin,CODE0002\n0000003,Cy Dahl,CODE0003\n0000004,Di Roe,CODE0004\n0000005,Ed Poe,CODE0005\n",
-        Ok("added 5 changed 0 same 0\n"),
-    ),
-];
-
-/// The base office of these days, in memory.
-fn base_office<R: Abort + AllocGlobal>(rt: &R) -> Result<Store<MemStore>, Fail> {
-    let mut store = Store::in_memory(rt.alloc())?;
-    expect_all(rt, &mut store, BASE)?;
-    Ok(store)
-}
-
-/// Takes the rows in turn at the base office.
-fn play<R: Abort + AllocGlobal>(rt: &R, days: &[&[Row<'_>]]) -> Result<(), Fail> {
-    let mut store = base_office(rt)?;
-    for rows in days {
-        expect_all(rt, &mut store, rows)?;
-    }
-    Ok(())
-}
-
-/// Takes the rows in turn, and compares what each prints.
-fn expect_all<R: Abort + AllocGlobal, S: Alter>(
-    rt: &R,
-    store: &mut Store<S>,
-    rows: &[Row<'_>],
-) -> Result<(), Fail> {
-    for (words, file, printed) in rows {
-        expect(rt, store, words, file.as_bytes(), *printed)?;
-    }
-    Ok(())
-}
-
-/// Runs a command or asks the server, and compares what is printed.
-fn expect<R: Abort + AllocGlobal, S: Alter>(
-    rt: &R,
-    store: &mut Store<S>,
-    words: &str,
-    file: &[u8],
-    printed: Result<&str, &str>,
-) -> Result<(), Fail> {
-    let mut found = Vec::new(rt.alloc());
-    let mut told = (0, Vec::new(rt.alloc()));
-    if words.contains("/candidates/") {
-        found = ask(rt.alloc(), store, words, file)?;
-    } else {
-        let mut reader = file;
-        told = run(rt.alloc(), store, words, &mut reader, &mut found)?;
-    }
-    let (status, out, err) = match printed {
-        Ok(out) => (0, out, ""),
-        Err(err) => (1, "", err),
-    };
-    assert_eq!(rt; told.1.as_slice(), err.as_bytes(), "{words}");
-    assert_eq!(rt; found.as_slice(), out.as_bytes(), "{words}");
-    assert_eq!(rt; told.0, status, "{words}");
-    Ok(())
-}
-
-const ONE_ADDED: &str = "added 1 changed 0 same 0\n";
-
-const TWO_ADDED: &str = "added 2 changed 0 same 0\n";
-
-const THREE_ADDED: &str = "added 3 changed 0 same 0\n";
-
-const ONE_CHANGED: &str = "added 0 changed 1 same 0\n";
-
-const ONE_ENTRY: &str = "number,paper\n0000001,MA-1\n";
-
-const SECOND_ENTRY: &str = "number,paper\n0000002,MA-1\n";
-
-const TWO_ENTRIES: &str = "number,paper\n0000001,MA-1\n0000002,MA-1\n";
-
-const THREE_ENTRIES: &str = "number,paper\n0000001,MA-1\n0000002,MA-1\n0000003,MA-1\n";
-
-const SECOND_NEEDS: &str = "number,needs,extra\n0000002,step-free,0\n";
-
-const NOBODY_IN_A: &str =
-    "DOOR LIST session S1 hall A\ndate 2027-06-01 start 09:00 desks 1 seated 0\n";
-
-const NOBODY_IN_B: &str =
-    "DOOR LIST session S1 hall B\ndate 2027-06-01 start 09:00 desks 1 seated 0\n";
-
-const FIRST_IN_A: &str =
-    "DOOR LIST session S1 hall A\ndate 2027-06-01 start 09:00 desks 1 seated 1\n   1 0000001 MA-1         Bo Berg\n";
-
-const FIRST_IN_B: &str =
-    "DOOR LIST session S1 hall B\ndate 2027-06-01 start 09:00 desks 1 seated 1\n   1 0000001 MA-1         Bo Berg\n";
-
-const SECOND_IN_A: &str =
-    "DOOR LIST session S1 hall A\ndate 2027-06-01 start 09:00 desks 1 seated 1\n   1 0000002 MA-1         Ada Lin\n";
+const BASE: &str = "\
+$ import sessions f
+session,date,start
+S1,2027-06-01,09:00
+> added 1 changed 0 same 0
+$ import papers f
+paper,title,session,minutes,requires
+MA-1,Maths,S1,60,-
+> added 1 changed 0 same 0
+$ import halls f
+hall,title,features
+A,Hall A,step-free
+B,Hall B,-
+> added 2 changed 0 same 0
+$ import openings f
+session,hall,desks,until,reserved
+S1,A,1,12:00,no
+S1,B,1,12:00,no
+> added 2 changed 0 same 0
+$ import candidates f
+number,name,code
+0000001,Bo Berg,CODE0001
+0000002,Ada Lin,CODE0002
+0000003,Cy Dahl,CODE0003
+0000004,Di Roe,CODE0004
+0000005,Ed Poe,CODE0005
+> added 5 changed 0 same 0
+";
 
 /// The first candidate sits in the hall of the least code.
-const FIRST_TAKES_A: &[Row<'_>] = &[
-    ("import entries f", ONE_ENTRY, Ok(ONE_ADDED)),
-    ("door-list S1 A", "", Ok(FIRST_IN_A)),
-    ("door-list S1 B", "", Ok(NOBODY_IN_B)),
-];
+const FIRST_TAKES_A: &str = "\
+$ import entries f
+number,paper
+0000001,MA-1
+> added 1 changed 0 same 0
+$ door-list S1 A
+> DOOR LIST session S1 hall A
+date 2027-06-01 start 09:00 desks 1 seated 1
+   1 0000001 MA-1         Bo Berg
+$ door-list S1 B
+> DOOR LIST session S1 hall B
+date 2027-06-01 start 09:00 desks 1 seated 0
+";
 
 /// The second one needs that hall.
-const SECOND_NEEDS_A: &[Row<'_>] = &[
-    ("import arrangements f", SECOND_NEEDS, Ok(ONE_ADDED)),
-    ("import entries f", SECOND_ENTRY, Ok(ONE_ADDED)),
-    ("door-list S1 A", "", Ok(SECOND_IN_A)),
-    ("door-list S1 B", "", Ok(FIRST_IN_B)),
-];
+const SECOND_NEEDS_A: &str = "\
+$ import arrangements f
+number,needs,extra
+0000002,step-free,0
+> added 1 changed 0 same 0
+$ import entries f
+number,paper
+0000002,MA-1
+> added 1 changed 0 same 0
+$ door-list S1 A
+> DOOR LIST session S1 hall A
+date 2027-06-01 start 09:00 desks 1 seated 1
+   1 0000002 MA-1         Ada Lin
+$ door-list S1 B
+> DOOR LIST session S1 hall B
+date 2027-06-01 start 09:00 desks 1 seated 1
+   1 0000001 MA-1         Bo Berg
+";
