@@ -1,8 +1,8 @@
 //! Steps of a small office over files in memory that fail, through all layers, as texts that are played.
 //!
-//! In a text `$ ` begins a command of the program, a candidate's request, or `sql` over the tables. The day of a command
-//! or a request stands behind `on` where it counts. The lines below are its import file, its body or its statement.
-//! Behind `> ` stands what it prints or is answered, and behind `! ` what a refused command prints on the error output.
+//! In a text `$ ` begins a command of the program, a candidate's request, or `sql` over the tables. If the day of a
+//! command or a request counts, it follows `on`. The lines below are its import file, its body or its statement. Its
+//! output or answer follows `> `, and what a refused command prints on the error output follows `! `.
 //! The office is closed and opened anew before each step.
 mod disks;
 mod refusing;

@@ -49,16 +49,20 @@ abbrev pub TellsReply : Result Reply Refusal → Told → Type 0
 TellsReply (Ok answered) told = told ≡ state_told (state_after answered)
 TellsReply (Err refusal) told = told ≡ refusal_told refusal
 
--- ---- for any way in which a command is applied: `Applies` relates it to what it answers and to what it leaves
+-- ---- for any way in which a command is applied
+
+-- a way to apply commands: it relates each to what it answers and to what holds the office afterwards
+abbrev pub Applying : Type 0 → Type 1
+Applying O = Command → Result Reply Refusal → O → Type 0
 
 -- a command is applied, and its reply or refusal is answered
-abbrev pub DoesCommandBy : {O : Type 0} → (Command → Result Reply Refusal → O → Type 0) → Command → Told → O → Type 0
+abbrev pub DoesCommandBy : {O : Type 0} → Applying O → Command → Told → O → Type 0
 DoesCommandBy Applies command told new =
     (answered : Result Reply Refusal) × Applies command answered new × TellsReply answered told
 
 -- The answer to a choice over this office, and what becomes of what holds it: a lodging and a retraction are applied,
 -- and anything else leaves it as it is.
-abbrev pub DoesBy : {O : Type 0} → (Command → Result Reply Refusal → O → Type 0) → State → O → Choice → Told → O → Type 0
+abbrev pub DoesBy : {O : Type 0} → Applying O → State → O → Choice → Told → O → Type 0
 DoesBy Applies office old (choice.Fault fault) told new = (told ≡ error_told (fault_number fault)) × (new ≡ old)
 DoesBy Applies office old (choice.OtherMethod route) told new = (told ≡ method_told route) × (new ≡ old)
 DoesBy Applies office old (choice.Refused refusal) told new = (told ≡ refusal_told refusal) × (new ≡ old)
@@ -73,20 +77,19 @@ abbrev pub IsBusy : {O : Type 0} → O → Told → O → Type 0
 IsBusy old told new = (told ≡ refusal_told NoMemory) × (new ≡ old)
 
 -- the answer to a request, by what it asks and what the office shows of the candidate whom it names
-abbrev pub AnswersBy : {O : Type 0} → (Command → Result Reply Refusal → O → Type 0) → State → O → Request → Told → O → Type 0
+abbrev pub AnswersBy : {O : Type 0} → Applying O → State → O → Request → Told → O → Type 0
 AnswersBy Applies office old request told new =
     IsBusy old told new ⊎ DoesBy Applies office old (choice_in office request) told new
 
 -- the answer to what was asked: a fault is answered by its number, and then nothing changes
-abbrev pub AnswersAskedBy : {O : Type 0} → (Command → Result Reply Refusal → O → Type 0) → State → O
-    → Result Request Fault → Told → O → Type 0
+abbrev pub AnswersAskedBy : {O : Type 0} → Applying O → State → O → Result Request Fault → Told → O → Type 0
 AnswersAskedBy Applies office old (Ok request) told new = AnswersBy Applies office old request told new
 AnswersAskedBy Applies office old (Err fault) told new = (told ≡ error_told (fault_number fault)) × (new ≡ old)
 
 -- ---- for a command that is applied on a day to the office in a store
 
 -- how a command is applied
-abbrev pub AppliesIn : {S : Type 0} → Ghosts S → ℕ → OfficeIn S → Command → Result Reply Refusal → OfficeIn S → Type 0
+abbrev pub AppliesIn : {S : Type 0} → Ghosts S → ℕ → OfficeIn S → Applying (OfficeIn S)
 AppliesIn g today old command answered new = IsApplied g command today old answered new
 
 -- a command is applied, and its reply or refusal is answered

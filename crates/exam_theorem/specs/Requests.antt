@@ -9,13 +9,13 @@ use Rattle.exam_request.specs.Asked.{Asks, Request}
 use Rattle.exam_request.specs.declared.choice.Choice.{Choice}
 use Rattle.exam_request.specs.declared.fault.Fault.{Fault}
 use Rattle.exam_store.specs.Applied.{MayApply}
-use Rattle.exam_http.specs.Answering.{AnswersAskedBy, DoesBy, DoesCommandBy}
+use Rattle.exam_http.specs.Answering.{AnswersAskedBy, Applying, DoesBy, DoesCommandBy}
 use Rattle.exam_http.specs.declared.serving.HttpFault.{HttpFault}
 use Rattle.exam_http.specs.declared.serving.HttpFault.TheVariants.{Read, Write}
 use Rattle.exam_theorem.specs.declared.orders.Answered.{Answered}
 
 -- a command makes its step on a day, or is refused
-abbrev pub AppliesOn : ℕ → State → Command → Result Reply Refusal → State → Type 0
+abbrev pub AppliesOn : ℕ → State → Applying State
 AppliesOn today before done answered after = MayApply done today before answered after
 
 -- a command makes its step or is refused, and the answer says which

@@ -13,16 +13,20 @@ use std::str;
 /// Where the office would serve.
 const SERVER: &str = "http://127.0.0.1:8080";
 
-/// The body of what is answered to the bytes of a request. Whatever is answered, every session is seated as promised.
+/// The body of what is answered to the request that a line says. Whatever is answered, every session is seated as
+/// promised.
 pub fn answer_to<S: Alter>(
     alloc: Global,
     store: &mut Store<S>,
     today: Day,
-    request: &str,
+    line: &str,
 ) -> Result<String>
     ensures { (s : Code) → IsSeated store.new.office s }
 {
-    let mut reader = request.as_bytes();
+    // Shows what an office promises, for a line that says no request.
+    store.show_seated();
+    let request = request_of(alloc, line)?;
+    let mut reader = request.as_str().as_bytes();
     let mut answer = Vec::new(alloc);
     serve_one(alloc, store, today, &mut reader, &mut answer)?;
     let text = str::from_utf8(answer.as_slice())?;
@@ -34,7 +38,7 @@ pub fn answer_to<S: Alter>(
 
 /// The bytes of a request, as a line says it. The line has quotes around the header of the access code, and around the
 /// body that it posts, if it posts one.
-pub fn request_of(alloc: Global, line: &str) -> Result<String> {
+fn request_of(alloc: Global, line: &str) -> Result<String> {
     let mut parts = line.split('\'');
     let _ = parts.next();
     let code = parts.next().context("a line without an access code")?;

@@ -7,7 +7,7 @@
 mod asking;
 
 use anyhow::{Context, Result};
-use asking::{answer_to, request_of};
+use asking::answer_to;
 use exam_job::{JobFault, print_fault, print_line_fault, run_job};
 use exam_line::{Job, Line, parse_line};
 use exam_store::Store;
@@ -39,8 +39,7 @@ fn follow(rt: &HostRuntime, store: &mut Store<MemStore>, line: &str) -> Result<(
     } else if line.starts_with("curl ") {
         println!(rt; "$ {line}")?;
         let today = Day::parse(TODAY.as_bytes()).context("no date")?;
-        let request = request_of(rt.alloc(), line)?;
-        let body = answer_to(rt.alloc(), store, today, request.as_str())?;
+        let body = answer_to(rt.alloc(), store, today, line)?;
         println!(rt; "{body}")?;
     } else {
         println!(rt; "{line}")?;

@@ -65,7 +65,7 @@ fn create_over<S: Start>(
     }
 }
 
-/// Opens the office at the path. Where nothing is there is no office, and no file is made.
+/// Opens the office at the path. If there is no file, or an empty one, there is no office, and nothing is made.
 pub fn open_office<S: Start>(
     rt: &HostRuntime,
     path: &str,
@@ -75,10 +75,7 @@ pub fn open_office<S: Start>(
     ensures kept { IfOk result (λ store. KeepsOurs (file_state store.database) store.office) }
     ensures told { IfErr result (λ refusal. IsTrue (is_open_refusal refusal)) }
 {
-    if !has_file(rt, path)? {
-        return Err(Refusal::BadStore);
-    }
-    let conn = open_database(rt, path, start)?;
+    let conn = open_present(rt, path, start)?;
     open_over(rt.alloc(), conn)
 }
 
@@ -128,7 +125,8 @@ pub fn check_file<S: Start, O: Write>(
     tell_table(found, out)
 }
 
-/// Opens the database at the path. Refused as a bad store where nothing is, or what is no database.
+/// Opens the database at the path. Refused as a bad store if there is no file, an empty one, or one that is no
+/// database. An empty file stays empty: opened, it would be a new database, and so be filled.
 fn open_present<S: Start>(
     rt: &HostRuntime,
     path: &str,
@@ -137,7 +135,7 @@ fn open_present<S: Start>(
     ensures found { IfOk result (IsOver over_files (image_at S.Start)) }
     ensures told { IfErr result (λ refusal. IsTrue (is_store_refusal refusal)) }
 {
-    if !has_file(rt, path)? {
+    if !has_file(rt, path)? || !has_bytes(rt, path)? {
         return Err(Refusal::BadStore);
     }
     open_database(rt, path, start)
@@ -202,6 +200,25 @@ fn has_file(rt: &HostRuntime, path: &str) -> Result<bool, Refusal>
         Ok(found) if found.is_file() => Ok(true),
         Ok(_) => Err(Refusal::Store),
         Err(error) if error.kind() == ErrorKind::NotFound => Ok(false),
+        Err(error) => Err(file_refusal(error.kind())),
+    }
+}
+
+/// Whether the file at the path has bytes, or the log beside it, from which a stopped program's commits are taken over.
+fn has_bytes(rt: &HostRuntime, path: &str) -> Result<bool, Refusal>
+    ensures { IfErr result (λ refusal. IsTrue (is_store_refusal refusal)) }
+{
+    let log = format!(in rt.alloc(); "{path}-wal")?;
+    Ok(length_of(rt, path)? > 0 || length_of(rt, log.as_str())? > 0)
+}
+
+/// The length in bytes of the file at the path, 0 if there is none.
+fn length_of(rt: &HostRuntime, path: &str) -> Result<u64, Refusal>
+    ensures { IfErr result (λ refusal. IsTrue (is_store_refusal refusal)) }
+{
+    match fs::metadata(rt, path) {
+        Ok(found) => Ok(found.len()),
+        Err(error) if error.kind() == ErrorKind::NotFound => Ok(0),
         Err(error) => Err(file_refusal(error.kind())),
     }
 }

@@ -1,7 +1,7 @@
 //! Files that are imported into an office in memory and sheets of its session S1, as texts that are played.
 //!
-//! In a text `$ ` begins a file of a kind or the words of a sheet. The lines below are the file. Behind `> ` stands what
-//! is told of it, or the sheet, and behind `! ` the refusal.
+//! In a text `$ ` begins a file of a kind or the words of a sheet. The lines below are the file. The answer to its
+//! import, or the sheet, follows `> `, and the refusal follows `! `.
 use super::sheets::write_sheet;
 use super::slow::Slow;
 use exam_files::{SheetFault, read_import};

@@ -181,8 +181,8 @@ fn each_sheet_is_cut_where_its_writer_fails(rt: HostRuntime) -> Result<(), Fail>
     Ok(())
 }
 
-/// A session with nobody in it, and what there is no sheet of: a paper of another session, a hall that is closed and one
-/// that is nowhere.
+/// A session with nobody in it. There is no sheet of a paper of another session, of a closed hall, or of an unknown
+/// hall.
 const NOBODY: &str = "\
 $ sessions
 session,date,start

@@ -19,6 +19,9 @@ const LINES: &[(&str, &str, End)] = &[
     ("none.db", "migrate", (1, "", "refused 24\n")),
     ("none.db", "check", (1, "bad office\n", "")),
     ("sessions.csv", "check", (1, "bad office\n", "")),
+    ("empty.db", "export S1", (1, "", "refused 24\n")),
+    ("empty.db", "migrate", (1, "", "refused 24\n")),
+    ("empty.db", "check", (1, "bad office\n", "")),
     ("a.db", "init", (0, "ready\n", "")),
     (
         "a.db",
@@ -82,6 +85,7 @@ fn lines_end_as_they_should(rt: HostRuntime) -> Result<(), Fail> {
         "examoffice_lines/sessions.csv",
         "session,date,start\nS1,2027-06-01,09:00\n",
     )?;
+    fs::write(&rt, "examoffice_lines/empty.db", "")?;
     for (database, command, end) in LINES {
         assert!(rt; ends(&rt, database, command, *end)?, "{database} {command}");
     }
@@ -93,6 +97,8 @@ fn lines_end_as_they_should(rt: HostRuntime) -> Result<(), Fail> {
         assert!(rt; fs::metadata(&rt, name)?.mode() & 0o777 == 0o600, "{name}");
     }
     assert!(rt; fs::metadata(&rt, "examoffice_lines/none.db").is_err());
+    assert!(rt; fs::metadata(&rt, "examoffice_lines/empty.db")?.len() == 0);
+    assert!(rt; fs::metadata(&rt, "examoffice_lines/empty.db-wal").is_err());
     fs::remove_dir_all(&rt, FOLDER)?;
     Ok(())
 }
