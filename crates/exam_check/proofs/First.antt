@@ -1,11 +1,11 @@
 -- The first bad table, of those that could be read and those that could not.
-use Rattle.std.proofs.Common.{◌≡◌, ◌<◌, ◌≤◌, ℕ, suc, List, [], ◌∷◌, Option, None, Some, inl, inr, refl, sym, ap, subst, ◌∙◌, arith}
+use Rattle.std.proofs.Common.{◌≡◌, ◌<◌, ◌≤◌, ℕ, suc, List, [], ◌∷◌, Option, None, Some, inl, inr, refl, ap, subst, ◌∙◌, arith}
 use Rattle.sqlite_trees.specs.Tree.{Trees}
 use Rattle.exam_office.specs.Good.{IsFirstBadOf}
 use Rattle.exam_office.specs.State.{State}
 use Rattle.exam_office.specs.declared.tables.Table.{Table}
-use Rattle.exam_check.specs.FirstBad.{IsFirstBadIn, IsFirstOf, IsFirstOfTwo, place}
-use Rattle.exam_check.specs.Reading.{AreRead, IsReadAs}
+use Rattle.exam_check.specs.FirstBad.{IsFirstBadIn, IsFirstOf, place}
+use Rattle.exam_check.specs.Reading.{AreRead}
 
 -- the tables stand at these places, one after the other
 abbrev pub ArePlaced : ℕ → List Table → Type 0

@@ -1,5 +1,5 @@
 -- No table is bad exactly where the tables of the newest version hold a good office.
-use Rattle.std.proofs.Common.{◌≡◌, ◌≢◌, ◌⊎◌, ◌↔◌, ℕ, List, [], ◌∷◌, Option, None, Some, Result, Ok, Err, Bool, true, false, inl, inr, IsTrue, refl, sym, ap, subst, ◌∙◌}
+use Rattle.std.proofs.Common.{◌≡◌, ◌≢◌, ◌⊎◌, List, [], ◌∷◌, Option, None, Some, Result, Ok, Err, Bool, true, false, inl, inr, refl, sym, subst, ◌∙◌}
 use Rattle.std.specs.Prelude.{option_map}
 use Rattle.std.specs.Cmp.Derive.{both_true}
 use Rattle.std.specs.List.{AllByRecursion}
@@ -9,8 +9,6 @@ use Rattle.std.proofs.lemmas.List.Sorted.{IsPermutation-sym, IsPermutation-trans
 use Rattle.sqlite_tied.specs.Compute.{everything}
 use Rattle.sqlite_trees.specs.declared.store.Store.{Ghosts}
 use Rattle.sqlite_trees.specs.Tree.{Trees}
-use Rattle.sqlite_value.specs.Order.{Row}
-use Rattle.sqlite_value.specs.declared.value.Value.TheVariants.{Null}
 use Rattle.sqlite_resolve.specs.declared.compiled.Compiled.{Compiled}
 use Rattle.sqlite_resolve.specs.declared.error.CompileError.{CompileError}
 use Rattle.sqlite_resolve.specs.declared.error.CompileError.TheVariants.{NoSuchTable, NoSuchColumn}
@@ -22,26 +20,24 @@ use Rattle.sqlite.specs.Held.{Held, state}
 use Rattle.sqlite.specs.Listing.{understood, listing_schema}
 use Rattle.sqlite.specs.State.{HasCleanDisk}
 use Rattle.exam_types.specs.declared.refusal.Refusal.{Refusal}
-use Rattle.exam_types.specs.declared.refusal.Refusal.TheVariants.{NoMemory, Store, BadStore, OldSchema}
+use Rattle.exam_types.specs.declared.refusal.Refusal.TheVariants.{NoMemory, Store, BadStore}
 use Rattle.exam_office.specs.Good.{IsGood, IsTableGood, tables}
 use Rattle.exam_office.specs.State.{State}
 use Rattle.exam_office.specs.declared.tables.Table.{Table as OfficeTable}
 use Rattle.exam_tables.specs.Content.{ContainsIn}
 use Rattle.exam_tables.specs.Made.{ContainsMade, made_schema}
 use Rattle.exam_tables.specs.Tables.{first_schema, store_schema}
-use Rattle.exam_tables.specs.Texts.{load_standing, load_texts}
+use Rattle.exam_tables.specs.Texts.{load_standing}
 use Rattle.exam_rows.specs.Faults.{refusal_of}
 use Rattle.exam_rows.specs.Inside.{Contains}
-use Rattle.exam_rows.specs.Loaded.{AreUnderstood, IsUnderstood}
-use Rattle.exam_rows.specs.Versions.{ContainsOf, HasVersion, version, version_row}
+use Rattle.exam_rows.specs.Loaded.{IsUnderstood}
+use Rattle.exam_rows.specs.Versions.{HasVersion, version, version_row}
 use Rattle.exam_rows.proofs.Versioned.{version_held}
 use Rattle.exam_store.specs.Found.{Finds, FailsToOpen, HoldsGood}
-use Rattle.exam_store.specs.Kept.{Keeps}
 use Rattle.exam_store.specs.Refused.{HoldsFormed, HoldsNone}
-use Rattle.exam_store.proofs.Marking.{made_of, of_newest, one_version}
+use Rattle.exam_store.proofs.Marking.{of_newest, one_version}
 use Rattle.exam_store.proofs.Unique.{one_office}
 use Rattle.exam_check.specs.FirstBad.{HasGoodVersion, HoldsTableOf, IsFirstBadIn, IsFirstBadTable, table_of}
-use Rattle.exam_check.specs.declared.tables.Table.{Table}
 use Rattle.exam_check.specs.declared.tables.Table.TheVariants as table
 
 -- ---- none of these tables is bad

@@ -1,12 +1,12 @@
 -- Calls that only read, one after the other.
-use Rattle.std.proofs.Common.{◌≡◌, ◌⊎◌, ℕ, List, [], inl, inr, Result, Ok, Err, IfErr, IsTrue, refl, sym, ap, subst, ◌∙◌}
+use Rattle.std.proofs.Common.{◌≡◌, ◌⊎◌, ℕ, List, [], inl, inr, Result, Ok, Err, IfErr, IsTrue, refl, sym, subst, ◌∙◌}
 use Rattle.std.proofs.lemmas.Result.{IfErr-weaker}
 use Rattle.std.specs.List as lists
 use Rattle.sqlite_trees.specs.declared.store.Store.{Ghosts}
 use Rattle.sqlite_trees.specs.Tree.{Trees}
 use Rattle.sqlite.specs.Effect.{Database}
 use Rattle.sqlite.specs.Held.{Held, state}
-use Rattle.sqlite.specs.State.{State, HasCleanDisk, IsUnchanged, Survives}
+use Rattle.sqlite.specs.State.{HasCleanDisk, IsUnchanged, Survives}
 use Rattle.sqlite.proofs.Callers.{unchanged_then}
 use Rattle.exam_types.specs.declared.refusal.Refusal.{Refusal}
 use Rattle.exam_types.specs.declared.refusal.Refusal.TheVariants.{NoMemory, Store, BadStore, OldSchema}
@@ -14,7 +14,7 @@ use Rattle.exam_tables.specs.Made.{ContainsMade}
 use Rattle.exam_tables.specs.Texts.{load_office, load_texts}
 use Rattle.exam_rows.specs.Faults.{is_store_refusal}
 use Rattle.exam_rows.specs.Inside.{Contains}
-use Rattle.exam_rows.specs.Loaded.{FailsThen, FailsToLoad, FailsToLoadFrom, IsLoadRefusal, OnlyReads, Told}
+use Rattle.exam_rows.specs.Loaded.{FailsToLoad, FailsToLoadFrom, IsLoadRefusal, OnlyReads, Told}
 use Rattle.exam_rows.specs.Versions.{HasVersion, IsVersion, version}
 use Rattle.exam_rows.proofs.Leaving.{bad_unchanged, both_survive, reads_only, still_itself, still_then, then_reads}
 use Rattle.exam_rows.proofs.LoadTexts.{office_loads}

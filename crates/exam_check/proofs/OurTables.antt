@@ -1,5 +1,5 @@
 -- What the loads of the tables have in common.
-use Rattle.std.proofs.Common.{ℕ, ◌∷◌, []}
+use Rattle.std.proofs.Common.{◌∷◌, []}
 use Rattle.std.specs.Ordering.{nat_cmp}
 use Rattle.sqlite_trees.specs.Tree.{Trees}
 use Rattle.sqlite.specs.Effect.{Database}

@@ -1,5 +1,5 @@
 -- Whom a line costs a seat, and that a request costs nobody one.
-use Rattle.std.proofs.Common.{◌≡◌, ℕ, List, Option, None, Some, refl, sym, ap, subst, inl, inr}
+use Rattle.std.proofs.Common.{◌≡◌, ℕ, List, Option, None, Some, sym, ap, subst, inl, inr}
 use Rattle.std.specs.Prelude.{Result, Ok, Err, IsSome}
 use Rattle.clap.specs.Words.{Text}
 use Rattle.exam_types.specs.declared.refusal.Refusal.{Refusal}

@@ -1,8 +1,6 @@
 -- What becomes of a request, and its answer.
 use Rattle.std.specs.Prelude.{◌≡◌, ◌<◌, ◌++◌, ℕ, List, [], length, Result, Ok, Err}
-use Rattle.exam_types.specs.declared.refusal.Refusal.{Refusal}
 use Rattle.exam_office.specs.declared.command.Command.{Command}
-use Rattle.exam_office.specs.declared.command.Reply.{Reply}
 use Rattle.exam_office.specs.State.{State}
 use Rattle.exam_request.specs.Answer.{Told, answer_text}
 use Rattle.exam_request.specs.Asked.{Asks, Request}

@@ -1,4 +1,4 @@
-use Rattle.std.proofs.Common.{None, Some, inl, refl, sym, subst}
+use Rattle.std.proofs.Common.{Some, inl, refl, sym, subst}
 use Rattle.std.specs.Prelude.{option_map}
 use Rattle.sqlite.specs.Held.{state}
 use Rattle.exam_check.specs.FirstBad.{IsFirstBadTable, table_of}

@@ -1,7 +1,7 @@
 use Rattle.std.proofs.Common.{◌≡◌, Err, refl, rules}
 use Rattle.sqlite.specs.Held.{state}
 use Rattle.sqlite.proofs.Callers.{unchanged_then}
-use Rattle.exam_tables.specs.Texts.{load_session, load_paper, load_hall, load_opening}
+use Rattle.exam_tables.specs.Texts.{load_paper, load_hall, load_opening}
 use Rattle.exam_rows.proofs.Leaving.{understood_before}
 use Rattle.exam_check.proofs.Found.{read_as, still_contains}
 use Rattle.exam_check.proofs.Looking.{fails_then, looks_on, looks_then}
