@@ -1,12 +1,11 @@
 -- The definitions that contracts of this crate cite. Each file says:
 --
 -- - Faults: the refusal for each error of the database
--- - Stored: the stored form of each value: numbers, flags, days, feature sets, what an appeal asks
---   and its state
+-- - Stored: the stored form of each value: numbers, flags, days, feature sets, what an appeal asks for and its state
 -- - Rows: the columns of a row of each table, and the rows that there may be
 -- - Held: the facts and the seats that tables hold
--- - Differences: what is to be put and deleted to make the new table of the old one, and that it
---   turns the one into the other
+-- - Differences: what must be put and deleted to make the new table from the old one, and that it turns the one into
+--   the other
 -- - Versions: the version row; a database that is blank, that has no rows, that was just made; what
 --   a call that makes tables does
 -- - Loaded: the rows and the entries of a table; why nothing is loaded: memory ran out, a query
