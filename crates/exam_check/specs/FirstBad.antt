@@ -30,7 +30,7 @@ table_of office.Appeals = table.Appeal
 table_of office.Standing = table.Standing
 table_of office.Seats = table.Seat
 
--- the rows that are meant in this table are those of the office, each in its stored form
+-- the rows of this table, in any order, are those of the office, each in its stored form
 abbrev pub HoldsTableOf : Trees → State → OfficeTable → Type 0
 HoldsTableOf all o office.Sessions = HoldsTable code_cmp IsSession session_row o.relations.sessions (all 1)
 HoldsTableOf all o office.Papers = HoldsTable code_cmp IsPaper paper_row o.relations.papers (all 3)
@@ -45,12 +45,12 @@ HoldsTableOf all o office.Appeals = HoldsTable appeal_cmp IsAppeal appeal_row o.
 HoldsTableOf all o office.Standing = HoldsTable appeal_cmp IsStanding standing_row o.relations.standing (all 17)
 HoldsTableOf all o office.Seats = HoldsTable seat_cmp IsSeat seat_row o.seats (all 15)
 
--- the rows of the table are those of no office: one has no stored form, or two have the same key
+-- no office has these rows in this table: one has no stored form, or two have the same key
 abbrev pub HoldsNoTable : Trees → OfficeTable → Type 0
 HoldsNoTable all t = (o : State) → HoldsTableOf all o t → ⊥
 
--- What is found where these tables are looked at in order: the first whose rows are those of no office, or that
--- is not good beside the tables before it; or none. Of the office only the tables that were looked at count.
+-- What is found when these tables are checked in order: the first whose rows no office has, or that is not good beside
+-- the tables before it; or none. Only the tables that were checked so far say anything about the office.
 abbrev pub IsFirstBadIn : Trees → State → List OfficeTable → Option OfficeTable → Type 0
 IsFirstBadIn all o [] found = found ≡ None
 IsFirstBadIn all o (t ∷ ts) found =
@@ -70,7 +70,7 @@ IsFirstBadTable db all found =
 
 -- ---- the first of two tables
 
--- the place in the order in which an office's tables are looked at
+-- the place in the order in which an office's tables are checked
 abbrev pub place : OfficeTable → ℕ
 place office.Sessions = 0
 place office.Papers = 1
@@ -93,7 +93,7 @@ IsFirstOf (Some one) None first = first ≡ Some one
 IsFirstOf (Some one) (Some other) first =
     (it : OfficeTable) × IsFirstOfTwo one other it × (first ≡ Some it)
 
--- the table that could not be read first, where this one could not be read either
+-- the first table that could not be read, if this one could not be read either
 abbrev pub first_unread : Option OfficeTable → OfficeTable → OfficeTable
 first_unread (Some first) t = first
 first_unread None t = t

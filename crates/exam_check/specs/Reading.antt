@@ -25,7 +25,7 @@ use Rattle.exam_check.specs.declared.reading.Register.{Register}
 use Rattle.exam_check.specs.declared.reading.Tables.{Tables}
 use Rattle.exam_check.specs.declared.reading.Timetable.{Timetable}
 
--- what the loads of this product's tables have in common: keys are told apart as in SQL, the text is one of the
+-- what the loads of this product's tables have in common: keys are distinguished as in SQL, the text is one of the
 -- eleven, and it shows the rows of the newest tables
 pub record IsOurTable {K X : Type 0} (cmp : K → K → Ordering) (key : List ℕ) (row : K → X → Row)
     (text : List ℕ) (Holds : Database → Trees → Type 0) : Type 0 where
@@ -33,8 +33,8 @@ pub record IsOurTable {K X : Type 0} (cmp : K → K → Ordering) (key : List �
   pub loads : lists.Contains load_texts text
   pub newest : (db : Database) (all : Trees) → Contains db all → Holds db all
 
--- What a call that only reads leaves, whatever it answers, and why it refuses. As a bad store it does so only where
--- the tables are not those of the newest version, with its number.
+-- What a call that only reads leaves, whatever it answers, and why it refuses. It refuses with `BadStore` only if the
+-- tables are not those of the newest version, with its number.
 pub record Looks {S A : Type 0} (g : Ghosts S) (old new : Held S) (result : Result A Refusal) : Type 0 where
   pub early : HasCleanDisk (state g new) → HasCleanDisk (state g old)
   pub survives : Survives (state g old) (state g new) (λ _. ⊥)
@@ -44,12 +44,12 @@ pub record Looks {S A : Type 0} (g : Ghosts S) (old new : Held S) (result : Resu
   pub refused : HasCleanDisk (state g new) → IfErr result (λ e. (e ≡ BadStore) ⊎ FailsToCheck g old new e)
   pub told : IfErr result (λ e. IsTrue (is_open_refusal e))
 
--- The table has these rows, or its rows are those of none. The first table of none is noted.
+-- The table has these rows, or no table of an office has its rows; the first such table is noted.
 abbrev pub IsReadAs : OfficeTable → Option OfficeTable → Option OfficeTable → Type 0 → Type 0 → Type 0
 IsReadAs t before after Has HasNone =
     (Has × (after ≡ before)) ⊎ (HasNone × (after ≡ Some (first_unread before t)))
 
--- the table and its columns are there, and where the tables are those of the newest version, it is read as that
+-- the table and its columns exist; if the tables are those of the newest version, this one is read as one of them
 abbrev pub Sees : List ℕ → Database → OfficeTable → Option OfficeTable → Option OfficeTable → (Trees → Type 0)
     → (Trees → Type 0) → Type 0
 Sees text db t before after Has HasNone =
@@ -76,11 +76,11 @@ timetable_texts = load_session ∷ load_paper ∷ load_hall ∷ load_opening ∷
 abbrev pub register_texts : List (List ℕ)
 register_texts = load_candidate ∷ load_entry ∷ load_arrangement ∷ load_appeal ∷ load_standing ∷ []
 
--- what loads the tables, in the order in which they are looked at
+-- the texts that load the tables, in the order in which they are checked
 abbrev pub table_texts : List (List ℕ)
 table_texts = timetable_texts ++ (register_texts ++ load_seat ∷ [])
 
--- these rows, and no others
+-- an office with these rows and no others
 abbrev pub timetable_in : Timetable → Office
 timetable_in t = record {
   relations = record no_relations {
@@ -120,6 +120,6 @@ office_of t r seats = record {
   seats = seats;
 }
 
--- the office of what was read: a table that could not be read has no rows there
+-- the office of what was read; a table that could not be read has no rows there
 abbrev pub office_in : Tables → Office
 office_in read = record { relations = relations_of read.facts; seats = read.seats.entries }

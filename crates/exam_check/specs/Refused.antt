@@ -1,4 +1,4 @@
--- Why no table is looked for.
+-- Why no answer is given.
 use Rattle.std.specs.Prelude.{◌≡◌, ◌⊎◌, Bool, true, false}
 use Rattle.sqlite_trees.specs.declared.store.Store.{Ghosts}
 use Rattle.sqlite.specs.Held.{Held, state}
@@ -7,7 +7,7 @@ use Rattle.exam_types.specs.declared.refusal.Refusal.TheVariants.{NoMemory, Stor
 use Rattle.exam_rows.specs.Loaded.{FailsThen}
 use Rattle.exam_store.specs.Found.{FindsOld}
 
--- There is no memory, or the query of a table failed while the database was as before, or the version row is that of
+-- Memory ran out, or the query of a table failed while the database was as before, or the version row is that of
 -- version 1.
 abbrev pub FailsToCheck : {S : Type 0} → Ghosts S → Held S → Held S → Refusal → Type 0
 FailsToCheck g old new e = (e ≡ NoMemory) ⊎ ((FailsThen g old new e × (e ≡ Store)) ⊎ FindsOld (state g old).now e)

@@ -19,8 +19,8 @@ use exam_types::Refusal;
 use sqlite::{Alter, Connection};
 use std::alloc::Global;
 
-/// The first bad table of the database, or none where it holds a good office. Only reads. Refused as `OldSchema` if
-/// the office is of an older version.
+/// The first bad table of the database, or none if it holds a good office. Only reads. Refused with `OldSchema` if the
+/// office is of an older version.
 pub fn check<S: Alter>(alloc: Global, conn: &mut Connection<S>) -> Result<Option<Table>, Refusal>
     ensures found { HasCleanDisk (state S.Store conn.new) → IfOk result (λ found. (all : _)
         → ContainsMade (state S.Store conn.old).now all
@@ -42,8 +42,8 @@ pub fn check<S: Alter>(alloc: Global, conn: &mut Connection<S>) -> Result<Option
     }
 }
 
-/// The first bad table of those that the office of the newest version has. Refused as a bad store where a table, a
-/// column or the version is missing.
+/// The first bad table of an office of the newest version. Refused with `BadStore` if a table, a column or the version
+/// is missing.
 fn first_bad<S: Alter>(
     alloc: Global,
     conn: &mut Connection<S>,

@@ -4,7 +4,7 @@ ghost use Rattle.exam_check.specs.Lines as spec;
 
 use crate::tables::Table;
 
-/// The line for the first bad table of a database, or for a good one.
+/// The line for the first bad table of a database, or for a good database.
 pub fn check_line(found: Option<Table>) -> &'static [u8]
     ensures { result.now ≡ spec.check_text found }
 {

@@ -19,7 +19,7 @@ use sqlite::{Alter, Connection};
 use std::alloc::Global;
 use std::collections::BTreeMap;
 
-/// What the tables hold, and the first whose rows are those of none. Such a table has no rows here.
+/// What the tables hold, and the first table whose rows no office has. Such a table has no rows here.
 #[derive(Drop)]
 pub struct Tables {
     pub facts: Facts,
@@ -46,7 +46,7 @@ struct Register {
     standing: BTreeMap<(Number, Reference), ()>,
 }
 
-/// Reads every table. Refused as a bad store where a table or a column is missing.
+/// Reads every table. Refused with `BadStore` if a table or a column is missing.
 pub fn read_tables<S: Alter>(alloc: Global, conn: &mut Connection<S>) -> Result<Tables, Refusal>
     ensures looks { spec.Looks S.Store conn.old conn.new result }
     ensures understood { HasCleanDisk (state S.Store conn.new)
@@ -157,8 +157,8 @@ fn read_register<S: Alter>(
     })
 }
 
-/// The whole table; where its rows are those of none, no row, and the table is noted if none is yet. Refused as a
-/// bad store where the table or a column is missing.
+/// The whole table. If no office has its rows, it has no rows here, and it is noted unless one is noted already.
+/// Refused with `BadStore` if the table or a column is missing.
 fn read_table<T: StoredRows, S: Alter>(
     alloc: Global,
     conn: &mut Connection<S>,

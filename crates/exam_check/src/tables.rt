@@ -4,7 +4,7 @@ ghost use Rattle.exam_check.specs.FirstBad as spec;
 
 use exam_office::Table as OfficeTable;
 
-/// The tables of a database, in the order in which they are looked at.
+/// The tables of a database, in the order in which they are checked.
 #[derive(Clone, Copy, Debug, PartialEq, Eq)]
 pub enum Table {
     Office,
@@ -38,7 +38,7 @@ pub fn table_of(table: OfficeTable) -> Table
     }
 }
 
-/// The place of the table in the order in which an office's tables are looked at.
+/// The place of the table in the order in which an office's tables are checked.
 fn place_of(table: OfficeTable) -> u8
     ensures { result ≡ spec.place table }
 {
@@ -56,7 +56,7 @@ fn place_of(table: OfficeTable) -> u8
     }
 }
 
-/// The first of two tables, as far as there are two.
+/// The first of two tables; none if there is none.
 pub fn first_of(one: Option<OfficeTable>, other: Option<OfficeTable>) -> Option<OfficeTable>
     ensures { spec.IsFirstOf one other result }
 {
@@ -77,7 +77,7 @@ fn first_of_two(one: OfficeTable, other: OfficeTable) -> OfficeTable
     }
 }
 
-/// The table that could not be read first, where this one could not be read either.
+/// The first table that could not be read, if this one could not be read either.
 pub fn first_unread(before: Option<OfficeTable>, table: OfficeTable) -> Option<OfficeTable>
     ensures { result ≡ Some (spec.first_unread before table) }
 {
