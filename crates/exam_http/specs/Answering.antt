@@ -56,8 +56,8 @@ abbrev pub DoesCommandBy : {O : Type 0} → (Command → Result Reply Refusal �
 DoesCommandBy Applies command told new =
     (answered : Result Reply Refusal) × Applies command answered new × TellsReply answered told
 
--- The answer to a choice over this office, and what becomes of what holds it: a lodging and a retraction are applied,
--- and anything else leaves it as it is.
+-- The answer to a choice over this office, and what becomes of what holds it: a lodging and a retraction are applied;
+-- any other choice leaves it as it is.
 abbrev pub DoesBy : {O : Type 0} → (Command → Result Reply Refusal → O → Type 0) → State → O → Choice → Told → O → Type 0
 DoesBy Applies office old (choice.Fault fault) told new = (told ≡ error_told (fault_number fault)) × (new ≡ old)
 DoesBy Applies office old (choice.OtherMethod route) told new = (told ≡ method_told route) × (new ≡ old)
@@ -107,13 +107,13 @@ AnswersAsked g today old = AnswersAskedBy (AppliesIn g today old) old.office old
 
 -- ---- when memory may run out
 
--- once the route is found, memory is taken only for a request that shows the code
+-- once the route is found, only a request that shows the code takes memory
 abbrev pub AnswersFound : {S : Type 0} → Ghosts S → ℕ → OfficeIn S → Request → Told → OfficeIn S → Type 0
 AnswersFound g today old request told new =
     (ShowsCode request (named_in old.office request) × IsBusy old told new)
     ⊎ Does g today old (choice_in old.office request) told new
 
--- a page that is shown is of a candidate of the office
+-- a page that is shown is that of a candidate of the office
 abbrev pub IsOfOffice : State → Choice → Type 0
 IsOfOffice office (choice.Show number page) = IsSome (own_of office number)
 IsOfOffice office other = ⊤

@@ -24,7 +24,7 @@ pub record Tells {S : Type 0} (g : Ghosts S) (today : ℕ) (input rest : Option 
   pub gave : Gave 12288 input rest (λ bytes. Asks bytes asked)
   pub answers : AnswersAsked g today old asked told new
 
--- the answer to what was asked, and how much of it went out
+-- the answer to what was asked, and how much of it was written
 abbrev pub Replies : {S W : Type 0} → Ghosts S → (W → Option (List ℕ)) → ℕ → Result Request Fault
     → OfficeIn S → W → Result (Unit {0}) HttpFault → OfficeIn S → W → Type 0
 Replies g contents today asked old before (Ok done) new after =
@@ -35,8 +35,8 @@ Replies g contents today asked old before (Err Write) new after =
     (told : Told) × AnswersAsked g today old asked told new
     × AppendsPart (contents before) (contents after) (answer_text told)
 
--- If nothing fails, all of the answer is written. After a failed read nothing was written and nothing changed. After
--- a failed write a beginning of the answer went out, not all of it, and what was done is not undone.
+-- If nothing fails, all of the answer is written. After a failed read nothing was written and nothing changed. After a
+-- failed write a beginning of the answer was written, but not all, and what was done is not undone.
 abbrev pub Serves : {S W : Type 0} → Ghosts S → (W → Option (List ℕ)) → ℕ → Option (List ℕ) → Option (List ℕ)
     → OfficeIn S → W → Result (Unit {0}) HttpFault → OfficeIn S → W → Type 0
 Serves g contents today input rest old before (Ok done) new after =

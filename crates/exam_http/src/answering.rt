@@ -21,8 +21,8 @@ use exam_types::{Day, Number, Refusal};
 use sqlite::Alter;
 use std::alloc::Global;
 
-/// Answers on a day what was asked. If memory runs out, it does so before any command, and the answer is 22. Whatever
-/// the answer, every session is seated as promised.
+/// Answers, on a day, what was asked. If memory runs out, it does so before any command, and the answer is 22. Whatever
+/// the answer is, every session is seated as promised.
 pub fn answer<S: Alter>(
     alloc: Global,
     store: &mut Store<S>,
@@ -55,8 +55,9 @@ fn answer_request<S: Alter>(
     }
 }
 
-/// Answers a request whose target says this. The access code comes first: it alone is looked up, without memory, until
-/// the request has shown it. So a stranger's request takes no memory here, and makes no rows of a candidate.
+/// Answers a request; `found` is what its target says. The access code comes first: until the request has shown it,
+/// only the code is looked up, which takes no memory. So a stranger's request takes no memory here, and makes no rows
+/// of a candidate.
 fn answer_found<S: Alter>(
     alloc: Global,
     store: &mut Store<S>,
@@ -101,7 +102,7 @@ fn done<S: Alter>(alloc: Global, store: &mut Store<S>, today: Day, choice: Choic
     }
 }
 
-/// Shows a candidate a page, over their own rows, which are made here and nowhere else.
+/// Shows a candidate a page made from their own rows, which are made only here.
 fn show<S: Alter>(alloc: Global, store: &mut Store<S>, number: Number, page: Page) -> Answer
     requires { IsSome (own_of store.old.office number) }
     ensures body { (result ≡ refusal_told NoMemory) ⊎ IsSomeAnd (own_of store.old.office number)

@@ -14,7 +14,7 @@ use std::alloc::Global;
 use std::io::{Read, Write};
 use thiserror::Error;
 
-/// Why a request was not served to its end.
+/// Why a request was not served to the end.
 #[derive(Clone, Copy, Debug, PartialEq, Eq, Error)]
 pub enum HttpFault {
     #[error("a read failed")]
@@ -39,8 +39,8 @@ impl HttpFault {
 const LONGEST_REQUEST: usize = 12_288;
 
 /// Reads one request and writes one answer. After `Read` nothing was written and nothing changed. After `Write` a
-/// beginning of the answer went out, not all of it, and a command that was carried out is not undone. Whatever came in
-/// and went out, every session is seated as promised.
+/// beginning of the answer was written, but not all, and a command that was carried out is not undone. Whatever was
+/// read and written, every session is seated as promised.
 pub fn serve_one<S: Alter, R: Read, W: Write>(
     alloc: Global,
     store: &mut Store<S>,
