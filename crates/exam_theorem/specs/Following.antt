@@ -29,7 +29,7 @@ use Rattle.exam_theorem.specs.declared.orders.Outcome.TheVariants as outcome
 
 -- ---- a command line
 
--- done, or why not
+-- the line was carried out, or why not
 abbrev pub LineEnd : Type 0
 LineEnd = Result (Unit {0}) LineStop
 
@@ -49,17 +49,18 @@ is_failure other = false
 abbrev pub Fails : State → LineEnd → State → Type 0
 Fails before end after = IsTrue (is_failure end) × (after ≡ before)
 
--- it is refused so, or there was a failure before; nothing changed
+-- the line ends with this refusal, or there was a failure before; nothing changed
 abbrev pub IsRefused : Refusal → State → LineEnd → State → Type 0
 IsRefused refusal before end after =
     ((end ≡ Err (Job (Refused refusal))) × (after ≡ before)) ⊎ Fails before end after
 
--- how the line of a command ends, by its answer: it is done, whether or not what it prints went out, or it is refused
+-- how the line of a command ends, by its answer: it is done, whether or not what it prints was written, or it is
+-- refused
 abbrev pub TellsAnswer : Result Reply Refusal → LineEnd → Type 0
 TellsAnswer (Ok reply) end = (end ≡ Ok tt) ⊎ (end ≡ Err (Job Write))
 TellsAnswer (Err refusal) end = end ≡ Err (Job (Refused refusal))
 
--- the command makes its step or is refused, and the line ends so; or there was a failure before
+-- the command makes its step or is refused, and the line ends with that; or there was a failure before
 abbrev pub IsDone : Command → ℕ → State → LineEnd → State → Type 0
 IsDone done today before end after =
     ((answered : Result Reply Refusal) × MayApply done today before answered after × TellsAnswer answered end)
@@ -71,7 +72,7 @@ FollowsCommand None today before end after = after ≡ before
 FollowsCommand (Some (Ok done)) today before end after = IsDone done today before end after
 FollowsCommand (Some (Err refusal)) today before end after = IsRefused refusal before end after
 
--- the words are no line: that is the answer, and nothing changes
+-- the words are not understood: this is the outcome, and nothing changes
 abbrev pub IsNoLine : List Text → State → LineEnd → State → Type 0
 IsNoLine words before end after =
     (fault : LineFault) × (end ≡ Err (NoLine fault)) × Answers (Err fault) words × (after ≡ before)
@@ -95,7 +96,7 @@ Follows (of_request bytes today) before (outcome.Request answered) after =
 Follows (of_line words file) before (outcome.Request answered) after = ⊥
 Follows (of_request bytes today) before (outcome.Line end) after = ⊥
 
--- each order leads, in this way, on from the office that the one before it left
+-- each order leads in this way from the office that the order before it left to the next
 abbrev pub AreEach : (Given → State → Outcome → State → Type 0) → List Given → State → List Outcome → State → Type 0
 AreEach Leads [] before [] after = after ≡ before
 AreEach Leads (order ∷ orders) before (outcome ∷ outcomes) after =
@@ -103,7 +104,7 @@ AreEach Leads (order ∷ orders) before (outcome ∷ outcomes) after =
 AreEach Leads [] before (outcome ∷ outcomes) after = ⊥
 AreEach Leads (order ∷ orders) before [] after = ⊥
 
--- each order is followed in the office that the one before it left
+-- each order is followed in the office that the order before it left
 abbrev pub AreFollowed : List Given → State → List Outcome → State → Type 0
 AreFollowed = AreEach Follows
 
@@ -114,19 +115,19 @@ abbrev pub Spares : Given → State → State → Type 0
 Spares order before after = (s : Code) → Keeps (MayUnseat order) (seating after.relations s)
     (plan_of before.seats s) (plan_of after.seats s)
 
--- an order is followed, all others are spared, and every session is seated as promised
+-- an order is followed, all others keep a seat, and every session is seated as promised
 pub record SparesOthers (order : Given) (before : State) (outcome : Outcome) (after : State) : Type 0 where
   pub follows : Follows order before outcome after
   pub spares : Spares order before after
   pub seated : (s : Code) → IsSeated after s
 
--- each order spares others, in the office that the one before it left
+-- each order spares others, in the office that the order before it left
 abbrev pub EachSparesOthers : List Given → State → List Outcome → State → Type 0
 EachSparesOthers = AreEach SparesOthers
 
 -- ---- one office
 
--- the request was not read, or there was no room for its answer, or that is the answer to a failure
+-- the request was not read, there was no room for its answer, or its answer is that to a failure
 abbrev pub IsFailureOf : Result (Unit {0}) HttpFault → List ℕ → Type 0
 IsFailureOf (Err fault) answer = ⊤
 IsFailureOf (Ok done) answer = (told : Told) × IsFailureTold told × (answer ≡ answer_text told)
@@ -136,11 +137,11 @@ abbrev pub IsFailure : Outcome → Type 0
 IsFailure (outcome.Line end) = IsTrue (is_failure end)
 IsFailure (outcome.Request answered) = IsFailureOf answered.served answered.answer.items
 
--- none met a failure
+-- no order met a failure
 abbrev pub NoneFails : List Outcome → Type 0
 NoneFails outcomes = All (λ outcome. IsFailure outcome → ⊥) outcomes
 
--- however else the orders are followed, they end in the same office, where none meets a failure
+-- if the orders are followed again without a failure, they end in the same office
 abbrev pub EndsInOne : List Given → State → List Outcome → State → Type 0
 EndsInOne orders before outcomes after =
     NoneFails outcomes → (others : List Outcome) (other : State) → AreFollowed orders before others other

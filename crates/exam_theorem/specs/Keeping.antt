@@ -9,8 +9,8 @@ use Rattle.exam_store.specs.Stores.{OfficeIn}
 unfoldable pub KeepsIt : {S : Type 0} → Ghosts S → OfficeIn S → Type 0
 KeepsIt g it = IsKept (state g it.database) it.office
 
--- Where the disk has returned what was written and the connection is open, it was so before, and an office that was
--- kept is kept still.
+-- If the disk has returned what was written and the connection is open, this was so before too, and an office that the
+-- tables kept is still kept.
 pub record KeepsOn {S : Type 0} (g : Ghosts S) (old new : OfficeIn S) : Type 0 where
   pub was_sound : IsSound (state g new.database) → IsSound (state g old.database)
   pub kept : IsSound (state g new.database) → KeepsIt g old → KeepsIt g new

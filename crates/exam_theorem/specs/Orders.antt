@@ -26,12 +26,12 @@ abbrev pub shown : Order → Given
 shown (order.Line words file) = of_line (map string_bytes words.now) file.now
 shown (order.Request bytes today) = of_request bytes.now today
 
--- what is said, where nothing is wrong with the words
+-- what the words say, if nothing is wrong with them
 abbrev pub said_unless : List ErrorKind → Option Said → Option Said
 said_unless [] answer = answer
 said_unless (fault ∷ faults) answer = None
 
--- what words say, where `clap` takes them
+-- what words say, if `clap` accepts them
 unfoldable pub line_of : List Text → Option Said
 line_of words = said_unless (fault_of grammar words) (said words)
 
@@ -40,7 +40,7 @@ abbrev pub import_command : Result ImportRows Refusal → Result Command Refusal
 import_command (Ok rows) = Ok (command.Import rows)
 import_command (Err refusal) = Err refusal
 
--- the command of the office, or why the file denotes none; none where the line makes, serves or prints
+-- the command of the office, or why the file denotes none; none for a line that makes, serves or prints
 abbrev pub command_of : Task → List ℕ → Option (Result Command Refusal)
 command_of line.init file = None
 command_of (line.import kind path) file = Some (import_command (import_of kind file))
@@ -64,13 +64,13 @@ sheet_asked words = option_and_then (λ s. sheet_of s.task) (line_of words)
 
 -- ---- whom an order may cost a seat
 
--- an import and the closing of a hall may cost anybody a seat, any other command the candidate whom it names alone
+-- an import and the closing of a hall may cost anybody a seat; any other command only the candidate whom it names
 abbrev pub CommandMayUnseat : Command → ℕ → Type 0
 CommandMayUnseat (command.Import import) c = ⊤
 CommandMayUnseat (command.CloseHall session hall) c = ⊤
 CommandMayUnseat other c = IsNamed other c
 
--- what is no command, or a file that denotes no import, costs nobody a seat
+-- an order that is no command, or a file that denotes no import, costs nobody a seat
 abbrev pub GivenMayUnseat : Option (Result Command Refusal) → ℕ → Type 0
 GivenMayUnseat None c = ⊥
 GivenMayUnseat (Some (Err refusal)) c = ⊥
@@ -80,7 +80,7 @@ abbrev pub LineMayUnseat : Option Said → List ℕ → ℕ → Type 0
 LineMayUnseat None file c = ⊥
 LineMayUnseat (Some said) file c = GivenMayUnseat (command_of said.task file) c
 
--- a decision may cost the appellant a seat and nobody else; a request, nobody
+-- a decision may cost only the appellant a seat; a request costs nobody one
 abbrev pub MayUnseat : Given → ℕ → Type 0
 MayUnseat (of_line words file) c = LineMayUnseat (line_of words) file c
 MayUnseat (of_request bytes today) c = ⊥

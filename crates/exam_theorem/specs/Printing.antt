@@ -11,7 +11,7 @@ use Rattle.exam_job.specs.declared.report.JobFault.{JobFault}
 use Rattle.exam_theorem.specs.Following.{LineEnd, told}
 use Rattle.exam_theorem.specs.declared.orders.LineStop.TheVariants.{NoLine}
 
--- the appeals are read from the tables, so what is printed of them rests on these; any other sheet does not
+-- the appeals are printed from the tables, so they depend on what these keep; no other sheet does
 abbrev pub RestsOn : Type 0 → Sheet → Type 0
 RestsOn kept sheet.Appeals = kept
 RestsOn kept which = ⊤
@@ -20,8 +20,8 @@ abbrev pub RestsOnAsked : Type 0 → Option (Code × Sheet) → Type 0
 RestsOnAsked kept None = ⊤
 RestsOnAsked kept (Some asked) = RestsOn kept asked.1
 
--- Words that ask for no sheet print nothing, nor does any where there is no memory to read them; the sheet that
--- words ask for is printed of the office.
+-- Words that ask for no sheet print nothing, and neither do words for which memory runs out. A sheet that the words ask
+-- for is that of the office.
 abbrev pub PrintsAsked : {W : Type 0} → (W → Option (List ℕ)) → State → Option (Code × Sheet) → W → LineEnd → W
     → Type 0
 PrintsAsked contents office None before end after =

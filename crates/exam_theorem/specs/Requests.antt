@@ -26,22 +26,22 @@ DoesCommand today before = DoesCommandBy (AppliesOn today before)
 abbrev pub Does : ℕ → State → Choice → Told → State → Type 0
 Does today before = DoesBy (AppliesOn today before) before before
 
--- what was asked is done and answered, unless memory runs out; a fault is answered
+-- what was asked is done and answered, unless memory runs out; a fault is answered too
 abbrev pub AnswersAsked : ℕ → State → Result Request Fault → Told → State → Type 0
 AnswersAsked today before = AnswersAskedBy (AppliesOn today before) before before
 
--- what the bytes ask is answered so
+-- this is the answer to what the bytes ask
 pub record Tells (bytes : List ℕ) (today : ℕ) (before : State) (told : Told) (after : State) : Type 0 where
   pub asked : Result Request Fault
   pub asks : Asks bytes asked
   pub answers : AnswersAsked today before asked told after
 
--- some bytes of the text, and not all
+-- a beginning of the text, but not all
 abbrev pub IsPart : List ℕ → List ℕ → Type 0
 IsPart bytes text = (rest : List ℕ) × (text ≡ bytes ++ rest) × (0 < length rest)
 
--- all of the answer is there; or the request was not read, and nothing changed; or there was no room for all of the
--- answer, and what was done is not undone
+-- All of the answer was written. Or the request was not read, and nothing changed. Or there was no room for all of the
+-- answer, and what was done is not undone.
 abbrev pub Serves : List ℕ → ℕ → State → Result (Unit {0}) HttpFault → List ℕ → State → Type 0
 Serves bytes today before (Ok done) answer after =
     (told : Told) × Tells bytes today before told after × (answer ≡ answer_text told)

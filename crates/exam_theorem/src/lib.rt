@@ -1,4 +1,4 @@
-//! From the bytes that come in to the bytes of a sheet: orders, followed over the office in a store.
+//! From the bytes that come in to the bytes of a sheet: orders that are followed over the office in a store.
 #![tactic(auto)]
 
 mod orders;

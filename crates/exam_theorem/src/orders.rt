@@ -22,26 +22,26 @@ use std::io;
 /// What comes in.
 #[derive(Clone, Copy)]
 pub enum Order<'o> {
-    /// The words of a command line, the program's name first, and the bytes of the file that it imports, if it
-    /// does.
+    /// The words of a command line, the program's name first, and the bytes of the file that it imports, if it imports
+    /// one.
     Line { words: &'o [String], file: &'o [u8] },
-    /// The bytes of a request over HTTP, and the day on which it comes.
+    /// The bytes of a request over HTTP, and the day on which it comes in.
     Request { bytes: &'o [u8], today: Day },
 }
 
 /// Why a command line was not carried out.
 #[derive(Drop)]
 pub enum LineStop {
-    /// The words are no line.
+    /// The words are not understood.
     NoLine(LineFault),
-    /// The line was not carried out, or what it prints did not go out.
+    /// The line was not carried out, or what it prints was not written.
     Job(JobFault),
 }
 
 /// What became of a command line.
 pub type LineEnd = Result<(), LineStop>;
 
-/// What became of a request: the bytes of its answer, or why they are not all there.
+/// What became of a request: the bytes of its answer, or why they are not complete.
 #[derive(Drop)]
 pub struct Answered {
     pub served: Result<(), HttpFault>,
@@ -55,8 +55,8 @@ pub enum Outcome {
     Request(Answered),
 }
 
-/// Follows orders in turn, and gives what became of each. Refused if memory runs out before the first order, and then
-/// all is as before.
+/// Follows orders in turn, and returns what became of each. Refused if memory runs out before the first order; then
+/// everything is as before.
 pub fn follow_all<S: Alter>(
     alloc: Global,
     store: &mut Store<S>,
@@ -70,7 +70,7 @@ pub fn follow_all<S: Alter>(
     ensures memory { IfErr result (λ e. e ≡ NoMemory) }
     ensures same { OnErr result (store.new ≡ store.old) }
 {
-    // Room for all outcomes first, so that nothing fails once an order is followed.
+    // Make room for all outcomes first, so that nothing fails once an order is followed.
     let mut outcomes = Vec::with_capacity(alloc, orders.len())?;
     'orders: for order in orders {
         outcomes.push_reserved(follow(alloc, store, order));
@@ -113,7 +113,7 @@ fn follow_words<S: Alter>(
     }
 }
 
-/// Follows a line with the file that it imports. What it prints is thrown away.
+/// Follows a line with the file that it imports. The output of the line is discarded.
 fn follow_line<S: Alter>(
     alloc: Global,
     store: &mut Store<S>,

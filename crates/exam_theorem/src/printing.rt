@@ -55,7 +55,7 @@ pub fn print_after<S: Alter, O: Write>(
     ensures memory { IfErr result (λ e. e ≡ NoMemory) }
     ensures same { OnErr result ((store.new ≡ store.old) × (out.new ≡ out.old)) }
 {
-    // What an office promises is shown here for a refusal, and once more after the orders.
+    // Shows the promise for a refusal here, and again after the orders.
     store.show_seated();
     let outcomes = follow_all(alloc, store, orders)?;
     let printed = print_asked(alloc, store, words, out);
