@@ -1,4 +1,4 @@
-//! A candidate's request, as a line for `curl` says it.
+//! A candidate's request, written as a line for `curl`.
 ghost use Rattle.exam_rules.specs.Relations.{Code};
 ghost use Rattle.exam_office.specs.Headline.{IsSeated};
 
@@ -10,10 +10,10 @@ use sqlite::Alter;
 use std::alloc::Global;
 use std::str;
 
-/// Where the office would serve.
+/// The address at which the office would serve.
 const SERVER: &str = "http://127.0.0.1:8080";
 
-/// The body of what is answered to the bytes of a request. Whatever is answered, every session is seated as promised.
+/// The body of the answer to the bytes of a request. Whatever the answer is, every session is seated as promised.
 pub fn answer_to<S: Alter>(
     alloc: Global,
     store: &mut Store<S>,
@@ -32,8 +32,8 @@ pub fn answer_to<S: Alter>(
     Ok(String::from_str(alloc, body)?)
 }
 
-/// The bytes of a request, as a line says it. The line has quotes around the header of the access code, and around the
-/// body that it posts, if it posts one.
+/// The bytes of the request in the line. The line has quotes around the header of the access code, and around the body
+/// that it posts, if it posts one.
 pub fn request_of(alloc: Global, line: &str) -> Result<String> {
     let mut parts = line.split('\'');
     let _ = parts.next();

@@ -17,7 +17,7 @@ use std::alloc::{AllocError, Global};
 use std::fs::File;
 use std::io::{Read, empty};
 
-/// The words before those of each command line. The file is never opened: the office is in memory.
+/// The words of each command line before the command. The file is never opened: the office is in memory.
 const PROGRAM: [&str; 5] = ["examoffice", "--db", "office.db", "--today", TODAY];
 
 const TODAY: &str = "2027-05-01";
@@ -48,7 +48,7 @@ fn follow(rt: &HostRuntime, store: &mut Store<MemStore>, line: &str) -> Result<(
     Ok(())
 }
 
-/// The words of a command, behind the program's name and options.
+/// The words of a command, after the program's name and options.
 fn words_of(alloc: Global, command: &str) -> Result<Vec<String>, AllocError> {
     let mut words = Vec::new(alloc);
     for word in PROGRAM.into_iter().chain(command.split(' ')) {
@@ -57,7 +57,7 @@ fn words_of(alloc: Global, command: &str) -> Result<Vec<String>, AllocError> {
     Ok(words)
 }
 
-/// Carries out the command that the words say. The status is not printed: the lines tell it.
+/// Carries out the command that the words say. Does not print the exit status, since the printed lines show it.
 fn run_words(rt: &HostRuntime, store: &mut Store<MemStore>, words: &[String]) {
     let _ = match parse_line(rt.alloc(), words) {
         Ok(line) => run_line(rt, store, &line),
@@ -76,7 +76,7 @@ fn run_line(rt: &HostRuntime, store: &mut Store<MemStore>, line: &Line<'_>) -> u
     }
 }
 
-/// Faults go to standard output too, so that they come in the order of the commands.
+/// Faults go to standard output too, so that they appear in the order of the commands.
 fn run_over<R: Read>(
     rt: &HostRuntime,
     store: &mut Store<MemStore>,
