@@ -1,4 +1,4 @@
--- What the command finds and prints that looks for the first bad table.
+-- What the command `check` finds and prints, which looks for the first bad table.
 use Rattle.std.specs.Prelude.{◌≡◌, ℕ, List, Option, None, Some, Result, Ok, Err}
 use Rattle.sqlite.specs.Held.{Held, state}
 use Rattle.sqlite.specs.State.{HasCleanDisk}
@@ -11,18 +11,18 @@ use Rattle.exam_check.specs.declared.tables.Table.{Table}
 use Rattle.exam_job.specs.Printed.{Prints}
 use Rattle.exam_job.specs.declared.report.JobFault.{JobFault}
 
--- the first bad table of the database that was there, as it was seen while the disk returned what was written
+-- the first bad table of the database that the file held, as it was seen while the disk returned what was written
 abbrev pub FoundIn : {S : Type 0} → Ghosts S → Held S → Option Table → Type 0
 FoundIn {S} g was found =
     (now : Held S) × (HasCleanDisk (state g now) → (all : Trees) → ContainsMade (state g was).now all
     → IsFirstBadTable (state g was).now all found)
 
--- 0 where there is none
+-- 0 if there is none
 abbrev pub check_status : Option Table → ℕ
 check_status None = 0
 check_status (Some t) = 1
 
--- the exit status where the line went out
+-- the exit status, if the line was printed
 abbrev pub status_of : ℕ → Result (Unit {0}) JobFault → Result ℕ JobFault
 status_of status (Ok done) = Ok status
 status_of status (Err fault) = Err fault

@@ -1,4 +1,4 @@
--- What is opened of files, and how files that could not be opened are told.
+-- What opening files finds, and how files that could not be opened are reported.
 use Rattle.std.specs.Prelude.{◌≡◌}
 use Rattle.sqlite.specs.Held.{Held, state}
 use Rattle.sqlite.specs.State.{State, HasCleanDisk}
@@ -22,14 +22,14 @@ IsOver g image conn = HasCleanDisk (state g conn) → FindsIn image (state g con
 abbrev pub OpensIn : {S : Type 0} → Ghosts S → Image → Held S → Office → Type 0
 OpensIn {S} g image now office = (was : Held S) × IsOver g image was × Finds (state g was) (state g now) office
 
--- the same, or there was nothing, and the office is the empty one
+-- the same, or the files held nothing, and the office is the empty one
 abbrev pub MakesIn : {S : Type 0} → Ghosts S → Image → Held S → Office → Type 0
 MakesIn {S} g image now office =
     (was : Held S) × IsOver g image was
     × (IsBlank (state g was).now → office ≡ empty_state)
     × ((IsBlank (state g was).now → ⊥) → Finds (state g was) (state g now) office)
 
--- want of memory, a file that is no database, or another failure
+-- out of memory, a file that is no database, or another failure
 abbrev pub opening_refusal : Error → Refusal
 opening_refusal (SqliteFailure OutOfMemory) = NoMemory
 opening_refusal (SqliteFailure NotADatabase) = BadStore

@@ -24,14 +24,14 @@ use std::fs::{self, File, OpenOptions};
 use std::io::{ErrorKind, Write};
 use std::os::unix::fs::OpenOptionsExt;
 
-/// A new database can be read and written by its owner alone, since access codes lie in it.
+/// Only its owner can read and write a new database, since it holds access codes.
 const NEW_FILE_MODE: u32 = 0o600;
 
-/// What holds the tables of a file. `S` stands for what the file held as it was opened, so that a contract can
-/// speak of it.
+/// What holds the tables of a file. `S` represents what the file held when it was opened, so that a contract can speak
+/// of it.
 pub type OfficeFile<S> = FileStore<FileFrom<S>>;
 
-/// Opens the office at the path, or makes an empty one where nothing is.
+/// Opens the office at the path, or makes an empty one if there is no file.
 pub fn create_office<S: Start>(
     rt: &HostRuntime,
     path: &str,
@@ -48,7 +48,8 @@ pub fn create_office<S: Start>(
     create_over(rt.alloc(), conn)
 }
 
-/// Opens the office that the database holds, or makes an empty one where nothing is. Closes it where it is refused.
+/// Opens the office that the database holds, or makes an empty one if it is empty. Closes the database if this is
+/// refused.
 fn create_over<S: Start>(
     alloc: Global,
     conn: Connection<OfficeFile<S>>,
@@ -65,7 +66,7 @@ fn create_over<S: Start>(
     }
 }
 
-/// Opens the office at the path. Where nothing is there is no office, and no file is made.
+/// Opens the office at the path. Refused with `BadStore` if there is no file; makes none.
 pub fn open_office<S: Start>(
     rt: &HostRuntime,
     path: &str,
@@ -82,7 +83,7 @@ pub fn open_office<S: Start>(
     open_over(rt.alloc(), conn)
 }
 
-/// Opens the office that the database holds. Closes it where it is refused.
+/// Opens the office that the database holds. Closes the database if this is refused.
 fn open_over<S: Start>(
     alloc: Global,
     conn: Connection<OfficeFile<S>>,
@@ -97,8 +98,8 @@ fn open_over<S: Start>(
     }
 }
 
-/// Brings the office at the path to the newest version, and prints from which version to which. Where nothing is
-/// there is no office, and no file is made.
+/// Brings the office at the path to the newest version, and prints its version before and after. Refused with
+/// `BadStore` if there is no file; makes none.
 pub fn migrate_file<S: Start, O: Write>(
     rt: &HostRuntime,
     path: &str,
@@ -107,13 +108,13 @@ pub fn migrate_file<S: Start, O: Write>(
 ) -> Result<(), JobFault> {
     let mut conn = open_present(rt, path, start)?;
     let told = migrate_office(rt.alloc(), &mut conn, out);
-    // The migration is committed by now, so a failure here takes nothing back.
+    // The migration is already committed, so a failure here undoes nothing.
     let _ = conn.close();
     told
 }
 
-/// Prints `good`, or the first bad table of the database at the path, and gives the exit status. A file that is no
-/// database has a bad table `office`, and so has no file at all; no file is made.
+/// Prints `good`, or the first bad table of the database at the path, and returns the exit status. If there is no file,
+/// or it is no database, the bad table is `office`. Makes no file.
 pub fn check_file<S: Start, O: Write>(
     rt: &HostRuntime,
     path: &str,
@@ -128,7 +129,7 @@ pub fn check_file<S: Start, O: Write>(
     tell_table(found, out)
 }
 
-/// Opens the database at the path. Refused as a bad store where nothing is, or what is no database.
+/// Opens the database at the path. Refused with `BadStore` if there is no file, or if it is no database.
 fn open_present<S: Start>(
     rt: &HostRuntime,
     path: &str,
@@ -143,7 +144,8 @@ fn open_present<S: Start>(
     open_database(rt, path, start)
 }
 
-/// The first bad table of the database, which is closed. Nothing was written, so a failure of that changes nothing.
+/// Finds the first bad table of the database, and closes it. Nothing was written, so a failure to close changes
+/// nothing.
 fn check_over<S: Start>(
     alloc: Global,
     mut conn: Connection<OfficeFile<S>>,
@@ -156,7 +158,7 @@ fn check_over<S: Start>(
     found
 }
 
-/// Prints the line for the first bad table, or for none, and gives the exit status.
+/// Prints the line for the first bad table, or for none, and returns the exit status.
 fn tell_table<O: Write>(found: Option<Table>, out: &mut O) -> Result<u8, JobFault>
     ensures { TellsTable O.contents found out.old result out.new }
 {
@@ -167,7 +169,7 @@ fn tell_table<O: Write>(found: Option<Table>, out: &mut O) -> Result<u8, JobFaul
     }
 }
 
-/// Closes the office. What was answered stands already, so a failure here takes nothing back.
+/// Closes the office. What was answered is already committed, so a failure here undoes nothing.
 pub fn close_office<S: Start>(store: Store<OfficeFile<S>>) {
     let _ = store.close().close();
 }
@@ -206,11 +208,11 @@ fn has_file(rt: &HostRuntime, path: &str) -> Result<bool, Refusal>
     }
 }
 
-/// Makes an empty file where nothing is, which the database then fills.
+/// Makes an empty file if there is none; the database then fills it.
 fn make_file(rt: &HostRuntime, path: &str) -> Result<(), Refusal>
     ensures { IfErr result (λ refusal. IsTrue (is_store_refusal refusal)) }
 {
-    // The database takes this for no file at all, and refuses it.
+    // To the database this name means no file at all, so it would refuse it.
     if path == ":memory:" {
         return Err(Refusal::Store);
     }
@@ -234,7 +236,7 @@ fn file_refusal(kind: ErrorKind) -> Refusal
     }
 }
 
-/// A new file is a plain one, without the sums that only an extension of `sqlite3` writes.
+/// Opens the database. A new file has no checksums, which only an extension of `sqlite3` writes.
 fn open_database<S: Start>(
     rt: &HostRuntime,
     path: &str,
@@ -251,7 +253,7 @@ fn open_database<S: Start>(
     }
 }
 
-/// A file that is no database holds no office.
+/// The refusal for an error of opening. A file that is no database holds no office.
 fn open_refusal(error: &Error) -> Refusal
     ensures { result ≡ opening_refusal error.now }
 {

@@ -19,11 +19,11 @@ use std::process::ExitCode;
 fn main(rt: HostRuntime) -> ExitCode {
     let mut out = rt.stdout();
     let mut err = rt.stderr();
-    // Nothing is known of what the file holds; every contract below is of any first contents.
+    // Nothing is known of what the file holds; every contract below holds for any first contents.
     run(&rt, words_of(&rt), Unknown, &mut out, &mut err)
 }
 
-/// The words of the command line, the program's name first. Where one is no text the line is not understood.
+/// The words of the command line, the program's name first. If one of them is not text, the line is not understood.
 fn words_of(rt: &HostRuntime) -> Result<Vec<String>, LineFault> {
     match env::args(rt) {
         Ok(words) => words.collect(rt.alloc()).map_err(|_| LineFault::NoMemory),

@@ -10,7 +10,7 @@ use sqlite::Start;
 use std::io::{Write, empty};
 use std::process::ExitCode;
 
-/// Carries out what the words of a command line say, the program's name first, and gives the exit status.
+/// Carries out what the words of a command line say, the program's name first, and returns the exit status.
 pub fn run<S: Start, O: Write, E: Write>(
     rt: &HostRuntime,
     words: Result<Vec<String>, LineFault>,
@@ -25,7 +25,7 @@ pub fn run<S: Start, O: Write, E: Write>(
     ExitCode::from(status)
 }
 
-/// Reads the command line first, so that nothing is opened where it is not understood.
+/// Reads the command line first, so that nothing is opened if it is not understood.
 fn run_words<S: Start, O: Write, E: Write>(
     rt: &HostRuntime,
     words: &[String],
@@ -39,7 +39,7 @@ fn run_words<S: Start, O: Write, E: Write>(
     }
 }
 
-/// Carries the line out over the file that it names, and gives the exit status.
+/// Carries the line out over the file that it names, and returns the exit status.
 fn run_line<S: Start, O: Write, E: Write>(
     rt: &HostRuntime,
     line: &Line<'_>,
@@ -53,8 +53,8 @@ fn run_line<S: Start, O: Write, E: Write>(
     }
 }
 
-/// Carries the line out over the office that it names, or brings that to the newest version, or looks for the first bad
-/// table.
+/// Carries the line out over the office that it names; or brings that office to the newest version; or looks for the
+/// first bad table.
 fn run_task<S: Start, O: Write, E: Write>(
     rt: &HostRuntime,
     line: &Line<'_>,
@@ -72,7 +72,7 @@ fn run_task<S: Start, O: Write, E: Write>(
     }
 }
 
-/// Opens what the line names, or makes it, carries the line out and closes it.
+/// Opens what the line names, or makes it; carries the line out; and closes the office.
 fn run_open<S: Start, O: Write, E: Write>(
     rt: &HostRuntime,
     line: &Line<'_>,

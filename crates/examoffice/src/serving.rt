@@ -12,14 +12,14 @@ use std::io::{self, ErrorKind, Read, Write};
 use std::net::{Ipv4Addr, Shutdown, SocketAddrV4, TcpListener, TcpStream};
 use std::time::{Duration, Instant};
 
-/// How many seconds a client may take to its first byte and between two bytes, so that a silent one does not hold
-/// the office.
+/// How many seconds a client may take before its first byte, and between two bytes, so that a silent client does not
+/// block the office.
 const LONGEST_SILENCE: u64 = 2;
 
-/// How many seconds a connection may last, so that a slow client does not hold the office.
+/// How many seconds a connection may last, so that a slow client does not block the office.
 const LONGEST_CONNECTION: u64 = 10;
 
-/// After so many connections the server ends.
+/// The server ends after so many connections.
 const MOST_CONNECTIONS: usize = 4_294_967_295;
 
 /// A connection whose reads and writes fail once its time is over.
@@ -31,7 +31,7 @@ struct Timed<'s> {
 }
 
 impl Timed<'_> {
-    /// How long a read or a write that began at this moment may last yet.
+    /// How much longer a read or a write that began at this moment may last.
     fn time_left(&self, began: Instant) -> io::Result<Duration> {
         let silence = Duration::from_secs(LONGEST_SILENCE).saturating_sub(began.elapsed(self.rt)?);
         let connection = Duration::from_secs(LONGEST_CONNECTION).saturating_sub(
@@ -52,7 +52,7 @@ impl Read for Timed<'_> {
         for _ in 0..u64::MAX {
             self.stream.set_read_timeout(Some(self.time_left(began)?))?;
             match stream.read(buf) {
-                // A signal came first, as when the program was stopped and continued.
+                // A signal interrupted the read, for example because the program was stopped and continued.
                 Err(error) if error.kind() == ErrorKind::Interrupted => {}
                 done => return done,
             }
@@ -80,7 +80,7 @@ impl Write for Timed<'_> {
     }
 }
 
-/// Serves one connection after the other on the port, with the day as today. Says so once the port is bound.
+/// Serves one connection after the other on the port, with the day as today. Prints a line once the port is bound.
 pub fn serve<S: Start, O: Write, E: Write>(
     rt: &HostRuntime,
     store: &mut Store<OfficeFile<S>>,
@@ -99,7 +99,7 @@ pub fn serve<S: Start, O: Write, E: Write>(
     serve_each(rt, store, today, &listener, err)
 }
 
-/// Serves one connection after the other, until one cannot be accepted, or there were as many as it serves.
+/// Serves one connection after the other, until one cannot be accepted, or until it has served as many as it may.
 pub fn serve_each<S: Start, E: Write>(
     rt: &HostRuntime,
     store: &mut Store<OfficeFile<S>>,
@@ -118,7 +118,7 @@ pub fn serve_each<S: Start, E: Write>(
     Ok(())
 }
 
-/// Serves one request, and tells the fault where the connection failed.
+/// Serves one request, and prints the fault if the connection failed.
 fn serve_connection<S: Start, E: Write>(
     rt: &HostRuntime,
     store: &mut Store<OfficeFile<S>>,
@@ -131,11 +131,11 @@ fn serve_connection<S: Start, E: Write>(
         Err(_) => Err(HttpFault::Read),
     };
     if let Err(fault) = served {
-        // There is nowhere left to say that this did not go out.
+        // There is nowhere left to report that this was not written.
         let _ = print_error(err, connection_fault_line(fault.number()).as_slice());
     }
-    // The answer ends before the connection is closed: closing it resets a connection whose bytes were not all read,
-    // and a client that sees this first could lose the answer.
+    // The answer ends before the connection is closed. Closing resets a connection if not all of its bytes were read,
+    // and a client that sees the reset first could lose the answer.
     let _ = stream.shutdown(Shutdown::Write);
 }
 
