@@ -48,7 +48,7 @@ fn is_opened_after(alloc: Global, sql: &str) -> Result<bool, Fail> {
     }
 }
 
-/// Finds in that office after each of these statements the first bad table.
+/// Expects, after each of these statements, this first bad table of that office.
 fn finds_each(alloc: Global, bad: &[(&str, Table)]) -> Result<(), Fail> {
     for (sql, table) in bad {
         if found_after(alloc, sql)? != Some(*table) {
@@ -89,7 +89,7 @@ fn what_is_no_office_is_found(rt: HostRuntime) -> Result<(), Fail> {
     finds_each(rt.alloc(), NO_OFFICE)
 }
 
-/// Rows of no stored form.
+/// Rows that are not the stored form of anything.
 const NO_FORM: &[(&str, Table)] = &[
     (
         "INSERT INTO session VALUES ('s2', '2027-06-01', 540)",
@@ -115,8 +115,8 @@ fn rows_of_no_form_are_found(rt: HostRuntime) -> Result<(), Fail> {
     finds_each(rt.alloc(), NO_FORM)
 }
 
-/// A target that is not there; two granted appeals for an arrangement and two for a clash, or two open ones, of one
-/// candidate and session; marks of a hall appeal, and of one that is open.
+/// A target that does not exist; two granted appeals for an arrangement, two for a clash, or two open ones, of one
+/// candidate for one session; marks of a hall appeal, and of an open one.
 const APPEALS: &[(&str, Table)] = &[
     (
         "INSERT INTO appeal VALUES (1, 'R1', 'S1', 1, 'Z', 0, 0, '', 1, NULL, '2027-05-01')",
@@ -158,8 +158,8 @@ fn bad_appeals_and_marks_are_found(rt: HostRuntime) -> Result<(), Fail> {
     finds_each(rt.alloc(), APPEALS)
 }
 
-/// A seat that a sweep would give, one for nobody, two at one desk, a hall that does not fit; and several bad tables,
-/// of which the first is found.
+/// A plan without a seat that a sweep would give, a seat for nobody, two seats at one desk, a hall that does not fit;
+/// and several bad tables, the first of which is found.
 const SEATS: &[(&str, Table)] = &[
     ("DELETE FROM seat WHERE number = 1", Table::Seat),
     ("INSERT INTO seat VALUES ('S1', 3, 'B')", Table::Seat),
@@ -189,7 +189,7 @@ fn bad_seats_are_found_last(rt: HostRuntime) -> Result<(), Fail> {
     finds_each(rt.alloc(), SEATS)
 }
 
-/// Tables that are made again without what they refer to, so that the database takes rows that refer to nothing.
+/// Tables that are made again without their foreign keys, so that the database takes rows that refer to nothing.
 const LOOSE: &[(&str, Table)] = &[
     (
         "DROP TABLE seat; CREATE TABLE seat (session TEXT NOT NULL, number INTEGER NOT NULL, hall TEXT NOT NULL, PRIMARY KEY (session, number)) STRICT; \
@@ -228,7 +228,8 @@ fn rows_that_refer_to_nothing_are_found(rt: HostRuntime) -> Result<(), Fail> {
     finds_each(rt.alloc(), LOOSE)
 }
 
-/// That office with so many more sessions, papers, halls, openings, appeals of one candidate, and candidates.
+/// What is found of that office with so many more sessions, papers, halls, openings, appeals of one candidate, or
+/// candidates.
 fn found_of_many(alloc: Global, kind: &str, many: u32) -> Result<Option<Table>, Fail> {
     let mut conn = office_after(alloc, "")?;
     for number in 0..many {
@@ -256,7 +257,7 @@ fn found_of_many(alloc: Global, kind: &str, many: u32) -> Result<Option<Table>, 
     Ok(check(alloc, &mut conn)?)
 }
 
-/// Whether so many more rows are one too many for the table, and one fewer is good.
+/// Whether so many more rows are one too many for the table, and one fewer are good.
 fn has_limit(alloc: Global, kind: &str, too_many: u32, table: Table) -> Result<bool, Fail> {
     let within = found_of_many(alloc, kind, too_many.saturating_sub(1))?;
     let beyond = found_of_many(alloc, kind, too_many)?;
@@ -286,7 +287,7 @@ fn papers_have_a_limit(rt: HostRuntime) -> Result<(), Fail> {
     Ok(())
 }
 
-/// Doubles the three candidates so often, each entered for the paper.
+/// What is found after the three candidates were doubled so many times, each of them entered for the paper.
 fn found_of_candidates(alloc: Global, doublings: u32) -> Result<Option<Table>, Fail> {
     let mut conn = office_after(alloc, "")?;
     let mut many: u32 = 3;
