@@ -1,5 +1,5 @@
 //! Import files and sheets by example, sheets to writers that take little at a time or fail, and registers from sources
-//! that do not keep their word.
+//! that break their contract.
 mod files;
 mod office;
 mod sheets;

@@ -4,8 +4,8 @@ use exam_office::{Kind, Office};
 use std::process::Abort;
 use std::test::Fail;
 
-/// Quotes, line ends, blank lines, a byte order mark and a last line without an end: each file of entries but the first
-/// holds the two that are there, or one of them twice.
+/// Quotes, line ends, blank lines, a byte order mark and a last line without an end. Each file of entries but the first
+/// holds the two entries that exist, or one of them twice.
 const FORMS: &str = "\
 $ entries
 \"number\",paper
@@ -190,7 +190,7 @@ fn a_bad_record_is_refused_at_its_first_bad_column(rt: HostRuntime) -> Result<()
     play(&rt, &[RECORDS])
 }
 
-/// Records that contradict an earlier one of their file, also behind a bad one.
+/// Records that contradict an earlier one of their file, even after a bad one.
 const CONTRADICTIONS: &str = "\
 $ candidates
 number,name,code
@@ -222,7 +222,7 @@ fn a_record_that_contradicts_an_earlier_one_is_refused(rt: HostRuntime) -> Resul
     play(&rt, &[CONTRADICTIONS])
 }
 
-/// Compares what is told of a file.
+/// Compares the answer to a file with this one.
 fn expect<R: Abort + AllocGlobal>(rt: &R, kind: Kind, file: &[u8], told: &str) -> Result<(), Fail> {
     let mut office = Office::empty(rt.alloc());
     let found = imported(rt.alloc(), &mut office, kind, file)?;

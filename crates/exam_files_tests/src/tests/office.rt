@@ -1,7 +1,7 @@
-//! Files that are imported into an office in memory and sheets of its session S1, as texts that are played.
+//! Files that are imported into an office in memory, and sheets of its session S1, as texts that are played.
 //!
-//! In a text `$ ` begins a file of a kind or the words of a sheet. The lines below are the file. Behind `> ` stands what
-//! is told of it, or the sheet, and behind `! ` the refusal.
+//! In a text, `$ ` begins a file of a kind or the words of a sheet. The lines below are the file. After `> ` comes the
+//! answer to it, or the sheet, and after `! ` the refusal.
 use super::sheets::write_sheet;
 use super::slow::Slow;
 use exam_files::{SheetFault, read_import};
@@ -58,7 +58,7 @@ fn kind_of(line: &str) -> Option<Kind> {
     }
 }
 
-/// What is told of a refusal.
+/// The line for a refusal.
 fn refused(alloc: Global, refusal: Refusal) -> Result<String, Fail> {
     Ok(match refusal {
         Refusal::BadRow { record, column } => {
@@ -72,7 +72,7 @@ fn refused(alloc: Global, refusal: Refusal) -> Result<String, Fail> {
     })
 }
 
-/// Takes a command on the last day before the session but one, and tells what came of it.
+/// Takes a command on the last day but one before the session, and returns the line for its answer.
 pub fn taken(alloc: Global, office: &mut Office, command: &Command) -> Result<String, Fail> {
     let today = Day::parse(b"2027-05-30").ok_or("day")?;
     match step(alloc, office, command, today) {
@@ -88,7 +88,7 @@ pub fn taken(alloc: Global, office: &mut Office, command: &Command) -> Result<St
     }
 }
 
-/// Reads a file and imports its rows, and tells what came of it.
+/// Reads a file and imports its rows, and returns the line for the answer.
 pub fn imported(
     alloc: Global,
     office: &mut Office,
@@ -101,12 +101,12 @@ pub fn imported(
     }
 }
 
-/// The session.
+/// The view of the session.
 pub fn view_of(alloc: Global, office: &Office) -> Result<SessionView, Fail> {
     Ok(office.session_view(alloc, &session().ok_or("session")?)?)
 }
 
-/// The sheet of these words, or what is told of its refusal, which writes nothing.
+/// The sheet of these words, or the line for its refusal, which writes nothing.
 fn sheet(alloc: Global, office: &Office, line: &str) -> Result<String, Fail> {
     let view = view_of(alloc, office)?;
     let mut out = Slow::new(alloc, 1000, 1000);
@@ -119,7 +119,7 @@ fn sheet(alloc: Global, office: &Office, line: &str) -> Result<String, Fail> {
     }
 }
 
-/// Imports a file or writes a sheet, and gives the text that tells of it.
+/// Imports a file or writes a sheet, and returns the text of the answer.
 fn told(alloc: Global, office: &mut Office, line: &str, file: &str) -> Result<String, Fail> {
     let told = match kind_of(line) {
         Some(kind) => imported(alloc, office, kind, file.as_bytes())?,
@@ -128,7 +128,7 @@ fn told(alloc: Global, office: &mut Office, line: &str, file: &str) -> Result<St
     Ok(format!(in alloc; "{line}\n{file}{told}")?)
 }
 
-/// The lines below the first up to what is told.
+/// The lines below the first, up to the answer.
 fn file_of(rest: &str) -> &str {
     match (rest.split_once("> "), rest.split_once("! ")) {
         (Some((file, _)), _) | (None, Some((file, _))) => file,
@@ -136,7 +136,7 @@ fn file_of(rest: &str) -> &str {
     }
 }
 
-/// Plays a text at the office, and compares what is told with it.
+/// Plays a text at the office, and compares the answers with it.
 pub fn played<R: Abort + AllocGlobal>(rt: &R, office: &mut Office, text: &str) -> Result<(), Fail> {
     for part in text.split("$ ").skip(1) {
         let (line, rest) = part.split_once('\n').ok_or("line")?;

@@ -1,4 +1,4 @@
-//! Each sheet, whole to writers that take much or a byte at a time, and cut where a writer fails.
+//! Each sheet, whole to writers that take much or a byte at a time, and cut off when a writer fails.
 use super::office::{BASE, play, played, session, taken, view_of};
 use super::slow::Slow;
 use exam_files::{
@@ -116,7 +116,7 @@ pub fn write_sheet(
     })
 }
 
-/// Compares what a writer takes, at most so many bytes at a call and up to its room.
+/// Compares what a writer takes that takes at most so many bytes at a call, up to its room.
 fn expect_taken<R: Abort + AllocGlobal>(
     rt: &R,
     view: &SessionView,
@@ -131,8 +131,8 @@ fn expect_taken<R: Abort + AllocGlobal>(
     Ok(())
 }
 
-/// The sheet has this text: whole to writers that take much or a byte at a time, cut where a writer fails, and nothing
-/// to one that takes nothing.
+/// The sheet has this text: whole to writers that take much or a byte at a time, cut off when a writer fails, and empty
+/// for one that takes nothing.
 fn expect_sheet<R: Abort + AllocGlobal>(
     rt: &R,
     view: &SessionView,
@@ -159,7 +159,7 @@ fn lodging(alloc: Global) -> Result<Lodging, Fail> {
     })
 }
 
-/// The session of which each sheet has a line.
+/// The session that the sheets show.
 fn view<R: Abort + AllocGlobal>(rt: &R) -> Result<SessionView, Fail> {
     let mut office = Office::empty(rt.alloc());
     played(rt, &mut office, BASE)?;
@@ -181,8 +181,8 @@ fn each_sheet_is_cut_where_its_writer_fails(rt: HostRuntime) -> Result<(), Fail>
     Ok(())
 }
 
-/// A session with nobody in it, and what there is no sheet of: a paper of another session, a hall that is closed and one
-/// that is nowhere.
+/// A session without members, and what has no sheet: a paper of another session, a hall that is closed and one that
+/// does not exist.
 const NOBODY: &str = "\
 $ sessions
 session,date,start
@@ -235,7 +235,7 @@ fn sheets_of_an_empty_session_have_their_headings(rt: HostRuntime) -> Result<(),
     play(&rt, &[NOBODY])
 }
 
-/// The code of a paper that fills its column, and desks by paper before number.
+/// The code of a paper that fills its column, and desks ordered by the paper before the number.
 const DESKS: &str = "\
 $ papers
 paper,title,session,minutes,requires

@@ -1,4 +1,4 @@
-//! Registers whose rows come one by one, from a source that keeps its word and from others.
+//! Registers whose rows come one by one, from a source that keeps its contract and from others.
 use super::office::session;
 use super::slow::Slow;
 use exam_files::{SheetFault, register_stream};
@@ -17,7 +17,7 @@ enum End {
     Lost,
 }
 
-/// Gives one row so many times, whatever was counted, and then ends. Of what it gives nothing is claimed.
+/// Gives one row so many times, whatever was counted, and then ends. Its contract says nothing of what it gives.
 #[derive(Drop)]
 struct Careless {
     left: u32,
@@ -89,18 +89,19 @@ fn a_register_of_rows_in_memory_has_a_line_for_each(rt: HostRuntime) -> Result<(
     Ok(())
 }
 
-/// How many rows a source gives and how it ends, how many were counted, the refusal or 0, how many bytes go out in a
-/// heading of 29 and lines of 61, and how many rows are left.
+/// How many rows a source gives and how it ends, how many were counted, the refusal or 0, how many bytes are written
+/// with a heading of 29 and lines of 61, and how many rows are left.
 type Given = (u32, End, u32, u16, usize, u32);
 
-/// No more rows are asked for than were counted, one that ends early is a bad store, and a refusal is handed on.
+/// No more rows are asked for than were counted. A source that ends early is a bad store. A refusal of the source is
+/// passed on.
 const GIVEN: &[Given] = &[
     (5, End::Over, 2, 0, 151, 3),
     (1, End::Over, 2, 24, 90, 0),
     (1, End::Lost, 3, 23, 90, 0),
 ];
 
-/// The number of the refusal, 0 of none, and 42 where the writer fails.
+/// The number of the refusal; 0 for none, and 42 if the writer fails.
 fn number_of(answer: Result<(), SheetFault>) -> u16 {
     match answer {
         Ok(()) => 0,
