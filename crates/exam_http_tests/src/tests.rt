@@ -10,7 +10,7 @@ macro_rules! asked {
     };
 }
 
-/// A posting of the first candidate, of a body of so many bytes that begins so.
+/// A posting of the first candidate, with a body of so many bytes that begins like this.
 macro_rules! posted {
     ($length:literal, $body:literal) => {
         concat!(

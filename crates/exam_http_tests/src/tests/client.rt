@@ -7,7 +7,7 @@ use std::alloc::Global;
 use std::io::{self, ErrorKind, Read, Write};
 use std::test::Fail;
 
-/// Gives at most so many bytes at a time. Behind the last one it ends, or fails.
+/// Gives at most so many bytes at a time. After the last one it ends, or fails.
 #[derive(Drop)]
 pub struct Giving<'a> {
     pub left: &'a [u8],
@@ -50,7 +50,7 @@ impl Write for Taking {
     }
 }
 
-/// What becomes of a request on a day, and what goes out where so many bytes are taken.
+/// The outcome of a request on a day, and the bytes that are written if the client takes at most so many.
 pub fn serve(
     alloc: Global,
     store: &mut Store<MemStore>,

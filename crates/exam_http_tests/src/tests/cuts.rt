@@ -1,4 +1,4 @@
-//! Requests that fail at each of their bytes, and answers that do.
+//! Requests that fail at each of their bytes, and answers that are cut off at each of theirs.
 use super::client::{Giving, serve};
 use super::exchanges::{LAST_DAY, LODGED, ONE_APPEAL, expect_answer};
 use super::office::{FIRST_IN_A, FIRST_IN_B, office_with};
@@ -20,7 +20,7 @@ Connection: close\r\n\r\n{\"state\":\"open\"}";
 /// More bytes than an answer has.
 const UNLIMITED: usize = 1_000_000;
 
-/// What becomes of a request that fails behind these bytes, and what goes out where so many bytes are taken.
+/// The outcome of a request that fails after these bytes, and what is written if the client takes at most so many.
 fn sent(
     alloc: Global,
     store: &mut Store<MemStore>,
@@ -35,7 +35,7 @@ fn sent(
     serve(alloc, store, LAST_DAY, request, most)
 }
 
-/// The request fails behind each number of its bytes: nothing is answered.
+/// The request fails after each number of its bytes: nothing is answered.
 fn expect_unread<R: Abort + AllocGlobal>(
     rt: &R,
     store: &mut Store<MemStore>,
@@ -49,7 +49,7 @@ fn expect_unread<R: Abort + AllocGlobal>(
     Ok(())
 }
 
-/// The answer is lost behind so many bytes.
+/// The answer is lost after so many bytes.
 fn expect_cut<R: Abort + AllocGlobal>(
     rt: &R,
     store: &mut Store<MemStore>,
@@ -65,7 +65,7 @@ fn expect_cut<R: Abort + AllocGlobal>(
     Ok(())
 }
 
-/// The answer is lost behind each number of its bytes.
+/// The answer is lost after each number of its bytes.
 fn expect_unwritten<R: Abort + AllocGlobal>(
     rt: &R,
     store: &mut Store<MemStore>,
@@ -85,7 +85,7 @@ fn a_posting_that_is_cut_changes_nothing(rt: HostRuntime) -> Result<(), Fail> {
     Ok(())
 }
 
-/// The appeal is posted again when it is too late for a first time. Then the answer is lost behind each of its bytes.
+/// The appeal is posted again when it is too late to lodge a new one. Then the answer is lost after each of its bytes.
 #[test]
 fn an_appeal_stands_whose_answer_is_cut(rt: HostRuntime) -> Result<(), Fail> {
     let mut store = office_with(rt.alloc(), FIRST_IN_B)?;
@@ -97,7 +97,7 @@ fn an_appeal_stands_whose_answer_is_cut(rt: HostRuntime) -> Result<(), Fail> {
     Ok(())
 }
 
-/// Requests that are answered with rows, refused, or faults.
+/// Requests that are answered with rows, with refusals or with faults.
 const REQUESTS: &[(&str, &str)] = &[
     (
         asked!("GET /candidates/0000001/seats"),

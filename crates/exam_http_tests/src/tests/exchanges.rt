@@ -7,7 +7,7 @@ use sqlite::MemStore;
 use std::process::Abort;
 use std::test::Fail;
 
-/// A day, the parts of a request with how often each stands there, and the answer.
+/// A day, the parts of a request with how often each comes there, and the answer.
 type Exchange<'a> = (&'a str, &'a [(&'a str, usize)], &'a str);
 
 /// The last day on which an appeal against a hall can be lodged, and the next one.
@@ -52,7 +52,7 @@ fn exchange<R: Abort + AllocGlobal>(
     Ok(())
 }
 
-/// The answer about nobody and to a wrong code, of 108 bytes.
+/// The answer for an unknown candidate and to a wrong code, of 108 bytes.
 const UNKNOWN: &str = answered!("404 Not Found", 11, "{\"error\":6}");
 
 const OTHER_ROUTE: &str = answered!("404 Not Found", 12, "{\"error\":37}");
@@ -125,7 +125,7 @@ const OPEN: &str = answered!("200 OK", 16, "{\"state\":\"open\"}");
 
 const RETRACTED: &str = answered!("200 OK", 21, "{\"state\":\"retracted\"}");
 
-/// The appeal is posted, and the answer may have been lost.
+/// The appeal is posted; its answer may be lost.
 pub const LODGED: Exchange<'_> = (DAY_AFTER, &[(AGAINST_B, 1)], OPEN);
 
 pub const ONE_APPEAL: Exchange<'_> = (
@@ -194,7 +194,7 @@ fn an_appeal_is_lodged_once_and_taken_back_once(rt: HostRuntime) -> Result<(), F
     exchange(&rt, FIRST_IN_B, APPEALS)
 }
 
-/// The request for a seat to the line of the code, which would be answered if an empty line followed.
+/// The request for a seat up to the line of the code; an empty line after it would make it complete.
 const SEAT_ASKED: &str =
     "GET /candidates/0000001/seats HTTP/1.1\r\nHost: office\r\nExam-Code: CODE0001\r\n";
 
@@ -282,7 +282,7 @@ const HOSTILE: &[Exchange<'_>] = &[
         )],
         BAD_BODY,
     ),
-    // arrays in arrays, where a text is wanted
+    // arrays in arrays, in the place of a text
     (
         LAST_DAY,
         &[
