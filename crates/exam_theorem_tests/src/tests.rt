@@ -8,7 +8,7 @@ use std::alloc::{AllocError, Global};
 use std::slice;
 use std::test::Fail;
 
-/// What becomes of a line, a refusal by its number.
+/// What becomes of a line; a refusal is given by its number.
 #[derive(Clone, Copy, Debug, PartialEq, Eq)]
 enum End {
     Done,
@@ -40,7 +40,7 @@ const AGAINST_B: &str =
     "POST /candidates/0000001/appeals HTTP/1.1\r\nHost: office\r\nExam-Code: CODE0001\r\n\
 Content-Length: 65\r\n\r\n{\"hall\":\"B\",\"kind\":\"hall\",\"reason\":\"\",\"ref\":\"HA1\",\"session\":\"S1\"}";
 
-/// Somebody who does not know the first candidate's code asks for the seats.
+/// Somebody asks for the first candidate's seats without their code.
 const STRANGER: &str =
     "GET /candidates/0000001/seats HTTP/1.1\r\nHost: office\r\nExam-Code: CODE0002\r\n\r\n";
 
@@ -105,15 +105,15 @@ const DAY: &[Step] = &[
     Step::Line("decide 0000001 HA1 granted draught", "", End::Done),
 ];
 
-/// The appeal is posted once more.
+/// The appeal is posted again.
 const LAST: Step = Step::Request(
     AGAINST_B,
     "HTTP/1.1 200 OK\r\n",
     "\r\n\r\n{\"state\":\"granted\"}",
 );
 
-/// The second candidate needs the one hall that is step-free and has it. The first one sat in the other hall, and
-/// lost that desk to the third one by the grant.
+/// The second candidate needs step-free access and has the only such hall. The first one sat in the other hall, and
+/// lost that desk to the third one because of the grant.
 const THIRD_IN_B: &str =
     "DOOR LIST session S1 hall B\ndate 2027-06-01 start 09:00 desks 1 seated 1\n   1 0000003 MA-1         Cy Dahl\n";
 
@@ -129,7 +129,7 @@ fn words_of(alloc: Global, command: &str) -> Result<Vec<String>, AllocError> {
     Ok(words)
 }
 
-/// The words of a step, none for a request.
+/// The words of a step; none for a request.
 fn line_of(alloc: Global, step: &Step) -> Result<Vec<String>, AllocError> {
     match step {
         Step::Line(command, _, _) => words_of(alloc, command),
@@ -151,7 +151,7 @@ fn order_of<'o>(step: &Step, words: &'o [String], today: Day) -> Order<'o> {
     }
 }
 
-/// Whether this becomes of the step's order.
+/// Whether the step's order has this outcome.
 fn ends_so(step: &Step, outcome: &Outcome) -> bool {
     match (step, outcome) {
         (Step::Line(_, _, wanted), Outcome::Line(end)) => end_of(end) == *wanted,
