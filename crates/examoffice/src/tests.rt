@@ -1,3 +1,3 @@
-//! The program over files in folders of their own, and over connections of this machine.
+//! The program over files in folders of their own, and over connections within this machine.
 mod connections;
 mod lines;

@@ -1,4 +1,4 @@
-//! Connections of this machine, which are served one after the other.
+//! Connections within this machine, served one after the other.
 use crate::files::{close_office, create_office};
 use crate::serving::serve_each;
 use exam_job::JobFault;
@@ -28,7 +28,7 @@ Connection: close\r\n\r\n{\"error\":37}",
     ),
 ];
 
-/// The listener waits for nobody, so serving ends after the last client.
+/// The listener does not wait, so serving ends after the last client.
 #[test]
 fn each_client_is_served(rt: HostRuntime) -> Result<(), Fail> {
     let _ = fs::remove_dir_all(&rt, FOLDER);

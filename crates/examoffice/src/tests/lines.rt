@@ -58,7 +58,7 @@ fn words_of(alloc: Global, database: &str, command: &str) -> Result<Vec<String>,
     Ok(words)
 }
 
-/// Whether the line ends so.
+/// Whether the line ends like this.
 fn ends(rt: &HostRuntime, database: &str, command: &str, end: End) -> Result<bool, AllocError> {
     let (status, out, err) = end;
     let words = words_of(rt.alloc(), database, command)?;
