@@ -7,7 +7,7 @@ use Rattle.exam_office.specs.declared.tables.Table.{Table}
 use Rattle.exam_check.specs.FirstBad.{IsFirstBadIn, IsFirstOf, IsFirstOfTwo, place}
 use Rattle.exam_check.specs.Reading.{AreRead, IsReadAs}
 
--- the tables stand at these places, one after the other
+-- the tables are at these places, one after the other
 abbrev pub ArePlaced : ℕ → List Table → Type 0
 ArePlaced n [] = Unit {0}
 ArePlaced n (t ∷ ts) = (place t ≡ n) × ArePlaced (suc n) ts
@@ -21,7 +21,7 @@ stays all o t [] after is = is
 stays all o t (u ∷ ts) after (mid, inl (held, same), more) = stays all o t ts after (subst (λ m. AreRead all o ts m after) same more)
 stays all o t (u ∷ ts) after (mid, inr (none, same), more) = stays all o t ts after (subst (λ m. AreRead all o ts m after) same more)
 
--- a bad table stands behind those that were looked at before
+-- a bad table comes after those that were checked before
 bad_later : (o : State) (b : Table) (n : ℕ) (ts : List Table) → ArePlaced n ts → IsFirstBadOf o ts (Some b) → n ≤ place b
 bad_later o b n [] placed none = absurd cc
 bad_later o b n (t ∷ ts) placed (inl (bad, is)) = omega (arith, ap place (same_table b t is), placed.0)
@@ -36,13 +36,13 @@ unread_later all o u n (t ∷ ts) placed (mid, inr (none, same), more) =
     let is = stays all o t ts (Some u) (subst (λ m. AreRead all o ts m (Some u)) same more) in
     omega (arith, ap place (same_table u t is), placed.0)
 
--- the table that could not be read is the first, where what is bad stands at its place or behind it
+-- the table that could not be read is the first, if the bad table is at its place or after it
 unread_first : (bad : Option Table) (t : Table) (found : Option Table) → ((b : Table) → bad ≡ Some b → place t ≤ place b) → IsFirstOf bad (Some t) found → found ≡ Some t
 unread_first None t found later first = first
 unread_first (Some b) t found later (it, inl (less, is), first) = absurd (omega (arith, less, later b refl))
 unread_first (Some b) t found later (it, inr (no_less, is), first) = first ∙ ap (λ x. Some x) is
 
--- and the bad table is, where what could not be read stands behind it
+-- and the bad table is the first, if the table that could not be read comes after it
 bad_first : (b : Table) (unread : Option Table) (found : Option Table) → ((u : Table) → unread ≡ Some u → place b < place u) → IsFirstOf (Some b) unread found → found ≡ Some b
 bad_first b None found later first = first
 bad_first b (Some u) found later (it, inl (less, is), first) = first ∙ ap (λ x. Some x) is

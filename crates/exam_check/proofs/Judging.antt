@@ -150,7 +150,7 @@ none_found db all (contains, has, o, formed, good) = inr ((contains, has), o, No
 
 -- ---- opening
 
--- each error is told as one of three refusals
+-- each error is reported as one of three refusals
 named : (error : Error) → (refusal_of error ≡ BadStore) ⊎ ((refusal_of error ≡ NoMemory) ⊎ (refusal_of error ≡ Store))
 named (SqliteFailure OutOfMemory) = inr (inl refl)
 named (SqlInputError NoSuchTable) = inl refl
@@ -200,7 +200,7 @@ module _ {S : Type 0} (g : Ghosts S) (old new : Held S) (all : Trees) (was : Con
   none_held e (inr (inr (inl none))) (contains, has, o, formed, good) = none o.seats formed.1
   none_held e (inr (inr (inr (p, held, wrong)))) (contains, has, o, formed, good) = wrong (subst IsGood (one_office all o p formed held) good)
 
-  -- what is refused, for no want of memory and by no failure, has one
+  -- what is refused has one, unless the refusal is `NoMemory` or `Store`
   pub refused : (e : Refusal) → FailsToOpen g old new e → e ≢ NoMemory → e ≢ Store → IsFirstBadTable (state g old).now all None → ⊥
   refused e (inl (inl lacks)) some sound none = some lacks
   refused e (inl (inr (inl (mid, still, text, loads, fails)))) some sound none = told fails.0.0 fails.0.1
