@@ -34,7 +34,7 @@ seats_stay Excepted before after same s = λ c sat member other. subst (λ (seat
 
 -- ---- a line
 
--- whom a step seats for certain
+-- who a step seats for certain
 seated_on : (done : Command) (g : Seating ℕ Code) (p q : Plan ℕ Code) → SeatsOn done g p q → Keeps (CommandMayUnseat done) g p q
 seated_on (command.Import import) g p q on = λ c sat member other. absurd (other tt)
 seated_on (command.CloseHall session hall) g p q on = λ c sat member other. absurd (other tt)
