@@ -2,7 +2,7 @@ use Rattle.std.proofs.Common.{Result, Ok, Err, IfOk}
 use Rattle.std.proofs.lemmas.Result.{IfOk-weaker}
 use Rattle.examoffice.proofs.files.create_office.Goals as goal
 
--- what is so where there is nothing, and what is so otherwise
+-- what holds if there is nothing, and what holds otherwise
 both_ways : {T R A : Type 0} (E F : T → Type 0) (result : Result T R) → (A → IfOk result E) → ((A → ⊥) → IfOk result F) → IfOk result (λ t. (A → E t) × ((A → ⊥) → F t))
 both_ways E F (Ok t) nothing something = (nothing, something)
 both_ways E F (Err r) nothing something = tt
