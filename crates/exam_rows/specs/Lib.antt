@@ -10,11 +10,11 @@
 --   a call that makes tables does
 -- - Loaded: the rows and the entries of a table; why nothing is loaded: memory ran out, a query
 --   failed, or the tables hold none
--- - Reading: what a reader answers: the value whose stored form is shown, or a refusal where there
---   is none; which rows take memory
+-- - Reading: what a reader answers: the value whose stored form is shown, or a refusal if there is
+--   none; which rows take memory
 -- - Inside: what a call makes of the rows of a table inside a transaction, and what it leaves; a
 --   statement that is refused while it writes its rows, before any foreign key is tested
--- - Streamed: the appeals of a session, as a text of which each part goes out as soon as its row is
+-- - Streamed: the appeals of a session, as a text each part of which is sent as soon as its row is
 --   read
 -- - Writes: what changes put, table by table, parents first, and the seats and the openings that they delete then
 -- - Transactions: one transaction, whole or not at all, and what a crash leaves of it
