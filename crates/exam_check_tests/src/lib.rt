@@ -1,5 +1,5 @@
 //! Examples of databases with one bad table, or several, and of what `check` finds in them. The offices are written as
-//! rows. They stand beside `exam_check`, so that the gate proves that crate once.
+//! rows. They are a crate of their own, so that the gate proves `exam_check` only once.
 #![tactic(auto)]
 
 #[cfg(test)]

@@ -1,4 +1,4 @@
-//! Examples of what `exam_http` answers. They stand beside it, so that the gate proves that crate once.
+//! Examples of what `exam_http` answers. They are a crate of their own, so that the gate proves `exam_http` only once.
 #![tactic(auto)]
 
 #[cfg(test)]

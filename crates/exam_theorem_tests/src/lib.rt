@@ -1,5 +1,5 @@
-//! An example of a day, from its imports to a sheet. It stands beside `exam_theorem`, so that the gate proves that
-//! crate once.
+//! An example of a day, from its imports to a sheet. It is a crate of its own, so that the gate proves `exam_theorem`
+//! only once.
 #![tactic(auto)]
 
 #[cfg(test)]
