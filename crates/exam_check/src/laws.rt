@@ -15,9 +15,9 @@ ghost use Rattle.exam_check.specs.FirstBad.{IsFirstBadTable};
 
 use sqlite::Alter;
 
-/// `check` finds no bad table exactly if `Store::open` accepts, unless memory runs out or a query fails. No table is bad
-/// exactly if the tables are those of the newest version and hold a good office of it. A database that was opened has no
-/// bad table. One that was refused has one, unless the refusal is 22 or 23.
+/// `check` finds no bad table exactly if `Store::open` accepts, unless memory runs out or a query fails. No table is
+/// bad exactly if the tables are those of the newest version and hold a good office of it. A database that was opened
+/// has no bad table. One that was refused has one, unless the refusal is 22 or 23.
 pub fn check_finds_nothing_exactly_where_open_accepts<S: Alter>()
     ensures good { (db : Database) (all : Trees) → IsFirstBadTable db all None ↔ HoldsGood version db all }
     ensures accepted { (old new : Held S) (office : State) (all : Trees)
