@@ -14,21 +14,21 @@ use Rattle.exam_job.specs.declared.report.JobFault.TheVariants.{File, Refused}
 abbrev pub most_read : ℕ
 most_read = 4194305
 
--- some bytes were read, which say nothing
+-- some bytes were read; nothing is said of them
 abbrev pub Reads : Option (List ℕ) → Option (List ℕ) → Type 0
 Reads input rest = Gave most_read input rest (λ bytes. ⊤)
 
--- these bytes were read, and they are all that there are, unless they are too many
+-- these bytes were read, and they are all bytes of the file, unless there are too many
 pub record ReadsAll (input rest : Option (List ℕ)) (bytes : List ℕ) : Type 0 where
   pub few : length bytes ≤ most_read
   pub consumed : Consumes input rest bytes
   pub whole : length bytes < most_read → IsAtEnd rest
 
--- a read failed, or memory is short
+-- a read failed, or memory ran out
 abbrev pub IsReadFault : JobFault → Type 0
 IsReadFault fault = (fault ≡ File) ⊎ (fault ≡ Refused NoMemory)
 
--- the import that a file denotes; or its refusal, or that it was not read whole
+-- the import that a file denotes, or its refusal; or the file was not read whole
 abbrev pub ReadsImport : Kind → Option (List ℕ) → Option (List ℕ) → Result ImportRows JobFault → Type 0
 ReadsImport kind input rest (Ok rows) = Gave most_read input rest (λ bytes. import_of kind bytes ≡ Ok rows)
 ReadsImport kind input rest (Err fault) =

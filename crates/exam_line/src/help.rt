@@ -1,4 +1,4 @@
-//! What `--help` and `COMMAND --help` say. `{n}` stands for the end of a line.
+//! What `--help` and `COMMAND --help` say. `{n}` is the end of a line.
 
 pub const PROGRAM: &str =
     "Seats candidates for exams: imports CSV files, finds a desk for each, prints door lists, keeps appeals.";

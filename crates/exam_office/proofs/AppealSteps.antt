@@ -1,4 +1,4 @@
--- A lodging and a retraction are steps, and seat nobody otherwise.
+-- A lodging and a retraction are steps, and seat nobody elsewhere.
 use Rattle.std.proofs.Common.{◌≡◌, ℕ, ◌==◌, ◌&&◌, not, Bool, true, false, cond, [], ◌∷◌, ◌++◌, length, nat_le, Option, None, Some, Ok, Err, is_some, is_none, IsSome, IfSome, IsTrue, refl, ap, sym, subst, ◌∙◌, ◌⊎◌, inl, inr}
 use Rattle.std.specs.List.{list_all, list_any, filter_map}
 use Rattle.std.specs.Map.{keys_of}
@@ -214,7 +214,7 @@ module _ (before : State) (good : IsGood before) (today : ℕ) (l : Lodging) whe
       let some : spec.lodging_refusal before.relations before.seats today l ≡ Some refusal.TooMany = limit_refusal ok true (within_as false (ap within_limits (sym is) ∙ past)) in
       refused_step (command.Lodge l) today before refusal.TooMany (ap (λ o. unless o new) some)
 
-  -- where it goes no further, that is for want of memory, or a limit is passed
+  -- if it goes no further, memory ran out or a limit was passed
   pub lodging_limited : (t : Relations) → IsChecked → t ≡ spec.with_lodging before.relations today l → (e : Refusal) → IsLimitRefusal t e → (e ≡ refusal.NoMemory) ⊎ Step (command.Lodge l) today before (Err e) before
   lodging_limited t ok is e (inl memory) = inl memory
   lodging_limited t ok is e (inr past) = inr (subst (λ (x : Refusal). Step (command.Lodge l) today before (Err x) before) (sym past.0) (lodging_past t ok past.1 is))
@@ -281,7 +281,7 @@ module _ (before : State) (good : IsGood before) (c : ℕ) (reference : Code) wh
   pub retraction_settled : (t : Relations) → AreInOrder before.relations → IsRetractable → IsWithout t → IsSettled before.relations t
   retraction_settled t up ok is = subst (IsSettled before.relations) (sym is) (retraction_within up ok).settled
 
-  -- only for want of memory it goes no further
+  -- it goes no further only if memory runs out
   pub retraction_memory : (t : Relations) → AreInOrder before.relations → IsRetractable → IsWithout t → (e : Refusal) → IsLimitRefusal t e → e ≡ refusal.NoMemory
   retraction_memory t up ok is = within_memory t (ap within_limits is ∙ (retraction_within up ok).within)
 

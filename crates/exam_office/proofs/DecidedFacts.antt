@@ -1,4 +1,5 @@
--- What a decision leaves: references, limits and appeals that stand alone, and the halls that fit everybody else.
+-- What a decision leaves: references, limits, the appeals that a candidate may have only once, and the halls that fit
+-- everybody else.
 use Rattle.std.proofs.Common.{◌≡◌, ℕ, ◌==◌, ◌&&◌, arith, Bool, true, false, cond, List, [], ◌∷◌, map, filter, length, nat_eq, nat_le, not, is_some, Option, None, Some, refl, ap, sym, subst, ◌∙◌}
 use Rattle.std.proofs.Math.Path.{fun_ext}
 use Rattle.std.specs.List.{IsDistinct, filter_map, list_all}
@@ -111,7 +112,7 @@ module _ (r : Relations) (c : ℕ) (a : Appeal) where
   rows_distinct outcome.Standing distinct = given_distinct c a.session a.subject r.appeals distinct
   rows_distinct outcome.Refuse distinct = distinct
 
-  -- what the decided appeal stands for
+  -- the key of the decided appeal, if it has one
   abbrev stands_as : Outcome → Code → Option SingleKey
   stands_as o answer = option_map {U = SingleKey} (λ kind. (a.session, c, kind)) (single_as (decided o answer) a.subject)
 
@@ -193,7 +194,7 @@ module _ (r : Relations) (d : Decision) where
       inner true = ap is_some (put_elsewhere appeal_cmp appeals_exact r.standing key k tt (key_elsewhere key k apart))
       inner false = ap is_some (other_mark_kept r.standing key k apart)
 
-  -- the decided appeal bears a mark exactly where the outcome gives it one
+  -- the decided appeal bears a mark exactly if the outcome gives it one
   pub marked_as_made : (a : Appeal) → is_marked (with_outcome r d a) key ≡ bears_mark d.outcome
   marked_as_made a = inner (bears_mark d.outcome)
     where
@@ -302,7 +303,7 @@ module _ (r : Relations) (d : Decision) where
 -- ---- a decision
 
 module _ (r : Relations) (d : Decision) where
-  -- what holds before, and of each appeal that is decided anew, holds after
+  -- what holds before, and for each appeal with a new decision, holds after
   either : (P : Relations → Type 0) → P r → ((a : Appeal) → appeal_at r d.number d.reference ≡ Some a → P (with_outcome r d a)) → P (with_decision r d)
   either P before anew = inner (appeal_at r d.number d.reference) refl
     where

@@ -22,7 +22,7 @@ lodged_within l r t was =
     ∙ lodging_within was.office.relations was.good.limits was.office.seats was.today l was.early
     ∙ ap (λ (u : Relations). nat_le (appeal_count u l.number) 64) (sym was.made)
 
--- where they pass one, the command is of a kind that may
+-- if they pass one, the command is of a kind that may
 pub past_may : (done : Command) (r t : Relations) → WasMade done r t → within_limits t ≡ false → may_pass_limit done ≡ true
 past_may done r t was past = inner (may_pass_limit done) refl
   where

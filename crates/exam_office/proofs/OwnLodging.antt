@@ -1,4 +1,4 @@
--- What a lodging is answered is told by the candidate's own rows and the day.
+-- The candidate's own rows and the day decide what a lodging is answered.
 use Rattle.std.proofs.Common.{◌≡◌, ℕ, suc, ◌-◌, ◌==◌, ◌&&◌, not, Bool, true, false, cond, List, [], ◌∷◌, ◌++◌, filter, length, map, nat_eq, nat_le, nat_lt, Option, None, Some, Result, Ok, IsSome, is_none, is_some, eq-eqb, refl, ap, sym, ◌∙◌}
 use Rattle.std.specs.List.{list_all, list_any}
 use Rattle.std.specs.Map.{keys_of}
@@ -51,7 +51,8 @@ subject_shown own (subject.Arrangement a) = (same_arrangement a own.arrangement,
 abbrev limit_check : Bool → Option Refusal
 limit_check within = first_refusal ((not within, refusal.TooMany) ∷ [])
 
--- of a new appeal in a session held on a day, by the checks on what it asks, by whether one of its kind is open, and by the limits
+-- the refusal of a new appeal in a session held on a day, by the checks on what it asks for, by whether one of its kind
+-- is open, and by the limits
 abbrev held_refusal : Lodging → ℕ → ℕ → List (Bool × Refusal) → Bool → Bool → Option Refusal
 held_refusal l today held asked stands within =
     option_or (first_refusal ((nat_lt (held - notice_days l.subject) today, refusal.PastClosing (held - notice_days l.subject)) ∷ asked ++ (stands, refusal.AppealStands) ∷ [])) (limit_check within)
@@ -228,7 +229,7 @@ same_lodging_refusal one other day l good up sound rise same = refusal_told one 
 
 -- ---- the answer
 
--- where the appeal stands once it is lodged
+-- the state of the appeal once it is lodged
 abbrev state_after : Option Appeal → AppealState
 state_after stored = option_map_or (λ (a : Appeal). state_of a.status) stored state.Pending
 

@@ -17,18 +17,18 @@ papers_within r = nat_le (length r.papers) 2000
 abbrev pub halls_within : Relations → Bool
 halls_within r = nat_le (length r.halls) 500
 
--- of each session
+-- for each session
 abbrev pub openings_within : Relations → Bool
 openings_within r = list_all (λ s. nat_le (length (open_halls r s)) most_halls) (keys_of r.sessions)
 
 abbrev pub candidates_within : Relations → Bool
 candidates_within r = nat_le (length r.candidates) 20000
 
--- of each session
+-- for each session
 abbrev pub members_within : Relations → Bool
 members_within r = list_all (λ s. nat_le (length (members r s)) most_members) (keys_of r.sessions)
 
--- of each candidate
+-- for each candidate
 abbrev pub appeals_within : Relations → Bool
 appeals_within r = list_all (λ c. nat_le (appeal_count r c) 64) (keys_of r.candidates)
 

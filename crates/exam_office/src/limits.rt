@@ -15,14 +15,14 @@ const MOST_SESSIONS: usize = 400;
 const MOST_PAPERS: usize = 2_000;
 
 const MOST_HALLS: usize = 500;
-/// In a session.
+/// The most openings of a session.
 const MOST_OPENINGS: usize = exam_plan::MOST_HALLS;
 
 const MOST_CANDIDATES: usize = 20_000;
-/// Of a candidate.
+/// The most appeals of a candidate.
 const MOST_APPEALS: usize = 64;
 
-/// Whether the facts, of which these are the lists, pass no limit.
+/// Whether the facts are within every limit. The lists are those of the facts.
 pub fn is_within_limits(facts: &Facts, lists: &SessionLists) -> bool
     requires { AreListsOf (relations_of facts.now) lists.now }
     ensures { result ≡ spec.within_limits (relations_of facts.now) }
@@ -36,8 +36,8 @@ pub fn is_within_limits(facts: &Facts, lists: &SessionLists) -> bool
         && are_appeals_within(facts)
 }
 
-/// Whether the facts, which the command has made of good ones, pass no limit. Looks only at what the command may
-/// have added.
+/// Whether the facts that the command made of good ones are within every limit. Looks only at what the command may have
+/// added.
 pub fn stays_within(facts: &Facts, lists: &SessionLists, command: &Command) -> bool
     requires lists { AreListsOf (relations_of facts.now) lists.now }
     requires made { (r : Relations) × WasMade command.now r (relations_of facts.now) }
@@ -52,7 +52,7 @@ pub fn stays_within(facts: &Facts, lists: &SessionLists, command: &Command) -> b
     }
 }
 
-/// Whether there are commands of the kind that add to what a limit counts.
+/// Whether commands of this kind may add to what a limit counts.
 fn may_pass_limit(command: &Command) -> bool
     ensures { result ≡ made.may_pass_limit command.now }
 {

@@ -117,7 +117,7 @@ said_by h =
 
 -- Whether bytes are a head.
 
--- each line feed behind the first byte follows a carriage return
+-- each line feed after the first byte follows a carriage return
 abbrev pub HasNoBareLineFeed : List ℕ → Type 0
 HasNoBareLineFeed bytes = (k : ℕ) → slice_index bytes (k + 1) ≡ 10 → slice_index bytes k ≡ 13
 
@@ -133,7 +133,7 @@ pub record IsHead (bytes : List ℕ) (h : RequestHead) : Type 0 where
   pub reads : ReadsRequest bytes h []
   pub few : length h.fields ≤ 32
 
--- a head says what its lines say, and what is no head has one fault
+-- a head says what its lines say, and bytes that are no head have one fault
 abbrev pub Judges : List ℕ → Result Said Fault → Type 0
 Judges bytes answer = (((h : RequestHead) → IsHead bytes h → ⊥) × (answer ≡ Err Head))
     ⊎ ((h : RequestHead) × IsHead bytes h × (answer ≡ said_by h))

@@ -21,7 +21,7 @@ unfoldable pub head_len : List ℕ → Option ℕ
 head_len [] = None
 head_len (b ∷ rest) = if begins (b ∷ rest) then Some 4 else option_map suc (head_len rest)
 
--- the head of that length and the bytes after it; without one an input is cut, or its head is too long
+-- the head of that length and the bytes after it; without one the input is cut off, or its head is too long
 abbrev pub head_or_fault : List ℕ → Option ℕ → Result (List ℕ × List ℕ) Fault
 head_or_fault input (Some n) = Ok (take n input, drop n input)
 head_or_fault input None = Err (if nat_lt (length input) 8192 then Head else Size)

@@ -95,7 +95,7 @@ fn has_right_host(minor: u8, host: Lines) -> bool
     }
 }
 
-/// How long the body is: empty if no line says it.
+/// The length of the body; 0 if no line gives it.
 fn body_length(head: &[u8], lengths: Lines) -> Result<usize, Fault>
     requires { IfSome (spec.only_place lengths) (IsWithin (length head.now)) }
     ensures length { result ≡ spec.length_in (spec.shown head.now lengths) }
@@ -143,7 +143,7 @@ fn has_whole_lines(head: &[u8]) -> bool
     !matches!(head.first(), Some(b'\r' | b'\n')) && has_no_bare_line_feed(head)
 }
 
-/// Whether each line feed behind the first byte follows a carriage return.
+/// Whether each line feed after the first byte follows a carriage return.
 fn has_no_bare_line_feed(head: &[u8]) -> bool
     ensures { IsTrue result ↔ spec.HasNoBareLineFeed head.now }
 {

@@ -56,15 +56,15 @@ impl From<Fault> for Stop {
     }
 }
 
-/// Where a request lies in the buffer: the head first, and the body behind it.
+/// Where a request lies in the buffer: the head first, and the body after it.
 #[derive(Clone, Copy)]
 pub struct Message {
     pub head: usize,
     pub spans: HeadSpans,
 }
 
-/// Reads one request into the buffer. Makes no read once its bytes are in hand, and does not look at what follows it.
-/// For a socket, whose bytes no contract knows, the answer is what the bytes ask that it gave.
+/// Reads one request into the buffer. Reads no more once all bytes of the request are there, and does not look at what
+/// follows it. For a socket, whose bytes no contract knows, the contract holds for the bytes that it gave.
 pub fn read_request<'b, R: Read>(
     reader: &mut R,
     buffer: &'b mut [u8],
@@ -86,7 +86,7 @@ fn request_in<'b>(buffer: &'b [u8], message: Message) -> Request<'b>
 {
     let (head, rest) = buffer.split_at(message.head);
     let spans = message.spans;
-    // The target of a head is a text, so `unwrap_or` never puts anything in its place.
+    // The target of a head is a text, so `unwrap_or` never replaces it.
     Request {
         method: spans.method.of(head),
         target: str::from_utf8(spans.target.of(head)).unwrap_or(""),
@@ -132,8 +132,8 @@ fn read_head<R: Read>(reader: &mut R, buffer: &mut [u8]) -> Result<(usize, usize
     Err(Stop::Faulty(Fault::Size))
 }
 
-/// How many bytes end with the first empty line, which does not lie within the first `seen` of them. So only the
-/// last three of these are looked at again.
+/// How many bytes end with the first empty line. The first `seen` of them hold no whole empty line, so only the last
+/// three of these are looked at again.
 fn head_length(bytes: &[u8], seen: usize) -> Option<usize>
     requires within { seen ≤ length bytes.now }
     requires none { spec.head_len (take seen bytes.now) ≡ None }
@@ -151,7 +151,8 @@ fn head_length(bytes: &[u8], seen: usize) -> Option<usize>
     None
 }
 
-/// One read behind the bytes in hand, and how many there are then: as many as before at the end of the input.
+/// Makes one read into the space after the bytes that are there, and returns how many are there then; at the end of the
+/// input as many as before.
 fn read_more<R: Read>(
     reader: &mut R,
     buffer: &mut [u8],

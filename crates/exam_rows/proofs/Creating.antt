@@ -32,7 +32,7 @@ use Rattle.exam_rows.proofs.Steps.{down_later, fails_for}
 early : (mid new : State) → Survives mid new (λ _. ⊥) → HasCleanDisk new → HasCleanDisk mid
 early mid new s clean = omega (arith, s.clean)
 
--- a statement that is refused tells the error that the database gave
+-- a statement that is refused reports the error that the database gave
 abbrev pub Refused : List ℕ → Row → State → State → Result (Unit {0}) Refusal → Type 0
 Refused sql params old new result = HasCleanDisk new → IsTrue old.in_transaction → IfErr result (λ e. (error : Error) × (e ≡ refusal_of error) × ExecutesInside 0 sql params old new (Err error))
 
@@ -83,7 +83,7 @@ still_empty schema db t was = contains_same schema db _ _ was (all_of _ (λ s. s
     nothing : (u : ℕ) → with_tree (λ tree. []) t [] u ≡ []
     nothing u = elim (cases_Bool (u == t)) [ inl is ↦ rw is refl | inr other ↦ rw other refl ]
 
--- what nothing stands against, a limit of steps does not stand against
+-- what nothing forbids fails at most because of a limit of steps
 pub limited : (old new : State) (error : Error) → Fails old new ⊥ error → Fails old new (IsSome old.step_limit) error
 limited old new error (inl lacks) = inl lacks
 limited old new error (inr (named, inl down)) = inr (named, inl down)
@@ -98,7 +98,7 @@ pub table_leads : (before after : Schema) (t : ℕ) (text : List ℕ)
 table_leads before after t text does fails old new result failed ran kept survives told =
     leads_by (HasNoRows before) (HasNoRows after) old new text [] result (λ count run was. still_empty after new.now t (does old new (Ok count) run (λ tree. []) was)) (λ was error run. limited old new error (fails old new was.schema_is error run)) failed ran kept survives told
 
--- where no mark is meant, none is there
+-- if there are to be no marks, the table has none
 pub no_marks : (db : Database) (all : Trees) → all 17 ≡ [] → ContainsIn store_schema db (with_tree all 17 []) → ContainsIn store_schema db all
 no_marks db all none was = contains_same store_schema db _ _ was (all_of _ (λ s. subst (λ rows. IsPermutation (with_tree all 17 [] s.tree) rows) (same s.tree) (IsPermutation-refl _)) store_schema.tables)
   where

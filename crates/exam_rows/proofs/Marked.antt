@@ -29,7 +29,7 @@ nothing_rises : KeysRise {X = Unit {0}} appeal_cmp []
 unfolding IsStrictlySortedBy
 nothing_rises = tt
 
--- where it is not, no mark is meant
+-- if there is no table of marks, there are no marks
 pub holds_no_marks : (db : Database) (all : Trees) → lists_marks db.schema ≡ false → ContainsMade db all → HoldsTable appeal_cmp IsStanding standing_row [] (all 17)
 holds_no_marks db all lists was =
     let none : all 17 ≡ [] = was.unmarked (has_listed db all was false lists) in

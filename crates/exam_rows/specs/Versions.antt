@@ -33,7 +33,7 @@ version_row v = whole 1 ∷ whole v ∷ []
 abbrev pub HasVersion : ℕ → Trees → Type 0
 HasVersion v all = all 0 ≡ (Null ∷ version_row v) ∷ []
 
--- that of the newest version, and no other in any table
+-- the row of the newest version, and no row in any other table
 abbrev pub new_tables : Trees
 new_tables tree = if tree == 0 then (Null ∷ version_row version) ∷ [] else []
 
@@ -49,8 +49,8 @@ HasNoRows schema db = ContainsIn schema db (λ tree. [])
 abbrev pub IsMade : Database → Type 0
 IsMade db = Contains db new_tables
 
--- Why the tables are not made: there is no memory, or a call of the disk failed, the connection was shut, or it
--- limits the steps of its statements.
+-- Why the tables are not made: there is no memory, a call of the disk failed, the connection was shut, or it limits the
+-- steps of its statements.
 abbrev pub FailsToMake : State → State → Refusal → Type 0
 FailsToMake old new = FailsFor (IsSome old.step_limit) old new
 
@@ -58,10 +58,10 @@ FailsToMake old new = FailsFor (IsSome old.step_limit) old new
 abbrev pub FailsToCreate : State → State → Refusal → Type 0
 FailsToCreate old new e = FailsToMake old new e ⊎ ((e ≡ Store) × IsTrue old.in_transaction)
 
--- what a call that makes one kind of database of another does inside a transaction
+-- what a call does inside a transaction that turns databases of one kind into those of another
 pub record Leads (before after : Database → Type 0) (old new : State)
     (result : Result (Unit {0}) Refusal) : Type 0 where
-  -- where it succeeds, the transaction goes on
+  -- if it succeeds, the transaction goes on
   pub made : HasCleanDisk new → IsTrue old.in_transaction
       → OnOk result ((before old.now → after new.now) × IsTrue new.in_transaction)
   pub failed : HasCleanDisk new → IsTrue old.in_transaction → before old.now
@@ -71,11 +71,11 @@ pub record Leads (before after : Database → Type 0) (old new : State)
   pub survives : Survives old new (λ _. ⊥)
   pub told : IfErr result (λ e. IsTrue (is_store_refusal e))
 
--- the table of marks is there since version 2
+-- the table of marks exists since version 2
 abbrev pub marks_since : ℕ → Bool
 marks_since v = not (v == 1)
 
--- The tables of this version have these rows. In version 1 no mark is meant.
+-- The tables of this version have these rows. In version 1 there are no marks.
 abbrev pub ContainsOf : ℕ → Database → Trees → Type 0
 ContainsOf v db all = ContainsIn (made_schema (marks_since v)) db all × (marks_since v ≡ false → all 17 ≡ [])
 
@@ -92,13 +92,13 @@ IsFirst db = (all : Trees) × HasFirst all db
 abbrev pub HasRuled : Trees → Database → Type 0
 HasRuled all db = Contains db all × ((rule : Constraint) → Keeps rule store_schema db.trees)
 
--- the rows with the newest version
+-- the rows, with the row of the newest version
 abbrev pub with_version : Trees → Trees
 with_version all = with_tree all 0 (put (1 ∷ []) (Null ∷ version_row version) (all 0))
 
 abbrev pub HasNewest : Trees → Database → Type 0
 HasNewest all db = Contains db (with_version all)
 
--- whatever rows the tables of version 1 had, those of this version have them, with its number
+-- whatever rows the tables of version 1 had, those of this version have the same, with its number
 abbrev pub Widens : Database → Database → Type 0
 Widens old new = (all : Trees) → HasFirst all old → HasNewest all new

@@ -1,4 +1,4 @@
-//! The tables of each version of the schema, and what brings one to the newest.
+//! The tables of each version of the schema, and how an older version becomes the newest.
 ghost use Rattle.std.specs.Prelude.{◌≡◌, [], ◌∷◌, IsTrue, IfOk, IfErr, OnOk};
 ghost use Rattle.std.specs.Bool.{Decides};
 ghost use Rattle.sqlite.specs.Held.{state};
@@ -34,14 +34,14 @@ pub fn is_blank<S: Alter>(conn: &Connection<S>) -> bool
     schema.tables.len() == 0 && schema.indexes.len() == 0 && schema.views.len() == 0
 }
 
-/// Whether the table of marks is there, as it is since version 2.
+/// Whether the table of marks exists, as it does since version 2.
 pub fn has_marks<S: Alter>(conn: &Connection<S>) -> bool
     ensures { result ≡ lists_marks (state S.Store conn.now).now.schema }
 {
     conn.schema().table_named(b"standing").is_some()
 }
 
-/// Makes the tables, with no rows but the version, in a database with nothing in it.
+/// Makes the tables in an empty database. They have no rows but the version.
 pub fn create_tables<S: Alter>(tx: &mut Transaction<'_, S>) -> Result<(), Refusal>
     ensures same_reference { tx.new.conn.ghost_name ≡ tx.old.conn.ghost_name }
     ensures made { Leads IsBlank IsMade
@@ -52,7 +52,7 @@ pub fn create_tables<S: Alter>(tx: &mut Transaction<'_, S>) -> Result<(), Refusa
     widen_tables(tx)
 }
 
-/// Makes the tables of version 1 those of the newest version, whatever rows they have.
+/// Turns the tables of version 1, whatever rows they have, into those of the newest version.
 pub fn widen_tables<S: Alter>(tx: &mut Transaction<'_, S>) -> Result<(), Refusal>
     ensures same_reference { tx.new.conn.ghost_name ≡ tx.old.conn.ghost_name }
     ensures made { (all : _) → Leads (HasFirst all) (HasNewest all)
@@ -62,7 +62,7 @@ pub fn widen_tables<S: Alter>(tx: &mut Transaction<'_, S>) -> Result<(), Refusal
     put_version(tx)
 }
 
-/// Adds the table of marks, with no row.
+/// Adds the table of marks, without rows.
 fn create_standing<S: Alter>(tx: &mut Transaction<'_, S>) -> Result<(), Refusal>
     ensures same_reference { tx.new.conn.ghost_name ≡ tx.old.conn.ghost_name }
     ensures made { (all : _) → Leads (HasFirst all) (HasRuled all)
@@ -88,7 +88,7 @@ fn put_version<S: Alter>(tx: &mut Transaction<'_, S>) -> Result<(), Refusal>
     )
 }
 
-/// The tables that refer to none, or to sessions alone.
+/// Makes the tables that refer to none, or only to sessions.
 fn create_parents<S: Alter>(tx: &mut Transaction<'_, S>) -> Result<(), Refusal>
     ensures same_reference { tx.new.conn.ghost_name ≡ tx.old.conn.ghost_name }
     ensures made { Leads (HasNoRows made_0) (HasNoRows made_5)
@@ -121,7 +121,7 @@ fn create_parents<S: Alter>(tx: &mut Transaction<'_, S>) -> Result<(), Refusal>
     )
 }
 
-/// The tables that refer to those.
+/// Makes the tables that refer to those.
 fn create_children<S: Alter>(tx: &mut Transaction<'_, S>) -> Result<(), Refusal>
     ensures same_reference { tx.new.conn.ghost_name ≡ tx.old.conn.ghost_name }
     ensures made { Leads (HasNoRows made_5) (HasNoRows made_10)
@@ -154,7 +154,7 @@ fn create_children<S: Alter>(tx: &mut Transaction<'_, S>) -> Result<(), Refusal>
     )
 }
 
-/// The version of the office. Refused as a bad store where the table `office` holds none.
+/// The version of the office. Refused with `BadStore` if the table `office` holds none.
 pub fn version_of<S: Alter>(conn: &mut Connection<S>) -> Result<u8, Refusal>
     ensures ok { HasCleanDisk (state S.Store conn.new) → IfOk result (λ version. (all : _)
         → ContainsMade (state S.Store conn.old).now all
@@ -178,7 +178,7 @@ pub fn version_of<S: Alter>(conn: &mut Connection<S>) -> Result<u8, Refusal>
     version_in(rows.as_slice())
 }
 
-/// The version of which these are the one row.
+/// The version whose one row these rows are. Refused with `BadStore` if they are something else.
 fn version_in(rows: &[Row]) -> Result<u8, Refusal>
     ensures ok { IfOk result (λ version. rows.now ≡ version_row version ∷ []) }
     ensures known { IfOk result IsVersion }
@@ -194,7 +194,7 @@ fn version_in(rows: &[Row]) -> Result<u8, Refusal>
     }
 }
 
-/// Whether these are the one row of this version.
+/// Whether the rows are exactly the one row of this version.
 fn are_version(rows: &[Row], version: u8) -> bool
     ensures { Decides result (rows.now ≡ version_row version ∷ []) }
 {
@@ -211,7 +211,7 @@ fn is_version(row: &Row, version: u8) -> bool
     row.column_count() == 2 && holds_at(row, 0, 1) && holds_at(row, 1, u32::from(version))
 }
 
-/// Whether this whole number stands there.
+/// Whether the column holds this whole number.
 fn holds_at(row: &Row, at: usize, value: u32) -> bool
     ensures { Decides result (column row.now at ≡ whole value) }
 {

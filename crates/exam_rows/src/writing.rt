@@ -29,8 +29,8 @@ use exam_types::{HallCode, Number, PaperCode, Reference, Refusal, SessionCode};
 use sqlite::{Alter, Connection, Transaction};
 use std::alloc::Global;
 
-/// What makes the tables of one office those of another: the rows to put, and of the tables that can lose rows also the
-/// keys to delete.
+/// What turns the tables of one office into those of another: the rows to put, and for the tables that can lose rows
+/// also the keys to delete.
 #[derive(Drop)]
 pub struct Changes<'a> {
     pub sessions: Vec<Keyed<'a, SessionCode, Session>>,
@@ -45,7 +45,7 @@ pub struct Changes<'a> {
     pub seats: Difference<'a, (SessionCode, Number), HallCode>,
 }
 
-/// Sets the rows that are new or have changed, parents first, so that what a row refers to is there.
+/// Puts the rows that are new or have changed, parents first, so that what a row refers to exists.
 fn put_all<S: Alter>(
     alloc: Global,
     tx: &mut Transaction<'_, S>,
@@ -115,7 +115,7 @@ fn put_plans<S: Alter>(
     put_rows::<Seats, S>(alloc, tx, changes.seats.put.as_slice())
 }
 
-/// Takes away the rows that are gone. Seats that have moved out of a hall are set by then.
+/// Deletes the rows that are gone. Seats that have moved out of a hall have been put before.
 fn delete_all<S: Alter>(tx: &mut Transaction<'_, S>, changes: &Changes<'_>) -> Result<(), Refusal>
     ensures same_reference { tx.new.conn.ghost_name ≡ tx.old.conn.ghost_name }
     ensures made { Makes (state S.Store tx.old.conn.now) (state S.Store tx.new.conn.now) result
@@ -125,7 +125,7 @@ fn delete_all<S: Alter>(tx: &mut Transaction<'_, S>, changes: &Changes<'_>) -> R
     delete_rows::<Openings, S>(tx, changes.openings.delete.as_slice())
 }
 
-/// Makes the changes, in one transaction or not at all. Refused as a failure also where a transaction is under way.
+/// Makes the changes in one transaction or not at all. Refused with `Store` if a transaction is already open.
 pub fn save_changes<S: Alter>(
     alloc: Global,
     conn: &mut Connection<S>,
@@ -161,8 +161,7 @@ fn write_changes<S: Alter>(
     delete_all(tx, changes)
 }
 
-/// Makes the tables of an office with no facts in a database with nothing in it, in one transaction or not
-/// at all.
+/// Makes the tables of an office without facts in an empty database, in one transaction or not at all.
 pub fn save_empty<S: Alter>(conn: &mut Connection<S>) -> Result<(), Refusal>
     ensures made { Commits (state S.Store conn.old) (state S.Store conn.new) result
         (λ old new. IsBlank old → IsMade new) }
@@ -180,7 +179,7 @@ pub fn save_empty<S: Alter>(conn: &mut Connection<S>) -> Result<(), Refusal>
     commit(tx)
 }
 
-/// Makes the tables of version 1 those of the newest version, in one transaction or not at all.
+/// Turns the tables of version 1 into those of the newest version, in one transaction or not at all.
 pub fn save_widened<S: Alter>(conn: &mut Connection<S>) -> Result<(), Refusal>
     ensures made { Commits (state S.Store conn.old) (state S.Store conn.new) result Widens }
     ensures failed { HasCleanDisk (state S.Store conn.new) → IsFirst (state S.Store conn.old).now
@@ -196,7 +195,7 @@ pub fn save_widened<S: Alter>(conn: &mut Connection<S>) -> Result<(), Refusal>
     commit(tx)
 }
 
-/// Commits what was written. A refusal tells the error that the database gave.
+/// Commits what was written. A refusal reports the error that the database gave.
 fn commit<S: Alter>(tx: Transaction<'_, S>) -> Result<(), Refusal>
     ensures ended { tx.exit.0.now.in_transaction ≡ false }
     ensures ok { HasCleanDisk (state S.Store tx.exit.0.now)

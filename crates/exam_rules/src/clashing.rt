@@ -1,4 +1,4 @@
-//! The clashes of candidates that are listed already.
+//! The clashes of candidates who are listed already.
 ghost use Rattle.std.specs.Prelude.{◌≡◌, IfOk, IfErr};
 ghost use Rattle.std.specs.List.{flat_map};
 ghost use Rattle.exam_types.specs.declared.refusal.Refusal.TheVariants.{NoMemory};
@@ -10,8 +10,8 @@ use crate::sessions::push_clashes;
 use exam_types::{Number, PaperCode, Refusal, SessionCode};
 use std::alloc::Global;
 
-/// The clashes of these candidates in the session, in their order: of its members those of `clashes`, without
-/// another walk over all candidates.
+/// The clashes of these candidates in the session, in their order. For the session's members these are those of
+/// `clashes`, without another walk over all candidates.
 pub fn clashes_among(
     alloc: Global,
     facts: &Facts,

@@ -22,11 +22,10 @@ use exam_plan::{MOST_HALLS, MOST_MEMBERS, Mask, Problem};
 use exam_types::{HallCode, Number, PaperCode, Refusal, SessionCode};
 use std::alloc::Global;
 
-/// What desks are ordered by: the sitting paper, and then the number.
+/// What the order of desks compares: the sitting paper, and then the number.
 type DeskKey = (Option<PaperCode>, Number);
 
-/// The halls opened for the session, codes rising. Refused where there is no such session, or not enough
-/// memory.
+/// The halls opened for the session, codes rising. Refused if there is no such session, or not enough memory.
 pub fn open_halls(
     alloc: Global,
     facts: &Facts,
@@ -95,7 +94,7 @@ fn rooms(
     Ok(rooms)
 }
 
-/// Of each candidate, by number and sitting paper, the places of the halls that fit, each place at its bit.
+/// For each candidate, by number and sitting paper, the places of the halls that fit, each place as its bit.
 fn fit_rows(
     alloc: Global,
     facts: &Facts,
@@ -123,7 +122,7 @@ fn fit_rows(
     Ok(rows)
 }
 
-/// What desks are ordered by, of each of these numbers.
+/// What the order of desks compares, for each of these numbers.
 fn desk_keys(
     alloc: Global,
     facts: &Facts,
@@ -141,7 +140,7 @@ fn desk_keys(
     Ok(keys)
 }
 
-/// The same of members whose least live papers are known.
+/// The same for members whose least live papers are known.
 fn entrant_keys(
     alloc: Global,
     facts: &Facts,
@@ -162,7 +161,7 @@ fn entrant_keys(
     Ok(keys)
 }
 
-/// Of each key how many keys are less.
+/// For each key, how many keys are less.
 fn ranks(alloc: Global, keys: &[DeskKey]) -> Result<Vec<u32>, Refusal>
     requires { length keys.now ≤ most_members }
     ensures ok { IfOk result (λ ranks. ranks.items ≡ seatings.ranks_of keys.now) }
@@ -186,7 +185,7 @@ fn place_in(sorted: &[DeskKey], key: &DeskKey) -> u32
     sorted.partition_point(|other| *other < *key) as u32
 }
 
-/// Of each member the places of the halls that fit, each place at its bit.
+/// For each member, the places of the halls that fit, each place as its bit.
 fn fit_table(
     alloc: Global,
     facts: &Facts,
@@ -209,18 +208,18 @@ fn fit_table(
     fit_rows(alloc, facts, session, keys, &rooms)
 }
 
-/// A session's seating problem, with the members and halls for which its indices stand.
+/// A session's seating problem, with the members and halls that its indices name.
 #[derive(Drop)]
 pub struct ListedProblem {
-    /// The i-th is candidate i of the problem.
+    /// The i-th number is candidate i of the problem.
     pub numbers: Vec<Number>,
-    /// The j-th is hall j of the problem.
+    /// The j-th code is hall j of the problem.
     pub halls: Vec<HallCode>,
     pub problem: Problem,
 }
 
-/// The seating problem of the session, with its members and its open halls, as `members`, `open_halls` and
-/// `problem` give them one by one.
+/// The seating problem of the session, with its members and its open halls; `members`, `open_halls` and `problem` give
+/// them one by one.
 pub fn listed_problem(
     alloc: Global,
     facts: &Facts,
@@ -232,7 +231,7 @@ pub fn listed_problem(
         ≡ seatings.open_halls (relations_of facts.now) session.now) }
     ensures ok { IfOk result (λ listed. listed.problem
         ≡ seatings.problem_of (relations_of facts.now) session.now) }
-    // The premise of the laws that carry what is so by indices over to numbers and codes.
+    // The premise of the laws that carry what holds for indices over to numbers and codes.
     ensures lists { OnOk result (ListsRise (relations_of facts.now) session.now) }
     ensures known { OnOk result (IsTrue (has_row code_cmp facts.now.sessions.entries session.now)) }
     ensures refusal { IfErr result (seatings.IsProblemRefusal (relations_of facts.now) session.now) }
@@ -249,7 +248,7 @@ pub fn listed_problem(
     problem_over(alloc, facts, session, numbers, &keys, halls)
 }
 
-/// The same where the members and the open halls of all sessions are listed.
+/// The same, from the lists of the members and the open halls of all sessions.
 pub fn indexed_problem(
     alloc: Global,
     facts: &Facts,
@@ -325,11 +324,11 @@ fn problem_over(
 }
 
 /// The seating problem of the session: the i-th candidate is the i-th of `members`, the j-th hall the j-th of
-/// `open_halls`. Refused where there is no such session, or not enough memory. Where the limits hold no
-/// session has too many members or open halls, so that refusal is for other facts.
+/// `open_halls`. Refused if there is no such session, if there are more members or open halls than a session may have,
+/// or if there is not enough memory. Facts within the office's limits never have too many.
 pub fn problem(alloc: Global, facts: &Facts, session: &SessionCode) -> Result<Problem, Refusal>
     ensures ok { IfOk result (λ p. p ≡ seatings.problem_of (relations_of facts.now) session.now) }
-    // The premise of the laws that carry what is so by indices over to numbers and codes.
+    // The premise of the laws that carry what holds for indices over to numbers and codes.
     ensures lists { OnOk result (ListsRise (relations_of facts.now) session.now) }
     ensures known { OnOk result (IsTrue (has_row code_cmp facts.now.sessions.entries session.now)) }
     ensures refusal { IfErr result (seatings.IsProblemRefusal (relations_of facts.now) session.now) }

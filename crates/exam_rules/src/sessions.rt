@@ -17,14 +17,14 @@ use exam_types::{Extra, Features, Number, PaperCode, Refusal, SessionCode};
 use std::alloc::Global;
 use std::collections::btree_map::Range;
 
-/// The least paper code, by which a candidate's entries begin.
+/// The least paper code, with which a candidate's entries begin.
 fn least_paper() -> PaperCode
     ensures { result ≡ codes "-" }
 {
     PaperCode::parse(b"-").unwrap()
 }
 
-/// No entry of the candidate stands before the least key. For the proof of `entries_from` alone.
+/// The candidate has no entry before the least key. Only the proof of `entries_from` uses it.
 fn no_entry_before(facts: &Facts, number: Number, least: PaperCode)
     requires { least ≡ codes "-" }
     ensures { filter (is_row_of number)
@@ -32,7 +32,7 @@ fn no_entry_before(facts: &Facts, number: Number, least: PaperCode)
 {
     match facts.entries.range(..(number, least)).next_back() {
         Some((key, _)) => {
-            // What a code is made of shows that none is less, so the row before is of another candidate.
+            // Reading the bytes shows that no code is less, so the row before is another candidate's.
             let _code = key.1.as_bytes();
         }
         None => {}
@@ -41,7 +41,7 @@ fn no_entry_before(facts: &Facts, number: Number, least: PaperCode)
 
 /// The entries from the candidate's first on; those of later numbers follow.
 pub fn entries_from<'a>(facts: &'a Facts, number: Number) -> Range<'a, (Number, PaperCode), Entry>
-    // The rows that stand together are all of the candidate's.
+    // The leading rows with this number are all of the candidate's.
     ensures rows { leading (is_row_of number) result ≡ filter (is_row_of number) facts.now.entries.entries }
     ensures live { (s : Code)
         → spec.live_papers_in (relations_of facts.now) (leading (is_row_of number) result) s number
@@ -52,7 +52,7 @@ pub fn entries_from<'a>(facts: &'a Facts, number: Number) -> Range<'a, (Number, 
     facts.entries.range((number, least)..)
 }
 
-/// Whether there is the paper, and it is of the session.
+/// Whether the paper exists and is of the session.
 pub fn is_paper_of(facts: &Facts, session: &SessionCode, paper: &PaperCode) -> bool
     ensures { result ≡ spec.is_paper_of (relations_of facts.now) session.now paper.now }
 {
@@ -62,7 +62,7 @@ pub fn is_paper_of(facts: &Facts, session: &SessionCode, paper: &PaperCode) -> b
     }
 }
 
-/// Whether the candidate has a live entry for the paper, which is of the session.
+/// Whether the candidate has a live entry for the paper, and it is of the session.
 pub fn is_live_paper(
     facts: &Facts,
     session: &SessionCode,
@@ -92,8 +92,7 @@ pub fn least_live_paper(facts: &Facts, session: &SessionCode, number: Number) ->
     None
 }
 
-/// Whether the number has a live entry for a paper of the session. In an office every entry is of a
-/// candidate.
+/// Whether the number has a live entry for a paper of the session. In an office every entry has a candidate.
 pub fn has_live_entry(facts: &Facts, session: &SessionCode, number: Number) -> bool
     ensures { result ≡ spec.has_live_entry (relations_of facts.now) session.now number }
 {
@@ -108,7 +107,7 @@ pub fn is_member(facts: &Facts, session: &SessionCode, number: Number) -> bool
     facts.candidates.contains_key(&number) && has_live_entry(facts, session, number)
 }
 
-/// The numbers of the members, rising. Refused where there is no such session, or not enough memory.
+/// The numbers of the members, rising. Refused if there is no such session, or not enough memory.
 pub fn members(alloc: Global, facts: &Facts, session: &SessionCode) -> Result<Vec<Number>, Refusal>
     ensures ok { IfOk result (λ numbers. numbers.items ≡ spec.members (relations_of facts.now) session.now) }
     ensures rising { OnOk result
@@ -128,7 +127,7 @@ pub fn members(alloc: Global, facts: &Facts, session: &SessionCode) -> Result<Ve
     Ok(numbers)
 }
 
-/// The paper of the candidate's granted clash appeal, where it is live and of this session.
+/// The paper of the candidate's granted clash appeal, if it is live and of this session.
 fn granted_sitting(facts: &Facts, session: &SessionCode, number: Number) -> Option<PaperCode>
     ensures { result ≡ spec.option_filter (spec.is_live_paper (relations_of facts.now) session.now number)
         (spec.granted_paper (relations_of facts.now) session.now number) }
@@ -141,9 +140,9 @@ fn granted_sitting(facts: &Facts, session: &SessionCode, number: Number) -> Opti
     }
 }
 
-/// The paper that the member sits: that of the granted clash appeal where it is live and of this session,
-/// otherwise the least live one; none for a number without a live entry there. A number of entries that is no
-/// candidate's, which no office has, counts as if it were.
+/// The paper that the member sits: that of the granted clash appeal if it is live and of this session, otherwise the
+/// least live one, and none for a number without a live entry there. Does not check that the candidate exists; in an
+/// office every entry has one.
 pub fn sitting(facts: &Facts, session: &SessionCode, number: Number) -> Option<PaperCode>
     ensures { result ≡ spec.sitting (relations_of facts.now) session.now number }
 {
@@ -153,7 +152,7 @@ pub fn sitting(facts: &Facts, session: &SessionCode, number: Number) -> Option<P
     }
 }
 
-/// The same of whom this is the least live paper there.
+/// The same for a candidate whose least live paper there is this one.
 pub fn sitting_beside(
     facts: &Facts,
     session: &SessionCode,
@@ -197,8 +196,8 @@ fn no_extra() -> Extra
     Extra::new(0).unwrap()
 }
 
-/// The members with their live papers that they do not sit, by number and code. Refused where there is no
-/// such session, or not enough memory.
+/// The members with their live papers that they do not sit, by number and code. Refused if there is no such session, or
+/// not enough memory.
 pub fn clashes(
     alloc: Global,
     facts: &Facts,
@@ -239,7 +238,7 @@ pub fn push_clashes(
     Ok(())
 }
 
-/// Whether a live paper is another than the one that is sat.
+/// Whether this paper is not the one that is sat.
 pub fn is_clash(sat: &Option<PaperCode>, paper: &PaperCode) -> bool
     ensures { result ≡ spec.is_clash sat.now paper.now }
 {

@@ -28,11 +28,11 @@ pub record KeepsFirst (db : Database) (office : Office) : Type 0 where
   pub version : HasVersion 1 all
   pub held : HoldsOffice all office
 
--- what kept an office in version 1 keeps it in the newest
+-- a database that keeps an office in version 1 becomes one that keeps it in the newest
 abbrev pub Migrates : Database → Database → Type 0
 Migrates old new = (office : Office) → KeepsFirst old office → Keeps new office
 
--- what kept the one office keeps the other
+-- a database that keeps the one office becomes one that keeps the other
 abbrev pub Rekeeps : Office → Office → Database → Database → Type 0
 Rekeeps before after old new = Keeps old before → Keeps new after
 
@@ -40,11 +40,11 @@ Rekeeps before after old new = Keeps old before → Keeps new after
 abbrev pub IsKept : State → Office → Type 0
 IsKept s office = Keeps s.now office × (s.committed ≡ s.now)
 
--- the tables that are seen keep the office, where they are ours
+-- the tables that are seen keep the office, if they are ours
 abbrev pub KeepsOurs : State → Office → Type 0
 KeepsOurs s office = HasCleanDisk s → IsOurs s.now → Keeps s.now office
 
--- the eleven tables are there in both, with the same rows in any order
+-- the eleven tables exist in both, with the same rows in any order
 pub record HaveSameTables (here there : Database) : Type 0 where
   pub ours : IsOurs here
   pub same : (all : Trees) → Contains here all ↔ Contains there all

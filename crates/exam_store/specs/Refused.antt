@@ -11,13 +11,13 @@ use Rattle.exam_rows.specs.Versions.{HasVersion}
 abbrev pub HoldsFormed : Trees → State → Type 0
 HoldsFormed all office = HoldsRelations all office.relations × HoldsSeats all office.seats
 
--- the rows of a table are those of none, or what they hold is not good
+-- a table has rows that no office has, or what the tables hold is not good
 abbrev pub HoldsNoOffice : Trees → Type 0
 HoldsNoOffice all =
     ((r : Relations) → HoldsRelations all r → ⊥)
     ⊎ (((seats : List ((Code × ℕ) × Code)) → HoldsSeats all seats → ⊥)
     ⊎ ((office : State) × HoldsFormed all office × (IsGood office → ⊥)))
 
--- the version is not there, or there is no office
+-- the version is missing, or there is no office
 abbrev pub HoldsNone : ℕ → Trees → Type 0
 HoldsNone version all = (HasVersion version all → ⊥) ⊎ HoldsNoOffice all

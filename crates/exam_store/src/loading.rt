@@ -16,7 +16,7 @@ use exam_types::Refusal;
 use sqlite::{Alter, Connection};
 use std::alloc::Global;
 
-/// The office that the tables of this version hold. Refused as a bad store where they hold none.
+/// The office that the tables of this version hold. Refused with `BadStore` if they hold none.
 pub fn load_version<S: Alter>(
     alloc: Global,
     conn: &mut Connection<S>,
@@ -46,7 +46,7 @@ pub fn load_version<S: Alter>(
     Ok(office)
 }
 
-/// The office that the tables of any version hold. Refused as a bad store where they hold none.
+/// The office that the tables of any version hold. Refused with `BadStore` if they hold none.
 fn load_office<S: Alter>(alloc: Global, conn: &mut Connection<S>) -> Result<Office, Refusal>
     ensures rows { HasCleanDisk (state S.Store conn.new) → IfOk result (λ office. (all : _)
         → ContainsMade (state S.Store conn.old).now all

@@ -18,10 +18,9 @@ use exam_types::Refusal;
 use sqlite::{Alter, Connection};
 use std::alloc::Global;
 
-/// Brings the office that is there to the newest version, in one transaction or not at all, and gives its
-/// version before and after. An office of the newest version is judged too, and nothing is written. Refused as
-/// `BadStore` if the tables of no version hold a good office of it, and as `Store` also if a transaction is under
-/// way.
+/// Brings the office in the database to the newest version, in one transaction or not at all, and returns its version
+/// before and after. An office of the newest version is checked too, and nothing is written. Refused with `BadStore` if
+/// the tables of no version hold a good office of it, and with `Store` also if a transaction is already open.
 pub fn migrate<S: Alter>(alloc: Global, conn: &mut Connection<S>) -> Result<(u8, u8), Refusal>
     ensures versions { IfOk result (λ v. IsVersion v.0 × (v.1 ≡ version)) }
     ensures found { HasCleanDisk (state S.Store conn.new) → IfOk result (λ v. (all : _)
@@ -48,7 +47,7 @@ pub fn migrate<S: Alter>(alloc: Global, conn: &mut Connection<S>) -> Result<(u8,
     Ok((version, NEWEST))
 }
 
-/// The version of the office that is there, which is good.
+/// The version of the office in the database, which must be good.
 fn judged_version<S: Alter>(alloc: Global, conn: &mut Connection<S>) -> Result<u8, Refusal>
     ensures known { IfOk result IsVersion }
     ensures found { HasCleanDisk (state S.Store conn.new) → IfOk result (λ v. (all : _)

@@ -1,4 +1,4 @@
-//! Each limit is reached, and not passed: one import reaches it, and the next would pass it.
+//! Each limit can be reached, but not passed: one import reaches it, and the next would pass it.
 use super::lines::Line;
 use super::scenes::{Order, Scene, Story, play};
 use super::setups::Fact;
@@ -21,7 +21,7 @@ const STORIES: &[Story<'static>] = &[
             ),
         ],
     },
-    // One paper is there.
+    // One paper exists already.
     Story {
         name: "2,000 papers",
         facts: &[Fact::School, Fact::Rows(Kind::Papers, 0, 1_998)],
@@ -37,7 +37,7 @@ const STORIES: &[Story<'static>] = &[
             ),
         ],
     },
-    // Two halls are there.
+    // Two halls exist already.
     Story {
         name: "500 halls",
         facts: &[Fact::School, Fact::Rows(Kind::Halls, 0, 497)],

@@ -22,7 +22,7 @@ pub enum Scene<'a> {
     Clash(u32, &'a str),
     /// The needs and the extra time of a candidate that are in force.
     InForce(u32, &'a str, u16),
-    /// Who is seated, and how many halls are open.
+    /// Which members are listed, and how many halls are open.
     Listed(&'a [u32], usize),
     /// The places of the halls that fit the candidate at a place, and their place in the order of desks.
     Row(usize, &'a [usize], u32),

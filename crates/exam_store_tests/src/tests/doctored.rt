@@ -108,7 +108,7 @@ fn another_schema_is_refused(rt: HostRuntime) -> Result<(), Fail> {
     Ok(())
 }
 
-/// Open appeals, and granted ones of a kind of which a candidate may have one for a session.
+/// Open appeals, and granted ones of the kinds that a candidate may have only once for a session.
 const SINGLES: &str = "\
 INSERT INTO appeal VALUES (1, 'R1', 'S1', 1, 'A', 0, 0, '', 1, NULL, '2027-05-01')
 INSERT INTO appeal VALUES (1, 'R1', 'S1', 2, 'MA-1', 0, 0, '', 1, NULL, '2027-05-01')

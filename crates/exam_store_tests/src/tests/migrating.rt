@@ -10,7 +10,7 @@ use std::alloc::Global;
 use std::process::Abort;
 use std::test::Fail;
 
-/// What makes the tables of the newest version those of version 1.
+/// Turns the tables of the newest version into those of version 1.
 const BACK: &str = "DROP TABLE standing; UPDATE office SET version = 1";
 
 /// The number of the refusal of an office of an older version.
@@ -21,7 +21,7 @@ fn old_office(alloc: Global, sql: &str) -> Result<Connection<MemStore>, Fail> {
     office_of(alloc, &[BASE, FIRST_SEATED, BACK, sql])
 }
 
-/// Whatever else is wrong with it.
+/// An old office is refused as such, whatever else is wrong with it.
 #[test]
 fn an_old_office_is_not_opened(rt: HostRuntime) -> Result<(), Fail> {
     let alloc = rt.alloc();
@@ -37,8 +37,8 @@ fn an_old_office_is_not_opened(rt: HostRuntime) -> Result<(), Fail> {
     expect_each(&rt, &[BASE, FIRST_SEATED], statements, BACK, OLD_SCHEMA)
 }
 
-/// Brings what the connection holds to the newest version. Gives the old version and the new one, or the number of the
-/// refusal and 0.
+/// Brings what the connection holds to the newest version. Returns the old version and the new one, or the number of
+/// the refusal and 0.
 fn migrated(alloc: Global, conn: &mut Connection<MemStore>) -> (u16, u16) {
     match migrate(alloc, conn) {
         Ok((old, new)) => (u16::from(old), u16::from(new)),
@@ -77,7 +77,7 @@ fn an_old_office_is_migrated(rt: HostRuntime) -> Result<(), Fail> {
     let alloc = rt.alloc();
     let mut conn = old_office(alloc, "")?;
     assert_eq!(rt; migrated(alloc, &mut conn), (1, 2));
-    // Again, and nothing is written.
+    // The second time, nothing is written.
     assert_eq!(rt; migrated(alloc, &mut conn), (2, 2));
     assert_eq!(rt; count(&mut conn, "SELECT number FROM seat")?, 1);
     assert_eq!(rt; count(&mut conn, "SELECT number FROM standing")?, 0);
@@ -103,7 +103,7 @@ DROP TABLE office
 CREATE TABLE standing (number INTEGER NOT NULL, ref TEXT NOT NULL, PRIMARY KEY (number, ref)) STRICT
 ";
 
-/// Compares that these tables are refused.
+/// Expects that these tables are refused.
 fn expect_refused<R: Abort + AllocGlobal>(rt: &R, conn: Connection<MemStore>, sql: &str) {
     let mut conn = conn;
     let found = migrated(rt.alloc(), &mut conn);
@@ -118,7 +118,7 @@ fn what_is_no_good_office_is_not_migrated(rt: HostRuntime) -> Result<(), Fail> {
         expect_refused(&rt, old_office(alloc, sql)?, sql);
     }
     expect_refused(&rt, Connection::open_in_memory(alloc)?, "nothing");
-    // A bad office of the newest version is judged too.
+    // A bad office of the newest version is refused too.
     let sql = "UPDATE hall SET features = 32";
     expect_refused(&rt, office_of(alloc, &[BASE, sql])?, sql);
     Ok(())

@@ -10,7 +10,7 @@ use Rattle.exam_rules.specs.Seatings.{desks, open_halls, fitting_places, desk_ke
 use Rattle.exam_rules.proofs.Ranking.{ranks_distinct, parts_are, ranks_of_members}
 use Rattle.exam_rules.proofs.seating.problem_over.Goals as goal
 
--- fit rows over the members, where the halls are the open ones
+-- fit rows over the members, if the halls are the open ones
 fit_of_halls : (r : Relations) (s : Code) (halls : List Code) → halls ≡ open_halls r s
     → map (λ n. fitting_places r s n halls) (members r s) ≡ map (λ n. fitting_places r s n (open_halls r s)) (members r s)
 fit_of_halls r s halls h = ap (λ (t : List Code). map (λ n. fitting_places r s n t) (members r s)) h
