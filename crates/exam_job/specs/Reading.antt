@@ -1,18 +1,18 @@
 -- An import file that is read.
-use Rattle.std.specs.Prelude.{◌≡◌, ◌⊎◌, ⊤, ℕ, ◌<◌, ◌≤◌, List, length, Option, Result, Ok, Err}
+use Rattle.std.specs.Prelude.{◌≡◌, ◌⊎◌, ⊤, ℕ, ◌+◌, ◌<◌, ◌≤◌, List, length, Option, Result, Ok, Err}
 use Rattle.std.specs.Io.KnownBytes.{Consumes, IsAtEnd}
 use Rattle.exam_types.specs.declared.refusal.Refusal.{Refusal}
 use Rattle.exam_types.specs.declared.refusal.Refusal.TheVariants.{NoMemory}
 use Rattle.exam_office.specs.declared.import_row.Kind.{Kind}
 use Rattle.exam_office.specs.Imports.{ImportRows}
-use Rattle.exam_files.specs.ImportFiles.{import_of}
+use Rattle.exam_files.specs.ImportFiles.{import_of, most_bytes}
 use Rattle.exam_send.specs.Given.{Gave}
 use Rattle.exam_job.specs.declared.report.JobFault.{JobFault}
 use Rattle.exam_job.specs.declared.report.JobFault.TheVariants.{File, Refused}
 
 -- the most bytes that are read of an import file: one more than it may have
 abbrev pub most_read : ℕ
-most_read = 4194305
+most_read = most_bytes + 1
 
 -- some bytes were read; nothing is said of them
 abbrev pub Reads : Option (List ℕ) → Option (List ℕ) → Type 0

@@ -6,14 +6,14 @@ ghost use Rattle.exam_types.specs.declared.refusal.Refusal.TheVariants.{NoMemory
 ghost use Rattle.exam_job.specs.Reading as spec;
 
 use crate::report::JobFault;
-use exam_files::read_import;
+use exam_files::{MOST_BYTES, read_import};
 use exam_office::{Import, Kind};
 use exam_types::Refusal;
 use std::alloc::Global;
 use std::io::{ErrorKind, Read};
 
 /// One byte more than an import file may have. A file that is too long is read only so far as to show this.
-const MOST_READ: usize = 4_194_305;
+const MOST_READ: usize = MOST_BYTES + 1;
 
 /// The most bytes that one read asks for.
 const PIECE: usize = 65_536;

@@ -30,7 +30,7 @@ use Rattle.exam_office.specs.declared.command.Reply.TheVariants as reply
 use Rattle.exam_office.specs.Appeals.{appeal_at, has_open_appeal, is_open, is_retracted, stored_state}
 use Rattle.exam_office.specs.Changes.{first_refusal, unless}
 use Rattle.exam_office.specs.Good.{IsGood, appeal_refers, marks_stand, may_bear, refers, subject_refers}
-use Rattle.exam_office.specs.Limits.{within_limits, sessions_within, papers_within, halls_within, openings_within, candidates_within, members_within}
+use Rattle.exam_office.specs.Limits.{most_appeals, within_limits, sessions_within, papers_within, halls_within, openings_within, candidates_within, members_within}
 use Rattle.exam_office.specs.Lodgings as spec
 use Rattle.exam_office.specs.Orders.{IsInOrder}
 use Rattle.exam_office.specs.Singles.{AreSingle, SingleKey, same_single_key, single_key}
@@ -224,7 +224,7 @@ module _ (before : State) (good : IsGood before) (today : ℕ) (l : Lodging) whe
 count_same : (r : Relations) (k : ℕ × Code) (a b : Appeal) → AreInOrder r → row_at appeal_cmp r.appeals k ≡ Some b → within_limits (with_appeals r (put_row appeal_cmp r.appeals k a)) ≡ within_limits r
 count_same r k a b up at =
     let counts : appeal_count (with_appeals r (put_row appeal_cmp r.appeals k a)) ≡ appeal_count r = fun_ext (λ c. count_replaced appeal_cmp appeals_total (λ (key : ℕ × Code). key.0 == c) r.appeals k a b up.appeals at) in
-    ap (λ (count : ℕ → ℕ). sessions_within r && (papers_within r && (halls_within r && (openings_within r && (candidates_within r && (members_within r && list_all (λ c. nat_le (count c) 64) (keys_of r.candidates))))))) counts
+    ap (λ (count : ℕ → ℕ). sessions_within r && (papers_within r && (halls_within r && (openings_within r && (candidates_within r && (members_within r && list_all (λ c. nat_le (count c) most_appeals) (keys_of r.candidates))))))) counts
 
 closed_granted : (st : Status) → (not (is_open st) && not (is_retracted st)) ≡ false → is_granted st ≡ false
 closed_granted status.Pending ok = refl

@@ -29,7 +29,7 @@ use Rattle.exam_office.specs.Appeals.{appeal_at, bears_mark, decided, is_open, s
 use Rattle.exam_office.specs.Changes.{first_refusal}
 use Rattle.exam_office.specs.Decisions.{decision_checks, decision_refusal, gives_way, giving_way, grant_checks, is_made, is_too_late, not_arrangement, open_checks, with_decision, with_decided, with_mark, with_outcome, with_superseded, without_mark}
 use Rattle.exam_office.specs.Good as good
-use Rattle.exam_office.specs.Limits.{within_limits, sessions_within, papers_within, halls_within, openings_within, candidates_within, members_within}
+use Rattle.exam_office.specs.Limits.{most_appeals, within_limits, sessions_within, papers_within, halls_within, openings_within, candidates_within, members_within}
 use Rattle.exam_office.specs.Singles.{AreSingle, SingleKey, same_single_key, single_as, single_key}
 use Rattle.exam_office.proofs.Appealing.{fits_same, single_flips}
 use Rattle.exam_office.proofs.AppealKeys.{appeals_exact, appeals_total}
@@ -345,7 +345,7 @@ module _ (r : Relations) (d : Decision) where
           put_keys appeal_cmp appeals_total rows (d.number, d.reference) v there.0 (subst (λ ks. IsStrictlySortedBy appeal_cmp ks) (sym keyed) up) there.1 ∙ keyed in
           let counts : (c : ℕ) → appeal_count (with_outcome r d a) c ≡ appeal_count r c =
           λ c. count_keys c (put_row appeal_cmp rows (d.number, d.reference) v) ∙ ap (λ ks. length (filter (λ (k : ℕ × Code). k.0 == c) ks)) keys ∙ sym (count_keys c r.appeals) in
-          ap (λ (n : ℕ → ℕ). sessions_within r && (papers_within r && (halls_within r && (openings_within r && (candidates_within r && (members_within r && list_all (λ c. nat_le (n c) 64) (keys_of r.candidates)))))))
+          ap (λ (n : ℕ → ℕ). sessions_within r && (papers_within r && (halls_within r && (openings_within r && (candidates_within r && (members_within r && list_all (λ c. nat_le (n c) most_appeals) (keys_of r.candidates)))))))
           (fun_ext counts)
 
   pub decision_single : AreSingle r → AreSingle (with_decision r d)

@@ -12,6 +12,7 @@ use Rattle.exam_request.specs.declared.reading.ReadFailed.{ReadFailed}
 use Rattle.exam_request.specs.declared.reading.Request.{Request as Parts}
 use Rattle.exam_request.specs.declared.reading.Stop.{Stop}
 use Rattle.exam_request.specs.declared.reading.Stop.TheVariants.{Failed, Faulty}
+use Rattle.exam_request.specs.Sizes.{most_request}
 
 -- A request: its method, its target, the value of its one access code line, and its body.
 pub record Request : Type 0 where
@@ -76,6 +77,6 @@ pub record MessageLiesIn (buffer : List ℕ) (m : Message) : Type 0 where
 -- the message in the buffer is what the given bytes ask, and a fault is the fault of these bytes
 abbrev pub FindsMessage : Option (List ℕ) → Option (List ℕ) → List ℕ → Result Message Stop → Type 0
 FindsMessage old new buffer (Ok m) =
-    MessageLiesIn buffer m × Gave 12288 old new (λ input. Asks input (Ok (request_at buffer m)))
-FindsMessage old new buffer (Err Failed) = Gave 12288 old new (λ input. ⊤)
-FindsMessage old new buffer (Err (Faulty fault)) = Gave 12288 old new (λ input. Asks input (Err fault))
+    MessageLiesIn buffer m × Gave most_request old new (λ input. Asks input (Ok (request_at buffer m)))
+FindsMessage old new buffer (Err Failed) = Gave most_request old new (λ input. ⊤)
+FindsMessage old new buffer (Err (Faulty fault)) = Gave most_request old new (λ input. Asks input (Err fault))

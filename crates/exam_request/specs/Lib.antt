@@ -1,5 +1,6 @@
 -- The definitions that contracts of this crate cite. Each file says:
 --
+-- - Sizes: how many lines and bytes a request may have
 -- - Input, Head, Asked: the end of a head in the bytes that come in; what its lines say, or their first fault; what a
 --   request asks
 -- - Posted: what the body of a posting lodges
@@ -21,6 +22,7 @@ pub mod Json
 pub mod Methods
 pub mod Posted
 pub mod SeatRows
+pub mod Sizes
 pub mod Table
 pub mod Targets
 pub mod Values

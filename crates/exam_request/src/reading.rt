@@ -3,11 +3,12 @@ ghost use Rattle.std.specs.Prelude.{◌≡◌, ◌≤◌, ◌<◌, length, take,
 ghost use Rattle.httparse.specs.Spans.{IsWithin, span_bytes};
 ghost use Rattle.exam_request.specs.Asked as asked;
 ghost use Rattle.exam_request.specs.Input as spec;
+ghost use Rattle.exam_request.specs.Sizes.{most_head, most_request};
 ghost use Rattle.exam_send.specs.Given.{Gave};
 ghost use Rattle.exam_request.specs.declared.reading.Stop.TheVariants.{Faulty};
 
 use crate::fault::Fault;
-use crate::head::{HeadSpans, judge};
+use crate::head::{HeadSpans, MOST_BODY, judge};
 use httparse::spans::Span;
 use std::io::Read;
 use std::str;
@@ -15,6 +16,9 @@ use thiserror::Error;
 
 /// The length of the longest head.
 const MOST_HEAD: usize = 8_192;
+
+/// The length of the longest head and the longest body together.
+pub const MOST_REQUEST: usize = MOST_HEAD + MOST_BODY;
 
 /// What ends a head.
 const EMPTY_LINE: &[u8] = b"\r\n\r\n";
@@ -69,8 +73,8 @@ pub fn read_request<'b, R: Read>(
     reader: &mut R,
     buffer: &'b mut [u8],
 ) -> Result<Asked<'b>, ReadFailed>
-    requires room { 12288 ≤ length buffer.old }
-    ensures { Gave 12288 (R.remaining reader.old) (R.remaining reader.new) (asked.IsAnswerTo result) }
+    requires room { most_request ≤ length buffer.old }
+    ensures { Gave most_request (R.remaining reader.old) (R.remaining reader.new) (asked.IsAnswerTo result) }
 {
     match read_message(reader, buffer) {
         Ok(message) => Ok(Asked::Request(request_in(buffer, message))),
@@ -97,7 +101,7 @@ fn request_in<'b>(buffer: &'b [u8], message: Message) -> Request<'b>
 
 /// Reads a head and its body.
 fn read_message<R: Read>(reader: &mut R, buffer: &mut [u8]) -> Result<Message, Stop>
-    requires room { 12288 ≤ length buffer.old }
+    requires room { most_request ≤ length buffer.old }
     ensures { asked.FindsMessage (R.remaining reader.old) (R.remaining reader.new) buffer.new result }
 {
     let (head, mut filled) = read_head(reader, buffer)?;
@@ -115,7 +119,7 @@ fn read_message<R: Read>(reader: &mut R, buffer: &mut [u8]) -> Result<Message, S
 
 /// Reads until the end of the head is in hand. Answers its length and how many bytes are in hand.
 fn read_head<R: Read>(reader: &mut R, buffer: &mut [u8]) -> Result<(usize, usize), Stop>
-    requires { 8192 ≤ length buffer.old }
+    requires { most_head ≤ length buffer.old }
     ensures { spec.ReadsHead (R.remaining reader.old) (R.remaining reader.new) buffer.new result }
 {
     let mut filled = 0;

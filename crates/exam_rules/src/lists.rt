@@ -1,7 +1,7 @@
 //! The members and the open halls of all sessions, listed in one walk over the facts.
 ghost use Rattle.std.specs.Prelude.{◌≡◌, ◌≢◌, ◌<◌, ◌≤◌, ◌++◌, ◌∷◌, [], length, All, Contains, IsNone, IfSome, IfOk};
 ghost use Rattle.std.specs.Prelude.{IfErr, OnOk, OnErr, IsTrue, true, false, filter, nat_eq, nat_lt, slice_index_or};
-ghost use Rattle.std.specs.Prelude.{slice_set, if◌then◌else◌};
+ghost use Rattle.std.specs.Prelude.{map, slice_set, if◌then◌else◌};
 ghost use Rattle.std.specs.List.Sorted.{IsStrictlySortedBy, IsNonDecreasingBy, IsPartitionPoint};
 ghost use Rattle.std.specs.Ordering.{nat_cmp};
 ghost use Rattle.exam_types.specs.declared.refusal.Refusal.TheVariants.{NoMemory};
@@ -198,6 +198,35 @@ pub fn session_lists(alloc: Global, facts: &Facts) -> Result<SessionLists, Refus
         members: members_by_session(alloc, facts)?,
         halls: halls_by_session(alloc, facts)?,
     })
+}
+
+/// The members and the open halls of all sessions. Refused if this session is none of them, or if memory runs out.
+pub fn lists_with(
+    alloc: Global,
+    facts: &Facts,
+    session: &SessionCode,
+) -> Result<SessionLists, Refusal>
+    ensures ok { IfOk result (λ lists. listing.AreListsOf (relations_of facts.now) lists) }
+    ensures known { OnOk result (IsTrue (has_row code_cmp facts.now.sessions.entries session.now)) }
+    ensures refusal { IfErr result (spec.IsSessionRefusal (relations_of facts.now) session.now) }
+{
+    if !facts.sessions.contains_key(session) {
+        return Err(Refusal::UnknownSession);
+    }
+    session_lists(alloc, facts)
+}
+
+/// Which candidates these are.
+pub fn numbers_of(alloc: Global, entrants: &[Entrant]) -> Result<Vec<Number>, Refusal>
+    ensures ok { IfOk result (λ numbers. numbers.items
+        ≡ map (λ (entrant : Entrant). entrant.number) entrants.now) }
+    ensures memory { IfErr result (λ e. e ≡ NoMemory) }
+{
+    let numbers = entrants
+        .iter()
+        .map(|entrant| entrant.number)
+        .collect(alloc)?;
+    Ok(numbers)
 }
 
 /// The paper with which to list the number: the least live one in the session, or none if the number is no candidate's.

@@ -16,39 +16,14 @@ ghost use Rattle.exam_rules.specs.Seatings as seatings;
 
 use crate::facts::Facts;
 use crate::fit::{Room, fitting_places, opened_room};
-use crate::lists::{Entrant, SessionLists};
-use crate::sessions::{members, sitting, sitting_beside};
+use crate::lists::{Entrant, SessionLists, lists_with, numbers_of};
+use crate::sessions::sitting_beside;
 use exam_plan::{MOST_HALLS, MOST_MEMBERS, Mask, Problem};
 use exam_types::{HallCode, Number, PaperCode, Refusal, SessionCode};
 use std::alloc::Global;
 
 /// What the order of desks compares: the sitting paper, and then the number.
 type DeskKey = (Option<PaperCode>, Number);
-
-/// The halls opened for the session, codes rising. Refused if there is no such session, or not enough memory.
-pub fn open_halls(
-    alloc: Global,
-    facts: &Facts,
-    session: &SessionCode,
-) -> Result<Vec<HallCode>, Refusal>
-    ensures ok { IfOk result (λ halls. halls.items
-        ≡ seatings.open_halls (relations_of facts.now) session.now) }
-    ensures rising { OnOk result
-        (IsStrictlySortedBy code_cmp (seatings.open_halls (relations_of facts.now) session.now)) }
-    ensures known { OnOk result (IsTrue (has_row code_cmp facts.now.sessions.entries session.now)) }
-    ensures refusal { IfErr result (spec.IsSessionRefusal (relations_of facts.now) session.now) }
-{
-    if !facts.sessions.contains_key(session) {
-        return Err(Refusal::UnknownSession);
-    }
-    let halls = facts
-        .openings
-        .iter()
-        .filter(|(key, _)| key.0 == *session)
-        .map(|(key, _)| key.1)
-        .collect(alloc)?;
-    Ok(halls)
-}
 
 /// The desks of the hall in the session.
 fn desks(facts: &Facts, session: &SessionCode, hall: &HallCode) -> u32
@@ -122,25 +97,7 @@ fn fit_rows(
     Ok(rows)
 }
 
-/// What the order of desks compares, for each of these numbers.
-fn desk_keys(
-    alloc: Global,
-    facts: &Facts,
-    session: &SessionCode,
-    numbers: &[Number],
-) -> Result<Vec<DeskKey>, Refusal>
-    ensures ok { IfOk result (λ keys. keys.items
-        ≡ map (seatings.desk_key (relations_of facts.now) session.now) numbers.now) }
-    ensures memory { IfErr result (λ e. e ≡ NoMemory) }
-{
-    let keys = numbers
-        .iter()
-        .map(|number| (sitting(facts, session, *number), *number))
-        .collect(alloc)?;
-    Ok(keys)
-}
-
-/// The same for members whose least live papers are known.
+/// What the order of desks compares, for each of these members.
 fn entrant_keys(
     alloc: Global,
     facts: &Facts,
@@ -218,37 +175,7 @@ pub struct ListedProblem {
     pub problem: Problem,
 }
 
-/// The seating problem of the session, with its members and its open halls; `members`, `open_halls` and `problem` give
-/// them one by one.
-pub fn listed_problem(
-    alloc: Global,
-    facts: &Facts,
-    session: &SessionCode,
-) -> Result<ListedProblem, Refusal>
-    ensures numbers { IfOk result (λ listed. listed.numbers.items
-        ≡ spec.members (relations_of facts.now) session.now) }
-    ensures halls { IfOk result (λ listed. listed.halls.items
-        ≡ seatings.open_halls (relations_of facts.now) session.now) }
-    ensures ok { IfOk result (λ listed. listed.problem
-        ≡ seatings.problem_of (relations_of facts.now) session.now) }
-    // The premise of the laws that carry what holds for indices over to numbers and codes.
-    ensures lists { OnOk result (ListsRise (relations_of facts.now) session.now) }
-    ensures known { OnOk result (IsTrue (has_row code_cmp facts.now.sessions.entries session.now)) }
-    ensures refusal { IfErr result (seatings.IsProblemRefusal (relations_of facts.now) session.now) }
-{
-    let numbers = members(alloc, facts, session)?;
-    if numbers.len() > MOST_MEMBERS {
-        return Err(Refusal::TooMany);
-    }
-    let keys = desk_keys(alloc, facts, session, &numbers)?;
-    let halls = open_halls(alloc, facts, session)?;
-    if halls.len() > MOST_HALLS {
-        return Err(Refusal::TooMany);
-    }
-    problem_over(alloc, facts, session, numbers, &keys, halls)
-}
-
-/// The same, from the lists of the members and the open halls of all sessions.
+/// The seating problem of the session, with its members and its open halls, from the lists of all sessions.
 pub fn indexed_problem(
     alloc: Global,
     facts: &Facts,
@@ -274,18 +201,6 @@ pub fn indexed_problem(
     let numbers = numbers_of(alloc, entrants)?;
     let halls = Vec::from_slice(alloc, halls)?;
     problem_over(alloc, facts, session, numbers, &keys, halls)
-}
-
-fn numbers_of(alloc: Global, entrants: &[Entrant]) -> Result<Vec<Number>, Refusal>
-    ensures ok { IfOk result (λ numbers. numbers.items
-        ≡ map (λ (entrant : Entrant). entrant.number) entrants.now) }
-    ensures memory { IfErr result (λ e. e ≡ NoMemory) }
-{
-    let numbers = entrants
-        .iter()
-        .map(|entrant| entrant.number)
-        .collect(alloc)?;
-    Ok(numbers)
 }
 
 /// The seating problem over the members and the open halls of the session.
@@ -323,9 +238,9 @@ fn problem_over(
     })
 }
 
-/// The seating problem of the session: the i-th candidate is the i-th of `members`, the j-th hall the j-th of
-/// `open_halls`. Refused if there is no such session, if there are more members or open halls than a session may have,
-/// or if there is not enough memory. Facts within the office's limits never have too many.
+/// The seating problem of the session: the i-th candidate is the i-th of its members, by number, and the j-th hall the
+/// j-th of those opened for it, by code. Refused if there is no such session, if there are more members or open halls
+/// than a session may have, or if memory runs out. Facts within the office's limits never have too many.
 pub fn problem(alloc: Global, facts: &Facts, session: &SessionCode) -> Result<Problem, Refusal>
     ensures ok { IfOk result (λ p. p ≡ seatings.problem_of (relations_of facts.now) session.now) }
     // The premise of the laws that carry what holds for indices over to numbers and codes.
@@ -333,6 +248,7 @@ pub fn problem(alloc: Global, facts: &Facts, session: &SessionCode) -> Result<Pr
     ensures known { OnOk result (IsTrue (has_row code_cmp facts.now.sessions.entries session.now)) }
     ensures refusal { IfErr result (seatings.IsProblemRefusal (relations_of facts.now) session.now) }
 {
-    let listed = listed_problem(alloc, facts, session)?;
+    let lists = lists_with(alloc, facts, session)?;
+    let listed = indexed_problem(alloc, facts, &lists, session)?;
     Ok(listed.problem)
 }

@@ -1,20 +1,15 @@
 //! Who belongs to a session, which paper each sits, and under which arrangement.
-ghost use Rattle.std.specs.Prelude.{◌≡◌, ◌↔◌, ◌++◌, [], Some, filter, codes, Contains, IsTrue, IfOk, IfErr, OnOk};
-ghost use Rattle.exam_types.specs.declared.refusal.Refusal.TheVariants.{NoMemory};
-ghost use Rattle.std.specs.List.Sorted.{IsStrictlySortedBy};
-ghost use Rattle.std.specs.Ordering.{nat_cmp};
+ghost use Rattle.std.specs.Prelude.{◌≡◌, ◌↔◌, [], Some, filter, codes, Contains, IsTrue};
 ghost use Rattle.std.specs.BTreeMap.Range.{entries_between};
 ghost use Rattle.std.specs.declared.ops.Bound.TheVariants.{Unbounded, Excluded};
-ghost use Rattle.exam_rules.specs.Relations.{Code, relations_of, code_cmp, entry_cmp, has_row, is_row_of};
-ghost use Rattle.exam_rules.specs.Relations.{leading};
+ghost use Rattle.exam_rules.specs.Relations.{Code, relations_of, entry_cmp, is_row_of, leading};
 ghost use Rattle.exam_rules.specs.Sessions as spec;
 
 use crate::appeals::{granted_arrangement, granted_paper};
 use crate::facts::Facts;
 use crate::rows::{Arrangement, Entry};
 use crate::standing::standing_arrangement;
-use exam_types::{Extra, Features, Number, PaperCode, Refusal, SessionCode};
-use std::alloc::Global;
+use exam_types::{Extra, Features, Number, PaperCode, SessionCode};
 use std::collections::btree_map::Range;
 
 /// The least paper code, with which a candidate's entries begin.
@@ -107,27 +102,7 @@ pub fn is_member(facts: &Facts, session: &SessionCode, number: Number) -> bool
     facts.candidates.contains_key(&number) && has_live_entry(facts, session, number)
 }
 
-/// The numbers of the members, rising. Refused if there is no such session, or not enough memory.
-pub fn members(alloc: Global, facts: &Facts, session: &SessionCode) -> Result<Vec<Number>, Refusal>
-    ensures ok { IfOk result (λ numbers. numbers.items ≡ spec.members (relations_of facts.now) session.now) }
-    ensures rising { OnOk result
-        (IsStrictlySortedBy nat_cmp (spec.members (relations_of facts.now) session.now)) }
-    ensures known { OnOk result (IsTrue (has_row code_cmp facts.now.sessions.entries session.now)) }
-    ensures refusal { IfErr result (spec.IsSessionRefusal (relations_of facts.now) session.now) }
-{
-    if !facts.sessions.contains_key(session) {
-        return Err(Refusal::UnknownSession);
-    }
-    let numbers = facts
-        .candidates
-        .keys()
-        .copied()
-        .filter(|number| has_live_entry(facts, session, *number))
-        .collect(alloc)?;
-    Ok(numbers)
-}
-
-/// The paper of the candidate's granted clash appeal, if it is live and of this session.
+/// The paper of the candidate's granted clash appeal, where it is live and of this session.
 fn granted_sitting(facts: &Facts, session: &SessionCode, number: Number) -> Option<PaperCode>
     ensures { result ≡ spec.option_filter (spec.is_live_paper (relations_of facts.now) session.now number)
         (spec.granted_paper (relations_of facts.now) session.now number) }
@@ -196,49 +171,7 @@ fn no_extra() -> Extra
     Extra::new(0).unwrap()
 }
 
-/// The members with their live papers that they do not sit, by number and code. Refused if there is no such session, or
-/// not enough memory.
-pub fn clashes(
-    alloc: Global,
-    facts: &Facts,
-    session: &SessionCode,
-) -> Result<Vec<(Number, PaperCode)>, Refusal>
-    ensures ok { IfOk result (λ list. list.items ≡ spec.clashes (relations_of facts.now) session.now) }
-    ensures known { OnOk result (IsTrue (has_row code_cmp facts.now.sessions.entries session.now)) }
-    ensures refusal { IfErr result (spec.IsSessionRefusal (relations_of facts.now) session.now) }
-{
-    let numbers = members(alloc, facts, session)?;
-    let mut list = Vec::new(alloc);
-    for number in &numbers {
-        push_clashes(&mut list, facts, session, *number)?;
-    }
-    Ok(list)
-}
-
-/// Appends the candidate's live papers that they do not sit.
-pub fn push_clashes(
-    list: &mut Vec<(Number, PaperCode)>,
-    facts: &Facts,
-    session: &SessionCode,
-    number: Number,
-) -> Result<(), Refusal>
-    ensures ok { OnOk result (list.new.items ≡ list.old.items
-        ++ spec.clashes_of (relations_of facts.now) session.now number) }
-    ensures memory { IfErr result (λ e. e ≡ NoMemory) }
-{
-    let sat = sitting(facts, session, number);
-    for (key, entry) in entries_from(facts, number) {
-        if key.0 != number {
-            break;
-        }
-        if entry.live && is_paper_of(facts, session, &key.1) && is_clash(&sat, &key.1) {
-            list.push((number, key.1))?;
-        }
-    }
-    Ok(())
-}
-
-/// Whether this paper is not the one that is sat.
+/// Whether this live paper is not the one that is sat.
 pub fn is_clash(sat: &Option<PaperCode>, paper: &PaperCode) -> bool
     ensures { result ≡ spec.is_clash sat.now paper.now }
 {

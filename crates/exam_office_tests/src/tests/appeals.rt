@@ -241,7 +241,7 @@ const REFUSED: &[Story<'static>] = &[
         ],
     },
     Story {
-        name: "appeal 65 is not lodged",
+        name: "no appeal is lodged past the most that a candidate may have",
         facts: &[
             Fact::School,
             Fact::Row(Line::Opening("S1", "B", 1)),

@@ -7,7 +7,7 @@ use std::test::Fail;
 
 const STORIES: &[Story<'static>] = &[
     Story {
-        name: "400 sessions",
+        name: "the most sessions",
         facts: &[Fact::Rows(Kind::Sessions, 0, 399)],
         sittings: &[],
         scenes: &[
@@ -23,7 +23,7 @@ const STORIES: &[Story<'static>] = &[
     },
     // One paper exists already.
     Story {
-        name: "2,000 papers",
+        name: "the most papers",
         facts: &[Fact::School, Fact::Rows(Kind::Papers, 0, 1_998)],
         sittings: &[],
         scenes: &[
@@ -39,7 +39,7 @@ const STORIES: &[Story<'static>] = &[
     },
     // Two halls exist already.
     Story {
-        name: "500 halls",
+        name: "the most halls",
         facts: &[Fact::School, Fact::Rows(Kind::Halls, 0, 497)],
         sittings: &[],
         scenes: &[
@@ -54,7 +54,7 @@ const STORIES: &[Story<'static>] = &[
         ],
     },
     Story {
-        name: "128 openings",
+        name: "the most openings of a session",
         facts: &[
             Fact::School,
             Fact::Row(Line::Opening("S1", "A", 1)),
@@ -75,7 +75,7 @@ const STORIES: &[Story<'static>] = &[
         ],
     },
     Story {
-        name: "20,000 candidates",
+        name: "the most candidates",
         facts: &[Fact::Rows(Kind::Candidates, 1, 20_000)],
         sittings: &[],
         scenes: &[
@@ -90,7 +90,7 @@ const STORIES: &[Story<'static>] = &[
         ],
     },
     Story {
-        name: "4,096 members of a session",
+        name: "the most members of a session",
         facts: &[
             Fact::Row(Line::Session("S1")),
             Fact::Row(Line::Paper("MA-1", "S1", "-")),

@@ -1,5 +1,5 @@
 //! Requests, whole and cut, from readers that give all at once or a byte at a time, and that fail.
-use exam_request::{Asked, Fault, Request, read_request};
+use exam_request::{Asked, Fault, MOST_REQUEST, Request, read_request};
 use std::io;
 use std::io::Read;
 use std::process::Abort;
@@ -36,7 +36,7 @@ impl Read for Drip<'_> {
 
 /// The fault of an input, by its number, or 0 if it is a request.
 fn fault_of(input: &[u8]) -> Result<u16, Fail> {
-    let mut buffer = [0; 12_288];
+    let mut buffer = [0; MOST_REQUEST];
     let mut reader = input;
     match read_request(&mut reader, &mut buffer) {
         Ok(Asked::Request(_)) => Ok(0),
@@ -59,7 +59,7 @@ fn is_get(asked: &Request<'_>) -> bool {
 
 #[test]
 fn a_request_is_read_at_once(rt: HostRuntime) -> Result<(), Fail> {
-    let mut buffer = [0; 12_288];
+    let mut buffer = [0; MOST_REQUEST];
     let mut reader = GET;
     match read_request(&mut reader, &mut buffer) {
         Ok(Asked::Request(asked)) => assert!(rt; is_get(&asked)),
@@ -70,7 +70,7 @@ fn a_request_is_read_at_once(rt: HostRuntime) -> Result<(), Fail> {
 
 #[test]
 fn no_read_is_made_behind_the_body(rt: HostRuntime) -> Result<(), Fail> {
-    let mut buffer = [0; 12_288];
+    let mut buffer = [0; MOST_REQUEST];
     let mut reader = Drip {
         bytes: POST,
         reads: 0,
@@ -92,7 +92,7 @@ fn no_read_is_made_behind_the_body(rt: HostRuntime) -> Result<(), Fail> {
 fn a_failed_read_is_told(rt: HostRuntime) -> Result<(), Fail> {
     let whole = POST.len() - 3;
     for given in 0..whole {
-        let mut buffer = [0; 12_288];
+        let mut buffer = [0; MOST_REQUEST];
         let mut reader = Drip {
             bytes: &POST[..given],
             reads: 0,
@@ -215,7 +215,7 @@ fn lengths_are_digits(rt: HostRuntime) -> Result<(), Fail> {
 /// Two code lines count as none, even if both hold the same.
 #[test]
 fn two_code_lines_are_none(rt: HostRuntime) -> Result<(), Fail> {
-    let mut buffer = [0; 12_288];
+    let mut buffer = [0; MOST_REQUEST];
     let mut reader =
         b"GET / HTTP/1.0\r\nexam-code: ABCD1234\r\nEXAM-CODE: ABCD1234\r\n\r\n".as_slice();
     match read_request(&mut reader, &mut buffer) {

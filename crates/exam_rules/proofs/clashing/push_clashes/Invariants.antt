@@ -1,7 +1,7 @@
 use Rattle.std.proofs.Common.{◌≡◌, ◌++◌, map, filter}
 use Rattle.exam_rules.specs.Relations.{leading, is_row_of, relations_of}
 use Rattle.exam_rules.specs.Sessions.{is_clash, live_papers, live_papers_in}
-use Rattle.exam_rules.proofs.sessions.push_clashes.Given as goal
+use Rattle.exam_rules.proofs.clashing.push_clashes.Given as goal
 
 -- what is left answers as the whole
 abbrev pub invariant-loop-key : goal.invariant-loop-key

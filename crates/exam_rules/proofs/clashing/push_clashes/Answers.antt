@@ -3,7 +3,7 @@ use Rattle.std.proofs.lemmas.Bool.Decides.{nat_tests}
 use Rattle.exam_rules.specs.Relations.{relations_of}
 use Rattle.exam_rules.specs.Sessions.{is_paper_of, is_clash}
 use Rattle.exam_rules.proofs.Turns.{clashes_left, clash_turn, push_step}
-use Rattle.exam_rules.proofs.sessions.push_clashes.Goals as goal
+use Rattle.exam_rules.proofs.clashing.push_clashes.Goals as goal
 
 pub loop-key-preserved-then-is_clash : goal.loop-key-preserved-then-is_clash
 loop-key-preserved-then-is_clash c =
