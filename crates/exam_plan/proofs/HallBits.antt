@@ -1,12 +1,12 @@
 -- What the operations on numbers do to the sets that the numbers are, and on two words to the set of both.
-use Rattle.std.proofs.Common.{◌≡◌, ◌≢◌, ℕ, zero, suc, ◌+◌, ◌-◌, ◌*◌, ◌/◌, ◌%◌, ◌^◌, ◌<◌, ◌≤◌, ◌↔◌, Option, None, Some, Bool, true, false, not, ◌&&◌, ◌||◌, cond, min, max, nat_eq, bit_and, bit_or, refl, sym, ap, ◌∙◌, inl, inr, arith}
+use Rattle.std.proofs.Common.{◌≡◌, ◌≢◌, ℕ, zero, suc, ◌+◌, ◌-◌, ◌*◌, ◌/◌, ◌%◌, ◌^◌, ◌<◌, ◌≤◌, ◌↔◌, Option, None, Some, Bool, true, false, not, ◌&&◌, ◌||◌, cond, min, max, nat_eq, bit_and, bit_or, bit_xor, refl, sym, ap, ◌∙◌, inl, inr, arith}
 use Rattle.std.specs.Prelude.{MatchOption, is_some}
 use Rattle.std.specs.Int.{bit_at, bit_not, trailing_zeros, w128}
 use Rattle.std.specs.Int.Bits.{and_le_l, or_lt}
-use Rattle.std.proofs.lemmas.Bool.{cases_eq, cases_lt, cases_Bool, eq-eqb, ne_eqb, eqb-true}
+use Rattle.std.proofs.lemmas.Bool.{cases_eq, cases_lt, eq-eqb, ne_eqb}
 use Rattle.std.proofs.lemmas.Nat.{one_shl}
-use Rattle.std.proofs.lemmas.Nat.Bits.{bit_at-lt, bit_at-zero, bit_at_or, bit_at_and, bit_at_not, bit_at_above, bit_at-pow_same, bit_at-pow_other, shr_and_one, bit_at-trailing_zeros, bit_at_cat_low, bit_at_cat_high}
-use Rattle.exam_plan.specs.HallSets.{holds}
+use Rattle.std.proofs.lemmas.Nat.Bits.{bit_at-lt, bit_at-zero, bit_at_lowest, bit_at-suc, bit_at_or, bit_at_and, bit_at_xor, bit_at_not, bit_at_above, bit_at-pow_same, bit_at-pow_other, shr_and_one, bit_at-trailing_zeros, bit_at_cat_low, bit_at_cat_high}
+use Rattle.exam_plan.specs.HallSets.{holds, IsLeast}
 
 -- ---- bits as tests
 
@@ -31,6 +31,14 @@ not_test zero l = refl
 not_test (suc zero) l = refl
 not_test (suc (suc x)) l = absurd (omega arith)
 
+other_test : (x y : ℕ) → x < 2 → y < 2 → nat_eq ((x + y) % 2) 1 ≡ (nat_eq x 1 || nat_eq y 1) && not (nat_eq x 1 && nat_eq y 1)
+other_test zero zero l m = refl
+other_test zero (suc zero) l m = refl
+other_test (suc zero) zero l m = refl
+other_test (suc zero) (suc zero) l m = refl
+other_test (suc (suc x)) y l m = absurd (omega arith)
+other_test x (suc (suc y)) l m = absurd (omega arith)
+
 one_test : (x : ℕ) → x < 2 → not (nat_eq x 0) ≡ nat_eq x 1
 one_test zero l = refl
 one_test (suc zero) l = refl
@@ -51,6 +59,9 @@ holds_or a b h = ap (λ t. nat_eq t 1) (bit_at_or a b h) ∙ or_test (bit_at a h
 
 pub holds_and : (a b h : ℕ) → holds (bit_and a b) h ≡ holds a h && holds b h
 holds_and a b h = ap (λ t. nat_eq t 1) (bit_at_and a b h) ∙ and_test (bit_at a h) (bit_at b h) (bit_at-lt a h) (bit_at-lt b h)
+
+pub holds_xor : (a b h : ℕ) → holds (bit_xor a b) h ≡ (holds a h || holds b h) && not (holds a h && holds b h)
+holds_xor a b h = ap (λ t. nat_eq t 1) (bit_at_xor a b h) ∙ other_test (bit_at a h) (bit_at b h) (bit_at-lt a h) (bit_at-lt b h)
 
 -- no hall is in the set of a number below 2 ^ n from n on
 pub holds_past : (n a h : ℕ) → a < 2 ^ n → n ≤ h → holds a h ≡ false
@@ -164,10 +175,7 @@ with_high low high hall h within past below =
 
 -- ---- the least hall
 
-abbrev pub IsFirst : ℕ → ℕ → Type 0
-IsFirst set h = (h < 256) × (holds set h ≡ true) × ((k : ℕ) → holds set k ≡ true → h ≤ k)
-
-pub first_low : (low high : ℕ) → low < 2 ^ 128 → 0 < low → IsFirst (high * 2 ^ 128 + low) (trailing_zeros w128 low)
+pub first_low : (low high : ℕ) → low < 2 ^ 128 → 0 < low → IsLeast (high * 2 ^ 128 + low) (trailing_zeros w128 low)
 first_low low high within some =
     let first = least_holds low some within in (
       omega (arith, first.0),
@@ -178,7 +186,7 @@ first_low low high within some =
       ],
     )
 
-pub first_high : (low high : ℕ) → low ≡ 0 → high < 2 ^ 128 → 0 < high → IsFirst (high * 2 ^ 128 + low) (128 + trailing_zeros w128 high)
+pub first_high : (low high : ℕ) → low ≡ 0 → high < 2 ^ 128 → 0 < high → IsLeast (high * 2 ^ 128 + low) (128 + trailing_zeros w128 high)
 first_high low high none within some =
     let first = least_holds high some within in
     let e : 128 + trailing_zeros w128 high - 128 ≡ trailing_zeros w128 high = omega arith in (
@@ -193,8 +201,79 @@ first_high low high none within some =
 pub first_nowhere : (low high : ℕ) → low ≡ 0 → high ≡ 0 → (h : ℕ) → holds (high * 2 ^ 128 + low) h ≡ false
 first_nowhere low high none also h = (λ i. holds (also i * 2 ^ 128 + none i) h) ∙ holds_empty h
 
+-- ---- a number without its lowest bit
+
+-- one less has the same bits beyond the lowest, which it lacks
+one_less : (t n : ℕ) → bit_at n t ≡ 1 → ((j : ℕ) → j < t → bit_at n j ≡ 0) → (bit_at (n - 1) t ≡ 0) × ((i : ℕ) → t < i → bit_at (n - 1) i ≡ bit_at n i)
+one_less zero n one below =
+    let odd : n % 2 ≡ 1 = sym (bit_at_lowest n) ∙ one in
+    (bit_at_lowest (n - 1) ∙ omega (arith, odd), λ i l. beyond i l odd)
+  where
+    beyond : (i : ℕ) → 0 < i → n % 2 ≡ 1 → bit_at (n - 1) i ≡ bit_at n i
+    beyond zero l odd = absurd (omega arith)
+    beyond (suc i) l odd = let half : (n - 1) / 2 ≡ n / 2 = omega (arith, odd) in bit_at-suc (n - 1) i ∙ ap (λ z. bit_at z i) half ∙ sym (bit_at-suc n i)
+one_less (suc t) n one below =
+    let even : n % 2 ≡ 0 = sym (bit_at_lowest n) ∙ below 0 (omega arith) in
+    let half : (n - 1) / 2 ≡ n / 2 - 1 = omega (arith, even) in
+    let less = one_less t (n / 2) (sym (bit_at-suc n t) ∙ one) (λ j l. sym (bit_at-suc n j) ∙ below (suc j) (omega (arith, l))) in
+    (bit_at-suc (n - 1) t ∙ ap (λ z. bit_at z t) half ∙ less.0, λ i l. beyond i l half less.1)
+  where
+    beyond : (i : ℕ) → suc t < i → (n - 1) / 2 ≡ n / 2 - 1 → ((i : ℕ) → t < i → bit_at (n / 2 - 1) i ≡ bit_at (n / 2) i) → bit_at (n - 1) i ≡ bit_at n i
+    beyond zero l half less = absurd (omega arith)
+    beyond (suc i) l half less = bit_at-suc (n - 1) i ∙ ap (λ z. bit_at z i) half ∙ less i (omega (arith, l)) ∙ sym (bit_at-suc n i)
+
+pub without_least : (n k : ℕ) → 0 < n → n < 2 ^ 128 → holds (bit_and n (n - 1)) k ≡ cond (nat_eq k (trailing_zeros w128 n)) false (holds n k)
+without_least n k some within =
+    let t = bit_at-trailing_zeros w128 n some within in
+    let less = one_less (trailing_zeros w128 n) n t.1 t.2 in
+    holds_and n (n - 1) k ∙ elim (cases_eq k (trailing_zeros w128 n)) [
+      | inl e ↦ ap (λ b. holds n k && nat_eq b 1) (ap (bit_at (n - 1)) e ∙ less.0) ∙ and_false (holds n k) ∙ sym (ap (λ b. cond b false (holds n k)) (eq-eqb k (trailing_zeros w128 n) e))
+      | inr away ↦ others (trailing_zeros w128 n) away t.2 less.1 ∙ sym (ap (λ b. cond b false (holds n k)) (ne_eqb k (trailing_zeros w128 n) away))
+    ]
+  where
+    and_false : (b : Bool) → b && false ≡ false
+    and_false true = refl
+    and_false false = refl
+
+    and_same : (b : Bool) → b && b ≡ b
+    and_same true = refl
+    and_same false = refl
+
+    others : (t : ℕ) → k ≢ t → ((i : ℕ) → i < t → bit_at n i ≡ 0) → ((i : ℕ) → t < i → bit_at (n - 1) i ≡ bit_at n i) → holds n k && holds (n - 1) k ≡ holds n k
+    others t away none same = elim (cases_lt k t) [
+      | inl l ↦ (let z : holds n k ≡ false = ap (λ b. nat_eq b 1) (none k l) in ap (λ b. b && holds (n - 1) k) z ∙ sym z)
+      | inr g ↦ ap (λ b. holds n k && nat_eq b 1) (same k (omega (arith, g, away))) ∙ and_same (holds n k)
+    ]
+
+-- the other halls of a set of two words
+pub others_low : (low high h : ℕ) → low < 2 ^ 128 → 0 < low → holds (high * 2 ^ 128 + bit_and low (low - 1)) h ≡ cond (nat_eq h (trailing_zeros w128 low)) false (holds (high * 2 ^ 128 + low) h)
+others_low low high h within some =
+    let first = least_holds low some within in
+    let less = bit_and low (low - 1) in
+    elim (cases_lt h 128) [
+      | inl l ↦ in_low less high h l ∙ without_least low h some within ∙ ap (cond (nat_eq h (trailing_zeros w128 low)) false) (sym (in_low low high h l))
+      | inr g ↦ in_high less high h (and_within low (low - 1) within) g ∙ sym (in_high low high h within g)
+          ∙ ap (λ t. cond t false (holds (high * 2 ^ 128 + low) h)) (sym (ne_eqb h (trailing_zeros w128 low) (λ s. absurd (omega (arith, first.0)))))
+    ]
+
+pub others_high : (low high h : ℕ) → low ≡ 0 → high < 2 ^ 128 → 0 < high → holds (bit_and high (high - 1) * 2 ^ 128 + 0) h ≡ cond (nat_eq h (128 + trailing_zeros w128 high)) false (holds (high * 2 ^ 128 + low) h)
+others_high low high h none within some =
+    let less = bit_and high (high - 1) in
+    elim (cases_lt h 128) [
+      | inl l ↦ in_low 0 less h l ∙ ap (λ n. holds n h) (sym none) ∙ sym (in_low low high h l)
+          ∙ ap (λ t. cond t false (holds (high * 2 ^ 128 + low) h)) (sym (ne_eqb h (128 + trailing_zeros w128 high) (λ s. absurd (omega arith))))
+      | inr g ↦ in_high 0 less h (omega arith) g ∙ without_least high (h - 128) some within
+          ∙ (λ i. cond (moved (trailing_zeros w128 high) g i) false (sym (in_high low high h (omega arith) g) i))
+    ]
+  where
+    moved : (t : ℕ) → 128 ≤ h → nat_eq (h - 128) t ≡ nat_eq h (128 + t)
+    moved t g = elim (cases_eq h (128 + t)) [
+      | inl s ↦ eq-eqb (h - 128) t (omega arith) ∙ sym (eq-eqb h (128 + t) s)
+      | inr n ↦ ne_eqb (h - 128) t (λ s. n (omega arith)) ∙ sym (ne_eqb h (128 + t) n)
+    ]
+
 -- a set is empty where it has no least hall
-pub none_found : (o : Option ℕ) (r : Bool) (set : ℕ) → MatchOption o ((h : ℕ) → holds set h ≡ false) (IsFirst set) → is_some o ≡ not r → (r ≡ true) ↔ ((h : ℕ) → holds set h ≡ false)
+pub none_found : (o : Option ℕ) (r : Bool) (set : ℕ) → MatchOption o ((h : ℕ) → holds set h ≡ false) (IsLeast set) → is_some o ≡ not r → (r ≡ true) ↔ ((h : ℕ) → holds set h ≡ false)
 none_found None true set found e = ((λ t. found), (λ none. refl))
 none_found None false set found e = cc
 none_found (Some h) true set found e = cc
@@ -206,7 +285,7 @@ both_true true false e = cc
 both_true false y e = cc
 
 -- two sets meet where what they have in common has a least hall
-pub both_found : (o : Option ℕ) (r : Bool) (a b both : ℕ) → MatchOption o ((h : ℕ) → holds both h ≡ false) (IsFirst both) → ((h : ℕ) → holds both h ≡ holds a h && holds b h)
+pub both_found : (o : Option ℕ) (r : Bool) (a b both : ℕ) → MatchOption o ((h : ℕ) → holds both h ≡ false) (IsLeast both) → ((h : ℕ) → holds both h ≡ holds a h && holds b h)
     → r ≡ is_some o → (r ≡ true) ↔ ((h : ℕ) × (holds a h ≡ true) × (holds b h ≡ true))
 both_found None true a b both found parts e = cc
 both_found None false a b both found parts e =

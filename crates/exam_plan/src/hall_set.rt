@@ -1,6 +1,6 @@
 //! Sets of halls, each hall by its number.
-ghost use Rattle.std.specs.Prelude.{◌≡◌, ◌↔◌, ◌<◌, ◌≤◌, ◌%◌, ◌||◌, ◌&&◌, ℕ, false, not, nat_eq, if◌then◌else◌, IsTrue, MatchOption};
-ghost use Rattle.exam_plan.specs.HallSets.{most_halls, holds, set_of_mask};
+ghost use Rattle.std.specs.Prelude.{◌≡◌, ◌↔◌, ◌<◌, ◌≤◌, ◌%◌, ◌^◌, ◌||◌, ◌&&◌, ℕ, false, not, slice_index, nat_eq, if◌then◌else◌, IsTrue, MatchOption};
+ghost use Rattle.exam_plan.specs.HallSets.{most_halls, holds, IsLeast, set_of_mask};
 
 use std::marker::Model;
 
@@ -57,7 +57,8 @@ impl HallSet {
 
     /// The bits of the set.
     pub fn mask(self) -> Mask
-        ensures { set_of_mask result ≡ self }
+        ensures bits { set_of_mask result ≡ self }
+        ensures word { slice_index result 0 < 2 ^ 128 }
     {
         [self.low, self.high]
     }
@@ -162,12 +163,36 @@ impl HallSet {
     pub fn first(self) -> Option<usize>
         ensures { MatchOption result
             ((h : ℕ) → holds self h ≡ false)
-            (λ h. (h < most_halls) × IsTrue (holds self h) × ((k : ℕ) → IsTrue (holds self k) → h ≤ k)) }
+            (IsLeast self) }
     {
         if self.low != 0 {
             Some(self.low.trailing_zeros() as usize)
         } else if self.high != 0 {
             Some(128 + self.high.trailing_zeros() as usize)
+        } else {
+            None
+        }
+    }
+
+    /// The least hall of the set, and the set of the others.
+    pub fn split_first(self) -> Option<(usize, HallSet)>
+        ensures { MatchOption result
+            ((h : ℕ) → holds self h ≡ false)
+            (λ (least, others). IsLeast self least
+            × ((h : ℕ) → holds others h ≡ (if nat_eq h least then false else holds self h))) }
+    {
+        if self.low != 0 {
+            let others = HallSet {
+                low: self.low & (self.low - 1),
+                high: self.high,
+            };
+            Some((self.low.trailing_zeros() as usize, others))
+        } else if self.high != 0 {
+            let others = HallSet {
+                low: 0,
+                high: self.high & (self.high - 1),
+            };
+            Some((128 + self.high.trailing_zeros() as usize, others))
         } else {
             None
         }
