@@ -92,7 +92,10 @@ fn equal_problem(
     requires exist { set_of_mask mask < 2 ^ halls }
     ensures count { IfOk result (λ p. length p.fit ≡ candidates) }
 {
-    let masks = vec![in alloc; mask; candidates]?;
+    let mut masks = Vec::with_capacity(alloc, candidates)?;
+    'filling: for _ in 0..candidates {
+        masks.push(mask)?;
+    }
     masked_problem(alloc, halls, masks.as_slice())
 }
 
