@@ -3,7 +3,7 @@ ghost use Rattle.std.specs.Prelude.{◌≡◌, ◌⊎◌, ◌<◌, ◌≤◌, �
 ghost use Rattle.std.specs.Prelude.{IsSorted};
 ghost use Rattle.std.specs.Ordering.{is_lt, nat_cmp};
 ghost use Rattle.std.specs.List.Sorted.{IsStrictlySortedBy};
-ghost use Rattle.exam_plan.specs.HallSets.{most_halls, holds, halls_below};
+ghost use Rattle.exam_plan.specs.HallSets.{most_halls, holds, halls_below, sets_of};
 ghost use Rattle.exam_plan.specs.Problems.{most_members};
 ghost use Rattle.exam_rules.specs.Names.{ListsRise};
 ghost use Rattle.exam_rules.specs.Lists as listing;
@@ -95,7 +95,7 @@ fn rooms(
     Ok(rooms)
 }
 
-/// Of each candidate, by number and sitting paper, the places of the halls that fit, each place at its bit.
+/// Of each candidate, by number and sitting paper, the places of the halls that fit, as a mask.
 fn fit_rows(
     alloc: Global,
     facts: &Facts,
@@ -108,11 +108,11 @@ fn fit_rows(
     requires halls { halls.now
         ≡ seatings.with_rooms (relations_of facts.now) session.now (map (λ hall. hall.0) halls.now) }
     requires few { length halls.now ≤ most_halls }
-    ensures ok { IfOk result (λ rows. map (halls_below (length halls.now)) rows.items
+    ensures ok { IfOk result (λ rows. map (halls_below (length halls.now)) (sets_of rows.items)
         ≡ map (λ key. seatings.fitting_places (relations_of facts.now) session.now key.1
         (map (λ hall. hall.0) halls.now)) keys.now) }
     ensures exist { IfOk result (λ rows.
-        All (λ row. (h : ℕ) → IsTrue (holds row h) → h < length halls.now) rows.items) }
+        All (λ set. (h : ℕ) → IsTrue (holds set h) → h < length halls.now) (sets_of rows.items)) }
     ensures memory { IfErr result (λ e. e ≡ NoMemory) }
 {
     let mut rows = Vec::with_capacity(alloc, keys.len())?;
@@ -186,7 +186,7 @@ fn place_in(sorted: &[DeskKey], key: &DeskKey) -> u32
     sorted.partition_point(|other| *other < *key) as u32
 }
 
-/// Of each member the places of the halls that fit, each place at its bit.
+/// Of each member the places of the halls that fit, as a mask.
 fn fit_table(
     alloc: Global,
     facts: &Facts,
@@ -198,11 +198,11 @@ fn fit_table(
         ≡ map (seatings.desk_key (relations_of facts.now) session.now)
         (spec.members (relations_of facts.now) session.now) }
     requires few { length halls.now ≤ most_halls }
-    ensures ok { IfOk result (λ rows. map (halls_below (length halls.now)) rows.items
+    ensures ok { IfOk result (λ rows. map (halls_below (length halls.now)) (sets_of rows.items)
         ≡ map (λ c. seatings.fitting_places (relations_of facts.now) session.now c halls.now)
         (spec.members (relations_of facts.now) session.now)) }
     ensures exist { IfOk result (λ rows.
-        All (λ row. (h : ℕ) → IsTrue (holds row h) → h < length halls.now) rows.items) }
+        All (λ set. (h : ℕ) → IsTrue (holds set h) → h < length halls.now) (sets_of rows.items)) }
     ensures memory { IfErr result (λ e. e ≡ NoMemory) }
 {
     let rooms = rooms(alloc, facts, session, halls)?;
