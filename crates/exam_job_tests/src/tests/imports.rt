@@ -80,16 +80,16 @@ fn bytes_that_are_no_text_and_a_file_too_long_are_refused(rt: HostRuntime) -> Re
 }
 
 #[test]
-fn opening_129_is_too_many(rt: HostRuntime) -> Result<(), Fail> {
+fn opening_257_is_too_many(rt: HostRuntime) -> Result<(), Fail> {
     let alloc = rt.alloc();
     let mut store = base_office(&rt)?;
     let mut halls = String::from_str(alloc, "hall,title,features\n")?;
     let mut openings = String::from_str(alloc, "session,hall,desks,until,reserved\n")?;
-    for n in 100..226 {
+    for n in 100..354 {
         halls.push_str(format!(in alloc; "H{n},Hall {n},-\n")?.as_str())?;
         openings.push_str(format!(in alloc; "S1,H{n},1,12:00,no\n")?.as_str())?;
     }
-    let added = Ok("added 126 changed 0 same 0\n");
+    let added = Ok("added 254 changed 0 same 0\n");
     let rows = [
         ("import halls f", halls.as_str(), added),
         ("import openings f", openings.as_str(), added),

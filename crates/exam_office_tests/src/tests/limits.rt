@@ -54,22 +54,22 @@ const STORIES: &[Story<'static>] = &[
         ],
     },
     Story {
-        name: "128 openings",
+        name: "256 openings",
         facts: &[
             Fact::School,
             Fact::Row(Line::Opening("S1", "A", 1)),
             Fact::Row(Line::Opening("S1", "B", 1)),
-            Fact::Rows(Kind::Halls, 0, 127),
-            Fact::Rows(Kind::Openings, 0, 125),
+            Fact::Rows(Kind::Halls, 0, 255),
+            Fact::Rows(Kind::Openings, 0, 253),
         ],
         sittings: &[],
         scenes: &[
             Scene::Order(
-                Order::Import(Kind::Openings, &[Line::Opening("S1", "H125", 1)]),
+                Order::Import(Kind::Openings, &[Line::Opening("S1", "H253", 1)]),
                 "Imported 1 0 0",
             ),
             Scene::Order(
-                Order::Import(Kind::Openings, &[Line::Opening("S1", "H126", 1)]),
+                Order::Import(Kind::Openings, &[Line::Opening("S1", "H254", 1)]),
                 "TooMany",
             ),
         ],
