@@ -41,7 +41,12 @@ fn push_rows<S: Alter>(
 }
 
 /// Takes a statement. Gives the rows that a query shows, behind the mark of what is printed.
-pub fn shown<S: Alter>(alloc: Global, conn: &mut Connection<S>, sql: &str) -> Result<String, Fail> {
+pub fn shown<S: Alter>(
+    alloc: Global,
+    conn: &mut Connection<S>,
+    sql: &[u8],
+) -> Result<String, Fail> {
+    let sql = str::from_utf8(sql)?;
     if !sql.starts_with("SELECT ") {
         conn.execute_batch(sql)?;
         return Ok(String::new(alloc));
@@ -85,9 +90,9 @@ fn push_table<S: Alter>(
     Ok(())
 }
 
-/// The rows of all tables, a line for each.
+/// The rows of all tables, behind the mark of what is printed.
 pub fn all_shown<S: Alter>(alloc: Global, conn: &mut Connection<S>) -> Result<String, Fail> {
-    let mut text = String::new(alloc);
+    let mut text = String::from_str(alloc, "> ")?;
     for sql in ALL_TABLES.lines() {
         push_table(alloc, &mut text, conn, sql)?;
     }
