@@ -22,12 +22,12 @@ use Rattle.exam_rows.specs.declared.version.Version.{Version}
 
 -- ---- the versions that there have been
 
--- what the tables of an earlier version could hold
-abbrev pub earlier_limits : Limits
-earlier_limits = record { openings = 128; greatest_sum = 31 }
+-- what the tables of an older version could hold
+abbrev pub older_limits : Limits
+older_limits = record { openings = 128; greatest_sum = 31 }
 
 abbrev pub first : Version
-first = record { number = 1; has_marks = false; limits = Some earlier_limits }
+first = record { number = 1; has_marks = false; limits = Some older_limits }
 
 -- that of a new database, which may hold what an office may hold
 abbrev pub newest : Version
