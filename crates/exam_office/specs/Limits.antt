@@ -44,7 +44,7 @@ within_limits r =
     sessions_within r && (papers_within r && (halls_within r && (openings_within r && (candidates_within r
     && (members_within r && appeals_within r)))))
 
--- ---- what an earlier version of the tables could hold
+-- ---- what an older version of the tables could hold
 
 abbrev pub needs_at_most : ℕ → Subject → Bool
 needs_at_most greatest (subject.Hall h) = true

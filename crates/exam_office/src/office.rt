@@ -113,7 +113,7 @@ impl Office {
     }
 
     /// Whether no session has more openings than `openings`, and no set of features a greater sum than `greatest_sum`:
-    /// what an earlier version of the tables could hold.
+    /// what an older version of the tables could hold.
     pub fn holds_at_most(&self, openings: usize, greatest_sum: u32) -> bool
         ensures { result ≡ holds_at_most openings greatest_sum self.now.relations }
     {

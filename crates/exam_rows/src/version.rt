@@ -1,6 +1,6 @@
 //! What belongs to each version of the tables.
 
-/// What the tables of an earlier version could hold.
+/// What the tables of an older version could hold.
 #[derive(Clone, Copy)]
 pub struct Limits {
     /// The most openings of a session.
@@ -19,7 +19,7 @@ pub struct Version {
     pub limits: Option<Limits>,
 }
 
-const EARLIER_LIMITS: Limits = Limits {
+const OLDER_LIMITS: Limits = Limits {
     openings: 128,
     greatest_sum: 31,
 };
@@ -27,12 +27,18 @@ const EARLIER_LIMITS: Limits = Limits {
 pub const FIRST: Version = Version {
     number: 1,
     has_marks: false,
-    limits: Some(EARLIER_LIMITS),
+    limits: Some(OLDER_LIMITS),
+};
+
+pub const SECOND: Version = Version {
+    number: 2,
+    has_marks: true,
+    limits: Some(OLDER_LIMITS),
 };
 
 /// The version of the tables of a new database.
 pub const NEWEST: Version = Version {
-    number: 2,
+    number: 3,
     has_marks: true,
     limits: None,
 };
