@@ -22,7 +22,7 @@ returns-then-has_marks-version-clause-bad g c = λ clean. inr (inr (
       let same = c.in_ok-office.ensures.left clean in
       let v = c.args.version in
       let lists : lists_marks (state g.S.Store c.load_office.new.conn).now.schema ≡ marks_since v.number = ap (λ (db : Database). lists_marks db.schema) same.0.now_is ∙ listed_of v.number (state g.S.Store c.args.conn.now).now all was in
-      absurd (found_different c.has_marks.result v.has_marks c.if-has_marks-version.true (c.has_marks.ensures ∙ lists ∙ sym (known_marks v c.requires))),
+      absurd (found_different c.has_marks.result v.has_marks c.if-has_marks-version.true (c.has_marks.ensures ∙ lists ∙ sym (known_marks v c.requires.known))),
 ))
 
 pub returns-then-not-is_within-clause-bad : goal.returns-then-not-is_within-clause-bad
@@ -34,7 +34,7 @@ returns-then-not-is_within-clause-bad g c = λ clean. inr (inr (
         c.in_ok-office.office,
         (c.in_ok-office.ensures.rows clean all (made_of v.number (state g.S.Store c.args.conn.now).now all was)).0,
         λ good.
-            let within : is_within v c.in_ok-office.office ≡ true = within_of v c.in_ok-office.office c.requires good.1 in
+            let within : is_within v c.in_ok-office.office ≡ true = within_of v c.in_ok-office.office c.requires.known good.1 in
             ?,
       ))),
 ))
@@ -47,4 +47,4 @@ returns-clause-marks g c = λ clean.
 pub returns-clause-understood : goal.returns-clause-understood
 returns-clause-understood g c = λ clean.
     let v = c.args.version in
-    understood_of v.number (state g.S.Store c.args.conn.now).now (c.in_ok-office.ensures.understood clean) (returns-clause-marks g c clean ∙ known_marks v c.requires) (c.in_ok-office.ensures.marks clean)
+    understood_of v.number (state g.S.Store c.args.conn.now).now (c.in_ok-office.ensures.understood clean) (returns-clause-marks g c clean ∙ known_marks v c.requires.known) (c.in_ok-office.ensures.marks clean)
