@@ -56,10 +56,7 @@ pub fn create_tables<S: Alter>(tx: &mut Transaction<'_, S>) -> Result<(), Refusa
 
 /// Makes the tables of an older version those of the newest, whatever rows they have. `has_marks` tells whether the
 /// table of marks is there.
-pub fn widen_tables<S: Alter>(
-    tx: &mut Transaction<'_, S>,
-    has_marks: bool,
-) -> Result<(), Refusal>
+pub fn widen_tables<S: Alter>(tx: &mut Transaction<'_, S>, has_marks: bool) -> Result<(), Refusal>
     ensures same_reference { tx.new.conn.ghost_name ≡ tx.old.conn.ghost_name }
     ensures made { (all : _)
         → Leads (HasOlder (state S.Store tx.old.conn.now).is_open has_marks all) (HasNewest all)
