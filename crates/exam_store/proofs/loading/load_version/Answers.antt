@@ -1,4 +1,4 @@
-use Rattle.std.proofs.Common.{◌≡◌, true, Err, inr, IsTrue, refl, sym, ap, ◌∙◌, true≢false, rules}
+use Rattle.std.proofs.Common.{◌≡◌, true, Err, inr, refl, sym, ap, ◌∙◌, true≢false, rules}
 use Rattle.sqlite.specs.Effect.{Database}
 use Rattle.sqlite.specs.Held.{state}
 use Rattle.exam_tables.specs.Made.{lists_marks}
@@ -35,7 +35,7 @@ returns-then-not-is_within-clause-bad g c = λ clean. inr (inr (
         (c.in_ok-office.ensures.rows clean all (made_of v.number (state g.S.Store c.args.conn.now).now all was)).0,
         λ good.
             let within : is_within v c.in_ok-office.office ≡ true = within_of v c.in_ok-office.office c.requires.known good.1 in
-            ?,
+            true≢false (sym within ∙ sym c.is_within.ensures ∙ c.if-not-is_within.true),
       ))),
 ))
 
