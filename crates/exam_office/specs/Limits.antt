@@ -51,13 +51,23 @@ needs_at_most greatest (subject.Hall h) = true
 needs_at_most greatest (subject.Clash p) = true
 needs_at_most greatest (subject.Arrangement a) = nat_le (features_sum a.needs) greatest
 
--- no set of features in the tables has a greater sum
+abbrev pub papers_at_most : ℕ → Relations → Bool
+papers_at_most greatest r = list_all (λ x. nat_le (features_sum x.1.required) greatest) r.papers
+
+abbrev pub halls_at_most : ℕ → Relations → Bool
+halls_at_most greatest r = list_all (λ x. nat_le (features_sum x.1.features) greatest) r.halls
+
+abbrev pub arrangements_at_most : ℕ → Relations → Bool
+arrangements_at_most greatest r = list_all (λ x. nat_le (features_sum x.1.needs) greatest) r.arrangements
+
+abbrev pub appeals_at_most : ℕ → Relations → Bool
+appeals_at_most greatest r = list_all (λ x. needs_at_most greatest x.1.subject) r.appeals
+
+-- no set of features has a greater sum, in whichever table
 abbrev pub features_at_most : ℕ → Relations → Bool
 features_at_most greatest r =
-    list_all (λ x. nat_le (features_sum x.1.required) greatest) r.papers
-    && (list_all (λ x. nat_le (features_sum x.1.features) greatest) r.halls
-    && (list_all (λ x. nat_le (features_sum x.1.needs) greatest) r.arrangements
-    && list_all (λ x. needs_at_most greatest x.1.subject) r.appeals))
+    papers_at_most greatest r
+    && (halls_at_most greatest r && (arrangements_at_most greatest r && appeals_at_most greatest r))
 
 -- both, with these limits
 abbrev pub holds_at_most : ℕ → ℕ → Relations → Bool

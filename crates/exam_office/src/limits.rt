@@ -139,26 +139,50 @@ pub fn holds_at_most(
     are_openings_at_most(facts, lists, openings) && are_features_at_most(facts, greatest_sum)
 }
 
-/// Whether no set of features has a greater sum than `greatest`, wherever the facts have one.
+/// Whether no set of features has a greater sum than `greatest`, in whichever table.
 fn are_features_at_most(facts: &Facts, greatest: u32) -> bool
     ensures { result ≡ spec.features_at_most greatest (relations_of facts.now) }
+{
+    are_papers_at_most(facts, greatest)
+        && are_halls_at_most(facts, greatest)
+        && are_arrangements_at_most(facts, greatest)
+        && are_appeals_at_most(facts, greatest)
+}
+
+fn are_papers_at_most(facts: &Facts, greatest: u32) -> bool
+    ensures { result ≡ spec.papers_at_most greatest (relations_of facts.now) }
 {
     facts
         .papers
         .iter()
         .all(|(_, paper)| paper.required.sum() <= greatest)
-        && facts
-            .halls
-            .iter()
-            .all(|(_, hall)| hall.features.sum() <= greatest)
-        && facts
-            .arrangements
-            .iter()
-            .all(|(_, wanted)| wanted.needs.sum() <= greatest)
-        && facts
-            .appeals
-            .iter()
-            .all(|(_, appeal)| are_needs_at_most(&appeal.subject, greatest))
+}
+
+fn are_halls_at_most(facts: &Facts, greatest: u32) -> bool
+    ensures { result ≡ spec.halls_at_most greatest (relations_of facts.now) }
+{
+    facts
+        .halls
+        .iter()
+        .all(|(_, hall)| hall.features.sum() <= greatest)
+}
+
+fn are_arrangements_at_most(facts: &Facts, greatest: u32) -> bool
+    ensures { result ≡ spec.arrangements_at_most greatest (relations_of facts.now) }
+{
+    facts
+        .arrangements
+        .iter()
+        .all(|(_, wanted)| wanted.needs.sum() <= greatest)
+}
+
+fn are_appeals_at_most(facts: &Facts, greatest: u32) -> bool
+    ensures { result ≡ spec.appeals_at_most greatest (relations_of facts.now) }
+{
+    facts
+        .appeals
+        .iter()
+        .all(|(_, appeal)| are_needs_at_most(&appeal.subject, greatest))
 }
 
 /// Whether the needs that an appeal asks, if any, have no greater sum.

@@ -18,8 +18,8 @@ returns-in_err-version-clause-looks g c =
     rw is (version_looks g.S.Store c.args.conn.now c.version_of.new.conn c.in_err-version.field-0.0 c.version_of.ensures.early c.version_of.ensures.survives c.in_err-version.ensures.left c.in_err-version.ensures.unchanged
     c.in_err-version.ensures.bad c.in_err-version.ensures.told)
 
-pub returns-then-version-ne-NEWEST-clause-looks : goal.returns-then-version-ne-NEWEST-clause-looks
-returns-then-version-ne-NEWEST-clause-looks g c =
+pub returns-then-version-clause-looks : goal.returns-then-version-clause-looks
+returns-then-version-clause-looks g c =
     let v = c.in_ok-version.version.number in
     looks_old g.S.Store c.args.conn.now c.version_of.new.conn c.version_of.ensures.early c.version_of.ensures.survives c.in_ok-version.ensures.left (λ clean all was. (v, older v c.in_ok-version.ensures.known.0 (search rules), (c.in_ok-version.ensures.ok clean all was).0))
 

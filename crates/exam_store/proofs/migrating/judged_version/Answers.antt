@@ -21,8 +21,7 @@ returns-clause-found g c = λ clean all was.
     let there = still_made old (state g.S.Store c.version_of.new.conn) all same was in
     let v = c.in_ok-version.version in
     let lists = ap (λ (db : Database). lists_marks db.schema) (sym same.0.now_is) ∙ c.in_ok-office.ensures.marks clean ∙ known_marks v c.in_ok-version.ensures.known in
-    let good = (c.show_good.ensures, within_as v c.in_ok-office.office c.in_ok-version.ensures.known c.in_ok-office.ensures.within) in
-    (is_of v.number old.now all lists was, (c.in_ok-version.ensures.ok early all was).0, c.in_ok-office.office, (c.in_ok-office.ensures.rows clean all there).0, good)
+    (is_of v.number old.now all lists was, (c.in_ok-version.ensures.ok early all was).0, c.in_ok-office.office, (c.in_ok-office.ensures.rows clean all there).0, (c.show_good.ensures, within_as v c.in_ok-office.office c.in_ok-version.ensures.known c.in_ok-office.ensures.within))
 
 pub returns-clause-understood : goal.returns-clause-understood
 returns-clause-understood g c = λ clean.

@@ -60,8 +60,8 @@ returns-clause-understood g c = λ clean. c.in_ok-version.ensures.understood (om
 
 -- of the newest version already
 
-pub returns-then-version-eq-NEWEST-clause-made : goal.returns-then-version-eq-NEWEST-clause-made
-returns-then-version-eq-NEWEST-clause-made g c =
+pub returns-then-version-clause-made : goal.returns-then-version-clause-made
+returns-then-version-clause-made g c =
     let old = state g.S.Store c.args.conn.now in
     let new = c.judged_version.new.conn in
     let newest : c.in_ok-version.version.number ≡ version = search rules in

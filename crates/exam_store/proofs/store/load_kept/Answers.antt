@@ -44,8 +44,8 @@ returns-in_err-version-clause-refusal g c = λ clean.
     let is : c.from_residual.result ≡ Err c.in_err-version.field-0.0 = search rules in
     rw is (inl (part_failed c.in_err-version.field-0.0 (λ told. (c.args.conn.now, still_itself (state g.S.Store c.args.conn.now), load_office, office_loads, told)) (λ none. (λ all was. inl (none all (made_of version _ all was) version (inr refl)), λ v known all was has. absurd (none all was v known has))) (c.in_err-version.ensures.bad clean)))
 
-pub returns-then-version-ne-NEWEST-clause-refusal : goal.returns-then-version-ne-NEWEST-clause-refusal
-returns-then-version-ne-NEWEST-clause-refusal g c = λ clean.
+pub returns-then-version-clause-refusal : goal.returns-then-version-clause-refusal
+returns-then-version-clause-refusal g c = λ clean.
     let v = c.in_ok-version.version.number in
     inr (refl, λ all was. (v, older v c.in_ok-version.ensures.known.0 (search rules), (c.in_ok-version.ensures.ok clean all was).0))
 
