@@ -2,7 +2,7 @@
 ghost use Rattle.std.specs.Prelude.{◌≡◌, [], ◌∷◌, IsTrue, IfOk, IfErr, OnOk};
 ghost use Rattle.std.specs.Bool.{Decides};
 ghost use Rattle.sqlite.specs.Held.{state};
-ghost use Rattle.sqlite.specs.State.{HasCleanDisk, IsUnchanged, Survives};
+ghost use Rattle.sqlite.specs.State.{HasCleanDisk, IsLive, IsUnchanged, Survives};
 ghost use Rattle.sqlite_value.specs.Order.{column};
 ghost use Rattle.exam_tables.specs.Grows.{made_0, made_5, made_10};
 ghost use Rattle.exam_tables.specs.Made.{ContainsMade, lists_marks};
@@ -10,21 +10,16 @@ ghost use Rattle.exam_tables.specs.Texts.{load_office};
 ghost use Rattle.exam_types.specs.declared.refusal.Refusal.TheVariants.{BadStore};
 ghost use Rattle.exam_rows.specs.Faults.{is_store_refusal};
 ghost use Rattle.exam_rows.specs.Stored.{whole};
-ghost use Rattle.exam_rows.specs.Versions.{HasFirst, HasNewest, HasNoRows, HasRuled, HasVersion, IsBlank, IsMade};
-ghost use Rattle.exam_rows.specs.Versions.{IsVersion, Leads, version_row};
+ghost use Rattle.exam_rows.specs.Versions.{HasOlder, HasFirst, HasNewest, HasNoRows, HasRuled, HasVersion};
+ghost use Rattle.exam_rows.specs.Versions.{IsBlank, IsKnown, IsMade, IsVersion, Leads, version_row};
 ghost use Rattle.exam_rows.specs.Loaded.{FailsToLoad, IsLoadRefusal, IsUnderstood, OnlyReads};
 
 use crate::columns::whole_at;
 use crate::statements::{all_rows, run};
+use crate::version::{FIRST, NEWEST, SECOND, Version};
 use exam_types::Refusal;
 use sqlite::types::ValueRef;
 use sqlite::{Alter, Connection, Row, Transaction};
-
-/// The newest version of the schema.
-pub const NEWEST: u8 = 2;
-
-/// The version before the table of marks.
-const FIRST: u8 = 1;
 
 /// Whether the database has no table, no index and no view.
 pub fn is_blank<S: Alter>(conn: &Connection<S>) -> bool
@@ -41,6 +36,13 @@ pub fn has_marks<S: Alter>(conn: &Connection<S>) -> bool
     conn.schema().table_named(b"standing").is_some()
 }
 
+/// The rows of an open database obey each rule of its schema. Does nothing.
+pub fn show_rules<S: Alter>(conn: &Connection<S>)
+    ensures { IsLive (state S.Store conn.now) }
+{
+    let _ = conn.schema();
+}
+
 /// Makes the tables in an empty database. They have no rows but the version.
 pub fn create_tables<S: Alter>(tx: &mut Transaction<'_, S>) -> Result<(), Refusal>
     ensures same_reference { tx.new.conn.ghost_name ≡ tx.old.conn.ghost_name }
@@ -49,23 +51,38 @@ pub fn create_tables<S: Alter>(tx: &mut Transaction<'_, S>) -> Result<(), Refusa
 {
     create_parents(tx)?;
     create_children(tx)?;
-    widen_tables(tx)
+    widen_tables(tx, false)
 }
 
-/// Turns the tables of version 1, whatever rows they have, into those of the newest version.
-pub fn widen_tables<S: Alter>(tx: &mut Transaction<'_, S>) -> Result<(), Refusal>
+/// Turns the tables of an older version, whatever rows they have, into those of the newest. `has_marks` says whether the
+/// table of marks exists.
+pub fn widen_tables<S: Alter>(tx: &mut Transaction<'_, S>, has_marks: bool) -> Result<(), Refusal>
     ensures same_reference { tx.new.conn.ghost_name ≡ tx.old.conn.ghost_name }
-    ensures made { (all : _) → Leads (HasFirst all) (HasNewest all)
+    ensures made { (all : _)
+        → Leads (HasOlder (state S.Store tx.old.conn.now).is_open has_marks all) (HasNewest all)
         (state S.Store tx.old.conn.now) (state S.Store tx.new.conn.now) result }
 {
-    create_standing(tx)?;
+    add_standing(tx, has_marks)?;
     put_version(tx)
+}
+
+/// Adds the table of marks, without rows, if it does not exist.
+fn add_standing<S: Alter>(tx: &mut Transaction<'_, S>, has_marks: bool) -> Result<(), Refusal>
+    ensures same_reference { tx.new.conn.ghost_name ≡ tx.old.conn.ghost_name }
+    ensures made { (all : _) → Leads (HasOlder (state S.Store tx.old.conn.now).is_open has_marks all)
+        (HasRuled (state S.Store tx.new.conn.now).is_open all)
+        (state S.Store tx.old.conn.now) (state S.Store tx.new.conn.now) result }
+{
+    if has_marks {
+        return Ok(());
+    }
+    create_standing(tx)
 }
 
 /// Adds the table of marks, without rows.
 fn create_standing<S: Alter>(tx: &mut Transaction<'_, S>) -> Result<(), Refusal>
     ensures same_reference { tx.new.conn.ghost_name ≡ tx.old.conn.ghost_name }
-    ensures made { (all : _) → Leads (HasFirst all) (HasRuled all)
+    ensures made { (is_open : _) (all : _) → Leads (HasFirst all) (HasRuled is_open all)
         (state S.Store tx.old.conn.now) (state S.Store tx.new.conn.now) result }
 {
     run(
@@ -78,13 +95,14 @@ fn create_standing<S: Alter>(tx: &mut Transaction<'_, S>) -> Result<(), Refusal>
 /// Sets the one row of the table `office`.
 fn put_version<S: Alter>(tx: &mut Transaction<'_, S>) -> Result<(), Refusal>
     ensures same_reference { tx.new.conn.ghost_name ≡ tx.old.conn.ghost_name }
-    ensures made { (all : _) → Leads (HasRuled all) (HasNewest all)
+    ensures made { (all : _)
+        → Leads (HasRuled (state S.Store tx.old.conn.now).is_open all) (HasNewest all)
         (state S.Store tx.old.conn.now) (state S.Store tx.new.conn.now) result }
 {
     run(
         tx,
         "INSERT OR REPLACE INTO office (one, version) VALUES (1, ?1)",
-        &[ValueRef::Int(i64::from(NEWEST))],
+        &[ValueRef::Int(i64::from(NEWEST.number))],
     )
 }
 
@@ -155,11 +173,11 @@ fn create_children<S: Alter>(tx: &mut Transaction<'_, S>) -> Result<(), Refusal>
 }
 
 /// The version of the office. Refused with `BadStore` if the table `office` holds none.
-pub fn version_of<S: Alter>(conn: &mut Connection<S>) -> Result<u8, Refusal>
+pub fn version_of<S: Alter>(conn: &mut Connection<S>) -> Result<Version, Refusal>
     ensures ok { HasCleanDisk (state S.Store conn.new) → IfOk result (λ version. (all : _)
         → ContainsMade (state S.Store conn.old).now all
-        → HasVersion version all × IsUnchanged (state S.Store conn.old) (state S.Store conn.new)) }
-    ensures known { IfOk result IsVersion }
+        → HasVersion version.number all × IsUnchanged (state S.Store conn.old) (state S.Store conn.new)) }
+    ensures known { IfOk result IsKnown }
     ensures bad { HasCleanDisk (state S.Store conn.new) → IfErr result (IsLoadRefusal
         (FailsToLoad load_office (state S.Store conn.old) (state S.Store conn.new))
         ((all : _) → ContainsMade (state S.Store conn.old).now all
@@ -179,15 +197,17 @@ pub fn version_of<S: Alter>(conn: &mut Connection<S>) -> Result<u8, Refusal>
 }
 
 /// The version whose one row these rows are. Refused with `BadStore` if they are something else.
-fn version_in(rows: &[Row]) -> Result<u8, Refusal>
-    ensures ok { IfOk result (λ version. rows.now ≡ version_row version ∷ []) }
-    ensures known { IfOk result IsVersion }
+fn version_in(rows: &[Row]) -> Result<Version, Refusal>
+    ensures ok { IfOk result (λ version. rows.now ≡ version_row version.number ∷ []) }
+    ensures known { IfOk result IsKnown }
     ensures bad { IfErr result (λ e. (e ≡ BadStore)
         × ((version : _) → IsVersion version → rows.now ≡ version_row version ∷ [] → ⊥)) }
 {
-    if are_version(rows, NEWEST) {
+    if are_version(rows, NEWEST.number) {
         Ok(NEWEST)
-    } else if are_version(rows, FIRST) {
+    } else if are_version(rows, SECOND.number) {
+        Ok(SECOND)
+    } else if are_version(rows, FIRST.number) {
         Ok(FIRST)
     } else {
         Err(Refusal::BadStore)

@@ -7,16 +7,15 @@ use Rattle.sqlite.specs.State.{State, HasCleanDisk, IsUnchanged, Survives}
 use Rattle.sqlite.specs.Held.{Held, state}
 use Rattle.exam_types.specs.declared.refusal.Refusal.{Refusal}
 use Rattle.exam_types.specs.declared.refusal.Refusal.TheVariants.{Store, OldSchema}
-use Rattle.exam_office.specs.Good.{IsGood}
 use Rattle.exam_office.specs.State.{State as Office, empty_state}
 use Rattle.exam_tables.specs.Made.{ContainsMade}
 use Rattle.exam_tables.specs.Texts.{held_texts, load_office, load_standing, load_texts}
 use Rattle.exam_rows.specs.Inside.{Contains, IsOurs}
 use Rattle.exam_store.specs.Kept.{Keeps}
 use Rattle.exam_rows.specs.Loaded.{AreUnderstood, FailsThen, IsLoadRefusal, IsMadeHere}
-use Rattle.exam_rows.specs.Versions.{ContainsOf, FailsToMake, HasVersion, IsVersion, marks_since, version}
+use Rattle.exam_rows.specs.Versions.{ContainsOf, FailsToMake, HasVersion, IsOlder, IsVersion, marks_since, version}
 use Rattle.exam_rows.specs.Faults.{is_store_refusal}
-use Rattle.exam_store.specs.Refused.{HoldsFormed, HoldsNone}
+use Rattle.exam_store.specs.Refused.{HoldsFormed, HoldsNone, IsGoodIn}
 
 -- if there is a version row, it is that of the newest version
 abbrev pub IsNoOlder : Database → Type 0
@@ -40,9 +39,10 @@ FindsNone g old new =
     (((all : Trees) → ContainsOf version (state g old).now all → HoldsNone version all)
     × IsNoOlder (state g old).now)
 
--- the office is one of version 1
+-- the office is one of an older version
 abbrev pub FindsOld : Database → Refusal → Type 0
-FindsOld old e = (e ≡ OldSchema) × ((all : Trees) → ContainsMade old all → HasVersion 1 all)
+FindsOld old e =
+    (e ≡ OldSchema) × ((all : Trees) → ContainsMade old all → (v : ℕ) × IsOlder v × HasVersion v all)
 
 -- why no office is opened
 abbrev pub FailsToOpen : {S : Type 0} → Ghosts S → Held S → Held S → Refusal → Type 0
@@ -65,10 +65,10 @@ version_texts v = held_texts ++ (if marks_since v then load_standing ∷ [] else
 -- the tables are those of this version and hold a good office of it
 abbrev pub HoldsGood : ℕ → Database → Trees → Type 0
 HoldsGood v db all =
-    ContainsOf v db all × HasVersion v all × (office : Office) × HoldsFormed all office × IsGood office
+    ContainsOf v db all × HasVersion v all × (office : Office) × HoldsFormed all office × IsGoodIn v office
 
 -- Why an office is not brought to the newest version: a transaction is already open, the tables hold no good office of
--- any version, or those of version 1 exist and the new ones cannot be made.
+-- any version, or those of an older version exist and cannot be made those of the newest.
 abbrev pub FailsToMigrate : {S : Type 0} → Ghosts S → Held S → Held S → Refusal → Type 0
 FailsToMigrate g old new e =
     ((e ≡ Store) × IsTrue (state g old).in_transaction)

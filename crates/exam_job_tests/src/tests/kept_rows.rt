@@ -92,7 +92,7 @@ SELECT number, needs, extra FROM arrangement ORDER BY number
 3|2|5|
 $ sql
 SELECT one, version FROM office
-> 1|2|
+> 1|3|
 ";
 
 #[test]
@@ -156,7 +156,7 @@ number,needs,extra
 /// The first candidate is seated.
 const ALL_ROWS: &str = "\
 $ tables
-> 1|2|
+> 1|3|
 
 S1|2027-06-01|540|
 
