@@ -1,0 +1,135 @@
+//! The steps of a text.
+use crate::commands::run;
+use crate::requests::ask;
+use crate::tables::{all_shown, shown};
+use exam_store::{Store, migrate};
+use exam_types::Refusal;
+use sqlite::{Alter, Connection};
+use std::alloc::Global;
+use std::str;
+use std::test::Fail;
+
+/// A step of a text: a command, the lines below it, and what is told of it.
+#[derive(Clone, Copy)]
+pub struct Step<'a> {
+    pub line: &'a str,
+    pub file: &'a str,
+    pub told: &'a str,
+}
+
+impl Step<'_> {
+    /// The step that stands behind a `$ `.
+    pub fn parse(part: &str) -> Option<Step<'_>> {
+        let (line, rest) = part.split_once('\n')?;
+        let file = file_of(rest);
+        let told = rest.strip_prefix(file)?;
+        Some(Step { line, file, told })
+    }
+}
+
+/// The lines below a command up to what is told.
+fn file_of(rest: &str) -> &str {
+    for mark in ["> ", "! ", "? "] {
+        if let Some((file, _)) = rest.split_once(mark) {
+            return file;
+        }
+    }
+    rest
+}
+
+/// Compares what was told at a place with what its text says.
+pub fn expect_same(found: &str, wanted: &str, place: &str) -> Result<(), Fail> {
+    if found == wanted {
+        return Ok(());
+    }
+    Err(Fail::new(format_args!("{place}: {found} in place of {wanted}")))
+}
+
+/// Takes a command, a request or a statement at the closed office. Gives what is told of it.
+pub fn told<S: Alter>(
+    alloc: Global,
+    mut conn: Connection<S>,
+    line: &str,
+    file: &[u8],
+) -> (Connection<S>, Result<String, Fail>) {
+    let told = match line {
+        "sql" => shown(alloc, &mut conn, file),
+        "tables" => all_shown(alloc, &mut conn),
+        "migrate" => migrated(alloc, &mut conn),
+        _ => return answered(alloc, conn, line, file),
+    };
+    (conn, told)
+}
+
+/// Brings the office over a connection to the newest version. Gives what the program prints.
+fn migrated<S: Alter>(alloc: Global, conn: &mut Connection<S>) -> Result<String, Fail> {
+    match migrate(alloc, conn) {
+        Ok((old, new)) if old == new => Ok(format!(in alloc; "> already {new}\n")?),
+        Ok((old, new)) => Ok(format!(in alloc; "> migrated {old} to {new}\n")?),
+        Err(refusal) => refused(alloc, refusal),
+    }
+}
+
+/// What the program prints of a refusal to open the office.
+fn refused(alloc: Global, refusal: Refusal) -> Result<String, Fail> {
+    let number = refusal.number();
+    Ok(format!(in alloc; "! refused {number}\n")?)
+}
+
+/// Opens the office over a connection, or makes it there, as the command asks.
+fn opened<S: Alter>(
+    alloc: Global,
+    conn: Connection<S>,
+    line: &str,
+) -> Result<Store<S>, (Refusal, Connection<S>)> {
+    if line == "init" {
+        Store::create(alloc, conn)
+    } else {
+        Store::open(alloc, conn)
+    }
+}
+
+/// Takes a command or a request at the closed office.
+fn answered<S: Alter>(
+    alloc: Global,
+    conn: Connection<S>,
+    line: &str,
+    file: &[u8],
+) -> (Connection<S>, Result<String, Fail>) {
+    match opened(alloc, conn, line) {
+        Ok(store) => closed_after(alloc, store, line, file),
+        Err((refusal, conn)) => (conn, refused(alloc, refusal)),
+    }
+}
+
+/// Takes a command or a request at the office, and closes it.
+fn closed_after<S: Alter>(
+    alloc: Global,
+    mut store: Store<S>,
+    line: &str,
+    file: &[u8],
+) -> (Connection<S>, Result<String, Fail>) {
+    let told = printed(alloc, &mut store, line, file);
+    (store.close(), told)
+}
+
+/// Asks the server or runs a command. Gives what is answered or printed.
+fn printed<S: Alter>(
+    alloc: Global,
+    store: &mut Store<S>,
+    line: &str,
+    file: &[u8],
+) -> Result<String, Fail> {
+    if line.contains("/candidates/") {
+        return ask(alloc, store, line, str::from_utf8(file)?);
+    }
+    run(alloc, store, line, file)
+}
+
+/// The day of a command that names none.
+const MAY_1: &str = "2027-05-01";
+
+/// A command, and its day, which may be named behind it.
+pub fn dated(line: &str) -> (&str, &str) {
+    line.split_once(" on ").unwrap_or((line, MAY_1))
+}
