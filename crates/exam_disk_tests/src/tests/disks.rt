@@ -1,35 +1,27 @@
 //! Two files in memory, the log and the database, which fail after so many calls, and offices over them.
-use super::{played, tables, told};
+use exam_scripts::{Step, expect_same, told};
 use sqlite::{Connection, FileStore, Files, Options};
 use sqlite_disk::{Crash, Disk, Fuse, Memory};
 use std::alloc::Global;
-use std::process::Abort;
 use std::test::Fail;
 
 /// A file in memory that fails after so many calls.
 pub type Fused = Fuse<Memory>;
-
-type OnFiles = Connection<FileStore<Fused>>;
 
 /// More calls than a test makes.
 pub const UNLIMITED: u64 = 1_000_000;
 
 /// What was told of a step, and the files.
 #[derive(Drop)]
-pub struct Left {
+pub struct Left<D: Disk> {
     pub told: String,
-    pub files: Files<Fused>,
+    pub files: Files<D>,
 }
 
-/// A step of a text: a command, its file, and what it prints.
-#[derive(Clone, Copy)]
-pub struct Step<'a> {
-    pub line: &'a str,
-    pub file: &'a str,
-    pub told: &'a str,
-}
-
-fn connect(alloc: Global, files: Files<Fused>) -> Result<OnFiles, Files<Fused>> {
+fn connect<D: Disk + Drop>(
+    alloc: Global,
+    files: Files<D>,
+) -> Result<Connection<FileStore<D>>, Files<D>> {
     if !files.may_be_used() {
         return Err(files);
     }
@@ -40,11 +32,105 @@ fn connect(alloc: Global, files: Files<Fused>) -> Result<OnFiles, Files<Fused>> 
 }
 
 /// The files as they are, whether or not the close succeeds.
-fn files_of(conn: OnFiles) -> Files<Fused> {
+fn files_of<D: Disk + Drop>(conn: Connection<FileStore<D>>) -> Files<D> {
     match conn.close_files() {
         Ok(files) => files,
         Err((_, store)) => store.close(),
     }
+}
+
+/// Takes a step. It is dear to prove, as each call that takes a connection over files for one of any kind.
+fn told_over<D: Disk + Drop>(
+    alloc: Global,
+    conn: Connection<FileStore<D>>,
+    line: &str,
+    file: &str,
+) -> (Connection<FileStore<D>>, Result<String, Fail>) {
+    told(alloc, conn, line, file.as_bytes())
+}
+
+/// Takes a step, and closes the files.
+fn closed_after<D: Disk + Drop>(
+    alloc: Global,
+    conn: Connection<FileStore<D>>,
+    line: &str,
+    file: &str,
+) -> (Files<D>, Result<String, Fail>) {
+    let (conn, told) = told_over(alloc, conn, line, file);
+    (files_of(conn), told)
+}
+
+/// Takes a step over the files, until a call fails. A connection that cannot be made is refused as the program does.
+fn taken_over<D: Disk + Drop>(
+    alloc: Global,
+    files: Files<D>,
+    line: &str,
+    file: &str,
+) -> Result<Left<D>, Fail> {
+    let (files, told) = match connect(alloc, files) {
+        Ok(conn) => closed_after(alloc, conn, line, file),
+        Err(files) => (files, Ok(String::from_str(alloc, "! refused 23\n")?)),
+    };
+    Ok(Left { told: told?, files })
+}
+
+/// What is seen in files that are used no more.
+#[derive(Drop)]
+pub struct Seen {
+    /// The rows of all tables.
+    pub rows: String,
+    /// What is told of a step that is taken then.
+    pub again: String,
+}
+
+fn seen_of(rows: String, again: Result<String, Fail>) -> Result<Seen, Fail> {
+    let again = again?;
+    Ok(Seen { rows, again })
+}
+
+/// Looks at the tables, takes a step, and closes the files.
+fn closed_seeing<D: Disk + Drop>(
+    alloc: Global,
+    conn: Connection<FileStore<D>>,
+    step: &Step<'_>,
+) -> (Files<D>, Result<Seen, Fail>) {
+    let (conn, rows) = told_over(alloc, conn, "tables", "");
+    match rows {
+        Ok(rows) => {
+            let (files, again) = closed_after(alloc, conn, step.line, step.file);
+            (files, seen_of(rows, again))
+        }
+        Err(fail) => (files_of(conn), Err(fail)),
+    }
+}
+
+/// What is seen in the files.
+fn seen_over<D: Disk + Drop>(
+    alloc: Global,
+    files: Files<D>,
+    step: &Step<'_>,
+) -> Result<Seen, Fail> {
+    match connect(alloc, files) {
+        Ok(conn) => {
+            let (files, seen) = closed_seeing(alloc, conn, step);
+            drop(files);
+            seen
+        }
+        Err(files) => {
+            drop(files);
+            Err(Fail::new("the files cannot be used"))
+        }
+    }
+}
+
+/// Takes a step over the files.
+pub fn taken(
+    alloc: Global,
+    files: Files<Fused>,
+    line: &str,
+    file: &str,
+) -> Result<Left<Fused>, Fail> {
+    taken_over(alloc, files, line, file)
 }
 
 /// A file on the disk with these bytes, that fails after so many calls.
@@ -60,7 +146,7 @@ fn file_of(alloc: Global, bytes: &[u8], calls: u64) -> Result<Fused, Fail> {
 }
 
 /// Blank files.
-pub fn blank(alloc: Global) -> Result<Files<Fused>, Fail> {
+fn blank(alloc: Global) -> Result<Files<Fused>, Fail> {
     let log = file_of(alloc, b"", UNLIMITED)?;
     let db = file_of(alloc, b"", UNLIMITED)?;
     Ok(Files { log, db })
@@ -88,39 +174,9 @@ pub fn same(alloc: Global, files: &Files<Fused>) -> Result<Files<Fused>, Fail> {
     copied(alloc, files, true, UNLIMITED)
 }
 
-/// Takes a step over the files, until a call fails. A connection that cannot be made is refused as the program does.
-pub fn taken(alloc: Global, files: Files<Fused>, step: &Step<'_>) -> Result<Left, Fail> {
-    match connect(alloc, files) {
-        Ok(conn) => {
-            let (conn, told) = told(alloc, conn, step.line, step.file)?;
-            let files = files_of(conn);
-            Ok(Left { told, files })
-        }
-        Err(files) => {
-            let told = String::from_str(alloc, "! refused 23\n")?;
-            Ok(Left { told, files })
-        }
-    }
-}
-
-/// What is seen in files that are used no more.
-#[derive(Drop)]
-pub struct Seen {
-    /// The rows of all tables.
-    pub rows: String,
-    /// What is told of a step that is taken then.
-    pub again: String,
-}
-
 /// What is seen in the files.
 pub fn seen_in(alloc: Global, files: Files<Fused>, step: &Step<'_>) -> Result<Seen, Fail> {
-    let Ok(mut conn) = connect(alloc, files) else {
-        return Err(Fail::new("the files cannot be used"));
-    };
-    let rows = tables::all_shown(alloc, &mut conn)?;
-    let (conn, again) = told(alloc, conn, step.line, step.file)?;
-    drop(files_of(conn));
-    Ok(Seen { rows, again })
+    seen_over(alloc, files, step)
 }
 
 /// Whether two pairs of files have the same bytes.
@@ -129,15 +185,25 @@ pub fn are_same(files: &Files<Fused>, others: &Files<Fused>) -> bool {
         && files.db.inner().bytes() == others.db.inner().bytes()
 }
 
-/// Plays days in turn over blank files.
-pub fn files_after<R: Abort + AllocGlobal>(rt: &R, days: &[&str]) -> Result<Files<Fused>, Fail> {
-    let Ok(mut conn) = connect(rt.alloc(), blank(rt.alloc())?) else {
-        return Err(Fail::new("the files cannot be used"));
-    };
-    for day in days {
-        conn = played(rt, conn, day)?;
+/// Plays a day over the files, which are closed behind each step.
+fn after(alloc: Global, files: Files<Fused>, day: &str) -> Result<Files<Fused>, Fail> {
+    let mut files = files;
+    for part in day.split("$ ").skip(1) {
+        let step = Step::parse(part).ok_or("step")?;
+        let left = taken(alloc, files, step.line, step.file)?;
+        expect_same(left.told.as_str(), step.told, step.line)?;
+        files = left.files;
     }
-    Ok(files_of(conn))
+    Ok(files)
+}
+
+/// Plays days in turn over blank files.
+pub fn files_after(alloc: Global, days: &[&str]) -> Result<Files<Fused>, Fail> {
+    let mut files = blank(alloc)?;
+    for day in days {
+        files = after(alloc, files, day)?;
+    }
+    Ok(files)
 }
 
 /// Whether no call of the file has failed.

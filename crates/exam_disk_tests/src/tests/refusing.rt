@@ -1,12 +1,12 @@
 //! Each command over files of which a call and all later ones fail: it is carried out whole or not at all.
 use super::disks::{
-    Fused, Left, Seen, Step, Unsynced, are_same, are_whole, copied, files_after, files_left,
-    remains_of, same, seen_in, taken,
+    Fused, Left, Seen, Unsynced, are_same, are_whole, copied, files_after, files_left, remains_of,
+    same, seen_in, taken,
 };
-use super::{PEOPLE, TIMETABLE, step_of};
+use super::{PEOPLE, TIMETABLE};
+use exam_scripts::{Step, expect_same};
 use sqlite::Files;
 use std::alloc::Global;
-use std::process::Abort;
 use std::test::Fail;
 
 /// More calls than a command makes of a file, its opening and its close among them.
@@ -23,17 +23,22 @@ struct Course {
     after: Seen,
 }
 
-/// Takes the step. Gives what is told of it, and the files.
-fn course_of(alloc: Global, files: Files<Fused>, step: &Step<'_>) -> Result<(Course, Left), Fail> {
-    let before = seen_in(alloc, same(alloc, &files)?, step)?.rows;
-    let left = taken(alloc, same(alloc, &files)?, step)?;
+/// Takes the step, and compares what is told of it with its text. Gives the files after it.
+fn course_of(
+    alloc: Global,
+    files: Files<Fused>,
+    step: &Step<'_>,
+) -> Result<(Course, Files<Fused>), Fail> {
+    let before = taken(alloc, same(alloc, &files)?, "tables", "")?.told;
+    let left = taken(alloc, same(alloc, &files)?, step.line, step.file)?;
+    expect_same(left.told.as_str(), step.told, step.line)?;
     let after = seen_in(alloc, same(alloc, &left.files)?, step)?;
     let course = Course {
         files,
         before,
         after,
     };
-    Ok((course, left))
+    Ok((course, left.files))
 }
 
 /// Whether an answer says that memory ran out or that the files cannot be used. A sheet that is read from the files may
@@ -49,92 +54,129 @@ fn is_fault(told: &str) -> bool {
     .any(|end| told.ends_with(end))
 }
 
-/// The files hold the tables before the step or after all of it, and after it if it was answered. The same step is then
-/// answered as its text says, or as it is a second time.
-fn expect_whole<R: Abort + AllocGlobal>(
-    rt: &R,
+/// A step that is not answered as its text says meets a call that fails.
+fn expect_fault(step: &Step<'_>, told: &str) -> Result<(), Fail> {
+    if is_fault(told) {
+        return Ok(());
+    }
+    expect_same(told, step.told, step.line)
+}
+
+/// The tables are those after the step, or if it was not answered those before it. The same step is then answered as it
+/// is a second time, or as its text says.
+fn expect_seen(
     course: &Course,
     step: &Step<'_>,
-    told: &str,
+    is_answered: bool,
+    seen: &Seen,
+    place: &str,
+) -> Result<(), Fail> {
+    let (rows, again) = (seen.rows.as_str(), seen.again.as_str());
+    let after = course.after.rows.as_str();
+    if is_answered || rows == after {
+        expect_same(rows, after, place)?;
+        return expect_same(again, course.after.again.as_str(), place);
+    }
+    expect_same(rows, course.before.as_str(), place)?;
+    expect_same(again, step.told, place)
+}
+
+/// The files hold the tables before the step or after all of it.
+fn expect_whole(
+    alloc: Global,
+    course: &Course,
+    step: &Step<'_>,
+    is_answered: bool,
     files: Files<Fused>,
     place: &str,
 ) -> Result<(), Fail> {
-    if told != step.told && are_same(&files, &course.files) {
+    if !is_answered && are_same(&files, &course.files) {
         return Ok(());
     }
-    let seen = seen_in(rt.alloc(), files, step)?;
-    let again = seen.again.as_str();
-    if seen.rows.as_str() == course.after.rows.as_str() {
-        assert_eq!(rt; again, course.after.again.as_str(), "{place}");
-    } else {
-        assert_eq!(rt; seen.rows.as_str(), course.before.as_str(), "{place}");
-        assert_eq!(rt; again, step.told, "{place}");
-        assert!(rt; told != step.told, "{place}");
+    let seen = seen_in(alloc, files, step)?;
+    expect_seen(course, step, is_answered, &seen, place)
+}
+
+/// Looks at what is left in each of these ways of files over which the step was taken.
+fn expect_each(
+    alloc: Global,
+    course: &Course,
+    step: &Step<'_>,
+    left: Left<Fused>,
+    place: &str,
+    ways: &[Unsynced],
+) -> Result<(), Fail> {
+    let is_answered = left.told.as_str() == step.told;
+    let remains = remains_of(alloc, left.files)?;
+    for way in ways {
+        let place = format!(in alloc; "{place}, {way:?}")?;
+        let files = files_left(alloc, &remains, *way)?;
+        expect_whole(alloc, course, step, is_answered, files, place.as_str())?;
     }
     Ok(())
 }
 
 /// Takes the step over files of which one fails after so many calls, and looks at what is left in each of these ways.
 /// Says whether no call failed.
-fn refuse_after<R: Abort + AllocGlobal>(
-    rt: &R,
+fn refuse_after(
+    alloc: Global,
     course: &Course,
     step: &Step<'_>,
     (is_of_log, calls): (bool, u64),
     ways: &[Unsynced],
 ) -> Result<bool, Fail> {
-    let alloc = rt.alloc();
-    let Left { told, mut files } = taken(
-        alloc,
-        copied(alloc, &course.files, is_of_log, calls)?,
-        step,
-    )?;
-    let told = told.as_str();
+    let files = copied(alloc, &course.files, is_of_log, calls)?;
+    let mut left = taken(alloc, files, step.line, step.file)?;
+    expect_fault(step, left.told.as_str())?;
+    let is_whole = are_whole(&mut left.files);
     let line = step.line;
-    assert!(rt; told == step.told || is_fault(told), "{line}: {told}");
-    let is_whole = are_whole(&mut files);
-    let remains = remains_of(alloc, files)?;
-    for way in ways {
-        let place = format!(in alloc; "{line}, log {is_of_log}, {calls} calls, {way:?}: {told}")?;
-        let files = files_left(alloc, &remains, *way)?;
-        expect_whole(rt, course, step, told, files, place.as_str())?;
-    }
+    let place = format!(in alloc; "{line}, log {is_of_log}, {calls} calls")?;
+    expect_each(alloc, course, step, left, place.as_str(), ways)?;
     Ok(is_whole)
 }
 
 /// Takes the step over files of which one fails after 0, 1, 2 .. calls, until no call fails.
-fn refuse_each<R: Abort + AllocGlobal>(
-    rt: &R,
+fn refuse_each(
+    alloc: Global,
     course: &Course,
     step: &Step<'_>,
     is_of_log: bool,
     ways: &[Unsynced],
 ) -> Result<(), Fail> {
     for calls in 0..MOST_CALLS {
-        if refuse_after(rt, course, step, (is_of_log, calls), ways)? {
+        if refuse_after(alloc, course, step, (is_of_log, calls), ways)? {
             return Ok(());
         }
     }
     Err(Fail::new("more calls than expected"))
 }
 
-/// Takes each step of a text over files that hold the days before, refuses it each call of both files, and looks at
-/// what is left in each of these ways.
-pub fn refuse_in_turn<R: Abort + AllocGlobal>(
-    rt: &R,
+/// Takes a step over the files, refuses it each call of both, and looks at what is left in each of these ways. Gives the
+/// files after it.
+fn refuse(
+    alloc: Global,
+    files: Files<Fused>,
+    step: &Step<'_>,
+    ways: &[Unsynced],
+) -> Result<Files<Fused>, Fail> {
+    let (course, files) = course_of(alloc, files, step)?;
+    refuse_each(alloc, &course, step, true, ways)?;
+    refuse_each(alloc, &course, step, false, ways)?;
+    Ok(files)
+}
+
+/// Refuses each step of a text, over files that hold the days before.
+pub fn refuse_in_turn(
+    rt: &HostRuntime,
     days: &[&str],
     text: &str,
     ways: &[Unsynced],
 ) -> Result<(), Fail> {
-    let mut files = files_after(rt, days)?;
+    let alloc = rt.alloc();
+    let mut files = files_after(alloc, days)?;
     for part in text.split("$ ").skip(1) {
-        let (line, file, told) = step_of(part).ok_or("step")?;
-        let step = Step { line, file, told };
-        let (course, left) = course_of(rt.alloc(), files, &step)?;
-        assert_eq!(rt; left.told.as_str(), told, "{line}");
-        refuse_each(rt, &course, &step, true, ways)?;
-        refuse_each(rt, &course, &step, false, ways)?;
-        files = left.files;
+        let step = Step::parse(part).ok_or("step")?;
+        files = refuse(alloc, files, &step, ways)?;
     }
     Ok(())
 }
