@@ -23,35 +23,54 @@ struct Course {
     after: Seen,
 }
 
-/// Takes the step, and compares what is told of it with its text. Gives the files after it.
+/// The rows of all tables.
+fn rows_of(alloc: Global, files: &Files<Fused>) -> Result<String, Fail> {
+    let files = same(alloc, files)?;
+    Ok(taken(alloc, files, "tables", "")?.told)
+}
+
+/// The files after the step, which is told of as its text says.
+fn files_behind(
+    alloc: Global,
+    files: &Files<Fused>,
+    step: &Step<'_>,
+) -> Result<Files<Fused>, Fail> {
+    let files = same(alloc, files)?;
+    let left = taken(alloc, files, step.line, step.file)?;
+    expect_same(left.told.as_str(), step.told, step.line)?;
+    Ok(left.files)
+}
+
+/// What is seen in the files.
+fn seen_behind(alloc: Global, files: &Files<Fused>, step: &Step<'_>) -> Result<Seen, Fail> {
+    let files = same(alloc, files)?;
+    seen_in(alloc, files, step)
+}
+
+/// Takes the step. Gives the files after it too.
 fn course_of(
     alloc: Global,
     files: Files<Fused>,
     step: &Step<'_>,
 ) -> Result<(Course, Files<Fused>), Fail> {
-    let before = taken(alloc, same(alloc, &files)?, "tables", "")?.told;
-    let left = taken(alloc, same(alloc, &files)?, step.line, step.file)?;
-    expect_same(left.told.as_str(), step.told, step.line)?;
-    let after = seen_in(alloc, same(alloc, &left.files)?, step)?;
+    let before = rows_of(alloc, &files)?;
+    let behind = files_behind(alloc, &files, step)?;
+    let after = seen_behind(alloc, &behind, step)?;
     let course = Course {
         files,
         before,
         after,
     };
-    Ok((course, left.files))
+    Ok((course, behind))
 }
 
 /// Whether an answer says that memory ran out or that the files cannot be used. A sheet that is read from the files may
 /// have begun.
 fn is_fault(told: &str) -> bool {
-    [
-        "refused 22\n",
-        "refused 23\n",
-        "> {\"error\":22}\n",
-        "> {\"error\":23}\n",
-    ]
-    .iter()
-    .any(|end| told.ends_with(end))
+    told.ends_with("refused 22\n")
+        || told.ends_with("refused 23\n")
+        || told.ends_with("> {\"error\":22}\n")
+        || told.ends_with("> {\"error\":23}\n")
 }
 
 /// A step that is not answered as its text says meets a call that fails.
@@ -116,21 +135,40 @@ fn expect_each(
     Ok(())
 }
 
+/// Takes the step over files of which one fails after so many calls.
+fn left_after(
+    alloc: Global,
+    course: &Course,
+    step: &Step<'_>,
+    (is_of_log, calls): (bool, u64),
+) -> Result<Left<Fused>, Fail> {
+    let files = copied(alloc, &course.files, is_of_log, calls)?;
+    let left = taken(alloc, files, step.line, step.file)?;
+    expect_fault(step, left.told.as_str())?;
+    Ok(left)
+}
+
+fn place_of(
+    alloc: Global,
+    step: &Step<'_>,
+    (is_of_log, calls): (bool, u64),
+) -> Result<String, Fail> {
+    let line = step.line;
+    Ok(format!(in alloc; "{line}, log {is_of_log}, {calls} calls")?)
+}
+
 /// Takes the step over files of which one fails after so many calls, and looks at what is left in each of these ways.
 /// Says whether no call failed.
 fn refuse_after(
     alloc: Global,
     course: &Course,
     step: &Step<'_>,
-    (is_of_log, calls): (bool, u64),
+    fault: (bool, u64),
     ways: &[Unsynced],
 ) -> Result<bool, Fail> {
-    let files = copied(alloc, &course.files, is_of_log, calls)?;
-    let mut left = taken(alloc, files, step.line, step.file)?;
-    expect_fault(step, left.told.as_str())?;
+    let place = place_of(alloc, step, fault)?;
+    let mut left = left_after(alloc, course, step, fault)?;
     let is_whole = are_whole(&mut left.files);
-    let line = step.line;
-    let place = format!(in alloc; "{line}, log {is_of_log}, {calls} calls")?;
     expect_each(alloc, course, step, left, place.as_str(), ways)?;
     Ok(is_whole)
 }

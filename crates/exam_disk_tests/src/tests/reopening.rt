@@ -47,18 +47,19 @@ number,needs,extra
 ";
 
 /// An office that is there already is ready.
+const DAYS: &[&str] = &[
+    INIT,
+    INIT,
+    TIMETABLE,
+    PEOPLE,
+    FIRST_TAKES_A,
+    SECOND_NEEDS_A,
+    INIT,
+    NEEDED_AGAIN,
+];
+
 #[test]
 fn an_office_is_read_as_it_was_written(rt: HostRuntime) -> Result<(), Fail> {
-    let days = [
-        INIT,
-        INIT,
-        TIMETABLE,
-        PEOPLE,
-        FIRST_TAKES_A,
-        SECOND_NEEDS_A,
-        INIT,
-        NEEDED_AGAIN,
-    ];
-    drop(files_after(rt.alloc(), &days)?);
+    drop(files_after(rt.alloc(), DAYS)?);
     Ok(())
 }
