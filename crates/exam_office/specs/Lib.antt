@@ -4,7 +4,8 @@
 --   are the same row; when a row contradicts an earlier one; the first row of each key
 -- - SameRows: when the contents of two rows of a table are the same, column by column
 -- - State: an office as its relations and seats; the empty office
--- - Limits: the seven limits of an office, by the table to which each belongs
+-- - Limits: the seven limits of an office, by the table to which each belongs; the two that can be less in an
+--   older version of the tables
 -- - Singles: what may be there once only: a granted clash or arrangement appeal, and an open appeal of each
 --   kind, of a candidate for a session
 -- - Good: a good office: references, limits, appeals that stand alone, every session's plan best;

@@ -8,7 +8,7 @@ ghost use Rattle.exam_rules.specs.Lists.{AreListsOf};
 ghost use Rattle.exam_rules.specs.Seatings.{seating, plan_of};
 ghost use Rattle.exam_office.specs.Good.{IsGood};
 ghost use Rattle.exam_office.specs.Headline.{IsSeated};
-ghost use Rattle.exam_office.specs.Limits.{within_limits};
+ghost use Rattle.exam_office.specs.Limits.{holds_at_most};
 ghost use Rattle.exam_rules.specs.Relations.{Code, relations_of};
 ghost use Rattle.exam_office.specs.Orders.{IsInOrder};
 ghost use Rattle.exam_office.specs.Own.{own_of, shown};
@@ -19,7 +19,7 @@ ghost use Rattle.exam_office.specs.Views.{IsViewOf};
 use crate::own::Own;
 use crate::tables::first_bad_listed;
 use crate::view::SessionView;
-use crate::{own_source, view_source};
+use crate::{limits, own_source, view_source};
 use exam_rules::{Facts, SessionLists, session_lists};
 use exam_types::{HallCode, Number, Refusal, SessionCode};
 use std::alloc::Global;
@@ -110,6 +110,14 @@ impl Office {
         ensures memory { IfErr result (λ e. (e ≡ NoMemory) × IsSome (own_of self.now number)) }
     {
         own_source::own_of(alloc, &self.facts, &self.lists, &self.seats, number)
+    }
+
+    /// Whether no session has more openings than `openings`, and no set of features a greater sum than `greatest_sum`:
+    /// what an older version of the tables could hold.
+    pub fn holds_at_most(&self, openings: usize, greatest_sum: u32) -> bool
+        ensures { result ≡ holds_at_most openings greatest_sum self.now.relations }
+    {
+        limits::holds_at_most(&self.facts, &self.lists, openings, greatest_sum)
     }
 
     /// The members and the open halls of each session.
