@@ -37,7 +37,7 @@ use Rattle.exam_rows.specs.Versions.{ContainsOf, HasVersion, version, version_ro
 use Rattle.exam_rows.proofs.Versioned.{version_held}
 use Rattle.exam_store.specs.Found.{Finds, FailsToOpen, HoldsGood}
 use Rattle.exam_store.specs.Kept.{Keeps}
-use Rattle.exam_store.specs.Refused.{HoldsFormed, HoldsNone}
+use Rattle.exam_store.specs.Refused.{HoldsFormed, HoldsNone, IsGoodIn}
 use Rattle.exam_store.proofs.Marking.{made_of, of_newest, one_version}
 use Rattle.exam_store.proofs.Unique.{one_office}
 use Rattle.exam_check.specs.FirstBad.{HasGoodVersion, HoldsTableOf, IsFirstBadIn, IsFirstBadTable, table_of}
@@ -143,10 +143,10 @@ pub holds_good : (db : Database) (all : Trees) → IsFirstBadTable db all None �
 holds_good db all (inl (wrong, is)) = absurd (none_is_some table.Office is)
 holds_good db all (inr (good, o, bad, judged, is)) =
     let it = good_office all o (are_good all o tables (subst (IsFirstBadIn all o tables) (no_table bad is) judged)) in
-    (good.0, good.1, o, it.0, it.1)
+    (good.0, good.1, o, it.0, (it.1, refl))
 
 pub none_found : (db : Database) (all : Trees) → HoldsGood version db all → IsFirstBadTable db all None
-none_found db all (contains, has, o, formed, good) = inr ((contains, has), o, None, none_bad all o tables (office_good all o formed good), refl)
+none_found db all (contains, has, o, formed, good) = inr ((contains, has), o, None, none_bad all o tables (office_good all o formed good.0), refl)
 
 -- ---- opening
 
@@ -192,13 +192,13 @@ module _ {S : Type 0} (g : Ghosts S) (old new : Held S) (all : Trees) (was : Con
       let known = (finds.understood clean).1.1.1.1.1.1.1.1.1.1.0 in
       let contains = newest_tables db all known was in
       let kept = finds.kept clean (all, contains) in
-      none_found db all (of_newest db all contains, version_of_all db kept.all all kept.contains contains kept.version, o, finds.formed clean all contains, good)
+      none_found db all (of_newest db all contains, version_of_all db kept.all all kept.contains contains kept.version, o, finds.formed clean all contains, (good, refl))
 
   none_held : (e : Refusal) → HoldsNone version all → HoldsGood version (state g old).now all → ⊥
   none_held e (inl none) (contains, has, o, formed, good) = none has
   none_held e (inr (inl none)) (contains, has, o, formed, good) = none o.relations formed.0
   none_held e (inr (inr (inl none))) (contains, has, o, formed, good) = none o.seats formed.1
-  none_held e (inr (inr (inr (p, held, wrong)))) (contains, has, o, formed, good) = wrong (subst IsGood (one_office all o p formed held) good)
+  none_held e (inr (inr (inr (p, held, wrong)))) (contains, has, o, formed, good) = wrong (subst (IsGoodIn version) (one_office all o p formed held) good)
 
   -- what is refused, for no want of memory and by no failure, has one
   pub refused : (e : Refusal) → FailsToOpen g old new e → e ≢ NoMemory → e ≢ Store → IsFirstBadTable (state g old).now all None → ⊥

@@ -7,8 +7,8 @@
 -- - Held: the facts and the seats that tables hold
 -- - Differences: what is to be put and deleted to make the new table of the old one, and that it
 --   turns the one into the other
--- - Versions: the version row; a database that is blank, that has no rows, that was just made; what
---   a call that makes tables does
+-- - Versions: what belongs to each version of the tables; the version row; a database that is blank, that has no rows,
+--   that was just made; what a call that makes tables does
 -- - Loaded: the rows and the entries of a table; why nothing is loaded: memory ran out, a query
 --   failed, or the tables hold none
 -- - Reading: what a reader answers: the value whose stored form is shown, or a refusal where there

@@ -1,5 +1,6 @@
--- The version of the schema, and a database that was just made.
-use Rattle.std.specs.Prelude.{◌≡◌, ◌⊎◌, IsSome, Bool, false, not, ℕ, ◌==◌, [], ◌∷◌, IsTrue, Result, OnOk, IfErr, if◌then◌else◌}
+-- The versions of the tables, and a database that was just made.
+use Rattle.std.specs.Prelude.{◌≡◌, ◌⊎◌, IsSome, None, Some, Bool, true, false, ℕ, ◌==◌, [], ◌∷◌, IsTrue, Result, OnOk, IfErr}
+use Rattle.std.specs.Prelude.{if◌then◌else◌}
 use Rattle.sqlite_value.specs.declared.value.Value.TheVariants.{Null}
 use Rattle.sqlite_value.specs.Order.{Row}
 use Rattle.sqlite_trees.specs.Tree.{Trees, with_tree}
@@ -16,14 +17,39 @@ use Rattle.exam_tables.specs.Tables.{no_schema, first_schema, store_schema}
 use Rattle.exam_rows.specs.Faults.{is_store_refusal}
 use Rattle.exam_rows.specs.Inside.{Contains, FailsFor}
 use Rattle.exam_rows.specs.Stored.{whole}
+use Rattle.exam_rows.specs.declared.version.Limits.{Limits}
+use Rattle.exam_rows.specs.declared.version.Version.{Version}
 
--- the newest version of the schema
+-- ---- the versions that there have been
+
+-- what the tables of an older version could hold
+abbrev pub older_limits : Limits
+older_limits = record { openings = 128; greatest_sum = 31 }
+
+abbrev pub first : Version
+first = record { number = 1; has_marks = false; limits = Some older_limits }
+
+-- that of a new database, which may hold what an office may hold
+abbrev pub newest : Version
+newest = record { number = 2; has_marks = true; limits = None }
+
+-- what belongs to the version with this number
+abbrev pub version_at : ℕ → Version
+version_at v = if v == 1 then first else newest
+
+-- the number of the newest version
 abbrev pub version : ℕ
-version = 2
+version = newest.number
 
--- the versions that there have been
+-- the numbers of the versions
 abbrev pub IsVersion : ℕ → Type 0
 IsVersion v = (v ≡ 1) ⊎ (v ≡ version)
+
+-- one of the versions
+abbrev pub IsKnown : Version → Type 0
+IsKnown v = IsVersion v.number × (v ≡ version_at v.number)
+
+-- ---- their tables
 
 -- the row of the table `office`, as a query shows it
 abbrev pub version_row : ℕ → Row
@@ -73,7 +99,7 @@ pub record Leads (before after : Database → Type 0) (old new : State)
 
 -- the table of marks is there since version 2
 abbrev pub marks_since : ℕ → Bool
-marks_since v = not (v == 1)
+marks_since v = (version_at v).has_marks
 
 -- The tables of this version have these rows. In version 1 no mark is meant.
 abbrev pub ContainsOf : ℕ → Database → Trees → Type 0

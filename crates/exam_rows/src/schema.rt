@@ -10,21 +10,16 @@ ghost use Rattle.exam_tables.specs.Texts.{load_office};
 ghost use Rattle.exam_types.specs.declared.refusal.Refusal.TheVariants.{BadStore};
 ghost use Rattle.exam_rows.specs.Faults.{is_store_refusal};
 ghost use Rattle.exam_rows.specs.Stored.{whole};
-ghost use Rattle.exam_rows.specs.Versions.{HasFirst, HasNewest, HasNoRows, HasRuled, HasVersion, IsBlank, IsMade};
+ghost use Rattle.exam_rows.specs.Versions.{HasFirst, HasNewest, HasNoRows, HasRuled, HasVersion, IsBlank, IsKnown, IsMade};
 ghost use Rattle.exam_rows.specs.Versions.{IsVersion, Leads, version_row};
 ghost use Rattle.exam_rows.specs.Loaded.{FailsToLoad, IsLoadRefusal, IsUnderstood, OnlyReads};
 
 use crate::columns::whole_at;
 use crate::statements::{all_rows, run};
+use crate::version::{FIRST, NEWEST, Version};
 use exam_types::Refusal;
 use sqlite::types::ValueRef;
 use sqlite::{Alter, Connection, Row, Transaction};
-
-/// The newest version of the schema.
-pub const NEWEST: u8 = 2;
-
-/// The version before the table of marks.
-const FIRST: u8 = 1;
 
 /// Whether the database has no table, no index and no view.
 pub fn is_blank<S: Alter>(conn: &Connection<S>) -> bool
@@ -84,7 +79,7 @@ fn put_version<S: Alter>(tx: &mut Transaction<'_, S>) -> Result<(), Refusal>
     run(
         tx,
         "INSERT OR REPLACE INTO office (one, version) VALUES (1, ?1)",
-        &[ValueRef::Int(i64::from(NEWEST))],
+        &[ValueRef::Int(i64::from(NEWEST.number))],
     )
 }
 
@@ -155,11 +150,11 @@ fn create_children<S: Alter>(tx: &mut Transaction<'_, S>) -> Result<(), Refusal>
 }
 
 /// The version of the office. Refused as a bad store where the table `office` holds none.
-pub fn version_of<S: Alter>(conn: &mut Connection<S>) -> Result<u8, Refusal>
+pub fn version_of<S: Alter>(conn: &mut Connection<S>) -> Result<Version, Refusal>
     ensures ok { HasCleanDisk (state S.Store conn.new) → IfOk result (λ version. (all : _)
         → ContainsMade (state S.Store conn.old).now all
-        → HasVersion version all × IsUnchanged (state S.Store conn.old) (state S.Store conn.new)) }
-    ensures known { IfOk result IsVersion }
+        → HasVersion version.number all × IsUnchanged (state S.Store conn.old) (state S.Store conn.new)) }
+    ensures known { IfOk result IsKnown }
     ensures bad { HasCleanDisk (state S.Store conn.new) → IfErr result (IsLoadRefusal
         (FailsToLoad load_office (state S.Store conn.old) (state S.Store conn.new))
         ((all : _) → ContainsMade (state S.Store conn.old).now all
@@ -179,15 +174,15 @@ pub fn version_of<S: Alter>(conn: &mut Connection<S>) -> Result<u8, Refusal>
 }
 
 /// The version of which these are the one row.
-fn version_in(rows: &[Row]) -> Result<u8, Refusal>
-    ensures ok { IfOk result (λ version. rows.now ≡ version_row version ∷ []) }
-    ensures known { IfOk result IsVersion }
+fn version_in(rows: &[Row]) -> Result<Version, Refusal>
+    ensures ok { IfOk result (λ version. rows.now ≡ version_row version.number ∷ []) }
+    ensures known { IfOk result IsKnown }
     ensures bad { IfErr result (λ e. (e ≡ BadStore)
         × ((version : _) → IsVersion version → rows.now ≡ version_row version ∷ [] → ⊥)) }
 {
-    if are_version(rows, NEWEST) {
+    if are_version(rows, NEWEST.number) {
         Ok(NEWEST)
-    } else if are_version(rows, FIRST) {
+    } else if are_version(rows, FIRST.number) {
         Ok(FIRST)
     } else {
         Err(Refusal::BadStore)

@@ -15,7 +15,8 @@ use Rattle.exam_rows.specs.Faults.{is_store_refusal}
 use Rattle.exam_rows.specs.Inside.{Contains}
 use Rattle.exam_rows.specs.Loaded.{AreUnderstood, IsUnderstood}
 use Rattle.exam_store.specs.Found.{is_open_refusal, version_texts}
-use Rattle.exam_rows.specs.Versions.{ContainsOf, HasFirst, HasVersion, IsVersion, marks_since, version, version_row}
+use Rattle.exam_rows.specs.Versions.{ContainsOf, HasFirst, HasVersion, IsKnown, IsVersion, marks_since, version, version_row}
+use Rattle.exam_rows.specs.declared.version.Version.{Version}
 
 listed : (has_marks : Bool) → lists_marks (made_schema has_marks) ≡ has_marks
 listed true = marks_listed.0
@@ -46,9 +47,9 @@ of_newest db all was = (was, λ none. absurd (let e : true ≡ false = none in c
 pub of_first : (db : Database) (all : Trees) → ContainsOf 1 db all → HasFirst all db
 of_first db all was = (was.0, was.1 refl)
 
-pub newest_since : (v : ℕ) → IsVersion v → (v == version) ≡ marks_since v
-newest_since v (inl one) = rw one refl
-newest_since v (inr two) = rw two refl
+-- a version has the marks as its number tells
+pub known_marks : (v : Version) → IsKnown v → v.has_marks ≡ marks_since v.number
+known_marks v known = ap (λ (w : Version). w.has_marks) known.1
 
 pub older : (v : ℕ) → IsVersion v → v ≢ version → v ≡ 1
 older v (inl one) other = one

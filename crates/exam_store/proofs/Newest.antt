@@ -1,5 +1,5 @@
 -- What a database that kept an office of version 1 keeps with the newest tables.
-use Rattle.std.proofs.Common.{◌≡◌, ◌≤◌, ℕ, pos, true, false, true≢false, inl, inr, refl, sym, subst, ◌∙◌}
+use Rattle.std.proofs.Common.{◌≡◌, ◌≤◌, ℕ, IsTrue, pos, true, false, true≢false, inl, inr, refl, sym, subst, ◌∙◌}
 use Rattle.std.specs.Cmp.Derive.{both_true}
 use Rattle.std.proofs.lemmas.Bool.{both_ways, cases_eq}
 use Rattle.sqlite_trees.specs.Tree.{Trees}
@@ -10,10 +10,12 @@ use Rattle.exam_tables.specs.Made.{lists_marks}
 use Rattle.exam_tables.proofs.Keys.{equal_itself}
 use Rattle.exam_store.proofs.Marking.{listed_of, one_version}
 use Rattle.exam_office.specs.State.{State as Office}
-use Rattle.exam_rows.specs.Versions.{FailsToCreate, FailsToMake, HasVersion, Widens, version, with_version}
+use Rattle.exam_rows.specs.Versions.{FailsToCreate, FailsToMake, HasVersion, IsKnown, Widens, version, version_at, with_version}
 use Rattle.exam_rows.proofs.Creating.{made_later}
 use Rattle.exam_store.specs.Kept.{HoldsOffice, Migrates}
-use Rattle.exam_store.specs.Refused.{HoldsNone}
+use Rattle.exam_office.specs.Good.{IsGood}
+use Rattle.exam_store.specs.Refused.{HoldsNone, HoldsNoOffice, IsGoodIn, is_within}
+use Rattle.exam_rows.specs.declared.version.Version.{Version}
 
 -- the newest version takes the place of the first
 renewed : (all : Trees) → HasVersion 1 all → HasVersion version (with_version all)
@@ -45,6 +47,19 @@ none_of_any v w all has none = elim (cases_eq v w) [
   | inl same ↦ subst (λ n. HoldsNone n all) same (none same)
   | inr other ↦ inl (λ held. other (one_version v w all has held))
 ]
+
+-- tables that hold no good office hold none of any version
+pub none_good : (v : ℕ) (all : Trees) → HoldsNoOffice IsGood all → HoldsNoOffice (IsGoodIn v) all
+none_good v all (inl none) = inl none
+none_good v all (inr (inl none)) = inr (inl none)
+none_good v all (inr (inr (office, held, wrong))) = inr (inr (office, held, λ good. wrong good.0))
+
+-- what a version can hold is told by its number
+pub within_as : (v : Version) (office : Office) → IsKnown v → IsTrue (is_within v office) → IsTrue (is_within (version_at v.number) office)
+within_as v office known within = subst (λ w. IsTrue (is_within w office)) known.1 within
+
+pub within_of : (v : Version) (office : Office) → IsKnown v → IsTrue (is_within (version_at v.number) office) → IsTrue (is_within v office)
+within_of v office known within = subst (λ w. IsTrue (is_within w office)) (sym known.1) within
 
 -- why the tables are not made, where no transaction was under way
 pub not_made : (old mid new : State) (e : Refusal) → Survives old mid (λ _. ⊥) → HasCleanDisk mid → mid.faults ≤ new.faults → old.in_transaction ≡ false → IsUnchanged old mid → FailsToCreate mid new e → FailsToMake old new e

@@ -7,7 +7,6 @@ use Rattle.sqlite.specs.State.{State, HasCleanDisk, IsUnchanged, Survives}
 use Rattle.sqlite.specs.Held.{Held, state}
 use Rattle.exam_types.specs.declared.refusal.Refusal.{Refusal}
 use Rattle.exam_types.specs.declared.refusal.Refusal.TheVariants.{Store, OldSchema}
-use Rattle.exam_office.specs.Good.{IsGood}
 use Rattle.exam_office.specs.State.{State as Office, empty_state}
 use Rattle.exam_tables.specs.Made.{ContainsMade}
 use Rattle.exam_tables.specs.Texts.{held_texts, load_office, load_standing, load_texts}
@@ -16,7 +15,7 @@ use Rattle.exam_store.specs.Kept.{Keeps}
 use Rattle.exam_rows.specs.Loaded.{AreUnderstood, FailsThen, IsLoadRefusal, IsMadeHere}
 use Rattle.exam_rows.specs.Versions.{ContainsOf, FailsToMake, HasVersion, IsVersion, marks_since, version}
 use Rattle.exam_rows.specs.Faults.{is_store_refusal}
-use Rattle.exam_store.specs.Refused.{HoldsFormed, HoldsNone}
+use Rattle.exam_store.specs.Refused.{HoldsFormed, HoldsNone, IsGoodIn}
 
 -- if there is a version row, it is that of the newest
 abbrev pub IsNoOlder : Database → Type 0
@@ -65,7 +64,7 @@ version_texts v = held_texts ++ (if marks_since v then load_standing ∷ [] else
 -- the tables are those of this version and hold a good office of it
 abbrev pub HoldsGood : ℕ → Database → Trees → Type 0
 HoldsGood v db all =
-    ContainsOf v db all × HasVersion v all × (office : Office) × HoldsFormed all office × IsGood office
+    ContainsOf v db all × HasVersion v all × (office : Office) × HoldsFormed all office × IsGoodIn v office
 
 -- Why an office is not brought to the newest version: a transaction is under way, the tables hold no good office of
 -- any version, or those of version 1 are there and the new ones are not made.

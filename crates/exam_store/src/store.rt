@@ -351,7 +351,7 @@ fn load_kept<S: Alter>(alloc: Global, conn: &mut Connection<S>) -> Result<Office
     ensures told { IfErr result (λ e. IsTrue (is_open_refusal e)) }
 {
     let version = version_of(conn)?;
-    if version != NEWEST {
+    if version.number != NEWEST.number {
         return Err(Refusal::OldSchema);
     }
     load_version(alloc, conn, version)

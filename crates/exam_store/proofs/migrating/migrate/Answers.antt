@@ -15,7 +15,7 @@ returns-clause-made g c =
     let old = state g.S.Store c.args.conn.now in
     let mid = state g.S.Store c.judged_version.new.conn in
     let new = state g.S.Store c.save_widened.new.conn in
-    commits_ok old new tt (c.in_ok-version.version, version) Migrates
+    commits_ok old new tt (c.in_ok-version.version.number, version) Migrates
     (commits_weaker old new (Ok tt) Widens Migrates migrates (then_commits old mid new (Ok tt) Widens c.in_ok-version.ensures.left c.judged_version.ensures.survives c.in_ok-save_widened.ensures.made))
 
 pub returns-in_err-save_widened-clause-made : goal.returns-in_err-save_widened-clause-made
@@ -37,7 +37,7 @@ returns-in_err-save_widened-clause-refusal g c = λ clean.
     let s = c.in_err-save_widened.ensures.made.survives in
     let clean_mid : HasCleanDisk mid = omega (arith, s.clean, clean) in
     let same = c.in_ok-version.ensures.left clean_mid in
-    let first : c.in_ok-version.version ≡ 1 = older c.in_ok-version.version c.in_ok-version.ensures.known (search rules) in
+    let first : c.in_ok-version.version.number ≡ 1 = older c.in_ok-version.version.number c.in_ok-version.ensures.known.0 (search rules) in
     let calm : old.in_transaction ≡ false = search rules in
     rw is (inr (inr (
       rw first at c.in_ok-version.ensures.understood clean_mid,
@@ -61,11 +61,11 @@ returns-clause-understood g c = λ clean. c.in_ok-version.ensures.understood (om
 
 -- of the newest version already
 
-pub returns-then-version-eq-NEWEST-clause-made : goal.returns-then-version-eq-NEWEST-clause-made
-returns-then-version-eq-NEWEST-clause-made g c =
+pub returns-then-version-clause-made : goal.returns-then-version-clause-made
+returns-then-version-clause-made g c =
     let old = state g.S.Store c.args.conn.now in
     let new = c.judged_version.new.conn in
-    let newest : c.in_ok-version.version ≡ version = search rules in
+    let newest : c.in_ok-version.version.number ≡ version = search rules in
     let settled : IsTrue old.is_open → old.now ≡ old.committed = search rules in
-    unchanged_commits old (state g.S.Store new) (c.in_ok-version.version, version) Migrates settled c.in_ok-version.ensures.left (λ clean. newest_alone old.now (state g.S.Store new).now (rw newest at c.in_ok-version.ensures.marks clean)) (λ trees is may. g.met.S.Store.settled new.store trees is may)
+    unchanged_commits old (state g.S.Store new) (c.in_ok-version.version.number, version) Migrates settled c.in_ok-version.ensures.left (λ clean. newest_alone old.now (state g.S.Store new).now (rw newest at c.in_ok-version.ensures.marks clean)) (λ trees is may. g.met.S.Store.settled new.store trees is may)
     c.judged_version.ensures.survives
