@@ -38,7 +38,7 @@ use Rattle.exam_rows.proofs.Versioned.{version_held}
 use Rattle.exam_store.specs.Found.{Finds, FailsToOpen, HoldsGood}
 use Rattle.exam_store.specs.Kept.{Keeps}
 use Rattle.exam_store.specs.Refused.{HoldsFormed, HoldsNone, IsGoodIn}
-use Rattle.exam_store.proofs.Marking.{made_of, of_newest, one_version}
+use Rattle.exam_store.proofs.Marking.{made_of, no_older, of_newest, one_version}
 use Rattle.exam_store.proofs.Unique.{one_office}
 use Rattle.exam_check.specs.FirstBad.{HasGoodVersion, HoldsTableOf, IsFirstBadIn, IsFirstBadTable, table_of}
 use Rattle.exam_check.specs.declared.tables.Table.{Table}
@@ -216,5 +216,5 @@ module _ {S : Type 0} (g : Ghosts S) (old new : Held S) (all : Trees) (was : Con
       none_held e (none all good.0) good
   refused e (inr (is, old_one)) some sound first =
       let good = holds_good (state g old).now all first in
-      let same : 1 ≡ version = one_version 1 version all (old_one all was) good.1 in
-      absurd cc
+      let before = old_one all was in
+      absurd (no_older before.0 before.1 (one_version before.0 version all before.2 good.1))

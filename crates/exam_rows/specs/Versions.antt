@@ -12,7 +12,7 @@ use Rattle.sqlite.specs.State.{State, HasCleanDisk, KeepsCommit, Survives}
 use Rattle.exam_types.specs.declared.refusal.Refusal.{Refusal}
 use Rattle.exam_types.specs.declared.refusal.Refusal.TheVariants.{Store}
 use Rattle.exam_tables.specs.Content.{ContainsIn, put}
-use Rattle.exam_tables.specs.Made.{made_schema}
+use Rattle.exam_tables.specs.Made.{ContainsMade, made_schema}
 use Rattle.exam_tables.specs.Tables.{no_schema, first_schema, store_schema}
 use Rattle.exam_rows.specs.Faults.{is_store_refusal}
 use Rattle.exam_rows.specs.Inside.{Contains, FailsFor}
@@ -29,21 +29,28 @@ older_limits = record { openings = 128; greatest_sum = 31 }
 abbrev pub first : Version
 first = record { number = 1; has_marks = false; limits = Some older_limits }
 
+abbrev pub second : Version
+second = record { number = 2; has_marks = true; limits = Some older_limits }
+
 -- that of a new database, which may hold what an office may hold
 abbrev pub newest : Version
-newest = record { number = 2; has_marks = true; limits = None }
+newest = record { number = 3; has_marks = true; limits = None }
 
 -- what belongs to the version with this number
 abbrev pub version_at : ℕ → Version
-version_at v = if v == 1 then first else newest
+version_at v = if v == 1 then first else (if v == 2 then second else newest)
 
 -- the number of the newest version
 abbrev pub version : ℕ
 version = newest.number
 
--- the numbers of the versions
+-- the numbers of the older versions
+abbrev pub IsOlder : ℕ → Type 0
+IsOlder v = (v ≡ 1) ⊎ (v ≡ 2)
+
+-- the numbers of all versions
 abbrev pub IsVersion : ℕ → Type 0
-IsVersion v = (v ≡ 1) ⊎ (v ≡ version)
+IsVersion v = IsOlder v ⊎ (v ≡ version)
 
 -- one of the versions
 abbrev pub IsKnown : Version → Type 0
@@ -105,18 +112,21 @@ marks_since v = (version_at v).has_marks
 abbrev pub ContainsOf : ℕ → Database → Trees → Type 0
 ContainsOf v db all = ContainsIn (made_schema (marks_since v)) db all × (marks_since v ≡ false → all 17 ≡ [])
 
--- ---- from version 1 to this one
+-- ---- from an older version to the newest
 
 -- the tables of version 1 have these rows, and there is no mark
 abbrev pub HasFirst : Trees → Database → Type 0
 HasFirst all db = ContainsIn first_schema db all × (all 17 ≡ [])
 
-abbrev pub IsFirst : Database → Type 0
-IsFirst db = (all : Trees) × HasFirst all db
+-- the eleven tables have these rows, which obey each rule of the schema if the connection is open
+abbrev pub HasRuled : Bool → Trees → Database → Type 0
+HasRuled is_open all db =
+    Contains db all × (IsTrue is_open → (rule : Constraint) → Keeps rule store_schema db.trees)
 
--- the tables of this version have these rows, which obey each rule of the schema
-abbrev pub HasRuled : Trees → Database → Type 0
-HasRuled all db = Contains db all × ((rule : Constraint) → Keeps rule store_schema db.trees)
+-- the tables of an older version have these rows: with the table of marks, or without it
+abbrev pub HasOlder : Bool → Bool → Trees → Database → Type 0
+HasOlder is_open true = HasRuled is_open
+HasOlder is_open false = HasFirst
 
 -- the rows with the newest version
 abbrev pub with_version : Trees → Trees
@@ -125,6 +135,6 @@ with_version all = with_tree all 0 (put (1 ∷ []) (Null ∷ version_row version
 abbrev pub HasNewest : Trees → Database → Type 0
 HasNewest all db = Contains db (with_version all)
 
--- whatever rows the tables of version 1 had, those of this version have them, with its number
+-- whatever rows the tables of any version had, those of the newest have them, with its number
 abbrev pub Widens : Database → Database → Type 0
-Widens old new = (all : Trees) → HasFirst all old → HasNewest all new
+Widens old new = (all : Trees) → ContainsMade old all → HasNewest all new

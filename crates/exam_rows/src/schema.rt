@@ -2,7 +2,7 @@
 ghost use Rattle.std.specs.Prelude.{◌≡◌, [], ◌∷◌, IsTrue, IfOk, IfErr, OnOk};
 ghost use Rattle.std.specs.Bool.{Decides};
 ghost use Rattle.sqlite.specs.Held.{state};
-ghost use Rattle.sqlite.specs.State.{HasCleanDisk, IsUnchanged, Survives};
+ghost use Rattle.sqlite.specs.State.{HasCleanDisk, IsLive, IsUnchanged, Survives};
 ghost use Rattle.sqlite_value.specs.Order.{column};
 ghost use Rattle.exam_tables.specs.Grows.{made_0, made_5, made_10};
 ghost use Rattle.exam_tables.specs.Made.{ContainsMade, lists_marks};
@@ -10,13 +10,13 @@ ghost use Rattle.exam_tables.specs.Texts.{load_office};
 ghost use Rattle.exam_types.specs.declared.refusal.Refusal.TheVariants.{BadStore};
 ghost use Rattle.exam_rows.specs.Faults.{is_store_refusal};
 ghost use Rattle.exam_rows.specs.Stored.{whole};
-ghost use Rattle.exam_rows.specs.Versions.{HasFirst, HasNewest, HasNoRows, HasRuled, HasVersion, IsBlank, IsKnown, IsMade};
-ghost use Rattle.exam_rows.specs.Versions.{IsVersion, Leads, version_row};
+ghost use Rattle.exam_rows.specs.Versions.{HasOlder, HasFirst, HasNewest, HasNoRows, HasRuled, HasVersion};
+ghost use Rattle.exam_rows.specs.Versions.{IsBlank, IsKnown, IsMade, IsVersion, Leads, version_row};
 ghost use Rattle.exam_rows.specs.Loaded.{FailsToLoad, IsLoadRefusal, IsUnderstood, OnlyReads};
 
 use crate::columns::whole_at;
 use crate::statements::{all_rows, run};
-use crate::version::{FIRST, NEWEST, Version};
+use crate::version::{FIRST, NEWEST, SECOND, Version};
 use exam_types::Refusal;
 use sqlite::types::ValueRef;
 use sqlite::{Alter, Connection, Row, Transaction};
@@ -36,6 +36,13 @@ pub fn has_marks<S: Alter>(conn: &Connection<S>) -> bool
     conn.schema().table_named(b"standing").is_some()
 }
 
+/// The rows of an open database obey each rule of its schema. Does nothing.
+pub fn show_rules<S: Alter>(conn: &Connection<S>)
+    ensures { IsLive (state S.Store conn.now) }
+{
+    let _ = conn.schema();
+}
+
 /// Makes the tables, with no rows but the version, in a database with nothing in it.
 pub fn create_tables<S: Alter>(tx: &mut Transaction<'_, S>) -> Result<(), Refusal>
     ensures same_reference { tx.new.conn.ghost_name ≡ tx.old.conn.ghost_name }
@@ -44,23 +51,38 @@ pub fn create_tables<S: Alter>(tx: &mut Transaction<'_, S>) -> Result<(), Refusa
 {
     create_parents(tx)?;
     create_children(tx)?;
-    widen_tables(tx)
+    widen_tables(tx, false)
 }
 
-/// Makes the tables of version 1 those of the newest version, whatever rows they have.
-pub fn widen_tables<S: Alter>(tx: &mut Transaction<'_, S>) -> Result<(), Refusal>
+/// Makes the tables of an older version those of the newest, whatever rows they have. `has_marks` tells whether the
+/// table of marks is there.
+pub fn widen_tables<S: Alter>(tx: &mut Transaction<'_, S>, has_marks: bool) -> Result<(), Refusal>
     ensures same_reference { tx.new.conn.ghost_name ≡ tx.old.conn.ghost_name }
-    ensures made { (all : _) → Leads (HasFirst all) (HasNewest all)
+    ensures made { (all : _)
+        → Leads (HasOlder (state S.Store tx.old.conn.now).is_open has_marks all) (HasNewest all)
         (state S.Store tx.old.conn.now) (state S.Store tx.new.conn.now) result }
 {
-    create_standing(tx)?;
+    add_standing(tx, has_marks)?;
     put_version(tx)
+}
+
+/// Adds the table of marks, with no row, if it is not there.
+fn add_standing<S: Alter>(tx: &mut Transaction<'_, S>, has_marks: bool) -> Result<(), Refusal>
+    ensures same_reference { tx.new.conn.ghost_name ≡ tx.old.conn.ghost_name }
+    ensures made { (all : _) → Leads (HasOlder (state S.Store tx.old.conn.now).is_open has_marks all)
+        (HasRuled (state S.Store tx.new.conn.now).is_open all)
+        (state S.Store tx.old.conn.now) (state S.Store tx.new.conn.now) result }
+{
+    if has_marks {
+        return Ok(());
+    }
+    create_standing(tx)
 }
 
 /// Adds the table of marks, with no row.
 fn create_standing<S: Alter>(tx: &mut Transaction<'_, S>) -> Result<(), Refusal>
     ensures same_reference { tx.new.conn.ghost_name ≡ tx.old.conn.ghost_name }
-    ensures made { (all : _) → Leads (HasFirst all) (HasRuled all)
+    ensures made { (is_open : _) (all : _) → Leads (HasFirst all) (HasRuled is_open all)
         (state S.Store tx.old.conn.now) (state S.Store tx.new.conn.now) result }
 {
     run(
@@ -73,7 +95,8 @@ fn create_standing<S: Alter>(tx: &mut Transaction<'_, S>) -> Result<(), Refusal>
 /// Sets the one row of the table `office`.
 fn put_version<S: Alter>(tx: &mut Transaction<'_, S>) -> Result<(), Refusal>
     ensures same_reference { tx.new.conn.ghost_name ≡ tx.old.conn.ghost_name }
-    ensures made { (all : _) → Leads (HasRuled all) (HasNewest all)
+    ensures made { (all : _)
+        → Leads (HasRuled (state S.Store tx.old.conn.now).is_open all) (HasNewest all)
         (state S.Store tx.old.conn.now) (state S.Store tx.new.conn.now) result }
 {
     run(
@@ -182,6 +205,8 @@ fn version_in(rows: &[Row]) -> Result<Version, Refusal>
 {
     if are_version(rows, NEWEST.number) {
         Ok(NEWEST)
+    } else if are_version(rows, SECOND.number) {
+        Ok(SECOND)
     } else if are_version(rows, FIRST.number) {
         Ok(FIRST)
     } else {

@@ -30,9 +30,15 @@ pub const FIRST: Version = Version {
     limits: Some(OLDER_LIMITS),
 };
 
+pub const SECOND: Version = Version {
+    number: 2,
+    has_marks: true,
+    limits: Some(OLDER_LIMITS),
+};
+
 /// The version of the tables of a new database.
 pub const NEWEST: Version = Version {
-    number: 2,
+    number: 3,
     has_marks: true,
     limits: None,
 };

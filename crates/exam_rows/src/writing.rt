@@ -6,13 +6,14 @@ ghost use Rattle.sqlite.specs.Steps.{FailsToCommit};
 ghost use Rattle.exam_rows.specs.Faults.{refusal_of, is_store_refusal};
 ghost use Rattle.exam_rows.specs.Inside.{Becomes, FailsToWrite, IsOurs, Makes};
 ghost use Rattle.exam_rows.specs.Transactions.{Commits};
-ghost use Rattle.exam_rows.specs.Versions.{FailsToCreate, IsBlank, IsFirst, IsMade, Widens};
+ghost use Rattle.exam_rows.specs.Loaded.{IsMadeHere};
+ghost use Rattle.exam_rows.specs.Versions.{FailsToCreate, IsBlank, IsMade, Widens};
 ghost use Rattle.exam_rows.specs.Writes.{timetable_put, halls_put, candidates_put, plans_put, all_put};
 ghost use Rattle.exam_rows.specs.Writes.{all_deleted, all_saved};
 
 use crate::differences::{Difference, Keyed};
 use crate::faults::refusal_of;
-use crate::schema::{create_tables, widen_tables};
+use crate::schema::{create_tables, has_marks, show_rules, widen_tables};
 use crate::table::{delete_rows, put_rows};
 use crate::tables::appeals::Appeals;
 use crate::tables::arrangements::Arrangements;
@@ -180,10 +181,10 @@ pub fn save_empty<S: Alter>(conn: &mut Connection<S>) -> Result<(), Refusal>
     commit(tx)
 }
 
-/// Makes the tables of version 1 those of the newest version, in one transaction or not at all.
+/// Makes the tables of an older version those of the newest, whatever rows they have, in one transaction or not at all.
 pub fn save_widened<S: Alter>(conn: &mut Connection<S>) -> Result<(), Refusal>
     ensures made { Commits (state S.Store conn.old) (state S.Store conn.new) result Widens }
-    ensures failed { HasCleanDisk (state S.Store conn.new) → IsFirst (state S.Store conn.old).now
+    ensures failed { HasCleanDisk (state S.Store conn.new) → IsMadeHere (state S.Store conn.old).now
         → IfErr result (FailsToCreate (state S.Store conn.old) (state S.Store conn.new)) }
     ensures ended { conn.old.in_transaction ≡ false → conn.new.in_transaction ≡ false }
     ensures told { IfErr result (λ e. IsTrue (is_store_refusal e)) }
@@ -191,8 +192,10 @@ pub fn save_widened<S: Alter>(conn: &mut Connection<S>) -> Result<(), Refusal>
     if !conn.is_autocommit() {
         return Err(Refusal::Store);
     }
+    show_rules(conn);
+    let has_marks = has_marks(conn);
     let mut tx = conn.transaction();
-    widen_tables(&mut tx)?;
+    widen_tables(&mut tx, has_marks)?;
     commit(tx)
 }
 

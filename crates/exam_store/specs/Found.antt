@@ -13,7 +13,7 @@ use Rattle.exam_tables.specs.Texts.{held_texts, load_office, load_standing, load
 use Rattle.exam_rows.specs.Inside.{Contains, IsOurs}
 use Rattle.exam_store.specs.Kept.{Keeps}
 use Rattle.exam_rows.specs.Loaded.{AreUnderstood, FailsThen, IsLoadRefusal, IsMadeHere}
-use Rattle.exam_rows.specs.Versions.{ContainsOf, FailsToMake, HasVersion, IsVersion, marks_since, version}
+use Rattle.exam_rows.specs.Versions.{ContainsOf, FailsToMake, HasVersion, IsOlder, IsVersion, marks_since, version}
 use Rattle.exam_rows.specs.Faults.{is_store_refusal}
 use Rattle.exam_store.specs.Refused.{HoldsFormed, HoldsNone, IsGoodIn}
 
@@ -39,9 +39,10 @@ FindsNone g old new =
     (((all : Trees) → ContainsOf version (state g old).now all → HoldsNone version all)
     × IsNoOlder (state g old).now)
 
--- the office is one of version 1
+-- the office is one of an older version
 abbrev pub FindsOld : Database → Refusal → Type 0
-FindsOld old e = (e ≡ OldSchema) × ((all : Trees) → ContainsMade old all → HasVersion 1 all)
+FindsOld old e =
+    (e ≡ OldSchema) × ((all : Trees) → ContainsMade old all → (v : ℕ) × IsOlder v × HasVersion v all)
 
 -- why no office is opened
 abbrev pub FailsToOpen : {S : Type 0} → Ghosts S → Held S → Held S → Refusal → Type 0
@@ -67,7 +68,7 @@ HoldsGood v db all =
     ContainsOf v db all × HasVersion v all × (office : Office) × HoldsFormed all office × IsGoodIn v office
 
 -- Why an office is not brought to the newest version: a transaction is under way, the tables hold no good office of
--- any version, or those of version 1 are there and the new ones are not made.
+-- any version, or those of an older version are there and are not made those of the newest.
 abbrev pub FailsToMigrate : {S : Type 0} → Ghosts S → Held S → Held S → Refusal → Type 0
 FailsToMigrate g old new e =
     ((e ≡ Store) × IsTrue (state g old).in_transaction)

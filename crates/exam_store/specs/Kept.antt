@@ -1,5 +1,5 @@
 -- The database that keeps an office.
-use Rattle.std.specs.Prelude.{◌≡◌, ◌↔◌}
+use Rattle.std.specs.Prelude.{◌≡◌, ◌↔◌, ℕ}
 use Rattle.sqlite_trees.specs.Tree.{Trees}
 use Rattle.sqlite.specs.Effect.{Database}
 use Rattle.sqlite.specs.State.{State, HasCleanDisk}
@@ -7,7 +7,7 @@ use Rattle.exam_office.specs.State.{State as Office}
 use Rattle.exam_rows.specs.Held.{HoldsFacts, HoldsRows}
 use Rattle.exam_rows.specs.Inside.{Contains, IsOurs}
 use Rattle.exam_rows.specs.Rows.{seat_row}
-use Rattle.exam_rows.specs.Versions.{HasFirst, HasVersion, version}
+use Rattle.exam_rows.specs.Versions.{ContainsOf, HasVersion, IsOlder, version}
 
 -- each table of facts has the rows of its relation, and the table of seats those of the plans
 pub record HoldsOffice (all : Trees) (office : Office) : Type 0 where
@@ -21,16 +21,16 @@ pub record Keeps (db : Database) (office : Office) : Type 0 where
   pub version : HasVersion version all
   pub held : HoldsOffice all office
 
--- the tables of version 1 have the rows of the office, and its number
-pub record KeepsFirst (db : Database) (office : Office) : Type 0 where
+-- the tables of the version with this number have the rows of the office, and that number
+pub record KeepsIn (v : ℕ) (db : Database) (office : Office) : Type 0 where
   pub all : Trees
-  pub contains : HasFirst all db
-  pub version : HasVersion 1 all
+  pub contains : ContainsOf v db all
+  pub version : HasVersion v all
   pub held : HoldsOffice all office
 
--- what kept an office in version 1 keeps it in the newest
+-- what kept an office in an older version keeps it in the newest
 abbrev pub Migrates : Database → Database → Type 0
-Migrates old new = (office : Office) → KeepsFirst old office → Keeps new office
+Migrates old new = (v : ℕ) → IsOlder v → (office : Office) → KeepsIn v old office → Keeps new office
 
 -- what kept the one office keeps the other
 abbrev pub Rekeeps : Office → Office → Database → Database → Type 0

@@ -9,7 +9,7 @@ ghost use Rattle.exam_rows.specs.Versions.{ContainsOf, IsKnown, IsVersion, versi
 ghost use Rattle.exam_store.specs.Found.{FailsToMigrate, HoldsGood, version_texts};
 ghost use Rattle.exam_store.specs.Kept.{Migrates};
 ghost use Rattle.exam_store.specs.Refused.{HoldsNone};
-ghost use Rattle.exam_tables.specs.Made.{ContainsMade, lists_marks};
+ghost use Rattle.exam_tables.specs.Made.{ContainsMade};
 ghost use Rattle.exam_tables.specs.Texts.{load_office as office_text};
 
 use crate::loading::load_version;
@@ -54,8 +54,6 @@ fn judged_version<S: Alter>(alloc: Global, conn: &mut Connection<S>) -> Result<V
     ensures found { HasCleanDisk (state S.Store conn.new) → IfOk result (λ v. (all : _)
         → ContainsMade (state S.Store conn.old).now all
         → HoldsGood v.number (state S.Store conn.old).now all) }
-    ensures marks { HasCleanDisk (state S.Store conn.new)
-        → IfOk result (λ v. lists_marks (state S.Store conn.old).now.schema ≡ v.has_marks) }
     ensures understood { HasCleanDisk (state S.Store conn.new) → IfOk result (λ v.
         AreUnderstood (state S.Store conn.old).now (office_text ∷ version_texts v.number)) }
     ensures bad { HasCleanDisk (state S.Store conn.new) → IfErr result (IsLoadRefusal

@@ -20,8 +20,8 @@ returns-in_err-version-clause-looks g c =
 
 pub returns-then-version-clause-looks : goal.returns-then-version-clause-looks
 returns-then-version-clause-looks g c =
-    let old_is : c.in_ok-version.version.number ≡ 1 = older c.in_ok-version.version.number c.in_ok-version.ensures.known.0 (search rules) in
-    looks_old g.S.Store c.args.conn.now c.version_of.new.conn c.version_of.ensures.early c.version_of.ensures.survives c.in_ok-version.ensures.left (λ clean all was. subst (λ v. HasVersion v all) old_is (c.in_ok-version.ensures.ok clean all was).0)
+    let v = c.in_ok-version.version.number in
+    looks_old g.S.Store c.args.conn.now c.version_of.new.conn c.version_of.ensures.early c.version_of.ensures.survives c.in_ok-version.ensures.left (λ clean all was. (v, older v c.in_ok-version.ensures.known.0 (search rules), (c.in_ok-version.ensures.ok clean all was).0))
 
 pub returns-in_err-read-clause-looks : goal.returns-in_err-read-clause-looks
 returns-in_err-read-clause-looks g c =

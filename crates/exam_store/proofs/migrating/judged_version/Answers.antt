@@ -28,11 +28,6 @@ returns-clause-understood g c = λ clean.
     let early = c.load_version.ensures.early clean in
     (c.in_ok-version.ensures.understood early, subst (λ (db : Database). AreUnderstood db (version_texts c.in_ok-version.version.number)) (c.in_ok-version.ensures.left early).0.now_is (c.in_ok-office.ensures.understood clean))
 
-pub returns-clause-marks : goal.returns-clause-marks
-returns-clause-marks g c = λ clean.
-    let same = c.in_ok-version.ensures.left (c.load_version.ensures.early clean) in
-    ap (λ (db : Database). lists_marks db.schema) (sym same.0.now_is) ∙ c.in_ok-office.ensures.marks clean
-
 pub returns-clause-left : goal.returns-clause-left
 returns-clause-left g c = λ clean.
     unchanged_then (state g.S.Store c.args.conn.now) (state g.S.Store c.version_of.new.conn) (state g.S.Store c.load_version.new.conn) (c.in_ok-version.ensures.left (c.load_version.ensures.early clean)) (c.in_ok-office.ensures.left clean)

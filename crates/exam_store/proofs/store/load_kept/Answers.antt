@@ -46,8 +46,8 @@ returns-in_err-version-clause-refusal g c = λ clean.
 
 pub returns-then-version-clause-refusal : goal.returns-then-version-clause-refusal
 returns-then-version-clause-refusal g c = λ clean.
-    let old_is : c.in_ok-version.version.number ≡ 1 = older c.in_ok-version.version.number c.in_ok-version.ensures.known.0 (search rules) in
-    inr (refl, λ all was. subst (λ v. HasVersion v all) old_is (c.in_ok-version.ensures.ok clean all was).0)
+    let v = c.in_ok-version.version.number in
+    inr (refl, λ all was. (v, older v c.in_ok-version.ensures.known.0 (search rules), (c.in_ok-version.ensures.ok clean all was).0))
 
 pub returns-clause-told : goal.returns-clause-told
 returns-clause-told g c = IfErr-weaker c.load_version.result _ _ opens_as c.load_version.ensures.told
