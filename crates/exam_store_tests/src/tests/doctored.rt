@@ -75,7 +75,7 @@ fn an_appeal_of_no_form_is_refused(rt: HostRuntime) -> Result<(), Fail> {
 
 /// Another version, a table that is missing, and one with fewer columns.
 const OTHER_TABLES: &str = "\
-UPDATE office SET version = 3
+UPDATE office SET version = 4
 UPDATE office SET version = 9
 UPDATE office SET one = 2
 INSERT INTO office VALUES (2, 2)
