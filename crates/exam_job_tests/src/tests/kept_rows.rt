@@ -187,7 +187,7 @@ fn each_import_is_kept_in_its_table(rt: HostRuntime) -> Result<(), Fail> {
         expect_all(&rt, &mut store, &[(words, file, Ok(reply))])?;
         store = expect_rows(&rt, store, table, rows)?;
     }
-    expect_rows(&rt, store, OFFICES, "1|2|\n")?;
+    expect_rows(&rt, store, OFFICES, "1|3|\n")?;
     Ok(())
 }
 
