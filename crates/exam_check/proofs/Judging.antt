@@ -34,8 +34,8 @@ use Rattle.exam_rows.specs.Loaded.{IsUnderstood}
 use Rattle.exam_rows.specs.Versions.{HasVersion, version, version_row}
 use Rattle.exam_rows.proofs.Versioned.{version_held}
 use Rattle.exam_store.specs.Found.{Finds, FailsToOpen, HoldsGood}
-use Rattle.exam_store.specs.Refused.{HoldsFormed, HoldsNone}
-use Rattle.exam_store.proofs.Marking.{of_newest, one_version}
+use Rattle.exam_store.specs.Refused.{HoldsFormed, HoldsNone, IsGoodIn}
+use Rattle.exam_store.proofs.Marking.{no_older, of_newest, one_version}
 use Rattle.exam_store.proofs.Unique.{one_office}
 use Rattle.exam_check.specs.FirstBad.{HasGoodVersion, HoldsTableOf, IsFirstBadIn, IsFirstBadTable, table_of}
 use Rattle.exam_check.specs.declared.tables.Table.TheVariants as table
@@ -139,10 +139,10 @@ pub holds_good : (db : Database) (all : Trees) → IsFirstBadTable db all None �
 holds_good db all (inl (wrong, is)) = absurd (none_is_some table.Office is)
 holds_good db all (inr (good, o, bad, judged, is)) =
     let it = good_office all o (are_good all o tables (subst (IsFirstBadIn all o tables) (no_table bad is) judged)) in
-    (good.0, good.1, o, it.0, it.1)
+    (good.0, good.1, o, it.0, (it.1, refl))
 
 pub none_found : (db : Database) (all : Trees) → HoldsGood version db all → IsFirstBadTable db all None
-none_found db all (contains, has, o, formed, good) = inr ((contains, has), o, None, none_bad all o tables (office_good all o formed good), refl)
+none_found db all (contains, has, o, formed, good) = inr ((contains, has), o, None, none_bad all o tables (office_good all o formed good.0), refl)
 
 -- ---- opening
 
@@ -188,13 +188,13 @@ module _ {S : Type 0} (g : Ghosts S) (old new : Held S) (all : Trees) (was : Con
       let known = (finds.understood clean).1.1.1.1.1.1.1.1.1.1.0 in
       let contains = newest_tables db all known was in
       let kept = finds.kept clean (all, contains) in
-      none_found db all (of_newest db all contains, version_of_all db kept.all all kept.contains contains kept.version, o, finds.formed clean all contains, good)
+      none_found db all (of_newest db all contains, version_of_all db kept.all all kept.contains contains kept.version, o, finds.formed clean all contains, (good, refl))
 
   none_held : (e : Refusal) → HoldsNone version all → HoldsGood version (state g old).now all → ⊥
   none_held e (inl none) (contains, has, o, formed, good) = none has
   none_held e (inr (inl none)) (contains, has, o, formed, good) = none o.relations formed.0
   none_held e (inr (inr (inl none))) (contains, has, o, formed, good) = none o.seats formed.1
-  none_held e (inr (inr (inr (p, held, wrong)))) (contains, has, o, formed, good) = wrong (subst IsGood (one_office all o p formed held) good)
+  none_held e (inr (inr (inr (p, held, wrong)))) (contains, has, o, formed, good) = wrong (subst (IsGoodIn version) (one_office all o p formed held) good)
 
   -- what is refused has one, unless the refusal is `NoMemory` or `Store`
   pub refused : (e : Refusal) → FailsToOpen g old new e → e ≢ NoMemory → e ≢ Store → IsFirstBadTable (state g old).now all None → ⊥
@@ -212,5 +212,5 @@ module _ {S : Type 0} (g : Ghosts S) (old new : Held S) (all : Trees) (was : Con
       none_held e (none all good.0) good
   refused e (inr (is, old_one)) some sound first =
       let good = holds_good (state g old).now all first in
-      let same : 1 ≡ version = one_version 1 version all (old_one all was) good.1 in
-      absurd cc
+      let before = old_one all was in
+      absurd (no_older before.0 before.1 (one_version before.0 version all before.2 good.1))

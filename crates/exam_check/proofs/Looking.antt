@@ -15,7 +15,7 @@ use Rattle.exam_tables.specs.Texts.{load_office, load_texts}
 use Rattle.exam_rows.specs.Faults.{is_store_refusal}
 use Rattle.exam_rows.specs.Inside.{Contains}
 use Rattle.exam_rows.specs.Loaded.{FailsToLoad, FailsToLoadFrom, IsLoadRefusal, OnlyReads, Told}
-use Rattle.exam_rows.specs.Versions.{HasVersion, IsVersion, version}
+use Rattle.exam_rows.specs.Versions.{HasVersion, IsOlder, IsVersion, version}
 use Rattle.exam_rows.proofs.Leaving.{bad_unchanged, both_survive, reads_only, still_itself, still_then, then_reads}
 use Rattle.exam_rows.proofs.LoadTexts.{office_loads}
 use Rattle.exam_store.proofs.Marking.{made_of, opens_as}
@@ -125,7 +125,7 @@ module _ {S : Type 0} (g : Ghosts S) (old new : Held S) where
 
   -- the office of an older version
   pub looks_old : {A : Type 0} → (HasCleanDisk (state g new) → HasCleanDisk (state g old)) → Survives (state g old) (state g new) (λ _. ⊥) → (HasCleanDisk (state g new) → IsUnchanged (state g old) (state g new))
-      → (HasCleanDisk (state g new) → (all : Trees) → ContainsMade (state g old).now all → HasVersion 1 all) → Looks {A = A} g old new (Err OldSchema)
+      → (HasCleanDisk (state g new) → (all : Trees) → ContainsMade (state g old).now all → (v : ℕ) × IsOlder v × HasVersion v all) → Looks {A = A} g old new (Err OldSchema)
   looks_old early survives left first = record {
     early = early;
     survives = survives;

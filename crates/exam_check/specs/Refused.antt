@@ -7,8 +7,8 @@ use Rattle.exam_types.specs.declared.refusal.Refusal.TheVariants.{NoMemory, Stor
 use Rattle.exam_rows.specs.Loaded.{FailsThen}
 use Rattle.exam_store.specs.Found.{FindsOld}
 
--- Memory ran out, or the query of a table failed while the database was as before, or the version row is that of
--- version 1.
+-- Memory ran out, or the query of a table failed while the database was as before, or the version row is that of an
+-- older version.
 abbrev pub FailsToCheck : {S : Type 0} → Ghosts S → Held S → Held S → Refusal → Type 0
 FailsToCheck g old new e = (e ≡ NoMemory) ⊎ ((FailsThen g old new e × (e ≡ Store)) ⊎ FindsOld (state g old).now e)
 

@@ -56,7 +56,7 @@ fn first_bad<S: Alter>(
         → OnOk result (AreUnderstood (state S.Store conn.old).now load_texts) }
 {
     let version = version_of(conn)?;
-    if version != NEWEST {
+    if version.number != NEWEST.number {
         return Err(Refusal::OldSchema);
     }
     let read = read_tables(alloc, conn)?;

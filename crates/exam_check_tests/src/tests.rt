@@ -70,7 +70,7 @@ fn a_good_office_has_no_bad_table(rt: HostRuntime) -> Result<(), Fail> {
 const NO_OFFICE: &[(&str, Table)] = &[
     ("UPDATE office SET version = 7", Table::Office),
     ("UPDATE office SET one = 2", Table::Office),
-    ("INSERT INTO office VALUES (2, 2)", Table::Office),
+    ("INSERT INTO office VALUES (2, 3)", Table::Office),
     ("DELETE FROM office", Table::Office),
     ("DROP TABLE office", Table::Office),
     ("DROP TABLE standing", Table::Office),
@@ -315,13 +315,20 @@ fn candidates_and_members_have_limits(rt: HostRuntime) -> Result<(), Fail> {
     Ok(())
 }
 
+/// What makes an office one of each older version, whatever else is wrong with it.
+const OLDER: &str = "\
+DROP TABLE standing; UPDATE office SET version = 1
+DROP TABLE standing; UPDATE office SET version = 1; DELETE FROM seat
+DROP TABLE standing; UPDATE office SET version = 1; DROP TABLE seat
+UPDATE office SET version = 2
+UPDATE office SET version = 2; DELETE FROM seat
+UPDATE office SET version = 2; DROP TABLE standing
+";
+
 #[test]
 fn an_older_office_is_refused(rt: HostRuntime) -> Result<(), Fail> {
-    for sql in ["", "; DELETE FROM seat", "; DROP TABLE seat"] {
-        let old = format!(in rt.alloc();
-            "DROP TABLE standing; UPDATE office SET version = 1{sql}"
-        )?;
-        let mut conn = office_after(rt.alloc(), old.as_str())?;
+    for sql in OLDER.lines() {
+        let mut conn = office_after(rt.alloc(), sql)?;
         assert_eq!(rt;
             check(rt.alloc(), &mut conn),
             Err(Refusal::OldSchema),

@@ -35,7 +35,7 @@ door_line desk seat =
 abbrev pub line_at : List ℕ → ℕ → Seat → List ℕ
 line_at hall desk seat = if sits_in hall seat && is_desk desk seat.desk then door_line desk seat else []
 
--- of a hall as it is opened for a session, with the seats of its members
+-- the heading of a hall as it is opened for a session, with the seats of the session's members
 abbrev pub door_heading : List ℕ → Session → List ℕ → Opening → List Seat → List ℕ
 door_heading code session hall opening seats =
     codes "DOOR LIST session " ++ code ++ codes " hall " ++ hall
@@ -43,13 +43,13 @@ door_heading code session hall opening seats =
     ++ codes " desks " ++ decimal opening.desks
     ++ codes " seated " ++ decimal (count_by (sits_in hall) seats) ++ codes "\n"
 
--- the heading, and desk by desk who sits there
+-- the heading, and for each desk the line of the member who sits there
 abbrev pub door_text : List ℕ → Session → List ℕ → Opening → List Seat → List ℕ
 door_text code session hall opening seats =
     door_heading code session hall opening seats
     ++ flat_map (λ desk. flat_map (line_at hall desk) seats) (range_with_len 1 opening.desks)
 
--- the opening of a hall in the session, and its refusals: no such hall in the office, and not opened
+-- the opening of a hall in the session, or its refusal: the office has no such hall, or it is not opened
 abbrev pub opening_in : View → List ℕ → Result Opening Refusal
 opening_in view hall =
     if has_hall view hall then ok_or (opening_of view hall) HallNotOpened else Err UnknownHall

@@ -4,7 +4,7 @@ use Rattle.std.specs.Global.{Global}
 use Rattle.csv.specs.Writing.{default_writer, fields_written, has_written, text_written, writer_setup}
 use Rattle.csv.specs.declared.writer.Writer.{Writer}
 
--- these bytes, all of whole records
+-- these bytes, which are whole records
 pub record Holds (writer : Writer (Vec ℕ Global)) (bytes : List ℕ) : Type 0 where
   pub setup : writer_setup writer ≡ default_writer
   pub text : text_written (λ v. Some v.items) writer ≡ Some bytes

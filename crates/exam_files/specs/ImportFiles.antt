@@ -21,7 +21,7 @@ use Rattle.exam_types.specs.declared.refusal.Refusal.{Refusal}
 use Rattle.exam_types.specs.declared.refusal.Refusal.TheVariants.{BadHeader, BadRow, NoMemory, RowConflict}
 use Rattle.exam_types.specs.declared.refusal.Refusal.TheVariants.{TooMany}
 
--- what a call answers is the value or the refusal, unless memory ran out
+-- the call answers the value or the refusal, unless memory ran out
 abbrev pub GivesUnlessMemory : {X : Type 0} → Result X Refusal → Result X Refusal → Type 0
 GivesUnlessMemory (Ok x) answer = answer ≡ Ok x
 GivesUnlessMemory (Err e) answer = (e ≡ NoMemory) ⊎ (answer ≡ Err e)
@@ -30,12 +30,12 @@ abbrev pub and_then : {X Y : Type 0} → Result X Refusal → (X → Result Y Re
 and_then (Ok x) f = f x
 and_then (Err e) f = Err e
 
--- the value of a column, where its text is one
+-- the value of a column, if its text is one
 abbrev pub value_at : {X : Type 0} → ℕ → ℕ → Option X → Result X Refusal
 value_at place column None = Err (BadRow place column)
 value_at place column (Some x) = Ok x
 
--- a code or a name is the text itself, where it is one
+-- a code or a name is the text itself, if the text is one
 abbrev pub text_in : (List ℕ → Bool) → List ℕ → Option (List ℕ)
 text_in test bytes = if test bytes then Some bytes else None
 
@@ -44,7 +44,7 @@ flag_in bytes =
     if bytes_eq bytes (codes "yes") then Some true
     else (if bytes_eq bytes (codes "no") then Some false else None)
 
--- the field in a column, empty where there is none
+-- the field in a column; empty if there is none
 abbrev pub field : ℕ → List (List ℕ) → List ℕ
 field i fields = unwrap_or (field_at fields i) []
 
@@ -57,7 +57,7 @@ header_of Candidates = codes "number" ∷ codes "name" ∷ codes "code" ∷ []
 header_of Entries = codes "number" ∷ codes "paper" ∷ []
 header_of Arrangements = codes "number" ∷ codes "needs" ∷ codes "extra" ∷ []
 
--- from a column on, the fields are these
+-- from a column on, the record has these fields
 abbrev pub has_fields : ℕ → List (List ℕ) → List (List ℕ) → Bool
 has_fields i [] fields = true
 has_fields i (text ∷ texts) fields = bytes_eq (field i fields) text && has_fields (i + 1) texts fields
@@ -127,12 +127,12 @@ row_of_kind Candidates = candidate_row
 row_of_kind Entries = entry_row
 row_of_kind Arrangements = arrangement_row
 
--- the row that a record denotes: first the count of its fields, then its columns from the left
+-- the row that a record denotes; the count of its fields is checked first, then its columns from the left
 unfoldable pub row_of : Kind → ℕ → List (List ℕ) → Result Row Refusal
 row_of kind place fields =
     if length fields == length (header_of kind) then row_of_kind kind place fields else Err (BadRow place 0)
 
--- the rows so far, and those of the records that are left, which count on from a place
+-- the rows so far, and those of the records that are left, which are counted on from a place
 unfoldable pub rows_from : Kind → ℕ → List Row → List (List (List ℕ)) → Result ImportRows Refusal
 rows_from kind place rows [] = Ok (record { kind = kind; rows = rows })
 rows_from kind place rows (fields ∷ rest) = and_then (row_of kind place fields) (λ row.

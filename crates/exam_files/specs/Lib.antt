@@ -1,7 +1,7 @@
 -- The definitions that contracts of this crate cite. Each file says:
 --
--- - ImportFiles: the rows that a file of a kind denotes, or its refusal, over the records that csv
---   gives; each column by what exam_types says of its value
+-- - ImportFiles: the rows that a file of a kind denotes, or its refusal, from the records that csv finds in it; each
+--   column by what exam_types says of its value
 -- - Accepted: which files are accepted, and with which rows
 -- - Doors, Attendances, Clashes, Exports, Registers, Shortages, Places, Padding: the texts of the
 --   sheets

@@ -19,7 +19,7 @@ use Rattle.exam_files.specs.Exports.{export_text}
 use Rattle.exam_files.specs.Registers.{register_text}
 use Rattle.exam_files.specs.Writing.{sheet_if}
 
--- of a session that there is; refused otherwise
+-- the sheet of a session that exists; otherwise refused
 abbrev pub of_known : (Session → Result (List ℕ) Refusal) → Option Session → Result (List ℕ) Refusal
 of_known sheet None = Err UnknownSession
 of_known sheet (Some session) = sheet session
@@ -35,7 +35,7 @@ seats_in office s = filter_map (seat_of office s) (members office.relations s)
 abbrev pub clashes_in : State → Code → List Clash
 clashes_in office s = filter_map (clash_of office.relations s) (clashes office.relations s)
 
--- as the hall is opened for the session, or why it is not
+-- how the hall is opened for the session, or why it is not
 abbrev pub opening_for : Relations → Code → Code → Result Opening Refusal
 opening_for r s h =
     if has_row code_cmp r.halls h then ok_or (row_at opening_cmp r.openings (s, h)) HallNotOpened

@@ -1,4 +1,4 @@
--- How a seat is told in words: a dash stands for no hall and for no desk.
+-- How a seat is written: a dash is written for no hall and for no desk.
 use Rattle.std.specs.Prelude.{ℕ, List, Option, None, Some, codes}
 use Rattle.std.specs.Fmt.{decimal}
 

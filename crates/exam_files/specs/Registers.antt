@@ -33,12 +33,12 @@ appeal_register view = register_text view.code view.appeals
 
 -- ---- streamed
 
--- it went out whole, or after a fault a beginning of it
+-- all of it was written, or after a fault a beginning of it
 abbrev pub Streams : {W : Type 0} → (W → Option (List ℕ)) → Result (Unit {0}) SheetFault → W → W → List ℕ → Type 0
 Streams contents (Ok done) old new text = Appends (contents old) (contents new) text
 Streams contents (Err fault) old new text = AppendsBeginning (contents old) (contents new) text
 
--- the write failed, or the source or the memory did
+-- writing failed, the source failed, or memory ran out
 abbrev pub is_stream_fault : SheetFault → Bool
 is_stream_fault (faults.Refused e) = is_source_refusal e
 is_stream_fault faults.Write = true

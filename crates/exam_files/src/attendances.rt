@@ -14,8 +14,8 @@ use exam_types::{PaperCode, Refusal, SessionCode};
 use std::alloc::Global;
 use std::io::Write;
 
-/// Writes the attendance sheet of a paper: the members who sit it, by number, the unseated with `-` as hall
-/// and as desk. Refused as an unknown paper where it is none of the session's.
+/// Writes the attendance sheet of a paper: the members who sit it, by number; those without a seat have `-` as hall and
+/// as desk. Refused with `UnknownPaper` if the paper is not of the session.
 pub fn attendance<W: Write>(
     alloc: Global,
     view: &SessionView,
@@ -30,7 +30,7 @@ pub fn attendance<W: Write>(
     send(writer, text.as_slice())
 }
 
-/// Refused where the paper is none of the session's.
+/// Refused with `UnknownPaper` if the paper is not of the session.
 fn check_paper(view: &SessionView, paper: &PaperCode) -> Result<(), Refusal>
     ensures { result ≡ spec.paper_in view.now paper.now }
 {
@@ -58,7 +58,7 @@ fn attendance_text(
     Ok(text)
 }
 
-/// How many sit the paper.
+/// How many members sit the paper.
 fn sitters(seats: &[Seat], paper: &PaperCode) -> usize
     ensures { result ≡ count_by (spec.sits paper.now) seats.now }
 {

@@ -14,8 +14,8 @@ use exam_types::{HallCode, Refusal, SessionCode};
 use std::alloc::Global;
 use std::io::Write;
 
-/// Writes the door list of a hall: its occupants by desk. Refused as an unknown hall where the office has no
-/// such hall, and as not opened where the session has no such opening.
+/// Writes the door list of a hall: its occupants by desk. Refused with `UnknownHall` if the office has no such hall,
+/// and with `HallNotOpened` if it is not opened for the session.
 pub fn door_list<W: Write>(
     alloc: Global,
     view: &SessionView,
@@ -30,7 +30,7 @@ pub fn door_list<W: Write>(
     send(writer, text.as_slice())
 }
 
-/// The opening of a hall in the session.
+/// The opening of a hall in the session, or its refusal.
 fn opening_of(view: &SessionView, hall: &HallCode) -> Result<Opening, Refusal>
     ensures { result ≡ spec.opening_in view.now hall.now }
 {
@@ -88,7 +88,7 @@ fn push_heading(
     Ok(())
 }
 
-/// How many sit in the hall.
+/// How many members sit in the hall.
 fn seated(seats: &[Seat], hall: &HallCode) -> usize
     ensures { result ≡ count_by (spec.sits_in hall.now) seats.now }
 {

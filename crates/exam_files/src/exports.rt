@@ -16,9 +16,9 @@ use itoa::Buffer;
 use std::alloc::Global;
 use std::io::Write;
 
-/// Writes the seats of a session as a CSV file: a header and a record for each member, by number. Lines end with
-/// LF, where RFC 4180, section 2, has CR LF. No field needs quotes, since codes have neither commas nor quotes.
-/// The unseated have `-` as hall and as desk.
+/// Writes the seats of a session as a CSV file: a header and a record for each member, by number. Lines end with LF,
+/// although RFC 4180, section 2, has CR LF. No field needs quotes, since codes have neither commas nor quotes. Members
+/// without a seat have `-` as hall and as desk.
 pub fn export_seats<W: Write>(
     alloc: Global,
     view: &SessionView,
@@ -31,7 +31,7 @@ pub fn export_seats<W: Write>(
     send(writer, text.as_slice())
 }
 
-/// The whole text, in memory, so that nothing goes out where memory runs out.
+/// Makes the whole text in memory, so that nothing is written if memory runs out.
 fn export_text(alloc: Global, code: SessionCode, seats: &[Seat]) -> Result<Vec<u8>, Refusal>
     ensures ok { IfOk result (λ text. text.items ≡ spec.export_text code seats.now) }
     ensures memory { IfErr result (λ e. e ≡ NoMemory) }
@@ -44,7 +44,7 @@ fn export_text(alloc: Global, code: SessionCode, seats: &[Seat]) -> Result<Vec<u
     for seat in seats {
         write_seat(alloc, &mut records, &code, seat)?;
     }
-    // Over memory only memory can be wanting.
+    // A writer over memory fails only if memory runs out.
     records.into_inner().map_err(|_| Refusal::NoMemory)
 }
 
@@ -73,7 +73,7 @@ fn write_seat(
     )
 }
 
-/// Writes a record. Over memory only memory can be wanting.
+/// Writes a record. A writer over memory fails only if memory runs out.
 fn write_record(records: &mut Writer<Vec<u8>>, fields: &[&[u8]]) -> Result<(), Refusal>
     ensures ok { (bytes : List ℕ) → Holds records.old bytes → OnOk result (Holds records.new
         (bytes ++ row_text default_writer (map (λ field. field.now) fields.now))) }

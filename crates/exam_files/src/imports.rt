@@ -12,12 +12,11 @@ use exam_types::Refusal;
 use std::alloc::Global;
 
 /// The longest import file, in bytes.
-const MOST_BYTES: usize = 4_194_304;
+pub const MOST_BYTES: usize = 4_194_304;
 
-/// The rows that an import file of the kind denotes, which is CSV (RFC 4180). Refused as too many for a file
-/// above 4,194,304 bytes, as a bad header, and then for the first record that is bad or contradicts an earlier
-/// one; records count from 1 after the header. Want of memory is the only other refusal, and never that of a
-/// file which is too long.
+/// The rows that an import file of the kind denotes; the file is CSV (RFC 4180). Refused with `TooMany` for a file
+/// above `MOST_BYTES`, then with `BadHeader`, and then for the first record that is bad or contradicts an earlier one;
+/// records count from 1 after the header. The only other refusal is `NoMemory`; a file that is too long never gets it.
 pub fn read_import(alloc: Global, kind: Kind, bytes: &[u8]) -> Result<Import, Refusal>
     ensures denoted { spec.GivesUnlessMemory result (spec.import_of kind bytes.now) }
     ensures too_long { IsTrue (spec.is_too_long bytes.now) → result ≡ Err TooMany }

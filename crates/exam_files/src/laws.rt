@@ -19,14 +19,14 @@ ghost use Rattle.exam_files.specs.OfficeSheets.{register_of};
 ghost use Rattle.exam_files.specs.Registers.{appeal_register};
 ghost use Rattle.exam_files.specs.Shortages.{shortage_text};
 
-/// A file is accepted exactly if it is not too long, it begins with the header, each record after it is a row,
-/// and rows with one key are equal; and then its rows are those of the records, in their order.
+/// A file is accepted exactly if it is not too long, it begins with the header, each record after it is a row, and rows
+/// with the same key are equal. Its rows are then those of the records, in their order.
 pub fn accepted_files_are_their_rows()
     ensures { (kind : Kind) (bytes : List ℕ) (rows : List Row)
         → (import_of kind bytes ≡ Ok (record { kind = kind; rows = rows })) ↔ Accepts kind bytes rows }
 {}
 
-/// A door list has a line for each occupant of the hall, as many as its heading says, by desk from 1. Every
+/// A door list has one line for each occupant of the hall, by desk from 1, and as many as its heading says. Every
 /// `Office` is good (`Office::show_good`) and in order (`Office::show_order`).
 pub fn door_lists_have_a_line_for_each_occupant()
     ensures { (office : State) (s hall : Code) (view : View) (text : List ℕ) → IsGood office
@@ -34,13 +34,13 @@ pub fn door_lists_have_a_line_for_each_occupant()
         → HasLines view hall text }
 {}
 
-/// A door list is that of the office, its refusals too.
+/// A door list is that of the office, and so are its refusals.
 pub fn door_lists_are_of_the_office()
     ensures { (office : State) (s hall : Code) (view : View) → IsViewOf office s view
         → door_list view hall ≡ door_list_of office s hall }
 {}
 
-/// An attendance sheet is that of the office, its refusals too.
+/// An attendance sheet is that of the office, and so are its refusals.
 pub fn attendances_are_of_the_office()
     ensures { (office : State) (s paper : Code) (view : View) → IsViewOf office s view
         → attendance view paper ≡ attendance_of office s paper }
@@ -64,7 +64,7 @@ pub fn appeal_registers_are_of_the_office()
         → Ok (appeal_register view) ≡ register_of office s }
 {}
 
-/// A shortage sheet hangs on the facts alone, whichever best plan is stored.
+/// A shortage sheet depends only on the facts, not on which best plan is stored.
 pub fn shortage_sheets_are_of_the_facts()
     ensures { (facts : Relations) (seats others : Seats) (s : Code) (view other : View) (one two : Report)
         → IsViewOf (record { relations = facts; seats = seats }) s view → ShowsShortage view one

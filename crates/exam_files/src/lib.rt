@@ -22,7 +22,7 @@ pub use attendances::attendance;
 pub use clashes::clash_list;
 pub use doors::door_list;
 pub use exports::export_seats;
-pub use imports::read_import;
+pub use imports::{MOST_BYTES, read_import};
 pub use laws::{
     accepted_files_are_their_rows, appeal_registers_are_of_the_office,
     attendances_are_of_the_office, clash_lists_are_of_the_office, door_lists_are_of_the_office,

@@ -1,4 +1,4 @@
-//! The records of a file (RFC 4180, section 2), as the reader of CSV gives them.
+//! The records of a file (RFC 4180, section 2), as the CSV reader finds them.
 ghost use Rattle.std.specs.Prelude.{◌≡◌, ℕ, List, Some, IsTrue, IfOk, IfErr};
 ghost use Rattle.csv.specs.Reading.{default_config, is_flexible, records, strip_bom};
 ghost use Rattle.csv.specs.Records.{fields_of};
@@ -11,10 +11,10 @@ use exam_types::Refusal;
 use std::alloc::Global;
 use std::io::Read;
 
-/// A reader at the start of a text. The first record is one like the others, and lengths may differ.
+/// A reader at the start of a text. The header is a record like the others, and records may have different lengths.
 pub fn reader_of(alloc: Global, bytes: &[u8]) -> Reader<&[u8]>
     ensures records { Leaves (λ s. Some s.now) result (records default_config (strip_bom bytes.now)) }
-    // So a record of another length is no error of the reader, which would be told as want of memory.
+    // So a record of another length is no error of the reader, which would be reported as `NoMemory`.
     ensures lengths { IsTrue (is_flexible result) }
 {
     ReaderBuilder::new()
@@ -23,7 +23,7 @@ pub fn reader_of(alloc: Global, bytes: &[u8]) -> Reader<&[u8]>
         .from_reader(alloc, bytes)
 }
 
-/// Takes the next record, where there is one. Over a text in memory only memory can be wanting.
+/// Takes the next record, if there is one. Over a text in memory the reader fails only if memory runs out.
 pub fn take_record<R: Read>(reader: &mut Reader<R>, row: &mut ByteRecord) -> Result<bool, Refusal>
     ensures steps { IfOk result (λ found. (rs : List (List (List ℕ))) → Leaves R.remaining reader.old rs
         → StepsBy R.remaining found row.new reader.new rs) }
@@ -32,7 +32,7 @@ pub fn take_record<R: Read>(reader: &mut Reader<R>, row: &mut ByteRecord) -> Res
     reader.read_byte_record(row).map_err(|_| Refusal::NoMemory)
 }
 
-/// The field in a column, empty where there is none.
+/// The field in a column; empty if there is none.
 pub fn field(fields: &ByteRecord, column: usize) -> &[u8]
     ensures { result.now ≡ spec.field column (fields_of fields.now) }
 {

@@ -1,4 +1,4 @@
-//! The parts of an appeal register, for one that goes out line by line.
+//! The parts of an appeal register that is written line by line.
 ghost use Rattle.std.specs.Prelude.{◌≡◌, IfOk, IfErr};
 ghost use Rattle.exam_files.specs.Registers as spec;
 ghost use Rattle.exam_types.specs.declared.refusal.Refusal.TheVariants.{NoMemory};

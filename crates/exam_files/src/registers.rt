@@ -13,8 +13,8 @@ use exam_types::{Refusal, SessionCode};
 use std::alloc::Global;
 use std::io::Write;
 
-/// Writes the appeal register of a session: its appeals by number and reference, also of candidates who have
-/// left it.
+/// Writes the appeal register of a session: its appeals by number and reference, including those of candidates who are
+/// no longer members of it.
 pub fn appeal_register<W: Write>(
     alloc: Global,
     view: &SessionView,

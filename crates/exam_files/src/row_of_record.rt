@@ -17,8 +17,8 @@ use exam_types::{
 };
 use std::alloc::Global;
 
-/// The row that a record denotes. Refused as a bad row where the count of fields is wrong, with column 0, or
-/// with the first column from the left that is no text of its value.
+/// The row that a record denotes. Refused with `BadRow`: with column 0 if the count of fields is wrong, and otherwise
+/// with the first column from the left whose text is no value.
 #[tactic(auto, unfolding(crate::specs::ImportFiles::row_of))]
 pub fn row_of_record(
     alloc: Global,
@@ -135,7 +135,7 @@ fn arrangement_row(place: u32, fields: &ByteRecord) -> Result<Row, Refusal>
     Ok(Row::OfArrangement(number, Arrangement { needs, extra }))
 }
 
-/// The value of a column, where its text is one.
+/// The value of a column, or `BadRow` if its text is none.
 fn value_at<T>(place: u32, column: u32, value: Option<T>) -> Result<T, Refusal>
     ensures { result ≡ spec.value_at place column value }
 {
@@ -148,7 +148,7 @@ fn value_at<T>(place: u32, column: u32, value: Option<T>) -> Result<T, Refusal>
     }
 }
 
-/// `yes` or `no`.
+/// Reads `yes` or `no`.
 fn flag_in(bytes: &[u8]) -> Option<bool>
     ensures { result ≡ spec.flag_in bytes.now }
 {

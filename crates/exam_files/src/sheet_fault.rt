@@ -9,7 +9,7 @@ use exam_types::Refusal;
 pub enum SheetFault {
     /// The sheet is refused, and nothing was written.
     Refused(Refusal),
-    /// The writer failed or took no byte. A beginning of the sheet went out.
+    /// The writer failed or took no byte. A beginning of the sheet was written.
     Write,
 }
 

@@ -46,7 +46,7 @@ fn push_word_right(text: &mut Vec<u8>, width: usize, word: &[u8]) -> Result<(), 
     Ok(())
 }
 
-/// Appends the desk number, or a dash where there is none, with spaces on the left up to the width.
+/// Appends the desk number, or a dash if there is none, with spaces on the left up to the width.
 pub fn push_desk(text: &mut Vec<u8>, width: usize, desk: Option<u32>) -> Result<(), Refusal>
     ensures ok { OnOk result (text.new.items ≡ text.old.items ++ right_in width (desk_word desk)) }
     ensures memory { IfErr result (λ e. e ≡ NoMemory) }
@@ -55,7 +55,7 @@ pub fn push_desk(text: &mut Vec<u8>, width: usize, desk: Option<u32>) -> Result<
     push_word_right(text, width, desk_bytes(&mut buffer, desk))
 }
 
-/// The desk number in decimal, or a dash where there is none.
+/// The desk number in decimal, or a dash if there is none.
 pub fn desk_bytes(buffer: &mut Buffer, desk: Option<u32>) -> &[u8]
     ensures value { result.now ≡ desk_word desk }
     ensures form { IsTrue (list_all is_dashed result.now) }
@@ -66,7 +66,7 @@ pub fn desk_bytes(buffer: &mut Buffer, desk: Option<u32>) -> &[u8]
     }
 }
 
-/// The bytes of the hall's code, or a dash where there is none.
+/// The bytes of the hall's code, or a dash if there is none.
 pub fn hall_bytes(hall: &Option<HallCode>) -> &[u8]
     ensures value { result.now ≡ hall_word hall.now }
     ensures form { IsTrue (list_all is_dashed result.now) }

@@ -24,7 +24,7 @@ pub fn shortage_sheet<W: Write>(
     ensures { (report : Report) × ShowsShortage view.now report
         × Writes W.contents result writer.old writer.new (Ok (spec.shortage_text view.now.code report)) }
 {
-    // There is a sheet also where memory does not last for it.
+    // This shows that there is a sheet, even if there is not enough memory to write it.
     view.show_shortage();
     let shortage = view.shortage(alloc)?;
     let text = shortage_text(alloc, view.code(), &shortage)?;
@@ -70,7 +70,7 @@ fn push_heading(
     Ok(())
 }
 
-/// All desks of the halls.
+/// The number of desks of all these halls.
 fn desk_count(halls: &[(HallCode, u32)]) -> u128
     ensures { result ≡ sum_by (λ hall. hall.1) halls.now }
 {

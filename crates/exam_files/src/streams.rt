@@ -13,9 +13,9 @@ use exam_types::{Refusal, SessionCode};
 use std::alloc::Global;
 use std::io::Write;
 
-/// Writes the register of a session with this count of appeals, each as the source gives it. It asks for no more
-/// than the count, and refuses as a bad store where the source ends sooner. After a fault a beginning of the
-/// sheet went out.
+/// Writes the register of a session with this count of appeals, each as soon as the source gives it. Asks for no more
+/// than the count, and refuses with `BadStore` if the source ends sooner. After a fault a beginning of the sheet may
+/// have been written.
 pub fn register_stream<A: AppealSource, W: Write>(
     alloc: Global,
     session: &SessionCode,
@@ -53,7 +53,7 @@ fn send_heading<W: Write>(
     send(writer, text.as_slice())
 }
 
-/// Writes the line of the next appeal. Refused as a bad store where none is to come.
+/// Writes the line of the next appeal. Refused with `BadStore` if there is none.
 fn send_next<A: AppealSource, W: Write>(
     alloc: Global,
     source: &mut A,

@@ -11,6 +11,7 @@ use Rattle.exam_request.specs.declared.fault.Fault.{Fault}
 use Rattle.exam_http.specs.Answering.{AnswersAsked}
 use Rattle.exam_http.specs.declared.serving.HttpFault.{HttpFault}
 use Rattle.exam_http.specs.declared.serving.HttpFault.TheVariants.{Read, Write}
+use Rattle.exam_request.specs.Sizes.{most_request}
 
 -- the number that is printed for a fault of a connection
 abbrev pub http_fault_number : HttpFault → ℕ
@@ -21,7 +22,7 @@ http_fault_number Write = 42
 pub record Tells {S : Type 0} (g : Ghosts S) (today : ℕ) (input rest : Option (List ℕ)) (old : OfficeIn S)
     (told : Told) (new : OfficeIn S) : Type 0 where
   pub asked : Result Request Fault
-  pub gave : Gave 12288 input rest (λ bytes. Asks bytes asked)
+  pub gave : Gave most_request input rest (λ bytes. Asks bytes asked)
   pub answers : AnswersAsked g today old asked told new
 
 -- the answer to what was asked, and how much of it was written
@@ -43,7 +44,7 @@ Serves g contents today input rest old before (Ok done) new after =
     (told : Told) × Tells g today input rest old told new
     × Appends (contents before) (contents after) (answer_text told)
 Serves g contents today input rest old before (Err Read) new after =
-    Gave 12288 input rest (λ bytes. ⊤) × (new ≡ old) × (after ≡ before)
+    Gave most_request input rest (λ bytes. ⊤) × (new ≡ old) × (after ≡ before)
 Serves g contents today input rest old before (Err Write) new after =
     (told : Told) × Tells g today input rest old told new
     × AppendsPart (contents before) (contents after) (answer_text told)

@@ -6,7 +6,7 @@ ghost use Rattle.exam_request.specs.Asked.{asked_of};
 ghost use Rattle.exam_http.specs.Serving as spec;
 
 use crate::answering::answer;
-use exam_request::{Asked, read_request, write_answer};
+use exam_request::{Asked, MOST_REQUEST, read_request, write_answer};
 use exam_store::Store;
 use exam_types::Day;
 use sqlite::Alter;
@@ -35,9 +35,6 @@ impl HttpFault {
     }
 }
 
-/// The length of the longest head and the longest body together.
-const LONGEST_REQUEST: usize = 12_288;
-
 /// Reads one request and writes one answer. After `Read` nothing was written and nothing changed. After `Write` a
 /// beginning of the answer was written, but not all, and a command that was carried out is not undone. Whatever was
 /// read and written, every session is seated as promised.
@@ -52,7 +49,7 @@ pub fn serve_one<S: Alter, R: Read, W: Write>(
         store.old writer.old result store.new writer.new }
     ensures headline { (s : Code) → IsSeated store.new.office s }
 {
-    let mut buffer = [0; LONGEST_REQUEST];
+    let mut buffer = [0; MOST_REQUEST];
     match read_request(reader, &mut buffer) {
         Ok(asked) => write_back(alloc, store, today, &asked, writer),
         Err(_) => {

@@ -8,7 +8,7 @@ use Rattle.exam_types.specs.declared.refusal.Refusal.{Refusal}
 use Rattle.exam_types.specs.declared.refusal.Refusal.TheVariants.{NoMemory, TooMany}
 use Rattle.exam_office.specs.declared.import_row.Kind.{Kind}
 use Rattle.exam_office.specs.Imports.{ImportRows}
-use Rattle.exam_files.specs.ImportFiles.{import_of}
+use Rattle.exam_files.specs.ImportFiles.{import_of, most_bytes}
 use Rattle.exam_send.specs.Given.{Gave}
 use Rattle.exam_job.specs.Reading.{Reads, ReadsAll, ReadsImport, most_read}
 use Rattle.exam_job.specs.declared.report.JobFault.{JobFault}
@@ -25,8 +25,8 @@ reads input rest bytes few c = record { given = bytes; few = few; consumed = c; 
 pub reads_all : (input rest : Option (List ℕ)) (bytes : List ℕ) → ReadsAll input rest bytes → Reads input rest
 reads_all input rest bytes all = reads input rest bytes all.few all.consumed
 
-too_many : (kind : Kind) (bytes : List ℕ) → 4194304 < length bytes → import_of kind bytes ≡ Err TooMany
-too_many kind bytes long = rw (lt-ltb 4194304 (length bytes) long) refl
+too_many : (kind : Kind) (bytes : List ℕ) → most_bytes < length bytes → import_of kind bytes ≡ Err TooMany
+too_many kind bytes long = rw (lt-ltb most_bytes (length bytes) long) refl
 
 -- The bytes that were read denote what the whole file does: where they are too many, so is it.
 pub denotes : (kind : Kind) (input rest : Option (List ℕ)) (bytes : List ℕ) (import : Result ImportRows Refusal) → ReadsAll input rest bytes → import_of kind bytes ≡ import
@@ -39,8 +39,8 @@ denotes kind input rest bytes import all is =
         let none : ys ≡ [] = end (ltb-true (length bytes) most_read e) in
         ap (import_of kind) (ap (λ r. bytes ++ r) none ∙ append-nil bytes) ∙ is
     test ys false e end =
-        let long : 4194304 < length bytes = grind (arith, e) in
-        let longer : 4194304 < length (bytes ++ ys) = omega (arith, length-append bytes ys) in
+        let long : most_bytes < length bytes = grind (arith, e) in
+        let longer : most_bytes < length (bytes ++ ys) = omega (arith, length-append bytes ys) in
         too_many kind (bytes ++ ys) longer ∙ sym (too_many kind bytes long) ∙ is
 
     whole : (o n : Option (List ℕ)) → Consumes o n bytes → (length bytes < most_read → IsAtEnd n) → IfSome o (λ xs. import_of kind xs ≡ import)

@@ -24,26 +24,26 @@ use Rattle.exam_job.specs.Sheets.{PrintsAppeals, PrintsSheet}
 use Rattle.exam_job.specs.declared.report.JobFault.{JobFault}
 use Rattle.exam_job.specs.declared.report.JobFault.TheVariants.{File, Refused}
 
--- nothing was done, for this fault
+-- nothing was done, because of this fault
 abbrev pub Stops : {O W : Type 0} → JobFault → O → W → Result (Unit {0}) JobFault → O → W → Type 0
 Stops fault old before result new after = (result ≡ Err fault) × (new ≡ old) × (after ≡ before)
 
 -- ---- commands
 
--- a command that is applied to an office in a database, which keeps the office after it
+-- a command is applied to an office in a database, which keeps the office after it
 pub record IsCarriedOut {S : Type 0} (g : Ghosts S) (done : Command) (today : ℕ) (old : OfficeIn S)
     (answered : Result Reply Refusal) (new : OfficeIn S) : Type 0 where
   pub applied : IsApplied g done today old answered new
   pub kept : IsSound (state g new.database)
       → Rekeeps old.office new.office (state g old.database).now (state g new.database).now
 
--- its reply is printed, and of a refusal nothing on standard output
+-- the reply is printed on standard output; for a refusal nothing is
 abbrev pub TellsReply : {W : Type 0} → (W → Option (List ℕ)) → Result Reply Refusal
     → W → Result (Unit {0}) JobFault → W → Type 0
 TellsReply contents (Ok reply) before result after = Prints contents (reply_text reply) before result after
 TellsReply contents (Err refusal) before result after = (result ≡ Err (Refused refusal)) × (after ≡ before)
 
--- a command, carried out and told; where memory is short before it, nothing is done
+-- a command is carried out and its reply printed; or memory ran out before it, and nothing was done
 abbrev pub Commands : {S W : Type 0} → Ghosts S → (W → Option (List ℕ)) → Command → ℕ
     → OfficeIn S → W → Result (Unit {0}) JobFault → OfficeIn S → W → Type 0
 Commands g contents done today old before result new after =
@@ -51,14 +51,14 @@ Commands g contents done today old before result new after =
     ⊎ ((answered : Result Reply Refusal) × IsCarriedOut g done today old answered new
     × TellsReply contents answered before result after)
 
--- the import that a file denotes, or its refusal
+-- the import that a file denotes is carried out, or its refusal is the answer
 abbrev pub Imports : {S W : Type 0} → Ghosts S → (W → Option (List ℕ)) → Result ImportRows Refusal → ℕ
     → OfficeIn S → W → Result (Unit {0}) JobFault → OfficeIn S → W → Type 0
 Imports g contents (Ok rows) today old before result new after =
     Commands g contents (command.Import rows) today old before result new after
 Imports g contents (Err refusal) today old before result new after = Stops (Refused refusal) old before result new after
 
--- An import file, read and imported. Where a read fails or memory is short before the command, nothing is done.
+-- An import file is read and imported. If a read fails or memory runs out before the command, nothing is done.
 pub data ImportsFile {S W : Type 0} (g : Ghosts S) (contents : W → Option (List ℕ)) (kind : Kind) (today : ℕ)
     (input rest : Option (List ℕ)) (old : OfficeIn S) (before : W) (result : Result (Unit {0}) JobFault)
     (new : OfficeIn S) (after : W) : Type 0 where
@@ -72,8 +72,8 @@ pub data ImportsFile {S W : Type 0} (g : Ghosts S) (contents : W → Option (Lis
 
 -- ---- lines
 
--- What a line's command does; opening the store was all that `init` asks, and the program itself serves, migrates
--- and checks. Nothing is read but for an import.
+-- What a line's command does. `init` has nothing to do after the store was opened. `serve`, `migrate` and `check` do
+-- nothing here: the program itself does them. Only an import reads the reader.
 abbrev pub Does : {S W : Type 0} → Ghosts S → (W → Option (List ℕ)) → Task → ℕ → Option (List ℕ)
     → Option (List ℕ) → OfficeIn S → W → Result (Unit {0}) JobFault → OfficeIn S → W → Type 0
 Does g contents line.init today input rest old before result new after =
@@ -99,7 +99,7 @@ Does g contents (line.print session sheet.Appeals) today input rest old before r
 Does g contents (line.print session which) today input rest old before result new after =
     (rest ≡ input) × (new ≡ old) × PrintsSheet contents old.office session which before result after
 
--- a line, carried out and reported
+-- a line is carried out and reported
 abbrev pub Runs : {S O E : Type 0} → Ghosts S → (O → Option (List ℕ)) → (E → Option (List ℕ)) → Said
     → Option (List ℕ) → Option (List ℕ) → OfficeIn S → O → E → ℕ → OfficeIn S → O → E → Type 0
 Runs g contents errors said input rest old before untold status new after told =

@@ -1,4 +1,4 @@
--- What the command does that brings an office of an earlier version to the newest, and what it prints.
+-- What the command `migrate` does, which brings an office of an earlier version to the newest, and what it prints.
 use Rattle.std.specs.Prelude.{◌≡◌, ℕ, List, Option, Result, Ok, Err, IfErr}
 use Rattle.sqlite_trees.specs.declared.store.Store.{Ghosts}
 use Rattle.sqlite.specs.Held.{Held, state}
@@ -11,20 +11,20 @@ use Rattle.exam_job.specs.Printed.{Prints, migration_text}
 use Rattle.exam_job.specs.declared.report.JobFault.{JobFault}
 use Rattle.exam_job.specs.declared.report.JobFault.TheVariants.{Refused}
 
--- in one transaction or not at all the database keeps the office in the newest version; why it is refused
+-- the database keeps the office in the newest version, in one transaction or not at all; why this is refused
 pub record IsMigrated {S : Type 0} (g : Ghosts S) (old : Held S) (answered : Result (ℕ × ℕ) Refusal) (new : Held S)
     : Type 0 where
   pub made : Commits (state g old) (state g new) answered store.Migrates
   pub refusal : HasCleanDisk (state g new) → IfErr answered (FailsToMigrate g old new)
 
--- the versions before and after are printed, and of a refusal nothing on standard output
+-- the versions before and after are printed on standard output; for a refusal nothing is
 abbrev pub TellsVersions : {W : Type 0} → (W → Option (List ℕ)) → Result (ℕ × ℕ) Refusal
     → W → Result (Unit {0}) JobFault → W → Type 0
 TellsVersions contents (Ok versions) before result after =
     Prints contents (migration_text versions.0 versions.1) before result after
 TellsVersions contents (Err refusal) before result after = (result ≡ Err (Refused refusal)) × (after ≡ before)
 
--- a migration, carried out and told
+-- a migration is carried out and its result printed
 abbrev pub Migrates : {S W : Type 0} → Ghosts S → (W → Option (List ℕ)) → Held S → W
     → Result (Unit {0}) JobFault → Held S → W → Type 0
 Migrates g contents old before result new after =

@@ -40,7 +40,7 @@ decided_text state seat moved =
     codes "decided " ++ state_word state ++ codes " hall " ++ hall_word seat ++ codes " moved " ++ decimal moved
     ++ codes "\n"
 
--- what is printed of an accepted command
+-- the line for an accepted command
 abbrev pub reply_text : Reply → List ℕ
 reply_text (reply.Imported added changed same) = imported_text added changed same
 reply_text reply.Withdrawn = codes "withdrawn\n"
@@ -64,55 +64,55 @@ past_closing_text day = codes "refused 13 last day " ++ day_text day ++ codes "\
 abbrev pub number_text : ℕ → List ℕ
 number_text number = codes "refused " ++ decimal number ++ codes "\n"
 
--- what is printed of a refusal: its number, and what it carries
+-- the line for a refusal: its number, and what it carries
 abbrev pub refusal_text : Refusal → List ℕ
 refusal_text (BadRow place column) = bad_row_text place column
 refusal_text (RowConflict place) = row_conflict_text place
 refusal_text (PastClosing day) = past_closing_text day
 refusal_text other = number_text (refusal_number other)
 
--- what is printed of a fault
+-- the line for a fault
 abbrev pub fault_text : JobFault → List ℕ
 fault_text (fault.Refused refusal) = refusal_text refusal
 fault_text fault.File = codes "file fault\n"
 fault_text fault.Write = codes "write fault\n"
 fault_text fault.Net = codes "net fault\n"
 
--- what is printed of an office that has the version already
+-- the line for an office that has the version already
 abbrev pub already_text : ℕ → List ℕ
 already_text version = codes "already " ++ decimal version ++ codes "\n"
 
--- what is printed of an office that was of one version and now is of another, or of the same one
+-- the line for an office that was of one version and now is of another, or of the same one
 abbrev pub migration_text : ℕ → ℕ → List ℕ
 migration_text before after =
     if before == after then already_text after
     else codes "migrated " ++ decimal before ++ codes " to " ++ decimal after ++ codes "\n"
 
--- what is printed once the port is bound
+-- the line that is printed once the port is bound
 abbrev pub serving_text : ℕ → List ℕ
 serving_text port = codes "serving 127.0.0.1 " ++ decimal port ++ codes "\n"
 
--- what is printed of a connection that ended in the fault with this number
+-- the line for a connection that ended in the fault with this number
 abbrev pub connection_fault_text : ℕ → List ℕ
 connection_fault_text number = codes "fault " ++ decimal number ++ codes "\n"
 
--- what is printed of words that are no line
+-- the line for words that are not understood
 abbrev pub not_understood_text : List ℕ
 not_understood_text = codes "line not understood\n"
 
--- ---- what goes out
+-- ---- what is written
 
 -- the fault of a sheet that was not written
 abbrev pub fault_of : SheetFault → JobFault
 fault_of (sheet.Refused refusal) = fault.Refused refusal
 fault_of sheet.Write = fault.Write
 
--- the fault of a sheet that did not go out whole
+-- the fault of a sheet that was not written whole
 abbrev pub fault_of_send : SendFault → JobFault
 fault_of_send (sent.Refused refusal) = fault.Refused refusal
 fault_of_send sent.Write = fault.Write
 
--- a line on standard output: whole, or a beginning of it where the writer fails
+-- a line on standard output: the whole line, or a beginning of it if the writer fails
 abbrev pub Prints : {W : Type 0} → (W → Option (List ℕ)) → List ℕ → W → Result (Unit {0}) JobFault → W → Type 0
 Prints contents text before (Ok done) after = Appends (contents before) (contents after) text
 Prints contents text before (Err fault.Write) after = AppendsBeginning (contents before) (contents after) text
@@ -126,7 +126,7 @@ Flushes contents before (Ok done) after = Keeps (contents before) (contents afte
 Flushes contents before (Err failed) after =
     (failed ≡ fault.Write) × Keeps (contents before) (contents after)
 
--- a line on standard error: all of it, or not all where that writer fails
+-- a line on standard error: all of it, or not all if that writer fails
 abbrev pub IsTold : {W : Type 0} → (W → Option (List ℕ)) → List ℕ → W → W → Type 0
 IsTold contents line before after =
     Appends (contents before) (contents after) line ⊎ AppendsPart (contents before) (contents after) line
@@ -137,17 +137,17 @@ Reports contents (Ok done) before status after = (status ≡ 0) × (after ≡ be
 Reports contents (Err failed) before status after =
     (status ≡ 1) × IsTold contents (fault_text failed) before after
 
--- what a writer of this type has taken, where that is known
+-- what a writer of this type has taken, if that is known
 abbrev pub Contents : Type 0 → Type 0
 Contents W = W → Option (List ℕ)
 
--- the exit status of a request for help, whose text goes to standard output; a fault is told as any other
+-- the exit status of a request for help, whose text goes to standard output; a fault is reported like any other
 abbrev pub ReportsHelp : {O E : Type 0} → Contents O → Contents E → List ℕ → O → E → ℕ → O → E → Type 0
 ReportsHelp contents errors text before untold status after told =
     (result : Result (Unit {0}) JobFault) × Prints contents text before result after
     × Reports errors result untold status told
 
--- the exit status of words that are no line, and what is told of them
+-- the exit status of words that are not understood, and what is printed for them
 abbrev pub ReportsNoLine : {O E : Type 0} → Contents O → Contents E → LineFault → O → E → ℕ → O → E → Type 0
 ReportsNoLine contents errors (line.Help text) before untold status after told =
     ReportsHelp contents errors (string_bytes text) before untold status after told

@@ -28,7 +28,7 @@ use Rattle.exam_job.specs.declared.report.JobFault.TheVariants.{File, Net, Refus
 
 -- ---- texts
 
--- the shortage sheet of a session that there is: a deficiency certificate of exactly its contested candidates
+-- the shortage sheet of a session that exists: a deficiency certificate of exactly its contested candidates
 abbrev pub IsShortageSheet : State → Code → Option Session → Result (List ℕ) Refusal → Type 0
 IsShortageSheet office s None text = text ≡ Err UnknownSession
 IsShortageSheet office s (Some session) text =
@@ -43,7 +43,7 @@ IsSheetOf office s sheet.Shortage text = IsShortageSheet office s (row_at code_c
 IsSheetOf office s sheet.Appeals text = text ≡ register_of office s
 IsSheetOf office s sheet.Export text = text ≡ export_of office s
 
--- the same of what is shown of a session
+-- the same for what is shown of a session
 abbrev pub IsSheetOfView : View → Sheet → Result (List ℕ) Refusal → Type 0
 IsSheetOfView view (sheet.DoorList hall) text = text ≡ door_list view hall
 IsSheetOfView view (sheet.Attendance paper) text = text ≡ attendance view paper
@@ -53,9 +53,9 @@ IsSheetOfView view sheet.Shortage text =
 IsSheetOfView view sheet.Appeals text = text ≡ Ok (appeal_register view)
 IsSheetOfView view sheet.Export text = text ≡ Ok (seat_export view)
 
--- ---- what goes out
+-- ---- what is written
 
--- a sheet on standard output: whole, or nothing where it is refused, or a beginning where the writer fails
+-- a sheet on standard output: all of it; nothing, if it is refused; or a beginning, if the writer fails
 abbrev pub Sends : {W : Type 0} → (W → Option (List ℕ)) → Result (List ℕ) Refusal
     → W → Result (Unit {0}) JobFault → W → Type 0
 Sends contents text before (Ok done) after =
@@ -66,14 +66,14 @@ Sends contents text before (Err Write) after =
 Sends contents text before (Err File) after = ⊥
 Sends contents text before (Err Net) after = ⊥
 
--- why a sheet that goes out line by line may break off: memory is short, a call of the database failed, or a write
+-- why a sheet that is written line by line may break off: memory runs out, a call of the database fails, or a write
 abbrev pub is_break : JobFault → Bool
 is_break (Refused NoMemory) = true
 is_break (Refused Store) = true
 is_break Write = true
 is_break _ = false
 
--- a sheet that goes out line by line: whole, or nothing where it is refused, or a beginning after a fault
+-- a sheet that is written line by line: all of it; nothing, if it is refused; or a beginning after a fault
 abbrev pub Streams : {W : Type 0} → (W → Option (List ℕ)) → Result (List ℕ) Refusal
     → W → Result (Unit {0}) JobFault → W → Type 0
 Streams contents (Ok text) before (Ok done) after = Appends (contents before) (contents after) text
@@ -81,13 +81,13 @@ Streams contents (Ok text) before (Err fault) after =
     IsTrue (is_break fault) × AppendsBeginning (contents before) (contents after) text
 Streams contents (Err refusal) before result after = (result ≡ Err (Refused refusal)) × (after ≡ before)
 
--- the appeals go out line by line, each other sheet at once
+-- the appeals are written line by line, each other sheet at once
 abbrev pub SendsSheet : {W : Type 0} → (W → Option (List ℕ)) → Sheet → Result (List ℕ) Refusal
     → W → Result (Unit {0}) JobFault → W → Type 0
 SendsSheet contents sheet.Appeals text before result after = Streams contents text before result after
 SendsSheet contents which text before result after = Sends contents text before result after
 
--- memory is short, and nothing goes out
+-- memory ran out, and nothing was written
 abbrev pub IsShort : {W : Type 0} → W → Result (Unit {0}) JobFault → W → Type 0
 IsShort before result after = (result ≡ Err (Refused NoMemory)) × (after ≡ before)
 
@@ -98,7 +98,7 @@ PrintsView contents view which before result after =
     IsShort before result after
     ⊎ ((text : Result (List ℕ) Refusal) × IsSheetOfView view which text × Sends contents text before result after)
 
--- a sheet of the office, or want of memory, which hides no unknown session
+-- a sheet of the office; or memory ran out, but only if the session exists
 abbrev pub PrintsSheet : {W : Type 0} → (W → Option (List ℕ)) → State → Code → Sheet
     → W → Result (Unit {0}) JobFault → W → Type 0
 PrintsSheet contents office s which before result after =
@@ -106,8 +106,8 @@ PrintsSheet contents office s which before result after =
     ⊎ ((text : Result (List ℕ) Refusal) × IsSheetOf office s which text
     × SendsSheet contents which text before result after)
 
--- The appeals of a session, printed as the database shows them. They are the office's where the database keeps
--- it. The office stays, and the database only is read.
+-- The appeals of a session, printed as the database shows them. They are the office's if the database keeps it. The
+-- office stays as it is, and the database is only read.
 pub record PrintsAppeals {S W : Type 0} (g : Ghosts S) (contents : W → Option (List ℕ)) (s : Code)
     (old : OfficeIn S) (before : W) (result : Result (Unit {0}) JobFault) (new : OfficeIn S) (after : W) : Type 0 where
   pub sheet : HasCleanDisk (state g new.database) → Keeps (state g old.database).now old.office

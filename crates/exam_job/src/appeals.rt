@@ -12,7 +12,7 @@ use sqlite::Alter;
 use std::alloc::Global;
 use std::io::Write;
 
-/// The form of a session's appeal register.
+/// How a session's appeal register is written.
 #[derive(Drop)]
 struct Register {
     session: SessionCode,

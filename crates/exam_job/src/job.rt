@@ -20,8 +20,8 @@ use sqlite::Alter;
 use std::alloc::Global;
 use std::io::{Read, Write};
 
-/// Carries out the line's command over the store, and gives the exit status. The reader is the import file; the writers
-/// are standard output and standard error. Whatever became of the line, every session is seated as promised.
+/// Carries out the line's command over the store, and returns the exit status. The reader is the import file; the
+/// writers are standard output and standard error. Whatever becomes of the line, every session is seated as promised.
 pub fn run_job<S: Alter, R: Read, O: Write, E: Write>(
     alloc: Global,
     line: &Line<'_>,
@@ -40,8 +40,8 @@ pub fn run_job<S: Alter, R: Read, O: Write, E: Write>(
     }
 }
 
-/// Carries out the line's command over the store. After `Write` a command stands, though its line went out in part.
-/// Whatever it answers, every session is seated as promised.
+/// Carries out the line's command over the store. After `Write` a command is carried out, although its line was not
+/// written whole. Whatever it answers, every session is seated as promised.
 pub fn carry_out<S: Alter, R: Read, O: Write>(
     alloc: Global,
     line: &Line<'_>,
@@ -70,7 +70,7 @@ fn carry_out_job<S: Alter, R: Read, O: Write>(
         (R.remaining reader.new) store.old out.old result store.new out.new }
 {
     match &line.job {
-        // Opening the store was all that there is to do.
+        // The store is open, so there is nothing left to do.
         Job::Init => print(out, b"ready\n"),
         Job::Import { kind, .. } => import(alloc, store, *kind, line.today, reader, out),
         Job::Withdraw { number, paper } => {
@@ -86,8 +86,8 @@ fn carry_out_job<S: Alter, R: Read, O: Write>(
             carry_out_command(alloc, store, command, line.today, out)
         }
         Job::Decide(decision) => decide(alloc, store, decision, line.today, out),
-        // The program itself serves, over sockets, and migrates and checks, before the office is open: there is
-        // nothing to do over this store.
+        // The program itself does these: it serves over sockets, and it migrates and checks before the office is open.
+        // Over this store there is nothing to do.
         Job::Serve { .. } | Job::Migrate | Job::Check => Ok(()),
         Job::Sheet {
             session,
@@ -113,7 +113,7 @@ fn import<S: Alter, R: Read, O: Write>(
     carry_out_command(alloc, store, Command::Import(import), today, out)
 }
 
-/// Carries out a decision, which the command takes a copy of.
+/// Carries out a copy of the decision.
 fn decide<S: Alter, O: Write>(
     alloc: Global,
     store: &mut Store<S>,
@@ -151,11 +151,11 @@ fn carry_out_command<S: Alter, O: Write>(
 {
     let commands = [(command, today)];
     let mut answers = store.apply_all(alloc, &commands)?;
-    // One command has one answer.
+    // The list has one answer, that of the one command.
     tell(answers.pop().unwrap(), out)
 }
 
-/// Prints what a command answered; a refusal is told elsewhere.
+/// Prints what a command answered. A refusal is printed elsewhere.
 fn tell<O: Write>(answered: Result<Reply, Refusal>, out: &mut O) -> Result<(), JobFault>
     ensures { spec.TellsReply O.contents answered out.old result out.new }
 {

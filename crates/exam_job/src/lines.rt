@@ -1,4 +1,4 @@
-//! The lines that the program prints. They take no memory, so that whatever happened is told.
+//! The lines that the program prints. They take no memory, so they can report anything that happened.
 ghost use Rattle.std.specs.Prelude.{◌≡◌, ◌≤◌, ◌+◌, ◌++◌, length};
 ghost use Rattle.arrayvec.specs.ArrayVec.{array_vec_len};
 ghost use Rattle.exam_job.specs.Printed as spec;
@@ -12,7 +12,7 @@ use itoa::{Buffer, Integer};
 /// Room for the longest line, which has 60 bytes.
 pub type ShortLine = ArrayVec<u8, 64>;
 
-/// What is printed of an accepted command.
+/// The line for an accepted command.
 pub fn reply_line(reply: &Reply) -> ShortLine
     ensures { result.items ≡ spec.reply_text reply.now }
 {
@@ -54,7 +54,7 @@ fn lodged_line(state: AppealState) -> ShortLine
     line
 }
 
-/// What a decision made of the appeal, where the appellant sits then, and how many others sit elsewhere.
+/// What a decision made of the appeal, where the appellant now sits, and how many others sit in another hall.
 fn decided_line(state: AppealState, seat: &Option<HallCode>, moved: usize) -> ShortLine
     ensures { result.items ≡ spec.decided_text state seat.now moved }
 {
@@ -68,7 +68,7 @@ fn decided_line(state: AppealState, seat: &Option<HallCode>, moved: usize) -> Sh
     line
 }
 
-/// What is printed of a fault.
+/// The line for a fault.
 pub fn fault_line(fault: &JobFault) -> ShortLine
     ensures { result.items ≡ spec.fault_text fault.now }
 {
@@ -80,7 +80,7 @@ pub fn fault_line(fault: &JobFault) -> ShortLine
     }
 }
 
-/// What is printed of a refusal: its number, and what it carries.
+/// The line for a refusal: its number, and what it carries.
 fn refusal_line(refusal: &Refusal) -> ShortLine
     ensures { result.items ≡ spec.refusal_text refusal.now }
 {
@@ -131,7 +131,7 @@ fn number_line(number: u16) -> ShortLine
     line
 }
 
-/// What is printed of an office that was of one version and now is of another, or of the same one.
+/// The line for an office that was of one version and now is of another, or of the same one.
 pub fn migration_line(before: u8, after: u8) -> ShortLine
     ensures { result.items ≡ spec.migration_text before after }
 {
@@ -155,7 +155,7 @@ fn already_line(version: u8) -> ShortLine
     line
 }
 
-/// What is printed once the port is bound.
+/// The line that is printed once the port is bound.
 pub fn serving_line(port: u16) -> ShortLine
     ensures { result.items ≡ spec.serving_text port }
 {
@@ -165,7 +165,7 @@ pub fn serving_line(port: u16) -> ShortLine
     line
 }
 
-/// What is printed of a connection that ended in the fault with this number.
+/// The line for a connection that ended in the fault with this number.
 pub fn connection_fault_line(number: u16) -> ShortLine
     ensures { result.items ≡ spec.connection_fault_text number }
 {
@@ -175,7 +175,7 @@ pub fn connection_fault_line(number: u16) -> ShortLine
     line
 }
 
-/// The hall, or a dash for none.
+/// Appends the hall, or a dash for none.
 fn put_hall(line: &mut ShortLine, seat: &Option<HallCode>)
     requires { array_vec_len line.old + 8 ≤ 64 }
     ensures text { line.new.items ≡ line.old.items ++ spec.hall_word seat.now }

@@ -9,8 +9,8 @@ use sqlite::{Alter, Connection};
 use std::alloc::Global;
 use std::io::Write;
 
-/// Brings the office in the database to the newest version, and prints from which version to which. After `Write`
-/// the office has the newest version, though its line went out in part.
+/// Brings the office in the database to the newest version, and prints its version before and after. After `Write` the
+/// office has the newest version, although the line was not written whole.
 pub fn migrate_office<S: Alter, O: Write>(
     alloc: Global,
     conn: &mut Connection<S>,

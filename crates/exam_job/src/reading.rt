@@ -1,4 +1,4 @@
-//! An import file, read and taken apart.
+//! An import file, read and split into its rows.
 ghost use Rattle.std.specs.Prelude.{◌≡◌, ◌<◌, ◌≤◌, ◌++◌, length, take, IfOk, IfErr, OnOk, OnErr};
 ghost use Rattle.std.specs.Io.KnownBytes.{Consumes, IsAtEnd, Keeps};
 ghost use Rattle.exam_job.specs.declared.report.JobFault.TheVariants.{File};
@@ -6,14 +6,14 @@ ghost use Rattle.exam_types.specs.declared.refusal.Refusal.TheVariants.{NoMemory
 ghost use Rattle.exam_job.specs.Reading as spec;
 
 use crate::report::JobFault;
-use exam_files::read_import;
+use exam_files::{MOST_BYTES, read_import};
 use exam_office::{Import, Kind};
 use exam_types::Refusal;
 use std::alloc::Global;
 use std::io::{ErrorKind, Read};
 
-/// One byte more than an import file may have: no more is read of one than shows that it is too long.
-const MOST_READ: usize = 4_194_305;
+/// One byte more than an import file may have. A file that is too long is read only so far as to show this.
+const MOST_READ: usize = MOST_BYTES + 1;
 
 /// The most bytes that one read asks for.
 const PIECE: usize = 65_536;
@@ -30,7 +30,7 @@ pub fn read_import_file<R: Read>(
     Ok(read_import(alloc, kind, bytes.as_slice())?)
 }
 
-/// The bytes of a file, of one that is too long the first of them.
+/// The bytes of a file; if it is too long, only its first bytes.
 fn read_file<R: Read>(alloc: Global, reader: &mut R) -> Result<Vec<u8>, JobFault>
     ensures ok { IfOk result (λ bytes.
         spec.ReadsAll (R.remaining reader.old) (R.remaining reader.new) bytes.items) }
@@ -57,7 +57,7 @@ fn append(bytes: &mut Vec<u8>, piece: &[u8]) -> Result<(), Refusal>
     Ok(bytes.extend_from_slice(piece)?)
 }
 
-/// How many bytes one read gave: none at the end of the file. A read that is interrupted is tried again.
+/// How many bytes one read gave; none at the end of the file. Repeats a read that is interrupted.
 fn read_piece<R: Read>(reader: &mut R, piece: &mut [u8]) -> Result<usize, JobFault>
     requires { 0 < length piece.old }
     ensures bound { IfOk result (λ count. count ≤ length piece.new) }

@@ -1,4 +1,4 @@
-//! What the program tells on its outputs, and its exit statuses.
+//! What the program prints on its outputs, and its exit statuses.
 ghost use Rattle.std.specs.Prelude.{◌≡◌, Err, OnOk, OnErr};
 ghost use Rattle.std.specs.Io.KnownBytes.{Appends};
 ghost use Rattle.exam_files.specs.declared.sheet_fault.SheetFault.{SheetFault};
@@ -16,12 +16,12 @@ use std::io::Write;
 
 /// The command was carried out.
 pub const DONE: u8 = 0;
-/// The command was refused, or a file failed.
+/// The command was refused, a file, an output or the network failed, or `check` found a bad table.
 pub const FAILED: u8 = 1;
 /// The line was not understood.
 pub const NOT_UNDERSTOOD: u8 = 2;
 
-/// Why a command was not carried out, or its line not printed.
+/// Why a command was not carried out, or why its line was not printed.
 #[derive(Clone, Copy, Debug, PartialEq, Eq)]
 pub enum JobFault {
     Refused(Refusal),
@@ -73,23 +73,23 @@ pub fn print<O: Write>(out: &mut O, line: &[u8]) -> Result<(), JobFault>
     flush(out)
 }
 
-/// Hands on what standard output may hold back.
+/// Passes on what standard output may still hold.
 pub fn flush<O: Write>(out: &mut O) -> Result<(), JobFault>
     ensures { spec.Flushes O.contents out.old result out.new }
 {
     out.flush().map_err(|_| JobFault::Write)
 }
 
-/// Prints a fault on standard error, and gives the exit status. If that fails too, the status alone tells it.
+/// Prints a fault on standard error, and returns the exit status. If that fails too, only the status reports the fault.
 pub fn print_fault<E: Write>(fault: &JobFault, err: &mut E) -> u8
     ensures { spec.Reports E.contents (Err fault.now) err.old result err.new }
 {
-    // There is nowhere left to tell that the line did not go out.
+    // There is nowhere left to report that the line was not written.
     let _ = print_error(err, fault_line(fault).as_slice());
     FAILED
 }
 
-/// Tells why words are no line, and gives the exit status. The text of help goes to standard output.
+/// Prints why words are not understood, and returns the exit status. The text of help goes to standard output.
 pub fn print_line_fault<O: Write, E: Write>(fault: &LineFault, out: &mut O, err: &mut E) -> u8
     ensures { spec.ReportsNoLine O.contents E.contents fault.now out.old err.old result out.new err.new }
 {
@@ -103,7 +103,7 @@ pub fn print_line_fault<O: Write, E: Write>(fault: &LineFault, out: &mut O, err:
     }
 }
 
-/// Prints the text of help, and gives the exit status.
+/// Prints the text of help, and returns the exit status.
 fn print_help<O: Write, E: Write>(text: &[u8], out: &mut O, err: &mut E) -> u8
     ensures { spec.ReportsHelp O.contents E.contents text.now out.old err.old result out.new err.new }
 {

@@ -32,7 +32,7 @@ pub fn print_sheet<S: Alter, O: Write>(
     print_view(alloc, &view, sheet, out)
 }
 
-/// Prints a sheet of what is shown of a session.
+/// Prints a sheet from what is shown of a session.
 fn print_view<O: Write>(
     alloc: Global,
     view: &SessionView,
@@ -45,7 +45,7 @@ fn print_view<O: Write>(
     flush(out)
 }
 
-/// Sends a sheet of what is shown of a session.
+/// Writes a sheet from what is shown of a session.
 fn send_view<O: Write>(
     alloc: Global,
     view: &SessionView,

@@ -5,11 +5,11 @@ use Rattle.clap.specs.Simple.{Shape, new_shape, on_top}
 use Rattle.clap.specs.Words.{App, Rule, Text, new_app, new_rule, with_rule, with_subcommand}
 use Rattle.clap.specs.declared.builder.action.ArgAction.TheVariants.{Set}
 
--- a word that has to be given
+-- a word that must be given
 abbrev pub word_rule : Text → Rule
 word_rule name = record (new_rule name) { action = Some Set; required = true }
 
--- an option that has to be given
+-- an option that must be given
 abbrev pub option_rule : Text → Rule
 option_rule name = record (word_rule name) { long = Some name }
 
@@ -23,13 +23,13 @@ job_app name words = record { top = job_shape name words; subs = [] }
 abbrev pub with_job : App → Text × List Text → App
 with_job app job = with_subcommand app (job_shape job.0 job.1)
 
--- a command has to be given, and `help` is none
+-- a command must be given, and `help` is no command
 abbrev pub program_app : App
 program_app =
     on_top (λ shape. record shape { subcommand_required = true; disable_help_subcommand = true })
     (new_app (codes "examoffice"))
 
--- the options, which stand before the command
+-- the options, which come before the command
 abbrev pub options : App
 options = with_rule (with_rule program_app (option_rule (codes "db"))) (option_rule (codes "today"))
 

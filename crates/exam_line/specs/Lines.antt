@@ -71,7 +71,7 @@ rows matches = rows_of (found_of matches)
 abbrev pub value_of : {X : Type 0} → (Text → Option X) → Text → List Row → Option X
 value_of read name words = option_and_then read (first_of name words)
 
--- the word with this name, where it has the form
+-- the word with this name, if it has the form
 abbrev pub text_of : (Text → Bool) → Text → List Row → Option Text
 text_of has_form = value_of (λ text. if has_form text then Some text else None)
 
@@ -194,12 +194,12 @@ said_in words command =
     command)
     (options_of words)
 
--- what the words say, where `clap` takes them
+-- what the words say, if `clap` accepts them
 abbrev pub said : List Text → Option Said
 said words = said_in (matches_of grammar words) (subcommand_of grammar words)
 
--- What a call answers for words: what they say, where `clap` takes them; help, just where it finds a request
--- for help; and not understood, where it finds faults and no such request, or they say nothing.
+-- What a call answers for words. The line that they say, if `clap` accepts them; help, only if `clap` finds a request
+-- for help; not understood, if it finds faults and no such request, or if they say nothing.
 abbrev pub Answers : Result Line LineFault → List Text → Type 0
 Answers (Ok line) words = (fault_of grammar words ≡ []) × (said words ≡ Some (shown line))
 Answers (Err NoMemory) words = ⊤
@@ -209,16 +209,16 @@ Answers (Err NotUnderstood) words =
     ⊎ ((k : ErrorKind) × IsAmong k (fault_of grammar words)
     × (IsAmong kind.DisplayHelp (fault_of grammar words) → ⊥))
 
--- ---- for the parts of the call
+-- ---- for the functions that the call is made of
 
--- the line that is said, or that none is; memory is wanting for a line alone
+-- the line that is said, or that none is; memory can run out only for a line
 abbrev pub GivesLine : Result Line LineFault → Option Said → Type 0
 GivesLine (Ok line) answer = answer ≡ Some (shown line)
 GivesLine (Err NoMemory) answer = IsSome answer
 GivesLine (Err NotUnderstood) answer = answer ≡ None
 GivesLine (Err (Help text)) answer = ⊥
 
--- the fault of an error of `clap`; the text of help may want memory too
+-- the fault of an error of `clap`; the text of help may run out of memory too
 abbrev pub Tells : LineFault → ErrorKind → Type 0
 Tells NoMemory k = (k ≡ kind.OutOfMemory) ⊎ (k ≡ kind.DisplayHelp)
 Tells NotUnderstood k = (k ≢ kind.DisplayHelp) × (k ≢ kind.OutOfMemory)

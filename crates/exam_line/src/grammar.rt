@@ -1,4 +1,4 @@
-//! What the program takes, told to `clap`.
+//! What the program takes, described to `clap`.
 ghost use Rattle.std.specs.Prelude.{◌≡◌, map, IfOk, false};
 ghost use Rattle.std.specs.List.{fold};
 ghost use Rattle.clap.specs.Words.{app_of, rule_of};
@@ -18,7 +18,7 @@ pub fn office_command<'a>(alloc: Global) -> Result<Command<'a>, AllocError>
     with_sheets(alloc, command)
 }
 
-/// The command with those that make the office, change it or serve it.
+/// Adds the commands that make the office, change it or serve it.
 fn with_changes<'a>(alloc: Global, command: Command<'a>) -> Result<Command<'a>, AllocError>
     ensures { IfOk result (λ c. app_of c ≡ fold spec.with_job (app_of command.entry) spec.changes) }
 {
@@ -48,7 +48,7 @@ fn with_changes<'a>(alloc: Global, command: Command<'a>) -> Result<Command<'a>, 
     )
 }
 
-/// The command with those that print a sheet of a session.
+/// Adds the commands that print a sheet of a session.
 fn with_sheets<'a>(alloc: Global, command: Command<'a>) -> Result<Command<'a>, AllocError>
     ensures { IfOk result (λ c. app_of c ≡ fold spec.with_job (app_of command.entry) spec.sheets) }
 {
@@ -63,8 +63,8 @@ fn with_sheets<'a>(alloc: Global, command: Command<'a>) -> Result<Command<'a>, A
     with_job(alloc, command, "export", help::EXPORT, &session)
 }
 
-/// The options, which stand before the command. `help` is no command, so that a request for help is never
-/// another fault too.
+/// The options, which come before the command. `help` is no command, so a request for help is never another fault as
+/// well.
 fn top_command<'a>(alloc: Global) -> Result<Command<'a>, AllocError>
     ensures { IfOk result (λ c. app_of c ≡ spec.options) }
 {
@@ -77,7 +77,7 @@ fn top_command<'a>(alloc: Global) -> Result<Command<'a>, AllocError>
         .arg(option(alloc, "today", help::TODAY))
 }
 
-/// The command with one more job, which takes these words; each has its help beside it.
+/// Adds one more command, which takes these words. Each word comes with its help text.
 fn with_job<'a>(
     alloc: Global,
     command: Command<'a>,
@@ -91,7 +91,7 @@ fn with_job<'a>(
     command.subcommand(job_command(alloc, name, about, words)?)
 }
 
-/// A job by itself.
+/// One command alone.
 fn job_command<'a>(
     alloc: Global,
     name: &'a str,

@@ -1,4 +1,4 @@
-//! What `--help` and `COMMAND --help` say. `{n}` stands for the end of a line.
+//! What `--help` and `COMMAND --help` say. `{n}` is the end of a line.
 
 pub const PROGRAM: &str =
     "Seats candidates for exams: imports CSV files, finds a desk for each, prints door lists, keeps appeals.";
@@ -94,5 +94,5 @@ A refused command changes nothing. It prints `refused` and a number:{n}   \
 27 an earlier version of this program made the office: run `migrate` first{n}{n}\
 Other messages: `file fault`: the import file cannot be read; `write fault`: the output cannot be written, but a \
 command is done; `net fault`: the port is taken.{n}{n}\
-Limits: 20,000 candidates, 400 sessions, 2,000 papers, 500 halls; in a session 4,096 candidates and 128 open halls; \
+Limits: 20,000 candidates, 400 sessions, 2,000 papers, 500 halls; in a session 4,096 candidates and 256 open halls; \
 64 appeals of a candidate; 4,194,304 bytes in an import file.";

@@ -19,7 +19,7 @@ use std::alloc::Global;
 #[derive(Drop)]
 pub enum Job<'a> {
     Init,
-    /// Carries an office of an earlier version over.
+    /// Brings an office of an earlier version to the newest one.
     Migrate,
     /// Looks for the first bad table of the database.
     Check,
@@ -52,7 +52,7 @@ pub enum Job<'a> {
     },
 }
 
-/// What is printed of a session.
+/// The kinds of sheets.
 #[derive(Clone, Copy)]
 pub enum Sheet {
     DoorList(HallCode),
@@ -66,16 +66,16 @@ pub enum Sheet {
 /// A command line that was understood.
 #[derive(Drop)]
 pub struct Line<'a> {
-    /// The path of the database, taken as it is.
+    /// The path of the database, exactly as it was given.
     pub db: &'a str,
     pub today: Day,
     pub job: Job<'a>,
 }
 
-/// Why words are no line.
+/// Why the words of a command line are not accepted.
 #[derive(Drop)]
 pub enum LineFault {
-    /// Other words than the program takes, or a value that is none.
+    /// Words that the program does not take, or a value of the wrong form.
     NotUnderstood,
     /// A request for help, with its text.
     Help(String),
@@ -105,7 +105,7 @@ fn line_of<'a>(alloc: Global, matches: &ArgMatches<'a>) -> Result<Line<'a>, Line
     }
 }
 
-/// The fault of an error, with the text of a request for help.
+/// The fault of an error of `clap`, with the text if it is a request for help.
 fn fault_from(alloc: Global, error: clap::Error) -> LineFault
     ensures { spec.Tells result (kind_of error) }
 {
@@ -119,7 +119,7 @@ fn fault_from(alloc: Global, error: clap::Error) -> LineFault
     }
 }
 
-/// The line that the values of options and words say, if they say one.
+/// The line that the values of the options and words say, or none if they say none.
 fn read_line<'a>(alloc: Global, matches: &ArgMatches<'a>) -> Result<Option<Line<'a>>, Refusal>
     ensures ok { IfOk result (λ line. option_map spec.shown line
         ≡ spec.said_in (spec.rows matches.now) (subcommand_rows_of matches.now)) }
@@ -173,7 +173,7 @@ fn read_job<'a>(
     }
 }
 
-/// A job whose values take no memory.
+/// A command whose values take no memory.
 fn read_plain_job<'a>(name: &str, words: &ArgMatches<'a>) -> Option<Job<'a>>
     ensures { option_map spec.task_shown result ≡ spec.plain_task_of name.now (spec.rows words.now) }
 {

@@ -103,7 +103,7 @@ fn port_in(text: &str) -> Option<u16>
     port_written(text)
 }
 
-/// The number from 1 to 65535 whose decimal this is.
+/// The number from 1 to 65535 whose decimal text this is.
 fn port_written(text: &str) -> Option<u16>
     ensures { (n : ℕ) → (result ≡ Some n) ↔ (((1 ≤ n) × (n ≤ 65535)) × (decimal n ≡ text.now)) }
 {

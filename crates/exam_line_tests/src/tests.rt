@@ -1,9 +1,9 @@
-//! Lines that are understood, words that are none, and the text of a request for help.
+//! Lines that are understood, words that are not, and the text of a request for help.
 use exam_line::{Job, LineFault, Sheet, parse_line};
 use std::alloc::{AllocError, Global};
 use std::test::Fail;
 
-/// The words of a line that are parted by `|`, behind the program's name.
+/// The words of a line, which `|` separates, after the program's name.
 fn words_of(alloc: Global, line: &str) -> Result<Vec<String>, AllocError> {
     let mut words = Vec::new(alloc);
     words.push(String::from_str(alloc, "examoffice")?)?;
@@ -39,7 +39,7 @@ fn job_name(job: &Job<'_>) -> &'static str {
     }
 }
 
-/// What a line is told as, in short.
+/// What a line is read as, in short.
 fn told(alloc: Global, line: &str) -> Result<&'static str, AllocError> {
     let words = words_of(alloc, line)?;
     match parse_line(alloc, words.as_slice()) {
@@ -81,7 +81,7 @@ const UNDERSTOOD: &[(&str, &str)] = &[
     ("--help", "help"),
 ];
 
-/// Words that are no line.
+/// Words that are not understood.
 const NOT_UNDERSTOOD: &[&str] = &[
     "--db|office.db|--today|2027-02-29|init",
     given!("decide|0000001|HA1|GRANTED|ok"),
@@ -140,7 +140,7 @@ fn helps_with(alloc: Global, line: &str, part: &str) -> Result<bool, AllocError>
     }
 }
 
-/// The name of a command where the text of help lists it, at the head of a line.
+/// The name of a command in the list of the help text, at the beginning of a line.
 macro_rules! listed {
     ($name:literal) => {
         concat!("\n  ", $name, " ")

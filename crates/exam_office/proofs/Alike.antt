@@ -26,7 +26,7 @@ use Rattle.exam_office.proofs.Members.{sitting_paper}
 
 -- ---- rows that pass
 
--- one passes where there is a first that does
+-- one passes if there is a first that does
 any_first : {A : Type 0} (p : A → Bool) (xs : List A) → list_any p xs ≡ is_some (head_of (filter p xs))
 any_first p [] = refl
 any_first p (x ∷ xs) = inner (p x) (any_first p xs)

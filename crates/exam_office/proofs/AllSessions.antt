@@ -22,7 +22,7 @@ use Rattle.exam_rules.proofs.Naming.{same_code_exact, same_code_itself}
 use Rattle.exam_office.specs.State.{Seats}
 use Rattle.exam_office.specs.Repairs.{IsRepaired}
 
--- ---- where nothing fits
+-- ---- if nothing fits
 
 module _ {C H : Type 0} (g : Seating C H) (nothing : (c : C) (h : H) → g.fits c h ≡ false) where
   no_fit : (c : C) (h : H) → IsTrue (g.fits c h) → ⊥

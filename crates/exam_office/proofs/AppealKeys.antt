@@ -1,4 +1,4 @@
--- The keys of appeals and of openings are told apart by their order.
+-- The order of the keys of appeals and of openings distinguishes them.
 use Rattle.std.proofs.Common.{ℕ}
 use Rattle.std.specs.Cmp.{IsTotalOrder, nat_cmp_total, then_total, on_total}
 use Rattle.std.specs.Cmp.Lexicographic.{nat_list_cmp_total}

@@ -1,4 +1,4 @@
--- A lodging and a retraction are steps, and seat nobody otherwise.
+-- A lodging and a retraction are steps, and seat nobody elsewhere.
 use Rattle.std.proofs.Common.{◌≡◌, ℕ, ◌==◌, ◌&&◌, not, Bool, true, false, cond, [], ◌∷◌, ◌++◌, length, nat_le, Option, None, Some, Ok, Err, is_some, is_none, IsSome, IfSome, IsTrue, refl, ap, sym, subst, ◌∙◌, ◌⊎◌, inl, inr}
 use Rattle.std.specs.List.{list_all, list_any, filter_map}
 use Rattle.std.specs.Map.{keys_of}
@@ -30,7 +30,7 @@ use Rattle.exam_office.specs.declared.command.Reply.TheVariants as reply
 use Rattle.exam_office.specs.Appeals.{appeal_at, has_open_appeal, is_open, is_retracted, stored_state}
 use Rattle.exam_office.specs.Changes.{first_refusal, unless}
 use Rattle.exam_office.specs.Good.{IsGood, appeal_refers, marks_stand, may_bear, refers, subject_refers}
-use Rattle.exam_office.specs.Limits.{within_limits, sessions_within, papers_within, halls_within, openings_within, candidates_within, members_within}
+use Rattle.exam_office.specs.Limits.{most_appeals, within_limits, sessions_within, papers_within, halls_within, openings_within, candidates_within, members_within}
 use Rattle.exam_office.specs.Lodgings as spec
 use Rattle.exam_office.specs.Orders.{IsInOrder}
 use Rattle.exam_office.specs.Singles.{AreSingle, SingleKey, same_single_key, single_key}
@@ -214,7 +214,7 @@ module _ (before : State) (good : IsGood before) (today : ℕ) (l : Lodging) whe
       let some : spec.lodging_refusal before.relations before.seats today l ≡ Some refusal.TooMany = limit_refusal ok true (within_as false (ap within_limits (sym is) ∙ past)) in
       refused_step (command.Lodge l) today before refusal.TooMany (ap (λ o. unless o new) some)
 
-  -- where it goes no further, that is for want of memory, or a limit is passed
+  -- if it goes no further, memory ran out or a limit was passed
   pub lodging_limited : (t : Relations) → IsChecked → t ≡ spec.with_lodging before.relations today l → (e : Refusal) → IsLimitRefusal t e → (e ≡ refusal.NoMemory) ⊎ Step (command.Lodge l) today before (Err e) before
   lodging_limited t ok is e (inl memory) = inl memory
   lodging_limited t ok is e (inr past) = inr (subst (λ (x : Refusal). Step (command.Lodge l) today before (Err x) before) (sym past.0) (lodging_past t ok past.1 is))
@@ -224,7 +224,7 @@ module _ (before : State) (good : IsGood before) (today : ℕ) (l : Lodging) whe
 count_same : (r : Relations) (k : ℕ × Code) (a b : Appeal) → AreInOrder r → row_at appeal_cmp r.appeals k ≡ Some b → within_limits (with_appeals r (put_row appeal_cmp r.appeals k a)) ≡ within_limits r
 count_same r k a b up at =
     let counts : appeal_count (with_appeals r (put_row appeal_cmp r.appeals k a)) ≡ appeal_count r = fun_ext (λ c. count_replaced appeal_cmp appeals_total (λ (key : ℕ × Code). key.0 == c) r.appeals k a b up.appeals at) in
-    ap (λ (count : ℕ → ℕ). sessions_within r && (papers_within r && (halls_within r && (openings_within r && (candidates_within r && (members_within r && list_all (λ c. nat_le (count c) 64) (keys_of r.candidates))))))) counts
+    ap (λ (count : ℕ → ℕ). sessions_within r && (papers_within r && (halls_within r && (openings_within r && (candidates_within r && (members_within r && list_all (λ c. nat_le (count c) most_appeals) (keys_of r.candidates))))))) counts
 
 closed_granted : (st : Status) → (not (is_open st) && not (is_retracted st)) ≡ false → is_granted st ≡ false
 closed_granted status.Pending ok = refl
@@ -281,7 +281,7 @@ module _ (before : State) (good : IsGood before) (c : ℕ) (reference : Code) wh
   pub retraction_settled : (t : Relations) → AreInOrder before.relations → IsRetractable → IsWithout t → IsSettled before.relations t
   retraction_settled t up ok is = subst (IsSettled before.relations) (sym is) (retraction_within up ok).settled
 
-  -- only for want of memory it goes no further
+  -- it goes no further only if memory runs out
   pub retraction_memory : (t : Relations) → AreInOrder before.relations → IsRetractable → IsWithout t → (e : Refusal) → IsLimitRefusal t e → e ≡ refusal.NoMemory
   retraction_memory t up ok is = within_memory t (ap within_limits is ∙ (retraction_within up ok).within)
 

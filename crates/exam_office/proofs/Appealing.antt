@@ -41,7 +41,7 @@ with_decisions r appeals marks = record r { appeals = appeals; standing = marks 
 
 module _ (r : Relations) (appeals : Appeals) (marks : Marks) (s : Code) where
   module _ (c : ℕ) (same : granted_subjects appeals s c ≡ granted_subjects r.appeals s c) (stand : standing_grants (with_decisions r appeals marks) c ≡ standing_grants r c) where
-    -- the paper that is sat where this is granted
+    -- the paper that is sat if this is granted
     abbrev sitting_by : List Subject → Option Code
     sitting_by asked = option_or (option_filter (is_live_paper r s c) (head_of (filter_map asked_paper asked))) (least_live_paper r s c)
 
@@ -71,7 +71,7 @@ pub never_stands : (mine marked : Bool) → (mine && (false && marked)) ≡ fals
 never_stands true marked = refl
 never_stands false marked = refl
 
--- an appeal that is put leaves the standing grants, where it is not granted and takes no granted one's place
+-- an appeal that is put leaves the standing grants as they are, if it is not granted and replaces no granted one
 pub put_standing_same : (r : Relations) (k : ℕ × Code) (a : Appeal) → is_granted a.status ≡ false → ((b : Appeal) → row_at appeal_cmp r.appeals k ≡ Some b → is_granted b.status ≡ false)
     → (c : ℕ) → standing_grants (with_appeals r (put_row appeal_cmp r.appeals k a)) c ≡ standing_grants r c
 put_standing_same r k a new old c =
@@ -79,7 +79,7 @@ put_standing_same r k a new old c =
     (ap (λ g. nat_eq k.0 c && (g && is_marked r k)) new ∙ never_stands (nat_eq k.0 c) (is_marked r k))
     (λ b at. ap (λ g. nat_eq k.0 c && (g && is_marked r k)) (old b at) ∙ never_stands (nat_eq k.0 c) (is_marked r k)))
 
--- an appeal that is put seats nobody otherwise, where it is not granted and takes no granted one's place
+-- an appeal that is put seats nobody elsewhere, if it is not granted and replaces no granted one
 pub put_seating_same : (r : Relations) (k : ℕ × Code) (a : Appeal) → is_granted a.status ≡ false → ((b : Appeal) → row_at appeal_cmp r.appeals k ≡ Some b → is_granted b.status ≡ false)
     → (s : Code) → SameSeating (seating r s) (seating (with_appeals r (put_row appeal_cmp r.appeals k a)) s)
 put_seating_same r k a new old s = seating_by r (put_row appeal_cmp r.appeals k a) r.standing s (λ c.
@@ -89,7 +89,7 @@ put_seating_same r k a new old s = seating_by r (put_row appeal_cmp r.appeals k 
     (λ b at. ap (λ g. nat_eq k.0 c && (same_code b.session s && g)) (old b at) ∙ not_granted (nat_eq k.0 c) (same_code b.session s))))
     (put_standing_same r k a new old c))
 
--- ---- an appeal's own key among those that stand alone
+-- ---- an appeal's own key among those that a candidate may have only once
 
 abbrev pub open_as : Subject → Single
 open_as (subject.Hall h) = single.OpenHall
@@ -111,7 +111,7 @@ no_more : (b : Bool) → false ≡ (b && false)
 no_more true = refl
 no_more false = refl
 
--- as an open appeal of its kind stands alone
+-- the key of an open appeal of its kind
 same_open : (asked : Subject) (st : Status) (other : Subject) → option_map_or (same_single (open_as asked)) (single_as st other) false ≡ (same_kind other asked && is_open st)
 same_open (subject.Hall h) status.Pending (subject.Hall k) = refl
 same_open (subject.Hall h) status.Pending (subject.Clash q) = refl
@@ -181,7 +181,7 @@ module _ (s : Code) (c : ℕ) (asked : Subject) where
       at None = none (same_code s a.1.session) (nat_eq c a.0.0)
       at (Some kind) = refl
 
-  -- where none is open, the key of one is apart from all
+  -- if none is open, the key of one differs from all
   pub apart_from_all : (rows : Appeals) → list_any (is_open_appeal c s asked) rows ≡ false → AllByRecursion (λ z. same_single_key (s, c, open_as asked) z ≡ false) (filter_map single_key rows)
   apart_from_all [] none = tt
   apart_from_all (a ∷ rows) none =

@@ -33,7 +33,7 @@ Borne = List ((ℕ × Code) × Unit {0})
 abbrev pub borne_in : Rows → (ℕ × Code) × Unit {0} → Bool
 borne_in appeals m = option_map_or good.may_bear (row_at appeal_cmp appeals m.0) false
 
--- a key that is another stays where one is put
+-- a different key stays when one is put
 pub key_elsewhere : (k q : ℕ × Code) → (q ≡ k → ⊥) → is_at (appeal_cmp q) k ≡ false
 key_elsewhere k q apart = inner (is_at (appeal_cmp q) k) refl
   where
@@ -72,7 +72,7 @@ closed_unborne status.Retracted b ok = never b
     never false = refl
 closed_unborne (status.Superseded answer) b ok = absurd (let differ : true ≡ false = ok in cc)
 
--- no mark stands where its appeal may not bear it
+-- no appeal has a mark that it may not bear
 pub unborne : (appeals : Rows) (marks : Borne) (k : ℕ × Code) → list_all (borne_in appeals) marks ≡ true → option_map_or good.may_bear (row_at appeal_cmp appeals k) false ≡ false
     → has_row appeal_cmp marks k ≡ false
 unborne appeals marks k every not_borne = inner (row_at appeal_cmp marks k) refl
@@ -124,7 +124,7 @@ unmarked_same (m ∷ ms) k none = inner (is_at (appeal_cmp k) m.0) refl none (un
     inner true at off rest = absurd (let differ : true ≡ false = off in cc)
     inner false at off rest = ap (λ t. m ∷ t) (rest off)
 
--- where the keys rise, that is to remove one row
+-- if the keys rise, this removes one row
 pub removed_mark : (marks : Borne) (k : ℕ × Code) → KeysRise appeal_cmp marks → remove_row appeal_cmp marks k ≡ without_mark k marks
 removed_mark [] k up = refl
 removed_mark (m ∷ ms) k up = inner (is_at (appeal_cmp k) m.0) refl (removed_mark ms k (sorted_tail appeal_cmp m.0 (keys_of ms) up))

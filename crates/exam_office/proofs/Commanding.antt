@@ -30,7 +30,7 @@ ArePlansRepaired t before after = (s : Code) → IsRepaired t None before.seats 
 abbrev pub DoListsRise : Relations → Type 0
 DoListsRise t = (s : Code) → ListsRise t s
 
--- refused for want of memory, or where a limit is passed
+-- refused because memory ran out or a limit was passed
 abbrev pub IsLimitRefusal : Relations → Refusal → Type 0
 IsLimitRefusal t e = (e ≡ refusal.NoMemory) ⊎ ((e ≡ refusal.TooMany) × (within_limits t ≡ false))
 
@@ -54,7 +54,7 @@ module _ (before : State) (good : IsGood before) (c : ℕ) (p : Code) where
   pub withdrawal_refers : (t : Relations) → withdrawal_refusal before.relations c p ≡ None → IsMarked before c p false t → refers t ≡ true
   withdrawal_refers t ok is = ap refers is ∙ live_refers before.relations c p false (no_entry before.relations c p ∷ (not (is_live before.relations c p), refusal.AlreadyWithdrawn) ∷ []) good.refer ok
 
-  -- only for want of memory it goes no further
+  -- it goes no further only if memory runs out
   pub withdrawal_memory : (t : Relations) → IsMarked before c p false t → (e : Refusal) → IsLimitRefusal t e → e ≡ refusal.NoMemory
   withdrawal_memory t is = within_memory t (ap within_limits is ∙ withdrawal_within before.relations c p good.limits)
 
@@ -91,7 +91,7 @@ module _ (before : State) (good : IsGood before) (s : Code) (h : Code) where
   pub closing_known : (t : Relations) → IsClosed before s h t → refers t ≡ true
   closing_known t is = ap refers is ∙ closing_refers before.relations s h good.refer
 
-  -- only for want of memory it goes no further
+  -- it goes no further only if memory runs out
   pub closing_memory : (t : Relations) → IsClosed before s h t → (e : Refusal) → IsLimitRefusal t e → e ≡ refusal.NoMemory
   closing_memory t is = within_memory t (ap within_limits is ∙ closing_within before.relations s h good.limits)
 

@@ -80,7 +80,7 @@ module _ (before : List Row) (row : Row) (rest : List Row) where
   pub count_repeated : (p : Row → Bool) (n all : ℕ) → is_fresh before row ≡ false → n + length (filter p (left before (row ∷ rest))) ≡ all → n + length (filter p (left (before ++ row ∷ []) rest)) ≡ all
   count_repeated p n all old so_far = sym (ap (λ rows. n + length (filter p rows)) (left_more ∙ ap (λ b. cond b (row ∷ left (before ++ row ∷ []) rest) (left (before ++ row ∷ []) rest)) old)) ∙ so_far
 
--- the first place with a key is the row's own where no row before has the key
+-- the first place with a key is the row's own if no row before has the key
 at_own_place : (t : Row → Bool) (n : ℕ) (before rest : List Row) (row : Row) → t row ≡ true
     → option_map_or (λ first. nat_eq first (n + length before)) (position_from t n (before ++ row ∷ rest)) false ≡ not (list_any t before)
 at_own_place t n [] rest row own = rw own (nat_eq_is n (n + 0) (omega arith))

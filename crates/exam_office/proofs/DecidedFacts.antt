@@ -1,4 +1,5 @@
--- What a decision leaves: references, limits and appeals that stand alone, and the halls that fit everybody else.
+-- What a decision leaves: references, limits, the appeals that a candidate may have only once, and the halls that fit
+-- everybody else.
 use Rattle.std.proofs.Common.{◌≡◌, ℕ, ◌==◌, ◌&&◌, arith, Bool, true, false, cond, List, [], ◌∷◌, map, filter, length, nat_eq, nat_le, not, is_some, Option, None, Some, refl, ap, sym, subst, ◌∙◌}
 use Rattle.std.proofs.Math.Path.{fun_ext}
 use Rattle.std.specs.List.{IsDistinct, filter_map, list_all}
@@ -28,7 +29,7 @@ use Rattle.exam_office.specs.Appeals.{appeal_at, bears_mark, decided, is_open, s
 use Rattle.exam_office.specs.Changes.{first_refusal}
 use Rattle.exam_office.specs.Decisions.{decision_checks, decision_refusal, gives_way, giving_way, grant_checks, is_made, is_too_late, not_arrangement, open_checks, with_decision, with_decided, with_mark, with_outcome, with_superseded, without_mark}
 use Rattle.exam_office.specs.Good as good
-use Rattle.exam_office.specs.Limits.{within_limits, sessions_within, papers_within, halls_within, openings_within, candidates_within, members_within}
+use Rattle.exam_office.specs.Limits.{most_appeals, within_limits, sessions_within, papers_within, halls_within, openings_within, candidates_within, members_within}
 use Rattle.exam_office.specs.Singles.{AreSingle, SingleKey, same_single_key, single_as, single_key}
 use Rattle.exam_office.proofs.Appealing.{fits_same, single_flips}
 use Rattle.exam_office.proofs.AppealKeys.{appeals_exact, appeals_total}
@@ -111,7 +112,7 @@ module _ (r : Relations) (c : ℕ) (a : Appeal) where
   rows_distinct outcome.Standing distinct = given_distinct c a.session a.subject r.appeals distinct
   rows_distinct outcome.Refuse distinct = distinct
 
-  -- what the decided appeal stands for
+  -- the key of the decided appeal, if it has one
   abbrev stands_as : Outcome → Code → Option SingleKey
   stands_as o answer = option_map {U = SingleKey} (λ kind. (a.session, c, kind)) (single_as (decided o answer) a.subject)
 
@@ -193,7 +194,7 @@ module _ (r : Relations) (d : Decision) where
       inner true = ap is_some (put_elsewhere appeal_cmp appeals_exact r.standing key k tt (key_elsewhere key k apart))
       inner false = ap is_some (other_mark_kept r.standing key k apart)
 
-  -- the decided appeal bears a mark exactly where the outcome gives it one
+  -- the decided appeal bears a mark exactly if the outcome gives it one
   pub marked_as_made : (a : Appeal) → is_marked (with_outcome r d a) key ≡ bears_mark d.outcome
   marked_as_made a = inner (bears_mark d.outcome)
     where
@@ -302,7 +303,7 @@ module _ (r : Relations) (d : Decision) where
 -- ---- a decision
 
 module _ (r : Relations) (d : Decision) where
-  -- what holds before, and of each appeal that is decided anew, holds after
+  -- what holds before, and for each appeal with a new decision, holds after
   either : (P : Relations → Type 0) → P r → ((a : Appeal) → appeal_at r d.number d.reference ≡ Some a → P (with_outcome r d a)) → P (with_decision r d)
   either P before anew = inner (appeal_at r d.number d.reference) refl
     where
@@ -344,7 +345,7 @@ module _ (r : Relations) (d : Decision) where
           put_keys appeal_cmp appeals_total rows (d.number, d.reference) v there.0 (subst (λ ks. IsStrictlySortedBy appeal_cmp ks) (sym keyed) up) there.1 ∙ keyed in
           let counts : (c : ℕ) → appeal_count (with_outcome r d a) c ≡ appeal_count r c =
           λ c. count_keys c (put_row appeal_cmp rows (d.number, d.reference) v) ∙ ap (λ ks. length (filter (λ (k : ℕ × Code). k.0 == c) ks)) keys ∙ sym (count_keys c r.appeals) in
-          ap (λ (n : ℕ → ℕ). sessions_within r && (papers_within r && (halls_within r && (openings_within r && (candidates_within r && (members_within r && list_all (λ c. nat_le (n c) 64) (keys_of r.candidates)))))))
+          ap (λ (n : ℕ → ℕ). sessions_within r && (papers_within r && (halls_within r && (openings_within r && (candidates_within r && (members_within r && list_all (λ c. nat_le (n c) most_appeals) (keys_of r.candidates)))))))
           (fun_ext counts)
 
   pub decision_single : AreSingle r → AreSingle (with_decision r d)

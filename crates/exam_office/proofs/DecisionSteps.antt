@@ -38,7 +38,7 @@ module _ (before : State) (good : IsGood before) (d : Decision) where
   pub decided_alone : (t : Relations) → IsDecided t → AreSingle t
   decided_alone t is = subst AreSingle (sym is) (decision_single before.relations d good.single)
 
-  -- only for want of memory it goes no further
+  -- it goes no further only if memory runs out
   pub decided_memory : KeysRise appeal_cmp before.relations.appeals → (t : Relations) → IsDecided t → (e : Refusal) → IsLimitRefusal t e → e ≡ refusal.NoMemory
   decided_memory up t is = within_memory t (ap within_limits is ∙ decision_within before.relations d up ∙ good.limits)
 

@@ -30,7 +30,7 @@ use Rattle.exam_office.proofs.Lasting.{new_facts}
 use Rattle.exam_office.proofs.Parting.{made_back, touched_read}
 use Rattle.exam_office.proofs.SameSeats.{seats_exact, seats_total}
 
--- the seats once the new plans are put: those of the office where none are
+-- the seats once the new plans are put: those of the office if there are no new plans
 abbrev pub seats_put : Option Plans → Seats → Seats → Seats
 seats_put None seats new = seats
 seats_put (Some old) seats new = all_put seat_cmp seats new
@@ -56,7 +56,7 @@ module _ (done : Command) (office part : State) (up : IsInOrder office) (agrees 
   put_leaves None p away = refl
   put_leaves (Some h) p away = absurd (let differ : true ≡ false = away in cc)
 
-  -- Taken back the seats are the office's, also where only some of the new ones were put.
+  -- Taken back, the seats are those of the office, even if only some of the new ones were put.
   pub seats_again : (old : Plans) → PlansBack done part.relations (Some old) new part.seats → (seats : Seats) → KeysRise seat_cmp seats
       → ((k : Code × ℕ) → has_row seat_cmp new k ≡ false → row_at seat_cmp seats k ≡ row_at seat_cmp office.seats k) → taken_back seat_cmp seats old.entries new ≡ office.seats
   seats_again old back seats up_seats elsewhere =
@@ -148,7 +148,7 @@ module _ (done : Command) (office part : State) (up : IsInOrder office) (agrees 
             absurd (let differ : true ≡ false = sym (touched_read done office.relations s (ap (λ (r : Relations). touches r done s) (sym agrees.facts) ∙ touched)) ∙ out in cc)
         untouched s out false away = refl
 
--- old seats stay where every seat does
+-- old seats stay if every seat does
 pub old_stay : (o : Option Plans) (seats later : Seats) → HasOld o seats → ((k : Code × ℕ) → has_row seat_cmp seats k ≡ true → has_row seat_cmp later k ≡ true) → HasOld o later
 old_stay None seats later has stays = tt
 old_stay (Some old) seats later has stays = λ k was. stays k (has k was)

@@ -90,7 +90,7 @@ module _ {K X : Type 0} (cmp : K → K → Ordering) (total : IsTotalOrder cmp) 
   none_later : (e : K × X) (es : List (K × X)) (q : K) → KeysRise cmp (e ∷ es) → is_at (cmp q) e.0 ≡ true → row_at cmp es q ≡ None
   none_later e es q up at = past_all cmp total e.0 q es ((Equal-is (cmp q e.0)).0 at) (sorted_head cmp e.0 (keys_of es) up)
 
-  -- what the old rows have stays there, where it is put at its key
+  -- what the old rows have stays there, if it is put at its key
   pub set_keeps : (old rows : List (K × X)) (k q : K) → KeysRise cmp rows → has_row cmp old q ≡ true → has_row cmp rows q ≡ true → has_row cmp (set_row cmp rows k (row_at cmp old k)) q ≡ true
   set_keeps old rows k q up was is = ap is_some (set_at rows k q (row_at cmp old k) up) ∙ inner (is_at (cmp q) k) refl
     where

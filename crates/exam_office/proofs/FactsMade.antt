@@ -1,4 +1,4 @@
--- The facts that a command makes: its change, where they pass no limit; and they are good again.
+-- The facts that a command makes are its change, if they pass no limit; and they are good again.
 use Rattle.std.proofs.Common.{◌≡◌, ℕ, true, false, [], ◌∷◌, None, Some, Ok, Err, refl, ap, sym, subst, ◌∙◌}
 use Rattle.std.specs.Option.{option_or}
 use Rattle.std.specs.List.{filter_map, list_all, IsDistinct}
@@ -75,7 +75,7 @@ module _ (today : ℕ) (before : State) (good : IsGood before) (up : AreInOrder 
   made_refers (command.Retract c reference) ok = (retraction_within before good c reference up ok).settled.refer
   made_refers (command.Decide d) ok = decision_refers before.relations d good.refer
 
-  -- and the appeals that stand alone still do
+  -- and the appeals that a candidate may have only once are still there only once
   pub made_single : (done : Command) → early_refusal done today before ≡ None → AreSingle (facts_made done today before)
   made_single (command.Import import) ok =
       subst (λ appeals. IsDistinct same_single_key (filter_map single_key appeals)) (sym (import_appeals before.relations import.rows)) good.single

@@ -62,7 +62,7 @@ none_opens s (o ∷ os) = inner (same_code o.0.0 s) (none_opens s os)
     inner true rest = rest
     inner false rest = rest
 
--- the halls that rows name, told by any other test
+-- the halls that rows name, by any other test
 pub opens_found : (s : Code) (rows : List Row) (named : Code → Bool) → ((h : Code) → named h ≡ list_any (λ (x : Row). names_hall x h) rows) → (os : List ((Code × Code) × Opening))
     → list_any (λ (o : (Code × Code) × Opening). same_code o.0.0 s && named o.0.1) os ≡ list_any (opens_named rows s) os
 opens_found s rows named same [] = refl
@@ -164,6 +164,6 @@ module _ (r : Relations) (s : Code) (c : ℕ) where
       inner true is rest = ap (λ t. is_live_entry r s c e || t) rest
       inner false is rest = rest ∙ sym (ap (λ b. (b && (e.1.live && is_paper_of r s e.0.1)) || list_any (is_live_entry r s c) es) is)
 
-  -- what stands first among these is all that the candidate has
+  -- the first rows of these are all that the candidate has
   pub own_rows : (rows : List ((ℕ × Code) × Entry)) → leading (is_row_of c) rows ≡ filter (is_row_of c) r.entries → list_any (is_live_entry r s c) (leading (is_row_of c) rows) ≡ has_live_entry r s c
   own_rows rows is = ap (list_any (is_live_entry r s c)) is ∙ own_any r.entries

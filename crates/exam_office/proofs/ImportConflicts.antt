@@ -1,4 +1,4 @@
--- What the first row with a key tells of conflicts, and what one more row does.
+-- What the first row with a key says of conflicts, and what one more row does.
 use Rattle.std.proofs.Common.{◌≡◌, ◌∙◌, ◌+◌, Bool, true, false, refl, sym, subst, ℕ, List, [], ◌∷◌, ◌++◌, length, Option, Some, None, cond, arith}
 use Rattle.std.specs.Prelude.{not, ◌&&◌, ◌||◌}
 use Rattle.std.specs.Option.{option_or}

@@ -1,4 +1,4 @@
--- Keys are equal where `same_key` says so, which is where they compare equal.
+-- Keys are equal exactly if `same_key` says so, and exactly if they compare as equal.
 use Rattle.std.proofs.Common.{◌≡◌, ◌∙◌, true, refl, sym, ap, ℕ, List}
 use Rattle.std.specs.Prelude.{nat_eq, ◌&&◌}
 use Rattle.std.specs.declared.cmp.Ordering.{Ordering}

@@ -1,4 +1,4 @@
--- Rows are equal where `same_row` says so, which is where `==` does.
+-- Rows are equal exactly if `same_row` says so, and exactly if `==` does.
 use Rattle.std.proofs.Common.{◌≡◌, ◌∙◌, Bool, true, false, refl, sym, ap, ℕ, List}
 use Rattle.std.specs.Prelude.{nat_eq, ◌&&◌}
 use Rattle.std.specs.Cmp.{booleans_Decides}

@@ -1,4 +1,4 @@
--- Who stays where only one candidate's fits have changed: everybody else who was seated and is still a member.
+-- Who stays if only one candidate's fits have changed: everybody else who was seated and is still a member.
 use Rattle.std.proofs.Common.{◌≡◌, ℕ, ◌<◌, ◌≤◌, ◌&&◌, ◌||◌, Bool, true, false, cond, List, [], ◌∷◌, filter, length, nat_eq, Contains, Option, None, Some, IsSome, IfSome, IsTrue, is_some, refl, ap, sym, subst, ◌∙◌, arith}
 use Rattle.std.specs.List.{list_any}
 use Rattle.std.specs.Map.{keys_of}

@@ -34,7 +34,7 @@ use Rattle.exam_office.specs.Undoing.{ChangesOnly}
 use Rattle.exam_office.proofs.Undoing.{import_only}
 use Rattle.exam_office.proofs.Untouched.{import_spares}
 
--- of whom nothing is made may be left out before
+-- elements of which nothing is made may be left out before
 parted : (h : ℕ → Option Entrant) (p : ℕ → Bool) → ((c : ℕ) → p c ≡ false → h c ≡ None) → (cs : List ℕ) → filter_map h cs ≡ filter_map h (filter p cs)
 parted h p none [] = refl
 parted h p none (c ∷ cs) = inner (p c) refl (parted h p none cs)

@@ -96,7 +96,7 @@ keeps_rows : (r : Relations) (rows : List Row) → Keeps r (with_rows r rows)
 keeps_rows r [] = keeps_itself r
 keeps_rows r (x ∷ rows) = keeps_both r (with_row r x) (with_rows (with_row r x) rows) (keeps_row r x) (keeps_rows (with_row r x) rows)
 
--- where entries, or appeals and marks, keep their keys and the rest stays
+-- entries, or appeals and marks, keep their keys, and the rest stays
 keeps_entries : (r : Relations) (c : ℕ) (p : Code) (live : Bool) → Keeps r (with_live r c p live)
 keeps_entries r c p live = let same = (keeps_itself r).rows in record {
   rows = record { sessions = same.sessions; papers = same.papers; halls = same.halls; candidates = same.candidates; entries = λ k h. has_put entry_cmp r.entries (c, p) k (record { live = live }) h; arrangements = same.arrangements; appeals = same.appeals; standing = same.standing };
@@ -131,7 +131,7 @@ retraction_keeps r c reference = inner (appeal_at r c reference)
     inner None = keeps_itself r
     inner (Some a) = by_status a (is_retracted a.status)
 
--- who gives way to a grant stays
+-- the superseded appeals stay
 given_keeps : (c : ℕ) (s : Code) (asked : Subject) (rows : List ((ℕ × Code) × Appeal)) → KeepsKeys appeal_cmp rows (map (giving_way c s asked) rows)
 given_keeps c s asked [] k has = has
 given_keeps c s asked (d ∷ ds) k has = inner (gives_way c s asked d) (given_keeps c s asked ds k)

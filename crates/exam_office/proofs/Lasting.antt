@@ -1,5 +1,6 @@
--- An appeal once stored stays stored, with what it asks; once retracted it stays so, and once decided too, unless a later grant
--- supersedes it. So whatever comes after, the same lodging, retraction and decision change nothing. And the first two move nobody.
+-- An appeal that was stored stays stored, and asks for the same. One that was retracted stays retracted, and one that
+-- was decided stays decided, unless a later grant supersedes it. So whatever comes after, the same lodging, retraction
+-- and decision change nothing. And the first two move nobody.
 use Rattle.std.proofs.Common.{◌≡◌, ℕ, ◌&&◌, not, Bool, true, false, cond, List, [], ◌∷◌, map, Option, None, Some, Result, Ok, Err, is_none, eq-eqb, refl, ap, sym, subst, ◌∙◌, ◌⊎◌, inl, inr}
 use Rattle.std.specs.BTreeMap.{is_at}
 use Rattle.std.specs.Cmp.{Equal-is}
@@ -92,7 +93,7 @@ open_standing (status.Refused stored) open_yet is = absurd (let differ : false �
 open_standing status.Retracted open_yet is = absurd (let differ : false ≡ true = open_yet in cc)
 open_standing (status.Superseded stored) open_yet is = absurd (let differ : false ≡ true = open_yet in cc)
 
--- so what stands is not open
+-- so a stored appeal of this kind is not open
 stands_closed : (m : Outcome) (answer : List ℕ) (marked : Bool) (st : Status) → Stands m answer marked st → is_open st ≡ false
 stands_closed m answer marked st stands = inner (is_open st) refl stands
   where
@@ -232,7 +233,7 @@ superseded_stays (status.Refused stored) is = is
 superseded_stays status.Retracted is = is
 superseded_stays (status.Superseded stored) is = is
 
--- who gives way to a grant asks the same, and is not open by it
+-- a superseded appeal asks for the same, and a grant does not make it open
 superseded_goes_on : (c : ℕ) (s : Code) (asked : Subject) (row : (ℕ × Code) × Appeal) → Continues row.1 (giving_way c s asked row).1
 superseded_goes_on c s asked row = inner (gives_way c s asked row)
   where

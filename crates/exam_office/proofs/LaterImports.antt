@@ -1,5 +1,5 @@
--- An accepted import repeated later, where no import came between and no hall was closed: its rows are stored still, so it is
--- accepted, changes nothing, and finds every row the same.
+-- An accepted import repeated later, if no import came between and no hall was closed: its rows are still stored, so it
+-- is accepted, changes nothing, and finds every row the same.
 use Rattle.std.proofs.Common.{◌≡◌, ℕ, Bool, true, false, cond, List, [], ◌∷◌, length, Option, None, Some, Result, Ok, Err, is_none, refl, ap, sym, subst, ◌∙◌, inl, inr}
 use Rattle.std.specs.List.{AllByRecursion}
 use Rattle.std.specs.Ordering.{nat_cmp}
@@ -55,7 +55,7 @@ holds_both r t u one two = record {
   arrangements = two.arrangements ∙ one.arrangements;
 }
 
--- where appeals alone change
+-- if only appeals change
 holds_decisions : (r : Relations) (appeals : List ((ℕ × Code) × Appeal)) (marks : List ((ℕ × Code) × Unit {0})) → Holds r (record r { appeals = appeals; standing = marks })
 holds_decisions r appeals marks = record { sessions = refl; papers = refl; halls = refl; openings = refl; candidates = refl; entries = λ k has. has; arrangements = refl }
 

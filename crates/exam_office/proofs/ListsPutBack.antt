@@ -1,4 +1,4 @@
--- The lists of some sessions set aside, and put back.
+-- The lists of some sessions, kept and put back.
 use Rattle.std.proofs.Common.{◌≡◌, Bool, true, false, cond, IsTrue, List, [], ◌∷◌, Option, None, Some, Vec, is_some, refl, ap, sym, ◌∙◌}
 use Rattle.std.specs.Global.{Global}
 use Rattle.std.specs.BTreeMap.{BTreeMap, is_at}
@@ -44,7 +44,7 @@ back_more rest t list lists new up put s = inner (is_at (code_cmp s) t) refl
         apart true same = absurd (let differ : true ≡ false = sym (ap (λ u. is_at (code_cmp u) t) (sym (same_code_exact t s same)) ∙ sym (texts_ties t t) ∙ same_code_itself t) ∙ other in cc)
         apart false same = refl
 
--- ---- set aside
+-- ---- kept
 
 -- nothing is kept yet
 pub none_kept : (before : Kept) (lists : SessionLists) → before.entries ≡ [] → ListsBack (undo.Several before) lists lists

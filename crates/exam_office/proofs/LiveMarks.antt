@@ -28,7 +28,7 @@ use Rattle.exam_office.proofs.SameSeats.{within_members}
 -- ---- a row that is put
 
 module _ {K X : Type 0} (cmp : K → K → Ordering) (exact : CmpEqualImpliesEq cmp) where
-  -- at another key there is what was there
+  -- at another key the row is the same as before
   pub put_elsewhere : (rows : List (K × X)) (k q : K) (v : X) → is_at (cmp q) k ≡ false → row_at cmp (put_row cmp rows k v) q ≡ row_at cmp rows q
   put_elsewhere [] k q v away = ap (λ b. cond b (Some v) None) away
   put_elsewhere (e ∷ es) k q v away = inner (cmp k e.0) refl (put_elsewhere es k q v away)

@@ -13,7 +13,7 @@ use Rattle.exam_rules.specs.Relations.{Relations, has_row}
 use Rattle.exam_rules.specs.Sessions.{appeal_count}
 use Rattle.exam_office.specs.declared.command.Lodging.{Lodging}
 use Rattle.exam_office.specs.Appeals.{appeal_at}
-use Rattle.exam_office.specs.Limits.{appeals_within, candidates_within, halls_within, members_within, openings_within, papers_within, sessions_within, within_limits}
+use Rattle.exam_office.specs.Limits.{most_appeals, appeals_within, candidates_within, halls_within, members_within, openings_within, papers_within, sessions_within, within_limits}
 use Rattle.exam_office.specs.Lodgings as lodgings
 use Rattle.exam_office.specs.State.{Seats}
 use Rattle.exam_office.proofs.OwnFacts.{all_but_one}
@@ -33,9 +33,9 @@ module _ (r : Relations) (within : within_limits r ≡ true) where
       (and_parts (members_within r) (appeals_within r) members).1
 
   -- a candidate has not too many
-  few_appeals : (c : ℕ) → has_row nat_cmp r.candidates c ≡ true → nat_le (appeal_count r c) 64 ≡ true
+  few_appeals : (c : ℕ) → has_row nat_cmp r.candidates c ≡ true → nat_le (appeal_count r c) most_appeals ≡ true
   few_appeals c known =
-      let p : ℕ → Bool = λ d. nat_le (appeal_count r d) 64 in
+      let p : ℕ → Bool = λ d. nat_le (appeal_count r d) most_appeals in
       sym (ap (λ b. cond b (p c) true) known)
       ∙ sym (all_but_one p (p c) c r.candidates own_appeals)
       ∙ ap (λ (q : ℕ → Bool). list_all q (keys_of r.candidates)) (fun_ext (λ d. at p d (nat_eq d c) refl))
@@ -49,15 +49,15 @@ module _ (r : Relations) (within : within_limits r ≡ true) where
     known : has_row nat_cmp r.candidates l.number ≡ true
     known = not-false (has_row nat_cmp r.candidates l.number) (passed (not (has_row nat_cmp r.candidates l.number)) refusal.UnknownCandidate (lodgings.lodging_checks r seats today l (appeal_at r l.number l.reference)) ok).0
 
-    pub lodging_within : within_limits (lodgings.with_lodging r today l) ≡ nat_le (appeal_count (lodgings.with_lodging r today l) l.number) 64
+    pub lodging_within : within_limits (lodgings.with_lodging r today l) ≡ nat_le (appeal_count (lodgings.with_lodging r today l) l.number) most_appeals
     lodging_within = inner (appeal_at r l.number l.reference) refl
       where
         facts : Option Appeal → Relations
         facts o = cond (is_none o) (lodgings.with_appeal r today l) r
 
-        by : (o : Option Appeal) → appeal_at r l.number l.reference ≡ o → within_limits (facts o) ≡ nat_le (appeal_count (facts o) l.number) 64
-        by None none = within_told r today l none within known ∙ ap (λ n. nat_le n 64) (sym (own_more r today l none))
+        by : (o : Option Appeal) → appeal_at r l.number l.reference ≡ o → within_limits (facts o) ≡ nat_le (appeal_count (facts o) l.number) most_appeals
+        by None none = within_told r today l none within known ∙ ap (λ n. nat_le n most_appeals) (sym (own_more r today l none))
         by (Some a) at = within ∙ sym (few_appeals l.number known)
 
-        inner : (o : Option Appeal) → appeal_at r l.number l.reference ≡ o → within_limits (facts (appeal_at r l.number l.reference)) ≡ nat_le (appeal_count (facts (appeal_at r l.number l.reference)) l.number) 64
-        inner o is = ap (λ x. within_limits (facts x)) is ∙ by o is ∙ ap (λ x. nat_le (appeal_count (facts x) l.number) 64) (sym is)
+        inner : (o : Option Appeal) → appeal_at r l.number l.reference ≡ o → within_limits (facts (appeal_at r l.number l.reference)) ≡ nat_le (appeal_count (facts (appeal_at r l.number l.reference)) l.number) most_appeals
+        inner o is = ap (λ x. within_limits (facts x)) is ∙ by o is ∙ ap (λ x. nat_le (appeal_count (facts x) l.number) most_appeals) (sym is)

@@ -8,7 +8,7 @@ use Rattle.exam_office.specs.declared.command.Command.{Command}
 use Rattle.exam_office.specs.declared.command.Command.TheVariants as command
 use Rattle.exam_office.specs.declared.command.Lodging.{Lodging}
 use Rattle.exam_office.specs.FactsMade.{WasMade, may_pass_limit}
-use Rattle.exam_office.specs.Limits.{within_limits}
+use Rattle.exam_office.specs.Limits.{most_appeals, within_limits}
 use Rattle.exam_office.proofs.FactsMade.{within_still}
 use Rattle.exam_office.proofs.LodgingLimits.{lodging_within}
 
@@ -16,13 +16,13 @@ pub still_within : (done : Command) (r t : Relations) → WasMade done r t → m
 still_within done r t was not_one =
     ap within_limits was.made ∙ within_still was.today was.office was.good (subst AreInOrder (sym was.facts) was.order) done not_one was.early
 
-pub lodged_within : (l : Lodging) (r t : Relations) → WasMade (command.Lodge l) r t → within_limits t ≡ nat_le (appeal_count t l.number) 64
+pub lodged_within : (l : Lodging) (r t : Relations) → WasMade (command.Lodge l) r t → within_limits t ≡ nat_le (appeal_count t l.number) most_appeals
 lodged_within l r t was =
     ap within_limits was.made
     ∙ lodging_within was.office.relations was.good.limits was.office.seats was.today l was.early
-    ∙ ap (λ (u : Relations). nat_le (appeal_count u l.number) 64) (sym was.made)
+    ∙ ap (λ (u : Relations). nat_le (appeal_count u l.number) most_appeals) (sym was.made)
 
--- where they pass one, the command is of a kind that may
+-- if they pass one, the command is of a kind that may
 pub past_may : (done : Command) (r t : Relations) → WasMade done r t → within_limits t ≡ false → may_pass_limit done ≡ true
 past_may done r t was past = inner (may_pass_limit done) refl
   where

@@ -1,5 +1,5 @@
--- What a candidate sees of themselves tells what the office looks up of them: their appeal with a reference, their session, their
--- live papers, whether one of their appeals is open, and how many they have.
+-- What a candidate sees of themselves determines what the office looks up about them: their appeal with a reference,
+-- their session, their live papers, whether one of their appeals is open, and how many they have.
 use Rattle.std.proofs.Common.{◌≡◌, ℕ, suc, ◌&&◌, ◌||◌, Bool, true, false, cond, List, [], ◌∷◌, filter, length, map, nat_eq, Option, None, Some, is_some, eq-eqb, refl, ap, sym, ◌∙◌}
 use Rattle.std.specs.List.{list_all, list_any, cons_option, filter_map}
 use Rattle.std.specs.BTreeMap.{insert_entry, is_at}
@@ -211,7 +211,7 @@ one_more {K} {X} cmp q (e ∷ es) k v own none = inner (cmp k e.0) refl (one_mor
     inner Equal is rest = absurd (let f : Some e.1 ≡ None = ap (λ r. cond (is_eq r) (Some e.1) (row_at cmp es k)) (sym is) ∙ none in cc)
     inner Greater is rest = later (q e.0) (kept (put_row cmp es k v)) (kept es) (rest (ap (λ r. cond (is_eq r) (Some e.1) (row_at cmp es k)) (sym is) ∙ none))
 
--- where a test holds of all keys, a test that differs at one key alone holds of all exactly where it holds there
+-- if a test holds for all keys, a test that differs only at one key holds for all exactly if it holds there
 pub all_but_one : {X : Type 0} (p : ℕ → Bool) (b : Bool) (c : ℕ) (rows : List (ℕ × X)) → list_all p (keys_of rows) ≡ true
     → list_all (λ d. cond (nat_eq d c) b (p d)) (keys_of rows) ≡ cond (has_row nat_cmp rows c) b true
 all_but_one p b c [] every = refl

@@ -1,4 +1,4 @@
--- What a lodging is answered is told by the candidate's own rows and the day.
+-- The candidate's own rows and the day decide what a lodging is answered.
 use Rattle.std.proofs.Common.{◌≡◌, ℕ, suc, ◌-◌, ◌==◌, ◌&&◌, not, Bool, true, false, cond, List, [], ◌∷◌, ◌++◌, filter, length, map, nat_eq, nat_le, nat_lt, Option, None, Some, Result, Ok, IsSome, is_none, is_some, eq-eqb, refl, ap, sym, ◌∙◌}
 use Rattle.std.specs.List.{list_all, list_any}
 use Rattle.std.specs.Map.{keys_of}
@@ -26,7 +26,7 @@ use Rattle.exam_office.specs.declared.command.Reply.TheVariants as reply
 use Rattle.exam_office.specs.Appeals.{appeal_at, notice_days, state_of, stored_state}
 use Rattle.exam_office.specs.Changes.{first_refusal, unless}
 use Rattle.exam_office.specs.Good.{IsGood}
-use Rattle.exam_office.specs.Limits.{within_limits, appeals_within, sessions_within, papers_within, halls_within, openings_within, candidates_within, members_within}
+use Rattle.exam_office.specs.Limits.{most_appeals, within_limits, appeals_within, sessions_within, papers_within, halls_within, openings_within, candidates_within, members_within}
 use Rattle.exam_office.specs.Lodgings as spec
 use Rattle.exam_office.specs.Orders.{IsInOrder}
 use Rattle.exam_office.specs.Own.{OwnRows, OwnSessionRow, own_of, own_rows, own_session, own_sessions, session_row}
@@ -51,14 +51,15 @@ subject_shown own (subject.Arrangement a) = (same_arrangement a own.arrangement,
 abbrev limit_check : Bool → Option Refusal
 limit_check within = first_refusal ((not within, refusal.TooMany) ∷ [])
 
--- of a new appeal in a session held on a day, by the checks on what it asks, by whether one of its kind is open, and by the limits
+-- the refusal of a new appeal in a session held on a day, by the checks on what it asks for, by whether one of its kind
+-- is open, and by the limits
 abbrev held_refusal : Lodging → ℕ → ℕ → List (Bool × Refusal) → Bool → Bool → Option Refusal
 held_refusal l today held asked stands within =
     option_or (first_refusal ((nat_lt (held - notice_days l.subject) today, refusal.PastClosing (held - notice_days l.subject)) ∷ asked ++ (stands, refusal.AppealStands) ∷ [])) (limit_check within)
 
 abbrev new_shown : Lodging → ℕ → List (Code × Appeal) → Option OwnSessionRow → Option Refusal
 new_shown l today appeals None = Some refusal.NotInSession
-new_shown l today appeals (Some own) = held_refusal l today own.day (subject_shown own l.subject) (list_any (is_own_open l.session l.subject) appeals) (nat_le (suc (length appeals)) 64)
+new_shown l today appeals (Some own) = held_refusal l today own.day (subject_shown own l.subject) (list_any (is_own_open l.session l.subject) appeals) (nat_le (suc (length appeals)) most_appeals)
 
 abbrev known_shown : Lodging → ℕ → OwnRows → Option Appeal → Option Refusal
 known_shown l today own None = new_shown l today (map pair_of own.appeals) (session_at l.session own.sessions)
@@ -87,17 +88,17 @@ module _ (r : Relations) (today : ℕ) (l : Lodging) (none : appeal_at r l.numbe
   more = spec.with_appeal r today l
 
   abbrev is_below : Bool
-  is_below = nat_le (suc (length (own_among l.number r.appeals))) 64
+  is_below = nat_le (suc (length (own_among l.number r.appeals))) most_appeals
 
   pub own_more : appeal_count more l.number ≡ suc (length (own_among l.number r.appeals))
   own_more =
       one_more appeal_cmp (λ (k : ℕ × Code). nat_eq k.0 l.number) r.appeals (l.number, l.reference) _ (eq-eqb l.number l.number refl) none
       ∙ ap (λ n. suc n) (sym (length-map (filter (is_row_of l.number) r.appeals) (λ (a : (ℕ × Code) × Appeal). (a.0.1, a.1))))
 
-  counted : (d : ℕ) (b : Bool) → nat_eq d l.number ≡ b → nat_le (appeal_count more d) 64 ≡ cond b is_below (nat_le (appeal_count r d) 64)
-  counted d true own = ap (λ n. nat_le (appeal_count more n) 64) (exact_unsigned_eq d l.number own) ∙ ap (λ n. nat_le n 64) own_more
+  counted : (d : ℕ) (b : Bool) → nat_eq d l.number ≡ b → nat_le (appeal_count more d) most_appeals ≡ cond b is_below (nat_le (appeal_count r d) most_appeals)
+  counted d true own = ap (λ n. nat_le (appeal_count more n) most_appeals) (exact_unsigned_eq d l.number own) ∙ ap (λ n. nat_le n most_appeals) own_more
   counted d false other =
-      ap (λ (rows : List ((ℕ × Code) × Appeal)). nat_le (length rows) 64) (put_passed_over appeal_cmp appeals_exact (is_row_of d) r.appeals (l.number, l.reference) _ (number_flips d l.number other)
+      ap (λ (rows : List ((ℕ × Code) × Appeal)). nat_le (length rows) most_appeals) (put_passed_over appeal_cmp appeals_exact (is_row_of d) r.appeals (l.number, l.reference) _ (number_flips d l.number other)
       (λ b at. absurd (let differ : None ≡ Some b = sym none ∙ at in cc)))
 
   pub within_told : within_limits r ≡ true → has_row nat_cmp r.candidates l.number ≡ true → within_limits more ≡ is_below
@@ -109,7 +110,7 @@ module _ (r : Relations) (today : ℕ) (l : Lodging) (none : appeal_at r l.numbe
       beside (candidates_within r) _ _ is_below candidates (λ members.
       beside (members_within r) (appeals_within r) (appeals_within more) is_below members (λ appeals.
       ap (λ (p : ℕ → Bool). list_all p (keys_of r.candidates)) (fun_ext (λ d. counted d (nat_eq d l.number) refl))
-      ∙ all_but_one (λ d. nat_le (appeal_count r d) 64) is_below l.number r.candidates appeals
+      ∙ all_but_one (λ d. nat_le (appeal_count r d) most_appeals) is_below l.number r.candidates appeals
       ∙ ap (λ b. cond b is_below true) there))))))
 
 -- ---- the session
@@ -228,7 +229,7 @@ same_lodging_refusal one other day l good up sound rise same = refusal_told one 
 
 -- ---- the answer
 
--- where the appeal stands once it is lodged
+-- the state of the appeal once it is lodged
 abbrev state_after : Option Appeal → AppealState
 state_after stored = option_map_or (λ (a : Appeal). state_of a.status) stored state.Pending
 

@@ -1,4 +1,4 @@
--- What a retraction is answered is told by the candidate's own rows.
+-- The candidate's own rows decide what a retraction is answered.
 use Rattle.std.proofs.Common.{◌≡◌, ℕ, ◌&&◌, true, false, map, Option, None, Some, Result, Ok, Err, is_some, refl, ap, sym, ◌∙◌}
 use Rattle.std.specs.Option.{option_and_then, option_map}
 use Rattle.std.specs.Ordering.{nat_cmp}

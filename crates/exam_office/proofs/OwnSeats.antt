@@ -1,4 +1,4 @@
--- The seats of a session hold whoever sits in it, and so count who stands before a candidate in a hall.
+-- The seats of a session hold everybody who sits in it, and so count who comes before a candidate in a hall.
 use Rattle.std.proofs.Common.{◌≡◌, ℕ, zero, suc, ◌<◌, ◌≤◌, ◌&&◌, not, Bool, true, false, cond, List, [], ◌∷◌, length, map, filter, count_by, get_or, Contains, Option, None, Some, IsSome, IfSome, is_some, refl, ap, sym, subst, ◌∙◌, inl, inr, arith}
 use Rattle.std.specs.List.{All, AllByRecursion}
 use Rattle.std.specs.List.Sorted.{IsStrictlySortedBy}
@@ -121,7 +121,7 @@ differ s t o e other = inner (same_code t s) refl
     inner false same = refl
 
 module _ (r : Relations) (seats : Seats) (s : Code) (up : KeysRise seat_cmp seats) (lawful : IsLawful (seating r s) (plan_of seats s)) where
-  -- a seat is where its candidate sits
+  -- a seat is the one in which its candidate sits
   sits : (n : ℕ) (h : Code) → Contains seats ((s, n), h) → plan_of seats s n ≡ Some h
   sits n h m = lookup-from_Contains (eq_by_cmp_equiv seats_total) (s, n) h seats (IsDistinct-from_sorted seat_cmp (keys_of seats) up) m
 
@@ -133,7 +133,7 @@ module _ (r : Relations) (seats : Seats) (s : Code) (up : KeysRise seat_cmp seat
   seat_member e m of = lawful.members e.0.1 (ap is_some (sits e.0.1 e.1 (own_key e m of)))
 
   module _ (first last : ℕ) (from : All (IsLeBy nat_cmp first) (keys_of r.candidates)) (up_to : All (λ n. is_lt (nat_cmp last n) ≡ false) (keys_of r.candidates)) where
-    -- a key is between the bounds where it is of the session
+    -- a key is between the bounds if it is of the session
     at_key : (t : Code) (n : ℕ) → (t ≡ s → Contains (keys_of r.candidates) n)
         → (is_le (ordering_then (code_cmp s t) (nat_cmp first n)) && not (is_lt (ordering_then (code_cmp s t) (nat_cmp last n)))) ≡ same_code t s
     at_key t n known = inner (code_cmp s t) refl
@@ -233,11 +233,11 @@ module _ (r : Relations) (seats : Seats) (s : Code) (up : KeysRise seat_cmp seat
         inner true true false x y z rest = rw (y, z) rest
         inner true true true x y z rest = rw (y, z) (ap suc rest)
 
-    -- who stand before the candidate in the hall, counted over the seats of the session
+    -- those who come before the candidate in the hall, counted over the seats of the session
     pub counted_before : IsStrictlySortedBy nat_cmp (members r s) → (c : ℕ) → before_among r s h (desk_key r s c) (filter is_own seats) ≡ count_by (λ d. stands_before r s d c) (occupants (seating r s) (plan_of seats s) h)
     counted_before rising c = sym (passing (λ d. stands_before r s d c) seats) ∙ length-filter (λ d. stands_before r s d c) (seated seats) ∙ ap (count_by (λ d. stands_before r s d c)) (sym (occupants_are rising))
 
--- in a hall stand no more than the session may have members
+-- in a hall sit no more than the session may have members
 pub few_before : (r : Relations) (seats : Seats) (s h : Code) (c : ℕ) → length (members r s) ≤ most_members → count_by (λ d. stands_before r s d c) (occupants (seating r s) (plan_of seats s) h) ≤ most_members
 few_before r seats s h c limit =
     let sitting_there : count_by (λ d. stands_before r s d c) (occupants (seating r s) (plan_of seats s) h) ≤ length (occupants (seating r s) (plan_of seats s) h) = count_by-le-length (λ d. stands_before r s d c) (occupants (seating r s) (plan_of seats s) h) in

@@ -1,5 +1,5 @@
--- What a candidate sees after a lodging or a retraction: where it is their own, the one appeal is put among theirs, and else all is
--- as it was.
+-- What a candidate sees after a lodging or a retraction: if the appeal is their own, it is put among theirs; otherwise
+-- all is as it was.
 use Rattle.std.proofs.Common.{◌≡◌, ℕ, ◌+◌, ◌<◌, ◌&&◌, not, Bool, true, false, cond, List, [], ◌∷◌, count_by, filter, map, nat_eq, Option, None, Some, Result, is_none, is_some, eq-eqb, refl, ap, sym, subst, ◌∙◌, arith}
 use Rattle.std.specs.List.{filter_map, AllByRecursion}
 use Rattle.std.specs.BTreeMap.{insert_entry}
@@ -133,7 +133,7 @@ above_not c n m p q less rise = inner (nat_eq m c) refl
     inner true same = absurd (turn (nat_cmp n m) refl rise (exact_unsigned_eq m c same))
     inner false other = refl
 
--- no appeal of the candidate stands above a later candidate's
+-- no appeal of the candidate comes after a later candidate's
 none_own : (c n : ℕ) (p : Code) (rows : AppealRows) → nat_cmp c n ≡ Less → AllByRecursion (λ (y : ℕ × Code). appeal_cmp (n, p) y ≡ Less) (keys_of rows) → filter (is_row_of c) rows ≡ []
 none_own c n p [] less above = refl
 none_own c n p (a ∷ rows) less above =
@@ -395,7 +395,7 @@ module _ (office : State) (c : ℕ) (reference : Code) (good : IsGood office) wh
       inner (Some a) at = by_status a at (is_retracted a.status)
 
   module _ (day : ℕ) (after : State) (answer : Result Reply Refusal) (up : IsInOrder office) (up_after : IsInOrder after) (step : Step (command.Retract c reference) day office answer after) where
-    -- what is shown to anybody after it, by what is shown where it is accepted
+    -- what is shown to anybody after it, by what is shown if it is accepted
     retraction_led : (d : ℕ) (v : Option OwnRows) → (IsRetractable → own_of retracted_office d ≡ v) → own_of after d ≡ view_or v (own_of office d) (spec.retraction_refusal office.relations c reference)
     retraction_led d v then = inner (spec.retraction_refusal office.relations c reference) refl step
       where

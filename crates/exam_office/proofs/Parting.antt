@@ -56,7 +56,7 @@ use Rattle.exam_office.proofs.Untouched.{spared}
 -- ---- rows that pass
 
 module _ {K X : Type 0} (cmp : K → K → Ordering) (total : IsTotalOrder cmp) (exact : CmpEqualImpliesEq cmp) where
-  -- among rows that pass a key has its row where that passes
+  -- among rows that pass, a key has its row if that row passes
   passing_at : (p : K × X → Bool) (rows : List (K × X)) (k : K) → KeysRise cmp rows → row_at cmp (filter p rows) k ≡ option_filter (λ x. p (k, x)) (row_at cmp rows k)
   passing_at p [] k up = refl
   passing_at p (e ∷ es) k up = inner (is_at (cmp k) e.0) refl (p e) refl (passing_at p es k (sorted_tail cmp e.0 (keys_of es) up))
@@ -165,7 +165,7 @@ touched_read (command.Decide d) r s is = inner (is_appeal_for (appeal_at r d.num
     inner true = refl
     inner false = is
 
--- whom the new plans seat for certain
+-- who the new plans seat for certain
 kept_on : (done : Command) (today : ℕ) (office after : State) (t : Relations) → IsGood office → IsInOrder office → change done today office ≡ Ok t → DoListsRise t
     → ((s : Code) → IsRepaired t (first_seated done) office.seats after.seats s) → (s : Code) → SeatsOn done (seating t s) (plan_of office.seats s) (plan_of after.seats s)
 kept_on (command.Import import) today office after t good up is rising plans s = kept_stays (seating t s) None (plan_of office.seats s) (plan_of after.seats s) (plans s).repair

@@ -27,7 +27,7 @@ module _ {K X : Type 0} (cmp : K → K → Ordering) (exact : CmpEqualImpliesEq 
           ap (λ q. p (q, x)) key ∙ ap (λ y. p (e.0, y)) (sym content) ∙ (and_parts (p e) (list_all p es) every).0
       inner false away is rest = rest is
 
-  -- where neither the row nor the one before it at the key passes, the same rows pass
+  -- if neither the row nor the one before it at the key passes, the same rows pass
   pub put_passed_over : (p : K × X → Bool) (rows : List (K × X)) (k : K) (v : X) → p (k, v) ≡ false
       → ((x : X) → row_at cmp rows k ≡ Some x → p (k, x) ≡ false) → filter p (put_row cmp rows k v) ≡ filter p rows
   put_passed_over p [] k v none old = ap (λ b. cond b ((k, v) ∷ []) []) none

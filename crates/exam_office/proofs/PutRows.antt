@@ -1,4 +1,5 @@
--- Rows of which some stand alone, where one is put or each is changed at its place: the keys stay, and what stands alone does.
+-- Rows some of which have a value that no other may have, when one is put or each is changed at its place: the keys
+-- stay, and the values stay distinct.
 use Rattle.std.proofs.Common.{◌≡◌, ◌⊎◌, inl, inr, Bool, true, false, cond, List, [], ◌∷◌, map, filter, Option, None, Some, refl, ap, sym, ◌∙◌}
 use Rattle.std.specs.Cmp.{IsTotalOrder, tied_itself}
 use Rattle.std.specs.List.{AllByRecursion, IsDistinct, cons_option, filter_map, find}
@@ -16,7 +17,7 @@ use Rattle.exam_office.proofs.Repeating.{none_above}
 -- ---- the keys stay
 
 module _ {K X : Type 0} (cmp : K → K → Ordering) (o : IsTotalOrder cmp) where
-  -- where a row is there already
+  -- if a row is there already
   pub put_keys : (rows : List (K × X)) (k : K) (v x : X) → KeysRise cmp rows → row_at cmp rows k ≡ Some x → keys_of (put_row cmp rows k v) ≡ keys_of rows
   put_keys [] k v x up at = absurd (let differ : None ≡ Some x = at in cc)
   put_keys (e ∷ es) k v x up at = inner (cmp k e.0) refl (put_keys es k v x (sorted_tail cmp e.0 (keys_of es) up))
@@ -39,13 +40,13 @@ module _ {K X : Type 0} (cmp : K → K → Ordering) (o : IsTotalOrder cmp) wher
       inner true here rest = let one : c ≡ e = cc in ap (λ (z : K × X). cmp k z.0) (sym one) ∙ above.0
       inner false later rest = rest later
 
--- ---- what stands alone
+-- ---- distinct values
 
 -- no y is the same as x
 abbrev pub IsApartFrom : {A : Type 0} → (A → A → Bool) → A → List A → Type 0
 IsApartFrom same x ys = AllByRecursion (λ y. same x y ≡ false) ys
 
--- what the row stands for, if it does, is apart from these
+-- the value of the row, if it has one, differs from these
 abbrev pub IsFresh : {A : Type 0} → (A → A → Bool) → Option A → List A → Type 0
 IsFresh {A} same what ys = (x : A) → what ≡ Some x → IsApartFrom same x ys
 
@@ -78,7 +79,7 @@ module _ {A : Type 0} (same : A → A → Bool) where
       elim_at one apart = rw (← one) apart
 
 module _ {K X A : Type 0} (cmp : K → K → Ordering) (exact : CmpEqualImpliesEq cmp) (f : K × X → Option A) (same : A → A → Bool) where
-  -- a row that stands for something else
+  -- a row with another value
   put_apart : (x : A) (rows : List (K × X)) (k : K) (v : X) → ((y : A) → f (k, v) ≡ Some y → same x y ≡ false) → IsApartFrom same x (filter_map f rows) → IsApartFrom same x (filter_map f (put_row cmp rows k v))
   put_apart x [] k v other apart = apart_more same x (f (k, v)) [] other tt
   put_apart x (e ∷ es) k v other apart = inner (cmp k e.0) refl (put_apart x es k v other (apart_less same x (f e) (filter_map f es) apart))
@@ -90,7 +91,7 @@ module _ {K X A : Type 0} (cmp : K → K → Ordering) (exact : CmpEqualImpliesE
       inner Greater is rest = apart_more same x (f e) (filter_map f (put_row cmp es k v)) (λ y at. apart_here same x y (f e) (filter_map f es) at apart) rest
 
   module _ (flips : (x y : A) → same x y ≡ same y x) where
-    -- a row that stands for nothing, or for what no row stands for
+    -- a row without a value, or with one that no row has
     pub put_distinct : (rows : List (K × X)) (k : K) (v : X) → IsFresh same (f (k, v)) (filter_map f rows) → IsDistinct same (filter_map f rows) → IsDistinct same (filter_map f (put_row cmp rows k v))
     put_distinct [] k v fresh distinct = distinct_more same (f (k, v)) [] fresh distinct
     put_distinct (e ∷ es) k v fresh distinct =
@@ -108,7 +109,7 @@ module _ {K X A : Type 0} (cmp : K → K → Ordering) (exact : CmpEqualImpliesE
 -- ---- each row changed at its place
 
 module _ {R A : Type 0} (f : R → Option A) (same : A → A → Bool) (g : R → R) where
-  -- x is apart from what the rows stand for now
+  -- x differs from the values that the rows have now
   pub mapped_apart : (x : A) → ((row : R) (y : A) → f (g row) ≡ Some y → same x y ≡ false) → (rows : List R) → IsApartFrom same x (filter_map f (map g rows))
   mapped_apart x other [] = tt
   mapped_apart x other (d ∷ ds) = apart_more same x (f (g d)) (filter_map f (map g ds)) (other d) (mapped_apart x other ds)
@@ -122,7 +123,7 @@ module _ {R A : Type 0} (f : R → Option A) (same : A → A → Bool) (g : R �
         inner (inl none) rest = apart_more same x (f (g d)) (filter_map f (map g ds)) (λ y at. absurd (let differ : None ≡ Some y = sym none ∙ at in cc)) rest
         inner (inr kept) rest = apart_more same x (f (g d)) (filter_map f (map g ds)) (λ y at. apart_here same x y (f d) (filter_map f ds) (sym kept ∙ at) apart) rest
 
-    -- where each stands for what it did, or for nothing
+    -- if each has the value that it had, or none
     pub mapped_distinct : (rows : List R) → IsDistinct same (filter_map f rows) → IsDistinct same (filter_map f (map g rows))
     mapped_distinct [] distinct = distinct
     mapped_distinct (d ∷ ds) distinct = inner (fewer d) (mapped_distinct ds (distinct_less same (f d) (filter_map f ds) distinct))
@@ -131,7 +132,7 @@ module _ {R A : Type 0} (f : R → Option A) (same : A → A → Bool) (g : R �
         inner (inl none) rest = distinct_more same (f (g d)) (filter_map f (map g ds)) (λ y at. absurd (let differ : None ≡ Some y = sym none ∙ at in cc)) rest
         inner (inr kept) rest = distinct_more same (f (g d)) (filter_map f (map g ds)) (λ y at. apart_still y ds (distinct_here same (f d) (filter_map f ds) distinct y (sym kept ∙ at))) rest
 
--- rows that pass are the same, where the others change among themselves
+-- rows that pass are the same, if the others change among themselves
 pub mapped_filtered : {R : Type 0} (p : R → Bool) (g : R → R) → ((row : R) → p row ≡ true → g row ≡ row) → ((row : R) → p row ≡ false → p (g row) ≡ false) → (rows : List R) → filter p (map g rows) ≡ filter p rows
 mapped_filtered p g kept out [] = refl
 mapped_filtered {R} p g kept out (d ∷ ds) = inner (p d) refl (mapped_filtered p g kept out ds)
@@ -147,7 +148,7 @@ mapped_keys {K} g keyed (d ∷ ds) = ap (λ (k : K). k ∷ keys_of (map g ds)) (
 -- ---- one row changed
 
 module _ {K X : Type 0} (cmp : K → K → Ordering) (o : IsTotalOrder cmp) (p : K × X → Bool) (g : K × X → K × X) (kept : (row : K × X) → p row ≡ false → g row ≡ row) where
-  -- where none passes
+  -- if none passes
   pub none_changed : (rows : List (K × X)) → find p rows ≡ None → map g rows ≡ rows
   none_changed [] none = refl
   none_changed (d ∷ ds) none = inner (p d) refl none (none_changed ds)
@@ -157,7 +158,7 @@ module _ {K X : Type 0} (cmp : K → K → Ordering) (o : IsTotalOrder cmp) (p :
       inner false away is rest = ap (λ z. z ∷ map g ds) (kept d away) ∙ ap (λ t. d ∷ t) (rest is)
 
   module _ {A : Type 0} (f : K × X → Option A) (same : A → A → Bool) (x : A) (itself : same x x ≡ true) (stands : (row : K × X) → p row ≡ true → f row ≡ Some x) where
-    -- no other passes where x stands alone
+    -- no other passes if no other has the value x
     none_found : (rows : List (K × X)) → IsApartFrom same x (filter_map f rows) → find p rows ≡ None
     none_found [] apart = refl
     none_found (d ∷ ds) apart = inner (p d) refl (none_found ds (apart_less same x (f d) (filter_map f ds) apart))
@@ -166,7 +167,7 @@ module _ {K X : Type 0} (cmp : K → K → Ordering) (o : IsTotalOrder cmp) (p :
         inner true here rest = absurd (let differ : true ≡ false = sym itself ∙ apart_here same x x (f d) (filter_map f ds) (stands d here) apart in cc)
         inner false away rest = rest
 
-    -- where one passes, which stands alone
+    -- if one passes, and no other has its value
     pub one_changed : (rows : List (K × X)) (e : K × X) (v : X) → KeysRise cmp rows → IsDistinct same (filter_map f rows) → find p rows ≡ Some e → g e ≡ (e.0, v) → map g rows ≡ put_row cmp rows e.0 v
     one_changed [] e v up distinct found now = absurd (let differ : None ≡ Some e = found in cc)
     one_changed (d ∷ ds) e v up distinct found now =

@@ -204,7 +204,7 @@ refers_rows r0 r (x ∷ rows) grows p ok =
 pub import_refers : (r : Relations) (rows : List Row) → good.refers r ≡ true → rows_refusal r rows ≡ None → good.refers (with_rows r rows) ≡ true
 import_refers r rows every ok = joined (with_rows r rows) (refers_rows r r rows (grows_none r) (parted r every) ok)
 
--- those of an entry are known where it gets another live mark
+-- the references of an entry are known when it is made live or withdrawn
 pub live_refers : (r : Relations) (c : ℕ) (p : Code) (live : Bool) (more : List (Bool × Refusal)) → good.refers r ≡ true → first_refusal (no_candidate r c ∷ no_paper r p ∷ more) ≡ None → good.refers (with_live r c p live) ≡ true
 live_refers r c p live more every ok =
     let first = passed (not (has_row nat_cmp r.candidates c)) refusal.UnknownCandidate (no_paper r p ∷ more) ok in

@@ -1,5 +1,5 @@
--- A row that is put: it is found, other rows stay, keys rise on, and put once more it changes nothing. And rows in order are
--- the same where each key has the same.
+-- A row that is put: it is found, other rows stay, keys rise on, and put once more it changes nothing. And rows in
+-- order are the same if each key has the same.
 use Rattle.std.proofs.Common.{◌≡◌, Bool, true, false, cond, List, [], ◌∷◌, None, Some, refl, ap, sym, ◌∙◌}
 use Rattle.std.specs.Cmp.{Equal-is, IsTotalOrder, tied_itself}
 use Rattle.std.specs.List.{AllByRecursion}
@@ -54,7 +54,7 @@ module _ {K X : Type 0} (cmp : K → K → Ordering) (o : IsTotalOrder cmp) wher
       inner Equal is rest = ap (λ r. cond (is_eq r) (Some v) (row_at cmp es k)) is
       inner Greater is rest = ap (λ r. cond (is_eq r) (Some e.1) (row_at cmp (put_row cmp es k v) k)) is ∙ rest
 
-  -- what is at a key stays, where the row that is put has another key or is the same
+  -- what is at a key stays, if the row that is put has another key or is the same
   pub put_stays : (rows : List (K × X)) (k q : K) (v x : X) → (is_at (cmp k) q ≡ true → v ≡ x) → row_at cmp rows q ≡ Some x → row_at cmp (put_row cmp rows k v) q ≡ Some x
   put_stays [] k q v x agrees at = absurd (let no_row : None ≡ Some x = at in cc)
   put_stays (e ∷ es) k q v x agrees at = inner (cmp k e.0) refl (put_stays es k q v x agrees)
@@ -109,7 +109,7 @@ module _ {K X : Type 0} (cmp : K → K → Ordering) (o : IsTotalOrder cmp) wher
   below_head : (k : K) (e : K × X) (es : List (K × X)) → IsStrictlySortedBy cmp (e.0 ∷ keys_of es) → cmp k e.0 ≡ Less → row_at cmp (e ∷ es) k ≡ None
   below_head k e es up less = ap (λ r. cond (is_eq r) (Some e.1) (row_at cmp es k)) less ∙ none_above k e.0 es less (sorted_head cmp e.0 (keys_of es) up)
 
-  -- rows in order are the same where each key has the same
+  -- rows in order are the same if each key has the same
   pub same_rows : CmpEqualImpliesEq cmp → (es fs : List (K × X)) → IsStrictlySortedBy cmp (keys_of es) → IsStrictlySortedBy cmp (keys_of fs)
       → ((q : K) → row_at cmp es q ≡ row_at cmp fs q) → es ≡ fs
   same_rows exact [] [] up vp same = refl

@@ -1,4 +1,4 @@
--- Seats are the same where each candidate sits in the same hall.
+-- Seats are the same if each candidate sits in the same hall.
 use Rattle.std.proofs.Common.{◌≡◌, ℕ, ◌≤◌, ◌&&◌, ◌||◌, Bool, true, false, List, [], ◌∷◌, length, nat_eq, IsTrue, BTreeMap, ap, sym, ◌∙◌, refl}
 use Rattle.std.specs.Prelude.{nat_le}
 use Rattle.std.specs.Bool.{Decides}

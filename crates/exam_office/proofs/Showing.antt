@@ -1,4 +1,4 @@
--- What a view shows is so of the office.
+-- A view shows the session as it is in the office.
 use Rattle.std.proofs.Common.{◌≡◌, ◌↔◌, ℕ, suc, ◌+◌, ◌<◌, ◌≤◌, Bool, true, false, cond, List, [], ◌∷◌, length, map, filter, get_or, drop, Contains, ◌++◌, Option, None, Some, Result, Ok, Err, IfErr, refl, ap, sym, subst, ◌∙◌, inl, inr, arith, ◌⊎◌}
 use Rattle.std.specs.Map.{keys_of}
 use Rattle.std.specs.List.{All, range_with_len}
@@ -41,7 +41,7 @@ pub on_err : {T E : Type 0} (result : Result T E) (P Q : E → Type 0) → ((e :
 on_err (Ok x) P Q f h = tt
 on_err (Err e) P Q f h = f e h
 
--- the refusals of a problem of which the lists are known, where the session has few members and open halls
+-- the refusals of a problem whose lists are known, if the session has few members and open halls
 pub memory_alone : (r : Relations) (s : Code) → length (members r s) ≤ most_members → length (open_halls r s) ≤ most_halls → (e : Refusal) → (e ≡ NoMemory) ⊎ ((e ≡ TooMany) × IsTooLarge r s) → e ≡ NoMemory
 memory_alone r s few few_halls e (inl memory) = memory
 memory_alone r s few few_halls e (inr many) = absurd (elim many.1 [ inl more ↦ omega arith | inr more ↦ omega arith ])

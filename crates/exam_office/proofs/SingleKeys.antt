@@ -1,4 +1,4 @@
--- The keys of appeals that stand alone are the same where they compare equal.
+-- The keys of appeals that a candidate may have only once are the same exactly if they compare as equal.
 use Rattle.std.proofs.Common.{◌≡◌, ◌∙◌, Bool, true, false, refl, ap}
 use Rattle.std.proofs.Math.Path.{fun_ext}
 use Rattle.std.specs.Prelude.{◌&&◌, nat_eq}

@@ -1,4 +1,4 @@
--- Which appeals a grant supersedes: at most one, and after it no other appeal stands where the granted one does.
+-- Which appeals a grant supersedes: at most one, and after it no other appeal has the key of the granted one.
 use Rattle.std.proofs.Common.{◌≡◌, ℕ, ◌==◌, ◌&&◌, ◌⊎◌, inl, inr, Bool, true, false, cond, List, [], ◌∷◌, map, Option, None, Some, refl, ap, sym, ◌∙◌}
 use Rattle.std.specs.List.{IsDistinct, filter_map, find}
 use Rattle.std.specs.Option.{option_map}
@@ -20,7 +20,7 @@ use Rattle.exam_office.specs.Singles.{SingleKey, same_single, same_single_key, s
 use Rattle.exam_office.proofs.AppealKeys.{appeals_total}
 use Rattle.exam_office.proofs.PutRows.{IsApartFrom, mapped_apart, mapped_distinct, none_changed, one_changed}
 
--- ---- keys of what stands alone
+-- ---- keys of appeals that a candidate may have only once
 
 single_exact : (a b : Single) → same_single a b ≡ true → a ≡ b
 single_exact single.GrantedClash single.GrantedClash e = refl
@@ -50,7 +50,7 @@ key_exact x y e =
 key_itself : (x : SingleKey) → same_single_key x x ≡ true
 key_itself x = and_from (same_code x.0 x.0) ((x.1 == x.1) && same_single x.2 x.2) (same_code_itself x.0) (and_from (x.1 == x.1) (same_single x.2 x.2) (eq-eqb x.1 x.1 refl) (single_itself x.2))
 
--- ---- where a granted appeal stands
+-- ---- the key of a granted appeal
 
 superseded_ungranted : (st : Status) → is_granted (superseded st) ≡ false
 superseded_ungranted status.Pending = refl
@@ -111,7 +111,7 @@ module _ (c : ℕ) (s : Code) (asked : Subject) where
   given_now : (row : (ℕ × Code) × Appeal) → is_earlier c s asked row ≡ true → given row ≡ (row.0, record row.1 { status = superseded row.1.status })
   given_now row here = ap (λ b. cond b (row.0, record row.1 { status = superseded row.1.status }) row) (and_parts (gives_way c s asked row) (is_granted row.1.status) here).0
 
-  -- what stood alone stands so, or for nothing
+  -- an appeal with a key of its own keeps it, or has none
   given_fewer : (row : (ℕ × Code) × Appeal) → (single_key (given row) ≡ None) ⊎ (single_key (given row) ≡ single_key row)
   given_fewer row = inner (gives_way c s asked row)
     where
@@ -143,7 +143,7 @@ module _ (c : ℕ) (s : Code) (asked : Subject) where
         ∙ ap (λ (q : Code). Some (q, row.0.0, kind)) (same_code_exact row.1.session s u.0)
         ∙ ap (λ (n : ℕ). Some (s, n, kind)) (eqb-true row.0.0 c v.0)
 
-    -- none stands there once the earlier ones have given way
+    -- no appeal has this key once the earlier ones are superseded
     given_apart : (row : (ℕ × Code) × Appeal) (y : SingleKey) → single_key (given row) ≡ Some y → same_single_key place y ≡ false
     given_apart row y at = inner (same_single_key place y) refl
       where
@@ -180,11 +180,11 @@ found_passes {A} p (x ∷ xs) e is = inner (p x) refl is (found_passes p xs e)
     inner true here at rest = let one : x ≡ e = cc in ap p (sym one) ∙ here
     inner false away at rest = rest at
 
--- where no earlier grant is found, all appeals stay
+-- if no earlier grant is found, all appeals stay
 pub none_given : (c : ℕ) (s : Code) (asked : Subject) (rows : List ((ℕ × Code) × Appeal)) → find (is_earlier c s asked) rows ≡ None → map (giving_way c s asked) rows ≡ rows
 none_given c s asked = none_changed appeal_cmp appeals_total (is_earlier c s asked) (giving_way c s asked) (given_kept c s asked)
 
--- where one is found, it alone gives way
+-- if one is found, only this one is superseded
 pub one_given : (c : ℕ) (s : Code) (asked : Subject) (rows : List ((ℕ × Code) × Appeal)) (e : (ℕ × Code) × Appeal) → KeysRise appeal_cmp rows → IsDistinct same_single_key (filter_map single_key rows)
     → find (is_earlier c s asked) rows ≡ Some e → map (giving_way c s asked) rows ≡ put_row appeal_cmp rows e.0 (record e.1 { status = superseded e.1.status })
 one_given c s (subject.Clash p) rows e up distinct found = earlier_given c s (subject.Clash p) [] single.GrantedClash refl rows e up distinct found (found_passes (is_earlier c s (subject.Clash p)) rows e found)

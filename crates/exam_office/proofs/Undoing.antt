@@ -41,7 +41,7 @@ module _ {K X : Type 0} (cmp : K → K → Ordering) (o : IsTotalOrder cmp) wher
           ap (λ r. match_ordering r ((k, y) ∷ e ∷ put_row cmp es k x) ((e.0, y) ∷ put_row cmp es k x) (e ∷ insert_entry cmp (put_row cmp es k x) k y)) is
           ∙ ap (λ t. e ∷ t) rest
 
-  -- the row that was at the key comes back
+  -- the row that was at the key is put back
   pub put_back : (rows : List (K × X)) (k : K) (x y : X) → KeysRise cmp rows → row_at cmp rows k ≡ Some y → put_row cmp (put_row cmp rows k x) k y ≡ rows
   put_back rows k x y up at = put_again rows k x y ∙ put_same cmp o rows k y up at
 
@@ -81,7 +81,7 @@ none_goes_back cmp was rows none = record {
   back = ap (put_rows_back cmp rows) none;
 }
 
--- where nothing is kept yet, nothing has changed
+-- if nothing is kept yet, nothing has changed
 pub none_back : (kept : KeptRows) (r : Relations) → AreNone kept → RowsGoBack kept r r
 none_back kept r none = record {
   sessions = none_goes_back code_cmp kept.sessions.entries r.sessions none.sessions;

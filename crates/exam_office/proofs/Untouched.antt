@@ -379,7 +379,7 @@ module _ (c : ℕ) (own s : Code) (asked : Subject) (away : same_code own s ≡ 
   abbrev given : (ℕ × Code) × Appeal → (ℕ × Code) × Appeal
   given row = giving_way c own asked row
 
-  -- an appeal for the session does not give way
+  -- an appeal for the session is not superseded
   kept : (n : ℕ) (row : (ℕ × Code) × Appeal) → is_granted_appeal s n row ≡ true → given row ≡ row
   kept n row is = inner (same_code row.1.session own) refl
     where
@@ -418,7 +418,7 @@ module _ (c : ℕ) (own s : Code) (asked : Subject) (away : same_code own s ≡ 
       inner true = refl
       inner false = refl
 
-  -- what stands at the key is for the same session
+  -- what is stored at the key is for the same session
   still_for : (rows : List ((ℕ × Code) × Appeal)) (k : ℕ × Code) (a b : Appeal) → row_at appeal_cmp rows k ≡ Some a → row_at appeal_cmp (map given rows) k ≡ Some b → b.session ≡ a.session
   still_for [] k a b at then = absurd (let differ : None ≡ Some a = at in cc)
   still_for (row ∷ rows) k a b at then = inner (is_at (appeal_cmp k) row.0) at (ap (λ q. cond (is_at (appeal_cmp k) q) (Some (given row).1) (row_at appeal_cmp (map given rows) k)) (sym (given_keyed row)) ∙ then) (still_for rows k a b)
@@ -448,7 +448,7 @@ module _ (c : ℕ) (own s : Code) (asked : Subject) (away : same_code own s ≡ 
       elsewhere : (x : Appeal) → same_code x.session s ≡ false → is_granted_appeal s n (k, x) ≡ false
       elsewhere x other = ap (λ b. nat_eq k.0 n && (b && is_granted x.status)) other ∙ none (nat_eq k.0 n) (is_granted x.status)
 
--- where no standing grant gives way, the appellant's are the same
+-- if no standing grant is superseded, the appellant's are the same
 module _ (r : Relations) (c : ℕ) (own : Code) (asked : Subject) where
   still_standing : (rows : List ((ℕ × Code) × Appeal)) → list_any (λ (e : (ℕ × Code) × Appeal). is_earlier c own asked e && is_marked r e.0) rows ≡ false
       → filter (is_standing r c) (map (giving_way c own asked) rows) ≡ filter (is_standing r c) rows
@@ -477,7 +477,7 @@ module _ (r : Relations) (c : ℕ) (own : Code) (asked : Subject) where
           ∙ sym (ap (λ b. cond b (row ∷ filter (is_standing r c) rows) (filter (is_standing r c) rows)) (unmarked (nat_eq row.0.0 c) (is_granted row.1.status) (is_marked r row.0) off))
       inner false stays off rest = ap (λ t. cond (is_standing r c row) (row ∷ t) t) rest
 
--- whoever has no live entry fits nowhere
+-- nobody without a live entry fits anywhere
 unentered_fits : (r : Relations) (s : Code) (c : ℕ) (h : Code) → has_live_entry r s c ≡ false → fits r s c h ≡ false
 unentered_fits r s c h out = ap (λ b. b && (suits_opened (sitting_terms r s c) (opened_room r s h) && not (list_any (same_code h) (barred_halls r s c)))) out
 
@@ -503,7 +503,7 @@ module _ (r : Relations) (refer : refers r ≡ true) (stand : marks_stand r ≡ 
       never : (g : Bool) → (nat_eq d.number d.number && (g && is_marked r key)) ≡ false
       never g = ap (λ m. nat_eq d.number d.number && (g && m)) unmarked ∙ not_granted (nat_eq d.number d.number) g
 
-  -- a grant, which sets or ends a standing one where told, leaves the seating of a session that it does not touch
+  -- a grant, which sets or ends a standing one or neither, leaves the seating of a session that it does not touch
   grant_seating : (o : Outcome) → d.outcome ≡ o → is_grant o ≡ true → grant_touches r d a s ≡ false
       → SameSeating (seating r s) (seating (with_decisions r (put_row appeal_cmp given_rows key granted_row) (with_mark d r.standing)) s)
   grant_seating o is grants untouched = seating_by r (put_row appeal_cmp given_rows key granted_row) (with_mark d r.standing) s (λ n h. by_number n h (nat_eq d.number n) refl)
@@ -529,7 +529,7 @@ module _ (r : Relations) (refer : refers r ≡ true) (stand : marks_stand r ≡ 
           by_outcome outcome.Standing granting = refl
           by_outcome outcome.Refuse granting = absurd (let differ : false ≡ true = granting in cc)
 
-      -- the appellant, where they are a member
+      -- the appellant, if they are a member
       of_member : (h : Code) → has_live_entry r s d.number ≡ true → fits t s d.number h ≡ fits r s d.number h
       of_member h entered =
           let member : is_member r s d.number ≡ true = ap (λ b. b && has_live_entry r s d.number) (entered_known r (parted r refer).entries s d.number entered) ∙ entered in

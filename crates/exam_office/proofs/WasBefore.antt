@@ -1,4 +1,4 @@
--- What the tables and the plans were before a command, told by what takes the command back.
+-- What the tables and the plans were before a command, shown by what takes the command back.
 use Rattle.std.proofs.Common.{◌≡◌, ℕ, ◌&&◌, ◌||◌, not, Bool, true, false, cond, Option, None, Some, is_some, refl, ap, sym, ◌∙◌}
 use Rattle.exam_rules.specs.Orders.{KeysRise}
 use Rattle.exam_rules.specs.Relations.{Code, has_row, row_at, seat_cmp}

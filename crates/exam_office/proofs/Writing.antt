@@ -25,7 +25,7 @@ pub seat_at : (s t : Code) (n c : ℕ) → is_at (seat_cmp (s, n)) (t, c) ≡ (s
 seat_at s t n c = then_eq (code_cmp s t) (nat_cmp n c) ∙ ap (λ x. x && is_eq (nat_cmp n c)) (sym (texts_ties s t)) ∙ ap (λ y. same_code s t && y) (sym (unsigned_ties n c))
 
 module _ (r : Relations) (s : Code) (plan : List (Option ℕ)) where
-  -- where a member among the first i sits
+  -- if a member among the first i sits
   abbrev pub written : ℕ → ℕ → Option Code
   written i c = option_and_then (λ k. cond (nat_lt k i) (option_map (hall_at r s) (plan_at plan k)) None) (index_of r s c)
 

@@ -64,13 +64,13 @@ is_retracted (status.Refused answer) = false
 is_retracted status.Retracted = true
 is_retracted (status.Superseded answer) = false
 
--- a grant, whether or not it stands for later sessions
+-- a grant, whether or not it also holds for later sessions
 abbrev pub is_grant : Outcome → Bool
 is_grant outcome.Grant = true
 is_grant outcome.Standing = true
 is_grant outcome.Refuse = false
 
--- it stands for later sessions, and so its appeal bears the mark
+-- it also holds for later sessions, so its appeal bears the mark
 abbrev pub bears_mark : Outcome → Bool
 bears_mark outcome.Grant = false
 bears_mark outcome.Standing = true
@@ -79,23 +79,23 @@ bears_mark outcome.Refuse = false
 abbrev pub decided : Outcome → List ℕ → Status
 decided o answer = if is_grant o then status.Granted answer else status.Refused answer
 
--- granted with this answer
+-- the appeal was granted with this answer
 abbrev pub is_granted_so : List ℕ → Status → Bool
 is_granted_so answer (status.Granted stored) = same_code answer stored
 is_granted_so answer other = false
 
--- refused with this answer
+-- the appeal was refused with this answer
 abbrev pub is_refused_so : List ℕ → Status → Bool
 is_refused_so answer (status.Refused stored) = same_code answer stored
 is_refused_so answer other = false
 
--- decided so, with this answer and with the mark or without it; what was superseded since is not
+-- the appeal has this outcome with this answer, and with the mark or without it; a superseded grant does not count
 abbrev pub is_decided : Outcome → List ℕ → Bool → Status → Bool
 is_decided outcome.Grant answer marked stored = not marked && is_granted_so answer stored
 is_decided outcome.Standing answer marked stored = marked && is_granted_so answer stored
 is_decided outcome.Refuse answer marked stored = is_refused_so answer stored
 
--- a grant whose place a later one has taken
+-- a grant that a later one has superseded
 abbrev pub superseded : Status → Status
 superseded status.Pending = status.Pending
 superseded (status.Granted answer) = status.Superseded answer
@@ -109,7 +109,7 @@ superseded (status.Superseded answer) = status.Superseded answer
 abbrev pub appeal_at : Relations → ℕ → Code → Option Appeal
 appeal_at r c reference = row_at appeal_cmp r.appeals (c, reference)
 
--- where it stands, if there is one
+-- the state of the candidate's appeal with the reference; pending if there is none
 abbrev pub stored_state : Relations → ℕ → Code → AppealState
 stored_state r c reference =
     option_map_or (λ (a : Appeal). state_of a.status) (appeal_at r c reference) state.Pending

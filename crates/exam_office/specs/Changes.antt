@@ -41,12 +41,12 @@ row_checks r (row.OfCandidate c x) = []
 row_checks r (row.OfEntry c p) = no_candidate r c ∷ no_paper r p ∷ []
 row_checks r (row.OfArrangement c x) = no_candidate r c ∷ []
 
--- of the first row that refers to what is not there
+-- the refusal of the first row that refers to what does not exist
 abbrev pub rows_refusal : Relations → List Row → Option Refusal
 rows_refusal r [] = None
 rows_refusal r (row ∷ rows) = option_or (first_refusal (row_checks r row)) (rows_refusal r rows)
 
--- a new key is added, and a present one set to the row; an entry that is there is left alone
+-- a new key is added, and a present one is set to the row; an entry that exists is left as it is
 abbrev pub with_row : Relations → Row → Relations
 with_row r (row.OfSession s x) = record r { sessions = put_row code_cmp r.sessions s x }
 with_row r (row.OfPaper p x) = record r { papers = put_row code_cmp r.papers p x }
@@ -69,7 +69,7 @@ abbrev pub unless : {A : Type 0} → Option Refusal → A → Result A Refusal
 unless None value = Ok value
 unless (Some refused) value = Err refused
 
--- all references are looked up in the facts as they were, before the limits on the new ones
+-- all references are looked up in the facts before the import, and only then are the limits of the new facts tested
 abbrev pub import_refusal : Relations → List Row → Option Refusal
 import_refusal r rows = option_or (rows_refusal r rows) (first_refusal (too_many (with_rows r rows) ∷ []))
 
@@ -84,7 +84,7 @@ no_entry r c p = (not (has_row entry_cmp r.entries (c, p)), refusal.NoEntry)
 abbrev pub entry_checks : Relations → ℕ → Code → List (Bool × Refusal)
 entry_checks r c p = no_candidate r c ∷ no_paper r p ∷ no_entry r c p ∷ []
 
--- with this live mark of the entry
+-- the entry is made live or withdrawn
 abbrev pub with_live : Relations → ℕ → Code → Bool → Relations
 with_live r c p live = record r { entries = put_row entry_cmp r.entries (c, p) (record { live = live }) }
 
@@ -94,11 +94,11 @@ withdrawal_refusal r c p = first_refusal (entry_checks r c p ++ (not (is_live r 
 abbrev pub withdrawn : Relations → ℕ → Code → Result Relations Refusal
 withdrawn r c p = unless (withdrawal_refusal r c p) (with_live r c p false)
 
--- of the checks on the facts as they are
+-- the refusal by the checks on the facts as they are
 abbrev pub revival_refusal : Relations → ℕ → Code → Option Refusal
 revival_refusal r c p = first_refusal (entry_checks r c p ++ (is_live r c p, refusal.NotWithdrawn) ∷ [])
 
--- and then of the limits on the new ones
+-- then that by the limits of the new facts
 abbrev pub reinstatement_refusal : Relations → ℕ → Code → Option Refusal
 reinstatement_refusal r c p = option_or (revival_refusal r c p) (first_refusal (too_many (with_live r c p true) ∷ []))
 

@@ -23,25 +23,25 @@ abbrev pub is_too_late : Relations → Code → ℕ → Bool
 is_too_late r s today =
     option_map_or (λ (x : Session). nat_le x.day today) (row_at code_cmp r.sessions s) true
 
--- of a granted clash: the paper is still a live one of the candidate in the session
+-- for a granted clash: the paper is still a live one of the candidate in the session
 abbrev pub paper_checks : Relations → Code → ℕ → Subject → List (Bool × Refusal)
 paper_checks r s c (subject.Hall h) = []
 paper_checks r s c (subject.Clash p) = (not (is_live_paper r s c p), refusal.NoEntry) ∷ []
 paper_checks r s c (subject.Arrangement a) = []
 
--- only the grant of an arrangement stands for later sessions
+-- only the grant of an arrangement may also hold for later sessions
 abbrev pub not_arrangement : Appeal → Outcome → Bool × Refusal
 not_arrangement a o = (bears_mark o && is_none (asked_arrangement a.subject), refusal.NotArrangement)
 
--- of a grant: the candidate is still a member
+-- for a grant: the candidate is still a member
 abbrev pub grant_checks : Relations → ℕ → Appeal → Outcome → List (Bool × Refusal)
 grant_checks r c a o = if is_grant o then not_member r a.session c ∷ paper_checks r a.session c a.subject else []
 
--- the decision is made already: so is the appeal decided, with this answer, and with the mark or without it
+-- the decision is already made: the appeal has this outcome with this answer, and with the mark or without it
 abbrev pub is_made : Relations → Decision → Appeal → Bool
 is_made r d a = is_decided d.outcome d.answer (is_marked r (d.number, d.reference)) a.status
 
--- of an appeal that is not decided so already
+-- the checks of an appeal that does not have this decision already
 abbrev pub open_checks : Relations → ℕ → Decision → Appeal → List (Bool × Refusal)
 open_checks r today d a =
     (not (is_open a.status), refusal.NotOpenAppeal)
@@ -58,7 +58,7 @@ decision_refusal r today d = first_refusal (decision_checks r today d (appeal_at
 
 -- ---- the facts
 
--- an appeal of the candidate for the session, whose place a grant on the subject takes
+-- an appeal of the candidate for the session that a grant on the subject supersedes if it was granted
 abbrev pub gives_way : ℕ → Code → Subject → (ℕ × Code) × Appeal → Bool
 gives_way c s asked a = (a.0.0 == c) && (same_code a.1.session s && supersedes asked a.1.subject)
 
@@ -66,7 +66,7 @@ abbrev pub giving_way : ℕ → Code → Subject → (ℕ × Code) × Appeal →
 giving_way c s asked a =
     if gives_way c s asked a then (a.0, record a.1 { status = superseded a.1.status }) else a
 
--- a granted one of them
+-- one of them that was granted
 abbrev pub is_earlier : ℕ → Code → Subject → (ℕ × Code) × Appeal → Bool
 is_earlier c s asked a = gives_way c s asked a && is_granted a.1.status
 
@@ -78,7 +78,7 @@ with_superseded c a o appeals = if is_grant o then map (giving_way c a.session a
 abbrev pub without_mark : ℕ × Code → List ((ℕ × Code) × Unit {0}) → List ((ℕ × Code) × Unit {0})
 without_mark key standing = filter (λ (m : (ℕ × Code) × Unit {0}). not (is_eq (appeal_cmp key m.0))) standing
 
--- with a mark for the appeal exactly where its grant stands for later sessions
+-- with a mark for the appeal exactly if its grant also holds for later sessions
 abbrev pub with_mark : Decision → List ((ℕ × Code) × Unit {0}) → List ((ℕ × Code) × Unit {0})
 with_mark d standing =
     if bears_mark d.outcome then put_row appeal_cmp standing (d.number, d.reference) tt
@@ -92,7 +92,7 @@ with_outcome r d a = record r {
   standing = with_mark d r.standing;
 }
 
--- with the stored appeal decided, if there is one and it is not decided so already
+-- with the stored appeal decided, if there is one and the decision is not already made
 abbrev pub with_decided : Relations → Decision → Option Appeal → Relations
 with_decided r d None = r
 with_decided r d (Some a) = if is_made r d a then r else with_outcome r d a

@@ -23,9 +23,9 @@ pub record DraftIn : Type 0 where
   pub after : State
   pub reply : Reply
 
--- ---- of the code
+-- ---- definitions that only the code uses
 
--- the seats before, where those of the new plans are put and those of the old ones not yet taken away
+-- the seats before the command, from seats that have those of the new plans and still have those of the old ones
 abbrev pub seats_before : Option Plans → Seats → Seats → Seats
 seats_before None new seats = seats
 seats_before (Some old) new seats = taken_back seat_cmp seats old.entries new
@@ -68,7 +68,7 @@ WereLists made after before =
     ((s : Code) → listed before.members.entries s ≡ members_before made.lists after s)
     × ((s : Code) → listed before.halls.entries s ≡ halls_before made.lists after s)
 
--- what a draft keeps, so that it may be finished and taken back
+-- what a draft keeps so that it can be finished and taken back
 pub record IsDraft (part : Part) (lists : SessionLists) (seats : Seats) (made : Made) : Type 0 where
   pub good : IsGood (state_after part seats made)
   pub listed_now : AreListsOf (relations_of part.facts) lists

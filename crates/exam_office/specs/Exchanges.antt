@@ -1,4 +1,4 @@
--- How some rows take the place of others, key by key, and how they are taken back.
+-- How some rows replace others, key by key, and how they are taken back.
 use Rattle.std.specs.Prelude.{◌≡◌, IsTrue, List, fold, Option, None, Some, if◌then◌else◌}
 use Rattle.std.specs.declared.cmp.Ordering.{Ordering}
 use Rattle.std.specs.declared.cmp.Ordering.TheVariants.{Equal}
@@ -22,7 +22,7 @@ module _ {K X : Type 0} (cmp : K → K → Ordering) where
   abbrev pub HasRows : {Y : Type 0} → List (K × Y) → List (K × X) → Type 0
   HasRows was rows = (k : K) → IsTrue (has_row cmp was k) → IsTrue (has_row cmp rows k)
 
-  -- each of these keys has a row among the new ones, which with the keys as they were are the old ones
+  -- each of these keys has a row among the new ones; putting the keys back as they were gives the old rows
   pub record GoBack (was : List (K × Option X)) (new old : List (K × X)) : Type 0 where
     pub there : HasRows was new
     pub back : put_back new was ≡ old

@@ -41,7 +41,7 @@ may_pass_limit (command.Lodge l) = true
 may_pass_limit (command.Retract c reference) = false
 may_pass_limit (command.Decide d) = false
 
--- The new facts are those that the command, on some day, made of a good office with the old facts.
+-- The new facts are what the command, on some day, made of the old facts of a good office.
 pub record WasMade (done : Command) (old new : Relations) : Type 0 where
   pub today : ℕ
   pub office : State

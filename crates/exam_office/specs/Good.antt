@@ -19,7 +19,7 @@ use Rattle.exam_office.specs.Singles.{AreSingle}
 use Rattle.exam_office.specs.declared.tables.Table.{Table}
 use Rattle.exam_office.specs.declared.tables.Table.TheVariants as table
 
--- ---- what each row refers to is there
+-- ---- whatever a row refers to exists
 
 abbrev pub papers_refer : Relations → Bool
 papers_refer r = list_all (λ x. has_row code_cmp r.sessions x.1.session) r.papers
@@ -35,7 +35,7 @@ entries_refer r =
 abbrev pub arrangements_refer : Relations → Bool
 arrangements_refer r = list_all (λ x. has_row nat_cmp r.candidates x.0) r.arrangements
 
--- what an appeal's subject names is there
+-- what an appeal's subject names exists
 abbrev pub subject_refers : Relations → Subject → Bool
 subject_refers r (subject.Hall h) = has_row code_cmp r.halls h
 subject_refers r (subject.Clash p) = has_row code_cmp r.papers p
@@ -59,7 +59,7 @@ was_granted (status.Superseded answer) = true
 abbrev pub may_bear : Appeal → Bool
 may_bear a = is_some (asked_arrangement a.subject) && was_granted a.status
 
--- of each mark the appeal is there and may bear it
+-- the appeal of each mark exists and may bear it
 abbrev pub marks_stand : Relations → Bool
 marks_stand r = list_all (λ m. option_map_or may_bear (row_at appeal_cmp r.appeals m.0) false) r.standing
 
@@ -77,10 +77,10 @@ pub record IsGood (office : State) : Type 0 where
   pub marks : IsTrue (marks_stand office.relations)
   pub best : (s : Code) → IsBest (seating office.relations s) (plan_of office.seats s)
 
--- ---- table by table
+-- ---- by tables
 
--- The rows of the table refer to what is there, and the limits that belong to it hold; of appeals those that
--- stand alone do; the appeal of each mark may bear it; of seats every session's plan is best.
+-- The rows of the table refer to what exists, and the limits that belong to it hold. Of appeals, a candidate has only
+-- once what they may have only once; the appeal of each mark may bear it; of seats, every session's plan is best.
 abbrev pub IsTableGood : State → Table → Type 0
 IsTableGood office table.Sessions = IsTrue (limits.sessions_within office.relations)
 IsTableGood office table.Papers =
@@ -98,7 +98,7 @@ IsTableGood office table.Appeals =
 IsTableGood office table.Standing = IsTrue (marks_stand office.relations)
 IsTableGood office table.Seats = (s : Code) → IsBest (seating office.relations s) (plan_of office.seats s)
 
--- in the order in which they are looked at
+-- the tables in the order in which they are checked
 abbrev pub tables : List Table
 tables =
     table.Sessions ∷ table.Papers ∷ table.Halls ∷ table.Openings ∷ table.Candidates ∷ table.Entries

@@ -11,8 +11,7 @@ abbrev pub desk_of : State → Code → ℕ → Option ℕ
 desk_of office s c =
     desk_number (seating office.relations s) (stands_before office.relations s) (plan_of office.seats s) c
 
--- Whoever sits is a member, and sits in a hall that fits them, at one of its desks and alone there; and no
--- lawful plan seats more.
+-- Everybody who sits is a member, and sits alone at a desk of a hall that fits them. No lawful plan seats more.
 pub record IsSeated (office : State) (s : Code) : Type 0 where
   pub member : (c : ℕ) (h : Code) → plan_of office.seats s c ≡ Some h → Contains (members office.relations s) c
   pub fitting : (c : ℕ) (h : Code) → plan_of office.seats s c ≡ Some h → IsTrue (fits office.relations s c h)

@@ -1,4 +1,4 @@
--- Imports: their rows, and what rows with one key must agree in.
+-- Imports: their rows, and what rows with the same key must have in common.
 use Rattle.std.specs.Prelude.{◌≡◌, ℕ, Option, Bool, true, false, not, ◌==◌, ◌&&◌, List, [], ◌∷◌, All, filter}
 use Rattle.std.specs.List.{list_any, position_from}
 use Rattle.exam_rules.specs.Relations.{same_code}
@@ -50,7 +50,7 @@ same_key k l = false
 abbrev pub has_key : Key → Row → Bool
 has_key k row = same_key (key_of row) k
 
--- the same key and the same content
+-- the rows have the same key and the same contents
 abbrev pub same_row : Row → Row → Bool
 same_row (OfSession s x) (OfSession t y) = same_code s t && same_session x y
 same_row (OfPaper p x) (OfPaper q y) = same_code p q && same_paper x y
@@ -61,7 +61,7 @@ same_row (OfEntry c p) (OfEntry d q) = (c == d) && same_code p q
 same_row (OfArrangement c x) (OfArrangement d y) = (c == d) && same_arrangement x y
 same_row x y = false
 
--- some of the rows has the key of this one, and another content
+-- one of the rows has the key of this one but other contents
 abbrev pub conflicts : Row → List Row → Bool
 conflicts row rows = list_any (λ r. has_key (key_of row) r && not (same_row r row)) rows
 
@@ -74,7 +74,7 @@ is_consistent (r ∷ rs) = not (conflicts r rs) && is_consistent rs
 abbrev pub place_of : Row → List Row → Option ℕ
 place_of row rows = position_from (has_key (key_of row)) 0 rows
 
--- all rows are of a kind
+-- all rows are of the kind
 abbrev pub AreOfKind : Kind → List Row → Type 0
 AreOfKind kind rows = All (λ row. kind_of row ≡ kind) rows
 

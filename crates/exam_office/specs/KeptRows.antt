@@ -1,4 +1,4 @@
--- The rows that a command leaves in the tables: all, but for the opening that the closing of a hall takes away.
+-- The rows that a command leaves in the tables: all except the opening that closing a hall takes away.
 use Rattle.std.specs.Prelude.{◌≡◌, ℕ, IsTrue, List}
 use Rattle.std.specs.declared.cmp.Ordering.{Ordering}
 use Rattle.std.specs.Ordering.{nat_cmp}
@@ -6,11 +6,11 @@ use Rattle.exam_rules.specs.Relations.{Code, Relations, appeal_cmp, code_cmp, en
 use Rattle.exam_office.specs.declared.command.Command.{Command}
 use Rattle.exam_office.specs.declared.command.Command.TheVariants as command
 
--- each key of the one table is one of the other
+-- each key of the one table is also in the other
 abbrev pub KeepsKeys : {K X : Type 0} → (K → K → Ordering) → List (K × X) → List (K × X) → Type 0
 KeepsKeys {K} cmp before after = (k : K) → IsTrue (has_row cmp before k) → IsTrue (has_row cmp after k)
 
--- each table of facts but that of openings keeps its keys
+-- each table of facts except that of openings keeps its keys
 pub record KeepsRows (before after : Relations) : Type 0 where
   pub sessions : KeepsKeys code_cmp before.sessions after.sessions
   pub papers : KeepsKeys code_cmp before.papers after.papers
@@ -26,7 +26,7 @@ abbrev pub IsClosing : Command → Code × Code → Type 0
 IsClosing (command.CloseHall s h) k = k ≡ (s, h)
 IsClosing _ k = ⊥
 
--- the table of openings keeps its keys but for the one that the command closes
+-- the table of openings keeps its keys except the one that the command closes
 abbrev pub KeepsOpenings : Command → Relations → Relations → Type 0
 KeepsOpenings done before after =
     (k : Code × Code) → (IsClosing done k → ⊥) → IsTrue (has_row opening_cmp before.openings k)

@@ -4,31 +4,32 @@
 --   are the same row; when a row contradicts an earlier one; the first row of each key
 -- - SameRows: when the contents of two rows of a table are the same, column by column
 -- - State: an office as its relations and seats; the empty office
--- - Limits: the seven limits of an office, by the table to which each belongs
--- - Singles: what may be there once only: a granted clash or arrangement appeal, and an open appeal of each
---   kind, of a candidate for a session
--- - Good: a good office: references, limits, appeals that stand alone, every session's plan best;
+-- - Limits: the seven limits of an office, by the table to which each belongs; the two that were less in an older
+--   version of the tables
+-- - Singles: what a candidate may have only once for a session: a granted clash or arrangement appeal, and an open
+--   appeal of each kind
+-- - Good: a good office: references, limits, appeals that a candidate may have only once, every session's plan best;
 --   the same table by table, and the first table that is bad
 -- - Changes: the checks of a command in their order, the first refusal, the facts after it
 -- - Appeals: kinds, closing days and states of appeals; what is stored of one; whether one of a
 --   kind is open
 -- - Lodgings: the checks of a lodging and of a retraction in their order, and the facts after them
--- - Decisions: the same of a decision: which grants give way, and who is seated first
+-- - Decisions: the same for a decision: which grants it supersedes, and who is seated first
 -- - NextPlans: the plans and the reply that a command makes, from its change of the facts on
 -- - Drafts: a command that is carried out on an office and may still be taken back
--- - TablesBefore: what the tables and the plans were before a command, told beside what they are after it
+-- - TablesBefore: what the tables and the plans were before a command, described by what they are after it
 -- - Relisting: what a command changes in the lists of members and open halls, and how they are put back as they
 --   were
--- - Exchanges: rows that take the place of others, key by key, and how they are taken back
--- - FactsMade: of each command the facts before the limits are tested, and the refusal by the checks on the
---   facts as they are
+-- - Exchanges: how rows replace others, key by key, and how they are taken back
+-- - FactsMade: for each command, the facts before the limits are tested, and the refusal by the checks on the facts as
+--   they are
 -- - Moves: how many others sit, over all sessions, in another hall than before
--- - Replies: whether the stored row is the same, another or not there; the counts over the first
---   rows of the keys of a file; what each command answers
+-- - Replies: whether the stored row is the same, is another or does not exist; the counts over the first rows of the
+--   keys of a file; what each command answers
 -- - Repairs: the new plan of a session: the repair of the old one for the new facts, and best
--- - Steps: one command and its change: the facts change or the refusal names why not, every session
---   has its next plan, the reply; whom each command seats for certain, and whom it names; a run
---   over commands with their days, each of which may also run out of memory and change nothing
+-- - Steps: one command and its change: either the facts change or the refusal says why not, every session has its next
+--   plan, the reply; who keeps a seat for certain, and which candidate a command names; a run over commands with their
+--   days, each of which may also run out of memory and change nothing
 -- - Orders: that the keys of every table and of the seats rise
 -- - Touched: which sessions a command touches
 -- - Parts: the facts and the plans that one command reads, and the office with them put back
@@ -36,14 +37,13 @@
 -- - Undoing: the facts with a change taken back; what an import changes beside its own table: nothing
 -- - Words: the words for the kinds, the states and the subjects of appeals
 -- - Examples: worked plans, computed by the check
--- - Headline: what an office promises of every session: whoever sits is a member and has a hall
---   that fits them and a desk of their own in it, and no lawful plan seats more
--- - Between: commands of which none is an import or the closing of a hall
--- - KeptRows: the rows that a command leaves in the tables: all, but for the opening that the closing of a hall
---   takes away
--- - Views: a session as it is shown: its row, the halls, its openings, members, papers, clashes and
---   appeals, and its seating problem with a best plan; the seats and the shortages that such a view
---   shows; and the same said of the office, by numbers and codes
+-- - Headline: what an office promises for every session: everybody who sits is a member and has a hall that fits them
+--   and a desk of their own in it, and no lawful plan seats more
+-- - Between: lists of commands without an import or the closing of a hall
+-- - KeptRows: the rows that a command leaves in the tables: all except the opening that closing a hall takes away
+-- - Views: a session as it is shown: its row, the halls, its openings, members, papers, clashes and appeals, and its
+--   seating problem with a best plan; the seats and the shortages that such a view shows; and the same for the office,
+--   by numbers and codes
 -- - Own, Entered: what the office shows of one candidate; the sessions for whose papers they have
 --   live entries
 pub mod Appeals

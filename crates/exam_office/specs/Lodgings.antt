@@ -28,7 +28,7 @@ last_day x asked = x.day - notice_days asked
 abbrev pub not_member : Relations → Code → ℕ → Bool × Refusal
 not_member r s c = (not (is_member r s c), refusal.NotInSession)
 
--- of the row of the session, where it is there: the last day to lodge is not over
+-- refused if there is no such session, or after its last day to lodge
 abbrev pub closing_check : Subject → ℕ → Option Session → Bool × Refusal
 closing_check asked today None = (true, refusal.NotInSession)
 closing_check asked today (Some x) = (nat_lt (last_day x asked) today, refusal.PastClosing (last_day x asked))
@@ -36,7 +36,7 @@ closing_check asked today (Some x) = (nat_lt (last_day x asked) today, refusal.P
 abbrev pub past_closing : Relations → Code → Subject → ℕ → Bool × Refusal
 past_closing r s asked today = closing_check asked today (row_at code_cmp r.sessions s)
 
--- the hall is not the candidate's own
+-- the candidate does not sit in the hall
 abbrev pub not_seated_there : Seats → Code → ℕ → Code → Bool × Refusal
 not_seated_there seats s c h =
     (not (option_map_or (same_code h) (plan_of seats s c) false), refusal.NotSeatedThere)
@@ -49,30 +49,30 @@ clash_checks r s c p =
     ∷ (option_map_or (same_code p) (sitting r s c) false, refusal.NothingToChange)
     ∷ []
 
--- the arrangement is the one in force
+-- the arrangement is the one that is in force
 abbrev pub in_force : Relations → Code → ℕ → Arrangement → Bool × Refusal
 in_force r s c a = (same_arrangement a (arrangement_in_force r s c), refusal.NothingToChange)
 
--- by the kind of the appeal
+-- the checks that belong to the kind of the appeal
 abbrev pub subject_checks : Relations → Seats → Code → ℕ → Subject → List (Bool × Refusal)
 subject_checks r seats s c (subject.Hall h) = not_seated_there seats s c h ∷ []
 subject_checks r seats s c (subject.Clash p) = clash_checks r s c p
 subject_checks r seats s c (subject.Arrangement a) = in_force r s c a ∷ []
 
--- the same appeal as the stored one, whatever became of it and whenever it was lodged
+-- the appeal is the stored one, whatever became of it and whenever it was lodged
 abbrev pub is_same_lodging : Lodging → Appeal → Bool
 is_same_lodging l a =
     same_code l.session a.session && (same_subject l.subject a.subject && same_code l.reason a.reason)
 
--- the reference is another appeal's
+-- the reference belongs to another appeal
 abbrev pub other_appeal : Lodging → Appeal → Bool × Refusal
 other_appeal l a = (not (is_same_lodging l a), refusal.RefTaken)
 
--- an open appeal of its kind
+-- there is an open appeal of this kind
 abbrev pub appeal_stands : Relations → Lodging → Bool × Refusal
 appeal_stands r l = (has_open_appeal r l.number l.session l.subject, refusal.AppealStands)
 
--- of an appeal beside the one that is stored under its reference, if one is
+-- the checks of an appeal; against the appeal that is stored under its reference, if one is
 abbrev pub lodging_checks : Relations → Seats → ℕ → Lodging → Option Appeal → List (Bool × Refusal)
 lodging_checks r seats today l (Some a) = other_appeal l a ∷ []
 lodging_checks r seats today l None =
@@ -99,14 +99,14 @@ abbrev pub with_lodging : Relations → ℕ → Lodging → Relations
 with_lodging r today l =
     if is_none (appeal_at r l.number l.reference) then with_appeal r today l else r
 
--- the limits on the facts as they become, where the appeal is a new one
+-- the limits of the facts after the lodging, if the appeal is a new one
 abbrev pub one_too_many : Relations → ℕ → Lodging → Bool × Refusal
 one_too_many r today l = (
   is_none (appeal_at r l.number l.reference) && not (within_limits (with_appeal r today l)),
   refusal.TooMany,
 )
 
--- of the checks on the facts as they are
+-- the refusal by the checks on the facts as they are
 abbrev pub standing_refusal : Relations → Seats → ℕ → Lodging → Option Refusal
 standing_refusal r seats today l =
     first_refusal (no_candidate r l.number
@@ -121,7 +121,7 @@ lodged r seats today l = unless (lodging_refusal r seats today l) (with_lodging 
 
 -- ---- retracting
 
--- it is there, and open or retracted already
+-- the appeal exists, and is open or retracted already
 abbrev pub retraction_checks : Option Appeal → List (Bool × Refusal)
 retraction_checks None = (true, refusal.UnknownAppeal) ∷ []
 retraction_checks (Some a) =
@@ -136,7 +136,7 @@ with_retracted_appeal r c reference a = record r {
   appeals = put_row appeal_cmp r.appeals (c, reference) (record a { status = status.Retracted });
 }
 
--- with the stored appeal retracted, if there is one and it is not so yet
+-- with the stored appeal retracted, if there is one and it is not retracted already
 abbrev pub with_retracted : Relations → ℕ → Code → Option Appeal → Relations
 with_retracted r c reference None = r
 with_retracted r c reference (Some a) =

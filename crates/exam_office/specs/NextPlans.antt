@@ -43,12 +43,12 @@ keeps_plans (command.Lodge l) = true
 keeps_plans (command.Retract c reference) = true
 keeps_plans (command.Decide d) = refuses d.outcome
 
--- the plans of these sessions, repaired, and nobody seated in another
+-- the plans of these sessions are repaired, and nobody is seated in other sessions
 pub record AreRepaired (t : Relations) (first : Option ℕ) (sessions : List Code) (old new : Seats) : Type 0 where
   pub repaired : (s : Code) → Contains sessions s → IsRepaired t first old new s
   pub others : (s : Code) (c : ℕ) → (Contains sessions s → ⊥) → plan_of new s c ≡ None
 
--- the next plans of the sessions that the command touches, or none where it changes no plan
+-- the next plans of the sessions that the command touches, or none if it changes no plan
 abbrev pub AreNext : Command → Relations → List Code → Seats → Option Plans → Type 0
 AreNext done t sessions old None = keeps_plans done ≡ true
 AreNext done t sessions old (Some new) =
@@ -59,7 +59,7 @@ AreDecided d o t sessions old None = refuses o ≡ true
 AreDecided d o t sessions old (Some new) =
     (refuses o ≡ false) × AreRepaired t (Some d.number) sessions old new.entries
 
--- the plans after: the next ones, or these where they stay
+-- the plans after: the next ones, or these if they stay
 abbrev pub after_plans : Option Plans → Seats → Seats
 after_plans None old = old
 after_plans (Some new) old = new.entries
@@ -69,19 +69,19 @@ abbrev pub IsGiven : Option Plans → Seats → Type 0
 IsGiven None old = ⊥
 IsGiven (Some kept) old = kept.entries ≡ old
 
--- the next plans are in the place of the old ones, which are given
+-- the next plans are in the place of the old ones, which are returned
 abbrev pub ArePut : Option Plans → Seats → Seats → Option Plans → Type 0
 ArePut None old new given = (new ≡ old) × (given ≡ None)
 ArePut (Some next) old new given = (new ≡ next.entries) × IsGiven given old
 
--- What is kept of the plans: they are as they were and the command changes none; or these were they, and the
--- new ones seat nobody in a session that the command does not touch.
+-- What is kept of the plans. Either nothing: they are as they were, and the command changes no plan. Or the plans as
+-- they were; then the new ones seat nobody in a session that the command does not touch.
 abbrev pub PlansBack : Command → Relations → Option Plans → Seats → Seats → Type 0
 PlansBack done r None new old = (new ≡ old) × (keeps_plans done ≡ true)
 PlansBack done r (Some kept) new old =
     (kept.entries ≡ old) × ((s : Code) (c : ℕ) → touches r done s ≡ false → plan_of new s c ≡ None)
 
--- refused for want of memory, or where a limit is passed
+-- refused because memory ran out or a limit was passed
 abbrev pub IsLimitRefusal : Command → Relations → Refusal → Type 0
 IsLimitRefusal done t e =
     (e ≡ NoMemory)
@@ -89,7 +89,7 @@ IsLimitRefusal done t e =
 
 -- ---- the reply
 
--- without the plans: of a decision, as if it were a repeated one
+-- what can be answered without the plans; for a decision, the answer to a repeated one
 abbrev pub first_reply : Command → Relations → Relations → Reply
 first_reply (command.Import import) old new = import_reply old import.rows
 first_reply (command.Withdraw c p) old new = reply.Withdrawn
@@ -99,7 +99,7 @@ first_reply (command.Lodge l) old new = reply.Lodged (stored_state new l.number 
 first_reply (command.Retract c reference) old new = reply.Retracted
 first_reply (command.Decide d) old new = reply.Unchanged
 
--- the session of the appeal that is decided, unless it is decided so already
+-- the session of the appeal that is decided, unless the decision is already made
 abbrev pub decided_session : Relations → Decision → Appeal → Option Code
 decided_session r d a = if is_made r d a then None else Some a.session
 
@@ -112,7 +112,7 @@ newly_decided r (command.Lodge l) = None
 newly_decided r (command.Retract c reference) = None
 newly_decided r (command.Decide d) = option_and_then (decided_session r d) (appeal_at r d.number d.reference)
 
--- of the decision of an appeal for the session
+-- the answer to the decision of an appeal for the session
 abbrev pub decided_reply : Decision → Code → Relations → Seats → Seats → Reply
 decided_reply d s t old new =
     reply.Decided (stored_state t d.number d.reference) (plan_of new s d.number) (moved old new d.number)

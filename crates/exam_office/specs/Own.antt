@@ -16,8 +16,8 @@ use Rattle.exam_office.specs.declared.own.Own.{Own}
 use Rattle.exam_office.specs.declared.own.OwnAppeal.{OwnAppeal}
 use Rattle.exam_office.specs.declared.own.OwnSession.{OwnSession}
 
--- a session of which the candidate is a member, as they see it: when it is held, their live papers in it,
--- which they sit, which clash, under which arrangement, until when, where, and at which desk
+-- a session as its member sees it: when it is held, their live papers in it, which one they sit, which clash, under
+-- which arrangement, until when, where, and at which desk
 pub record OwnSessionRow : Type 0 where
   pub session : Code
   pub day : ℕ
@@ -38,9 +38,9 @@ pub record OwnRows : Type 0 where
   pub sessions : List OwnSessionRow
   pub appeals : List OwnAppeal
 
--- ---- of the office
+-- ---- what is taken from the office
 
--- the session, where the member sits this paper and ends at this time
+-- the session, for a member who sits this paper and ends at this time
 abbrev pub session_row : State → ℕ → Code × Session → Code → ℕ → OwnSessionRow
 session_row office c held paper end = record {
   session = held.0;
@@ -55,7 +55,7 @@ session_row office c held paper end = record {
   desk = desk_of office held.0 c;
 }
 
--- the session as its member sees it, who sits a paper and ends at some time
+-- the session as its member sees it, who sits some paper and ends at some time
 abbrev pub own_session : State → ℕ → Code × Session → Option OwnSessionRow
 own_session office c held =
     option_and_then (λ paper. option_map (session_row office c held paper) (finish office.relations held.0 c))
@@ -85,11 +85,11 @@ own_rows office c row = record {
   appeals = own_appeals office.relations c;
 }
 
--- what the office shows of the candidate with the number, if there is one
+-- what the office shows of the candidate with the number, or none
 abbrev pub own_of : State → ℕ → Option OwnRows
 own_of office c = option_map (own_rows office c) (row_at nat_cmp office.relations.candidates c)
 
--- ---- as it is answered
+-- ---- what is answered
 
 -- an answered session as plain values
 abbrev pub shown_session : OwnSession → OwnSessionRow

@@ -27,8 +27,8 @@ use Rattle.exam_office.specs.Touched.{decision_touches, is_appeal_for, touches}
 abbrev pub state_of : Part → State
 state_of part = record { relations = relations_of part.facts; seats = part.plans.entries }
 
--- Of the session the command reads the plan: of each that it touches; a lodging, of the session named; a
--- decision, of the appeal's, whatever its outcome, and of each that it touches.
+-- The command reads the plan of each session that it touches; a lodging also that of the session it names; a decision,
+-- whatever its outcome, also that of the appeal's session.
 abbrev pub reads : Relations → Command → Code → Bool
 reads r (command.Import import) s = touches r (command.Import import) s
 reads r (command.Withdraw c p) s = touches r (command.Withdraw c p) s
@@ -38,8 +38,8 @@ reads r (command.Lodge l) s = same_code l.session s
 reads r (command.Retract c reference) s = touches r (command.Retract c reference) s
 reads r (command.Decide d) s = is_appeal_for (appeal_at r d.number d.reference) s || decision_touches r d s
 
--- The part agrees with the office: it has its facts, its plans of the sessions that the command reads, and
--- nobody seated in another.
+-- The part agrees with the office: it has its facts and its plans of the sessions that the command reads, and seats
+-- nobody in other sessions.
 pub record Agrees (done : Command) (office part : State) : Type 0 where
   pub facts : part.relations ≡ office.relations
   pub read : (s : Code) → reads office.relations done s ≡ true
@@ -50,8 +50,8 @@ pub record Agrees (done : Command) (office part : State) : Type 0 where
 abbrev pub IsPartFor : Command → State → Type 0
 IsPartFor done part = (office : State) × IsGood office × IsInOrder office × Agrees done office part
 
--- The office with the part put back: the facts of the part, its plans of the sessions that the command reads,
--- and the office's own plan of every other.
+-- The office with the part put back: the facts of the part, its plans of the sessions that the command reads, and the
+-- office's own plan of every other session.
 pub record IsPutBack (done : Command) (office part after : State) : Type 0 where
   pub facts : after.relations ≡ part.relations
   pub read : (s : Code) → reads office.relations done s ≡ true
@@ -60,10 +60,10 @@ pub record IsPutBack (done : Command) (office part after : State) : Type 0 where
       → SamePlan (plan_of after.seats s) (plan_of office.seats s)
   pub order : IsInOrder after
 
--- ---- of the code
+-- ---- definitions that only the code uses
 
--- What an accepted command makes of a part: the new facts, the repaired plans of the sessions that it touches,
--- the plans as they were of the others that it reads, and what it answers.
+-- What an accepted command makes of a part: the new facts, the repaired plans of the sessions that it touches, the
+-- unchanged plans of the others that it reads, and what it answers.
 pub record IsMadeIn (done : Command) (today : ℕ) (old new : State) (reply : Reply) : Type 0 where
   pub changed : change done today old ≡ Ok new.relations
   pub repaired : (s : Code) → touches old.relations done s ≡ true
@@ -76,12 +76,12 @@ pub record IsMadeIn (done : Command) (today : ℕ) (old new : State) (reply : Re
 abbrev pub is_listed : SessionLists → Code → ℕ → Bool
 is_listed lists s c = list_any (λ (e : Entrant). nat_eq e.number c) (listed lists.members.entries s)
 
--- who sits where, once the listed members of the session are seated as they sit
+-- who sits where after the listed members of the session are seated as in the office
 abbrev pub copied : SessionLists → Seats → Code → Seats → Code → ℕ → Option Code
 copied lists seats session plans s c =
     if same_code session s && is_listed lists session c then option_or (plan_of seats s c) (plan_of plans s c)
     else plan_of plans s c
 
--- for want of memory, or as the change of the part is
+-- refused because memory ran out, or as the change of the part is refused
 abbrev pub IsRefusedIn : Command → ℕ → State → Refusal → Type 0
 IsRefusedIn done today old e = (e ≡ NoMemory) ⊎ (change done today old ≡ Err e)

@@ -17,7 +17,7 @@ use Rattle.exam_office.specs.Imports.{AreOfKind}
 use Rattle.exam_office.specs.declared.relisting.ListUndo.{ListUndo}
 use Rattle.exam_office.specs.declared.relisting.ListUndo.TheVariants as undo
 
--- the session's list among some, where it is one of them, and otherwise the one of the lists
+-- the session's list among some, if it has one there, and otherwise the one of the lists
 abbrev pub list_before : List (Code × Vec Entrant Global) → SessionLists → Code → List Entrant
 list_before some lists s =
     option_map_or (λ (list : Vec Entrant Global). list.items) (row_at code_cmp some s)
@@ -64,7 +64,7 @@ pub record ListsBack (undo : ListUndo) (new old : SessionLists) : Type 0 where
   pub members : (s : Code) → members_before undo new s ≡ listed old.members.entries s
   pub halls : (s : Code) → halls_before undo new s ≡ listed old.halls.entries s
 
--- the new facts are the old ones with the entry of the candidate for the paper live or withdrawn
+-- the new facts are the old ones with the candidate's entry for the paper live or withdrawn
 pub record SetsLive (old new : Relations) (c : ℕ) (p : Code) : Type 0 where
   pub live : Bool
   pub facts : new ≡ with_live old c p live
@@ -73,7 +73,7 @@ pub record SetsLive (old new : Relations) (c : ℕ) (p : Code) : Type 0 where
 abbrev pub live_session : Relations → ℕ → Code → Option Code
 live_session r c p = option_and_then (entered_session r p) (row_at entry_cmp r.entries (c, p))
 
--- the rows are of entries, refer to what is there, and make these facts of the first ones
+-- the rows are entries, refer to what exists, and make these facts of the first ones
 pub record EntersRows (first : Relations) (rows : List Row) (made : Relations) : Type 0 where
   pub order : AreInOrder first
   pub kind : AreOfKind kind.Entries rows
@@ -90,7 +90,7 @@ is_unlisted kind.Candidates = true
 is_unlisted kind.Entries = false
 is_unlisted kind.Arrangements = true
 
--- the command changes appeals alone, which no list shows
+-- the command changes only appeals, which no list shows
 abbrev pub keeps_lists : Command → Bool
 keeps_lists (command.Import import) = false
 keeps_lists (command.Withdraw c p) = false

@@ -19,7 +19,7 @@ use Rattle.exam_office.specs.Imports.{distinct_rows}
 use Rattle.exam_office.specs.State.{State}
 use Rattle.exam_office.specs.SameRows.{same_arrangement, same_candidate, same_hall, same_opening, same_paper, same_session}
 
--- whether the stored row is the same, if there is one
+-- whether the stored row is the same, or none if there is none
 abbrev pub is_stored : Relations → Row → Option Bool
 is_stored r (row.OfSession s x) = option_map (same_session x) (row_at code_cmp r.sessions s)
 is_stored r (row.OfPaper p x) = option_map (same_paper x) (row_at code_cmp r.papers p)
@@ -45,7 +45,7 @@ import_reply r rows = reply.Imported
     (length (filter (is_changed r) (distinct_rows rows)))
     (length (filter (is_same r) (distinct_rows rows)))
 
--- of the decision of this stored appeal: where it stands then, the appellant's hall in its session, and how
+-- the answer to the decision of this stored appeal: its state after it, the appellant's hall in its session, and how
 -- many others moved
 abbrev pub reply_to : State → State → Decision → Option Appeal → Reply
 reply_to before after d None = reply.Unchanged
@@ -57,7 +57,7 @@ reply_to before after d (Some a) =
 abbrev pub decision_reply : State → State → Decision → Reply
 decision_reply before after d = reply_to before after d (appeal_at before.relations d.number d.reference)
 
--- of an accepted command, from the office before and after
+-- the answer to an accepted command, from the office before and after
 abbrev pub reply_of : Command → State → State → Reply
 reply_of (command.Import import) before after = import_reply before.relations import.rows
 reply_of (command.Withdraw c p) before after = reply.Withdrawn

@@ -1,4 +1,4 @@
--- Appeals that stand alone.
+-- The appeals that a candidate may have only once.
 use Rattle.std.specs.Prelude.{ℕ, Bool, true, false, ◌==◌, ◌&&◌, Option, None, Some}
 use Rattle.std.specs.List.{filter_map, IsDistinct}
 use Rattle.std.specs.Option.{option_map}
@@ -11,7 +11,7 @@ use Rattle.exam_rules.specs.Relations.{Code, Relations, same_code}
 use Rattle.exam_office.specs.declared.grants.Single.{Single}
 use Rattle.exam_office.specs.declared.grants.Single.TheVariants as single
 
--- as what an appeal of this status and subject stands alone, if it does
+-- what kind of appeal, which a candidate may have only once, this status and subject make, if any
 abbrev pub single_as : Status → Subject → Option Single
 single_as (status.Granted answer) (subject.Hall h) = None
 single_as (status.Granted answer) (subject.Clash p) = Some single.GrantedClash
@@ -41,6 +41,6 @@ same_single a b = false
 abbrev pub same_single_key : SingleKey → SingleKey → Bool
 same_single_key x y = same_code x.0 y.0 && ((x.1 == y.1) && same_single x.2 y.2)
 
--- no two of them agree in all three
+-- no two appeals have the same key
 abbrev pub AreSingle : Relations → Type 0
 AreSingle r = IsDistinct same_single_key (filter_map single_key r.appeals)

@@ -36,9 +36,8 @@ IsNamed (command.Lodge l) c = l.number ≡ c
 IsNamed (command.Retract d reference) c = d ≡ c
 IsNamed (command.Decide d) c = d.number ≡ c
 
--- Whom the new plan of a session seats for certain. After an import or the closing of a hall: those whom the
--- repair does not put out. After any other command: everybody seated before who is still a member, but for the
--- one it names.
+-- Who the new plan of a session seats for certain. After an import or the closing of a hall: all whose seats the repair
+-- keeps. After any other command: everybody who was seated before and is still a member, except the one that it names.
 abbrev pub SeatsOn : Command → Seating ℕ Code → Plan ℕ Code → Plan ℕ Code → Type 0
 SeatsOn (command.Import import) g before after = (c : ℕ) → IsSome (kept_part g before c) → IsSome (after c)
 SeatsOn (command.Withdraw d p) g before after = Keeps (IsNamed (command.Withdraw d p)) g before after
@@ -72,8 +71,8 @@ pub record IsNextPlan (done : Command) (old new : Seating ℕ Code) (before afte
   pub kept : SeatsOn done new before after
   pub repair : IsRepair new (first_seated done) before after
 
--- Where the change is refused, so is the command, and nothing changes. Otherwise the office has the new facts
--- and the next plan of every session, in the order of their keys, and answers by them.
+-- If the change is refused, so is the command, and nothing changes. Otherwise the office has the new facts and the next
+-- plan of every session, in the order of their keys, and its answer follows from them.
 abbrev pub StepTo : Command → State → Result Reply Refusal → State → Result Relations Refusal → Type 0
 StepTo done before reply after (Err e) = (reply ≡ Err e) × (after ≡ before)
 StepTo done before reply after (Ok r) =
@@ -87,7 +86,7 @@ StepTo done before reply after (Ok r) =
 abbrev pub Step : Command → ℕ → State → Result Reply Refusal → State → Type 0
 Step done today before reply after = StepTo done before reply after (change done today before)
 
--- the same, or want of memory, and then nothing has changed
+-- the same, or memory ran out and nothing has changed
 abbrev pub MayStep : Command → ℕ → State → Result Reply Refusal → State → Type 0
 MayStep done today before reply after =
     ((reply ≡ Err NoMemory) × (after ≡ before)) ⊎ Step done today before reply after
@@ -101,6 +100,6 @@ Run (done ∷ rest) before (reply ∷ replies) after =
 Run [] before (reply ∷ replies) after = ⊥
 Run (done ∷ rest) before [] after = ⊥
 
--- no command was refused for want of memory
+-- no command was refused because memory ran out
 abbrev pub NoneLacksMemory : List (Result Reply Refusal) → Type 0
 NoneLacksMemory replies = All (λ reply. reply ≢ Err NoMemory) replies

@@ -11,7 +11,7 @@ use Rattle.exam_office.specs.declared.before.TablesBefore.{TablesBefore as Told}
 use Rattle.exam_office.specs.Exchanges.{HasRows, put_back}
 use Rattle.exam_office.specs.State.{Seats}
 
--- the table before the command is as told
+-- the table was before the command what this says
 abbrev pub WasTable : {K X : Type 0} → (K → K → Ordering) → Before K X → List (K × X) → List (K × X) → Type 0
 WasTable cmp was.Same before after = before ≡ after
 WasTable cmp (was.Row k) before after =
@@ -20,7 +20,7 @@ WasTable cmp (was.Rows rows) before after =
     HasRows cmp rows.now.entries after × (before ≡ put_back cmp after rows.now.entries)
 WasTable cmp (was.Table rows) before after = rows.now.entries ≡ before
 
--- each table of facts is as told
+-- each table of facts was what this says
 pub record WereTables (told : Told) (before after : Relations) : Type 0 where
   pub sessions : WasTable code_cmp told.sessions before.sessions after.sessions
   pub papers : WasTable code_cmp told.papers before.papers after.papers
@@ -32,7 +32,7 @@ pub record WereTables (told : Told) (before after : Relations) : Type 0 where
   pub appeals : WasTable appeal_cmp told.appeals before.appeals after.appeals
   pub standing : WasTable appeal_cmp told.standing before.standing after.standing
 
--- each the same
+-- each table was the same
 abbrev pub all_same : Told
 all_same = record {
   sessions = was.Same;
@@ -46,8 +46,8 @@ all_same = record {
   standing = was.Same;
 }
 
--- At the keys of the old and the new plans the seats are those of the plans, before and after. Everybody else
--- sits as before.
+-- At the keys of the old and the new plans the seats are those of the old plans before and those of the new plans
+-- after. Everybody else sits as before.
 pub record AreOf (old new before after : Seats) : Type 0 where
   pub told_before : (k : Code × ℕ) → has_row seat_cmp old k || has_row seat_cmp new k ≡ true
       → row_at seat_cmp before k ≡ row_at seat_cmp old k
@@ -56,7 +56,7 @@ pub record AreOf (old new before after : Seats) : Type 0 where
   pub others : (k : Code × ℕ) → has_row seat_cmp old k || has_row seat_cmp new k ≡ false
       → row_at seat_cmp after k ≡ row_at seat_cmp before k
 
--- the plans before the command are as told
+-- the plans were before the command what this says
 abbrev pub WerePlans : PlansBefore → Seats → Seats → Type 0
 WerePlans were.Same before after = before ≡ after
 WerePlans (were.Plans old new) before after = AreOf old.now.entries new.now.entries before after

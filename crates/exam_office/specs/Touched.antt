@@ -13,12 +13,12 @@ use Rattle.exam_office.specs.declared.command.Decision.{Decision}
 use Rattle.exam_office.specs.Appeals.{appeal_at, bears_mark, is_grant}
 use Rattle.exam_office.specs.Decisions.{is_earlier}
 
--- a reference to this session, which is there
+-- a reference to this session, which exists
 abbrev pub names : Relations → Code → Code → Bool
 names r named s = same_code named s && has_row code_cmp r.sessions s
 
--- a row of an import names a session, the old and the new session of its paper, the paper of its entry and so its
--- session, or the candidate of its arrangement and so those of which they are a member
+-- a row of an import names its session; the old and the new session of its paper; the session of the paper of its
+-- entry; or the sessions of which the candidate of its arrangement is a member
 abbrev pub names_session : Relations → Row → Code → Bool
 names_session r (row.OfSession named x) s = same_code named s
 names_session r (row.OfPaper p x) s = is_paper_of r s p || names r x.session s
@@ -48,7 +48,7 @@ names_hall (row.OfCandidate c x) h = false
 names_hall (row.OfEntry c p) h = false
 names_hall (row.OfArrangement c x) h = false
 
--- a standing grant, whose candidate is a member of the session
+-- a standing grant of a member of the session
 abbrev pub stands_in : Relations → Code → (ℕ × Code) × Appeal → Bool
 stands_in r s a = (is_granted a.1.status && is_marked r a.0) && is_member r s a.0.0
 
@@ -56,10 +56,9 @@ stands_in r s a = (is_granted a.1.status && is_marked r a.0) && is_member r s a.
 abbrev pub has_standing_member : Relations → Code → Bool
 has_standing_member r s = list_any (stands_in r s) r.appeals
 
--- A row of an import touches the session that it names, and then, as its date may change, each session with a member
--- who has a standing grant; the old and the new session of its paper, the sessions
--- that open its hall, that of the paper of its entry, and those of which the candidate of its arrangement is a
--- member.
+-- A row of an import touches the session that it names, and then, since its date may change, each session with a member
+-- who has a standing grant. It touches the old and the new session of its paper, the sessions that open its hall, the
+-- session of the paper of its entry, and those of which the candidate of its arrangement is a member.
 abbrev pub row_touches : Relations → Row → Code → Bool
 row_touches r (row.OfSession named x) s = same_code named s || has_standing_member r s
 row_touches r (row.OfPaper p x) s = is_paper_of r s p || names r x.session s
@@ -73,13 +72,13 @@ row_touches r (row.OfArrangement c x) s = is_member r s c
 abbrev pub is_appeal_for : Option Appeal → Code → Bool
 is_appeal_for stored s = option_map_or (λ (a : Appeal). same_code a.session s) stored false
 
--- the grant takes the place of one that stands for later sessions
+-- the grant supersedes one that also holds for later sessions
 abbrev pub ends_standing : Relations → ℕ → Appeal → Bool
 ends_standing r c a =
     list_any (λ (e : (ℕ × Code) × Appeal). is_earlier c a.session a.subject e && is_marked r e.0) r.appeals
 
--- A grant touches the session of the appeal; where it sets or ends a standing grant, each session of which the
--- appellant is a member too.
+-- A grant touches the session of the appeal; if it sets or ends a standing grant, also each session of which the
+-- appellant is a member.
 abbrev pub grant_touches : Relations → Decision → Appeal → Code → Bool
 grant_touches r d a s =
     same_code a.session s
@@ -89,8 +88,8 @@ abbrev pub decision_touches : Relations → Decision → Code → Bool
 decision_touches r d s =
     is_grant d.outcome && option_map_or (λ a. grant_touches r d a s) (appeal_at r d.number d.reference) false
 
--- an import touches what its rows do; an entry that is withdrawn or live again, the session of its paper; the
--- closing of a hall, the session named; a lodging and a retraction, none
+-- An import touches what its rows touch. Withdrawing or reinstating an entry touches the session of its paper. The
+-- closing of a hall touches the session named. A lodging and a retraction touch none.
 abbrev pub touches : Relations → Command → Code → Bool
 touches r (command.Import import) s = list_any (λ (x : Row). row_touches r x s) import.rows
 touches r (command.Withdraw c p) s = is_paper_of r s p

@@ -21,7 +21,7 @@ pub record AreNone (kept : KeptRows) : Type 0 where
   pub entries : kept.entries.entries ≡ []
   pub arrangements : kept.arrangements.entries ≡ []
 
--- each key that was changed has a row, so that it gets another one back without memory, or loses it
+-- each key that was changed has a row, so that putting it back, or taking it away, needs no memory
 pub record AreThere (kept : KeptRows) (r : Relations) : Type 0 where
   pub sessions : HasRows code_cmp kept.sessions.entries r.sessions
   pub papers : HasRows code_cmp kept.papers.entries r.papers
@@ -67,7 +67,7 @@ restored (undo.Rows kept) r = with_kept kept r
 restored (undo.Openings m) r = record r { openings = m.entries }
 restored (undo.Decisions m marks) r = record r { appeals = m.entries; standing = marks.entries }
 
--- each key that is named has a row, so that it gets another one back without memory, or loses it
+-- each key that is named has a row, so that putting it back, or taking it away, needs no memory
 abbrev pub IsThere : Undo → Relations → Type 0
 IsThere undo.Nothing r = ⊤
 IsThere (undo.Entry k x) r = IsTrue (has_row entry_cmp r.entries k)

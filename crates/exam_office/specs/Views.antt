@@ -56,7 +56,7 @@ has_hall view h = list_any (λ code. same_code code h) view.hall_codes
 abbrev pub has_paper : View → Code → Bool
 has_paper view p = list_any (λ code. same_code code p) view.papers
 
--- as the hall is opened for the session
+-- how the hall is opened for the session
 abbrev pub opening_of : View → Code → Option Opening
 opening_of view h = option_map (λ opened. opened.1) (find (λ opened. same_code opened.0 h) view.openings)
 
@@ -83,7 +83,7 @@ seat_at view i member =
     seat_in member (option_map (hall_of view) (plan_at view.plan i))
     (desk_number (seating_of view.problem) (ranks_before view.problem) (plan_at view.plan) i)
 
--- of these members, the first of whom is the i-th
+-- the seats of these members, the first of whom is the i-th
 abbrev pub seats_from : View → ℕ → List Member → List Seat
 seats_from view i [] = []
 seats_from view i (member ∷ rest) = seat_at view i member ∷ seats_from view (i + 1) rest
@@ -119,7 +119,7 @@ pub record ShowsShortage (view : View) (report : Report) : Type 0 where
   pub named : report.candidates ≡ map (number_of view) candidates
   pub halls_named : report.halls ≡ map (hall_with_desks view) halls
 
--- ---- the same of the office
+-- ---- the same for the office
 
 -- the openings of the session by hall
 abbrev pub openings_of : Relations → Code → List (Code × Opening)
@@ -148,7 +148,7 @@ appeal_row a = record {
   lodged = a.1.lodged;
 }
 
--- the appeals for the session, whoever lodged them
+-- the appeals of all candidates for the session
 abbrev pub appeals_of : Relations → Code → List AppealRow
 appeals_of r s = map appeal_row (filter (λ (a : (ℕ × Code) × Appeal). same_code a.1.session s) r.appeals)
 
@@ -167,8 +167,8 @@ seat_of office s c =
     option_map (λ member. seat_in member (plan_of office.seats s c) (desk_of office s c))
     (member_of office.relations s c)
 
--- the report is of exactly the contested candidates of the session, who with all halls that fit any of them
--- are a deficiency certificate of its plan
+-- The report lists exactly the contested candidates of the session. With all halls that fit any of them they are a
+-- deficiency certificate of its plan.
 pub record IsShortageOf (office : State) (s : Code) (report : Report) : Type 0 where
   pub certificate : IsCertificate (seating office.relations s) (plan_of office.seats s)
       report.candidates (keys_of report.halls)
@@ -176,7 +176,7 @@ pub record IsShortageOf (office : State) (s : Code) (report : Report) : Type 0 w
   pub desks : All (λ hall. hall.1 ≡ desks office.relations s hall.0) report.halls
   pub unseated : report.unseated ≡ length (unseated (seating office.relations s) (plan_of office.seats s))
 
--- what the view shows is so of the session in the office
+-- the view shows the session as it is in the office
 pub record IsViewOf (office : State) (s : Code) (view : View) : Type 0 where
   pub code : view.code ≡ s
   pub session : row_at code_cmp office.relations.sessions s ≡ Some view.session

@@ -13,7 +13,7 @@ kind_word (subject.Hall hall) = codes "hall"
 kind_word (subject.Clash paper) = codes "clash"
 kind_word (subject.Arrangement asked) = codes "arrangement"
 
--- where an appeal stands
+-- the state of an appeal
 abbrev pub state_word : AppealState → List ℕ
 state_word state.Pending = codes "open"
 state_word state.Granted = codes "granted"

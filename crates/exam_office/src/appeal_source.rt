@@ -6,16 +6,15 @@ ghost use Rattle.exam_office.specs.Sources.{Gives, is_source_refusal};
 use crate::view::AppealRow;
 use exam_types::Refusal;
 
-/// Appeals of a session that come one by one, so that they need not all be in memory.
+/// Appeals of a session that come one by one, so they need not all be in memory at once.
 pub trait AppealSource {
     /// The rows to come.
     ghost coming: { Self → List Row };
 
-    /// What it stands on, as a disk, has told the truth so far.
+    /// Whether what it reads from, such as a disk, has returned what was written, so far.
     ghost IsHonest: { Self → Type 0 };
 
-    /// The next row, or none where all were given. What it gives is claimed of a source that is honest after
-    /// the call.
+    /// The next row, or none after the last one. The contract speaks of a source that is honest after the call.
     fn next(&mut self) -> Result<Option<AppealRow>, Refusal>
         ensures row { Self.IsHonest self.new → IfOk result (λ row.
             Gives row (Self.coming self.old) (Self.coming self.new)) }

@@ -7,7 +7,7 @@ use crate::command::AppealState;
 use exam_rules::{Appeal, Facts, Status, Subject, appeals_from};
 use exam_types::{Number, Reference, SessionCode};
 
-/// Both are against a hall, both on a clash, or both for an arrangement.
+/// Whether both are against a hall, both on a clash, or both for an arrangement.
 pub fn is_same_kind(subject: &Subject, other: &Subject) -> bool
     ensures { result ≡ spec.same_kind subject.now other.now }
 {
@@ -30,8 +30,8 @@ pub fn is_same_subject(subject: &Subject, other: &Subject) -> bool
     }
 }
 
-/// How many days before the session's date the last day to lodge is: two for a hall, five for a clash, ten
-/// for an arrangement.
+/// How many days the last day to lodge is before the session's date: two for a hall, five for a clash, ten for an
+/// arrangement.
 pub fn notice_days(subject: &Subject) -> u16
     ensures value { result ≡ spec.notice_days subject.now }
     ensures most { result ≤ 10 }
@@ -61,7 +61,7 @@ pub fn state_of(status: &Status) -> AppealState
     }
 }
 
-/// Where the candidate's appeal with the reference stands; pending where there is none.
+/// The state of the candidate's appeal with the reference, or pending if there is none.
 pub fn stored_state(facts: &Facts, number: Number, reference: Reference) -> AppealState
     ensures { result ≡ spec.stored_state (relations_of facts.now) number reference }
 {
@@ -91,7 +91,7 @@ pub fn has_open_appeal(
     false
 }
 
-/// Whether the appeal is open, for the session and of the same kind.
+/// Whether the appeal is open, is for the session, and is of the same kind.
 fn is_open_for(session: &SessionCode, subject: &Subject, appeal: &Appeal) -> bool
     ensures { result ≡ (same_code appeal.now.session session.now
         && (spec.same_kind appeal.now.subject subject.now && spec.is_open appeal.now.status)) }

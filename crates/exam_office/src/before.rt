@@ -1,4 +1,4 @@
-//! What the tables of an office were before a command, told by what they are after it.
+//! What the tables of an office were before a command, described by what they are after it.
 ghost use Rattle.std.specs.Prelude.{◌≡◌};
 ghost use Rattle.exam_office.specs.TablesBefore as spec;
 
@@ -10,14 +10,14 @@ use std::collections::BTreeMap;
 /// What a table was before a command.
 #[derive(Drop)]
 pub enum Before<'a, K: Ord, V> {
-    /// The same as after it.
+    /// The same as after the command.
     Same,
-    /// The same but for the row at this key, which the table has after the command.
+    /// The same, except for the row at this key, which the table has after the command.
     Row(&'a K),
-    /// The same but for the rows at these keys, all of which the table has after the command. Each had this row
-    /// before it, or none.
+    /// The same, except for the rows at these keys, all of which the table has after the command. Before it each key
+    /// had this row, or none.
     Rows(&'a BTreeMap<K, Option<V>>),
-    /// This one.
+    /// This table.
     Table(&'a BTreeMap<K, V>),
 }
 
@@ -36,7 +36,7 @@ pub struct TablesBefore<'a> {
 }
 
 impl TablesBefore<'_> {
-    /// Each the same as after it.
+    /// Each table is the same as after the command.
     pub fn same() -> Self
         ensures { result ≡ spec.all_same }
     {
@@ -57,8 +57,8 @@ impl TablesBefore<'_> {
 /// What the plans were before a command.
 #[derive(Drop)]
 pub enum PlansBefore<'a> {
-    /// The same as after it.
+    /// The same as after the command.
     Same,
-    /// Of the sessions that the command reads the first, and after it the second.
+    /// The plans of the sessions that the command reads: first as they were before it, and then as they are after it.
     Plans(&'a Seats, &'a Seats),
 }

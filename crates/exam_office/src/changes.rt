@@ -19,9 +19,9 @@ use exam_rules::{Entry, Facts, Opening};
 use exam_types::{HallCode, Refusal, SessionCode};
 use std::alloc::Global;
 
-/// Adds the rows of an import, and gives how this is taken back and what the import answers. Refused for the
-/// first row, in the order of the file, that refers to what is not there; and where there is not enough memory.
-/// After a refusal the facts are as before. No limit is tested.
+/// Adds the rows of an import. Returns how to take them back, and what the import answers. Refused for the first row,
+/// in the order of the file, that refers to what does not exist, and if there is not enough memory. After a refusal the
+/// facts are as before. Tests no limit.
 pub fn import_rows(
     alloc: Global,
     facts: &mut Facts,
@@ -43,7 +43,7 @@ pub fn import_rows(
     Ok((set_rows(alloc, facts, import.rows())?, reply))
 }
 
-/// Sets each row in turn, and gives how this is taken back.
+/// Sets each row in turn, and returns how to take them back.
 fn set_rows(alloc: Global, facts: &mut Facts, rows: &[Row]) -> Result<Undo, Refusal>
     ensures ok { OnOk result (relations_of facts.new ≡ changes.with_rows (relations_of facts.old) rows.now) }
     ensures back { IfOk result (λ undo.
@@ -61,7 +61,7 @@ fn set_rows(alloc: Global, facts: &mut Facts, rows: &[Row]) -> Result<Undo, Refu
     }
 }
 
-/// Refuses the first row, in the order of the file, that refers to what is not there.
+/// Refuses the first row, in the order of the file, that refers to what does not exist.
 fn check_rows(facts: &Facts, rows: &[Row]) -> Result<(), Refusal>
     ensures { result_err result ≡ changes.rows_refusal (relations_of facts.now) rows.now }
 {
@@ -91,7 +91,7 @@ fn check_row(facts: &Facts, row: &Row) -> Result<(), Refusal>
     }
 }
 
-/// Sets each row in turn, and keeps the rows that this changes, also where it is refused.
+/// Sets each row in turn, and keeps the rows that this changes, even if it is refused halfway.
 fn put_rows(facts: &mut Facts, kept: &mut KeptRows, rows: &[Row]) -> Result<(), Refusal>
     ensures ok { OnOk result (relations_of facts.new ≡ changes.with_rows (relations_of facts.old) rows.now) }
     ensures back { (first : Relations) → undoing.RowsGoBack kept.old (relations_of facts.old) first
@@ -104,8 +104,8 @@ fn put_rows(facts: &mut Facts, kept: &mut KeptRows, rows: &[Row]) -> Result<(), 
     Ok(())
 }
 
-/// Adds a row with a new key, and sets a present key to the row. An entry that is there is left alone, and a
-/// new one is live. Keeps what it changes.
+/// Adds a row with a new key, and replaces the row of a present key. Leaves an entry as it is if it exists, and makes a
+/// new one live. Keeps what it changes.
 fn put_row(facts: &mut Facts, kept: &mut KeptRows, row: &Row) -> Result<(), Refusal>
     ensures ok { OnOk result (relations_of facts.new ≡ changes.with_row (relations_of facts.old) row.now) }
     ensures back { (first : Relations) → undoing.RowsGoBack kept.old (relations_of facts.old) first
@@ -119,7 +119,7 @@ fn put_row(facts: &mut Facts, kept: &mut KeptRows, row: &Row) -> Result<(), Refu
     }
 }
 
-/// Sets a key to a row that it does not have, and keeps what it was.
+/// Sets the key of the row, which must not have this row yet, and keeps what the key had.
 fn set_row(facts: &mut Facts, kept: &mut KeptRows, row: &Row) -> Result<(), Refusal>
     requires { replies.is_same (relations_of facts.old) row.now ≡ false }
     ensures ok { OnOk result (relations_of facts.new ≡ changes.with_row (relations_of facts.old) row.now) }
@@ -158,7 +158,7 @@ fn set_row(facts: &mut Facts, kept: &mut KeptRows, row: &Row) -> Result<(), Refu
     }
 }
 
-/// How the distinct rows stand to the facts.
+/// How many distinct rows are new, replace another row, and are the same.
 fn count_rows(facts: &Facts, import: &Import) -> Reply
     ensures { result ≡ replies.import_reply (relations_of facts.now) import.now.rows }
 {
@@ -187,7 +187,7 @@ struct Counts {
     same: u32,
 }
 
-/// One more key, whose stored row is the same or another, or not there.
+/// The counts with one more key, whose stored row is the same, is another or does not exist.
 fn counted(counts: Counts, stored: Option<bool>) -> Counts
     requires { counts.added + counts.changed + counts.same < 2 ^ 32 - 1 }
     ensures added { result.added ≡ counts.added + (if is_none stored then 1 else 0) }
@@ -210,8 +210,7 @@ fn counted(counts: Counts, stored: Option<bool>) -> Counts
     }
 }
 
-/// Whether the stored row is the same, if there is one. An entry that is there is the same, live or
-/// withdrawn.
+/// Whether the stored row is the same, or none if there is none. An entry that exists is the same, live or withdrawn.
 fn is_stored(facts: &Facts, row: &Row) -> Option<bool>
     ensures { result ≡ replies.is_stored (relations_of facts.now) row.now }
 {

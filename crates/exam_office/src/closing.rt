@@ -12,9 +12,9 @@ use exam_rules::Facts;
 use exam_types::{HallCode, Refusal, SessionCode};
 use std::mem::replace;
 
-/// Closes the hall for the session, and gives how this is taken back. Refused, in this order, as an unknown
-/// session, an unknown hall, or a hall not opened; and where there is not enough memory. After a refusal the
-/// facts are as before.
+/// Closes the hall for the session, and returns how to take this back. Refused, in this order, for an unknown session,
+/// an unknown hall, or a hall that is not opened; and if there is not enough memory. After a refusal the facts are as
+/// before.
 pub fn close(facts: &mut Facts, session: SessionCode, hall: HallCode) -> Result<Undo, Refusal>
     ensures ok { OnOk result (relations_of facts.new
         ≡ changes.without_opening (relations_of facts.old) session hall) }
@@ -29,7 +29,7 @@ pub fn close(facts: &mut Facts, session: SessionCode, hall: HallCode) -> Result<
     remove_opening(facts, session, hall)
 }
 
-/// Puts the openings without this one in the place of the openings.
+/// Replaces the openings by a copy without this one.
 fn remove_opening(facts: &mut Facts, session: SessionCode, hall: HallCode) -> Result<Undo, Refusal>
     ensures ok { OnOk result (relations_of facts.new
         ≡ changes.without_opening (relations_of facts.old) session hall) }
@@ -43,7 +43,7 @@ fn remove_opening(facts: &mut Facts, session: SessionCode, hall: HallCode) -> Re
     Ok(Undo::Openings(replace(&mut facts.openings, openings)))
 }
 
-/// Refused, in this order, as an unknown session, an unknown hall, or a hall not opened.
+/// Refuses, in this order, an unknown session, an unknown hall, or a hall that is not opened.
 fn check_closing(facts: &Facts, session: SessionCode, hall: HallCode) -> Result<(), Refusal>
     ensures { result_err result ≡ changes.closing_refusal (relations_of facts.now) session hall }
 {

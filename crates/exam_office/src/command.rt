@@ -44,12 +44,12 @@ pub struct Decision {
 #[derive(Clone, Copy, Debug, PartialEq, Eq)]
 pub enum Outcome {
     Grant,
-    /// A grant of an arrangement that stands for later sessions too.
+    /// Grants an arrangement for later sessions too.
     Standing,
     Refuse,
 }
 
-/// Where an appeal stands, without the reason of its decision. `Pending` is printed `open`.
+/// The state of an appeal, without the reason of its decision. `Pending` is printed `open`.
 #[derive(Clone, Copy, Debug, PartialEq, Eq)]
 pub enum AppealState {
     Pending,
@@ -71,17 +71,17 @@ pub enum Reply {
     Withdrawn,
     Reinstated,
     Closed,
-    /// Where the appeal stands: pending where it is a new one.
+    /// The state of the appeal; pending if it is new.
     Lodged(AppealState),
     Retracted,
-    /// Where the appeal stands, the appellant's hall in its session, if they sit, and how many others sit in
-    /// another hall than before.
+    /// The state of the appeal, the appellant's hall in its session if they sit, and how many others now sit in another
+    /// hall than before.
     Decided {
         state: AppealState,
         seat: Option<HallCode>,
         moved: usize,
     },
-    /// The appeal was decided so already.
+    /// The appeal already has this decision.
     Unchanged,
 }
 

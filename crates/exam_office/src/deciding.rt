@@ -29,11 +29,11 @@ use std::mem::replace;
 /// The appeals of the facts, by candidate and reference.
 type Appeals = BTreeMap<(Number, Reference), Appeal>;
 
-/// Decides the appeal, supersedes an earlier grant of its kind where it is granted, and gives how this is taken
-/// back; nothing changes where it is decided so already. Refused, in this order, as an unknown appeal, as one
-/// that is not open, or as too late; a standing grant of anything but an arrangement; a grant where the
-/// candidate is no longer a member, or has no live entry for the paper; and where there is not enough memory.
-/// After a refusal the facts are as before. It passes no limit.
+/// Decides the appeal; a grant supersedes an earlier grant of its kind. Returns how to take this back; nothing changes
+/// if the decision is already made. Refused, in this order, for an unknown appeal; for one that is not open; from the
+/// session's day on; for a standing grant of anything but an arrangement; for a grant if the candidate is no longer a
+/// member, or has no live entry for the paper; and if there is not enough memory. After a refusal the facts are as
+/// before. It never passes a limit.
 pub fn decide(facts: &mut Facts, decision: &Decision, today: Day) -> Result<Undo, Refusal>
     requires { AreSingle (relations_of facts.old) }
     ensures ok { OnOk result (relations_of facts.new
@@ -61,7 +61,7 @@ pub fn decide(facts: &mut Facts, decision: &Decision, today: Day) -> Result<Undo
     ))
 }
 
-/// A copy of the marks, with one for the appeal exactly where its grant stands for later sessions.
+/// A copy of the marks: it has one for the appeal exactly if the grant also holds for later sessions.
 fn marks_with(facts: &Facts, decision: &Decision) -> Result<Marks, Refusal>
     ensures ok { IfOk result (λ marks. marks.entries
         ≡ spec.with_mark decision.now (relations_of facts.now).standing) }
@@ -75,7 +75,7 @@ fn marks_with(facts: &Facts, decision: &Decision) -> Result<Marks, Refusal>
     }
 }
 
-/// A copy of the marks, and one for the appeal under the key.
+/// A copy of the marks, with one for the appeal under the key.
 fn marks_and(facts: &Facts, key: (Number, Reference)) -> Result<Marks, Refusal>
     ensures ok { IfOk result (λ marks. marks.entries
         ≡ put_row appeal_cmp (relations_of facts.now).standing key tt) }
@@ -106,7 +106,7 @@ fn copied_marks(facts: &Facts) -> Result<Marks, Refusal>
     Ok(facts.standing.clone()?)
 }
 
-/// Whether the outcome grants.
+/// Whether the outcome is a grant.
 pub fn is_grant(outcome: Outcome) -> bool
     ensures { result ≡ appeals.is_grant outcome }
 {
@@ -130,7 +130,7 @@ fn is_made(facts: &Facts, decision: &Decision, appeal: &Appeal) -> bool
     is_decided(decision.outcome, &decision.answer, marked, &appeal.status)
 }
 
-/// A copy of the appeals with this one decided, which is not decided so already.
+/// A copy of the appeals with this one decided. The decision must not be made already.
 fn decided_appeals(facts: &Facts, decision: &Decision, appeal: &Appeal) -> Result<Appeals, Refusal>
     requires { AreSingle (relations_of facts.now) }
     ensures ok { IfOk result (λ changed. changed.entries
@@ -144,8 +144,7 @@ fn decided_appeals(facts: &Facts, decision: &Decision, appeal: &Appeal) -> Resul
     Ok(appeals)
 }
 
-/// A copy of the appeals without the decision: where it is a grant, with the earlier grant of its kind
-/// superseded.
+/// A copy of the appeals before the decision: if it is a grant, the earlier grant of its kind is superseded.
 fn superseded_appeals(
     facts: &Facts,
     number: Number,
@@ -202,8 +201,7 @@ fn copied_appeals(facts: &Facts) -> Result<Appeals, Refusal>
     Ok(facts.appeals.clone()?)
 }
 
-/// The session of the appeal that the command decides, unless it is decided so already; nothing for other
-/// commands.
+/// The session of the appeal that the command decides, unless the decision is already made; none for other commands.
 pub fn newly_decided(facts: &Facts, command: &Command) -> Option<SessionCode>
     ensures { result ≡ next.newly_decided (relations_of facts.now) command.now }
 {
@@ -244,8 +242,8 @@ pub fn decided_reply(
     }
 }
 
-/// Whether an appeal was decided so, with this answer, and with the mark of a standing grant or without it. What
-/// was superseded since is not.
+/// Whether the appeal has this outcome with this answer; `marked` says whether it bears the mark of a standing grant.
+/// A superseded grant does not count.
 fn is_decided(outcome: Outcome, answer: &Reason, marked: bool, status: &Status) -> bool
     ensures { result ≡ appeals.is_decided outcome answer.now marked status.now }
 {
@@ -256,7 +254,7 @@ fn is_decided(outcome: Outcome, answer: &Reason, marked: bool, status: &Status) 
     }
 }
 
-/// Whether an appeal was granted with this answer.
+/// Whether the appeal was granted with this answer.
 fn is_granted_so(answer: &Reason, status: &Status) -> bool
     ensures { result ≡ appeals.is_granted_so answer.now status.now }
 {
@@ -266,7 +264,7 @@ fn is_granted_so(answer: &Reason, status: &Status) -> bool
     }
 }
 
-/// Whether an appeal was refused with this answer.
+/// Whether the appeal was refused with this answer.
 fn is_refused_so(answer: &Reason, status: &Status) -> bool
     ensures { result ≡ appeals.is_refused_so answer.now status.now }
 {
@@ -276,7 +274,7 @@ fn is_refused_so(answer: &Reason, status: &Status) -> bool
     }
 }
 
-/// Checks an appeal that is not decided so already.
+/// Checks an appeal that does not have this decision already.
 fn check_appeal(
     facts: &Facts,
     decision: &Decision,
@@ -296,7 +294,7 @@ fn check_appeal(
     check_grant(facts, decision.number, appeal, decision.outcome)
 }
 
-/// Refused as no arrangement where another grant is to stand for later sessions.
+/// Refuses a standing grant of anything but an arrangement.
 fn check_mark(outcome: Outcome, appeal: &Appeal) -> Result<(), Refusal>
     ensures { result_err result ≡ first_refusal (spec.not_arrangement appeal.now outcome ∷ []) }
 {
@@ -316,7 +314,7 @@ fn is_too_late(facts: &Facts, session: &SessionCode, today: Day) -> bool
     }
 }
 
-/// Checks of a grant that the candidate is still a member, and the paper of a clash still a live one.
+/// Checks that the candidate of a grant is still a member, and that the paper of a clash is still a live one.
 fn check_grant(
     facts: &Facts,
     number: Number,
@@ -338,7 +336,7 @@ fn check_grant(
     }
 }
 
-/// Refused as no entry where the candidate has no live one for the paper, or the paper is not of the session.
+/// Refused with `NoEntry` if the candidate has no live entry for the paper, or the paper is not of the session.
 fn check_paper(
     facts: &Facts,
     session: &SessionCode,
@@ -388,8 +386,8 @@ fn superseded_status(status: &Status) -> Result<Status, Refusal>
     }
 }
 
-/// The granted appeal of the same candidate, session and kind, whose place a grant of this one takes. In an
-/// office there is at most one.
+/// The granted appeal of the same candidate, session and kind that a grant of this one supersedes. In an office there
+/// is at most one.
 fn earlier_grant<'a>(
     facts: &'a Facts,
     number: Number,
@@ -409,7 +407,7 @@ fn earlier_grant<'a>(
     None
 }
 
-/// Whether a grant of the appeal takes the place of one that stands for later sessions.
+/// Whether a grant of the appeal supersedes a standing grant.
 pub fn ends_standing(facts: &Facts, number: Number, appeal: &Appeal) -> bool
     ensures { result ≡ touched.ends_standing (relations_of facts.now) number appeal.now }
 {
@@ -424,7 +422,7 @@ pub fn ends_standing(facts: &Facts, number: Number, appeal: &Appeal) -> bool
     false
 }
 
-/// Whether the other appeal is a grant whose place a grant of this one takes.
+/// Whether the other appeal is a grant that a grant of this one supersedes.
 fn is_earlier(number: Number, appeal: &Appeal, key: &(Number, Reference), other: &Appeal) -> bool
     ensures { result ≡ spec.is_earlier number appeal.now.session appeal.now.subject (key.now, other.now) }
 {
@@ -434,7 +432,7 @@ fn is_earlier(number: Number, appeal: &Appeal, key: &(Number, Reference), other:
         && matches!(other.status, Status::Granted(_))
 }
 
-/// Whether a grant takes the place of an earlier one. Granted hall appeals add up.
+/// Whether a grant supersedes an earlier one. Granted hall appeals add up.
 fn supersedes(subject: &Subject, earlier: &Subject) -> bool
     ensures { result ≡ appeals.supersedes subject.now earlier.now }
 {

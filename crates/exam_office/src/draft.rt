@@ -25,15 +25,15 @@ use exam_types::{Day, Refusal};
 use std::alloc::Global;
 use std::marker::Model;
 
-/// A command that is carried out on an office and may still be taken back: a store saves it in between. Finishing it
-/// and taking it back take no memory, so neither can fail.
+/// A command that is carried out on an office and may still be taken back, so that a store can save it first. Finishing
+/// it and taking it back take no memory, so neither can fail.
 #[derive(Drop)]
 pub struct Draft {
     /// The facts after the command, and the plans after it of the sessions that it reads.
     part: Part,
     /// The lists of these facts.
     lists: SessionLists,
-    /// The seats, in which those of the new plans are put, and those of the old plans are not yet taken away.
+    /// The seats: those of the new plans are in, and those of the old plans are not yet taken away.
     seats: Seats,
     made: Made,
 }
@@ -53,7 +53,7 @@ impl Model for Draft {
 }
 
 impl Draft {
-    /// Carries out a command on a day, or refuses it. The office comes back beside a refusal, as it was.
+    /// Carries out a command on a day, or refuses it. A refusal returns the office as it was.
     pub fn of(
         alloc: Global,
         office: Office,
@@ -85,7 +85,7 @@ impl Draft {
         }
     }
 
-    /// The office after the command, and what it answers.
+    /// The office after the command, and what the command answers.
     pub fn finish(self) -> (Office, Reply)
         ensures office { result.0 ≡ self.after }
         ensures reply { result.1 ≡ self.reply }
@@ -135,7 +135,7 @@ impl Draft {
     pub fn plans_before(&self) -> PlansBefore<'_>
         ensures { WerePlans result self.now.before.seats self.now.after.seats }
     {
-        // The length of a map tells that its keys rise.
+        // The contract of `len` says that the keys rise.
         let _ = self.seats.len();
         match &self.made.plans {
             Some(old) => PlansBefore::Plans(old, &self.part.plans),
@@ -143,20 +143,20 @@ impl Draft {
         }
     }
 
-    /// The offices before and after the command are good, and their keys rise. Does nothing.
+    /// The offices before and after the command are good, and their keys rise. Does nothing at run time.
     pub fn show_good(&self)
         ensures before { IsGood self.now.before }
         ensures after { IsGood self.now.after }
         ensures before_rises { IsInOrder self.now.before }
         ensures after_rises { IsInOrder self.now.after }
     {
-        // The read of a field shows what the type keeps.
+        // Reading a field shows the type's invariant.
         let _ = &self.seats;
     }
 }
 
-/// Carries out a command on a day over a part of an office, and puts the new plans among the seats. After a
-/// refusal all is as before.
+/// Carries out a command on a day over a part of an office, and puts the new plans among the seats. After a refusal
+/// everything is as before.
 fn made(
     alloc: Global,
     part: &mut Part,

@@ -13,8 +13,9 @@ use crate::undo::Undo;
 use exam_rules::{Entry, Facts};
 use exam_types::{Number, PaperCode, Refusal};
 
-/// Withdraws the entry, and gives how this is taken back. Refused, in this order, as an unknown candidate, an
-/// unknown paper, no entry, or withdrawn already; after a refusal the facts are as before. Takes no memory.
+/// Withdraws the entry, and returns how to take this back. Refused, in this order, for an unknown candidate, an unknown
+/// paper, no such entry, or an entry that is already withdrawn. After a refusal the facts are as before. Takes no
+/// memory.
 pub fn withdraw(facts: &mut Facts, number: Number, paper: PaperCode) -> Result<Undo, Refusal>
     ensures ok { OnOk result (relations_of facts.new
         ≡ changes.with_live (relations_of facts.old) number paper false) }
@@ -31,9 +32,9 @@ pub fn withdraw(facts: &mut Facts, number: Number, paper: PaperCode) -> Result<U
     Ok(set_live(facts, number, paper, false))
 }
 
-/// Makes the entry live again, and gives how this is taken back. Refused, in this order, as an unknown
-/// candidate, an unknown paper, no entry, or not withdrawn; after a refusal the facts are as before. No limit
-/// is tested. Takes no memory.
+/// Makes the entry live again, and returns how to take this back. Refused, in this order, for an unknown candidate, an
+/// unknown paper, no such entry, or an entry that is not withdrawn. After a refusal the facts are as before. Tests no
+/// limit. Takes no memory.
 pub fn reinstate(facts: &mut Facts, number: Number, paper: PaperCode) -> Result<Undo, Refusal>
     ensures ok { OnOk result (relations_of facts.new
         ≡ changes.with_live (relations_of facts.old) number paper true) }
@@ -50,7 +51,7 @@ pub fn reinstate(facts: &mut Facts, number: Number, paper: PaperCode) -> Result<
     Ok(set_live(facts, number, paper, true))
 }
 
-/// Gives an entry that is there this live mark.
+/// Makes an existing entry live or withdrawn.
 fn set_live(facts: &mut Facts, number: Number, paper: PaperCode, live: bool) -> Undo
     requires { IsTrue (has_row entry_cmp facts.old.entries.entries (number, paper)) }
     ensures new { relations_of facts.new ≡ changes.with_live (relations_of facts.old) number paper live }
@@ -60,7 +61,7 @@ fn set_live(facts: &mut Facts, number: Number, paper: PaperCode, live: bool) -> 
     Undo::Entry((number, paper), old)
 }
 
-/// Whether the entry is live. Refused, in this order, as an unknown candidate, an unknown paper, or no entry.
+/// Whether the entry is live. Refused, in this order, for an unknown candidate, an unknown paper, or no such entry.
 fn is_live(facts: &Facts, number: Number, paper: PaperCode) -> Result<bool, Refusal>
     ensures ok { IfOk result (λ live. live ≡ sessions.is_live (relations_of facts.now) number paper) }
     ensures refusal { result_err result

@@ -1,4 +1,4 @@
-//! Which appeals stand alone.
+//! Which appeals a candidate may have only once.
 ghost use Rattle.std.specs.Prelude.{◌≡◌, IfOk, IfErr};
 ghost use Rattle.std.specs.Bool.{Decides};
 ghost use Rattle.std.specs.List.{IsDistinct};
@@ -12,8 +12,8 @@ use exam_types::{Number, Refusal, SessionCode};
 use std::alloc::Global;
 use std::collections::BTreeSet;
 
-/// What a candidate has at most once in a session: a granted clash appeal, a granted arrangement appeal, an
-/// open appeal of each kind.
+/// What a candidate has at most once in a session: a granted clash appeal, a granted arrangement appeal, and an open
+/// appeal of each kind.
 #[derive(Clone, Copy, PartialEq, Eq, PartialOrd, Ord)]
 enum Single {
     GrantedClash,
@@ -38,7 +38,7 @@ pub fn are_single(alloc: Global, facts: &Facts) -> Result<bool, Refusal>
     are_distinct(alloc, &keys)
 }
 
-/// The session, the candidate and as what the appeal stands alone, if it does.
+/// The key under which this appeal must be the only one, if it has one.
 fn single_key(number: Number, appeal: &Appeal) -> Option<(SessionCode, Number, Single)>
     ensures { (reference : Code) → result ≡ spec.single_key ((number, reference), appeal.now) }
 {

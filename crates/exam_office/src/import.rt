@@ -49,8 +49,8 @@ impl Import {
         }
     }
 
-    /// Appends a row. A row with the key of an earlier one and another content is refused as a conflict at
-    /// its place, which counts from 1. After a refusal the import is as it was.
+    /// Appends a row. A row with the key of an earlier one but other contents is refused as a conflict; the conflict
+    /// names the row's place, counted from 1. After a refusal the import is as it was.
     pub fn push(&mut self, row: Row) -> Result<(), Refusal>
         requires kind { spec.kind_of row ≡ self.old.kind }
         requires room { length self.old.rows < spec.most_rows }
@@ -72,7 +72,7 @@ impl Import {
         }
     }
 
-    /// Appends a row that is an earlier one again.
+    /// Appends a row that repeats an earlier one.
     fn push_repeated(&mut self, row: Row) -> Result<(), Refusal>
         requires kind { spec.kind_of row ≡ self.old.kind }
         requires room { length self.old.rows < spec.most_rows }
@@ -94,7 +94,7 @@ impl Import {
         ensures memory { IfErr result (λ e. e ≡ refusals.NoMemory) }
         ensures err { OnErr result (self.new ≡ self.old) }
     {
-        // Room for the row first, so that nothing fails once its place is kept.
+        // Make room for the row first, so that nothing fails once its place is kept.
         self.rows.reserve(1)?;
         self.places.insert(row.key(), self.rows.len())?;
         self.rows.push(row)?;

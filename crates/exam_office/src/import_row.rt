@@ -17,7 +17,7 @@ pub enum Kind {
     Arrangements,
 }
 
-/// A row of an import: the key, and what the row sets. An entry has no content beside its key.
+/// A row of an import: the key, and what the row sets. An entry has nothing beside its key.
 #[derive(PartialEq, Eq, Drop)]
 pub enum Row {
     OfSession(SessionCode, Session),

@@ -1,4 +1,4 @@
-//! Rows that are put in the place of others, which are kept.
+//! Rows that replace others, which are kept so that they can be put back.
 ghost use Rattle.std.specs.Prelude.{◌≡◌, List, IfErr, OnOk};
 ghost use Rattle.exam_types.specs.declared.refusal.Refusal.TheVariants.{NoMemory};
 ghost use Rattle.exam_rules.specs.Relations.{Relations, put_row, relations_of};
@@ -13,7 +13,7 @@ use exam_types::{HallCode, Number, PaperCode, Refusal, SessionCode};
 use std::alloc::Global;
 use std::collections::BTreeMap;
 
-/// For each key that was changed the row that it had, or that it had none.
+/// For each key that was changed, the row that it had, or none if it had none.
 pub type Kept<K, V> = BTreeMap<K, Option<V>>;
 
 /// The rows that an import has changed, as they were.
@@ -58,7 +58,7 @@ impl KeptRows {
         put_back(&mut facts.arrangements, self.arrangements);
     }
 
-    /// What each table was before these changes, beside what it is after them.
+    /// What each table was before these changes, described by what it is after them.
     pub fn tables_before(&self) -> TablesBefore<'_>
         ensures { (r : Relations) → spec.AreThere self.now r
             → WereTables result (spec.with_kept self.now r) r }
@@ -77,7 +77,7 @@ impl KeptRows {
     }
 }
 
-/// Sets a key to a row, and keeps what it was if it has not been changed before. After a refusal the rows are as
+/// Sets a key to a row, and keeps what the key had unless it has been changed before. After a refusal the rows are as
 /// before, and nothing more is kept.
 pub fn put_kept<K: Ord + Copy, V: Drop>(
     rows: &mut BTreeMap<K, V>,
@@ -91,7 +91,7 @@ pub fn put_kept<K: Ord + Copy, V: Drop>(
         → exchanges.GoBack K.cmp kept.new.entries rows.new.entries first }
     ensures memory { IfErr result (λ e. e ≡ NoMemory) }
 {
-    // The length of a map tells that its keys rise.
+    // The contract of `len` says that the keys rise.
     let (_, _) = (rows.len(), kept.len());
     if kept.contains_key(&key) {
         return put(rows, key, row);
@@ -112,7 +112,7 @@ fn put_back<K: Ord + Copy, V: Drop>(rows: &mut BTreeMap<K, V>, kept: Kept<K, V>)
     requires there { exchanges.HasRows K.cmp kept.entries rows.old.entries }
     ensures { rows.new.entries ≡ exchanges.put_back K.cmp rows.old.entries kept.entries }
 {
-    // The length of a map tells that its keys rise.
+    // The contract of `len` says that the keys rise.
     let _ = rows.len();
     for (key, row) in kept {
         set(rows, key, row);

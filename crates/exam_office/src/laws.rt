@@ -40,8 +40,8 @@ pub fn one_step_has_one_result()
         → (first ≡ second) × (one ≡ other) }
 {}
 
-/// A list of commands, each on its day, gives from one office the same replies and the same office whenever
-/// it is run, as long as no command is refused for want of memory.
+/// A list of commands, each on its day, gives from one office the same replies and the same office each time it is run,
+/// as long as no command is refused because memory ran out.
 pub fn one_list_gives_one_office()
     ensures { (done : List (Command × ℕ)) (before one other : State)
         (first second : List (Result Reply Refusal))
@@ -60,7 +60,7 @@ pub fn repeated_import_makes_the_same_facts()
         × (import_reply t rows ≡ reply.Imported 0 0 (length (distinct_rows rows))) }
 {}
 
-/// The same of two steps, on whatever days: the office stays as it is. Every `Office` is in order
+/// The same for two steps, on any days: the second one leaves the office as it is. Every `Office` is in order
 /// (`Office::show_order`), and the rows of every `Import` agree (`Import::rows`).
 pub fn repeated_import_changes_nothing()
     ensures { (import : ImportRows) (day later : ℕ) (before mid after : State) (first : Reply)
@@ -71,8 +71,8 @@ pub fn repeated_import_changes_nothing()
         → (second ≡ Ok (reply.Imported 0 0 (length (distinct_rows import.rows)))) × (after ≡ mid) }
 {}
 
-/// The same at any later moment, on any day and after any commands between, of which none is an import or the
-/// closing of a hall. Every `Office` is good (`Office::show_good`).
+/// The same at any later moment, on any day and after any commands between, if none of them is an import or the closing
+/// of a hall. Every `Office` is good (`Office::show_good`).
 pub fn import_repeated_later_changes_nothing()
     ensures { (import : ImportRows) (day later : ℕ) (before mid late after : State) (first : Reply)
         (done : List (Command × ℕ)) (replies : List (Result Reply Refusal)) (second : Result Reply Refusal)
@@ -83,9 +83,8 @@ pub fn import_repeated_later_changes_nothing()
         → (second ≡ Ok (reply.Imported 0 0 (length (distinct_rows import.rows)))) × (after ≡ late) }
 {}
 
-/// After an accepted lodging the same lodging, at any later moment, on any day and after any commands
-/// between, changes nothing and answers where the appeal stands by then. Every `Office` is in order
-/// (`Office::show_order`).
+/// After an accepted lodging, the same lodging at any later moment, on any day and after any commands between, changes
+/// nothing and answers the appeal's current state. Every `Office` is in order (`Office::show_order`).
 pub fn repeated_lodging_changes_nothing()
     ensures { (lodging : Lodging) (day later : ℕ) (before mid late after : State) (first : Reply)
         (done : List (Command × ℕ)) (replies : List (Result Reply Refusal)) (second : Result Reply Refusal)
@@ -97,7 +96,7 @@ pub fn repeated_lodging_changes_nothing()
         × (after ≡ late) }
 {}
 
-/// The same of a retraction, which answers once more that the appeal is retracted.
+/// The same for a retraction, which answers again that the appeal is retracted.
 pub fn repeated_retraction_changes_nothing()
     ensures { (number : ℕ) (reference : Code) (day later : ℕ) (before mid late after : State) (first : Reply)
         (done : List (Command × ℕ)) (replies : List (Result Reply Refusal)) (second : Result Reply Refusal)
@@ -108,8 +107,8 @@ pub fn repeated_retraction_changes_nothing()
         → (second ≡ Ok reply.Retracted) × (after ≡ late) }
 {}
 
-/// The same of a decision, which answers that it is unchanged or, where a later grant has superseded the
-/// appeal, that it is not open.
+/// The same for a decision, which answers that nothing has changed or, if a later grant has superseded the appeal, that
+/// it is not open.
 pub fn repeated_decision_changes_nothing()
     ensures { (decision : Decision) (day later : ℕ) (before mid late after : State) (first : Reply)
         (done : List (Command × ℕ)) (replies : List (Result Reply Refusal)) (second : Result Reply Refusal)
@@ -144,7 +143,7 @@ pub fn untouched_session_stays()
         × SamePlan (plan_of after.seats s) (plan_of before.seats s) }
 {}
 
-/// No command takes a row away from the facts, but that the closing of a hall takes the one opening. So nothing that
+/// No command takes a row away from the facts, except that closing a hall takes away its one opening. So nothing that
 /// was imported is ever deleted. Every `Office` is good (`Office::show_good`).
 pub fn only_closing_takes_a_row_away()
     ensures { (done : Command) (today : ℕ) (before after : State) (reply : Reply)

@@ -1,4 +1,4 @@
-//! The plans that a command reads of an office.
+//! The plans of an office that a command reads.
 ghost use Rattle.std.specs.Prelude.{◌≡◌, ◌↔◌, ◌&&◌, ℕ, nat_eq, Contains, if◌then◌else◌, IsTrue, IfOk, IfErr, OnOk};
 ghost use Rattle.std.specs.Option.{option_or};
 ghost use Rattle.exam_types.specs.declared.refusal.Refusal.TheVariants.{NoMemory};
@@ -39,7 +39,7 @@ fn copied_facts(facts: &Facts) -> Result<Facts, Refusal>
     Ok(facts.clone()?)
 }
 
-/// The plans of the sessions that the command reads, nobody seated in another.
+/// The plans of the sessions that the command reads; nobody is seated in other sessions.
 pub fn read_plans(alloc: Global, office: &Office, command: &Command) -> Result<Seats, Refusal>
     ensures ok { IfOk result (λ plans. spec.Agrees command.now office.now
         (record { relations = office.now.relations; seats = plans.entries })) }
@@ -54,7 +54,7 @@ pub fn read_plans(alloc: Global, office: &Office, command: &Command) -> Result<S
     Ok(plans)
 }
 
-/// Seats the members of the session as they sit.
+/// Seats the members of the session where they sit in the office.
 fn copy_plan(
     lists: &SessionLists,
     seats: &Seats,
@@ -71,7 +71,7 @@ fn copy_plan(
     Ok(())
 }
 
-/// Seats the candidate as they sit, if they do.
+/// Seats the candidate where they sit in the office, if they do.
 fn copy_seat(
     seats: &Seats,
     session: &SessionCode,

@@ -21,11 +21,11 @@ use exam_rules::{
 };
 use exam_types::{Day, HallCode, Number, PaperCode, Refusal, SessionCode};
 
-/// Stores the appeal, open and lodged on the day, unless an equal one is stored under its reference, and gives
-/// how this is taken back. Refused, in this order, as an unknown candidate; as a reference that is taken; where
-/// the candidate is no member of the session; after the last day to lodge; as a hall in which they do not sit,
-/// or as no clash, no live entry, or nothing to change; where an open appeal of the kind stands; and where
-/// there is not enough memory. After a refusal the facts are as before. No limit is tested.
+/// Stores the appeal, open and lodged on the day, unless an equal one is stored under its reference. Returns how to
+/// take this back. Refused, in this order, for an unknown candidate; for a reference that the candidate used for
+/// another appeal; if the candidate is no member of the session; after the last day to lodge; for a hall in which they
+/// do not sit, or for no clash, no live entry, or nothing to change; if there is already an open appeal of the kind;
+/// and if there is not enough memory. After a refusal the facts are as before. Tests no limit.
 pub fn lodge(
     facts: &mut Facts,
     seats: &Seats,
@@ -52,7 +52,7 @@ pub fn lodge(
     store(facts, today, lodging)
 }
 
-/// Stores the appeal under its reference, under which there is none.
+/// Stores the appeal under its reference, which must be unused.
 fn store(facts: &mut Facts, today: Day, lodging: &Lodging) -> Result<Undo, Refusal>
     requires { appeal_at (relations_of facts.old) lodging.now.number lodging.now.reference ≡ None }
     ensures ok { OnOk result (relations_of facts.new
@@ -88,7 +88,7 @@ fn check_lodging(facts: &Facts, seats: &Seats, today: Day, lodging: &Lodging) ->
     }
 }
 
-/// Refused as a taken reference where the stored appeal is another one.
+/// Refuses a reference under which another appeal is stored.
 fn check_same(lodging: &Lodging, appeal: &Appeal) -> Result<(), Refusal>
     ensures { result_err result ≡ first_refusal (spec.other_appeal lodging.now appeal.now ∷ []) }
 {
@@ -113,7 +113,7 @@ fn check_new(facts: &Facts, seats: &Seats, today: Day, lodging: &Lodging) -> Res
     check_asked(facts, seats, lodging)
 }
 
-/// Refused by the kind of the appeal, and then where an open appeal of the kind stands.
+/// Refused by the kind of the appeal, and then if there is already an open appeal of the kind.
 #[tactic(auto, using(crate::proofs::LodgingChecks::first_passed))]
 fn check_asked(facts: &Facts, seats: &Seats, lodging: &Lodging) -> Result<(), Refusal>
     ensures { result_err result ≡ first_refusal (spec.subject_checks (relations_of facts.now)
@@ -124,7 +124,7 @@ fn check_asked(facts: &Facts, seats: &Seats, lodging: &Lodging) -> Result<(), Re
     check_open(facts, lodging)
 }
 
-/// Refused where an open appeal of the kind stands.
+/// Refused if there is already an open appeal of the kind.
 fn check_open(facts: &Facts, lodging: &Lodging) -> Result<(), Refusal>
     ensures { result_err result
         ≡ first_refusal (spec.appeal_stands (relations_of facts.now) lodging.now ∷ []) }
@@ -154,8 +154,8 @@ fn check_closing(
     Ok(())
 }
 
-/// The last day to lodge an appeal on this subject. No session is held earlier than ten days after the first
-/// day.
+/// The last day to lodge an appeal on this subject. It always exists, because a session is at least ten days after the
+/// first day.
 fn last_day(session: &Session, subject: &Subject) -> Day
     ensures { result ≡ spec.last_day session.now subject.now }
 {
@@ -176,7 +176,7 @@ fn check_subject(facts: &Facts, seats: &Seats, lodging: &Lodging) -> Result<(), 
     }
 }
 
-/// Refused where the candidate does not sit in the hall.
+/// Refused if the candidate does not sit in the hall.
 fn check_own_hall(
     seats: &Seats,
     session: &SessionCode,
@@ -192,8 +192,8 @@ fn check_own_hall(
     }
 }
 
-/// Refused where the candidate has no clash in the session, where the paper is no live one of theirs in it,
-/// or where they sit it.
+/// Refused if the candidate has no clash in the session, if the paper is no live one of theirs in it, or if they
+/// already sit it.
 fn check_clash(
     facts: &Facts,
     session: &SessionCode,
@@ -215,7 +215,7 @@ fn check_clash(
     }
 }
 
-/// Refused where the arrangement is the one in force.
+/// Refused if the arrangement is the one in force.
 fn check_arrangement(
     facts: &Facts,
     session: &SessionCode,

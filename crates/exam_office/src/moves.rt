@@ -1,13 +1,13 @@
-//! Who moves where plans change.
+//! Who moves when plans change.
 ghost use Rattle.std.specs.Prelude.{◌≡◌};
 ghost use Rattle.exam_office.specs.Moves as spec;
 
 use crate::office::Seats;
 use exam_types::{HallCode, Number, SessionCode};
 
-/// How many others than the candidate sit after in another hall than before, over all sessions in which they
-/// sit both before and after; one who moves in two sessions counts twice. There are at most as many as
-/// seats before. Takes no memory.
+/// How many others than the candidate sit in another hall after than before, over all sessions in which they sit both
+/// before and after. One who moves in two sessions counts twice. There are at most as many as seats before. Takes no
+/// memory.
 pub fn moved(before: &Seats, after: &Seats, number: Number) -> usize
     ensures { result ≡ spec.moved before.now.entries after.now.entries number }
 {

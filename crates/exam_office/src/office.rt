@@ -8,7 +8,7 @@ ghost use Rattle.exam_rules.specs.Lists.{AreListsOf};
 ghost use Rattle.exam_rules.specs.Seatings.{seating, plan_of};
 ghost use Rattle.exam_office.specs.Good.{IsGood};
 ghost use Rattle.exam_office.specs.Headline.{IsSeated};
-ghost use Rattle.exam_office.specs.Limits.{within_limits};
+ghost use Rattle.exam_office.specs.Limits.{holds_at_most};
 ghost use Rattle.exam_rules.specs.Relations.{Code, relations_of};
 ghost use Rattle.exam_office.specs.Orders.{IsInOrder};
 ghost use Rattle.exam_office.specs.Own.{own_of, shown};
@@ -19,21 +19,21 @@ ghost use Rattle.exam_office.specs.Views.{IsViewOf};
 use crate::own::Own;
 use crate::tables::first_bad_listed;
 use crate::view::SessionView;
-use crate::{own_source, view_source};
+use crate::{limits, own_source, view_source};
 use exam_rules::{Facts, SessionLists, session_lists};
 use exam_types::{HallCode, Number, Refusal, SessionCode};
 use std::alloc::Global;
 use std::collections::BTreeMap;
 use std::marker::Model;
 
-/// Where each seated candidate sits in each session.
+/// The hall in which each seated candidate sits, in each session.
 pub type Seats = BTreeMap<(SessionCode, Number), HallCode>;
 
 /// The facts of an office, and the plan of each session. Contracts see the relations, and who sits where.
 #[derive(Drop)]
 pub struct Office {
     facts: Facts,
-    /// The members and the open halls of each session, so that what asks of one does not go over all
+    /// The members and the open halls of each session, so that a question about one session does not go over all
     /// candidates.
     lists: SessionLists,
     seats: Seats,
@@ -65,8 +65,8 @@ impl Office {
         }
     }
 
-    /// The office with these facts and plans. Refused as a bad store exactly where they are not good, and
-    /// where there is not enough memory.
+    /// The office with these facts and plans. Refused with `BadStore` exactly if they are not good, unless there is not
+    /// enough memory.
     pub fn from_parts(alloc: Global, facts: Facts, seats: Seats) -> Result<Self, Refusal>
         ensures ok { IfOk result (λ office. office
             ≡ record { relations = relations_of facts; seats = seats.entries }) }
@@ -92,7 +92,7 @@ impl Office {
         &self.seats
     }
 
-    /// One session with its plan. Refused where there is no such session, or not enough memory.
+    /// One session with its plan. Refused if there is no such session, or not enough memory.
     pub fn session_view(&self, alloc: Global, session: &SessionCode) -> Result<SessionView, Refusal>
         ensures ok { IfOk result (IsViewOf self.now session.now) }
         ensures refusal { IfErr result (IsSessionRefusal self.now.relations session.now) }
@@ -103,13 +103,21 @@ impl Office {
         view_source::view_of(alloc, &self.facts, &self.lists, &self.seats, session, row)
     }
 
-    /// The candidate with the number, with their sessions and their appeals, or none. Takes time by their own
-    /// rows and by those who sit in their sessions, and no memory for an unknown number.
+    /// The candidate with the number, with their sessions and their appeals, or none. The time depends on their own
+    /// rows and on how many sit in their sessions. Takes no memory for an unknown number.
     pub fn own(&self, alloc: Global, number: Number) -> Result<Option<Own>, Refusal>
         ensures ok { IfOk result (λ own. option_map shown own ≡ own_of self.now number) }
         ensures memory { IfErr result (λ e. (e ≡ NoMemory) × IsSome (own_of self.now number)) }
     {
         own_source::own_of(alloc, &self.facts, &self.lists, &self.seats, number)
+    }
+
+    /// Whether no session has more openings than `openings`, and no set of features a greater sum than `greatest_sum`:
+    /// what an older version of the tables could hold.
+    pub fn holds_at_most(&self, openings: usize, greatest_sum: u32) -> bool
+        ensures { result ≡ holds_at_most openings greatest_sum self.now.relations }
+    {
+        limits::holds_at_most(&self.facts, &self.lists, openings, greatest_sum)
     }
 
     /// The members and the open halls of each session.
@@ -146,25 +154,25 @@ impl Office {
         }
     }
 
-    /// An office is good. Does nothing.
+    /// An office is good. Does nothing at run time.
     pub fn show_good(&self)
         ensures { IsGood self.now }
     {
-        // The read of a field shows what the type keeps.
+        // Reading a field shows the type's invariant.
         let _ = &self.facts;
     }
 
-    /// The keys of every table and of the seats rise. Does nothing.
+    /// The keys of every table and of the seats rise. Does nothing at run time.
     pub fn show_order(&self)
         ensures { IsInOrder self.now }
     {
         self.facts().show_order();
-        // The length of a map tells that its keys rise.
+        // The contract of `len` says that the keys rise.
         let _ = self.seats().len();
     }
 
-    /// In every session whoever sits is a member and has a fitting hall and a desk of their own, and no lawful
-    /// plan seats more. Does nothing.
+    /// In every session, each seated candidate is a member and has a fitting hall and a desk of their own, and no
+    /// lawful plan seats more. Does nothing at run time.
     pub fn show_seated(&self)
         ensures { (s : Code) → IsSeated self.now s }
     {
@@ -173,8 +181,8 @@ impl Office {
     }
 }
 
-/// The members and the open halls of each session of a good office. Refused as a bad store exactly where these
-/// facts and plans are no good office, and where there is not enough memory.
+/// The members and the open halls of each session of a good office. Refused with `BadStore` exactly if these facts and
+/// plans are no good office, unless there is not enough memory.
 fn good_lists(alloc: Global, facts: &Facts, seats: &Seats) -> Result<SessionLists, Refusal>
     ensures ok { IfOk result (λ lists. AreListsOf (relations_of facts.now) lists) }
     ensures good { OnOk result

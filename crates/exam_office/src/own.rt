@@ -12,9 +12,9 @@ pub struct Own {
     pub number: Number,
     pub name: Name,
     pub code: AccessCode,
-    /// By code.
+    /// The candidate's sessions, by code.
     pub sessions: Vec<OwnSession>,
-    /// By reference.
+    /// The candidate's appeals, by reference.
     pub appeals: Vec<OwnAppeal>,
 }
 
@@ -23,7 +23,7 @@ pub struct Own {
 pub struct OwnAppeal {
     pub reference: Reference,
     pub appeal: Appeal,
-    /// It bears the mark of a standing grant; once superseded it keeps the mark, without effect.
+    /// Whether it bears the mark of a standing grant. A superseded appeal keeps the mark, without effect.
     pub standing: bool,
 }
 
@@ -33,17 +33,17 @@ pub struct OwnSession {
     pub session: SessionCode,
     pub day: SessionDay,
     pub start: StartTime,
-    /// Their live papers in the session, by code.
+    /// The candidate's live papers in the session, by code.
     pub papers: Vec<PaperCode>,
-    /// The paper that they sit.
+    /// The paper that the candidate sits.
     pub sitting: PaperCode,
-    /// Their live papers that they do not sit, by code.
+    /// The live papers that the candidate does not sit, by code.
     pub clashes: Vec<PaperCode>,
     /// The arrangement in force.
     pub arrangement: Arrangement,
     pub finish: Minute,
-    /// None for the unseated.
+    /// None if the candidate is not seated.
     pub hall: Option<HallCode>,
-    /// The desk number in the hall, from 1; none for the unseated.
+    /// The desk number in the hall, from 1; none if the candidate is not seated.
     pub desk: Option<u32>,
 }

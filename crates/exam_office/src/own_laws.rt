@@ -1,5 +1,5 @@
-//! Laws of what a candidate is answered and shown: their own rows decide it, and nobody else's. Every
-//! `Office` is good (`Office::show_good`) and in order (`Office::show_order`), as the laws ask.
+//! Laws of what the office answers and shows a candidate: their own rows decide it, and nobody else's do. The laws ask
+//! for offices that are good and in order; every `Office` is (`Office::show_good`, `Office::show_order`).
 ghost use Rattle.std.specs.Prelude.{◌≡◌, ◌≢◌, ℕ, Result};
 ghost use Rattle.exam_types.specs.declared.refusal.Refusal.{Refusal};
 ghost use Rattle.exam_rules.specs.Relations.{Code};
@@ -13,9 +13,9 @@ ghost use Rattle.exam_office.specs.Own.{own_of};
 ghost use Rattle.exam_office.specs.State.{State};
 ghost use Rattle.exam_office.specs.Steps.{Step};
 
-/// Two offices that show a candidate the same answer a lodging of the candidate the same, and show them the
-/// same after it: it is accepted or refused alike, for the same reason, whatever there is of others. So
-/// lodging tells a candidate nothing of others beyond what they are shown already.
+/// Two offices that show a candidate the same give the same answer to a lodging of theirs, and show them the same after
+/// it: both accept it, or both refuse it for the same reason, whatever they hold about others. So lodging tells a
+/// candidate nothing about others beyond what they are shown already.
 pub fn own_rows_decide_a_lodging()
     ensures refusal { (lodging : Lodging) (day : ℕ) (one other : State)
         → IsGood one → IsInOrder one → IsGood other → IsInOrder other
@@ -38,7 +38,7 @@ pub fn own_rows_decide_a_lodging()
         → own_of one_after lodging.number ≡ own_of other_after lodging.number }
 {}
 
-/// The same of a retraction, on whatever days.
+/// The same for a retraction, on any days.
 pub fn own_rows_decide_a_retraction()
     ensures refusal { (number : ℕ) (reference : Code) (one other : State)
         → IsGood one → IsGood other → own_of one number ≡ own_of other number
@@ -58,8 +58,8 @@ pub fn own_rows_decide_a_retraction()
         → own_of one_after number ≡ own_of other_after number }
 {}
 
-/// What is shown of a candidate stays as it is when another lodges or retracts an appeal, accepted or
-/// refused.
+/// What the office shows of a candidate stays as it is when another candidate lodges or retracts an appeal, whether it
+/// is accepted or refused.
 pub fn lodging_and_retracting_show_others_nothing()
     ensures lodging { (lodging : Lodging) (day number : ℕ) (before after : State)
         (answer : Result Reply Refusal)

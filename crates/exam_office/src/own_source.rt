@@ -1,5 +1,4 @@
-//! How what the office shows of one candidate is made: from their own rows, and for each of their sessions
-//! from its seats.
+//! How the office makes what it shows of one candidate: from their own rows, and from the seats of their sessions.
 ghost use Rattle.std.specs.Prelude.{◌≡◌, ◌<◌, ◌≤◌, ℕ, Contains, Some, count_by, filter};
 ghost use Rattle.std.specs.Prelude.{length, map, ◌++◌, IfOk, IfErr, OnOk, IsSome, IsTrue};
 ghost use Rattle.std.specs.Option.{option_map};
@@ -28,11 +27,10 @@ use exam_types::{HallCode, Number, PaperCode, Reference, Refusal, SessionCode};
 use std::alloc::Global;
 use std::collections::btree_map::Range;
 
-/// What desks are ordered by: the sitting paper, and then the number.
+/// What the order of desks compares: the sitting paper, and then the number.
 type DeskKey = (Option<PaperCode>, Number);
 
-/// What a good office shows of the candidate, if there is one with the number. Takes no memory for an unknown
-/// one.
+/// What a good office shows of the candidate with the number, or none. Takes no memory for an unknown number.
 pub fn own_of(
     alloc: Global,
     facts: &Facts,
@@ -96,7 +94,7 @@ fn own_sessions(
     sessions_among(alloc, facts, lists, seats, number, &entered)
 }
 
-/// The same, where the candidate is a member of none but these.
+/// The same, if the candidate is a member of no other sessions than these.
 fn sessions_among(
     alloc: Global,
     facts: &Facts,
@@ -162,7 +160,7 @@ fn own_session(
     })
 }
 
-/// The number of the candidate's desk in the hall where they sit, if they do.
+/// The number of the candidate's desk in the hall in which they sit, if they do.
 fn desk(
     facts: &Facts,
     lists: &SessionLists,
@@ -185,7 +183,7 @@ fn desk(
     }
 }
 
-/// How many of those who sit in the hall stand before the candidate.
+/// How many of those who sit in the hall come before the candidate in the order of desks.
 fn standing_before(
     facts: &Facts,
     lists: &SessionLists,
@@ -203,7 +201,7 @@ fn standing_before(
         hall.now) }
     ensures most { result ≤ most_members }
 {
-    // That the tables rise is for the proof alone.
+    // Only the proof needs that the tables rise.
     facts.show_order();
     let members = lists.members_of(session);
     let own = (sitting_among(facts, members, session, number), number);
@@ -216,7 +214,7 @@ fn standing_before(
     count
 }
 
-/// Whether the candidate stands before this key in the order of desks.
+/// Whether the candidate comes before this key in the order of desks.
 fn is_before(
     facts: &Facts,
     members: &[Entrant],
@@ -230,8 +228,8 @@ fn is_before(
     (sitting_among(facts, members, session, number), number) < *key
 }
 
-/// The seats of the session, numbers rising. Who sits is a candidate, so their numbers are from that of the
-/// first candidate to that of the last.
+/// The seats of the session, numbers rising. Everybody who sits is a candidate, so the numbers are between those of the
+/// first and the last candidate.
 fn seats_of<'a>(
     facts: &Facts,
     seats: &'a Seats,
@@ -289,8 +287,8 @@ fn live_papers(
     Ok(papers)
 }
 
-/// The sessions of the candidate's live papers, so that the other sessions need no look at their entries. A
-/// session may stand more than once.
+/// The sessions of the candidate's live papers, so that other sessions need not be searched. A session may be listed
+/// more than once.
 fn entered_sessions(
     alloc: Global,
     facts: &Facts,
@@ -327,7 +325,7 @@ fn push_session(
     Ok(())
 }
 
-/// Whether the candidate is a member of the session, where they are of none but these.
+/// Whether the candidate is a member of the session, if they are a member of no other sessions than these.
 fn is_member_among(
     facts: &Facts,
     entered: &[SessionCode],

@@ -9,16 +9,16 @@ use exam_rules::Facts;
 #[derive(Drop)]
 pub struct Part {
     pub facts: Facts,
-    /// Who sits where in these sessions. Nobody is seated in another.
+    /// Where each candidate sits in these sessions. Nobody is seated in other sessions.
     pub plans: Seats,
 }
 
 impl Part {
-    /// The keys of the seats rise. Does nothing.
+    /// The keys of the seats rise. Does nothing at run time.
     pub fn show_order(&self)
         ensures { KeysRise seat_cmp self.now.plans.entries }
     {
-        // The length of a map tells that its keys rise.
+        // The contract of `len` says that the keys rise.
         let _ = self.plans.len();
     }
 }

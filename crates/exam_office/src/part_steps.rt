@@ -35,19 +35,19 @@ use exam_types::{Day, Refusal, SessionCode};
 use std::alloc::Global;
 use std::mem;
 
-/// What a command has made of a part: what it answers, and how it is taken back.
+/// What a command has made of a part: what it answers, and how to take it back.
 #[derive(Drop)]
 pub struct Made {
     pub reply: Reply,
     pub facts: Undo,
     pub lists: ListUndo,
-    /// The plans as they were, where they have changed.
+    /// The plans as they were, if they have changed.
     pub plans: Option<Seats>,
 }
 
-/// Carries out a command on a day over a part that agrees with a good office on what the command reads, or
-/// refuses it: the reply is that of `step` over that office, and the office with the part put back is the office
-/// of `step`. After a refusal the part is as before.
+/// Carries out a command on a day over a part that agrees with a good office on what the command reads, or refuses it.
+/// The reply is that of `step` over that office, and the office with the part put back is the office after `step`.
+/// After a refusal the part is as before.
 pub fn step_part(
     alloc: Global,
     part: &mut Part,
@@ -112,7 +112,7 @@ pub fn make(
     }
 }
 
-/// Puts the next plans in the place of these, and gives these; nothing where they stay.
+/// Puts the next plans in the place of these, and returns these; nothing if the plans stay.
 fn put_plans(plans: &mut Seats, next: Option<Seats>) -> Option<Seats>
     ensures { planning.ArePut next plans.old.entries plans.new.entries result }
 {
@@ -122,8 +122,8 @@ fn put_plans(plans: &mut Seats, next: Option<Seats>) -> Option<Seats>
     }
 }
 
-/// Makes the change of a command in the facts, before any limit is tested. Gives how it is taken back, and what
-/// the command answers if it does not depend on the plans.
+/// Makes the change of a command in the facts, before any limit is tested. Returns how to take it back, and what the
+/// command answers if it does not depend on the plans.
 fn change(
     alloc: Global,
     facts: &mut Facts,
@@ -165,7 +165,7 @@ fn change(
     }
 }
 
-/// Makes the lists those of the changed facts, tests the limits, and repairs the plans of the sessions that the
+/// Brings the lists up to date with the changed facts, tests the limits, and repairs the plans of the sessions that the
 /// command touches. After a refusal the lists are as before.
 fn settled(
     alloc: Global,
@@ -194,7 +194,7 @@ fn settled(
     }
 }
 
-/// The plans of the sessions that the command touches, repaired, where the facts pass no limit.
+/// The repaired plans of the sessions that the command touches, if the facts are within every limit.
 fn limited_plans(
     alloc: Global,
     facts: &Facts,
@@ -216,7 +216,7 @@ fn limited_plans(
     next_plans(alloc, facts, lists, sessions, plans, command)
 }
 
-/// The plans of the sessions that the command touches, repaired; nothing where it changes no plan.
+/// The repaired plans of the sessions that the command touches; none if the command changes no plan.
 fn next_plans(
     alloc: Global,
     facts: &Facts,
@@ -243,7 +243,7 @@ fn next_plans(
     }
 }
 
-/// The plans after a grant, the appellant seated first; nothing where the decision is no grant.
+/// The plans after a grant, with the appellant seated first; none if the decision is no grant.
 fn granted_plans(
     alloc: Global,
     facts: &Facts,
@@ -267,8 +267,8 @@ fn granted_plans(
     }
 }
 
-/// What the command answers: of an appeal that is decided anew, where it stands, the appellant's hall, and how
-/// many others moved.
+/// What the command answers; for an appeal with a new decision its state, the appellant's hall, and how many others
+/// moved.
 fn last_reply(
     facts: &Facts,
     plans: &Seats,

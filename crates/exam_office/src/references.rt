@@ -9,7 +9,7 @@ ghost use Rattle.exam_office.specs.Changes.{first_refusal, no_session, no_paper,
 use exam_rules::{Appeal, Facts, Status, Subject};
 use exam_types::{HallCode, Number, PaperCode, Reference, Refusal, SessionCode};
 
-/// Refused as an unknown session where there is none with this code.
+/// Refused with `UnknownSession` if there is no session with this code.
 pub fn check_session(facts: &Facts, code: &SessionCode) -> Result<(), Refusal>
     ensures { result_err result ≡ first_refusal (no_session (relations_of facts.now) code.now ∷ []) }
 {
@@ -20,7 +20,7 @@ pub fn check_session(facts: &Facts, code: &SessionCode) -> Result<(), Refusal>
     }
 }
 
-/// Refused as an unknown paper where there is none with this code.
+/// Refused with `UnknownPaper` if there is no paper with this code.
 pub fn check_paper(facts: &Facts, code: &PaperCode) -> Result<(), Refusal>
     ensures { result_err result ≡ first_refusal (no_paper (relations_of facts.now) code.now ∷ []) }
 {
@@ -31,7 +31,7 @@ pub fn check_paper(facts: &Facts, code: &PaperCode) -> Result<(), Refusal>
     }
 }
 
-/// Refused as an unknown candidate where there is none with this number.
+/// Refused with `UnknownCandidate` if there is no candidate with this number.
 pub fn check_candidate(facts: &Facts, number: &Number) -> Result<(), Refusal>
     ensures { result_err result ≡ first_refusal (no_candidate (relations_of facts.now) number.now ∷ []) }
 {
@@ -42,7 +42,7 @@ pub fn check_candidate(facts: &Facts, number: &Number) -> Result<(), Refusal>
     }
 }
 
-/// Refused as an unknown hall where there is none with this code.
+/// Refused with `UnknownHall` if there is no hall with this code.
 pub fn check_hall(facts: &Facts, code: &HallCode) -> Result<(), Refusal>
     ensures { result_err result ≡ first_refusal (no_hall (relations_of facts.now) code.now ∷ []) }
 {
@@ -53,7 +53,7 @@ pub fn check_hall(facts: &Facts, code: &HallCode) -> Result<(), Refusal>
     }
 }
 
-/// Whether the session of each paper is there.
+/// Whether the session of each paper exists.
 pub fn papers_refer(facts: &Facts) -> bool
     ensures { result ≡ good.papers_refer (relations_of facts.now) }
 {
@@ -112,7 +112,7 @@ fn subject_refers(facts: &Facts, subject: &Subject) -> bool
     }
 }
 
-/// Whether the appeal of each mark is there and may bear it.
+/// Whether the appeal of each mark exists and may bear it.
 pub fn marks_stand(facts: &Facts) -> bool
     ensures { result ≡ good.marks_stand (relations_of facts.now) }
 {
@@ -128,7 +128,7 @@ fn is_borne(facts: &Facts, key: &(Number, Reference)) -> bool
     }
 }
 
-/// Whether the appeal asks an arrangement and was granted, also if it has been superseded since.
+/// Whether the appeal asks for an arrangement and was granted, even if it has been superseded since.
 fn may_bear(appeal: &Appeal) -> bool
     ensures { result ≡ good.may_bear appeal.now }
 {

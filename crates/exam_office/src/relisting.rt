@@ -21,7 +21,7 @@ use std::alloc::Global;
 use std::collections::BTreeMap;
 use std::mem;
 
-/// How a change of the lists is taken back. Taking it back takes no memory.
+/// How to take back a change of the lists. Taking it back takes no memory.
 #[derive(Drop)]
 pub enum ListUndo {
     /// Nothing has changed.
@@ -57,7 +57,7 @@ impl ListUndo {
     }
 }
 
-/// Puts the lists of these sessions back. Takes no memory.
+/// Puts back the lists of these sessions. Takes no memory.
 fn put_back(lists: &mut SessionLists, before: BySession<Entrant>)
     requires { (s : Code) → IsTrue (has_row code_cmp before.entries s)
         → IsTrue (has_row code_cmp lists.old.members.entries s) }
@@ -70,7 +70,7 @@ fn put_back(lists: &mut SessionLists, before: BySession<Entrant>)
     }
 }
 
-/// Makes the lists those of the facts, which the command has changed. After a refusal they are as before.
+/// Brings the lists up to date with the facts, which the command has changed. After a refusal they are as before.
 pub fn relist(
     alloc: Global,
     facts: &Facts,
@@ -93,7 +93,7 @@ pub fn relist(
     }
 }
 
-/// Makes the lists those of the facts, into which the rows of the import have been put.
+/// Brings the lists up to date with the facts, into which the rows of the import have been put.
 fn relist_import(
     alloc: Global,
     facts: &Facts,
@@ -121,7 +121,7 @@ fn relist_import(
     }
 }
 
-/// Lists the candidates of the rows, which are of entries and have been put into the facts.
+/// Lists the candidates of the rows. The rows are entries and have been put into the facts.
 fn relist_rows(
     alloc: Global,
     facts: &Facts,
@@ -145,7 +145,7 @@ fn relist_rows(
     }
 }
 
-/// Enters the candidate of each row, and keeps in `before` what each list was.
+/// Enters the candidate of each row, and keeps in `before` each list as it was.
 fn enter_rows(
     alloc: Global,
     facts: &Facts,
@@ -166,8 +166,7 @@ fn enter_rows(
     Ok(())
 }
 
-/// Enters the candidate of the row, where its entry is live in the facts, into which later rows have been put
-/// too.
+/// Enters the candidate of the row if its entry is live in the facts, into which later rows have been put too.
 fn enter_row(
     alloc: Global,
     facts: &Facts,
@@ -191,7 +190,7 @@ fn enter_row(
             set_aside(alloc, lists, before, session)?;
             lists.enter(&session, *number, *paper)
         }
-        // The entry was there already, and is withdrawn.
+        // The entry existed already, and it is withdrawn.
         None => Ok(()),
     }
 }
@@ -206,7 +205,7 @@ fn live_session(facts: &Facts, number: Number, paper: &PaperCode) -> Option<Sess
     }
 }
 
-/// Keeps a copy of the session's list, where none is kept, and sees that the session has a list.
+/// Keeps a copy of the session's list unless one is kept already, and gives the session a list if it has none.
 fn set_aside(
     alloc: Global,
     lists: &mut SessionLists,
@@ -230,7 +229,7 @@ fn set_aside(
     Ok(())
 }
 
-/// Lists the candidate, whose entry for the paper has been set, anew in the paper's session.
+/// Lists the candidate, whose entry for the paper has been set, again in the paper's session.
 fn relist_entrant(
     alloc: Global,
     facts: &Facts,
@@ -249,7 +248,7 @@ fn relist_entrant(
             let list = lists.relist(alloc, facts, row.session, number)?;
             Ok(ListUndo::Members(row.session, list))
         }
-        // An entry for a paper that is not there counts nowhere.
+        // An entry for an unknown paper counts nowhere.
         None => list_anew(alloc, facts, lists),
     }
 }
@@ -271,7 +270,7 @@ fn relist_halls(
     Ok(ListUndo::Halls(session, halls))
 }
 
-/// Lists the members and open halls of all sessions anew.
+/// Lists the members and open halls of all sessions again.
 fn list_anew(alloc: Global, facts: &Facts, lists: &mut SessionLists) -> Result<ListUndo, Refusal>
     ensures ok { OnOk result (AreListsOf (relations_of facts.now) lists.new) }
     ensures back { IfOk result (λ undo. spec.ListsBack undo lists.new lists.old) }

@@ -22,7 +22,7 @@ use exam_types::{HallCode, Number, Refusal, SessionCode};
 use std::alloc::Global;
 use std::collections::BTreeMap;
 
-/// The plans of all sessions, each repaired, the first candidate first where they are a member.
+/// The plans of all sessions, each repaired; `first` is seated first if they are a member.
 pub fn repaired(
     alloc: Global,
     facts: &Facts,
@@ -46,8 +46,8 @@ pub fn repaired(
     Ok(repaired)
 }
 
-/// The plans of these sessions, each repaired, the first candidate first where they are a member. Nobody is
-/// seated in another session.
+/// The plans of these sessions, each repaired; `first` is seated first if they are a member. Nobody is seated in other
+/// sessions.
 pub fn repaired_among(
     alloc: Global,
     facts: &Facts,
@@ -74,7 +74,7 @@ pub fn repaired_among(
     Ok(repaired)
 }
 
-/// Adds the repaired plan of a session, of which nobody is seated yet.
+/// Adds the repaired plan of a session in which nobody is seated yet.
 fn repair_session(
     alloc: Global,
     facts: &Facts,
@@ -120,7 +120,7 @@ fn repaired_plan(
     sweep(alloc, problem, plan, first)
 }
 
-/// The place of the number, if there is one and it is listed.
+/// The place of the number, if one is given and listed.
 fn place_of_number(numbers: &[Number], number: Option<Number>) -> Option<usize>
     ensures { result ≡ option_and_then (λ c. position (nat_eq c) numbers.now) number }
 {
@@ -136,8 +136,7 @@ fn place_among(numbers: &[Number], number: &Number) -> Option<usize>
     numbers.iter().position(|other| *number == *other)
 }
 
-/// Of each of these candidates of a session the place of their hall. Who sits in a hall that is not listed
-/// has none.
+/// For each of these candidates of a session, the place of their hall; none if it is not listed.
 pub fn stored_plan(
     alloc: Global,
     numbers: &[Number],

@@ -11,8 +11,8 @@ use crate::undo::Undo;
 use exam_rules::{Appeal, Facts, Status};
 use exam_types::{Number, Reference, Refusal};
 
-/// Retracts the appeal, if it is not so yet, and gives how this is taken back. Refused as an unknown appeal, or
-/// as one that is not open; and where there is not enough memory for a copy of its reason. After a refusal the
+/// Retracts the appeal, unless it is retracted already, and returns how to take this back. Refused for an unknown
+/// appeal, for one that is not open, and if there is not enough memory for a copy of its reason. After a refusal the
 /// facts are as before.
 pub fn retract(facts: &mut Facts, number: Number, reference: Reference) -> Result<Undo, Refusal>
     ensures ok { OnOk result (relations_of facts.new

@@ -19,8 +19,7 @@ pub fn put<K: Ord + Copy, V: Drop>(rows: &mut BTreeMap<K, V>, key: K, row: V) ->
     Ok(())
 }
 
-/// Sets a key that has a row to another one, and gives the row that it had. Takes no memory, as only a new key
-/// does.
+/// Replaces the row of a key, and returns the row that it had. Takes no memory, since only a new key does.
 pub fn exchange<K: Ord + Copy, V: Drop>(rows: &mut BTreeMap<K, V>, key: K, row: V) -> V
     requires { IsTrue (has_row K.cmp rows.old.entries key) }
     ensures old { row_at K.cmp rows.old.entries key ≡ Some result }
@@ -29,12 +28,12 @@ pub fn exchange<K: Ord + Copy, V: Drop>(rows: &mut BTreeMap<K, V>, key: K, row: 
 {
     match rows.insert(key, row) {
         Ok(old) => old.unwrap(),
-        // It does not come to this.
+        // This cannot happen: a key that has a row takes no memory.
         Err(refused) => refused.value.1,
     }
 }
 
-/// Sets a key to a row, or takes its row away. Takes no memory, as a key that is set has a row already.
+/// Sets a key to a row, or takes its row away. Takes no memory, since a key that is set must have a row already.
 pub fn set<K: Ord + Copy, V: Drop>(rows: &mut BTreeMap<K, V>, key: K, row: Option<V>)
     requires { IsSome row → IsTrue (has_row K.cmp rows.old.entries key) }
     ensures set { rows.new.entries ≡ set_row K.cmp rows.old.entries key row }
@@ -48,6 +47,6 @@ pub fn set<K: Ord + Copy, V: Drop>(rows: &mut BTreeMap<K, V>, key: K, row: Optio
             let _ = rows.remove(&key);
         }
     }
-    // The length of a map tells that its keys rise.
+    // The contract of `len` says that the keys rise.
     let _ = rows.len();
 }

@@ -1,4 +1,4 @@
-//! The seats of some sessions in the place of others.
+//! How the seats of some sessions replace others.
 ghost use Rattle.std.specs.Prelude.{◌≡◌, ℕ, false, IsTrue, OnOk, IfErr};
 ghost use Rattle.exam_types.specs.declared.refusal.Refusal.TheVariants.{NoMemory};
 ghost use Rattle.exam_rules.specs.Orders.{KeysRise};
@@ -9,7 +9,7 @@ use crate::office::Seats;
 use crate::rows::set;
 use exam_types::Refusal;
 
-/// Seats everybody as in the new plans. After a refusal some of them may be seated so, and everybody else is as
+/// Seats everybody as in the new plans. After a refusal some of them may already be seated so, and all others are as
 /// before.
 pub fn put_seats(seats: &mut Seats, new: &Seats) -> Result<(), Refusal>
     ensures ok { OnOk result (seats.new.entries
@@ -21,7 +21,7 @@ pub fn put_seats(seats: &mut Seats, new: &Seats) -> Result<(), Refusal>
     ensures rises { KeysRise seat_cmp seats.new.entries }
     ensures memory { IfErr result (λ e. e ≡ NoMemory) }
 {
-    // The length of a map tells that its keys rise.
+    // The contract of `len` says that the keys rise.
     let _ = seats.len();
     for (key, hall) in new {
         seats.insert(*key, *hall)?;
@@ -29,21 +29,22 @@ pub fn put_seats(seats: &mut Seats, new: &Seats) -> Result<(), Refusal>
     Ok(())
 }
 
-/// Seats everybody whom the new plans seat as in the old ones again.
+/// Puts everybody whom the new plans seat back to where the old plans seat them, or takes their seat away if the old
+/// plans have none.
 pub fn take_back_seats(seats: &mut Seats, old: &Seats, new: &Seats)
     requires { (k : Code × ℕ) → IsTrue (has_row seat_cmp old.now.entries k)
         → IsTrue (has_row seat_cmp seats.old.entries k) }
     ensures { seats.new.entries
         ≡ spec.taken_back seat_cmp seats.old.entries old.now.entries new.now.entries }
 {
-    // The length of a map tells that its keys rise.
+    // The contract of `len` says that the keys rise.
     let _ = seats.len();
     for (key, _) in new {
         set(seats, *key, old.get(key).copied());
     }
 }
 
-/// Takes away the seats of the old plans for which there are none in the new ones.
+/// Takes away the seats of the old plans that have no seat in the new ones.
 pub fn drop_old_seats(seats: &mut Seats, old: &Seats, new: &Seats)
     ensures { seats.new.entries
         ≡ spec.without_old seat_cmp seats.old.entries old.now.entries new.now.entries }

@@ -36,8 +36,8 @@ pub fn step(
     }
 }
 
-/// Carries out commands in order, each on its day, and gives what each answers. Refused for want of memory
-/// before any command, and then the office is as before. Whatever it answers, every session is seated as
+/// Carries out commands in order, each on its day, and returns what each answers. If there is not enough memory for the
+/// replies, it refuses before any command, and the office is as before. Whatever it answers, every session is seated as
 /// promised.
 pub fn run(
     alloc: Global,
@@ -49,9 +49,9 @@ pub fn run(
     ensures memory { IfErr result (λ e. e ≡ NoMemory) }
     ensures err { OnErr result (office.new ≡ office.old) }
 {
-    // What an office promises is shown here for a refusal, and once more after the commands.
+    // Shows the promise for a refusal here, and again after the commands.
     office.show_seated();
-    // Room for all replies first, so that nothing fails once a command is carried out.
+    // Make room for all replies first, so that nothing fails once a command is carried out.
     let mut replies = Vec::with_capacity(alloc, commands.len())?;
     for (command, today) in commands {
         replies.push_reserved(step(alloc, office, command, *today));

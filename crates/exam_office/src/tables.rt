@@ -1,4 +1,4 @@
-//! What is wrong with facts and plans that are no good office, by tables.
+//! What is wrong, table by table, with facts and plans that are no good office.
 ghost use Rattle.std.specs.Prelude.{◌≡◌, ◌&&◌, ◌∷◌, [], ℕ, None, IsTrue, IfOk, IfErr};
 ghost use Rattle.std.specs.Bool.{Decides};
 ghost use Rattle.exam_types.specs.declared.refusal.Refusal.TheVariants.{NoMemory};
@@ -18,7 +18,7 @@ use exam_rules::{Facts, SessionLists, session_lists};
 use exam_types::Refusal;
 use std::alloc::Global;
 
-/// The tables of an office, in the order in which they are looked at.
+/// The tables of an office, in the order in which they are checked.
 #[derive(Clone, Copy, Debug, PartialEq, Eq)]
 pub enum Table {
     Sessions,
@@ -33,7 +33,7 @@ pub enum Table {
     Seats,
 }
 
-/// The first table that is not good, or none where these facts and plans are a good office.
+/// The first table that is not good, or none if these facts and plans are a good office.
 pub fn first_bad_table(
     alloc: Global,
     facts: &Facts,
@@ -47,7 +47,7 @@ pub fn first_bad_table(
     first_bad_listed(alloc, facts, &lists, seats)
 }
 
-/// The same where the members and the open halls of all sessions are listed.
+/// The same, from the lists of the members and the open halls of all sessions.
 pub fn first_bad_listed(
     alloc: Global,
     facts: &Facts,
@@ -65,7 +65,7 @@ pub fn first_bad_listed(
     }
 }
 
-/// The first of the tables that imports fill which is not good. Whatever seats there are says nothing of them.
+/// The first bad table among those that imports fill, or none. It does not depend on the seats.
 fn first_bad_of_imports(facts: &Facts, lists: &SessionLists) -> Option<Table>
     requires { AreListsOf (relations_of facts.now) lists.now }
     ensures first { (seats : state.Seats)
@@ -99,7 +99,7 @@ fn first_bad_of_imports(facts: &Facts, lists: &SessionLists) -> Option<Table>
     None
 }
 
-/// The first of the other tables that is not good.
+/// The first bad table among the others, or none.
 fn first_bad_of_others(
     alloc: Global,
     facts: &Facts,
@@ -160,7 +160,7 @@ fn are_appeals_good(alloc: Global, facts: &Facts) -> Result<bool, Refusal>
     grants::are_single(alloc, facts)
 }
 
-/// Whether every session's plan is best: whether its repair is the plan.
+/// Whether every session's plan is best. It is best exactly if the repair leaves it as it is.
 fn are_seats_good(
     alloc: Global,
     facts: &Facts,

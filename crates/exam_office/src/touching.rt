@@ -24,8 +24,8 @@ use std::collections::BTreeSet;
 /// Codes of sessions, in order.
 type Codes = BTreeSet<SessionCode>;
 
-/// The sessions that a command touches, over the facts before it, codes rising: an accepted command leaves every
-/// other session as it is. What the command refers to and is not there gives no session.
+/// The sessions that a command touches, over the facts before it, codes rising. An accepted command leaves every other
+/// session as it is. A reference to what does not exist gives no session.
 pub fn touched(alloc: Global, facts: &Facts, command: &Command) -> Result<Vec<SessionCode>, Refusal>
     ensures rising { IfOk result (λ codes. IsStrictlySortedBy code_cmp codes.items) }
     ensures exact { IfOk result (λ codes. (s : Code)
@@ -74,8 +74,8 @@ fn add_import(alloc: Global, facts: &Facts, rows: &[Row], codes: &mut Codes) -> 
     add_dated(facts, rows, codes)
 }
 
-/// Where one of these rows is of a session, whose date may change, adds the sessions that have a member with a
-/// standing grant.
+/// If one of these rows is a session, whose date may change, adds the sessions that have a member with a standing
+/// grant.
 fn add_dated(facts: &Facts, rows: &[Row], codes: &mut Codes) -> Result<(), Refusal>
     ensures ok { OnOk result ((s : Code) → contains code_cmp codes.new s
         ≡ ((list_any spec.is_session_row rows.now && spec.has_standing_member (relations_of facts.now) s)
@@ -89,14 +89,14 @@ fn add_dated(facts: &Facts, rows: &[Row], codes: &mut Codes) -> Result<(), Refus
     }
 }
 
-/// Whether one of these rows is of a session.
+/// Whether one of these rows is a session.
 fn has_session(rows: &[Row]) -> bool
     ensures { result ≡ list_any spec.is_session_row rows.now }
 {
     rows.iter().any(|row| is_session(row))
 }
 
-/// Whether the row is one of a session.
+/// Whether the row is a session.
 fn is_session(row: &Row) -> bool
     ensures { result ≡ spec.is_session_row row.now }
 {
@@ -117,7 +117,7 @@ fn add_standing(facts: &Facts, codes: &mut Codes) -> Result<(), Refusal>
     Ok(())
 }
 
-/// Adds the sessions that these rows touch otherwise than by naming a hall.
+/// Adds the sessions that these rows touch in other ways than by naming a hall.
 fn add_rows(facts: &Facts, rows: &[Row], codes: &mut Codes) -> Result<(), Refusal>
     ensures ok { OnOk result ((s : Code) → contains code_cmp codes.new s
         ≡ (list_any (λ (x : ImportRow). spec.names_session (relations_of facts.now) x s) rows.now
@@ -130,7 +130,7 @@ fn add_rows(facts: &Facts, rows: &[Row], codes: &mut Codes) -> Result<(), Refusa
     Ok(())
 }
 
-/// Adds the sessions that a row touches otherwise than by naming a hall.
+/// Adds the sessions that a row touches in other ways than by naming a hall.
 fn add_row(facts: &Facts, row: &Row, codes: &mut Codes) -> Result<(), Refusal>
     ensures ok { OnOk result ((s : Code) → contains code_cmp codes.new s
         ≡ (spec.names_session (relations_of facts.now) row.now s || contains code_cmp codes.old s)) }
@@ -196,7 +196,7 @@ fn add_session(session: &SessionCode, codes: &mut Codes) -> Result<(), Refusal>
     Ok(())
 }
 
-/// Adds a session that is referred to, if it is there.
+/// Adds a session that a row refers to, if it exists.
 fn add_known(facts: &Facts, session: &SessionCode, codes: &mut Codes) -> Result<(), Refusal>
     ensures ok { OnOk result ((s : Code) → contains code_cmp codes.new s
         ≡ (spec.names (relations_of facts.now) session.now s || contains code_cmp codes.old s)) }
@@ -209,7 +209,7 @@ fn add_known(facts: &Facts, session: &SessionCode, codes: &mut Codes) -> Result<
     }
 }
 
-/// Adds the session of a paper, if it is there.
+/// Adds the session of a paper, if the paper and the session exist.
 fn add_paper(facts: &Facts, paper: &PaperCode, codes: &mut Codes) -> Result<(), Refusal>
     ensures ok { OnOk result ((s : Code) → contains code_cmp codes.new s
         ≡ (is_paper_of (relations_of facts.now) s paper.now || contains code_cmp codes.old s)) }
@@ -221,7 +221,7 @@ fn add_paper(facts: &Facts, paper: &PaperCode, codes: &mut Codes) -> Result<(), 
     }
 }
 
-/// Adds the session of a paper, and its new one, if they are there.
+/// Adds the session of a paper, and its new one, if they exist.
 fn add_both(
     facts: &Facts,
     paper: &PaperCode,
@@ -295,7 +295,7 @@ fn add_decision(facts: &Facts, decision: &Decision, codes: &mut Codes) -> Result
     }
 }
 
-/// Adds the sessions that a grant of the appeal touches, if it is there.
+/// Adds the sessions that a grant of the appeal touches, if the appeal exists.
 fn add_appeal(facts: &Facts, decision: &Decision, codes: &mut Codes) -> Result<(), Refusal>
     ensures ok { OnOk result ((s : Code) → contains code_cmp codes.new s
         ≡ (option_map_or (λ (a : AppealRow). spec.grant_touches (relations_of facts.now) decision.now a s)
@@ -309,7 +309,7 @@ fn add_appeal(facts: &Facts, decision: &Decision, codes: &mut Codes) -> Result<(
     }
 }
 
-/// Adds the session of the appeal; where its grant sets or ends a standing one, those of the appellant too.
+/// Adds the session of the appeal; if its grant sets or ends a standing one, also those of the appellant.
 fn add_appellant(
     facts: &Facts,
     decision: &Decision,
@@ -325,7 +325,7 @@ fn add_appellant(
     add_session(&appeal.session, codes)
 }
 
-/// Where a grant of the appeal sets or ends a standing one, adds the sessions of which the appellant is a member.
+/// If a grant of the appeal sets or ends a standing one, adds the sessions of which the appellant is a member.
 fn add_others(
     facts: &Facts,
     decision: &Decision,

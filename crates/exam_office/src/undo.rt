@@ -1,4 +1,4 @@
-//! How a change of the facts is taken back.
+//! How to take back a change of the facts.
 ghost use Rattle.std.specs.Prelude.{◌≡◌};
 ghost use Rattle.exam_rules.specs.Orders.{AreInOrder};
 ghost use Rattle.exam_rules.specs.Relations.{Relations, relations_of};
@@ -12,8 +12,8 @@ use exam_rules::{Appeal, Entry, Facts, Opening};
 use exam_types::{HallCode, Number, PaperCode, Reference, SessionCode};
 use std::collections::BTreeMap;
 
-/// How a change of the facts is taken back. Taking it back takes no memory, so that a command whose change was
-/// made can still be refused.
+/// How to take back a change of the facts. Taking it back takes no memory, so a command can still be refused after its
+/// change was made.
 #[derive(Drop)]
 pub enum Undo {
     /// Nothing has changed.
@@ -63,7 +63,7 @@ impl Undo {
 }
 
 impl Undo {
-    /// What each table was before the change, beside what it is after it.
+    /// What each table was before the change, described by what it is after it.
     pub fn tables_before(&self) -> TablesBefore<'_>
         ensures { (r : Relations) → AreInOrder r → spec.IsThere self.now r
             → WereTables result (spec.restored self.now r) r }

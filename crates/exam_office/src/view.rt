@@ -11,7 +11,7 @@ use exam_types::{Day, HallCode, Minute, Name, Number, PaperCode, Reference, Refu
 use std::alloc::Global;
 use std::marker::Model;
 
-/// A member of a session, and where they sit.
+/// A member of a session, and their place.
 #[derive(Drop)]
 pub struct Seat {
     pub number: Number,
@@ -19,20 +19,20 @@ pub struct Seat {
     /// The sitting paper.
     pub paper: PaperCode,
     pub finish: Minute,
-    /// None for the unseated.
+    /// None if the member is not seated.
     pub hall: Option<HallCode>,
-    /// The desk number in the hall, from 1; none for the unseated.
+    /// The desk number in the hall, from 1; none if the member is not seated.
     pub desk: Option<u32>,
 }
 
-/// A deficiency certificate of a session: the candidates outnumber all desks of all halls that fit any of
-/// them by the number unseated.
+/// A deficiency certificate of a session: the candidates outnumber all desks of all halls that fit any of them by the
+/// number of unseated candidates.
 #[derive(Drop)]
 pub struct SessionShortage {
     pub unseated: usize,
     /// Each hall with its desks, by code.
     pub halls: Vec<(HallCode, u32)>,
-    /// By number.
+    /// The candidates, by number.
     pub candidates: Vec<Number>,
 }
 
@@ -52,7 +52,7 @@ pub struct AppealRow {
     pub reference: Reference,
     pub subject: Subject,
     pub state: AppealState,
-    /// The day of its lodging.
+    /// The day on which it was lodged.
     pub lodged: Day,
 }
 
@@ -75,13 +75,13 @@ pub struct SessionView {
     pub(crate) hall_codes: Vec<HallCode>,
     /// The openings of the session, by hall.
     pub(crate) openings: Vec<(HallCode, Opening)>,
-    /// By number.
+    /// The members, by number.
     pub(crate) members: Vec<Member>,
     /// The codes of the papers of the session, rising.
     pub(crate) papers: Vec<PaperCode>,
-    /// By number and paper.
+    /// The clashes, by number and paper.
     pub(crate) clashes: Vec<Clash>,
-    /// By number and reference.
+    /// The appeals, by number and reference.
     pub(crate) appeals: Vec<AppealRow>,
     pub(crate) problem: Problem,
     pub(crate) plan: Plan,
@@ -186,7 +186,7 @@ impl SessionView {
         self.appeals.as_slice()
     }
 
-    /// Who is contested, with all halls that fit any of them.
+    /// The contested candidates, with all halls that fit any of them.
     pub fn shortage(&self, alloc: Global) -> Result<SessionShortage, Refusal>
         ensures ok { IfOk result (λ shortage. views.ShowsShortage self.now (views.report_of shortage)) }
         ensures memory { IfErr result (λ e. e ≡ NoMemory) }
@@ -199,11 +199,11 @@ impl SessionView {
         })
     }
 
-    /// Every view shows some shortage. Does nothing.
+    /// Every view has a shortage to show. Does nothing at run time.
     pub fn show_shortage(&self)
         ensures { (report : views.Report) × views.ShowsShortage self.now report }
     {
-        // The read of a field shows what the type keeps.
+        // Reading a field shows the type's invariant.
         let _ = &self.problem;
     }
 

@@ -61,7 +61,7 @@ pub fn view_of(
     })
 }
 
-/// The seating problem of a session that there is, within the limits.
+/// The seating problem of a session that exists and is within the limits.
 fn listed(
     alloc: Global,
     facts: &Facts,
@@ -114,7 +114,7 @@ fn clashes_of(
     with_sitting(alloc, facts, session, &pairs)
 }
 
-/// The clashes, each with the paper that is sat.
+/// The clashes, each with the paper that the candidate sits.
 fn with_sitting(
     alloc: Global,
     facts: &Facts,

@@ -21,7 +21,7 @@ pub fn kind_word(subject: &Subject) -> &'static [u8]
     }
 }
 
-/// Where an appeal stands, as one word.
+/// The state of an appeal, as one word.
 pub fn state_word(state: AppealState) -> &'static [u8]
     ensures value { result.now ≡ spec.state_word state }
     ensures short { length result.now ≤ 10 }
@@ -35,7 +35,7 @@ pub fn state_word(state: AppealState) -> &'static [u8]
     }
 }
 
-/// Where an appeal with this status stands, as one word.
+/// The state of an appeal with this status, as one word.
 pub fn status_word(status: &Status) -> &'static [u8]
     ensures { result.now ≡ spec.state_word (appeals.state_of status.now) }
 {
@@ -55,7 +55,7 @@ pub fn write_subject(subject: &Subject, out: &mut Vec<u8>) -> Result<(), Refusal
     }
 }
 
-/// Appends the needs and the extra time, all of it or nothing.
+/// Appends the needs and the extra time, or nothing if there is not enough memory.
 fn write_arrangement(asked: Arrangement, out: &mut Vec<u8>) -> Result<(), Refusal>
     ensures ok { OnOk result (out.new.items ≡ out.old.items ++ spec.arrangement_text asked) }
     ensures err { OnErr result (out.new.items ≡ out.old.items) }
@@ -69,7 +69,7 @@ fn write_arrangement(asked: Arrangement, out: &mut Vec<u8>) -> Result<(), Refusa
     Ok(())
 }
 
-/// Appends the same, or a part of it where there is not enough memory.
+/// Appends the same, or only a part of it if there is not enough memory.
 fn write_parts(asked: Arrangement, out: &mut Vec<u8>) -> Result<(), Refusal>
     ensures ok { OnOk result (out.new.items ≡ out.old.items ++ spec.arrangement_text asked) }
     ensures err { OnErr result (StartsWith out.new.items out.old.items) }

@@ -1,8 +1,8 @@
-//! What no clause says: that the definitions give what was meant, on offices worked out by hand, and that
-//! calls succeed.
+//! What no clause says: that the definitions give what they should, on offices worked out by hand, and that calls
+//! succeed.
 //!
-//! A test is data: it names the facts of an office, the imports and what is so after each. So the functions
-//! that own an office, its facts or an import are few, and each is proved once.
+//! A test is data: it names the facts of an office, the imports, and what must hold after each. So only a few functions
+//! own an office, its facts or an import, and each is proved once.
 mod appeals;
 mod commands;
 mod decisions;

@@ -30,7 +30,7 @@ row_within desks rows rank c set h are below read held =
 
 -- ---- rows that come as masks
 
--- a mask below a power of two has no hall past it
+-- a set below a power of two has no hall past it
 pub within_masks : (n : ℕ) (rows : List ℕ) → All (λ mask. mask < 2 ^ n) rows → All (λ row. (h : ℕ) → holds row h ≡ true → h < n) rows
 within_masks n rows all = All-from_get_or (λ row. (h : ℕ) → holds row h ≡ true → h < n) rows 0 (λ i l h held. elim (cases_lt h n) [
   | inl k ↦ k

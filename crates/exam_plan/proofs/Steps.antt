@@ -242,37 +242,6 @@ next_fresh sets marked fresh next after was wide is = record {
   ];
 }
 
--- the halls that a set has, and those that the sets of such halls so far have
-abbrev pub IsFollowed : List ℕ → ℕ → ℕ → ℕ → Type 0
-IsFollowed sets marked i next = (k : ℕ) → IsMarked (holds next) k ↔ (IsMarked (holds marked) k ⊎ ((h : ℕ) × (h < i) × IsMarked (holds marked) h × IsMarked (holds (get_or sets h 0)) k))
-
-pub followed_skip : (sets : List ℕ) (marked i next : ℕ) → IsFollowed sets marked i next → (IsMarked (holds marked) i → ⊥) → IsFollowed sets marked (i + 1) next
-followed_skip sets marked i next w away k = (
-  (λ t. elim ((w k).0 t) [ inl a ↦ inl a | inr d ↦ inr (d.0, (let l : d.0 < i = d.1 in omega arith), d.2, d.3) ]),
-  (λ s. (w k).1 (elim s [
-    | inl a ↦ inl a
-    | inr d ↦ elim (cases_lt d.0 i) [
-      | inl l ↦ inr (d.0, l, d.2, d.3)
-      | inr g ↦ (let l : d.0 < i + 1 = d.1 in let e : d.0 ≡ i = omega arith in absurd (away (subst (λ (z : ℕ). IsMarked (holds marked) z) e d.2)))
-    ]
-  ])),
-)
-
-pub followed_union : (sets : List ℕ) (marked i next one new : ℕ) → IsFollowed sets marked i next → IsMarked (holds marked) i → one ≡ get_or sets i 0 → ((k : ℕ) → holds new k ≡ holds next k || holds one k) → IsFollowed sets marked (i + 1) new
-followed_union sets marked i next one new w held read union k = (
-  (λ t. elim (or_cases (holds next k) (holds one k) (sym (union k) ∙ t)) [
-    | inl n ↦ elim ((w k).0 n) [ inl a ↦ inl a | inr d ↦ inr (d.0, (let l : d.0 < i = d.1 in omega arith), d.2, d.3) ]
-    | inr o ↦ inr (i, omega arith, held, ap (λ s. holds s k) (sym read) ∙ o)
-  ]),
-  (λ s. union k ∙ elim s [
-    | inl a ↦ or_left (holds next k) (holds one k) ((w k).1 (inl a))
-    | inr d ↦ elim (cases_lt d.0 i) [
-      | inl l ↦ or_left (holds next k) (holds one k) ((w k).1 (inr (d.0, l, d.2, d.3)))
-      | inr g ↦ (let l : d.0 < i + 1 = d.1 in let e : d.0 ≡ i = omega arith in or_right (holds next k) (holds one k) (ap (λ s. holds s k) read ∙ ap (λ z. holds (get_or sets z 0) k) (sym e) ∙ d.3))
-    ]
-  ]),
-)
-
 -- ---- layers
 
 module _ (p : Problem) (q : Plan ℕ ℕ) where
@@ -367,9 +336,18 @@ module _ (p : Problem) (q : Plan ℕ ℕ) (c : ℕ) where
   leads_below good zero h fit = fits_below p good c h fit
   leads_below good (suc j) h (k, lead, d) = fits_below p good d.0 h d.2
 
-  module _ (sets : List ℕ) (onward : AreOnward p q sets) (n : ℕ) (halls : n ≡ length p.desk_counts) (dead led next more rest : ℕ)
+  -- what halls of the set that are not fresh lead to is in it, or dead
+  abbrev pub IsFollowed : ℕ → ℕ → ℕ → Type 0
+  IsFollowed led fresh dead =
+      (d h k : ℕ) → q d ≡ Some h → IsMarked (holds led) h → holds fresh h ≡ false → IsTrue ((seating_of p).fits d k) → IsMarked (holds led) k ⊎ IsMarked (holds dead) k
+
+  pub followed_none : (led dead : ℕ) → IsFollowed led led dead
+  followed_none led dead d h k sits t f fits = absurd (let z : true ≡ false = sym t ∙ f in cc)
+
+  module _ (sets : List ℕ) (onward : AreOnward p q sets) (dead led fresh next more rest : ℕ) (good : IsProblem p)
       (apart : (h : ℕ) → IsMarked (holds led) h → IsMarked (holds dead) h → ⊥) (leads : (h : ℕ) → IsMarked (holds led) h → (j : ℕ) × LeadsTo p q c j h)
-      (follows : IsFollowed sets led n next) (more_is : (h : ℕ) → holds more h ≡ holds next h && not (holds dead h)) (rest_is : (h : ℕ) → holds rest h ≡ holds more h && not (holds led h)) where
+      (within : (h : ℕ) → IsMarked (holds fresh) h → IsMarked (holds led) h) (followed : IsFollowed led fresh dead)
+      (widens : IsWidened sets led fresh next) (more_is : (h : ℕ) → holds more h ≡ holds next h && not (holds dead h)) (rest_is : (h : ℕ) → holds rest h ≡ holds more h && not (holds led h)) where
     next_or_dead : (h : ℕ) → IsMarked (holds next) h → IsMarked (holds more) h ⊎ IsMarked (holds dead) h
     next_or_dead h t = at (holds dead h) refl
       where
@@ -378,34 +356,48 @@ module _ (p : Problem) (q : Plan ℕ ℕ) (c : ℕ) where
         at false e = inl (more_is h ∙ and_from (holds next h) (not (holds dead h)) t (ap not e))
 
     still_led : (h : ℕ) → IsMarked (holds led) h → IsMarked (holds more) h
-    still_led h t = elim (next_or_dead h ((follows h).1 (inl t))) [ inl m ↦ m | inr d ↦ absurd (apart h t d) ]
+    still_led h t = elim (next_or_dead h ((widens h).1 (inl t))) [ inl m ↦ m | inr d ↦ absurd (apart h t d) ]
 
     pub more_apart : (h : ℕ) → IsMarked (holds more) h → IsMarked (holds dead) h → ⊥
     more_apart h m d = let b = beyond next dead more h (more_is h) m in let z : true ≡ false = sym d ∙ b.1 in cc
 
     pub more_leads : (h : ℕ) → IsMarked (holds more) h → (j : ℕ) × LeadsTo p q c j h
-    more_leads h m = elim ((follows h).0 (beyond next dead more h (more_is h) m).0) [
+    more_leads h m = elim ((widens h).0 (beyond next dead more h (more_is h) m).0) [
       | inl t ↦ leads h t
-      | inr w ↦ (let l : w.0 < n = w.1 in let r = leads w.0 w.2 in let o = (onward w.0 h (omega arith)).0 w.3 in (suc r.0, (w.0, r.1, o)))
+      | inr w ↦ (let r = leads w.0 (within w.0 w.1) in let o = (onward w.0 h (leads_below good r.0 w.0 r.1)).0 w.2 in (suc r.0, (w.0, r.1, o)))
     ]
 
     pub more_fits : ((h : ℕ) → IsTrue ((seating_of p).fits c h) → IsMarked (holds led) h ⊎ IsMarked (holds dead) h) → (h : ℕ) → IsTrue ((seating_of p).fits c h) → IsMarked (holds more) h ⊎ IsMarked (holds dead) h
     more_fits fitting h f = elim (fitting h f) [ inl t ↦ inl (still_led h t) | inr d ↦ inr d ]
 
-    pub more_grows : IsProblem p → (k : ℕ) → holds rest k ≡ true → count_below (holds led) (length p.desk_counts) < count_below (holds more) (length p.desk_counts)
-    more_grows good k held =
+    pub more_grows : (k : ℕ) → holds rest k ≡ true → count_below (holds led) (length p.desk_counts) < count_below (holds more) (length p.desk_counts)
+    more_grows k held =
         let b = beyond more led rest k (rest_is k) held in
         let r = more_leads k b.0 in
         holds_more led more (length p.desk_counts) k still_led (leads_below good r.0 k r.1) b.0 b.1
 
+    pub more_within : (h : ℕ) → IsMarked (holds rest) h → IsMarked (holds more) h
+    more_within h t = (beyond more led rest h (rest_is h) t).0
+
+    led_on : ((d h : ℕ) → q d ≡ Some h → h < length p.desk_counts)
+        → (d h k : ℕ) → q d ≡ Some h → IsMarked (holds led) h → IsTrue ((seating_of p).fits d k) → IsMarked (holds more) k ⊎ IsMarked (holds dead) k
+    led_on exist d h k sits t f = elim (cases_Bool (holds fresh h)) [
+      | inl b ↦ next_or_dead k ((widens k).1 (inr (h, b, (onward h k (exist d h sits)).1 (d, sits, f))))
+      | inr b ↦ elim (followed d h k sits t b f) [ inl m ↦ inl (still_led k m) | inr e ↦ inr e ]
+    ]
+
+    pub more_followed : ((d h : ℕ) → q d ≡ Some h → h < length p.desk_counts) → IsFollowed more rest dead
+    more_followed exist d h k sits m none f = elim (cases_Bool (holds led h)) [
+      | inl t ↦ led_on exist d h k sits t f
+      | inr a ↦ absurd (let z : true ≡ false = sym (rest_is h ∙ and_from (holds more h) (not (holds led h)) m (ap not a)) ∙ none in cc)
+    ]
+
     pub led_closed : ((h : ℕ) → holds rest h ≡ false) → ((d h : ℕ) → q d ≡ Some h → h < length p.desk_counts)
         → (d h k : ℕ) → q d ≡ Some h → IsMarked (holds led) h → IsTrue ((seating_of p).fits d k) → IsMarked (holds led) k ⊎ IsMarked (holds dead) k
-    led_closed none exist d h k sits t f =
-        let l = exist d h sits in
-        elim (next_or_dead k ((follows k).1 (inr (h, omega arith, t, (onward h k l).1 (d, sits, f))))) [
-          | inl m ↦ inl (within_other more led rest rest_is none k m)
-          | inr e ↦ inr e
-        ]
+    led_closed none exist d h k sits t f = elim (led_on exist d h k sits t f) [
+      | inl m ↦ inl (within_other more led rest rest_is none k m)
+      | inr e ↦ inr e
+    ]
 
 -- ---- moving along a chain
 

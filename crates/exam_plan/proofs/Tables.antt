@@ -6,7 +6,7 @@ use Rattle.std.proofs.lemmas.List.{get_or-set_same, get_or-set_other, get_or_pas
 use Rattle.exam_plan.specs.declared.onward.Onward.{Onward}
 use Rattle.exam_plan.specs.declared.tally.Tally.{Tally}
 use Rattle.exam_plan.specs.HallSets.{holds}
-use Rattle.exam_plan.specs.Tallies.{one_if, tallied}
+use Rattle.exam_plan.specs.Tallies.{IsWhole, one_if, tally_of}
 use Rattle.exam_plan.specs.Matching.{Plan}
 use Rattle.exam_plan.specs.Problems.{Problem, IsPlan, plan_at, seating_of}
 use Rattle.exam_plan.specs.Searches.{IsMarked, AreInward, AreOnward, IsShaped, IsTable, IsOnward, IsEntered, IsLeft, is_fitting_occupant, fitting_count, no_digits, tally_at}
@@ -282,25 +282,25 @@ same_length xs after i n new is long = ap length is ∙ (let e : length (set xs 
 -- the table with a new tally and a new set for the hall
 module _ (p : Problem) (before after : Onward) (h : ℕ) (tally : Tally) (fitting : ℕ) (shaped : IsShaped p before) (inside : h < length p.desk_counts)
     (tallies_are : after.tallies.items ≡ set before.tallies.items h tally) (sets_are : after.sets.items ≡ set before.sets.items h fitting)
-    (whole : length tally.digits ≡ 13) (counted : (k : ℕ) → IsMarked (holds fitting) k ↔ 0 < tallied tally.digits k)
+    (whole : IsWhole tally) (counted : (k : ℕ) → IsMarked (holds fitting) k ↔ 0 < tally_of tally k)
     (changed : ℕ) (inside_now : Bool) (inward_long : length after.inward.items ≡ length before.inward.items)
     (inward_is : (k g : ℕ) → holds (get_or after.inward.items k 0) g ≡ cond (nat_eq g h && holds changed k) inside_now (holds (get_or before.inward.items k 0) g))
     (changes : (k : ℕ) → k < length p.desk_counts → cond (holds changed k) inside_now (holds (get_or before.sets.items h 0) k) ≡ holds fitting k) where
   in_tallies : h < length before.tallies.items
   in_tallies = (let e = shaped.tallies in omega (arith, e, inside))
 
-  tally_here : (g k : ℕ) → g ≡ h → tally_at after.tallies.items g k ≡ tallied tally.digits k
-  tally_here g k e = ap (λ (t : Tally). tallied t.digits k) (set_here before.tallies.items after.tallies.items h g tally no_digits tallies_are in_tallies e)
+  tally_here : (g k : ℕ) → g ≡ h → tally_at after.tallies.items g k ≡ tally_of tally k
+  tally_here g k e = ap (λ (t : Tally). tally_of t k) (set_here before.tallies.items after.tallies.items h g tally no_digits tallies_are in_tallies e)
 
   tally_there : (g k : ℕ) → g ≢ h → tally_at after.tallies.items g k ≡ tally_at before.tallies.items g k
-  tally_there g k away = ap (λ (t : Tally). tallied t.digits k) (set_there before.tallies.items after.tallies.items h g tally no_digits tallies_are away)
+  tally_there g k away = ap (λ (t : Tally). tally_of t k) (set_there before.tallies.items after.tallies.items h g tally no_digits tallies_are away)
 
   pub new_shaped : length after.firsts.items ≡ length p.desk_counts → IsShaped p after
   new_shaped long = record {
     tallies = same_length before.tallies.items after.tallies.items h (length p.desk_counts) tally tallies_are shaped.tallies;
     digits = λ g l. elim (cases_eq g h) [
-      | inl e ↦ ap (λ (t : Tally). length t.digits) (set_here before.tallies.items after.tallies.items h g tally no_digits tallies_are in_tallies e) ∙ whole
-      | inr away ↦ ap (λ (t : Tally). length t.digits) (set_there before.tallies.items after.tallies.items h g tally no_digits tallies_are away) ∙ shaped.digits g l
+      | inl e ↦ subst IsWhole (sym (set_here before.tallies.items after.tallies.items h g tally no_digits tallies_are in_tallies e)) whole
+      | inr away ↦ subst IsWhole (sym (set_there before.tallies.items after.tallies.items h g tally no_digits tallies_are away)) (shaped.digits g l)
     ];
     sets = same_length before.sets.items after.sets.items h (length p.desk_counts) fitting sets_are shaped.sets;
     firsts = long;
@@ -332,7 +332,7 @@ module _ (p : Problem) (before after : Onward) (h : ℕ) (tally : Tally) (fittin
   one_if_there : (g k c : ℕ) → g ≢ h → one_if (nat_eq g h && (seating_of p).fits c k) ≡ 0
   one_if_there g k c away = ap (λ t. one_if (t && (seating_of p).fits c k)) (ne_eqb g h away)
 
-  pub entered : (c first : ℕ) → ((k : ℕ) → tallied tally.digits k ≡ tally_at before.tallies.items h k + one_if ((seating_of p).fits c k))
+  pub entered : (c first : ℕ) → ((k : ℕ) → tally_of tally k ≡ tally_at before.tallies.items h k + one_if ((seating_of p).fits c k))
       → after.firsts.items ≡ set before.firsts.items h first → first ≤ get_or before.firsts.items h 0 → first ≤ c → after.is_noted ≡ before.is_noted → IsEntered p before h c after
   entered c first more firsts_are less also noted = record {
     shaped = new_shaped (same_length before.firsts.items after.firsts.items h (length p.desk_counts) first firsts_are shaped.firsts);
@@ -355,7 +355,7 @@ module _ (p : Problem) (before after : Onward) (h : ℕ) (tally : Tally) (fittin
       in_firsts : h < length before.firsts.items
       in_firsts = (let e = shaped.firsts in omega (arith, e, inside))
 
-  pub left_out : (c : ℕ) → ((k : ℕ) → tallied tally.digits k + one_if ((seating_of p).fits c k) ≡ tally_at before.tallies.items h k)
+  pub left_out : (c : ℕ) → ((k : ℕ) → tally_of tally k + one_if ((seating_of p).fits c k) ≡ tally_at before.tallies.items h k)
       → after.firsts.items ≡ before.firsts.items → after.is_noted ≡ before.is_noted → IsLeft p before h c after
   left_out c less firsts_are noted = record {
     shaped = new_shaped (ap length firsts_are ∙ shaped.firsts);

@@ -9,7 +9,7 @@ use Rattle.exam_plan.specs.declared.onward.Onward.{Onward}
 use Rattle.exam_plan.specs.declared.tally.Tally.{Tally}
 use Rattle.exam_plan.specs.declared.turns.Progress.{Progress}
 use Rattle.exam_plan.specs.HallSets.{holds, halls_below}
-use Rattle.exam_plan.specs.Tallies.{digit_count, one_if, tallied}
+use Rattle.exam_plan.specs.Tallies.{IsWhole, one_if, tally_of}
 use Rattle.exam_plan.specs.Matching.{Plan, IsLawful}
 use Rattle.exam_plan.specs.Chains.{HasFreeDesk, augmented}
 use Rattle.exam_plan.specs.Repair.{Turn}
@@ -128,17 +128,17 @@ abbrev pub fitting_count : Problem → Plan ℕ ℕ → ℕ → ℕ → ℕ → 
 fitting_count p plan h k n = count_by (is_fitting_occupant p plan h k) (range_with_len 0 n)
 
 abbrev pub no_digits : Tally
-no_digits = record { digits = [] }
+no_digits = record { low = []; high = [] }
 
 -- how often the hall k was counted for the hall h
 abbrev pub tally_at : List Tally → ℕ → ℕ → ℕ
-tally_at tallies h k = tallied (slice_index_or tallies h no_digits).digits k
+tally_at tallies h k = tally_of (slice_index_or tallies h no_digits) k
 
 -- for each hall a tally, a number and a set: the halls that were counted; and the sets the other way round
 pub record IsShaped (p : Problem) (table : Onward) : Type 0 where
   pub tallies : length table.tallies.items ≡ length p.desk_counts
   pub digits : (h : ℕ) → h < length p.desk_counts
-      → length (slice_index_or table.tallies.items h no_digits).digits ≡ digit_count
+      → IsWhole (slice_index_or table.tallies.items h no_digits)
   pub sets : length table.sets.items ≡ length p.desk_counts
   pub firsts : length table.firsts.items ≡ length p.desk_counts
   pub counted : (h k : ℕ) → h < length p.desk_counts

@@ -20,7 +20,7 @@ fn is_touching(problem: &Problem, candidate: usize, marked: HallSet) -> bool
     problem.fitting(candidate).meets(marked)
 }
 
-/// The halls of the set, and those with an occupant whom a fresh hall fits.
+/// The halls of the set, and those that the sets of its fresh halls hold.
 fn widened(inward: &[HallSet], marked: HallSet, fresh: HallSet) -> HallSet
     requires { (k : ℕ) → IsMarked (holds fresh) k → k < length inward.now }
     ensures { (h : ℕ) → IsMarked (holds result) h ↔ (IsMarked (holds marked) h
@@ -28,9 +28,10 @@ fn widened(inward: &[HallSet], marked: HallSet, fresh: HallSet) -> HallSet
 {
     let mut next = marked;
     let mut rest = fresh;
-    'uniting: while let Some(hall) = rest.first() {
+    'uniting: while let Some(split) = rest.split_first() {
+        let (hall, others) = split;
         next = next.union(inward[hall]);
-        rest = rest.put(hall, false);
+        rest = others;
     }
     next
 }
@@ -105,21 +106,6 @@ pub fn search_chain(
     )
 }
 
-/// The halls of the set, and those that fit an occupant of a hall of the set.
-fn followed(onward: &[HallSet], marked: HallSet) -> HallSet
-    ensures { (k : ℕ) → IsMarked (holds result) k ↔ (IsMarked (holds marked) k
-        ⊎ ((h : ℕ) × (h < length onward.now) × IsMarked (holds marked) h
-        × IsMarked (holds (slice_index onward.now h)) k)) }
-{
-    let mut next = marked;
-    for (hall, fitting) in onward.iter().enumerate() {
-        if marked.contains(hall) {
-            next = next.union(*fitting);
-        }
-    }
-    next
-}
-
 /// The halls to which the candidate leads, those aside that are known to be dead.
 pub fn led_to(
     problem: &Problem,
@@ -141,9 +127,11 @@ pub fn led_to(
         → IsTrue ((seating_of problem.now).fits d k) → IsMarked (holds result) k ⊎ IsMarked (holds dead) k }
 {
     let mut led = problem.fitting(candidate).minus(dead);
+    let mut fresh = led;
     'following: loop {
-        let more = followed(onward, led).minus(dead);
-        if more.minus(led).first().is_none() {
+        let more = widened(onward, led, fresh).minus(dead);
+        fresh = more.minus(led);
+        if fresh.first().is_none() {
             return led;
         }
         led = more;

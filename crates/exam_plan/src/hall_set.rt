@@ -1,31 +1,40 @@
 //! Sets of halls, each hall by its number.
-ghost use Rattle.std.specs.Prelude.{◌≡◌, ◌↔◌, ◌<◌, ◌≤◌, ◌||◌, ◌&&◌, ℕ, false, not, nat_eq, if◌then◌else◌, IsTrue, MatchOption};
-ghost use Rattle.exam_plan.specs.HallSets.{most_halls, holds};
+ghost use Rattle.std.specs.Prelude.{◌≡◌, ◌↔◌, ◌<◌, ◌≤◌, ◌%◌, ◌^◌, ◌||◌, ◌&&◌, ℕ, false, not, slice_index, nat_eq, if◌then◌else◌, IsTrue, MatchOption};
+ghost use Rattle.exam_plan.specs.HallSets.{most_halls, holds, IsLeast, set_of_mask};
 
 use std::marker::Model;
 
 /// The most halls that a set tells apart, and so the most halls of a problem.
-pub const MOST_HALLS: usize = 128;
+pub const MOST_HALLS: usize = 256;
 
-/// The bits of a set of halls: hall h is in it where bit h is 1.
-pub type Mask = u128;
+/// The bits of a set of halls: hall h is in it where bit h % 128 of word h / 128 is 1.
+pub type Mask = [u128; 2];
 
 /// A set of halls.
 #[derive(Clone, Copy)]
 pub struct HallSet {
-    bits: Mask,
+    /// The halls below 128, hall h at bit h.
+    low: u128,
+    /// The halls from 128 on, hall h at bit h - 128.
+    high: u128,
 }
 
 impl Model for HallSet {
-    ghost use Rattle.std.specs.Prelude.{ℕ, ◌<◌, ◌^◌};
+    ghost use Rattle.std.specs.Prelude.{ℕ, ◌<◌, ◌+◌, ◌*◌, ◌/◌, ◌%◌, ◌^◌};
+    ghost use Rattle.std.proofs.lemmas.Nat.{mod_low, shr_high};
 
     ghost Value = { ℕ };
 
-    ghost view = { λ a. a.bits };
+    ghost view = { λ a. a.high * 2 ^ 128 + a.low };
 
-    ghost invariant = { λ a. a.bits < 2 ^ 128 };
+    ghost invariant = { λ a. (a.low < 2 ^ 128) × (a.high < 2 ^ 128) };
 
-    ghost inverse = { λ n. record { bits = n } };
+    ghost inverse = { λ n. record { low = n % 2 ^ 128; high = n / 2 ^ 128 } };
+
+    ghost inverse_ok = { λ a within i. record {
+      low = mod_low a.high 128 a.low within.0 i;
+      high = shr_high a.high 128 a.low within.0 i;
+    } };
 }
 
 impl HallSet {
@@ -33,28 +42,45 @@ impl HallSet {
     pub fn empty() -> HallSet
         ensures { (h : ℕ) → holds result h ≡ false }
     {
-        HallSet { bits: 0 }
+        HallSet { low: 0, high: 0 }
     }
 
     /// The set of the halls whose bits are 1.
     pub fn of_mask(mask: Mask) -> HallSet
-        ensures { result ≡ mask }
+        ensures { result ≡ set_of_mask mask }
     {
-        HallSet { bits: mask }
+        HallSet {
+            low: mask[0],
+            high: mask[1],
+        }
     }
 
     /// The bits of the set.
     pub fn mask(self) -> Mask
-        ensures { result ≡ self }
+        ensures bits { set_of_mask result ≡ self }
+        ensures word { slice_index result 0 < 2 ^ 128 }
     {
-        self.bits
+        [self.low, self.high]
+    }
+
+    /// The word of the hall, where the hall's bit is bit hall % 128.
+    fn word_of(self, hall: usize) -> u128
+        ensures { holds result (hall % 128) ≡ holds self hall }
+    {
+        if hall < 128 {
+            self.low
+        } else if hall < MOST_HALLS {
+            self.high
+        } else {
+            0
+        }
     }
 
     /// Whether the hall is in the set.
     pub fn contains(self, hall: usize) -> bool
         ensures { result ≡ holds self hall }
     {
-        hall < MOST_HALLS && (self.bits >> hall) & 1 != 0
+        (self.word_of(hall) >> (hall % 128)) & 1 != 0
     }
 
     /// The set with one more hall.
@@ -62,8 +88,17 @@ impl HallSet {
         requires { hall < most_halls }
         ensures { (h : ℕ) → holds result h ≡ (nat_eq h hall || holds self h) }
     {
-        HallSet {
-            bits: self.bits | (1 << hall),
+        let bit = 1 << (hall % 128);
+        if hall < 128 {
+            HallSet {
+                low: self.low | bit,
+                high: self.high,
+            }
+        } else {
+            HallSet {
+                low: self.low,
+                high: self.high | bit,
+            }
         }
     }
 
@@ -85,7 +120,8 @@ impl HallSet {
         ensures { (h : ℕ) → holds result h ≡ (holds self h || holds other h) }
     {
         HallSet {
-            bits: self.bits | other.bits,
+            low: self.low | other.low,
+            high: self.high | other.high,
         }
     }
 
@@ -94,7 +130,8 @@ impl HallSet {
         ensures { (h : ℕ) → holds result h ≡ (holds self h && not (holds other h)) }
     {
         HallSet {
-            bits: self.bits & !other.bits,
+            low: self.low & !other.low,
+            high: self.high & !other.high,
         }
     }
 
@@ -103,7 +140,8 @@ impl HallSet {
         ensures { (h : ℕ) → holds result h ≡ (holds self h && holds other h) }
     {
         HallSet {
-            bits: self.bits & other.bits,
+            low: self.low & other.low,
+            high: self.high & other.high,
         }
     }
 
@@ -111,26 +149,52 @@ impl HallSet {
     pub fn is_empty(self) -> bool
         ensures { IsTrue result ↔ ((h : ℕ) → holds self h ≡ false) }
     {
-        self.bits == 0
+        self.first().is_none()
     }
 
     /// Whether a hall is in both sets.
     pub fn meets(self, other: HallSet) -> bool
         ensures { IsTrue result ↔ ((h : ℕ) × IsTrue (holds self h) × IsTrue (holds other h)) }
     {
-        self.bits & other.bits != 0
+        self.common(other).first().is_some()
     }
 
     /// The least hall of the set.
     pub fn first(self) -> Option<usize>
         ensures { MatchOption result
             ((h : ℕ) → holds self h ≡ false)
-            (λ h. (h < most_halls) × IsTrue (holds self h) × ((k : ℕ) → IsTrue (holds self k) → h ≤ k)) }
+            (IsLeast self) }
     {
-        if self.bits == 0 {
-            None
+        if self.low != 0 {
+            Some(self.low.trailing_zeros() as usize)
+        } else if self.high != 0 {
+            Some(128 + self.high.trailing_zeros() as usize)
         } else {
-            Some(self.bits.trailing_zeros() as usize)
+            None
+        }
+    }
+
+    /// The least hall of the set, and the set of the others.
+    pub fn split_first(self) -> Option<(usize, HallSet)>
+        ensures { MatchOption result
+            ((h : ℕ) → holds self h ≡ false)
+            (λ (least, others). IsLeast self least
+            × ((h : ℕ) → holds others h ≡ (if nat_eq h least then false else holds self h))) }
+    {
+        if self.low != 0 {
+            let others = HallSet {
+                low: self.low & (self.low - 1),
+                high: self.high,
+            };
+            Some((self.low.trailing_zeros() as usize, others))
+        } else if self.high != 0 {
+            let others = HallSet {
+                low: 0,
+                high: self.high & (self.high - 1),
+            };
+            Some((128 + self.high.trailing_zeros() as usize, others))
+        } else {
+            None
         }
     }
 }

@@ -36,9 +36,10 @@ fn put_each(sets: &mut Vec<HallSet>, halls: HallSet, hall: usize, inside: bool)
         ≡ (if nat_eq h hall && holds halls k then inside else holds (slice_index sets.old.items k) h) }
 {
     let mut rest = halls;
-    'putting: while let Some(next) = rest.first() {
+    'putting: while let Some(split) = rest.split_first() {
+        let (next, others) = split;
         sets[next] = sets[next].put(hall, inside);
-        rest = rest.put(next, false);
+        rest = others;
     }
 }
 

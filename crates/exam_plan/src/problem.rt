@@ -2,7 +2,7 @@
 ghost use Rattle.std.specs.Prelude.{◌≡◌, ℕ, ◌<◌, ◌≤◌, length, map, nat_eq, All, IsTrue, IfOk, IfErr};
 ghost use Rattle.std.specs.Prelude.{slice_index};
 ghost use Rattle.std.specs.List.{list_any, IsDistinct};
-ghost use Rattle.exam_plan.specs.HallSets.{most_halls, holds, halls_below};
+ghost use Rattle.exam_plan.specs.HallSets.{most_halls, holds, halls_below, sets_of};
 ghost use Rattle.exam_plan.specs.Problems.{IsProblem, most_members, seating_of};
 
 use crate::hall_set::{HallSet, MOST_HALLS, Mask};
@@ -53,6 +53,18 @@ fn set_of(row: &[usize]) -> HallSet
     set
 }
 
+/// The sets of the masks.
+fn sets_of_masks(alloc: Global, masks: &[Mask]) -> Result<Vec<HallSet>, Refusal>
+    ensures sets { IfOk result (λ sets. sets.items ≡ sets_of masks.now) }
+    ensures memory { IfErr result (λ e. e ≡ Refusal.NoMemory) }
+{
+    let sets = masks
+        .iter()
+        .map(|mask| HallSet::of_mask(*mask))
+        .collect(alloc)?;
+    Ok(sets)
+}
+
 impl Problem {
     /// The problem with these desks in each hall, these fitting halls of each candidate, and these places
     /// of the candidates in the order of desks.
@@ -86,8 +98,8 @@ impl Problem {
         })
     }
 
-    /// The problem with these desks in each hall, these fitting halls of each candidate, hall h at bit h, and
-    /// these places of the candidates in the order of desks.
+    /// The problem with these desks in each hall, the fitting halls of each candidate by a mask, and these places
+    /// of the candidates in the order of desks.
     pub fn from_masks(
         alloc: Global,
         desks: Vec<u32>,
@@ -98,18 +110,16 @@ impl Problem {
         requires few { length fit.items ≤ most_members }
         requires ranked { length rank.items ≡ length fit.items }
         requires distinct { IsDistinct nat_eq rank.items }
-        requires exist { All (λ mask. (h : ℕ) → IsTrue (holds mask h) → h < length desks.items) fit.items }
+        requires exist { All (λ set. (h : ℕ) → IsTrue (holds set h) → h < length desks.items)
+            (sets_of fit.items) }
         ensures problem { IfOk result (λ p. p ≡ record {
           desk_counts = desks.items;
-          fit = map (halls_below (length desks.items)) fit.items;
+          fit = map (halls_below (length desks.items)) (sets_of fit.items);
           rank = rank.items;
         }) }
         ensures memory { IfErr result (λ e. e ≡ Refusal.NoMemory) }
     {
-        let mut sets = Vec::with_capacity(alloc, fit.len())?;
-        for mask in fit.iter() {
-            sets.push(HallSet::of_mask(*mask))?;
-        }
+        let sets = sets_of_masks(alloc, fit.as_slice())?;
         Ok(Problem {
             desk_counts: desks,
             fit: sets,

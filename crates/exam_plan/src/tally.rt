@@ -2,80 +2,115 @@
 ghost use Rattle.std.specs.Prelude.{◌≡◌, ◌↔◌, ◌<◌, ◌≤◌, ◌+◌, ℕ, length, IsTrue};
 ghost use Rattle.exam_plan.specs.HallSets.{holds};
 ghost use Rattle.exam_plan.specs.Problems.{most_members};
-ghost use Rattle.exam_plan.specs.Tallies.{digit_count, tallied, one_if};
+ghost use Rattle.exam_plan.specs.Tallies.{IsWhole, digit_count, tallied, tally_of, one_if};
 
 use crate::hall_set::HallSet;
 
 /// As many binary digits as the number of all candidates has.
 const DIGITS: usize = 13;
 
-/// A number for each hall, in binary: each digit is the set of the halls whose number has a one there, the last
-/// digit first. So all halls of a set are counted at once.
+/// A number for each hall of a word, in binary: each digit is the set of the halls whose number has a one there, the
+/// last digit first. So all halls of a word are counted at once.
+type Digits = [u128; DIGITS];
+
+/// A number for each hall, word by word: mostly one of the two words has nothing to count.
 #[derive(Clone, Copy)]
 pub struct Tally {
-    digits: [HallSet; DIGITS],
+    /// The halls below 128.
+    low: Digits,
+    /// The halls from 128 on.
+    high: Digits,
+}
+
+/// Counts each hall of the word once more, if it was counted less often than there are candidates.
+fn count_word(digits: &mut Digits, word: u128)
+    requires { length digits.old ≡ digit_count }
+    ensures whole { length digits.new ≡ digit_count }
+    ensures more { (h : ℕ) → tallied digits.old h ≤ most_members
+        → tallied digits.new h ≡ tallied digits.old h + one_if (holds word h) }
+{
+    let mut carry = word;
+    for place in 0..DIGITS {
+        if carry == 0 {
+            return;
+        }
+        let digit = digits[place];
+        digits[place] = digit ^ carry;
+        carry &= digit;
+    }
+}
+
+/// Counts each hall of the word once less, if it was counted.
+fn discount_word(digits: &mut Digits, word: u128)
+    requires { length digits.old ≡ digit_count }
+    ensures whole { length digits.new ≡ digit_count }
+    ensures less { (h : ℕ) → (IsTrue (holds word h) → 0 < tallied digits.old h)
+        → tallied digits.new h + one_if (holds word h) ≡ tallied digits.old h }
+{
+    let mut borrow = word;
+    for place in 0..DIGITS {
+        if borrow == 0 {
+            return;
+        }
+        let digit = digits[place] ^ borrow;
+        digits[place] = digit;
+        borrow &= digit;
+    }
+}
+
+/// The halls of the word that are counted at least once.
+fn counted_word(digits: &Digits) -> u128
+    requires { length digits.now ≡ digit_count }
+    ensures { (h : ℕ) → IsTrue (holds result h) ↔ 0 < tallied digits.now h }
+{
+    let mut counted = 0;
+    for digit in digits {
+        counted |= *digit;
+    }
+    counted
 }
 
 impl Tally {
     /// No hall was counted.
     pub fn none() -> Tally
-        ensures whole { length result.digits ≡ digit_count }
-        ensures none { (h : ℕ) → tallied result.digits h ≡ 0 }
+        ensures whole { IsWhole result }
+        ensures none { (h : ℕ) → tally_of result h ≡ 0 }
     {
         Tally {
-            digits: [HallSet::empty(); DIGITS],
+            low: [0; DIGITS],
+            high: [0; DIGITS],
         }
     }
 
     /// Counts each hall of the set once more.
     pub fn count(&mut self, halls: HallSet)
-        requires whole { length self.old.digits ≡ digit_count }
-        requires room { (h : ℕ) → tallied self.old.digits h ≤ most_members }
-        ensures whole { length self.new.digits ≡ digit_count }
-        ensures more { (h : ℕ) → tallied self.new.digits h
-            ≡ tallied self.old.digits h + one_if (holds halls h) }
+        requires whole { IsWhole self.old }
+        requires room { (h : ℕ) → tally_of self.old h ≤ most_members }
+        ensures whole { IsWhole self.new }
+        ensures more { (h : ℕ) → tally_of self.new h ≡ tally_of self.old h + one_if (holds halls h) }
     {
-        let mut carry = halls;
-        for place in 0..DIGITS {
-            if carry.is_empty() {
-                return;
-            }
-            let digit = self.digits[place];
-            let both = digit.common(carry);
-            self.digits[place] = digit.union(carry).minus(both);
-            carry = both;
-        }
+        let [low, high] = halls.mask();
+        count_word(&mut self.low, low);
+        count_word(&mut self.high, high);
     }
 
     /// Counts each hall of the set once less.
     pub fn discount(&mut self, halls: HallSet)
-        requires whole { length self.old.digits ≡ digit_count }
-        requires counted { (h : ℕ) → IsTrue (holds halls h) → 0 < tallied self.old.digits h }
-        ensures whole { length self.new.digits ≡ digit_count }
-        ensures less { (h : ℕ) → tallied self.new.digits h + one_if (holds halls h)
-            ≡ tallied self.old.digits h }
+        requires whole { IsWhole self.old }
+        requires counted { (h : ℕ) → IsTrue (holds halls h) → 0 < tally_of self.old h }
+        ensures whole { IsWhole self.new }
+        ensures less { (h : ℕ) → tally_of self.new h + one_if (holds halls h) ≡ tally_of self.old h }
     {
-        let mut borrow = halls;
-        for place in 0..DIGITS {
-            if borrow.is_empty() {
-                return;
-            }
-            let digit = self.digits[place];
-            let both = digit.common(borrow);
-            self.digits[place] = digit.union(borrow).minus(both);
-            borrow = borrow.minus(digit);
-        }
+        let [low, high] = halls.mask();
+        discount_word(&mut self.low, low);
+        discount_word(&mut self.high, high);
     }
 
     /// The halls that are counted at least once.
     pub fn counted(&self) -> HallSet
-        requires { length self.now.digits ≡ digit_count }
-        ensures { (h : ℕ) → IsTrue (holds result h) ↔ 0 < tallied self.now.digits h }
+        requires { IsWhole self.now }
+        ensures { (h : ℕ) → IsTrue (holds result h) ↔ 0 < tally_of self.now h }
     {
-        let mut counted = HallSet::empty();
-        for digit in &self.digits {
-            counted = counted.union(*digit);
-        }
-        counted
+        HallSet::of_mask([counted_word(&self.low), counted_word(&self.high)])
     }
 }

@@ -3,11 +3,11 @@ ghost use Rattle.std.specs.Prelude.{◌≡◌, ◌<◌, ◌≤◌, ◌^◌, ℕ,
 ghost use Rattle.std.specs.List.{range_with_len};
 ghost use Rattle.std.specs.List.Sorted.{IsStrictlySortedBy};
 ghost use Rattle.std.specs.Ordering.{nat_cmp};
-ghost use Rattle.exam_plan.specs.HallSets.{most_halls};
+ghost use Rattle.exam_plan.specs.HallSets.{most_halls, set_of_mask, sets_of};
 ghost use Rattle.exam_plan.specs.Matching.{IsBest};
 ghost use Rattle.exam_plan.specs.Problems.{IsPlan, most_members, seating_of, plan_at};
 
-use exam_plan::{Plan, Problem, desks, keep_lawful, shortage, sweep, sweep_dead};
+use exam_plan::{Mask, Plan, Problem, desks, keep_lawful, shortage, sweep, sweep_dead};
 use exam_types::Refusal;
 use std::alloc::Global;
 use std::test::Fail;
@@ -68,16 +68,40 @@ fn problem_of(alloc: Global, desks: [u32; 3], fits: &[[bool; 3]]) -> Result<Prob
 }
 
 /// A problem with a desk in each of so many halls.
-fn masked_problem(alloc: Global, halls: usize, masks: &[u128]) -> Result<Problem, Refusal>
+fn masked_problem(alloc: Global, halls: usize, masks: &[Mask]) -> Result<Problem, Refusal>
     requires few_halls { halls ≤ most_halls }
     requires few { length masks.now ≤ most_members }
-    requires exist { All (λ mask. mask < 2 ^ halls) masks.now }
+    requires exist { All (λ set. set < 2 ^ halls) (sets_of masks.now) }
     ensures count { IfOk result (λ p. length p.fit ≡ length masks.now) }
 {
     let desks = vec![in alloc; 1u32; halls]?;
     let rows = Vec::from_slice(alloc, masks)?;
     let ranks = ranks_of(alloc, masks.len())?;
     Problem::from_masks(alloc, desks, rows, ranks)
+}
+
+/// The same where each candidate has the same mask.
+fn equal_problem(
+    alloc: Global,
+    halls: usize,
+    mask: Mask,
+    candidates: usize,
+) -> Result<Problem, Refusal>
+    requires few_halls { halls ≤ most_halls }
+    requires few { candidates ≤ most_members }
+    requires exist { set_of_mask mask < 2 ^ halls }
+    ensures count { IfOk result (λ p. length p.fit ≡ candidates) }
+{
+    let mut masks = Vec::with_capacity(alloc, candidates)?;
+    'filling: for _ in 0..candidates {
+        masks.push(mask)?;
+    }
+    masked_problem(alloc, halls, masks.as_slice())
+}
+
+/// Whether the list is 0, 1, 2 .. with so many items.
+fn counts_to(list: &[usize], count: usize) -> bool {
+    list.len() == count && list.iter().enumerate().all(|(place, item)| *item == place)
 }
 
 /// What a sweep makes of nothing: the plan, and the dead halls.
@@ -173,27 +197,72 @@ fn least_of_two_short_chains_is_taken(rt: HostRuntime) -> Result<(), Fail> {
 
 #[test]
 fn first_and_last_hall_are_told_apart(rt: HostRuntime) -> Result<(), Fail> {
-    let last = 1u128 << 127;
-    let problem = masked_problem(rt.alloc(), 128, [last, last | 1, 1, last].as_slice())?;
+    let last = [0, 1 << 127];
+    let masks = [last, [1, 1 << 127], [1, 0], last];
+    let problem = masked_problem(rt.alloc(), 256, masks.as_slice())?;
     let first_row = problem.fitting(1);
-    assert!(rt; first_row.contains(0) && first_row.contains(127));
-    assert!(rt; !first_row.contains(1) && !first_row.contains(126) && !first_row.contains(128));
+    assert!(rt; first_row.contains(0) && first_row.contains(255));
+    assert!(rt; !first_row.contains(1) && !first_row.contains(127) && !first_row.contains(128));
+    assert!(rt; !first_row.contains(254) && !first_row.contains(256));
     let (plan, dead) = swept_dead(rt.alloc(), &problem)?;
     assert_eq!(rt;
         plan.as_slice(),
-        [Some(127), Some(0), None, None].as_slice()
+        [Some(255), Some(0), None, None].as_slice()
     );
-    assert_eq!(rt; dead.as_slice(), [0, 127].as_slice());
+    assert_eq!(rt; dead.as_slice(), [0, 255].as_slice());
     let short = shortage(rt.alloc(), &problem, &swept(rt.alloc(), &problem)?)?;
     assert_eq!(rt; short.unseated, 2);
-    assert_eq!(rt; short.halls.as_slice(), [0, 127].as_slice());
+    assert_eq!(rt; short.halls.as_slice(), [0, 255].as_slice());
     assert_eq!(rt; short.candidates.as_slice(), [0, 1, 2, 3].as_slice());
     Ok(())
 }
 
 #[test]
+fn chain_goes_on_from_hall_127_to_hall_128(rt: HostRuntime) -> Result<(), Fail> {
+    let masks = [[1 << 127, 1], [0, 3], [1 << 127, 0]];
+    let problem = masked_problem(rt.alloc(), 130, masks.as_slice())?;
+    let (plan, dead) = swept_dead(rt.alloc(), &problem)?;
+    assert_eq!(rt;
+        plan.as_slice(),
+        [Some(128), Some(129), Some(127)].as_slice()
+    );
+    assert_eq!(rt; dead.len(), 0);
+    Ok(())
+}
+
+#[test]
+fn halls_126_to_130_alone_fit(rt: HostRuntime) -> Result<(), Fail> {
+    let problem = equal_problem(rt.alloc(), 140, [3 << 126, 7], 6)?;
+    let (plan, dead) = swept_dead(rt.alloc(), &problem)?;
+    assert_eq!(rt;
+        plan.as_slice(),
+        [Some(126), Some(127), Some(128), Some(129), Some(130), None].as_slice()
+    );
+    assert_eq!(rt; dead.as_slice(), [126, 127, 128, 129, 130].as_slice());
+    let short = shortage(rt.alloc(), &problem, &swept(rt.alloc(), &problem)?)?;
+    assert_eq!(rt;
+        short.halls.as_slice(),
+        [126, 127, 128, 129, 130].as_slice()
+    );
+    assert!(rt; short.unseated == 1 && counts_to(&short.candidates, 6));
+    Ok(())
+}
+
+#[test]
+fn one_candidate_more_than_200_halls(rt: HostRuntime) -> Result<(), Fail> {
+    let problem = equal_problem(rt.alloc(), 200, [u128::MAX, (1 << 72) - 1], 201)?;
+    let (plan, dead) = swept_dead(rt.alloc(), &problem)?;
+    assert_eq!(rt; plan.iter().filter(|place| place.is_some()).count(), 200);
+    assert!(rt; counts_to(&dead, 200));
+    let short = shortage(rt.alloc(), &problem, &swept(rt.alloc(), &problem)?)?;
+    assert_eq!(rt; short.unseated, 1);
+    assert!(rt; counts_to(&short.halls, 200) && counts_to(&short.candidates, 201));
+    Ok(())
+}
+
+#[test]
 fn no_hall_and_no_candidate(rt: HostRuntime) -> Result<(), Fail> {
-    let nowhere = masked_problem(rt.alloc(), 0, [0u128, 0].as_slice())?;
+    let nowhere = masked_problem(rt.alloc(), 0, [[0u128, 0], [0, 0]].as_slice())?;
     let (plan, dead) = swept_dead(rt.alloc(), &nowhere)?;
     assert_eq!(rt; plan.as_slice(), [None, None].as_slice());
     assert_eq!(rt; dead.len(), 0);

@@ -15,6 +15,7 @@ use Rattle.exam_request.specs.declared.reading.Message.{Message}
 use Rattle.exam_request.specs.declared.reading.Stop.{Stop}
 use Rattle.exam_request.specs.declared.reading.Stop.TheVariants.{Failed, Faulty}
 use Rattle.exam_request.proofs.InHand.{gave_all, gave_end, gave_up, taken}
+use Rattle.exam_request.specs.Sizes.{most_head, most_request}
 
 -- what the bytes in hand begin with stays when more come
 pub head_more : (old mid new : Option (List ℕ)) (had now : List ℕ) (n : ℕ) → HeadRead old mid had n → More mid new had now → HeadRead old new now n
@@ -48,7 +49,7 @@ message old new bytes n said h j few rest =
 
 -- the input ended inside the body
 pub no_body : (old new : Option (List ℕ)) (bytes : List ℕ) (n : ℕ) (said : Said) → HeadRead old new bytes n → Judges (take n bytes) (Ok said) → length bytes < n + said.body_length → IsAtEnd new
-    → length bytes ≤ 12288 → Gave 12288 old new (λ input. Asks input (Err Length))
+    → length bytes ≤ most_request → Gave most_request old new (λ input. Asks input (Err Length))
 no_body old new bytes n said h j less end few =
     let k = said.body_length in
     let w = h.within in
@@ -56,7 +57,7 @@ no_body old new bytes n said h j less end few =
     let size = length-append (drop n bytes) [] in
     let short : nat_lt (length (drop n bytes ++ [])) k ≡ true = lt-ltb _ k (omega arith) in
     let cut : Asks (bytes ++ []) (Err Length) = let head = h.head [] in rw head (Ok said, j, rw short refl) in
-    gave_end (λ input. Asks input (Err Length)) old new bytes 12288 few h.consumed end (subst (λ input. Asks input (Err Length)) (append-nil bytes) cut)
+    gave_end (λ input. Asks input (Err Length)) old new bytes most_request few h.consumed end (subst (λ input. Asks input (Err Length)) (append-nil bytes) cut)
 
 -- the head is at fault
 bad_head : (old new : Option (List ℕ)) (bytes : List ℕ) (n : ℕ) (e : Fault) → HeadRead old new bytes n → Judges (take n bytes) (Err e) → (rest : List ℕ) → Asks (bytes ++ rest) (Err e)
@@ -64,18 +65,18 @@ bad_head old new bytes n e h j rest = let head = h.head rest in rw head (Err e, 
 
 -- the same, of a buffer
 pub bad_head_in : (old new : Option (List ℕ)) (buf : List ℕ) (n filled : ℕ) (e : Fault) (r : Result Message Stop) → HeadRead old new (take filled buf) n → Judges (take n buf) (Err e)
-    → filled ≤ 8192 → r ≡ Err (Faulty e) → FindsMessage old new buf r
+    → filled ≤ most_head → r ≡ Err (Faulty e) → FindsMessage old new buf r
 bad_head_in old new buf n filled e r h j few is =
     let within : n ≤ filled = omega (arith, h.within, length-take filled buf) in
     let front : take n (take filled buf) ≡ take n buf = take-take n filled buf within in
     let asks = bad_head old new (take filled buf) n e h (subst (λ x. Judges x (Err e)) (sym front) j) in
     subst (λ x. FindsMessage old new buf x) (sym is)
-    (gave_all (λ input. Asks input (Err e)) old new (take filled buf) 12288 (omega (arith, length-take filled buf)) h.consumed asks)
+    (gave_all (λ input. Asks input (Err e)) old new (take filled buf) most_request (omega (arith, length-take filled buf)) h.consumed asks)
 
 -- a read failed
-pub fails : (old mid new : Option (List ℕ)) (buffer after : List ℕ) (filled : ℕ) (r : Result Message Stop) → Consumes old mid (take filled buffer) → Keeps mid new → filled ≤ 12288
+pub fails : (old mid new : Option (List ℕ)) (buffer after : List ℕ) (filled : ℕ) (r : Result Message Stop) → Consumes old mid (take filled buffer) → Keeps mid new → filled ≤ most_request
     → r ≡ Err Failed → FindsMessage old new after r
-fails old mid new buffer after filled r c k few is = subst (λ x. FindsMessage old new after x) (sym is) (gave_up old mid new buffer filled 12288 c k few)
+fails old mid new buffer after filled r c k few is = subst (λ x. FindsMessage old new after x) (sym is) (gave_up old mid new buffer filled most_request c k few)
 
 -- what a head says, and where
 pub record JudgedAt (front : List ℕ) (s : HeadSpans) : Type 0 where
@@ -97,15 +98,15 @@ parts buf n k filled h =
 
 -- a message that is in hand lies in the buffer
 pub message_in : (old new : Option (List ℕ)) (buf : List ℕ) (n : ℕ) (s : HeadSpans) (filled : ℕ) → HeadRead old new (take filled buf) n → JudgedAt (take n (take filled buf)) s
-    → n + s.body_length ≤ filled → filled ≤ length buf → filled ≤ 12288 → FindsMessage old new buf (Ok (record { head = n; spans = s }))
+    → n + s.body_length ≤ filled → filled ≤ length buf → filled ≤ most_request → FindsMessage old new buf (Ok (record { head = n; spans = s }))
 message_in old new buf n s filled h j few size most =
     let k = s.body_length in
     let p = parts buf n k filled few in
     let a = length-take-le filled buf size in
-    let Q : List ℕ → List ℕ → Type 0 = λ x y. Gave 12288 old new (λ input. Asks input (Ok (request_with (said_at x s) y))) in
+    let Q : List ℕ → List ℕ → Type 0 = λ x y. Gave most_request old new (λ input. Asks input (Ok (request_with (said_at x s) y))) in
     let said = said_at (take n (take filled buf)) s in
     let m : Q (take n (take filled buf)) (take k (drop n (take filled buf))) =
-    gave_all (λ input. Asks input (Ok (request_with said (take k (drop n (take filled buf)))))) old new (take filled buf) 12288 (omega arith) h.consumed
+    gave_all (λ input. Asks input (Ok (request_with said (take k (drop n (take filled buf)))))) old new (take filled buf) most_request (omega arith) h.consumed
     (message old new (take filled buf) n said h j.judged (omega arith)) in (
       record { within = omega arith; parts = subst (λ x. LiesIn x s) p.0 j.lies },
       subst (λ y. Q (take n buf) y) p.1 (subst (λ x. Q x (take k (drop n (take filled buf)))) p.0 m),

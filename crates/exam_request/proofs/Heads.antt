@@ -9,10 +9,11 @@ use Rattle.httparse.specs.declared.spans.RequestSpans.{RequestSpans}
 use Rattle.exam_request.specs.Head.{HasWholeLines, IsHead, Judges, Said, said_by}
 use Rattle.exam_request.specs.declared.fault.Fault.{Fault}
 use Rattle.exam_request.specs.declared.fault.Fault.TheVariants.{Head}
+use Rattle.exam_request.specs.Sizes.{most_lines}
 
 -- the parser found a head of just these bytes
 pub whole_head : (head : List ℕ) (headers : List HeaderSpan) (r : RequestSpans) (answer : Result Said Fault) → HasWholeLines head
-    → IsRequestOf head headers r → length headers ≤ 32 → r.len ≡ length head → ((h : RequestHead) → IsRequestAt head headers r h → answer ≡ said_by h)
+    → IsRequestOf head headers r → length headers ≤ most_lines → r.len ≡ length head → ((h : RequestHead) → IsRequestAt head headers r h → answer ≡ said_by h)
     → Judges head answer
 whole_head head headers r answer lines of room all said =
     let h = of.0 in
@@ -20,7 +21,7 @@ whole_head head headers r answer lines of room all said =
     let ends : drop r.len head ≡ [] = rw all (drop_all (length head) head (omega arith)) in
     let count : length (take r.headers headers) ≡ length h.fields =
     sym (length-map (take r.headers headers) (header_bytes head)) ∙ ap length at.fields ∙ length-map h.fields name_and_value in
-    let few : length h.fields ≤ 32 = omega (arith, length-take r.headers headers) in
+    let few : length h.fields ≤ most_lines = omega (arith, length-take r.headers headers) in
     inr (h, record { lines = lines; reads = subst (λ rest. ReadsRequest head h rest) ends at.reads; few = few }, said h at)
 
 -- these bytes are no head

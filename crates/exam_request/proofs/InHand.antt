@@ -13,6 +13,7 @@ use borrow.Rule.Slice.PartMut.{put_mid}
 use Rattle.exam_send.specs.Given.{Gave}
 use Rattle.exam_request.specs.Input.{HeadRead, More, begins, empty_line, head_len, head_of, head_or_fault}
 use Rattle.exam_request.specs.declared.fault.Fault.TheVariants.{Head, Size}
+use Rattle.exam_request.specs.Sizes.{most_head}
 
 -- a read of n bytes behind the first a
 pub read_behind : (a k n : ℕ) (xs ys : List ℕ) → a ≤ length xs → n ≤ length ys → take (a + n) (put_mid a k xs ys) ≡ take a xs ++ take n ys
@@ -60,21 +61,21 @@ head_stays (b ∷ rest) ys n h =
     here false t s h (Some m) r more = let e : option_map suc (Some m) ≡ Some n = rw r at h in rw (s, t, more m r) e
 
 -- the front of an input that begins with the bytes in hand
-front : (xs rest : List ℕ) → length xs ≤ 8192 → (zs : List ℕ) × (take 8192 (xs ++ rest) ≡ xs ++ zs)
+front : (xs rest : List ℕ) → length xs ≤ most_head → (zs : List ℕ) × (take most_head (xs ++ rest) ≡ xs ++ zs)
 front xs rest h =
-    let m = 8192 - length xs in
-    let e : length xs + m ≡ 8192 = omega arith in
+    let m = most_head - length xs in
+    let e : length xs + m ≡ most_head = omega arith in
     (take m rest, ap (λ k. take k (xs ++ rest)) (sym e) ∙ take-append-add xs rest m)
 
 -- the head is in hand
-pub in_hand : (old new : Option (List ℕ)) (xs : List ℕ) (n : ℕ) → length xs ≤ 8192 → head_len xs ≡ Some n → Consumes old new xs → HeadRead old new xs n
+pub in_hand : (old new : Option (List ℕ)) (xs : List ℕ) (n : ℕ) → length xs ≤ most_head → head_len xs ≡ Some n → Consumes old new xs → HeadRead old new xs n
 in_hand old new xs n few h c = record { within = (head_within xs n h).1; consumed = c; head = λ rest. stands rest }
   where
     stands : (rest : List ℕ) → head_of (xs ++ rest) ≡ Ok (take n xs, drop n xs ++ rest)
     stands rest =
         let w = (head_within xs n h).1 in
         let f = front xs rest few in
-        let found : head_len (take 8192 (xs ++ rest)) ≡ Some n = rw f.1 (head_stays xs f.0 n h) in
+        let found : head_len (take most_head (xs ++ rest)) ≡ Some n = rw f.1 (head_stays xs f.0 n h) in
         ap (head_or_fault (xs ++ rest)) found
         ∙ ap (λ a. Ok (a, drop n (xs ++ rest))) (take-append-le n xs rest w) ∙ ap (λ d. Ok (take n xs, d)) (drop-append-le n xs rest w)
 
@@ -97,22 +98,22 @@ gave_end P old new xs most few c end says = record { given = xs; few = few; cons
     whole (Some input) (Some rest) c end = subst P (sym (c ∙ ap (λ r. xs ++ r) end ∙ append-nil xs)) says
 
 -- the input ended without a head
-pub cut_short : (old new : Option (List ℕ)) (xs : List ℕ) → length xs < 8192 → head_len xs ≡ None → Consumes old new xs → IsAtEnd new → Gave 8192 old new (λ input. head_of input ≡ Err Head)
+pub cut_short : (old new : Option (List ℕ)) (xs : List ℕ) → length xs < most_head → head_len xs ≡ None → Consumes old new xs → IsAtEnd new → Gave most_head old new (λ input. head_of input ≡ Err Head)
 cut_short old new xs few h c end =
-    let short : take 8192 xs ≡ xs = take_all 8192 xs (omega arith) in
-    let less : nat_lt (length xs) 8192 ≡ true = lt-ltb (length xs) 8192 few in
+    let short : take most_head xs ≡ xs = take_all most_head xs (omega arith) in
+    let less : nat_lt (length xs) most_head ≡ true = lt-ltb (length xs) most_head few in
     let cut : head_of xs ≡ Err Head = ap (λ i. head_or_fault xs (head_len i)) short ∙ ap (head_or_fault xs) h ∙ rw less refl in
-    gave_end (λ input. head_of input ≡ Err Head) old new xs 8192 (omega arith) c end cut
+    gave_end (λ input. head_of input ≡ Err Head) old new xs most_head (omega arith) c end cut
 
 -- the room ended without one
-pub too_long : (old new : Option (List ℕ)) (xs : List ℕ) → length xs ≡ 8192 → head_len xs ≡ None → Consumes old new xs → Gave 8192 old new (λ input. head_of input ≡ Err Size)
-too_long old new xs few h c = gave_all (λ input. head_of input ≡ Err Size) old new xs 8192 (omega arith) c (λ rest. long rest)
+pub too_long : (old new : Option (List ℕ)) (xs : List ℕ) → length xs ≡ most_head → head_len xs ≡ None → Consumes old new xs → Gave most_head old new (λ input. head_of input ≡ Err Size)
+too_long old new xs few h c = gave_all (λ input. head_of input ≡ Err Size) old new xs most_head (omega arith) c (λ rest. long rest)
   where
     long : (rest : List ℕ) → head_of (xs ++ rest) ≡ Err Size
     long rest =
-        let front_is : take 8192 (xs ++ rest) ≡ xs = rw (← few) (take-append_seam xs rest) in
-        let size : 8192 ≤ length (xs ++ rest) = omega (arith, length-append xs rest) in
-        ap (λ i. head_or_fault (xs ++ rest) (head_len i)) front_is ∙ ap (head_or_fault (xs ++ rest)) h ∙ rw (le-ltb (length (xs ++ rest)) 8192 size) refl
+        let front_is : take most_head (xs ++ rest) ≡ xs = rw (← few) (take-append_seam xs rest) in
+        let size : most_head ≤ length (xs ++ rest) = omega (arith, length-append xs rest) in
+        ap (λ i. head_or_fault (xs ++ rest) (head_len i)) front_is ∙ ap (head_or_fault (xs ++ rest)) h ∙ rw (le-ltb (length (xs ++ rest)) most_head size) refl
 
 -- a read that failed took nothing
 pub none_taken : (old mid new : Option (List ℕ)) (had : List ℕ) → Consumes old mid had → Keeps mid new → Consumes old new had

@@ -12,6 +12,7 @@ use Rattle.exam_request.specs.declared.reading.ReadFailed.{ReadFailed}
 use Rattle.exam_request.specs.declared.reading.Request.{Request as Parts}
 use Rattle.exam_request.specs.declared.reading.Stop.{Stop}
 use Rattle.exam_request.specs.declared.reading.Stop.TheVariants.{Failed, Faulty}
+use Rattle.exam_request.specs.Sizes.{most_request}
 
 -- A request: its method, its target, the value of its one access code line, and its body.
 pub record Request : Type 0 where
@@ -36,13 +37,13 @@ asked_with rest (Ok said) =
     if nat_lt (length rest) said.body_length then Err Length
     else Ok (request_with said (take said.body_length rest))
 
--- what an input asks: the fault of its head, or what its head says with the body behind it
+-- what an input asks: the fault of its head, or what its head says with the body after it
 abbrev pub Asks : List ℕ → Result Request Fault → Type 0
 Asks input answer = MatchResult (head_of input)
     (λ p. (said : Result Said Fault) × Judges p.0 said × (answer ≡ asked_with p.1 said))
     (λ fault. answer ≡ Err fault)
 
--- the parts of a request that a caller is handed
+-- the parts of a request that a caller gets
 abbrev pub request_of : Parts → Request
 request_of parts = record {
   method = parts.method.now;
@@ -51,7 +52,7 @@ request_of parts = record {
   body = parts.body.now;
 }
 
--- what a caller is handed, as what was asked
+-- what a caller gets, as what was asked
 abbrev pub asked_of : Asked → Result Request Fault
 asked_of (asked.Fault fault) = Err fault
 asked_of (asked.Request parts) = Ok (request_of parts)
@@ -63,7 +64,7 @@ IsAnswerTo (Ok done) input = Asks input (asked_of done)
 
 -- Where a request lies in a buffer.
 
--- the head comes first, and the body behind it
+-- the head comes first, and the body after it
 abbrev pub request_at : List ℕ → Message → Request
 request_at buffer m =
     request_with (said_at (take m.head buffer) m.spans) (take m.spans.body_length (drop m.head buffer))
@@ -73,9 +74,9 @@ pub record MessageLiesIn (buffer : List ℕ) (m : Message) : Type 0 where
   pub within : m.head + m.spans.body_length ≤ length buffer
   pub parts : LiesIn (take m.head buffer) m.spans
 
--- the message in the buffer is what the bytes that were given ask, and a fault is theirs
+-- the message in the buffer is what the given bytes ask, and a fault is the fault of these bytes
 abbrev pub FindsMessage : Option (List ℕ) → Option (List ℕ) → List ℕ → Result Message Stop → Type 0
 FindsMessage old new buffer (Ok m) =
-    MessageLiesIn buffer m × Gave 12288 old new (λ input. Asks input (Ok (request_at buffer m)))
-FindsMessage old new buffer (Err Failed) = Gave 12288 old new (λ input. ⊤)
-FindsMessage old new buffer (Err (Faulty fault)) = Gave 12288 old new (λ input. Asks input (Err fault))
+    MessageLiesIn buffer m × Gave most_request old new (λ input. Asks input (Ok (request_at buffer m)))
+FindsMessage old new buffer (Err Failed) = Gave most_request old new (λ input. ⊤)
+FindsMessage old new buffer (Err (Faulty fault)) = Gave most_request old new (λ input. Asks input (Err fault))

@@ -54,7 +54,7 @@ missed_paper own paper = record { paper = paper; session = own.session; sitting 
 abbrev pub missed_in : OwnSessionRow → List MissedPaper
 missed_in own = map (missed_paper own) own.clashes
 
--- all of them, by session and paper
+-- all such papers, by session and paper
 abbrev pub missed_papers : OwnRows → List MissedPaper
 missed_papers own = flat_map missed_in own.sessions
 

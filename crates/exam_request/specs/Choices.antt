@@ -41,7 +41,7 @@ lodged number posted = record {
   reason = posted.reason;
 }
 
--- what the posted appeal is lodged by, or the fault of the body
+-- the lodging of the posted appeal, or the fault of the body
 abbrev pub lodged_or_fault : ℕ → Option Posted → Choice
 lodged_or_fault number None = choice.Fault fault.Body
 lodged_or_fault number (Some posted) = choice.Lodge (lodged number posted)
@@ -68,7 +68,7 @@ done_at Appeal request number reference = retraction number reference
 abbrev pub choice_own : Request → ℕ → Target → Choice
 choice_own request number target = done_at target.route request number target.reference
 
--- the request must show the code; otherwise it is refused as if there were no such candidate
+-- the request must show the code; otherwise the answer is the same as for an unknown candidate
 abbrev pub choice_for : Request → Target → Named → Choice
 choice_for request target named =
     if has_code request.code named.code then choice_own request named.number target
@@ -94,7 +94,7 @@ choice_by request named (Some target) = choice_at request named target
 abbrev pub choice_of : Request → Option Named → Choice
 choice_of request named = choice_by request named (reading request.target)
 
--- ---- what the choices keep to
+-- ---- what the choices guarantee
 
 -- the request does not show the code of this candidate; an unknown one has none to show
 abbrev pub IsStranger : Request → Option Named → Type 0
@@ -111,7 +111,7 @@ abbrev pub PostsText : Request → Target → Type 0
 PostsText request target =
     (target.route ≡ Appeals) × (bytes_eq request.method (codes "POST") ≡ true) × IsReadable request.body
 
--- a text is posted with the candidate's code; for no other request is memory taken
+-- a text is posted with the candidate's code; no other request takes memory
 abbrev pub ReadsText : Request → Option Named → Type 0
 ReadsText request named = ShowsCode request named × IsSomeAnd (reading request.target) (PostsText request)
 
@@ -129,7 +129,7 @@ IsBy number (choice.Lodge lodging) = lodging.number ≡ number
 IsBy number (choice.Retract other reference) = other ≡ number
 IsBy number other = ⊥
 
--- what is shown or done is of the candidate, who has shown the code
+-- a page, a lodging or a retraction is that of the candidate, who has shown the code
 abbrev pub IsOwnChoice : Request → Option Named → Choice → Type 0
 IsOwnChoice request None chosen = IsIdle chosen
 IsOwnChoice request (Some named) chosen =

@@ -12,6 +12,7 @@ use Rattle.exam_request.specs.declared.fault.Fault.TheVariants.{Head, Host, Leng
 use Rattle.exam_request.specs.declared.head.HeadSpans.{HeadSpans}
 use Rattle.exam_request.specs.declared.lines.Lines.{Lines}
 use Rattle.exam_request.specs.declared.lines.Lines.TheVariants.{Absent, One, Many}
+use Rattle.exam_request.specs.Sizes.{most_body, most_lines}
 
 -- The lines of a name.
 
@@ -77,7 +78,7 @@ is_length_text value = (nat_le 1 (length value) && nat_le (length value) 10) && 
 abbrev pub length_from : List ℕ → Result ℕ Fault
 length_from value =
     if is_length_text value then
-    (if nat_lt 4096 (digits_value value) then Err Size else Ok (digits_value value))
+    (if nat_lt most_body (digits_value value) then Err Size else Ok (digits_value value))
     else Err Length
 
 -- the length of the body, which is 0 if no line gives it
@@ -117,7 +118,7 @@ said_by h =
 
 -- Whether bytes are a head.
 
--- each line feed behind the first byte follows a carriage return
+-- each line feed after the first byte follows a carriage return
 abbrev pub HasNoBareLineFeed : List ℕ → Type 0
 HasNoBareLineFeed bytes = (k : ℕ) → slice_index bytes (k + 1) ≡ 10 → slice_index bytes k ≡ 13
 
@@ -127,13 +128,13 @@ pub record HasWholeLines (bytes : List ℕ) : Type 0 where
   pub no_lf_first : slice_index bytes 0 ≢ 10
   pub no_bare_lf : HasNoBareLineFeed bytes
 
--- these bytes are the head h, with at most 32 lines
+-- these bytes are the head h, with no more lines than a head may have
 pub record IsHead (bytes : List ℕ) (h : RequestHead) : Type 0 where
   pub lines : HasWholeLines bytes
   pub reads : ReadsRequest bytes h []
-  pub few : length h.fields ≤ 32
+  pub few : length h.fields ≤ most_lines
 
--- a head says what its lines say, and what is no head has one fault
+-- a head says what its lines say, and bytes that are no head have one fault
 abbrev pub Judges : List ℕ → Result Said Fault → Type 0
 Judges bytes answer = (((h : RequestHead) → IsHead bytes h → ⊥) × (answer ≡ Err Head))
     ⊎ ((h : RequestHead) × IsHead bytes h × (answer ≡ said_by h))
@@ -160,4 +161,4 @@ pub record LiesIn (bytes : List ℕ) (s : HeadSpans) : Type 0 where
   pub target : IsWithin (length bytes) s.target
   pub text : IsUtf8 (span_bytes bytes s.target)
   pub code : IfSome s.code (IsWithin (length bytes))
-  pub short : s.body_length ≤ 4096
+  pub short : s.body_length ≤ most_body

@@ -7,6 +7,7 @@ use Rattle.exam_request.specs.declared.fault.Fault.{Fault}
 use Rattle.exam_request.specs.declared.fault.Fault.TheVariants.{Head, Size}
 use Rattle.exam_request.specs.declared.reading.Stop.{Stop}
 use Rattle.exam_request.specs.declared.reading.Stop.TheVariants.{Failed, Faulty}
+use Rattle.exam_request.specs.Sizes.{most_head}
 
 -- CR LF CR LF
 abbrev pub empty_line : List ℕ
@@ -21,14 +22,14 @@ unfoldable pub head_len : List ℕ → Option ℕ
 head_len [] = None
 head_len (b ∷ rest) = if begins (b ∷ rest) then Some 4 else option_map suc (head_len rest)
 
--- the head of that length and the bytes after it; without one an input is cut, or its head is too long
+-- the head of that length and the bytes after it; without one the input is cut off, or its head is too long
 abbrev pub head_or_fault : List ℕ → Option ℕ → Result (List ℕ × List ℕ) Fault
 head_or_fault input (Some n) = Ok (take n input, drop n input)
-head_or_fault input None = Err (if nat_lt (length input) 8192 then Head else Size)
+head_or_fault input None = Err (if nat_lt (length input) most_head then Head else Size)
 
--- the head that an input begins with, which its first 8,192 bytes hold, and the bytes after it
+-- the head that an input begins with, which its first bytes hold, as many as the longest head has, and the bytes after it
 abbrev pub head_of : List ℕ → Result (List ℕ × List ℕ) Fault
-head_of input = head_or_fault input (head_len (take 8192 input))
+head_of input = head_or_fault input (head_len (take most_head input))
 
 -- what a read of a head found: n of the bytes in hand are the head, whatever follows them
 pub record HeadRead (old new : Option (List ℕ)) (bytes : List ℕ) (n : ℕ) : Type 0 where
@@ -38,9 +39,9 @@ pub record HeadRead (old new : Option (List ℕ)) (bytes : List ℕ) (n : ℕ) :
 
 -- the head's length and how many bytes are in hand, or the fault of the bytes that were given
 abbrev pub ReadsHead : Option (List ℕ) → Option (List ℕ) → List ℕ → Result (ℕ × ℕ) Stop → Type 0
-ReadsHead old new buffer (Ok r) = (r.1 ≤ 8192) × HeadRead old new (take r.1 buffer) r.0
-ReadsHead old new buffer (Err Failed) = Gave 8192 old new (λ input. ⊤)
-ReadsHead old new buffer (Err (Faulty fault)) = Gave 8192 old new (λ input. head_of input ≡ Err fault)
+ReadsHead old new buffer (Ok r) = (r.1 ≤ most_head) × HeadRead old new (take r.1 buffer) r.0
+ReadsHead old new buffer (Err Failed) = Gave most_head old new (λ input. ⊤)
+ReadsHead old new buffer (Err (Faulty fault)) = Gave most_head old new (λ input. head_of input ≡ Err fault)
 
 -- a read added to the bytes in hand, or met the end of the input
 pub record More (old new : Option (List ℕ)) (had now : List ℕ) : Type 0 where

@@ -13,7 +13,7 @@ pub data Datum : Type 0 where
 abbrev pub Object : Type 0
 Object = List (List ℕ × Datum)
 
--- a value as it is written: a text has quotes around it, and a backslash before a quote or a backslash
+-- a value as it is written: a text has quotes around it, and a backslash before each quote or backslash in it
 abbrev pub text_of : Datum → List ℕ
 text_of null = codes "null"
 text_of (number n) = decimal n

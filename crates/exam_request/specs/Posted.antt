@@ -100,8 +100,8 @@ lodged_by count value =
     })
     (reason_in value)) (subject_in count value)) (session_in value)) (reference_in value)
 
--- The appeal that a text lodges: an object with these members in any order, as many as they are, so that
--- no other is there and none comes twice.
+-- The appeal that a text lodges: an object with these members in any order, and with as many members as these are, so
+-- no other member is there and none comes twice.
 abbrev pub lodged_in : List ℕ → Option Posted
 lodged_in text =
     option_and_then (λ count. option_and_then (lodged_by count) (read text)) (members_written text)
@@ -110,6 +110,6 @@ lodged_in text =
 abbrev pub posted_of : List ℕ → Option Posted
 posted_of body = if is_utf8 body then lodged_in body else None
 
--- the body is a text, and not empty; for no other is memory taken
+-- the body is a text, and not empty; no other body takes memory
 abbrev pub IsReadable : List ℕ → Type 0
 IsReadable body = IsTrue (is_utf8 body) × (0 < length body)

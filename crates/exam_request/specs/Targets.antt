@@ -22,12 +22,12 @@ abbrev pub part : List ℕ → List ℕ
 part [] = []
 part (b ∷ rest) = if b == 47 then [] else b ∷ part rest
 
--- the bytes behind the first slash, if there is one
+-- the bytes after the first slash, if there is one
 abbrev pub behind : List ℕ → Option (List ℕ)
 behind [] = None
 behind (b ∷ rest) = if b == 47 then Some rest else behind rest
 
--- the bytes behind a beginning, if they begin with it
+-- the bytes after a beginning, if they begin with it
 abbrev pub rest_after : List ℕ → List ℕ → Option (List ℕ)
 rest_after [] text = Some text
 rest_after (b ∷ bs) [] = None
@@ -38,13 +38,13 @@ abbrev pub is_empty : List ℕ → Bool
 is_empty [] = true
 is_empty (b ∷ rest) = false
 
--- the target behind the slash after `appeals`: a reference, to the end
+-- the target after the slash that follows `appeals`: a reference, to the end
 abbrev pub at_reference : List ℕ → List ℕ → Option Target
 at_reference number text =
     if is_empty text || has_slash text then None
     else Some (record { route = Appeal; number = number; reference = text })
 
--- the target behind the slash after the number
+-- the target after the slash that follows the number
 abbrev pub at_number : List ℕ → List ℕ → Option Target
 at_number number text =
     if bytes_eq text (codes "seats") then Some (record { route = Seats; number = number; reference = [] })
@@ -54,7 +54,7 @@ at_number number text =
     Some (record { route = Appeals; number = number; reference = [] })
     else option_and_then (at_reference number) (rest_after (codes "appeals/") text)
 
--- the target behind `/candidates/`: a number and more
+-- the target after `/candidates/`: a number and more
 abbrev pub at_candidates : List ℕ → Option Target
 at_candidates text =
     if is_empty (part text) then None else option_and_then (at_number (part text)) (behind text)
@@ -74,7 +74,7 @@ reference_in Appeal number target = part (drop (number + 21) target)
 abbrev pub IsPart : List ℕ → Type 0
 IsPart text = (0 < length text) × (has_slash text ≡ false)
 
--- the text of a target behind its number
+-- the text of a target after its number
 abbrev pub behind_number : Route → List ℕ → List ℕ
 behind_number Seats reference = codes "/seats"
 behind_number Clashes reference = codes "/clashes"

@@ -107,21 +107,21 @@ impl Answer {
         }
     }
 
-    /// Its status.
+    /// The status.
     pub fn status(&self) -> u16
         ensures { result ≡ self.now.status }
     {
         self.status.as_u16()
     }
 
-    /// The value of its line `Allow`, if it has one.
+    /// The value of the line `Allow`, if the answer has one.
     pub fn allow(&self) -> Option<&'static [u8]>
         ensures { option_map (λ value. value.now) result ≡ option_map allow_text self.now.allow }
     {
         Some(allowed(self.allow?))
     }
 
-    /// Its body.
+    /// The body.
     pub fn body(&self) -> &[u8]
         ensures { result.now ≡ self.now.body }
     {

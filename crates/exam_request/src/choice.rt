@@ -54,8 +54,8 @@ pub fn candidate_of(found: &Option<Found<'_>>) -> Option<Number>
     }
 }
 
-/// What is done for a request whose target says this, by the candidate whom it names, if there is one. Refused if
-/// memory runs out, which only a text that is posted with the candidate's code can cause.
+/// What is done for a request, by the candidate whom it names, if there is one; `found` is what its target says.
+/// Refused if memory runs out, which only a text that is posted with the candidate's code can cause.
 pub fn choose(
     alloc: Global,
     request: &Request<'_>,
@@ -90,8 +90,8 @@ fn choose_at(
     }
 }
 
-/// Compares the code first. An unknown candidate takes the same steps as one whose code the request does not show,
-/// so that the time of an answer does not tell which of the two it is.
+/// Compares the code first. For an unknown candidate it takes the same steps as for one whose code the request does not
+/// show, so the time of an answer does not reveal which of the two it is.
 fn choose_known(
     alloc: Global,
     request: &Request<'_>,

@@ -7,14 +7,15 @@ use thiserror::Error;
 /// Why a request is not served. Nothing was done for it.
 #[derive(Clone, Copy, Debug, PartialEq, Eq, Error)]
 pub enum Fault {
-    /// The input is cut before the head ends, or the head is not one of HTTP/1.0 or HTTP/1.1 (RFC 9112), or has
-    /// more than 32 lines, or a bare line feed.
+    /// The input is cut off before the head ends, or the head is not one of HTTP/1.0 or HTTP/1.1 (RFC 9112), or has
+    /// more than 32 lines, or has a bare line feed.
     #[error("the head is not one")]
     Head,
     /// The host is not given as the version demands (RFC 9112, section 3.2): once in HTTP/1.1, at most once in 1.0.
     #[error("the host line is missing or repeated")]
     Host,
-    /// The length of the body is not one (RFC 9112, section 6.3), or the input is cut before the body ends.
+    /// The length of the body is not given as RFC 9112, section 6.3, demands, or the input is cut off before the body
+    /// ends.
     #[error("the length is not that of the body")]
     Length,
     /// The head is longer than 8,192 bytes, or the body than 4,096.
@@ -35,7 +36,7 @@ pub enum Fault {
 }
 
 impl Fault {
-    /// The number by which it is answered, 31 to 38.
+    /// The number by which the fault is answered, 31 to 38.
     pub fn number(&self) -> u16
         ensures { result ≡ fault_number self.now }
     {

@@ -5,6 +5,7 @@ ghost use Rattle.httparse.specs.Grammar.{ReadsRequest, RequestHead};
 ghost use Rattle.httparse.specs.Spans.{IsRequestAt, IsRequestOf, IsRequestWithin, IsWithin};
 ghost use Rattle.exam_types.specs.Digits.{digits_value};
 ghost use Rattle.exam_request.specs.Head as spec;
+ghost use Rattle.exam_request.specs.Sizes.{most_body};
 
 use crate::fault::Fault;
 use crate::lines::{Lines, lines_of};
@@ -18,7 +19,7 @@ const MOST_LINES: usize = 32;
 const MOST_DIGITS: usize = 10;
 
 /// The length of the longest body.
-const MOST_BODY: u64 = 4_096;
+pub const MOST_BODY: usize = 4_096;
 
 /// Where a head says what a request asks.
 #[derive(Clone, Copy)]
@@ -95,11 +96,11 @@ fn has_right_host(minor: u8, host: Lines) -> bool
     }
 }
 
-/// How long the body is: empty if no line says it.
+/// The length of the body; 0 if no line gives it.
 fn body_length(head: &[u8], lengths: Lines) -> Result<usize, Fault>
     requires { IfSome (spec.only_place lengths) (IsWithin (length head.now)) }
     ensures length { result ≡ spec.length_in (spec.shown head.now lengths) }
-    ensures short { IfOk result (λ n. n ≤ 4096) }
+    ensures short { IfOk result (λ n. n ≤ most_body) }
 {
     match lengths {
         Lines::Absent => Ok(0),
@@ -110,10 +111,10 @@ fn body_length(head: &[u8], lengths: Lines) -> Result<usize, Fault>
 
 fn length_from(value: &[u8]) -> Result<usize, Fault>
     ensures length { result ≡ spec.length_from value.now }
-    ensures short { IfOk result (λ n. n ≤ 4096) }
+    ensures short { IfOk result (λ n. n ≤ most_body) }
 {
     let number = number_in(value).ok_or(Fault::Length)?;
-    if number > MOST_BODY {
+    if number > MOST_BODY as u64 {
         return Err(Fault::Size);
     }
     Ok(number as usize)
@@ -143,7 +144,7 @@ fn has_whole_lines(head: &[u8]) -> bool
     !matches!(head.first(), Some(b'\r' | b'\n')) && has_no_bare_line_feed(head)
 }
 
-/// Whether each line feed behind the first byte follows a carriage return.
+/// Whether each line feed after the first byte follows a carriage return.
 fn has_no_bare_line_feed(head: &[u8]) -> bool
     ensures { IsTrue result ↔ spec.HasNoBareLineFeed head.now }
 {

@@ -1,11 +1,11 @@
-//! Laws that no call is needed for.
+//! Laws about the definitions alone; no call is needed to use them.
 ghost use Rattle.std.specs.Prelude.{◌≡◌, List, ℕ, Option, Result};
 ghost use Rattle.exam_request.specs.Asked.{Asks, Request};
 ghost use Rattle.exam_request.specs.Choices as spec;
 ghost use Rattle.exam_request.specs.declared.choice.Named.{Named};
 ghost use Rattle.exam_request.specs.declared.fault.Fault.{Fault};
 
-/// An input asks one thing: the bytes of a request alone determine what it asks, or its fault.
+/// The bytes of a request alone determine what it asks, or its fault.
 pub fn requests_ask_one_thing()
     ensures { (input : List ℕ) (one other : Result Request Fault)
         → Asks input one → Asks input other → one ≡ other }

@@ -25,5 +25,5 @@ pub use laws::{
 };
 pub use own_bodies::{Page, appeals_body, clashes_body, page_body, seats_body};
 pub use posted::{Posted, posted_in};
-pub use reading::{Asked, ReadFailed, Request, read_request};
+pub use reading::{Asked, MOST_REQUEST, ReadFailed, Request, read_request};
 pub use routes::{Found, Route, find, reading_is_exact, routes_read, server_routes};

@@ -1,4 +1,4 @@
-//! JSON objects (RFC 8259) of texts, numbers, flags and nulls, and the body that a list of them is.
+//! JSON objects (RFC 8259) of texts, numbers, flags and nulls, and the body for a list of them.
 ghost use Rattle.std.specs.Prelude.{◌≡◌, IfOk, IfErr, OnOk, map, option_map};
 ghost use Rattle.std.specs.Str.{IsAscii};
 ghost use Rattle.exam_types.specs.declared.refusal.Refusal.TheVariants.{NoMemory};
@@ -83,7 +83,7 @@ pub fn put_number_or_null(
     }
 }
 
-/// The text that ASCII bytes are.
+/// ASCII bytes as text.
 pub fn ascii_text(bytes: &[u8]) -> &str
     requires { IsAscii bytes.now }
     ensures { result.now ≡ bytes.now }

@@ -250,7 +250,7 @@ fn appeal_value(alloc: Global, row: &OwnAppeal) -> Result<Value, Refusal>
     appeal_value_of(alloc, row, &lodged, &subject)
 }
 
-/// What an appeal asks is ASCII. Does nothing.
+/// What an appeal asks for is ASCII. Does nothing at run time.
 fn show_ascii(subject: &Subject)
     ensures { IsAscii (subject_text subject.now) }
 {

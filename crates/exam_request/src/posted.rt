@@ -17,8 +17,7 @@ use serde_json::error::Category;
 use std::alloc::Global;
 use std::str;
 
-/// How many members the object of an appeal has that names one thing: `kind`, `reason`, `ref`, `session` and
-/// it.
+/// How many members the object of an appeal has that names one thing: `kind`, `reason`, `ref`, `session` and the thing.
 const MEMBERS_WITH_ONE: usize = 5;
 
 /// How many members the object of an appeal for an arrangement has, which names its needs and its extra time.
@@ -33,8 +32,8 @@ pub struct Posted {
     pub reason: Reason,
 }
 
-/// What a body lodges, or none if it is not the JSON object (RFC 8259) of an appeal, with its members and no other,
-/// each once. Refused if memory runs out, which only a text that is not empty can cause.
+/// What a body lodges, or none if it is not the JSON object (RFC 8259) of an appeal, with exactly its members, each
+/// once. Refused if memory runs out, which only a text that is not empty can cause.
 pub fn posted_in(alloc: Global, body: &[u8]) -> Result<Option<Posted>, Refusal>
     ensures posted { IfOk result (λ posted. posted ≡ spec.posted_of body.now) }
     ensures memory { IfErr result (λ e. (e ≡ NoMemory) × spec.IsReadable body.now) }
@@ -70,7 +69,7 @@ fn lodged_in(alloc: Global, text: &str) -> Result<Option<Posted>, Refusal>
 }
 
 /// How many members an object has as it is written. A [`Value`] keeps only the last member of a name that comes twice,
-/// so this counts in the tree, which keeps them all.
+/// so this counts in the tree, which keeps all of them.
 fn members_written(alloc: Global, text: &str) -> Result<Option<usize>, Refusal>
     ensures count { IfOk result (λ count. count ≡ spec.members_written text.now) }
     ensures memory { IfErr result (λ e. (e ≡ NoMemory) × (0 < length text.now)) }
@@ -208,7 +207,7 @@ fn arrangement_in(object: &Value) -> Option<Arrangement>
     Some(Arrangement { needs, extra })
 }
 
-/// The extra time, which only digits write.
+/// The extra time, if it is written with digits only.
 fn extra_in(object: &Value) -> Option<Extra>
     ensures { result ≡ spec.extra_in (view object.now) }
 {

@@ -3,11 +3,12 @@ ghost use Rattle.std.specs.Prelude.{◌≡◌, ◌≤◌, ◌<◌, length, take,
 ghost use Rattle.httparse.specs.Spans.{IsWithin, span_bytes};
 ghost use Rattle.exam_request.specs.Asked as asked;
 ghost use Rattle.exam_request.specs.Input as spec;
+ghost use Rattle.exam_request.specs.Sizes.{most_head, most_request};
 ghost use Rattle.exam_send.specs.Given.{Gave};
 ghost use Rattle.exam_request.specs.declared.reading.Stop.TheVariants.{Faulty};
 
 use crate::fault::Fault;
-use crate::head::{HeadSpans, judge};
+use crate::head::{HeadSpans, MOST_BODY, judge};
 use httparse::spans::Span;
 use std::io::Read;
 use std::str;
@@ -15,6 +16,9 @@ use thiserror::Error;
 
 /// The length of the longest head.
 const MOST_HEAD: usize = 8_192;
+
+/// The length of the longest head and the longest body together.
+pub const MOST_REQUEST: usize = MOST_HEAD + MOST_BODY;
 
 /// What ends a head.
 const EMPTY_LINE: &[u8] = b"\r\n\r\n";
@@ -56,21 +60,21 @@ impl From<Fault> for Stop {
     }
 }
 
-/// Where a request lies in the buffer: the head first, and the body behind it.
+/// Where a request lies in the buffer: the head first, and the body after it.
 #[derive(Clone, Copy)]
 pub struct Message {
     pub head: usize,
     pub spans: HeadSpans,
 }
 
-/// Reads one request into the buffer. Makes no read once its bytes are in hand, and does not look at what follows it.
-/// For a socket, whose bytes no contract knows, the answer is what the bytes ask that it gave.
+/// Reads one request into the buffer. Reads no more once all bytes of the request are there, and does not look at what
+/// follows it. For a socket, whose bytes no contract knows, the contract holds for the bytes that it gave.
 pub fn read_request<'b, R: Read>(
     reader: &mut R,
     buffer: &'b mut [u8],
 ) -> Result<Asked<'b>, ReadFailed>
-    requires room { 12288 ≤ length buffer.old }
-    ensures { Gave 12288 (R.remaining reader.old) (R.remaining reader.new) (asked.IsAnswerTo result) }
+    requires room { most_request ≤ length buffer.old }
+    ensures { Gave most_request (R.remaining reader.old) (R.remaining reader.new) (asked.IsAnswerTo result) }
 {
     match read_message(reader, buffer) {
         Ok(message) => Ok(Asked::Request(request_in(buffer, message))),
@@ -86,7 +90,7 @@ fn request_in<'b>(buffer: &'b [u8], message: Message) -> Request<'b>
 {
     let (head, rest) = buffer.split_at(message.head);
     let spans = message.spans;
-    // The target of a head is a text, so `unwrap_or` never puts anything in its place.
+    // The target of a head is a text, so `unwrap_or` never replaces it.
     Request {
         method: spans.method.of(head),
         target: str::from_utf8(spans.target.of(head)).unwrap_or(""),
@@ -97,7 +101,7 @@ fn request_in<'b>(buffer: &'b [u8], message: Message) -> Request<'b>
 
 /// Reads a head and its body.
 fn read_message<R: Read>(reader: &mut R, buffer: &mut [u8]) -> Result<Message, Stop>
-    requires room { 12288 ≤ length buffer.old }
+    requires room { most_request ≤ length buffer.old }
     ensures { asked.FindsMessage (R.remaining reader.old) (R.remaining reader.new) buffer.new result }
 {
     let (head, mut filled) = read_head(reader, buffer)?;
@@ -115,7 +119,7 @@ fn read_message<R: Read>(reader: &mut R, buffer: &mut [u8]) -> Result<Message, S
 
 /// Reads until the end of the head is in hand. Answers its length and how many bytes are in hand.
 fn read_head<R: Read>(reader: &mut R, buffer: &mut [u8]) -> Result<(usize, usize), Stop>
-    requires { 8192 ≤ length buffer.old }
+    requires { most_head ≤ length buffer.old }
     ensures { spec.ReadsHead (R.remaining reader.old) (R.remaining reader.new) buffer.new result }
 {
     let mut filled = 0;
@@ -132,8 +136,8 @@ fn read_head<R: Read>(reader: &mut R, buffer: &mut [u8]) -> Result<(usize, usize
     Err(Stop::Faulty(Fault::Size))
 }
 
-/// How many bytes end with the first empty line, which does not lie within the first `seen` of them. So only the
-/// last three of these are looked at again.
+/// How many bytes end with the first empty line. The first `seen` of them hold no whole empty line, so only the last
+/// three of these are looked at again.
 fn head_length(bytes: &[u8], seen: usize) -> Option<usize>
     requires within { seen ≤ length bytes.now }
     requires none { spec.head_len (take seen bytes.now) ≡ None }
@@ -151,7 +155,8 @@ fn head_length(bytes: &[u8], seen: usize) -> Option<usize>
     None
 }
 
-/// One read behind the bytes in hand, and how many there are then: as many as before at the end of the input.
+/// Makes one read into the space after the bytes that are there, and returns how many are there then; at the end of the
+/// input as many as before.
 fn read_more<R: Read>(
     reader: &mut R,
     buffer: &mut [u8],

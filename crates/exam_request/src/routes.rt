@@ -70,7 +70,7 @@ fn part_at(bytes: &[u8], start: usize) -> &[u8]
     rest
 }
 
-/// The reference behind a number of this length, or nothing if the route has none.
+/// The reference after a number of this length, or nothing if the route has none.
 fn reference_at(route: Route, bytes: &[u8], number: usize) -> &[u8]
     requires { number ≤ length bytes.now }
     ensures { result.now ≡ reference_in route number bytes.now }
@@ -105,8 +105,8 @@ pub fn routes_read()
         → option_map (λ r. r.value) (first table target) ≡ option_map (λ t. t.route) (reading target) }
 {}
 
-/// A reading is the parts of the target's text, each of one or more bytes without a slash, and each such text
-/// is read.
+/// A reading gives exactly the parts of the target's text. Each part has one or more bytes without a slash, and every
+/// such text is read.
 pub fn reading_is_exact()
     ensures { (target : List ℕ) (t : Target)
         → (reading target ≡ Some t) ↔ (HasParts t × (target ≡ target_text t)) }

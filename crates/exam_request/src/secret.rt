@@ -2,8 +2,8 @@
 ghost use Rattle.std.specs.Prelude.{◌≡◌, ◌↔◌, IsTrue, length, slice_index_or};
 ghost use Rattle.std.specs.Str.{bytes_eq};
 
-/// Whether the given bytes are the secret. Compares every given byte, so that the time does not depend on how many of
-/// them are right.
+/// Whether the given bytes are the secret. Compares every given byte, so the time does not depend on how many of them
+/// are right.
 pub fn is_secret(given: &[u8], secret: &[u8]) -> bool
     ensures decides { IsTrue result ↔ (given.now ≡ secret.now) }
     ensures value { result ≡ bytes_eq given.now secret.now }
@@ -26,7 +26,7 @@ fn differences(given: &[u8], secret: &[u8]) -> u8
     found
 }
 
-/// The byte at a place, or 0 behind the end.
+/// The byte at a place, or 0 after the end.
 fn byte_at(bytes: &[u8], index: usize) -> u8
     ensures { result ≡ slice_index_or bytes.now index 0 }
 {

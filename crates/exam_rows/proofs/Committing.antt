@@ -84,7 +84,7 @@ commits_weaker old new (Err e) T U more c = record {
   survives = survives_weaker old new _ _ (λ clean trees it. (it.0, more _ _ it.1, it.2)) c.survives;
 }
 
--- the same of another answer that tells as much
+-- the same for another answer that says as much
 pub commits_ok : {A B E : Type 0} (old new : State) (a : A) (b : B) (T : Database → Database → Type 0) → Commits {E = E} old new (Ok a) T → Commits {E = E} old new (Ok b) T
 commits_ok old new a b T c = record { turned = c.turned; same = c.same; was_open = c.was_open; settled = c.settled; survives = c.survives }
 

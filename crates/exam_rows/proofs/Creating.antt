@@ -1,8 +1,9 @@
 -- The tables are made one after another.
-use Rattle.std.proofs.Common.{◌≡◌, ◌==◌, ◌≤◌, IsSome, inl, inr, ℕ, List, [], Ok, Err, Result, OnOk, IfErr, IsTrue, refl, subst, sym, arith}
+use Rattle.std.proofs.Common.{◌≡◌, ◌==◌, ◌≤◌, IsSome, false, inl, inr, ℕ, pos, List, [], ◌∷◌, Ok, Err, Result, OnOk, IfErr, IsTrue, refl, subst, sym, arith}
 use Rattle.std.specs.List.Sorted.{IsPermutation}
 use Rattle.std.proofs.lemmas.Bool.{both_ways, cases_Bool, eqb-true}
 use Rattle.std.proofs.lemmas.List.Sorted.{IsPermutation-refl}
+use Rattle.sqlite_value.specs.declared.value.Value.TheVariants.{Int}
 use Rattle.sqlite_value.specs.Order.{Row}
 use Rattle.sqlite_trees.specs.Tree.{Trees, with_tree}
 use Rattle.sqlite_trees.proofs.ListLemmas.{all_of}
@@ -23,16 +24,19 @@ use Rattle.exam_tables.specs.Refusals.{Fails}
 use Rattle.exam_tables.specs.Tables.{store_schema}
 use Rattle.exam_tables.proofs.Changes.{contains_same}
 use Rattle.exam_tables.proofs.Making as making
+use Rattle.exam_tables.proofs.OfOffice as office
+use Rattle.exam_tables.proofs.VersionFails.{version_fails}
 use Rattle.exam_rows.specs.Faults.{refusal_of, is_store_refusal}
 use Rattle.exam_rows.specs.Inside.{Ran}
-use Rattle.exam_rows.specs.Versions.{HasFirst, HasNoRows, IsBlank, Leads, FailsToMake, FailsToCreate}
+use Rattle.exam_rows.specs.Versions.{HasFirst, HasNoRows, HasRuled, IsBlank, Leads, FailsToMake, FailsToCreate, version}
+use Rattle.exam_rows.proofs.OneByOne.{survives_itself}
 use Rattle.exam_rows.proofs.Steps.{down_later, fails_for}
 
 -- a disk that is clean was so before
 early : (mid new : State) → Survives mid new (λ _. ⊥) → HasCleanDisk new → HasCleanDisk mid
 early mid new s clean = omega (arith, s.clean)
 
--- a statement that is refused tells the error that the database gave
+-- a statement that is refused reports the error that the database gave
 abbrev pub Refused : List ℕ → Row → State → State → Result (Unit {0}) Refusal → Type 0
 Refused sql params old new result = HasCleanDisk new → IsTrue old.in_transaction → IfErr result (λ e. (error : Error) × (e ≡ refusal_of error) × ExecutesInside 0 sql params old new (Err error))
 
@@ -83,7 +87,7 @@ still_empty schema db t was = contains_same schema db _ _ was (all_of _ (λ s. s
     nothing : (u : ℕ) → with_tree (λ tree. []) t [] u ≡ []
     nothing u = elim (cases_Bool (u == t)) [ inl is ↦ rw is refl | inr other ↦ rw other refl ]
 
--- what nothing stands against, a limit of steps does not stand against
+-- what nothing forbids fails at most because of a limit of steps
 pub limited : (old new : State) (error : Error) → Fails old new ⊥ error → Fails old new (IsSome old.step_limit) error
 limited old new error (inl lacks) = inl lacks
 limited old new error (inr (named, inl down)) = inr (named, inl down)
@@ -98,7 +102,23 @@ pub table_leads : (before after : Schema) (t : ℕ) (text : List ℕ)
 table_leads before after t text does fails old new result failed ran kept survives told =
     leads_by (HasNoRows before) (HasNoRows after) old new text [] result (λ count run was. still_empty after new.now t (does old new (Ok count) run (λ tree. []) was)) (λ was error run. limited old new error (fails old new was.schema_is error run)) failed ran kept survives told
 
--- where no mark is meant, none is there
+-- if the connection is shut, that alone explains a failed statement
+shut_fails : {A B : Type 0} (old new : State) (error : Error) → old.is_open ≡ false → Fails old new A error → Fails old new B error
+shut_fails old new error shut (inl lacks) = inl lacks
+shut_fails old new error shut (inr (named, against)) = inr (named, inl (inr shut))
+
+-- the version is set unless memory runs out, the disk or the connection fails, or the steps are limited
+pub version_refused : (old new : State) (all : Trees) → HasRuled old.is_open all old.now → (error : Error) → ExecutesInside 0 office.put_text (Int (pos version) ∷ []) old new (Err error) → Fails old new (IsSome old.step_limit) error
+version_refused old new all was error run = elim (cases_Bool old.is_open) [
+  | inl is ↦ version_fails old new all (pos version) was.0 (was.1 is) error run
+  | inr shut ↦ shut_fails old new error shut ((office.put_answers old new (pos version) was.0.schema_is).fails error run)
+]
+
+-- nothing is to be done
+pub leads_itself : (before after : Database → Type 0) (s : State) → (before s.now → after s.now) → Leads before after s s (Ok tt)
+leads_itself before after s is = record { made = λ clean going. (is, going); failed = λ clean going was. tt; kept = λ clean. record { was_open = λ open_now. open_now; committed = λ open_now. refl }; survives = survives_itself s; told = tt }
+
+-- if there are to be no marks, the table has none
 pub no_marks : (db : Database) (all : Trees) → all 17 ≡ [] → ContainsIn store_schema db (with_tree all 17 []) → ContainsIn store_schema db all
 no_marks db all none was = contains_same store_schema db _ _ was (all_of _ (λ s. subst (λ rows. IsPermutation (with_tree all 17 [] s.tree) rows) (same s.tree) (IsPermutation-refl _)) store_schema.tables)
   where

@@ -40,7 +40,7 @@ module _ {K X : Type 0} {cmp : K → K → Ordering} (total : IsTotalOrder cmp) 
   alike_all k [] j tied above = tt
   alike_all k (r ∷ rows) j tied above = (total.congr k j r tied ∙ above.0, alike_all k rows j tied above.1)
 
-  -- an entry with a key before all of the new table stands in the way of none of it
+  -- an entry with a key before all of the new table changes none of its puts
   pub same_puts : (e : K × X) (old new : List (K × X)) → AllByRecursion (λ y. cmp e.0 y ≡ Less) (keys_of new) → to_put cmp same (e ∷ old) new ≡ to_put cmp same old new
   same_puts e old new below = filter_alike _ _ new (each new below)
     where

@@ -13,14 +13,14 @@ use Rattle.exam_rows.specs.Inside.{Write, put_of, delete_of, written}
 use Rattle.exam_rows.specs.Writes.{Form, sessions, papers, halls, candidates, openings, entries, arrangements, appeals, standing, seats, opening_key, seat_key, with_put, with_deleted, all_put, all_deleted, all_saved}
 use Rattle.exam_rows.proofs.Steps.{written_append}
 
--- the rows that are put, and the keys that are deleted, as they are meant
+-- the rows that are put, and the keys that are deleted, as rows read by columns
 abbrev pub rows_put : {K V : Type 0} → Form K V → List (Bor K × Bor V) → List Row
 rows_put form rows = map (λ r. Null ∷ form.row r.0.now r.1.now) rows
 
 abbrev pub keys_deleted : {K : Type 0} → (K → Row) → List (Bor K) → List Row
 keys_deleted key keys = map (λ k. Null ∷ key k.now) keys
 
--- what the writes make of a tree is told by the rows of that tree
+-- what the writes make of a tree depends only on the rows of that tree
 record EditsEach (writes : List Write) (edit : ℕ → List Row → List Row) : Type 0 where
   each : (all : Trees) (u : ℕ) → written writes all u ≡ edit u (all u)
 

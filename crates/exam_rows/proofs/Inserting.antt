@@ -28,7 +28,7 @@ one_read f done all row e old new more is before after =
     (IsPermutation-trans _ (row ∷ map f old) _ (IsPermutation-cons row _ _ before)
     (subst (λ r. IsPermutation (r ∷ map f old) (map f new)) (sym is) (IsPermutation-map f _ _ after))))
 
--- the rows that are meant are those of the entries
+-- the rows read by columns are those of the entries
 pub shown_entries : {E : Type 0} (f : E → Row) (meant rows : List Row) (entries : List E) → IsPermutation meant (map (λ r. Null ∷ r) rows) → IsPermutation rows (map f entries) → IsPermutation meant (map (λ e. Null ∷ f e) entries)
 shown_entries f meant rows entries shown read =
     IsPermutation-trans _ _ _ shown (subst (IsPermutation (map (λ r. Null ∷ r) rows)) (map-map (λ r. Null ∷ r) f entries) (IsPermutation-map (λ r. Null ∷ r) _ _ read))

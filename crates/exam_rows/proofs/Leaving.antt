@@ -65,7 +65,7 @@ query_survives text query old new s = survives_weaker old new _ _ (λ clean db c
 pub both_survive : (old mid new : State) → Survives old mid (λ _. ⊥) → Survives mid new (λ _. ⊥) → Survives old new (λ _. ⊥)
 both_survive old mid new first next = survives_then old mid new _ _ _ (λ _ db none. none) (λ _ db none. none) first next
 
--- an error that is no fault of a text is told as want of memory or as a failure
+-- an error that is no fault of a text is reported as `NoMemory` or as `Store`
 pub not_bad_store : (e : Refusal) (error : Error) → e ≡ refusal_of error → (error ≡ SqliteFailure OutOfMemory) ⊎ IsTrue (is_failure error) → e ≡ BadStore → ⊥
 not_bad_store e error told (inl lacks) bad = let same : NoMemory ≡ BadStore = sym (told ∙ ap refusal_of lacks) ∙ bad in absurd cc
 not_bad_store e error told (inr named) bad = let same : Store ≡ BadStore = sym (told ∙ failure error named) ∙ bad in absurd cc
@@ -99,7 +99,7 @@ pub understood_still : {A E P : Type 0} (result : Result A E) → P → OnOk res
 understood_still (Ok value) is = is
 understood_still (Err e) is = tt
 
--- the disk is never told as a bad store
+-- a failure of the disk is never reported as `BadStore`
 no_disk : (why : StoreError) → refusal_of (store_error why) ≡ BadStore → ⊥
 no_disk cause.OutOfMemory e = absurd cc
 no_disk cause.Io e = absurd cc
@@ -108,7 +108,7 @@ no_disk cause.Full e = absurd cc
 no_disk cause.Broken e = absurd cc
 no_disk cause.Unstorable e = absurd cc
 
--- a query that is told as a bad store has changed nothing
+-- a query that is reported as `BadStore` has changed nothing
 pub bad_unchanged : (text : List ℕ) (params : Row) (old new : State) (e : Error) → FailsToQuery text params old new e → refusal_of e ≡ BadStore → IsUnchanged old new
 unfolding FailsToQuery IsNotRun
 bad_unchanged text params old new e (inl (inl (none, same))) bad = same

@@ -168,7 +168,7 @@ pub fault_sends : {W : Type 0} (contents : W → Option (List ℕ)) (result : Re
     → AppendsBeginning (contents old) (contents new) text → Sends contents result old new text
 fault_sends contents result fault old new text is part = subst (λ r. Sends contents r old new text) (sym is) part
 
--- want of memory or a failed write is no bad store
+-- `NoMemory` and a failed write are not `BadStore`
 pub not_bad : (fault : SendFault) → (fault ≡ faults.Refused NoMemory) ⊎ (fault ≡ faults.Write) → fault ≢ faults.Refused BadStore
 not_bad fault (inl short) bad = absurd cc
 not_bad fault (inr failed) bad = absurd cc

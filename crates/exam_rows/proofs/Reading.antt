@@ -21,7 +21,7 @@ narrowed IsOne shown n None is exact = (
       absurd cc,
 )
 
--- a value that was found is no want of memory
+-- if a value was found, memory did not run out
 pub found : {V P : Type 0} (value : V) → (Ok value ≡ Err NoMemory) ⊎ P → P
 found value (inl lacks) = absurd cc
 found value (inr reads) = reads

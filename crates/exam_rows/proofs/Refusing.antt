@@ -78,7 +78,7 @@ module _ {K X : Type 0} {cmp : K → K → Ordering} (total : IsTotalOrder cmp) 
       inner Equal is found later = omega (arith, counted e true entries (ap is_eq (total.antisymm e.0 k ∙ ap ordering_reverse is)))
       inner Greater is found later = let n = later found in omega (arith, counted e false entries (ap is_eq (total.antisymm e.0 k ∙ ap ordering_reverse is)))
 
-  -- a key that stands twice is that of the rows of no table
+  -- no table has rows in which a key comes twice
   pub no_twice : (rows done left : List Row) (read entries : List (K × X)) → rows ≡ (done ++ row k v ∷ []) ++ left → IsPermutation done (map stored read) → IsSome (lookup (is_at (cmp k)) read)
       → KeysRise cmp entries → IsPermutation rows (map stored entries) → ⊥
   no_twice rows done left read entries is so_far found rises same =

@@ -36,7 +36,7 @@ written_append (w ∷ first) next all = written_append first next (w.change all)
 early : (old mid new : State) → Survives mid new (λ _. ⊥) → HasCleanDisk new → HasCleanDisk mid
 early old mid new s clean = omega (arith, s.clean)
 
--- an error that is a failure is told as one
+-- an error that is a failure is reported as `Store`
 pub failure : (error : Error) → IsTrue (is_failure error) → refusal_of error ≡ Store
 failure (SqliteFailure OutOfMemory) is = absurd cc
 failure (SqlInputError fault) is = absurd cc

@@ -8,7 +8,7 @@ use Rattle.exam_rules.specs.Relations.{Code, Relations, code_cmp, opening_cmp, e
 use Rattle.exam_rows.specs.Loaded.{HoldsTable}
 use Rattle.exam_rows.specs.Rows.{session_row, paper_row, hall_row, candidate_row, opening_row, entry_row, arrangement_row, appeal_row, standing_row, seat_row, IsSession, IsPaper, IsHall, IsCandidate, IsOpening, IsEntry, IsArrangement, IsAppeal, IsStanding, IsSeat}
 
--- the rows that are meant, in any order, are those of the entries
+-- the rows, in any order, are those of the entries
 abbrev pub HoldsRows : {K X : Type 0} → (K → X → Row) → List (K × X) → List Row → Type 0
 HoldsRows row entries meant = IsPermutation meant (map (λ e. Null ∷ row e.0 e.1) entries)
 

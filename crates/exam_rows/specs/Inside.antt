@@ -16,15 +16,15 @@ use Rattle.exam_rows.specs.Faults.{is_store_refusal}
 abbrev pub Contains : Database → Trees → Type 0
 Contains = ContainsIn store_schema
 
--- the eleven tables are there, with whatever rows
+-- the eleven tables exist, with any rows
 abbrev pub IsOurs : Database → Type 0
 IsOurs db = (all : Trees) × Contains db all
 
--- the row, as a query shows it, takes the place of the row with its key in the table of this tree
+-- the row, as a query shows it, replaces the row with its key in the table of this tree
 abbrev pub with_row : ℕ → List ℕ → Row → Trees → Trees
 with_row tree key row all = with_tree all tree (put key (Null ∷ row) (all tree))
 
--- and no row with this key is left
+-- the rows without those that have this key
 abbrev pub without_row : ℕ → List ℕ → Row → Trees → Trees
 without_row tree key row all = with_tree all tree (delete key (Null ∷ row) (all tree))
 
@@ -58,32 +58,32 @@ abbrev pub AreRun : Option ℕ → List Write → Database → Database → Type
 AreRun limit [] old new = new ≡ old
 AreRun limit (w ∷ more) old new = (mid : Database) × RunsTo limit w.sql w.params old mid × AreRun limit more mid new
 
--- the database, as the first writes make it, refuses the next
+-- the database, after the first writes, refuses the next one
 abbrev pub RefusesOne : List Write → Option ℕ → Database → Type 0
 RefusesOne writes limit db =
     (done : List Write) × (next : Write) × (rest : List Write) × (writes ≡ done ++ next ∷ rest)
     × (at : Database) × AreRun limit done db at × Becomes done db at × Refuses limit at next.sql next.params
 
--- the same, while it writes the rows of that one: no foreign key stands against it
+-- the same, while it writes the rows of that one: no foreign key is the reason
 abbrev pub RefusesOneRow : List Write → Option ℕ → Database → Type 0
 RefusesOneRow writes limit db =
     (done : List Write) × (next : Write) × (rest : List Write) × (writes ≡ done ++ next ∷ rest)
     × (at : Database) × AreRun limit done db at × Becomes done db at × RefusesRows limit at next.sql next.params
 
--- Why a change is not made: there is no memory, or a call of the disk failed, the connection was shut, or this
--- stands against it.
+-- Why a change is not made: there is no memory, a call of the disk failed, the connection was shut, or this is the
+-- reason.
 abbrev pub FailsFor : Type 0 → State → State → Refusal → Type 0
 FailsFor Against old new e = (e ≡ NoMemory) ⊎ ((e ≡ Store) × (IsDown old new ⊎ Against))
 
--- the same of writes, of which the database may refuse one
+-- the same for writes, of which the database may refuse one
 abbrev pub FailsToWrite : List Write → State → State → Refusal → Type 0
 FailsToWrite writes old new = FailsFor (RefusesOne writes old.step_limit old.now) old new
 
 pub record Makes (old new : State) (result : Result (Unit {0}) Refusal) (writes : List Write) : Type 0 where
-  -- where it succeeds, the writes are made and the transaction goes on
+  -- if it succeeds, the writes are made and the transaction goes on
   pub made : HasCleanDisk new → IsTrue old.in_transaction
       → OnOk result (Becomes writes old.now new.now × IsTrue new.in_transaction)
-  -- each of them was run
+  -- if it succeeds, each of them was run
   pub ran : HasCleanDisk new → IsTrue old.in_transaction → IsOurs old.now
       → OnOk result (AreRun old.step_limit writes old.now new.now)
   pub failed : HasCleanDisk new → IsTrue old.in_transaction → IsOurs old.now

@@ -1,4 +1,4 @@
--- The rows of which a table is loaded, and why none is.
+-- The rows from which a table is loaded, and why none is.
 use Rattle.std.specs.Prelude.{◌≡◌, ◌≢◌, ◌⊎◌, ℕ, Result, Ok, Err, List, [], ◌∷◌, map, IsPermutation}
 use Rattle.std.specs.declared.cmp.Ordering.{Ordering}
 use Rattle.std.specs.List.{AllByRecursion, Contains}
@@ -21,7 +21,7 @@ use Rattle.exam_tables.specs.Texts.{load_texts}
 use Rattle.exam_rules.specs.Orders.{KeysRise}
 use Rattle.exam_rows.specs.Faults.{refusal_of}
 
--- Two rows of a table have the same key in SQL exactly where their keys compare as equal.
+-- Two rows of a table have the same key in SQL exactly if their keys compare as equal.
 pub record KeysMatch {K X : Type 0} (cmp : K → K → Ordering) (key : List ℕ) (row : K → X → Row) : Type 0 where
   pub rows : (a b : K × X) → same_key key (Null ∷ row a.0 a.1) (Null ∷ row b.0 b.1) ≡ is_eq (cmp a.0 b.0)
 
@@ -32,31 +32,31 @@ pub record AreRowsOf {K X : Type 0} (cmp : K → K → Ordering) (IsRow : K → 
   pub forms : AllByRecursion (λ e. IsRow e.0 e.1) entries
   pub same : IsPermutation rows (map (λ e. row e.0 e.1) entries)
 
--- the same of the rows that are meant
+-- the same for rows read by columns, with NULL in the place of the rowid
 abbrev pub HoldsTable : {K X : Type 0} → (K → K → Ordering) → (K → X → Type 0) → (K → X → Row) → List (K × X)
     → List Row → Type 0
 HoldsTable cmp IsRow row entries meant = AreRowsOf cmp IsRow (λ k x. Null ∷ row k x) meant entries
 
--- the database understands the text: the table that it names is there, with its columns
+-- the database understands the text: the table that it names exists, with its columns
 abbrev pub IsUnderstood : Database → List ℕ → Type 0
 IsUnderstood db text = (c : Compiled) × (understood db.schema text ≡ Ok c)
 
 abbrev pub AreUnderstood : Database → List (List ℕ) → Type 0
 AreUnderstood db = AllByRecursion (IsUnderstood db)
 
--- the refusal tells the error that the query of this text gave
+-- the refusal reports the error that the query of this text gave
 abbrev pub Told : List ℕ → State → State → Refusal → Type 0
 Told text old new e = (error : Error) × (e ≡ refusal_of error) × FailsToQuery text [] old new error
 
--- the tables of some version are there, with whatever rows
+-- the tables of some version exist, with any rows
 abbrev pub IsMadeHere : Database → Type 0
 IsMadeHere db = (all : Trees) × ContainsMade db all
 
--- the same, and where the tables have any rows it is not told as a bad store
+-- the same; and if the tables have any such rows, the refusal is not `BadStore`
 abbrev pub FailsToLoadFrom : (Database → Trees → Type 0) → List ℕ → State → State → Refusal → Type 0
 FailsToLoadFrom Holds text old new e = Told text old new e × ((all : Trees) × Holds old.now all → e ≢ BadStore)
 
--- the same of the tables of some version
+-- the same for the tables of some version
 abbrev pub FailsToLoad : List ℕ → State → State → Refusal → Type 0
 FailsToLoad = FailsToLoadFrom ContainsMade
 
@@ -82,6 +82,6 @@ FailsThen {S} g old new e =
     (mid : Held S) × IsStill (state g old) (state g mid)
     × (text : List ℕ) × Contains load_texts text × FailsToLoad text (state g mid) (state g new) e
 
--- why nothing is loaded: want of memory, a query that failed, or that there is none
+-- why nothing is loaded: memory ran out, a query failed, or there is nothing to load
 abbrev pub IsLoadRefusal : (Refusal → Type 0) → Type 0 → Refusal → Type 0
 IsLoadRefusal Fails IsNone e = (e ≡ NoMemory) ⊎ (Fails e ⊎ ((e ≡ BadStore) × IsNone))

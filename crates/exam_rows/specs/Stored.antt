@@ -14,7 +14,7 @@ use Rattle.exam_rules.specs.declared.rows.Subject.TheVariants.{Hall, Clash, Arra
 use Rattle.exam_rules.specs.declared.rows.Status.{Status}
 use Rattle.exam_rules.specs.declared.rows.Status.TheVariants.{Pending, Granted, Refused, Retracted, Superseded}
 
--- any value of its type
+-- any value of this type
 abbrev pub IsAny : {V : Type 0} → V → Type 0
 IsAny value = Unit {0}
 
@@ -40,13 +40,13 @@ kind_of (Hall hall) = 1
 kind_of (Clash paper) = 2
 kind_of (Arrangement wanted) = 3
 
--- the code of the hall or the paper, and no text for an arrangement
+-- the code of the hall or the paper, or the empty text for an arrangement
 abbrev pub target_of : Subject → List ℕ
 target_of (Hall hall) = hall
 target_of (Clash paper) = paper
 target_of (Arrangement wanted) = []
 
--- the sum of the needs and the extra time, 0 where no arrangement is asked for
+-- the sum of the needs; 0 if the appeal asks for no arrangement
 abbrev pub needs_of : Subject → ℕ
 needs_of (Arrangement wanted) = features_sum wanted.needs
 needs_of _ = 0
@@ -64,7 +64,7 @@ IsSubject (Hall hall) = IsTrue (is_hall_code hall)
 IsSubject (Clash paper) = IsTrue (is_paper_code paper)
 IsSubject (Arrangement wanted) = IsExtra wanted.extra
 
--- where an appeal stands: 1 open, 2 granted, 3 refused, 4 retracted, 5 superseded
+-- the state of an appeal: 1 open, 2 granted, 3 refused, 4 retracted, 5 superseded
 abbrev pub state_of : Status → ℕ
 state_of Pending = 1
 state_of (Granted answer) = 2
@@ -72,7 +72,7 @@ state_of (Refused answer) = 3
 state_of Retracted = 4
 state_of (Superseded answer) = 5
 
--- the reason of its decision, where there was one
+-- the reason of its decision, if it was decided
 abbrev pub answer_of : Status → Option (List ℕ)
 answer_of Pending = None
 answer_of (Granted answer) = Some answer
@@ -80,11 +80,11 @@ answer_of (Refused answer) = Some answer
 answer_of Retracted = None
 answer_of (Superseded answer) = Some answer
 
--- a text, or NULL where there is none
+-- a text, or NULL if there is none
 abbrev pub text_or_null : Option (List ℕ) → Value
 text_or_null = or_null Text
 
--- the two columns of where an appeal stands
+-- the two columns for the state of an appeal
 abbrev pub status : Status → Row
 status s = whole (state_of s) ∷ text_or_null (answer_of s) ∷ []
 

@@ -1,4 +1,4 @@
--- The appeals of a session that go out as a text, each as it is read.
+-- The appeals of a session, sent as a text, each as soon as it is read.
 use Rattle.std.specs.Prelude.{◌≡◌, ◌⊎◌, ℕ, Bool, true, List, [], ◌∷◌, ◌++◌, filter, length, Option, Result, Ok, Err}
 use Rattle.std.specs.Io.KnownBytes.{Appends}
 use Rattle.std.specs.List.{flat_map}
@@ -27,18 +27,18 @@ use Rattle.exam_rows.specs.Rows.{IsAppeal, appeal_row}
 abbrev pub KeyedAppeal : Type 0
 KeyedAppeal = (ℕ × Code) × Appeal
 
--- those of a session
+-- the appeals of a session
 abbrev pub appeals_in : List KeyedAppeal → Code → List KeyedAppeal
 appeals_in appeals s = filter (λ (a : KeyedAppeal). same_code a.1.session s) appeals
 
--- the database has these in its table of appeals
+-- the database has these appeals in its table
 pub record HasAppeals (db : Database) (appeals : List KeyedAppeal) : Type 0 where
   pub all : Trees
   pub contains : Contains db all
   pub held : HoldsTable appeal_cmp IsAppeal appeal_row appeals (all 13)
 
--- Why no appeal is read after those that the query gave: its text is not understood, its answer ends there, or the
--- next row is the stored form of none.
+-- Why no appeal is read after those that the query gave: the text of the query is not understood, its answer ends
+-- there, or the next row is not the stored form of an appeal.
 abbrev pub LacksNext : {S : Type 0} → Ghosts S → Code → Held S → Held S → List Row → Type 0
 LacksNext g s old new given =
     ((error : Error) × (refusal_of error ≡ BadStore)
@@ -48,16 +48,16 @@ LacksNext g s old new given =
     × IsUnchanged (state g old) (state g new)
     × ((key : ℕ × Code) (appeal : Appeal) → IsAppeal key appeal → row ≡ appeal_row key appeal → ⊥)))
 
--- a heading that tells how many there are, and a line for each
+-- a heading that says how many there are, and a line for each
 abbrev pub text_of : (ℕ → List ℕ) → (KeyedAppeal → List ℕ) → List KeyedAppeal → List ℕ
 text_of heading line appeals = heading (length appeals) ++ flat_map line appeals
 
--- the text went out whole, or after a fault a beginning of it
+-- the text was sent whole, or after a fault a beginning of it
 abbrev pub Sends : {W : Type 0} → (W → Option (List ℕ)) → Result (Unit {0}) SendFault → W → W → List ℕ → Type 0
 Sends contents (Ok done) old new text = Appends (contents old) (contents new) text
 Sends contents (Err fault) old new text = AppendsBeginning (contents old) (contents new) text
 
--- the write failed, or what reads tables or makes a text did
+-- writing failed, or reading tables or making a text did
 abbrev pub is_send_fault : SendFault → Bool
 is_send_fault (faults.Refused e) = is_store_refusal e
 is_send_fault faults.Write = true

@@ -107,11 +107,11 @@ seats = record {
   row = seat_row;
 }
 
--- the rows are put
+-- the writes that put the rows
 abbrev pub with_put : {K V : Type 0} → Form K V → List (Bor K × Bor V) → List Write
 with_put form rows = map (λ r. put_of form.put form.tree form.places (form.row r.0.now r.1.now)) rows
 
--- the rows with these keys are taken away by this statement, which names the key by these columns
+-- the writes that delete the rows with these keys by this statement, which names the key by these columns
 abbrev pub with_deleted : {K V : Type 0} → Form K V → List ℕ → (K → Row) → List (Bor K) → List Write
 with_deleted form delete key keys = map (λ k. delete_of delete form.tree form.places (key k.now)) keys
 
@@ -121,7 +121,7 @@ opening_key key = Text key.0 ∷ Text key.1 ∷ []
 abbrev pub seat_key : Code × ℕ → Row
 seat_key key = Text key.0 ∷ whole key.1 ∷ []
 
--- all puts, parents first
+-- all rows that are put, parents first
 abbrev pub timetable_put : Changes → List Write
 timetable_put c = with_put sessions c.sessions.items ++ with_put papers c.papers.items
 
@@ -140,7 +140,7 @@ plans_put c =
 abbrev pub all_put : Changes → List Write
 all_put c = timetable_put c ++ (halls_put c ++ (candidates_put c ++ plans_put c))
 
--- then all deletes, children first
+-- then all rows that are deleted, children first
 abbrev pub seats_deleted : Changes → List Write
 seats_deleted c = with_deleted seats delete_seat seat_key c.seats.delete.items
 

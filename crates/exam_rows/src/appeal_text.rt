@@ -9,7 +9,7 @@ use std::alloc::Global;
 
 /// How the appeals of a session are written: a heading, and then a text for each.
 pub trait AppealText {
-    /// The heading of so many appeals.
+    /// The heading for so many appeals.
     ghost heading_text: { Self → ℕ → List ℕ };
 
     /// The text of an appeal with its key.

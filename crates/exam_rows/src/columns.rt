@@ -19,7 +19,7 @@ use sqlite::Row;
 use sqlite::types::ValueRef;
 use std::alloc::Global;
 
-/// The bytes of a text. Refused as a bad store where the column holds none.
+/// The bytes of a text. Refused with `BadStore` if the column holds none.
 pub fn text_at(row: &Row, at: usize) -> Result<&[u8], Refusal>
     ensures ok { IfOk result (λ text. column row.now at ≡ Text text.now) }
     ensures err { IfErr result (λ e. (e ≡ BadStore) × ((text : _) → column row.now at ≡ Text text → ⊥)) }
@@ -30,7 +30,7 @@ pub fn text_at(row: &Row, at: usize) -> Result<&[u8], Refusal>
     }
 }
 
-/// A whole number. Refused as a bad store where the column holds none, or one that does not fit.
+/// A whole number. Refused with `BadStore` if the column holds none, or one that does not fit.
 pub fn whole_at(row: &Row, at: usize) -> Result<u32, Refusal>
     ensures { Reads (λ n. n < 2 ^ 32) stored.whole (column row.now at) result }
 {
@@ -43,7 +43,7 @@ pub fn whole_at(row: &Row, at: usize) -> Result<u32, Refusal>
     }
 }
 
-/// 0 for no, 1 for yes.
+/// `false` for 0, `true` for 1. Refused with `BadStore` for anything else.
 pub fn flag_at(row: &Row, at: usize) -> Result<bool, Refusal>
     ensures { Reads IsAny stored.flag (column row.now at) result }
 {
@@ -133,7 +133,7 @@ pub fn flag(yes: bool) -> i64
     if yes { 1 } else { 0 }
 }
 
-/// Refused also where there is not enough memory.
+/// A name. Refused with `BadStore` if the column holds none, and with `NoMemory` if there is not enough memory for it.
 pub fn name_at(alloc: Global, row: &Row, at: usize) -> Result<Name, Refusal>
     ensures read { MayRead (λ text. IsTrue (is_name text)) Text (column row.now at) result }
     ensures memory { WantsMemoryOf is_name (column row.now at) result }
@@ -153,7 +153,7 @@ pub fn start_at(row: &Row, at: usize) -> Result<StartTime, Refusal>
     StartTime::new(small_at(row, at)?).ok_or(Refusal::BadStore)
 }
 
-/// A whole number of at most 65,535.
+/// A whole number of at most 65,535. Refused with `BadStore` if the column holds none.
 pub fn small_at(row: &Row, at: usize) -> Result<u16, Refusal>
     ensures { Reads (λ n. n < 2 ^ 16) stored.whole (column row.now at) result }
 {
@@ -178,7 +178,8 @@ pub fn day_text(alloc: Global, day: Day) -> Result<Vec<u8>, Refusal>
     }
 }
 
-/// Refused also where there is not enough memory.
+/// A reason. Refused with `BadStore` if the column holds none, and with `NoMemory` if there is not enough memory for
+/// it.
 pub fn reason_at(alloc: Global, row: &Row, at: usize) -> Result<Reason, Refusal>
     ensures read { MayRead (λ text. IsTrue (is_reason text)) Text (column row.now at) result }
     ensures memory { WantsMemoryOf is_reason (column row.now at) result }

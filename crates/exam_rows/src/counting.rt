@@ -15,7 +15,7 @@ pub fn count_appeals(facts: &Facts, session: &SessionCode) -> usize
     ensures forms { AllByRecursion (λ (a : spec.KeyedAppeal). IsAppeal a.0 a.1)
         (relations_of facts.now).appeals }
 {
-    // There are at most so many, which fit.
+    // The contract of `len` says that the count fits.
     let _most = facts.appeals.len();
     let mut count = 0;
     'appeals: for (key, appeal) in &facts.appeals {
@@ -25,18 +25,18 @@ pub fn count_appeals(facts: &Facts, session: &SessionCode) -> usize
     count
 }
 
-/// 1 where the appeal is for the session.
+/// 1 if the appeal is for the session, otherwise 0.
 fn counted(appeal: &Appeal, session: &SessionCode) -> usize
     ensures { result ≡ (if same_code appeal.now.session session.now then 1 else 0) }
 {
     if appeal.session == *session { 1 } else { 0 }
 }
 
-/// An appeal has the forms of its columns. Does nothing.
+/// An appeal has the forms of its columns. Does nothing at run time.
 fn show_form(key: &(Number, Reference), appeal: &Appeal)
     ensures { IsAppeal key.now appeal.now }
 {
-    // The call of a part tells that it has its form.
+    // The contract of each call says that the part has its form.
     let _number = key.0.get();
     let _reference = key.1.as_bytes();
     let _session = appeal.session.as_bytes();

@@ -1,4 +1,4 @@
-//! What makes one table of another: the rows to put and the keys to delete.
+//! What turns one table into another: the rows to put and the keys to delete.
 ghost use Rattle.std.specs.Prelude.{◌≡◌, ◌<◌, ◌+◌, length, map, IfOk, OnOk};
 ghost use Rattle.std.specs.Map.Iter.{deref_pair};
 ghost use Rattle.std.specs.Ordering.{MatchOrdering};
@@ -12,15 +12,15 @@ use std::collections::BTreeMap;
 /// A row of a table, by its key.
 pub type Keyed<'a, K, V> = (&'a K, &'a V);
 
-/// The rows that a table lacks or has otherwise, and the keys that it has beyond those of the new one.
-/// Keys rise.
+/// Rows to insert or update, and keys to delete, to turn the old table into the new one. Both are in the order of the
+/// keys.
 #[derive(Drop)]
 pub struct Difference<'a, K, V> {
     pub put: Vec<Keyed<'a, K, V>>,
     pub delete: Vec<&'a K>,
 }
 
-/// What makes the new table of the old one. Refused where there is not enough memory.
+/// What turns the old table into the new one. Refused if there is not enough memory.
 pub fn difference_of<'a, K: Ord, V: PartialEq>(
     alloc: Global,
     old: &'a BTreeMap<K, V>,
@@ -52,7 +52,7 @@ fn entries_of<'a, K: Ord, V>(
     Ok(entries)
 }
 
-/// One walk over both, which are in the order of the keys.
+/// One walk over both tables, which are in the order of the keys.
 fn merge<'a, K: Ord, V: PartialEq>(
     alloc: Global,
     mut old: &[Keyed<'a, K, V>],
@@ -87,8 +87,7 @@ fn merge<'a, K: Ord, V: PartialEq>(
     Ok(Difference { put, delete })
 }
 
-/// How the first key of the old table compares with that of the new one. A table that is over compares as
-/// greater.
+/// How the first key of the old table compares with that of the new one. An empty table compares as greater.
 fn first_of<K: Ord, V>(old: &[Keyed<'_, K, V>], new: &[Keyed<'_, K, V>]) -> Ordering
     requires { 0 < length old.now + length new.now }
     ensures first { result ≡ first_cmp K.cmp (map deref_pair old.now) (map deref_pair new.now) }

@@ -1,4 +1,4 @@
-//! How a failed call of the database is told.
+//! How a failed call of the database is reported.
 ghost use Rattle.std.specs.Prelude.{◌≡◌};
 ghost use Rattle.exam_rows.specs.Faults.{refusal_of};
 
@@ -6,7 +6,7 @@ use exam_types::Refusal;
 use sqlite::{Error, ErrorCode};
 use sqlite_resolve::CompileError;
 
-/// The refusal that stands for an error of the database: want of memory, a missing table or column, or another failure.
+/// The refusal for an error of the database: out of memory, a missing table or column, or another failure.
 pub fn refusal_of(error: Error) -> Refusal
     ensures { result ≡ refusal_of error }
 {

@@ -28,7 +28,7 @@ use sqlite::{Alter, Connection};
 use std::alloc::Global;
 use std::collections::BTreeMap;
 
-/// The facts that the tables hold. Refused as a bad store where they hold none.
+/// The facts that the tables hold. Refused with `BadStore` if they hold none.
 pub fn load_facts<S: Alter>(alloc: Global, conn: &mut Connection<S>) -> Result<Facts, Refusal>
     ensures rows { HasCleanDisk (state S.Store conn.new) → IfOk result (λ facts. (all : _)
         → ContainsMade (state S.Store conn.old).now all
@@ -70,7 +70,7 @@ pub fn load_facts<S: Alter>(alloc: Global, conn: &mut Connection<S>) -> Result<F
     })
 }
 
-/// The marks: none where there is no table of them, as in version 1.
+/// The marks, or no marks if there is no table of them, as in version 1.
 fn load_marks<S: Alter>(
     alloc: Global,
     conn: &mut Connection<S>,

@@ -1,8 +1,8 @@
-//! The tables of each version of the schema, and what brings one to the newest.
+//! The tables of each version of the schema, and how an older version becomes the newest.
 ghost use Rattle.std.specs.Prelude.{◌≡◌, [], ◌∷◌, IsTrue, IfOk, IfErr, OnOk};
 ghost use Rattle.std.specs.Bool.{Decides};
 ghost use Rattle.sqlite.specs.Held.{state};
-ghost use Rattle.sqlite.specs.State.{HasCleanDisk, IsUnchanged, Survives};
+ghost use Rattle.sqlite.specs.State.{HasCleanDisk, IsLive, IsUnchanged, Survives};
 ghost use Rattle.sqlite_value.specs.Order.{column};
 ghost use Rattle.exam_tables.specs.Grows.{made_0, made_5, made_10};
 ghost use Rattle.exam_tables.specs.Made.{ContainsMade, lists_marks};
@@ -10,21 +10,16 @@ ghost use Rattle.exam_tables.specs.Texts.{load_office};
 ghost use Rattle.exam_types.specs.declared.refusal.Refusal.TheVariants.{BadStore};
 ghost use Rattle.exam_rows.specs.Faults.{is_store_refusal};
 ghost use Rattle.exam_rows.specs.Stored.{whole};
-ghost use Rattle.exam_rows.specs.Versions.{HasFirst, HasNewest, HasNoRows, HasRuled, HasVersion, IsBlank, IsMade};
-ghost use Rattle.exam_rows.specs.Versions.{IsVersion, Leads, version_row};
+ghost use Rattle.exam_rows.specs.Versions.{HasOlder, HasFirst, HasNewest, HasNoRows, HasRuled, HasVersion};
+ghost use Rattle.exam_rows.specs.Versions.{IsBlank, IsKnown, IsMade, IsVersion, Leads, version_row};
 ghost use Rattle.exam_rows.specs.Loaded.{FailsToLoad, IsLoadRefusal, IsUnderstood, OnlyReads};
 
 use crate::columns::whole_at;
 use crate::statements::{all_rows, run};
+use crate::version::{FIRST, NEWEST, SECOND, Version};
 use exam_types::Refusal;
 use sqlite::types::ValueRef;
 use sqlite::{Alter, Connection, Row, Transaction};
-
-/// The newest version of the schema.
-pub const NEWEST: u8 = 2;
-
-/// The version before the table of marks.
-const FIRST: u8 = 1;
 
 /// Whether the database has no table, no index and no view.
 pub fn is_blank<S: Alter>(conn: &Connection<S>) -> bool
@@ -34,14 +29,21 @@ pub fn is_blank<S: Alter>(conn: &Connection<S>) -> bool
     schema.tables.len() == 0 && schema.indexes.len() == 0 && schema.views.len() == 0
 }
 
-/// Whether the table of marks is there, as it is since version 2.
+/// Whether the table of marks exists, as it does since version 2.
 pub fn has_marks<S: Alter>(conn: &Connection<S>) -> bool
     ensures { result ≡ lists_marks (state S.Store conn.now).now.schema }
 {
     conn.schema().table_named(b"standing").is_some()
 }
 
-/// Makes the tables, with no rows but the version, in a database with nothing in it.
+/// The rows of an open database obey each rule of its schema. Does nothing.
+pub fn show_rules<S: Alter>(conn: &Connection<S>)
+    ensures { IsLive (state S.Store conn.now) }
+{
+    let _ = conn.schema();
+}
+
+/// Makes the tables in an empty database. They have no rows but the version.
 pub fn create_tables<S: Alter>(tx: &mut Transaction<'_, S>) -> Result<(), Refusal>
     ensures same_reference { tx.new.conn.ghost_name ≡ tx.old.conn.ghost_name }
     ensures made { Leads IsBlank IsMade
@@ -49,23 +51,38 @@ pub fn create_tables<S: Alter>(tx: &mut Transaction<'_, S>) -> Result<(), Refusa
 {
     create_parents(tx)?;
     create_children(tx)?;
-    widen_tables(tx)
+    widen_tables(tx, false)
 }
 
-/// Makes the tables of version 1 those of the newest version, whatever rows they have.
-pub fn widen_tables<S: Alter>(tx: &mut Transaction<'_, S>) -> Result<(), Refusal>
+/// Turns the tables of an older version, whatever rows they have, into those of the newest. `has_marks` says whether the
+/// table of marks exists.
+pub fn widen_tables<S: Alter>(tx: &mut Transaction<'_, S>, has_marks: bool) -> Result<(), Refusal>
     ensures same_reference { tx.new.conn.ghost_name ≡ tx.old.conn.ghost_name }
-    ensures made { (all : _) → Leads (HasFirst all) (HasNewest all)
+    ensures made { (all : _)
+        → Leads (HasOlder (state S.Store tx.old.conn.now).is_open has_marks all) (HasNewest all)
         (state S.Store tx.old.conn.now) (state S.Store tx.new.conn.now) result }
 {
-    create_standing(tx)?;
+    add_standing(tx, has_marks)?;
     put_version(tx)
 }
 
-/// Adds the table of marks, with no row.
+/// Adds the table of marks, without rows, if it does not exist.
+fn add_standing<S: Alter>(tx: &mut Transaction<'_, S>, has_marks: bool) -> Result<(), Refusal>
+    ensures same_reference { tx.new.conn.ghost_name ≡ tx.old.conn.ghost_name }
+    ensures made { (all : _) → Leads (HasOlder (state S.Store tx.old.conn.now).is_open has_marks all)
+        (HasRuled (state S.Store tx.new.conn.now).is_open all)
+        (state S.Store tx.old.conn.now) (state S.Store tx.new.conn.now) result }
+{
+    if has_marks {
+        return Ok(());
+    }
+    create_standing(tx)
+}
+
+/// Adds the table of marks, without rows.
 fn create_standing<S: Alter>(tx: &mut Transaction<'_, S>) -> Result<(), Refusal>
     ensures same_reference { tx.new.conn.ghost_name ≡ tx.old.conn.ghost_name }
-    ensures made { (all : _) → Leads (HasFirst all) (HasRuled all)
+    ensures made { (is_open : _) (all : _) → Leads (HasFirst all) (HasRuled is_open all)
         (state S.Store tx.old.conn.now) (state S.Store tx.new.conn.now) result }
 {
     run(
@@ -78,17 +95,18 @@ fn create_standing<S: Alter>(tx: &mut Transaction<'_, S>) -> Result<(), Refusal>
 /// Sets the one row of the table `office`.
 fn put_version<S: Alter>(tx: &mut Transaction<'_, S>) -> Result<(), Refusal>
     ensures same_reference { tx.new.conn.ghost_name ≡ tx.old.conn.ghost_name }
-    ensures made { (all : _) → Leads (HasRuled all) (HasNewest all)
+    ensures made { (all : _)
+        → Leads (HasRuled (state S.Store tx.old.conn.now).is_open all) (HasNewest all)
         (state S.Store tx.old.conn.now) (state S.Store tx.new.conn.now) result }
 {
     run(
         tx,
         "INSERT OR REPLACE INTO office (one, version) VALUES (1, ?1)",
-        &[ValueRef::Int(i64::from(NEWEST))],
+        &[ValueRef::Int(i64::from(NEWEST.number))],
     )
 }
 
-/// The tables that refer to none, or to sessions alone.
+/// Makes the tables that refer to none, or only to sessions.
 fn create_parents<S: Alter>(tx: &mut Transaction<'_, S>) -> Result<(), Refusal>
     ensures same_reference { tx.new.conn.ghost_name ≡ tx.old.conn.ghost_name }
     ensures made { Leads (HasNoRows made_0) (HasNoRows made_5)
@@ -121,7 +139,7 @@ fn create_parents<S: Alter>(tx: &mut Transaction<'_, S>) -> Result<(), Refusal>
     )
 }
 
-/// The tables that refer to those.
+/// Makes the tables that refer to those.
 fn create_children<S: Alter>(tx: &mut Transaction<'_, S>) -> Result<(), Refusal>
     ensures same_reference { tx.new.conn.ghost_name ≡ tx.old.conn.ghost_name }
     ensures made { Leads (HasNoRows made_5) (HasNoRows made_10)
@@ -154,12 +172,12 @@ fn create_children<S: Alter>(tx: &mut Transaction<'_, S>) -> Result<(), Refusal>
     )
 }
 
-/// The version of the office. Refused as a bad store where the table `office` holds none.
-pub fn version_of<S: Alter>(conn: &mut Connection<S>) -> Result<u8, Refusal>
+/// The version of the office. Refused with `BadStore` if the table `office` holds none.
+pub fn version_of<S: Alter>(conn: &mut Connection<S>) -> Result<Version, Refusal>
     ensures ok { HasCleanDisk (state S.Store conn.new) → IfOk result (λ version. (all : _)
         → ContainsMade (state S.Store conn.old).now all
-        → HasVersion version all × IsUnchanged (state S.Store conn.old) (state S.Store conn.new)) }
-    ensures known { IfOk result IsVersion }
+        → HasVersion version.number all × IsUnchanged (state S.Store conn.old) (state S.Store conn.new)) }
+    ensures known { IfOk result IsKnown }
     ensures bad { HasCleanDisk (state S.Store conn.new) → IfErr result (IsLoadRefusal
         (FailsToLoad load_office (state S.Store conn.old) (state S.Store conn.new))
         ((all : _) → ContainsMade (state S.Store conn.old).now all
@@ -178,23 +196,25 @@ pub fn version_of<S: Alter>(conn: &mut Connection<S>) -> Result<u8, Refusal>
     version_in(rows.as_slice())
 }
 
-/// The version of which these are the one row.
-fn version_in(rows: &[Row]) -> Result<u8, Refusal>
-    ensures ok { IfOk result (λ version. rows.now ≡ version_row version ∷ []) }
-    ensures known { IfOk result IsVersion }
+/// The version whose one row these rows are. Refused with `BadStore` if they are something else.
+fn version_in(rows: &[Row]) -> Result<Version, Refusal>
+    ensures ok { IfOk result (λ version. rows.now ≡ version_row version.number ∷ []) }
+    ensures known { IfOk result IsKnown }
     ensures bad { IfErr result (λ e. (e ≡ BadStore)
         × ((version : _) → IsVersion version → rows.now ≡ version_row version ∷ [] → ⊥)) }
 {
-    if are_version(rows, NEWEST) {
+    if are_version(rows, NEWEST.number) {
         Ok(NEWEST)
-    } else if are_version(rows, FIRST) {
+    } else if are_version(rows, SECOND.number) {
+        Ok(SECOND)
+    } else if are_version(rows, FIRST.number) {
         Ok(FIRST)
     } else {
         Err(Refusal::BadStore)
     }
 }
 
-/// Whether these are the one row of this version.
+/// Whether the rows are exactly the one row of this version.
 fn are_version(rows: &[Row], version: u8) -> bool
     ensures { Decides result (rows.now ≡ version_row version ∷ []) }
 {
@@ -211,7 +231,7 @@ fn is_version(row: &Row, version: u8) -> bool
     row.column_count() == 2 && holds_at(row, 0, 1) && holds_at(row, 1, u32::from(version))
 }
 
-/// Whether this whole number stands there.
+/// Whether the column holds this whole number.
 fn holds_at(row: &Row, at: usize, value: u32) -> bool
     ensures { Decides result (column row.now at ≡ whole value) }
 {

@@ -1,15 +1,15 @@
-//! Why a text of rows did not go out whole.
+//! Why a text of rows was not sent whole.
 ghost use Rattle.std.specs.Prelude.{◌≡◌};
 ghost use Rattle.exam_rows.specs.declared.send_fault.SendFault.TheVariants.{Refused};
 
 use exam_types::Refusal;
 
-/// Why a text of rows did not go out whole. A beginning of it may have gone out.
+/// Why a text of rows was not sent whole. A beginning of it may have been sent.
 #[derive(Clone, Copy, Debug, PartialEq, Eq)]
 pub enum SendFault {
-    /// A row was not read, or its text not made.
+    /// A row was not read, or its text was not made.
     Refused(Refusal),
-    /// The writer failed or took no byte.
+    /// The writer failed, or took no byte.
     Write,
 }
 

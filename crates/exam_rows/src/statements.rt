@@ -1,4 +1,4 @@
-//! Statements, with their errors told as refusals.
+//! Statements, with their errors reported as refusals.
 ghost use Rattle.std.specs.Prelude.{◌≡◌, ◌⊎◌, [], ◌∷◌, IsTrue, OnOk, IfOk, IfErr, Err, IsPermutation};
 ghost use Rattle.sqlite.specs.Held.{state};
 ghost use Rattle.sqlite.specs.State.{HasCleanDisk, KeepsCommit, Survives, Shown, ExecutesInside, FailsToQuery, CommitsShowing};
@@ -15,7 +15,7 @@ use sqlite::types::ValueRef;
 use sqlite::{Alter, Connection, Row, Transaction};
 use std::collections::BTreeMap;
 
-/// Runs a statement that shows no rows. A refusal tells the error that the database gave.
+/// Runs a statement that shows no rows. A refusal reports the error that the database gave.
 pub fn run<S: Alter>(
     tx: &mut Transaction<'_, S>,
     sql: &str,
@@ -42,7 +42,7 @@ pub fn run<S: Alter>(
     }
 }
 
-/// All rows of a query. A refusal tells the error that the database gave.
+/// All rows of a query. A refusal reports the error that the database gave.
 pub fn all_rows<S: Alter>(conn: &mut Connection<S>, sql: &str) -> Result<Vec<Row>, Refusal>
     ensures shown { HasCleanDisk (state S.Store conn.new)
         → IfOk result (λ rows. Shown sql.now [] (state S.Store conn.old) (state S.Store conn.new) rows.items) }
@@ -59,7 +59,7 @@ pub fn all_rows<S: Alter>(conn: &mut Connection<S>, sql: &str) -> Result<Vec<Row
     }
 }
 
-/// Adds a row that was read. Refused as a bad store where its key stands twice.
+/// Adds a row that was read. Refused with `BadStore` if its key comes twice.
 pub fn add_row<K: Ord + Drop, V: Drop>(
     table: &mut BTreeMap<K, V>,
     key: K,

@@ -28,9 +28,9 @@ use sqlite::{Alter, Connection, Rows};
 use std::alloc::Global;
 use std::io::Write;
 
-/// Sends the text of the session's appeals, of which there are so many, by candidate and reference. Each is sent as
-/// soon as it is read, so that no list of them is made. Asks for no more than the count, and refuses as a bad store
-/// where the database has fewer.
+/// Sends the text of the session's `count` appeals, by candidate and reference. Each is sent as soon as it is read, so
+/// no list of them is made. Asks for no more rows than the count, and refuses with `BadStore` if the database has
+/// fewer.
 pub fn send_appeals<S: Alter, F: AppealText, W: Write>(
     alloc: Global,
     conn: &mut Connection<S>,
@@ -98,7 +98,7 @@ fn send_rows<S: Alter, F: AppealText, W: Write>(
     Ok(())
 }
 
-/// Reads the next row. Refused as a bad store where there is none, or where it is the stored form of no appeal.
+/// Reads the next row. Refused with `BadStore` if there is none, or if it is not the stored form of an appeal.
 fn next_appeal<S: Alter>(
     alloc: Global,
     rows: &mut Rows<'_, S>,
@@ -157,7 +157,7 @@ fn send_line<F: AppealText, W: Write>(
     send(writer, text.as_slice())
 }
 
-/// Sends a whole text. A write that fails or takes no byte is a fault.
+/// Sends a whole text. If a write fails or takes no byte, this is a fault.
 fn send<W: Write>(writer: &mut W, text: &[u8]) -> Result<(), SendFault>
     ensures ok { OnOk result (Appends (W.contents writer.old) (W.contents writer.new) text.now) }
     ensures err { OnErr result (AppendsPart (W.contents writer.old) (W.contents writer.new) text.now) }

@@ -1,4 +1,4 @@
-//! What an appeal asks, and where it stands, as columns of its row.
+//! What an appeal asks for, and its state, as columns of its row.
 ghost use Rattle.std.specs.Prelude.{◌≡◌, ◌<◌, ◌≤◌, ◌+◌, ◌^◌, pos, List, [], ◌∷◌, length, IsTrue, OnOk, IfErr};
 ghost use Rattle.sqlite_value.specs.Value.{owned};
 ghost use Rattle.sqlite_value.specs.Order.{column};
@@ -33,7 +33,7 @@ pub fn kind_of(subject: &Subject) -> i64
     }
 }
 
-/// The code of the hall or the paper, empty for an arrangement.
+/// The code of the hall or the paper; empty for an arrangement.
 pub fn target_of(subject: &Subject) -> &[u8]
     ensures { result.now ≡ stored.target_of subject.now }
 {
@@ -44,7 +44,7 @@ pub fn target_of(subject: &Subject) -> &[u8]
     }
 }
 
-/// The sum of the needs, 0 where no arrangement is asked for.
+/// The sum of the needs; 0 if the appeal asks for no arrangement.
 pub fn needs_of(subject: &Subject) -> u32
     ensures value { result ≡ stored.needs_of subject.now }
     ensures range { result ≤ greatest_sum }
@@ -55,7 +55,7 @@ pub fn needs_of(subject: &Subject) -> u32
     }
 }
 
-/// The extra time in percent, 0 where no arrangement is asked for.
+/// The extra time in percent; 0 if the appeal asks for no arrangement.
 pub fn extra_of(subject: &Subject) -> u16
     ensures value { result ≡ stored.extra_of subject.now }
     ensures range { result ≤ 100 }
@@ -66,7 +66,7 @@ pub fn extra_of(subject: &Subject) -> u16
     }
 }
 
-/// Reads the kind, the target, the needs and the extra time, from that column on.
+/// Reads the kind, the target, the needs and the extra time from the columns from `at` on.
 pub fn subject_at(row: &Row, at: usize) -> Result<Subject, Refusal>
     requires { at < 900 }
     ensures { Reads IsSubject stored.subject
@@ -80,7 +80,7 @@ pub fn subject_at(row: &Row, at: usize) -> Result<Subject, Refusal>
     }
 }
 
-/// The code of a hall, with no needs and no extra time.
+/// The code of a hall, without needs and extra time.
 fn hall_at(row: &Row, at: usize) -> Result<HallCode, Refusal>
     requires { at < 1000 }
     ensures { Reads (λ hall. IsTrue (is_hall_code hall))
@@ -93,7 +93,7 @@ fn hall_at(row: &Row, at: usize) -> Result<HallCode, Refusal>
     Ok(hall)
 }
 
-/// The code of a paper, with no needs and no extra time.
+/// The code of a paper, without needs and extra time.
 fn paper_at(row: &Row, at: usize) -> Result<PaperCode, Refusal>
     requires { at < 1000 }
     ensures { Reads (λ paper. IsTrue (is_paper_code paper))
@@ -119,7 +119,7 @@ fn arrangement_at(row: &Row, at: usize) -> Result<Arrangement, Refusal>
     Ok(Arrangement { needs, extra })
 }
 
-/// Nothing where the number 0 stands. Refused as a bad store otherwise.
+/// Accepts the number 0. Refuses everything else with `BadStore`.
 fn zero_at(row: &Row, at: usize) -> Result<(), Refusal>
     ensures ok { OnOk result (column row.now at ≡ stored.whole 0) }
     ensures err { IfErr result (λ e. (e ≡ BadStore) × (column row.now at ≡ stored.whole 0 → ⊥)) }
@@ -130,7 +130,7 @@ fn zero_at(row: &Row, at: usize) -> Result<(), Refusal>
     }
 }
 
-/// Nothing where the empty text stands. Refused as a bad store otherwise.
+/// Accepts the empty text. Refuses everything else with `BadStore`.
 fn nothing_at(row: &Row, at: usize) -> Result<(), Refusal>
     ensures ok { OnOk result (column row.now at ≡ Text []) }
     ensures err { IfErr result (λ e. (e ≡ BadStore) × (column row.now at ≡ Text [] → ⊥)) }
@@ -155,7 +155,7 @@ pub fn state_of(status: &Status) -> i64
     }
 }
 
-/// The reason of the decision, or NULL where there was none.
+/// The reason of the decision, or NULL if there was none.
 pub fn answer_of(status: &Status) -> ValueRef<'_>
     ensures { owned result ≡ stored.text_or_null (stored.answer_of status.now) }
 {
@@ -167,7 +167,7 @@ pub fn answer_of(status: &Status) -> ValueRef<'_>
     }
 }
 
-/// Reads the state and the answer, from that column on.
+/// Reads the state and the answer from the columns from `at` on.
 pub fn status_at(alloc: Global, row: &Row, at: usize) -> Result<Status, Refusal>
     requires small { at < 900 }
     requires within { at + 1 < length row.now }
@@ -185,7 +185,7 @@ pub fn status_at(alloc: Global, row: &Row, at: usize) -> Result<Status, Refusal>
     }
 }
 
-/// The reason that a column holds, or none where it is NULL.
+/// The reason that a column holds, or none if it is NULL.
 fn answer_at(alloc: Global, row: &Row, at: usize) -> Result<Option<Reason>, Refusal>
     requires { at < length row.now }
     ensures read { MayRead IsAnswer stored.text_or_null (column row.now at) result }

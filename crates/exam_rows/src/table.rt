@@ -21,9 +21,9 @@ use std::collections::BTreeMap;
 
 /// How the rows of a table are put and read.
 ///
-/// A row is put by its whole key, whether it is there or not. A row that others may refer to is changed in place: one
-/// that is replaced is deleted first, and is then looked for in the tables that refer to it, which have no index for
-/// that.
+/// A row is put by its whole key, whether it exists or not. A row that others may refer to is changed in place: if it
+/// were replaced, it would be deleted first, and SQLite would look for its key in the tables that refer to it, which
+/// have no index for that.
 pub trait StoredRows {
     type Key: Ord + Drop;
 
@@ -34,7 +34,7 @@ pub trait StoredRows {
 
     ghost key_places: { List ℕ };
 
-    /// The statements that put a row, and that show all.
+    /// The statement that puts a row, and the one that shows all rows.
     ghost put_text: { List ℕ };
 
     ghost load_text: { List ℕ };
@@ -42,10 +42,10 @@ pub trait StoredRows {
     /// The columns of a row.
     ghost row_of: { Self.Key → Self.Value → Columns };
 
-    /// The rows that there may be.
+    /// The keys and values that may be a row.
     ghost IsRow: { Self.Key → Self.Value → Type 0 };
 
-    /// The databases from which all rows are shown, with the rows of their tables.
+    /// The databases from which all rows can be shown, with the rows of their tables.
     ghost Holds: { Database → Trees → Type 0 };
 
     /// Sets the row with this key.
@@ -59,7 +59,7 @@ pub trait StoredRows {
         ensures made { Makes (state S.Store tx.old.conn.now) (state S.Store tx.new.conn.now) result
             (put_of Self.put_text Self.tree Self.key_places (Self.row_of key.now value.now) ∷ []) };
 
-    /// All rows, as they are shown.
+    /// All rows, as the query shows them.
     fn shown<S: Alter>(conn: &mut Connection<S>) -> Result<Vec<Row>, Refusal>
         ensures rows { HasCleanDisk (state S.Store conn.new) → IfOk result (λ rows. (all : _)
             → Self.Holds (state S.Store conn.old).now all
@@ -76,20 +76,20 @@ pub trait StoredRows {
         ensures early { HasCleanDisk (state S.Store conn.new) → HasCleanDisk (state S.Store conn.old) }
         ensures told { IfErr result (λ e. IsTrue (is_store_refusal e)) };
 
-    /// The row that is shown. Refused as a bad store where it is the stored form of none.
+    /// The key and the value that this row shows. Refused with `BadStore` if it is not the stored form of any.
     fn read(alloc: Global, row: &Row) -> Result<(Self::Key, Self::Value), Refusal>
         ensures read { MayRead (λ p. Self.IsRow p.0 p.1) (λ p. Self.row_of p.0 p.1) row.now result }
         ensures memory { WantsMemoryOfRow row.now result };
 }
 
-/// A table that can lose rows. No command takes a row away from any other.
+/// A table that can lose rows. No command deletes a row of any other table.
 pub trait Shrinks: StoredRows {
     /// The statement that deletes a row, and the columns of its key.
     ghost delete_text: { List ℕ };
 
     ghost key_of: { Self.Key → Columns };
 
-    /// Takes away the row with this key, if there is one.
+    /// Deletes the row with this key, if there is one.
     fn delete<S: Alter>(tx: &mut Transaction<'_, S>, key: &Self::Key) -> Result<(), Refusal>
         ensures same_reference { tx.new.conn.ghost_name ≡ tx.old.conn.ghost_name }
         ensures made { Makes (state S.Store tx.old.conn.now) (state S.Store tx.new.conn.now) result
@@ -112,7 +112,7 @@ pub fn put_rows<T: StoredRows, S: Alter>(
     Ok(())
 }
 
-/// Takes away the rows with these keys.
+/// Deletes the rows with these keys.
 pub fn delete_rows<T: Shrinks, S: Alter>(
     tx: &mut Transaction<'_, S>,
     keys: &[&T::Key],
@@ -154,7 +154,7 @@ pub fn load_rows<T: StoredRows, S: Alter>(
     read_rows::<T>(alloc, rows.as_slice())
 }
 
-/// The table with these rows. Refused as a bad store where they are the rows of none.
+/// The table with these rows. Refused with `BadStore` if they are the rows of none.
 pub fn read_rows<T: StoredRows>(
     alloc: Global,
     rows: &[Row],

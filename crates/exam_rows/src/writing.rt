@@ -6,13 +6,14 @@ ghost use Rattle.sqlite.specs.Steps.{FailsToCommit};
 ghost use Rattle.exam_rows.specs.Faults.{refusal_of, is_store_refusal};
 ghost use Rattle.exam_rows.specs.Inside.{Becomes, FailsToWrite, IsOurs, Makes};
 ghost use Rattle.exam_rows.specs.Transactions.{Commits};
-ghost use Rattle.exam_rows.specs.Versions.{FailsToCreate, IsBlank, IsFirst, IsMade, Widens};
+ghost use Rattle.exam_rows.specs.Loaded.{IsMadeHere};
+ghost use Rattle.exam_rows.specs.Versions.{FailsToCreate, IsBlank, IsMade, Widens};
 ghost use Rattle.exam_rows.specs.Writes.{timetable_put, halls_put, candidates_put, plans_put, all_put};
 ghost use Rattle.exam_rows.specs.Writes.{all_deleted, all_saved};
 
 use crate::differences::{Difference, Keyed};
 use crate::faults::refusal_of;
-use crate::schema::{create_tables, widen_tables};
+use crate::schema::{create_tables, has_marks, show_rules, widen_tables};
 use crate::table::{delete_rows, put_rows};
 use crate::tables::appeals::Appeals;
 use crate::tables::arrangements::Arrangements;
@@ -29,8 +30,8 @@ use exam_types::{HallCode, Number, PaperCode, Reference, Refusal, SessionCode};
 use sqlite::{Alter, Connection, Transaction};
 use std::alloc::Global;
 
-/// What makes the tables of one office those of another: the rows to put, and of the tables that can lose rows also the
-/// keys to delete.
+/// What turns the tables of one office into those of another: the rows to put, and for the tables that can lose rows
+/// also the keys to delete.
 #[derive(Drop)]
 pub struct Changes<'a> {
     pub sessions: Vec<Keyed<'a, SessionCode, Session>>,
@@ -45,7 +46,7 @@ pub struct Changes<'a> {
     pub seats: Difference<'a, (SessionCode, Number), HallCode>,
 }
 
-/// Sets the rows that are new or have changed, parents first, so that what a row refers to is there.
+/// Puts the rows that are new or have changed, parents first, so that what a row refers to exists.
 fn put_all<S: Alter>(
     alloc: Global,
     tx: &mut Transaction<'_, S>,
@@ -115,7 +116,7 @@ fn put_plans<S: Alter>(
     put_rows::<Seats, S>(alloc, tx, changes.seats.put.as_slice())
 }
 
-/// Takes away the rows that are gone. Seats that have moved out of a hall are set by then.
+/// Deletes the rows that are gone. Seats that have moved out of a hall have been put before.
 fn delete_all<S: Alter>(tx: &mut Transaction<'_, S>, changes: &Changes<'_>) -> Result<(), Refusal>
     ensures same_reference { tx.new.conn.ghost_name ≡ tx.old.conn.ghost_name }
     ensures made { Makes (state S.Store tx.old.conn.now) (state S.Store tx.new.conn.now) result
@@ -125,7 +126,7 @@ fn delete_all<S: Alter>(tx: &mut Transaction<'_, S>, changes: &Changes<'_>) -> R
     delete_rows::<Openings, S>(tx, changes.openings.delete.as_slice())
 }
 
-/// Makes the changes, in one transaction or not at all. Refused as a failure also where a transaction is under way.
+/// Makes the changes in one transaction or not at all. Refused with `Store` if a transaction is already open.
 pub fn save_changes<S: Alter>(
     alloc: Global,
     conn: &mut Connection<S>,
@@ -161,8 +162,7 @@ fn write_changes<S: Alter>(
     delete_all(tx, changes)
 }
 
-/// Makes the tables of an office with no facts in a database with nothing in it, in one transaction or not
-/// at all.
+/// Makes the tables of an office without facts in an empty database, in one transaction or not at all.
 pub fn save_empty<S: Alter>(conn: &mut Connection<S>) -> Result<(), Refusal>
     ensures made { Commits (state S.Store conn.old) (state S.Store conn.new) result
         (λ old new. IsBlank old → IsMade new) }
@@ -180,10 +180,11 @@ pub fn save_empty<S: Alter>(conn: &mut Connection<S>) -> Result<(), Refusal>
     commit(tx)
 }
 
-/// Makes the tables of version 1 those of the newest version, in one transaction or not at all.
+/// Turns the tables of an older version, whatever rows they have, into those of the newest, in one transaction or not at
+/// all.
 pub fn save_widened<S: Alter>(conn: &mut Connection<S>) -> Result<(), Refusal>
     ensures made { Commits (state S.Store conn.old) (state S.Store conn.new) result Widens }
-    ensures failed { HasCleanDisk (state S.Store conn.new) → IsFirst (state S.Store conn.old).now
+    ensures failed { HasCleanDisk (state S.Store conn.new) → IsMadeHere (state S.Store conn.old).now
         → IfErr result (FailsToCreate (state S.Store conn.old) (state S.Store conn.new)) }
     ensures ended { conn.old.in_transaction ≡ false → conn.new.in_transaction ≡ false }
     ensures told { IfErr result (λ e. IsTrue (is_store_refusal e)) }
@@ -191,12 +192,14 @@ pub fn save_widened<S: Alter>(conn: &mut Connection<S>) -> Result<(), Refusal>
     if !conn.is_autocommit() {
         return Err(Refusal::Store);
     }
+    show_rules(conn);
+    let has_marks = has_marks(conn);
     let mut tx = conn.transaction();
-    widen_tables(&mut tx)?;
+    widen_tables(&mut tx, has_marks)?;
     commit(tx)
 }
 
-/// Commits what was written. A refusal tells the error that the database gave.
+/// Commits what was written. A refusal reports the error that the database gave.
 fn commit<S: Alter>(tx: Transaction<'_, S>) -> Result<(), Refusal>
     ensures ended { tx.exit.0.now.in_transaction ≡ false }
     ensures ok { HasCleanDisk (state S.Store tx.exit.0.now)

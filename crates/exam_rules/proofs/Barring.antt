@@ -1,4 +1,4 @@
--- A hall is barred where some granted appeal asks for another than it.
+-- A hall is barred exactly if some granted appeal asks for another hall.
 use Rattle.std.proofs.Common.{◌≡◌, ℕ, List, [], ◌∷◌, Bool, true, false, refl, is_some}
 use Rattle.std.specs.Prelude.{filter_map}
 use Rattle.std.specs.List.{list_any}

@@ -1,4 +1,5 @@
--- What an entry that is made live changes in the lists: its candidate stands in the list of its session, with the lesser paper.
+-- What an entry that is made live changes in the lists: its candidate is in the list of its session, with the lesser
+-- paper.
 use Rattle.std.proofs.Common.{◌≡◌, ℕ, zero, suc, ◌<◌, ◌≤◌, ◌&&◌, Bool, true, false, cond, List, [], ◌∷◌, length, filter, map, get_or, set, nat_eq, nat_lt, Option, None, Some, is_some, eq-eqb, refl, ap, sym, subst, ◌∙◌, arith}
 use Rattle.std.specs.Option.{option_map, option_map_or}
 use Rattle.std.specs.List.{AllByRecursion, cons_option, insert}
@@ -237,7 +238,7 @@ module _ (n : ℕ) (p : Code) where
       by_cmp e es Greater (greater_from e.number (place.0 0 e (omega arith) (omega arith)))
       ∙ ap (λ ys. e ∷ ys) (entered_new es i (later_place e es i place) (omega arith) (λ d inside. other d (omega arith)))
 
-  -- the candidate stands there
+  -- the candidate is there
   entered_again : (xs : List Entrant) (i : ℕ) (d : Entrant) → IsPlace xs i → i < length xs → nat_eq (get_or xs i d).number n ≡ true → entered n p xs ≡ set xs i (entrant n (lesser_paper p (get_or xs i d).paper))
   entered_again [] i d place inside own = absurd (omega arith)
   entered_again (e ∷ es) zero d place inside own = by_cmp e es Equal (equal_from e.number own)

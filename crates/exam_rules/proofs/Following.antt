@@ -15,7 +15,7 @@ use Rattle.exam_rules.specs.Names.{naming, number_at, hall_at, hall_index, Lists
 use Rattle.exam_rules.proofs.Naming.{renames, numbers_rise, codes_rise, fit_member, fit_open, hall_known}
 use Rattle.exam_plan.proofs.ChainNames.{Follows, AreKnown}
 
--- where names rise with their indices, they compare as the indices
+-- if names rise with their indices, they compare as the indices
 order_kept : {Y : Type 0} (S : Y → Y → Ordering) → IsTotalOrder S → (name : ℕ → Y) (P : ℕ → Type 0) → ((i j : ℕ) → P i → P j → nat_cmp i j ≡ Less → S (name i) (name j) ≡ Less)
     → (i j : ℕ) → P i → P j → S (name i) (name j) ≡ nat_cmp i j
 order_kept S o name P rise i j p q = elim (cases_order i j) [

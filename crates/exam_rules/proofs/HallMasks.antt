@@ -1,11 +1,11 @@
 -- The places of halls, kept as sets.
-use Rattle.std.proofs.Common.{◌≡◌, ℕ, zero, suc, ◌+◌, ◌<◌, ◌≤◌, Bool, true, false, cond, ◌||◌, List, [], ◌∷◌, ◌++◌, length, map, get_or, drop, drop-cons, append_assoc, append-nil, add-one, nat_eq, refl, sym, ap, ◌∙◌, inl, inr, arith}
+use Rattle.std.proofs.Common.{◌≡◌, ℕ, zero, suc, ◌+◌, ◌<◌, ◌≤◌, Bool, true, false, cond, ◌||◌, List, [], ◌∷◌, ◌++◌, length, map, get_or, drop, drop-cons, append_assoc, append-nil, add-one, nat_eq, refl, sym, ap, subst, ◌∙◌, inl, inr, arith}
 use Rattle.std.specs.Prelude.{All, filter}
 use Rattle.std.specs.List.{range_with_len}
 use Rattle.std.proofs.lemmas.Bool.{cases_Bool, or_cases, ne_eqb, eq-eqb, eqb-true}
 use Rattle.std.proofs.lemmas.List.{drop_all, map-append}
 use Rattle.std.proofs.lemmas.List.Elements.{All-push}
-use Rattle.exam_plan.specs.HallSets.{holds, halls_below}
+use Rattle.exam_plan.specs.HallSets.{holds, halls_below, set_of_mask, sets_of}
 use Rattle.exam_plan.proofs.Rising.{next_filter}
 use Rattle.exam_rules.specs.Seatings.{positions}
 use Rattle.exam_rules.proofs.Ranking.{map_step, map_end}
@@ -88,21 +88,25 @@ module _ {A : Type 0} (p : A → Bool) where
 -- ---- a mask of each
 
 -- the masks so far, of rows that a function gives
-pub record AreMasksOf {A : Type 0} (n : ℕ) (f : A → List ℕ) (xs : List A) (i : ℕ) (masks : List ℕ) : Type 0 where
-  pub whole : map (halls_below n) masks ++ map f (drop i xs) ≡ map f xs
-  pub within : All (λ mask. (h : ℕ) → holds mask h ≡ true → h < n) masks
+pub record AreMasksOf {A : Type 0} (n : ℕ) (f : A → List ℕ) (xs : List A) (i : ℕ) (masks : List (List ℕ)) : Type 0 where
+  pub whole : map (halls_below n) (sets_of masks) ++ map f (drop i xs) ≡ map f xs
+  pub within : All (λ set. (h : ℕ) → holds set h ≡ true → h < n) (sets_of masks)
 
 module _ {A : Type 0} (n : ℕ) (f : A → List ℕ) (xs : List A) where
   pub masks_begin : AreMasksOf n f xs 0 []
   masks_begin = record { whole = refl; within = λ i d l. absurd (omega arith) }
 
-  pub masks_more : (i : ℕ) (d : A) (masks : List ℕ) (mask : ℕ) → i < length xs → halls_below n mask ≡ f (get_or xs i d) → ((h : ℕ) → holds mask h ≡ true → h < n) → AreMasksOf n f xs i masks → AreMasksOf n f xs (i + 1) (masks ++ mask ∷ [])
-  masks_more i d masks mask below row within are = record {
-    whole = map_step f xs i d (map (halls_below n) masks) (map (halls_below n) (masks ++ mask ∷ [])) (map f xs) below
-        (map-append (halls_below n) masks (mask ∷ []) ∙ ap (λ t. map (halls_below n) masks ++ t ∷ []) row) are.whole;
-    within = All-push (λ m. (h : ℕ) → holds m h ≡ true → h < n) masks mask are.within within;
-  }
+  pub masks_more : (i : ℕ) (d : A) (masks : List (List ℕ)) (mask : List ℕ) → i < length xs → halls_below n (set_of_mask mask) ≡ f (get_or xs i d)
+      → ((h : ℕ) → holds (set_of_mask mask) h ≡ true → h < n) → AreMasksOf n f xs i masks → AreMasksOf n f xs (i + 1) (masks ++ mask ∷ [])
+  masks_more i d masks mask below row within are =
+      let more : sets_of (masks ++ mask ∷ []) ≡ sets_of masks ++ set_of_mask mask ∷ [] = map-append set_of_mask masks (mask ∷ []) in
+      record {
+        whole = map_step f xs i d (map (halls_below n) (sets_of masks)) (map (halls_below n) (sets_of (masks ++ mask ∷ []))) (map f xs) below
+            (ap (map (halls_below n)) more ∙ map-append (halls_below n) (sets_of masks) (set_of_mask mask ∷ []) ∙ ap (λ t. map (halls_below n) (sets_of masks) ++ t ∷ []) row) are.whole;
+        within = subst (All (λ set. (h : ℕ) → holds set h ≡ true → h < n)) (sym more)
+            (All-push (λ set. (h : ℕ) → holds set h ≡ true → h < n) (sets_of masks) (set_of_mask mask) are.within within);
+      }
 
   -- at the end of such a loop
-  pub masks_end : (i : ℕ) (masks : List ℕ) → length xs ≤ i → AreMasksOf n f xs i masks → map (halls_below n) masks ≡ map f xs
-  masks_end i masks over are = map_end f xs i (map (halls_below n) masks) over are.whole
+  pub masks_end : (i : ℕ) (masks : List (List ℕ)) → length xs ≤ i → AreMasksOf n f xs i masks → map (halls_below n) (sets_of masks) ≡ map f xs
+  masks_end i masks over are = map_end f xs i (map (halls_below n) (sets_of masks)) over are.whole

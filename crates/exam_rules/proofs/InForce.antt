@@ -64,7 +64,7 @@ all_of_passing {X} P q holds (x ∷ xs) = inner (q x) refl (all_of_passing P q h
     inner true is rest = (holds x is, rest)
     inner false is rest = rest
 
--- where none passes, those that pass have anything
+-- if none passes, those that pass have anything
 all_of_none : {X : Type 0} (P : X → Type 0) (q : X → Bool) (xs : List X) → list_any q xs ≡ false → AllByRecursion P (filter q xs)
 all_of_none P q [] none = tt
 all_of_none {X} P q (x ∷ xs) none = inner (q x) none (all_of_none P q xs)
@@ -122,7 +122,7 @@ standing_alone r c appeals = left_out (is_granted_arrangement c) (is_standing r 
         (and_left (a.0.0 == c) (is_granted a.1.status && is_marked r a.0) on)
         (and_left (is_granted a.1.status) (is_marked r a.0) (and_right (a.0.0 == c) (is_granted a.1.status && is_marked r a.0) on)))
 
--- whoever's appeals are the same has the same grants
+-- candidates with the same appeals have the same grants
 pub grants_of_own : (c : ℕ) (one other : Appeals) → filter (is_row_of c) other ≡ filter (is_row_of c) one → filter (is_granted_arrangement c) other ≡ filter (is_granted_arrangement c) one
 grants_of_own c one other same = sym (alone other) ∙ ap (filter (is_granted_arrangement c)) same ∙ alone one
   where
@@ -135,7 +135,7 @@ module _ (r t : Relations) (c : ℕ) where
   abbrev pub SameDates : Appeals → Type 0
   SameDates rows = AllByRecursion (λ a. session_day t a.1.session ≡ session_day r a.1.session) rows
 
-  -- whoever has no standing grant depends on no date of another session
+  -- a candidate without a standing grant depends on no date of another session
   pub no_dates : has_standing_grant r c ≡ false → SameDates (filter (is_standing r c) r.appeals)
   no_dates none = all_of_none (λ (a : (ℕ × Code) × Appeal). session_day t a.1.session ≡ session_day r a.1.session) (is_standing r c) r.appeals none
 
@@ -144,7 +144,7 @@ module _ (r t : Relations) (c : ℕ) where
   by_dates (a ∷ rows) dates =
       ap (λ date. cons_option (given a.1 date (wanted_in a)) (given_by t rows)) dates.0 ∙ ap (cons_option (standing_grant r a.1)) (by_dates rows dates.1)
 
-  -- the same appeals stand, and their sessions have the same dates
+  -- the same appeals are standing grants, and their sessions have the same dates
   pub same_standing : filter (is_standing t c) t.appeals ≡ filter (is_standing r c) r.appeals → SameDates (filter (is_standing r c) r.appeals) → standing_grants t c ≡ standing_grants r c
   same_standing same dates = ap (given_by t) same ∙ by_dates (filter (is_standing r c) r.appeals) dates
 
@@ -155,7 +155,7 @@ module _ (r t : Relations) (c : ℕ) where
       ∙ ap (λ standing. cond (is_standing r c a) (a ∷ standing) standing) (by_marks rows marks.1)
 
   module _ (s : Code) where
-    -- the same was granted for the session and is imported, the same grants stand, and the date is the same
+    -- the same was granted for the session and is imported, the standing grants are the same, and so is the date
     pub in_force_by : granted_arrangement t s c ≡ granted_arrangement r s c → session_day t s ≡ session_day r s → standing_grants t c ≡ standing_grants r c → row_at nat_cmp t.arrangements c ≡ row_at nat_cmp r.arrangements c
         → arrangement_in_force t s c ≡ arrangement_in_force r s c
     in_force_by granted date standing imported =

@@ -83,7 +83,7 @@ module _ (r : Relations) (n : ℕ) where
       outer true row = inner row
       outer false row = refl
 
-  -- the paper of a row that counts for this session, where it is the one
+  -- the paper of a row that counts for this session, if it is the one
   abbrev pub paper_for : Code → Option Code → Code → Option Code
   paper_for s o p = option_map_or (λ t. cond (same_code t s) (Some p) None) o None
 
@@ -107,7 +107,7 @@ below_is_other m n less = inner (nat_eq m n) refl
     inner true e = absurd (let same : m ≡ n = exact_unsigned_eq m n e in let tied : Less ≡ Equal = sym less ∙ ap (λ k. nat_cmp m k) (sym same) ∙ tied_itself nat_cmp_total m in cc)
     inner false e = refl
 
--- where numbers rise, one that comes later is not the last so far
+-- if numbers rise, one that comes later is not the last so far
 ends_before : (xs : List Entrant) (rest : List ℕ) (n : ℕ) → IsStrictlySortedBy nat_cmp (map (λ (e : Entrant). e.number) xs ++ n ∷ rest) → ends_with xs n ≡ false
 ends_before [] rest n up = refl
 ends_before (x ∷ ys) rest n up =
@@ -123,7 +123,7 @@ ends_before (x ∷ ys) rest n up =
     (ap (λ k. nat_cmp k n) (sym (get_or-map (λ (e : Entrant). e.number) (x ∷ ys) last x n within) ∙ sym (get_or_append_left numbers (n ∷ rest) n last inside))
     ∙ ap (nat_cmp (get_or (numbers ++ n ∷ rest) last n)) (sym (get_or-append_seam numbers n rest n)) ∙ less)
 
--- of candidates, those of whom there is a paper, each with it
+-- the candidates who have a paper, each with it
 module _ (least : ℕ → Option Code) where
   abbrev pub listed_with : List ℕ → List Entrant
   listed_with numbers = filter_map (λ c. option_map (entrant c) (least c)) numbers
@@ -144,7 +144,7 @@ module _ (least : ℕ → Option Code) where
       inner None is rest = rest
       inner (Some p) is rest = All-cons (λ (e : Entrant). least e.number ≡ Some e.paper) (entrant c p) (listed_with cs) is rest
 
-  -- one more candidate, who is appended where there is a paper
+  -- one more candidate, who is appended if there is a paper
   pub members_more : (done rest : List ℕ) (old new : List Entrant) (n : ℕ) → IsStrictlySortedBy nat_cmp (done ++ n ∷ rest) → old ≡ listed_with done → new ≡ with_member n (least n) old → new ≡ listed_with (done ++ n ∷ [])
   members_more done rest old new n up is step = inner (least n) refl step ∙ sym (filter_map-append (λ c. option_map (entrant c) (least c)) done (n ∷ []))
     where
@@ -164,7 +164,7 @@ filter_same : (p q : ℕ → Bool) → ((c : ℕ) → p c ≡ q c) → (cs : Lis
 filter_same p q same [] = refl
 filter_same p q same (c ∷ cs) = rw (same c) (ap (λ t. cond (q c) (c ∷ t) t) (filter_same p q same cs))
 
--- the numbers of whom is listed are the members
+-- the numbers of those who are listed are the members
 pub entrants_are_members : (r : Relations) (s : Code) → map (λ (e : Entrant). e.number) (entrants r s) ≡ members r s
 entrants_are_members r s =
     listed_numbers (least_live_paper r s) (keys_of r.candidates)

@@ -1,4 +1,4 @@
--- Desk numbers by numbers and codes: whoever sits in a hall has a desk of their own in it.
+-- Desk numbers by numbers and codes: everybody who sits in a hall has a desk of their own in it.
 use Rattle.std.proofs.Common.{◌≡◌, ℕ, ◌<◌, ◌≤◌, IsTrue, length, Option, Some, IsSome, IfSome, is_some, refl, sym, ap, subst, ◌∙◌}
 use Rattle.std.specs.Option.{option_and_then}
 use Rattle.std.proofs.Math.Path.{fun_ext}

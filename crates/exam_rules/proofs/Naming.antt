@@ -35,7 +35,7 @@ use Rattle.exam_rules.proofs.Together.{and_left, and_right}
 some_same : {A : Type 0} (x y : A) → Some x ≡ Some y → x ≡ y
 some_same x y e = cc
 
--- ---- codes are told apart
+-- ---- codes are distinct
 
 pub same_code_exact : (h k : Code) → same_code h k ≡ true → h ≡ k
 same_code_exact h k e = exact_bytes h k (inner (code_cmp h k) (sym (texts_ties h k) ∙ e))
@@ -54,7 +54,7 @@ number_itself n = grind arith
 -- ---- the place of an element
 
 module _ {A : Type 0} (same : A → A → Bool) (exact : (x y : A) → same x y ≡ true → x ≡ y) (itself : (x : A) → same x x ≡ true) where
-  -- where a place is given, the element stands there
+  -- if a place is given, the element is there
   pub place_is : (h : A) (n : ℕ) (xs : List A) (d : A) (i : ℕ) → first_place (same h) n xs ≡ Some i → (k : ℕ) × (i ≡ n + k) × (k < length xs) × (get_or xs k d ≡ h)
   place_is h n [] d i e = absurd (let f : None ≡ Some i = e in cc)
   place_is h n (x ∷ xs) d i e = inner (same h x) refl e (place_is h (n + 1) xs d i)
@@ -110,7 +110,7 @@ none_below p m n (x ∷ xs) h = inner (p x) (none_below p m (n + 1) xs (omega ar
     inner true rest = rw (differ m n h) rest
     inner false rest = rest
 
--- a place is listed exactly where the element there passes
+-- a place is listed exactly if the element there passes
 pub any_place : {A : Type 0} (p : A → Bool) (n : ℕ) (xs : List A) (d : A) (k m : ℕ) → k < length xs → m ≡ n + k → list_any (nat_eq m) (positions p n xs) ≡ p (get_or xs k d)
 any_place p n [] d k m below e = absurd (omega arith)
 any_place p n (x ∷ xs) d zero m below e = inner (p x) (none_below p m (n + 1) xs (omega arith))
@@ -177,7 +177,7 @@ lookup_any s h (o ∷ es) e = inner (is_eq (opening_cmp (s, h) o.0)) refl e (loo
     inner true t f rest = found (both (code_cmp s o.0.0) (code_cmp h o.0.1) t)
     inner false t f rest = skipped (same_code o.0.0 s) (rest f)
 
--- the open halls of a session rise, where the openings are in order
+-- the open halls of a session rise, if the openings are in order
 pub halls_rise : (s : Code) (es : List ((Code × Code) × Opening)) → IsStrictlySortedBy opening_cmp (keys_of es) → IsStrictlySortedBy code_cmp (map (λ (o : (Code × Code) × Opening). o.0.1) (filter (λ o. same_code o.0.0 s) es))
 unfolding IsStrictlySortedBy
 halls_rise s [] up = tt
@@ -329,7 +329,7 @@ module _ (r : Relations) (s : Code) where
   pub codes_rise : ListsRise r s → (j k : ℕ) → hall_index r s (hall_at r s j) ≡ Some j → hall_index r s (hall_at r s k) ≡ Some k → nat_cmp j k ≡ Less → code_cmp (hall_at r s j) (hall_at r s k) ≡ Less
   codes_rise up j k ej ek e = Less-from_sorted code_cmp (open_halls r s) j k [] up.codes (number_below j k e) (open_index k ek)
 
-  -- members stand before one another as their indices rank
+  -- members come before one another in the order of desks as their indices rank
   pub order_same : (i j : ℕ) → Contains (range_with_len 0 (length rows)) i → Contains (range_with_len 0 (length rows)) j → stands_before r s (number_at r s i) (number_at r s j) ≡ ranks_before (problem_of r s) i j
   order_same i j mi mj =
       order_is_rank r s (number_at r s i) (number_at r s j) (there i (below_member i mi)) (there j (below_member j mj))

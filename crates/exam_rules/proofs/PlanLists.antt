@@ -13,7 +13,7 @@ use Rattle.exam_rules.specs.Names.{number_at, hall_at, index_of, hall_index, nam
 use Rattle.exam_rules.proofs.Naming.{index_known, index_below}
 
 module _ (r : Relations) (s : Code) where
-  -- a member sits by index where they sit
+  -- by index, a member sits in the hall in which they sit
   pub indexed_member : ListsRise r s → (q : Plan ℕ Code) (i : ℕ) → i < length (members r s) → indexed_plan r s q i ≡ option_and_then (hall_index r s) (q (number_at r s i))
   indexed_member up q i below =
       ap (option_and_then (λ k. cond (nat_eq k i) (option_and_then (hall_index r s) (q (number_at r s i))) None)) (index_known r s up i below)

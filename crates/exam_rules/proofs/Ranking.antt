@@ -55,7 +55,7 @@ module _ {A : Type 0} where
       no_more : (n : ℕ) → 0 + n ≡ n
       no_more n = omega arith
 
-  -- where those that pass come first, up to i, there are i of them
+  -- if those that pass come first, up to i, there are i of them
   pub count_at_point : (p : A → Bool) (xs : List A) (i : ℕ) → i ≤ length xs → ((k : ℕ) (d : A) → k < i → p (get_or xs k d) ≡ true) → ((k : ℕ) (d : A) → i ≤ k → k < length xs → p (get_or xs k d) ≡ false) → i ≡ count_by p xs
   count_at_point p [] i bound front back = omega arith
   count_at_point p (x ∷ xs) zero bound front back =
@@ -79,7 +79,7 @@ module _ {A : Type 0} where
       inner false true e f rest = let k : count_by p (x ∷ xs) ≡ count_by p xs = count_no p x xs e in let l : count_by q (x ∷ xs) ≡ suc (count_by q xs) = count_yes q x xs f in omega arith
       inner false false e f rest = let k : count_by p (x ∷ xs) ≡ count_by p xs = count_no p x xs e in let l : count_by q (x ∷ xs) ≡ count_by q xs = count_no q x xs f in omega arith
 
-  -- where one of the list passes q and not p, fewer pass p
+  -- if one of the list passes q and not p, fewer pass p
   pub count_less : (p q : A → Bool) (same : A → A → Bool) (a : A) → ((x : A) → same a x ≡ true → a ≡ x) → (xs : List A) → ((x : A) → p x ≡ true → q x ≡ true) → list_any (same a) xs ≡ true → p a ≡ false → q a ≡ true → count_by p xs < count_by q xs
   count_less p q same a exact [] h there out into = absurd (let k : false ≡ true = there in cc)
   count_less p q same a exact (x ∷ xs) h there out into = inner (same a x) refl there (count_less p q same a exact xs h)
@@ -156,14 +156,14 @@ module _ (r : Relations) (s : Code) where
   lt_from Equal e = absurd (let f : false ≡ true = e in cc)
   lt_from Greater e = absurd (let f : false ≡ true = e in cc)
 
-  -- a member who stands before another has a lesser rank
+  -- a member who comes before another has a lesser rank
   pub rank_rises : (c d : ℕ) → list_any (nat_eq c) (members r s) ≡ true → desk_cmp (desk_key r s c) (desk_key r s d) ≡ Less → rank r s c < rank r s d
   rank_rises c d member before =
       count_less (λ x. stands_before r s x c) (λ x. stands_before r s x d) nat_eq c (λ x e. exact_unsigned_eq c x e) (members r s)
       (λ x e. ap is_lt (desk_total.trans (desk_key r s x) (desk_key r s c) (desk_key r s d) (lt_from (desk_cmp (desk_key r s x) (desk_key r s c)) e) before))
       member (ap is_lt (tied_itself desk_total (desk_key r s c))) (ap is_lt before)
 
-  -- two members of whom one has the lesser number have different ranks
+  -- of two members, one has the lesser number, so their ranks differ
   rank_apart : (c d : ℕ) → list_any (nat_eq c) (members r s) ≡ true → list_any (nat_eq d) (members r s) ≡ true → c < d → nat_eq (rank r s c) (rank r s d) ≡ false
   rank_apart c d mc md lt = inner (desk_cmp (desk_key r s c) (desk_key r s d)) refl
     where
@@ -215,7 +215,7 @@ module _ (r : Relations) (s : Code) where
       → let p : Problem = record { desk_counts = counts; fit = fit; rank = places } in p ≡ problem_of r s
   parts_are counts fit places a b c = λ i. record { desk_counts = a i; fit = b i; rank = c i }
 
-  -- members stand in the order of their ranks
+  -- members come in the order of their ranks
   pub order_is_rank : (c d : ℕ) → list_any (nat_eq c) (members r s) ≡ true → list_any (nat_eq d) (members r s) ≡ true → stands_before r s c d ≡ nat_lt (rank r s c) (rank r s d)
   order_is_rank c d mc md = inner (desk_cmp (desk_key r s c) (desk_key r s d)) refl
     where

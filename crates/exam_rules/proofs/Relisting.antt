@@ -63,7 +63,7 @@ last_false true false c fails = refl
 last_false true true c fails = fails
 
 module _ (before after : Relations) (s : Code) (c : ℕ) (sets : SetsEntry before after s c) where
-  -- where the entry does not count, the least live paper is the same
+  -- if the entry does not count, the least live paper is the same
   least_same : (t : Code) (d : ℕ) → ((w : Entry) → is_live_entry before t d ((c, sets.paper), w) ≡ false) → least_live_paper after t d ≡ least_live_paper before t d
   least_same t d none =
       ap (λ es. head_of (map (λ (e : (ℕ × Code) × Entry). e.0.1) (filter (is_live_entry after t d) es))) sets.entries
@@ -93,7 +93,7 @@ exchanged {A} old new list s t at =
     split true = refl
     split false = refl
 
--- an empty list where there was none is not seen
+-- an empty list reads like no list
 pub empty_unseen : {A : Type 0} (old : List (Code × Vec A Global)) (s t : Code) → has_row code_cmp old s ≡ false → cond (same_code s t) [] (listed old t) ≡ listed old t
 empty_unseen {A} old s t none = inner (same_code s t) refl
   where
@@ -172,14 +172,14 @@ module _ (f g : ℕ → Option Code) (n : ℕ) (same : (d : ℕ) → nat_eq n d 
       ap (cons_option (option_map (entrant n) o)) (above_same cs up ∙ sym (all_greater cs up))
       ∙ ap (λ es. es ++ cons_option (option_map (entrant n) o) (greater (listed_with f cs))) (sym (none_lesser cs up))
 
-  -- whoever was listed with this number makes no difference
+  -- it makes no difference who was listed with this number
   placed_over : (o old : Option Code) (es : List Entrant) → placed n o es ≡ placed n o (cons_option (option_map (entrant n) old) es)
   placed_over o None es = refl
   placed_over o (Some p) es =
       ap (λ b. cond b (entrant n p ∷ lesser es) (lesser es) ++ cons_option (option_map (entrant n) o) (greater es)) (sym (not_less n n (omega arith)))
       ∙ ap (λ b. lesser (entrant n p ∷ es) ++ cons_option (option_map (entrant n) o) (cond b (entrant n p ∷ greater es) (greater es))) (sym (not_less n n (omega arith)))
 
-  -- a lesser number stands before
+  -- a lesser number comes before
   placed_behind : (o old : Option Code) (d : ℕ) (es : List Entrant) → d < n → cons_option (option_map (entrant d) old) (placed n o es) ≡ placed n o (cons_option (option_map (entrant d) old) es)
   placed_behind o None d es less = refl
   placed_behind o (Some p) d es less =

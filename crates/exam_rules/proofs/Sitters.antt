@@ -1,4 +1,4 @@
--- One sits a paper exactly where one is a member.
+-- A candidate sits a paper exactly if they are a member.
 use Rattle.std.proofs.Common.{◌≡◌, ◌==◌, ◌↔◌, ◌∙◌, ℕ, ap, subst, Bool, true, false, cond, ◌&&◌, ◌||◌, is_some, nat_eq, Contains, List, [], ◌∷◌, filter, Option, Some, None, refl, sym, eq-eqb}
 use Rattle.std.specs.List.{list_any}
 use Rattle.std.specs.BTreeMap.{is_at}
@@ -89,7 +89,7 @@ module _ (r : Relations) (s : Code) (c : ℕ) where
       let live : has_live_entry r s c ≡ true = All-contains (λ n. has_live_entry r s n ≡ true) (members r s) c (filter_passes (has_live_entry r s) (keys_of r.candidates)) m in
       and_from _ _ (IsSome-lookup_from_Contains (eq_by_cmp_equiv nat_cmp_total) c r.candidates known) live
 
-  -- a member is one whom the members list
+  -- a member is exactly a candidate in the list of members
   members_are : (b : Bool) → b ≡ is_member r s c → (b ≡ true) ↔ Contains (members r s) c
   members_are b is = (λ e. member_listed (sym is ∙ e), λ m. is ∙ listed_member m)
 

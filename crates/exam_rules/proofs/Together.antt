@@ -1,4 +1,4 @@
--- In a table whose keys begin with a candidate's number the rows of one candidate stand together, from the first key that
+-- In a table whose keys begin with a candidate's number the rows of one candidate are together, from the first key that
 -- is not less than the number with the least second part.
 use Rattle.std.proofs.Common.{◌≡◌, ℕ, ◌<◌, ◌≤◌, Bool, true, false, cond, not, ◌&&◌, ◌||◌, is_some, IsTrue, List, [], ◌∷◌, ◌++◌, length, filter, map, nat_eq, refl, sym, ap, subst, ◌∙◌, arith}
 use Rattle.std.specs.Prelude.{nat_le}
@@ -70,7 +70,7 @@ keys_of-filter {K} {X} p (e ∷ es) = inner (p e.0) (keys_of-filter p es)
     inner true rest = ap (λ t. e.0 ∷ t) rest
     inner false rest = rest
 
--- a row before the number's least key is of a lesser number, where no second part is less than the least
+-- a row before the number's least key has a lesser number, if no second part is less than the least
 pub lesser_before : {B : Type 0} (cmp : B → B → Ordering) (c : ℕ) (k : ℕ × B) (least : B) → pair_cmp nat_cmp cmp k (c, least) ≡ Less → (cmp k.1 least ≡ Less → ⊥) → k.0 < c
 lesser_before cmp c k least h none = inner (nat_cmp k.0 c) (ranked k.0 c (nat_cmp k.0 c) refl) h
   where
@@ -137,7 +137,7 @@ module _ {B X : Type 0} (cmp : B → B → Ordering) (c : ℕ) where
         inner true a rest = ap (λ t. cond (nat_eq e.0.0 c) (e ∷ t) t) (rest a)
         inner false a rest = skip (nat_eq e.0.0 c) refl a rest
 
-    -- the rows from the least key on begin with all of the candidate, where none stands before
+    -- the rows from the least key on begin with all of the candidate, if none comes before
     pub rows_from : (es : List ((ℕ × B) × X)) → IsStrictlySortedBy (pair_cmp nat_cmp cmp) (keys_of es)
         → filter (is_row_of c) (entries_between (pair_cmp nat_cmp cmp) Unbounded (Excluded (c, least)) es) ≡ []
         → leading (is_row_of c) (entries_between (pair_cmp nat_cmp cmp) (Included (c, least)) Unbounded es) ≡ filter (is_row_of c) es
@@ -149,7 +149,7 @@ module _ {B X : Type 0} (cmp : B → B → Ordering) (c : ℕ) where
   last_of P [] e a = a.0
   last_of P (x ∷ t) e a = last_of P t e a.1
 
-  -- where the last row is of a lesser number, so are all
+  -- if the last row has a lesser number, so have all
   pub none_up_to : (t : List ((ℕ × B) × X)) (e : (ℕ × B) × X) → IsStrictlySortedBy (pair_cmp nat_cmp cmp) (keys_of (t ++ e ∷ [])) → e.0.0 < c → filter (is_row_of c) (t ++ e ∷ []) ≡ []
   none_up_to [] e s lt = rw (apart e.0.0 c lt) refl
   none_up_to (x ∷ t) e s lt =
@@ -157,7 +157,7 @@ module _ {B X : Type 0} (cmp : B → B → Ordering) (c : ℕ) where
       let k : x.0.0 < c = omega arith in
       rw (apart x.0.0 c k) (none_up_to t e (sorted_tail (pair_cmp nat_cmp cmp) x.0 (keys_of (t ++ e ∷ [])) s) lt)
 
-  -- no row of the number stands before its least key, where the last row before it is of another
+  -- no row of the number comes before its least key, if the last row before it is of another
   pub none_before : (least : B) (es lower t : List ((ℕ × B) × X)) (e : (ℕ × B) × X) → IsStrictlySortedBy (pair_cmp nat_cmp cmp) (keys_of es)
       → lower ≡ entries_between (pair_cmp nat_cmp cmp) Unbounded (Excluded (c, least)) es → lower ≡ t ++ e ∷ []
       → pair_cmp nat_cmp cmp e.0 (c, least) ≡ Less → (cmp e.0.1 least ≡ Less → ⊥)
@@ -200,7 +200,7 @@ dash_is_least b h = grind (arith, nat_tests)
 pub zero_is_least : (b : ℕ) → is_capital_or_digit b ≡ true → 48 ≤ b
 zero_is_least b h = grind (arith, nat_tests)
 
--- some element passes exactly where there is a first that does
+-- some element passes exactly if there is a first that does
 pub any_is : {A Y : Type 0} (p : A → Bool) (f : A → Y) (es : List A) → list_any p es ≡ is_some (head_of (map f (filter p es)))
 any_is p f [] = refl
 any_is p f (e ∷ es) = inner (p e) (any_is p f es)

@@ -1,4 +1,4 @@
--- Small offices, and what the definitions say of them, by computation.
+-- Small offices, and what the definitions say of them. The check computes each case.
 use Rattle.std.specs.Prelude.{◌≡◌, ℕ, true, false, List, [], ◌∷◌, Option, None, Some, refl, codes}
 use Rattle.exam_types.specs.Features.{Features, no_features, named_features}
 use Rattle.exam_rules.specs.declared.rows.Paper.{Paper}
@@ -38,7 +38,7 @@ named c name code = (c, record { name = name; code = code })
 abbrev pub step_free : Features
 step_free = named_features (codes "step-free")
 
--- of the paper MA-1
+-- an entry for the paper MA-1
 abbrev pub entered : ℕ → (ℕ × Code) × Entry
 entered c = ((c, codes "MA-1"), record { live = true })
 
@@ -71,7 +71,7 @@ quarter_more = record base {
 finish_rounds_up : finish quarter_more (codes "S1") 1 ≡ Some 653
 finish_rounds_up = refl
 
--- and with the hall A alone, open until a time
+-- only the hall A is open, until the given time
 abbrev until : ℕ → Relations
 until end = record quarter_more { openings = opening_of (codes "A") (opening_until end) ∷ [] }
 
@@ -81,7 +81,7 @@ fits_until_then = refl
 fits_not_sooner : fits (until 652) (codes "S1") 1 (codes "A") ≡ false
 fits_not_sooner = refl
 
--- 1 and 3 without needs, 2 with the need step-free
+-- 1 and 3 without needs, and 2 who needs step-free access
 abbrev pub three : Relations
 three = record base {
   entries = entered 1 ∷ entered 2 ∷ entered 3 ∷ [];
@@ -110,7 +110,7 @@ granted s wanted = record {
   lodged = 20965;
 }
 
--- of 1 against B
+-- 1 may not sit in B
 abbrev barred : Relations
 barred = record three {
   appeals = ((1, codes "HA1"), granted (codes "S1") (subject.Hall (codes "B"))) ∷ [];
@@ -125,7 +125,7 @@ one_still_A = refl
 abbrev one_in_B : List ((Code × ℕ) × Code)
 one_in_B = ((codes "S1", 1), codes "B") ∷ ((codes "S1", 2), codes "A") ∷ []
 
--- what stays when B no longer fits 1
+-- the seats that stay when B no longer fits 1
 abbrev kept : ℕ → Option Code
 kept = kept_part (seating barred (codes "S1")) (plan_of one_in_B (codes "S1"))
 
@@ -135,7 +135,7 @@ put_out = refl
 stays_in : kept 2 ≡ Some (codes "A")
 stays_in = refl
 
--- 3 entered for MA-1 and PH-2, which wants a computer
+-- 3 is entered for MA-1 and for PH-2, which requires a computer
 abbrev pub two_papers : Relations
 two_papers = record base {
   papers = (codes "MA-1", paper_of 60 no_features)
@@ -201,7 +201,7 @@ reserved_for_needs = refl
 reserved_not_for_others : fits reserved (codes "S1") 1 (codes "A") ≡ false
 reserved_not_for_others = refl
 
--- by indices: all three fit A, of which 2 stands second; B fits the first and the third
+-- by indices: all three fit A, and 2 comes second; B fits the first and the third
 abbrev by_indices : Problem
 by_indices = record {
   desk_counts = 1 ∷ 1 ∷ [];
@@ -212,7 +212,7 @@ by_indices = record {
 three_by_indices : problem_of three (codes "S1") ≡ by_indices
 three_by_indices = refl
 
--- one hall with 5 sitting MA-1 and 2 sitting PH-2: by the paper first
+-- candidate 5 sits MA-1 and candidate 2 sits PH-2 in one hall: desks are ordered by the paper first
 abbrev two_sittings : Relations
 two_sittings = record two_papers {
   candidates = named 2 (codes "Ada Lin") (codes "CODE0002")
@@ -287,11 +287,11 @@ latest_date = refl
 greater_code : extra_in (both (asked (codes "AR1") (codes "S3") 40) (asked (codes "AR2") (codes "S2") 30)) (codes "S4") ≡ 40
 greater_code = refl
 
--- the grant for the session itself comes before
+-- the grant for the session itself comes first
 granted_there : extra_in (days (asked (codes "AR1") (codes "S3") 40 ∷ asked (codes "AR2") (codes "S4") 50 ∷ []) (mark (codes "AR1") ∷ [])) (codes "S4") ≡ 50
 granted_there = refl
 
--- a superseded one has no effect
+-- a superseded grant has no effect
 abbrev superseded : (ℕ × Code) × Appeal → (ℕ × Code) × Appeal
 superseded a = (a.0, record a.1 { status = status.Superseded (codes "ok") })
 

@@ -19,12 +19,12 @@ use Rattle.exam_rules.specs.Names.{ListsRise}
 abbrev pub listed : {A : Type 0} → List (Code × Vec A Global) → Code → List A
 listed {A} rows s = option_map_or (λ (list : Vec A Global). list.items) (row_at code_cmp rows s) []
 
--- the number is that of the last
+-- the last entrant has this number
 abbrev pub ends_with : List Entrant → ℕ → Bool
 ends_with entrants n =
     option_map_or (λ (e : Entrant). nat_eq e.number n) (slice_get entrants (length entrants - 1)) false
 
--- the list with the entrant as its last, once
+-- the list with the entrant appended, unless its last is the same candidate
 abbrev pub with_last : Entrant → List Entrant → List Entrant
 with_last e entrants = if ends_with entrants e.number then entrants else entrants ++ e ∷ []
 
@@ -32,11 +32,11 @@ with_last e entrants = if ends_with entrants e.number then entrants else entrant
 abbrev pub entrant : ℕ → Code → Entrant
 entrant n p = record { number = n; paper = p }
 
--- the list with the candidate as its last, once, where there is such a paper
+-- the same if there is such a paper; otherwise the list unchanged
 abbrev pub with_member : ℕ → Option Code → List Entrant → List Entrant
 with_member n paper entrants = option_map_or (λ p. with_last (entrant n p) entrants) paper entrants
 
--- the session of the paper, where the entry is live
+-- the session of the paper, if the entry is live
 abbrev pub entered_session : Relations → Code → Entry → Option Code
 entered_session r p entry =
     if entry.live then option_map (λ paper. paper.session) (row_at code_cmp r.papers p) else None
@@ -45,29 +45,29 @@ entered_session r p entry =
 abbrev pub entrants : Relations → Code → List Entrant
 entrants r s = filter_map (λ c. option_map (entrant c) (least_live_paper r s c)) (keys_of r.candidates)
 
--- these are the lists of each session, also of one that does not exist; and they rise
+-- these are the lists of each session, also of one that does not exist; and numbers and codes rise
 pub record AreListsOf (r : Relations) (lists : SessionLists) : Type 0 where
   pub numbers : (s : Code) → map (λ (e : Entrant). e.number) (entrants r s) ≡ members r s
   pub members : (s : Code) → listed lists.members.entries s ≡ entrants r s
   pub halls : (s : Code) → listed lists.halls.entries s ≡ open_halls r s
   pub rising : (s : Code) → ListsRise r s
 
--- ---- one candidate listed anew
+-- ---- one candidate listed again
 
--- The list without the candidate of this number, and with them, between the lesser and the greater numbers,
--- where there is a paper.
+-- The list without the candidate of this number; if there is a paper, then with them between the lesser and the greater
+-- numbers.
 abbrev pub placed : ℕ → Option Code → List Entrant → List Entrant
 placed n paper list =
     filter (λ (e : Entrant). nat_lt e.number n) list
     ++ cons_option (option_map (entrant n) paper) (filter (λ (e : Entrant). nat_lt n e.number) list)
 
--- the paper with which the number is listed: the least live one, where it is that of a candidate
+-- the paper with which the number is listed: the least live one, if the number is a candidate's
 abbrev pub listed_paper : Relations → Code → ℕ → Option Code
 listed_paper r s c = if has_row nat_cmp r.candidates c then least_live_paper r s c else None
 
--- One entry has been set: that of this candidate for some paper of the session. It is new, or stands in the
--- place of the one before. The candidates, the papers and the openings are the same; of the rest nothing is
--- said, since the lists do not show it.
+-- One entry has been set: that of this candidate for some paper of the session. It is new, or it replaces the one
+-- before. The candidates, the papers and the openings are the same. Nothing is said of the rest, since the lists do not
+-- show it.
 pub record SetsEntry (before after : Relations) (s : Code) (c : ℕ) : Type 0 where
   pub paper : Code
   pub entry : Entry
@@ -82,21 +82,21 @@ pub record SetsEntry (before after : Relations) (s : Code) (c : ℕ) : Type 0 wh
 abbrev pub lesser_paper : Code → Code → Code
 lesser_paper p q = if is_lt (code_cmp p q) then p else q
 
--- the paper, or the one that there is already, where that is less
+-- the paper, or the one that there is already, if that is less
 abbrev pub lowered : Code → Option Code → Code
 lowered p least = option_map_or (lesser_paper p) least p
 
--- The list with the candidate of this number before the first greater number: with this paper, or with the one
--- with which they are listed already, where that is less.
+-- The list with the candidate of this number before the first greater number: with this paper, or with the one with
+-- which they are listed already, if that is less.
 abbrev pub entered : ℕ → Code → List Entrant → List Entrant
 entered n p [] = entrant n p ∷ []
 entered n p (e ∷ es) =
     match_ordering (nat_cmp n e.number) (entrant n p ∷ e ∷ es) (entrant n (lesser_paper p e.paper) ∷ es)
     (e ∷ entered n p es)
 
--- The entry of this candidate for this paper, which is one of the session, has been made live. It is new, or
--- stands in the place of the one before, which may have been live. The candidates, the papers and the openings
--- are the same; of the rest nothing is said, since the lists do not show it.
+-- The entry of this candidate for this paper, which is one of the session, has been made live. It is new, or it
+-- replaces the one before, which may have been live. The candidates, the papers and the openings are the same. Nothing
+-- is said of the rest, since the lists do not show it.
 pub record MakesLive (before after : Relations) (s : Code) (c : ℕ) (p : Code) : Type 0 where
   pub of_session : is_paper_of before s p ≡ true
   pub candidate : has_row nat_cmp before.candidates c ≡ true

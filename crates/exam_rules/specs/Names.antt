@@ -10,7 +10,7 @@ use Rattle.exam_rules.specs.Relations.{Code, Relations, code_cmp, same_code}
 use Rattle.exam_rules.specs.Sessions.{members}
 use Rattle.exam_rules.specs.Seatings.{open_halls, seating, indexed_seating}
 
--- the place, counted from n, of the first that passes
+-- the place, counted from n, of the first element that passes
 abbrev pub first_place : {A : Type 0} → (A → Bool) → ℕ → List A → Option ℕ
 first_place p n [] = None
 first_place p n (x ∷ xs) = if p x then Some n else first_place p (n + 1) xs
@@ -42,7 +42,7 @@ naming r s = record {
 abbrev pub named_plan : Relations → Code → Plan ℕ ℕ → Plan ℕ Code
 named_plan r s = plans.named_plan (naming r s)
 
--- a plan by numbers and codes, read by indices: where the i-th member sits, and nobody under another index
+-- a plan by numbers and codes, read by indices: the i-th member sits in their hall, and no other index has one
 abbrev pub indexed_plan : Relations → Code → Plan ℕ Code → Plan ℕ ℕ
 indexed_plan r s = plans.indexed_plan (naming r s)
 
@@ -50,11 +50,11 @@ indexed_plan r s = plans.indexed_plan (naming r s)
 abbrev pub named_chain : Relations → Code → Chain ℕ ℕ → Chain ℕ Code
 named_chain r s = plans.named_chain (naming r s)
 
--- the plan by indices seats in halls that are there
+-- the plan by indices seats candidates only in halls that exist
 abbrev pub SeatsInOpenHalls : Relations → Code → Plan ℕ ℕ → Type 0
 SeatsInOpenHalls r s p = (i : ℕ) → IfSome (p i) (λ j. j < length (open_halls r s))
 
--- Numbers and codes rise. It holds of the facts, whose tables are in order.
+-- Numbers and codes rise. This holds for the facts, whose tables are in order.
 pub record ListsRise (r : Relations) (s : Code) : Type 0 where
   pub numbers : IsStrictlySortedBy nat_cmp (members r s)
   pub codes : IsStrictlySortedBy code_cmp (open_halls r s)

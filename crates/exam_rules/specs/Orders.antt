@@ -6,7 +6,7 @@ use Rattle.std.specs.Map.{keys_of}
 use Rattle.std.specs.Ordering.{nat_cmp}
 use Rattle.exam_rules.specs.Relations.{Relations, code_cmp, opening_cmp, entry_cmp, appeal_cmp}
 
--- each key is below those after it, so that none comes twice
+-- each key is below those after it, so no key comes twice
 abbrev pub KeysRise : {K X : Type 0} → (K → K → Ordering) → List (K × X) → Type 0
 KeysRise cmp rows = IsStrictlySortedBy cmp (keys_of rows)
 

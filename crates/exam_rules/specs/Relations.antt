@@ -1,5 +1,5 @@
--- The facts as relations: of each table the rows with their keys, in the order of the keys, which are
--- distinct. And the words for looking a row up and for changing one.
+-- The facts as relations: of each table the rows with their keys, in the order of the keys, which are distinct; and the
+-- words for looking up a row and for changing one.
 use Rattle.std.specs.Prelude.{ℕ, ◌==◌, Bool, List, [], ◌∷◌, Option, is_some, nat_eq, if◌then◌else◌}
 use Rattle.std.specs.declared.cmp.Ordering.{Ordering}
 use Rattle.std.specs.Ordering.{nat_cmp, ordering_then}
@@ -51,10 +51,10 @@ pub record Relations : Type 0 where
   pub entries : List ((ℕ × Code) × Entry)
   pub arrangements : List (ℕ × Arrangement)
   pub appeals : List ((ℕ × Code) × Appeal)
-  -- the marks: the keys of appeals whose grant stands for later sessions
+  -- the marks: the keys of appeals whose grant also holds for later sessions
   pub standing : List ((ℕ × Code) × Unit {0})
 
--- what the maps of the code stand for
+-- what the maps of the code represent
 abbrev pub relations_of : Facts → Relations
 relations_of f = record {
   sessions = f.sessions.entries;
@@ -90,7 +90,7 @@ module _ {K X : Type 0} (cmp : K → K → Ordering) where
   abbrev pub has_row : List (K × X) → K → Bool
   has_row rows k = is_some (row_at rows k)
 
-  -- with this row at the key, in place of the one that it had, if any
+  -- with this row at the key, in place of the row that was there, if any
   abbrev pub put_row : List (K × X) → K → X → List (K × X)
   put_row rows k x = insert_entry cmp rows k x
 

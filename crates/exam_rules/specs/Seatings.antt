@@ -52,8 +52,8 @@ opened_room r s h =
     option_and_then (λ hall. option_map (room_of hall) (row_at opening_cmp r.openings (s, h)))
     (row_at code_cmp r.halls h)
 
--- The room has the features that are needed and required, is open long enough, and where it is reserved, the
--- member has needs or extra time.
+-- The room has the features that are needed and required, and is open long enough; if it is reserved, the member has
+-- needs or extra time.
 abbrev pub suits : Terms → Room → Bool
 suits terms room =
     (holds_features room.features terms.needs && holds_features room.features terms.required)
@@ -64,16 +64,15 @@ suits_opened (Some terms) (Some room) = suits terms room
 suits_opened None room = false
 suits_opened (Some terms) None = false
 
--- The hall fits the member: it is opened for the session and suits the member, and no granted appeal of the
--- member for the session bars it. A number that is no candidate's counts as if it were: plans seat members
--- alone.
+-- The hall fits the member: it is opened for the session and suits the member, and no granted appeal of the member for
+-- the session bars it. Does not ask whether the number is a candidate's; plans seat only members.
 abbrev pub fits : Relations → Code → ℕ → Code → Bool
 fits r s c h =
     has_live_entry r s c
     && (suits_opened (sitting_terms r s c) (opened_room r s h)
     && not (list_any (same_code h) (barred_halls r s c)))
 
--- the desks of the hall in the session, none where it is not opened
+-- the desks of the hall in the session; 0 if it is not opened
 abbrev pub desks : Relations → Code → Code → ℕ
 desks r s h = option_map_or (λ opening. opening.desks) (row_at opening_cmp r.openings (s, h)) 0
 
@@ -133,15 +132,15 @@ problem_of r s = record {
 abbrev pub indexed_seating : Relations → Code → Seating ℕ ℕ
 indexed_seating r s = seating_of (problem_of r s)
 
--- more members, or more open halls, than any session may have
+-- there are more members, or more open halls, than any session may have
 abbrev pub IsTooLarge : Relations → Code → Type 0
 IsTooLarge r s = (most_members < length (members r s)) ⊎ (most_halls < length (open_halls r s))
 
--- refused as every call on a session, or for more members or open halls than any session may have
+-- the refusals of every call on a session, and that for more members or open halls than any session may have
 abbrev pub IsProblemRefusal : Relations → Code → Refusal → Type 0
 IsProblemRefusal r s e = IsSessionRefusal r s e ⊎ ((e ≡ TooMany) × IsTooLarge r s)
 
--- ---- of the code
+-- ---- definitions that only the code uses
 
 -- halls with their rooms
 abbrev pub with_rooms : Relations → Code → List Code → List (Code × Option Room)
@@ -151,6 +150,6 @@ with_rooms r s halls = map (λ h. (h, opened_room r s h)) halls
 abbrev pub is_suiting : Option Terms → List Code → Code × Option Room → Bool
 is_suiting terms barred hall = suits_opened terms hall.1 && not (list_any (same_code hall.0) barred)
 
--- of each key how many keys are less
+-- for each key, how many keys are less
 abbrev pub ranks_of : List (Option Code × ℕ) → List ℕ
 ranks_of keys = map (λ k. count_by (λ other. is_lt (desk_cmp other k)) keys) keys

@@ -26,7 +26,7 @@ abbrev pub head_of : {A : Type 0} → List A → Option A
 head_of [] = None
 head_of (x ∷ xs) = Some x
 
--- the value, where it passes
+-- the value, if it passes
 abbrev pub option_filter : {A : Type 0} → (A → Bool) → Option A → Option A
 option_filter p o = option_and_then (λ x. if p x then Some x else None) o
 
@@ -39,7 +39,7 @@ is_paper_of r s p = option_map_or (λ paper. same_code paper.session s) (row_at 
 abbrev pub is_live_entry : Relations → Code → ℕ → (ℕ × Code) × Entry → Bool
 is_live_entry r s c e = (e.0.0 == c) && (e.1.live && is_paper_of r s e.0.1)
 
--- the papers of these entries that are such, codes rising
+-- the papers of those of these entries that are live and of the session, codes rising
 abbrev pub live_papers_in : Relations → List ((ℕ × Code) × Entry) → Code → ℕ → List Code
 live_papers_in r entries s c = map (λ (e : (ℕ × Code) × Entry). e.0.1) (filter (is_live_entry r s c) entries)
 
@@ -49,7 +49,7 @@ live_papers r s c = live_papers_in r r.entries s c
 abbrev pub is_live : Relations → ℕ → Code → Bool
 is_live r c p = option_map_or (λ entry. entry.live) (row_at entry_cmp r.entries (c, p)) false
 
--- the paper is one of these
+-- the paper is one of the live papers
 abbrev pub is_live_paper : Relations → Code → ℕ → Code → Bool
 is_live_paper r s c p = is_live r c p && is_paper_of r s p
 
@@ -127,8 +127,8 @@ barred_halls r s c = barred_halls_in r.appeals s c
 abbrev pub least_live_paper : Relations → Code → ℕ → Option Code
 least_live_paper r s c = head_of (live_papers r s c)
 
--- the paper of the granted clash appeal, where it is live, or else the least live paper; also of a number
--- that is no candidate's, as if it were
+-- the paper of the granted clash appeal if it is live, or else the least live paper; does not ask whether the number is
+-- a candidate's
 abbrev pub sitting : Relations → Code → ℕ → Option Code
 sitting r s c = option_or (option_filter (is_live_paper r s c) (granted_paper r s c)) (least_live_paper r s c)
 
@@ -155,7 +155,7 @@ no_arrangement = record { needs = no_features; extra = 0 }
 abbrev pub session_day : Relations → Code → Option ℕ
 session_day r s = option_map (λ (session : Session). session.day) (row_at code_cmp r.sessions s)
 
--- the appeal bears the mark by which its grant stands for later sessions
+-- the appeal bears the mark by which its grant also holds for later sessions
 abbrev pub is_marked : Relations → ℕ × Code → Bool
 is_marked r key = has_row appeal_cmp r.standing key
 
@@ -189,7 +189,7 @@ abbrev pub later_of : Option StandingGrant → StandingGrant → Option Standing
 later_of None b = Some b
 later_of (Some a) b = Some (if is_lt (standing_cmp a b) then b else a)
 
--- of those whose date is not later than the day the last
+-- the last of those whose date is not later than the day
 abbrev pub last_until : ℕ → List StandingGrant → Option StandingGrant
 last_until day grants = fold later_of None (filter (λ grant. nat_le grant.day day) grants)
 
@@ -198,7 +198,7 @@ abbrev pub standing_arrangement : Option ℕ → List StandingGrant → Option A
 standing_arrangement date grants =
     option_and_then (λ day. option_map (λ grant. grant.arrangement) (last_until day grants)) date
 
--- The one granted for the session, or else that of a standing grant, or else the imported one, or else none.
+-- The arrangement granted for the session, or else that of a standing grant, or else the imported one, or else none.
 abbrev pub arrangement_by : Option Arrangement → Option ℕ → List StandingGrant → Option Arrangement → Arrangement
 arrangement_by granted date grants imported =
     unwrap_or (option_or granted (option_or (standing_arrangement date grants) imported)) no_arrangement
@@ -220,8 +220,8 @@ end_of session paper arrangement =
 abbrev pub sitting_row : Relations → Code → ℕ → Option Paper
 sitting_row r s c = option_and_then (row_at code_cmp r.papers) (sitting r s c)
 
--- the minute of the day at which a member ends: in the session, sitting their paper, under the arrangement in
--- force; also of a number that is no candidate's, as if it were
+-- the minute of the day at which a member ends: in the session, sitting their paper, under the arrangement in force;
+-- does not ask whether the number is a candidate's
 abbrev pub finish : Relations → Code → ℕ → Option ℕ
 finish r s c =
     option_and_then (λ session.
@@ -230,7 +230,7 @@ finish r s c =
 
 -- ---- refusals
 
--- refused where there is no such session, and otherwise only for want of memory
+-- refused if there is no such session, and otherwise only if memory runs out
 abbrev pub IsSessionRefusal : Relations → Code → Refusal → Type 0
 IsSessionRefusal r s e =
     ((e ≡ UnknownSession) × (has_row code_cmp r.sessions s ≡ false))

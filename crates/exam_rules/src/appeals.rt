@@ -21,7 +21,7 @@ fn least_reference() -> Reference
     Reference::parse(b"0").unwrap()
 }
 
-/// No appeal of the candidate stands before the least key. For the proof of `appeals_from` alone.
+/// The candidate has no appeal before the least key. Only the proof of `appeals_from` uses it.
 fn no_appeal_before(facts: &Facts, number: Number, least: Reference)
     requires { least ≡ codes "0" }
     ensures { filter (is_row_of number)
@@ -29,7 +29,7 @@ fn no_appeal_before(facts: &Facts, number: Number, least: Reference)
 {
     match facts.appeals.range(..(number, least)).next_back() {
         Some((key, _)) => {
-            // What a reference is made of shows that none is less, so the row before is of another candidate.
+            // Reading the bytes shows that no reference is less, so the row before is another candidate's.
             let _reference = key.1.as_bytes();
         }
         None => {}
@@ -38,7 +38,7 @@ fn no_appeal_before(facts: &Facts, number: Number, least: Reference)
 
 /// The appeals from the candidate's first on; those of later numbers follow.
 pub fn appeals_from<'a>(facts: &'a Facts, number: Number) -> Range<'a, (Number, Reference), Appeal>
-    // The rows that stand together are all of the candidate's.
+    // The leading rows with this number are all of the candidate's.
     ensures rows { leading (is_row_of number) result ≡ filter (is_row_of number) facts.now.appeals.entries }
     ensures granted { (s : Code)
         → spec.granted_subjects (leading (is_row_of number) result) s number
@@ -49,7 +49,7 @@ pub fn appeals_from<'a>(facts: &'a Facts, number: Number) -> Range<'a, (Number, 
     facts.appeals.range((number, least)..)
 }
 
-/// Whether the candidate has at most so many appeals.
+/// Whether the candidate has at most `most` appeals.
 pub fn has_at_most(facts: &Facts, number: Number, most: usize) -> bool
     ensures { result ≡ nat_le (spec.appeal_count (relations_of facts.now) number) most }
 {
@@ -78,7 +78,7 @@ fn is_granted_for(appeal: &Appeal, session: &SessionCode) -> bool
     appeal.session == *session && is_granted(&appeal.status)
 }
 
-/// What `wanted` makes of the first granted appeal of which it makes something.
+/// The first value that `wanted` makes of a granted appeal.
 fn first_granted<T, F: Fn(Subject) -> Option<T>>(
     facts: &Facts,
     session: &SessionCode,
@@ -103,7 +103,7 @@ fn first_granted<T, F: Fn(Subject) -> Option<T>>(
     None
 }
 
-/// The paper of the granted clash appeal.
+/// The paper of the granted clash appeal, or none.
 pub fn granted_paper(facts: &Facts, session: &SessionCode, number: Number) -> Option<PaperCode>
     ensures { result ≡ spec.granted_paper (relations_of facts.now) session.now number }
 {
@@ -113,7 +113,7 @@ pub fn granted_paper(facts: &Facts, session: &SessionCode, number: Number) -> Op
     })
 }
 
-/// The arrangement of the granted arrangement appeal.
+/// The arrangement of the granted arrangement appeal, or none.
 pub fn granted_arrangement(
     facts: &Facts,
     session: &SessionCode,
@@ -127,7 +127,7 @@ pub fn granted_arrangement(
     })
 }
 
-/// The hall, where an appeal asks for another than it.
+/// The hall, if the appeal asks for another one than it.
 fn barred_by(hall: &HallCode, subject: Subject) -> Option<HallCode>
     ensures { result ≡ granted.barred_by hall.now subject }
 {

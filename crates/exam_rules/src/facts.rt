@@ -19,7 +19,7 @@ pub struct Facts {
     pub entries: BTreeMap<(Number, PaperCode), Entry>,
     pub arrangements: BTreeMap<Number, Arrangement>,
     pub appeals: BTreeMap<(Number, Reference), Appeal>,
-    /// The marks: the keys of appeals whose grant stands for later sessions.
+    /// The marks: the keys of appeals whose grant also holds for later sessions.
     pub standing: BTreeMap<(Number, Reference), ()>,
 }
 
@@ -41,11 +41,11 @@ impl Facts {
         }
     }
 
-    /// The keys of every table rise. Does nothing: it is for proofs alone.
+    /// The keys of every table rise. Does nothing at run time; only proofs use it.
     pub fn show_order(&self)
         ensures { AreInOrder (relations_of self.now) }
     {
-        // The length of a map tells that its keys rise.
+        // The contract of `len` says that a map's keys rise.
         let _ = self.sessions.len();
         let _ = self.papers.len();
         let _ = self.halls.len();

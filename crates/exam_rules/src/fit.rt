@@ -24,7 +24,7 @@ pub struct Terms {
     end: Minute,
     needs: Features,
     required: Features,
-    /// They have needs or extra time.
+    /// Whether they have needs or extra time.
     special: bool,
 }
 
@@ -36,7 +36,8 @@ pub struct Room {
     reserved: bool,
 }
 
-/// When a member ends who sits the paper under the arrangement; a part of a minute counts as a whole one.
+/// When a member ends who sits the paper under the arrangement, in minutes from the start of the day. A part of a
+/// minute counts as a whole one.
 fn end_of(session: &Session, paper: &Paper, arrangement: &Arrangement) -> u16
     ensures value { result ≡ spec.end_of session.now paper.now arrangement.now }
     ensures bound { result ≤ 2639 }
@@ -69,7 +70,7 @@ fn terms_of(session: &Session, paper: &Paper, arrangement: &Arrangement) -> Term
     }
 }
 
-/// The row of the paper that is sat, if one is.
+/// The row of the paper that is sat, or none if none is.
 fn sitting_row(facts: &Facts, sat: Option<PaperCode>) -> Option<&Paper>
     ensures { option_map (λ paper. paper.now) result
         ≡ option_and_then (row_at code_cmp facts.now.papers.entries) sat }
@@ -80,7 +81,7 @@ fn sitting_row(facts: &Facts, sat: Option<PaperCode>) -> Option<&Paper>
     }
 }
 
-/// How the member sits in the session, where this is their sitting paper.
+/// How the member sits in the session if this is their sitting paper.
 fn sitting_terms(
     facts: &Facts,
     session: &SessionCode,
@@ -141,8 +142,8 @@ fn suits_opened(terms: &Option<Terms>, room: &Option<Room>) -> bool
     }
 }
 
-/// When the member ends, or none for a number without a live entry for a paper of the session. It may be past
-/// midnight. A number of entries that is no candidate's, which no office has, counts as if it were.
+/// When the member ends, or none for a number without a live entry for a paper of the session. It may be past midnight.
+/// Does not check that the candidate exists; in an office every entry has one.
 pub fn finish(facts: &Facts, session: &SessionCode, number: Number) -> Option<Minute>
     ensures { result ≡ spec.finish (relations_of facts.now) session.now number }
 {
@@ -156,9 +157,8 @@ pub fn finish(facts: &Facts, session: &SessionCode, number: Number) -> Option<Mi
     Some(end_minute(row, paper, &arrangement))
 }
 
-/// Whether the hall is opened for the session and fits the member. It fits no number without a live entry for
-/// a paper of the session. A number of entries that is no candidate's, which no office has, counts as if it
-/// were.
+/// Whether the hall is opened for the session and fits the member. No hall fits a number without a live entry for a
+/// paper of the session. Does not check that the candidate exists; in an office every entry has one.
 pub fn fits(facts: &Facts, session: &SessionCode, number: Number, hall: &HallCode) -> bool
     ensures { result ≡ seatings.fits (relations_of facts.now) session.now number hall.now }
 {
@@ -202,8 +202,7 @@ fn is_listed(codes: &[HallCode], hall: &HallCode) -> bool
     codes.iter().any(|code| *hall == *code)
 }
 
-/// The places of the halls that fit the candidate, whose sitting paper this is, among the halls with their
-/// rooms.
+/// The places of the halls that fit the candidate, who sits this paper, among the halls with their rooms.
 pub fn fitting_places(
     alloc: Global,
     facts: &Facts,
@@ -222,7 +221,7 @@ pub fn fitting_places(
     ensures exist { IfOk result (λ places. (h : ℕ) → IsTrue (holds places h) → h < length halls.now) }
     ensures memory { IfErr result (λ e. e ≡ NoMemory) }
 {
-    // Who sits no paper is no member.
+    // A candidate who sits no paper is no member.
     if sat.is_none() {
         return Ok(HallSet::empty());
     }

@@ -1,5 +1,4 @@
-//! What is so by indices is so by numbers and codes, where numbers and codes rise; they do in any facts
-//! (`lists_rise`).
+//! What holds for indices holds for numbers and codes, because both are sorted in any facts (`lists_rise`).
 ghost use Rattle.std.specs.Prelude.{◌≡◌, ◌↔◌, ◌<◌, ◌≤◌, ℕ, List, Option, None, Some, length, map};
 ghost use Rattle.std.specs.Prelude.{slice_index_or};
 ghost use Rattle.std.specs.Option.{option_map, option_and_then};
@@ -15,15 +14,14 @@ ghost use Rattle.exam_rules.specs.Orders.{AreInOrder};
 ghost use Rattle.exam_rules.specs.Names.{ListsRise, SeatsInOpenHalls, named_plan, indexed_plan, named_chain};
 ghost use Rattle.exam_rules.specs.Names.{index_of, hall_index, number_at, hall_at};
 
-/// Where the tables are in order, numbers and codes rise. `Facts::show_order` tells that they are, of any
-/// facts.
+/// If the tables are in order, numbers and codes rise. `Facts::show_order` shows that the tables of any facts are.
 pub fn lists_rise()
     ensures { (r : Relations) (s : Code) → AreInOrder r → ListsRise r s }
 {}
 
-/// A lawful plan of the problem seats in open halls alone. Read by numbers and codes it is a lawful plan of
-/// the session that seats as many, a best one is a best one, and the unseated are the same. Read by indices
-/// again it is the same plan.
+/// A lawful plan of the problem seats candidates only in open halls. Read by numbers and codes it is a lawful plan of
+/// the session that seats as many, a best one is a best one, and the unseated are the same. Read by indices again it is
+/// the same plan.
 pub fn plans_carry_over()
     ensures lawful { (r : Relations) (s : Code) (p : Plan ℕ ℕ) → ListsRise r s
         → IsLawful (indexed_seating r s) p → IsLawful (seating r s) (named_plan r s p) }
@@ -52,8 +50,8 @@ pub fn plans_come_back()
         → SamePlan (named_plan r s (indexed_plan r s q)) q }
 {}
 
-/// A list that has, at each member's place, the place of their hall or none is the session's plan by indices;
-/// and at each member's number a plan by indices seats them where it does at their place.
+/// A list that has, at each member's place, the place of their hall or none is the session's plan by indices. A plan by
+/// indices, read by numbers, seats each member in the hall in which it seats their index.
 pub fn lists_are_plans()
     ensures read { (r : Relations) (s : Code) (q : Plan ℕ Code) (halls : List (Option ℕ)) → ListsRise r s
         → length halls ≡ length (members r s)
@@ -70,7 +68,7 @@ pub fn contested_carry_over()
         → IsContested (seating r s) c ↔ IsContested (indexed_seating r s) i }
 {}
 
-/// A certificate of the problem is, by numbers and codes, one of the session.
+/// By numbers and codes, a certificate of the problem is one of the session.
 pub fn certificates_carry_over()
     ensures { (r : Relations) (s : Code) (p : Plan ℕ ℕ) (candidates halls : List ℕ) → ListsRise r s
         → IsCertificate (indexed_seating r s) p candidates halls
@@ -86,7 +84,8 @@ pub fn desk_numbers_carry_over()
         ≡ desk_number (indexed_seating r s) (ranks_before (problem_of r s)) p i }
 {}
 
-/// Whoever a lawful plan seats has a desk number of at most the hall's desks, and two of one hall have two.
+/// The desk number of a seated candidate is at most the number of desks of the hall, and two candidates in a hall have
+/// different ones.
 /// Within the limits of an office no session has more than 4,096 members.
 pub fn desks_are_of_their_own()
     ensures within { (r : Relations) (s : Code) (q : Plan ℕ Code) (c n : ℕ) (h : Code) → ListsRise r s
@@ -99,8 +98,8 @@ pub fn desks_are_of_their_own()
         → c ≡ d }
 {}
 
-/// An augmenting chain of the problem is, by numbers and codes, one of the session, a least one is a least
-/// one, and the plans that they lead to are the same.
+/// By numbers and codes, an augmenting chain of the problem is one of the session, a least one is a least one, and the
+/// plans that they lead to are the same.
 pub fn chains_carry_over()
     ensures chain { (r : Relations) (s : Code) (p : Plan ℕ ℕ) (i : ℕ) (chain : Chain ℕ ℕ) → ListsRise r s
         → SeatsInOpenHalls r s p → IsChain (indexed_seating r s) p i chain
@@ -115,8 +114,7 @@ pub fn chains_carry_over()
         (named_chain r s chain).hops (hall_at r s chain.last)) }
 {}
 
-/// An augmenting chain of the session from a member is one of the problem, by indices, and a least one is a
-/// least one.
+/// By indices, an augmenting chain of the session from a member is one of the problem, and a least one is a least one.
 pub fn chains_come_back()
     ensures chain { (r : Relations) (s : Code) (p : Plan ℕ ℕ) (c i : ℕ) (chain : Chain ℕ Code) → ListsRise r s
         → SeatsInOpenHalls r s p → index_of r s c ≡ Some i → IsChain (seating r s) (named_plan r s p) c chain
@@ -129,8 +127,8 @@ pub fn chains_come_back()
         × (named_chain r s indices ≡ chain) × IsLeastChain (indexed_seating r s) p i indices }
 {}
 
-/// What stays of any plan of the session, also of one from before the facts changed, is what stays of it by
-/// indices, and is lawful.
+/// The part that stays of any plan of the session, also of one from before the facts changed, is the part that stays of
+/// it by indices, and it is lawful.
 pub fn kept_parts_carry_over()
     ensures named { (r : Relations) (s : Code) (q : Plan ℕ Code) → ListsRise r s
         → SamePlan (kept_part (seating r s) q)
@@ -142,8 +140,8 @@ pub fn kept_parts_carry_over()
         → IsLawful (seating r s) (kept_part (seating r s) q) }
 {}
 
-/// A sweep of the problem is, by numbers and codes, a sweep of the session. Its first is the index of the
-/// session's first, or nobody where that is no member.
+/// By numbers and codes, a sweep of the problem is a sweep of the session. It begins with the index of the session's
+/// first candidate, or with nobody if they are no member.
 pub fn sweeps_carry_over()
     ensures { (r : Relations) (s : Code) (first : Option ℕ) (p after : Plan ℕ ℕ) → ListsRise r s
         → SeatsInOpenHalls r s p
@@ -151,7 +149,7 @@ pub fn sweeps_carry_over()
         → IsSweep (seating r s) first (named_plan r s p) (named_plan r s after) }
 {}
 
-/// The repair, by indices, of any plan of the session is its repair in the session.
+/// The repair by indices of any plan of the session is its repair in the session.
 pub fn repairs_carry_over()
     ensures { (r : Relations) (s : Code) (first : Option ℕ) (before : Plan ℕ Code) (after : Plan ℕ ℕ)
         → ListsRise r s
@@ -160,7 +158,7 @@ pub fn repairs_carry_over()
         → IsRepair (seating r s) first before (named_plan r s after) }
 {}
 
-/// A sweep of the session is, by indices, a sweep of the problem.
+/// By indices, a sweep of the session is a sweep of the problem.
 pub fn sweeps_come_back()
     ensures { (r : Relations) (s : Code) (first : Option ℕ) (p : Plan ℕ ℕ) (after : Plan ℕ Code)
         → ListsRise r s → SeatsInOpenHalls r s p → IsSweep (seating r s) first (named_plan r s p) after
@@ -169,7 +167,7 @@ pub fn sweeps_come_back()
         × SamePlan after (named_plan r s indices) }
 {}
 
-/// A repair in the session is, by indices, a repair of the problem.
+/// By indices, a repair in the session is a repair of the problem.
 pub fn repairs_come_back()
     ensures { (r : Relations) (s : Code) (first : Option ℕ) (before after : Plan ℕ Code) → ListsRise r s
         → IsRepair (seating r s) first before after

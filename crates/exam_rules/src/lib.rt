@@ -13,7 +13,7 @@ mod sessions;
 mod standing;
 
 pub use appeals::{appeals_from, has_at_most};
-pub use clashing::clashes_among;
+pub use clashing::{clashes, clashes_among};
 pub use facts::Facts;
 pub use fit::{finish, fits};
 pub use laws::{
@@ -26,9 +26,8 @@ pub use lists::{BySession, Entrant, SessionLists, entered_session, session_lists
 pub use rows::{
     Appeal, Arrangement, Candidate, Entry, Hall, Opening, Paper, Session, Status, Subject,
 };
-pub use seating::{ListedProblem, indexed_problem, listed_problem, open_halls, problem};
+pub use seating::{ListedProblem, indexed_problem, problem};
 pub use sessions::{
-    arrangement_in_force, clashes, entries_from, is_clash, is_live_paper, is_member, is_paper_of,
-    members, sitting,
+    arrangement_in_force, entries_from, is_clash, is_live_paper, is_member, is_paper_of, sitting,
 };
 pub use standing::is_standing;

@@ -1,7 +1,7 @@
 //! The members and the open halls of all sessions, listed in one walk over the facts.
 ghost use Rattle.std.specs.Prelude.{◌≡◌, ◌≢◌, ◌<◌, ◌≤◌, ◌++◌, ◌∷◌, [], length, All, Contains, IsNone, IfSome, IfOk};
 ghost use Rattle.std.specs.Prelude.{IfErr, OnOk, OnErr, IsTrue, true, false, filter, nat_eq, nat_lt, slice_index_or};
-ghost use Rattle.std.specs.Prelude.{slice_set, if◌then◌else◌};
+ghost use Rattle.std.specs.Prelude.{map, slice_set, if◌then◌else◌};
 ghost use Rattle.std.specs.List.Sorted.{IsStrictlySortedBy, IsNonDecreasingBy, IsPartitionPoint};
 ghost use Rattle.std.specs.Ordering.{nat_cmp};
 ghost use Rattle.exam_types.specs.declared.refusal.Refusal.TheVariants.{NoMemory};
@@ -20,7 +20,7 @@ use std::alloc::Global;
 use std::collections::BTreeMap;
 use std::mem::replace;
 
-/// Of each session a list, which is empty where the map has none.
+/// A list for each session; it is empty if the map has none.
 pub type BySession<T> = BTreeMap<SessionCode, Vec<T>>;
 
 /// A member of a session, with the least of their live papers for it.
@@ -81,7 +81,7 @@ fn listed<'a, T: Copy>(lists: &'a BySession<T>, session: &SessionCode) -> &'a [T
     }
 }
 
-/// Whether the number is that of the last of the list.
+/// Whether the last entrant has this number.
 fn ends_with(entrants: &[Entrant], number: Number) -> bool
     ensures { result ≡ listing.ends_with entrants.now number }
 {
@@ -91,7 +91,7 @@ fn ends_with(entrants: &[Entrant], number: Number) -> bool
     }
 }
 
-/// Appends the entrant, where the last is not the same candidate.
+/// Appends the entrant, unless the last is the same candidate.
 fn push_last(list: &mut Vec<Entrant>, entrant: Entrant) -> Result<(), Refusal>
     ensures ok { OnOk result (list.new.items ≡ listing.with_last entrant list.old.items) }
     ensures memory { IfErr result (λ e. e ≡ NoMemory) }
@@ -102,7 +102,7 @@ fn push_last(list: &mut Vec<Entrant>, entrant: Entrant) -> Result<(), Refusal>
     Ok(())
 }
 
-/// Appends the entrant to the session's list, where its last is not the same candidate.
+/// Appends the entrant to the session's list, unless its last is the same candidate.
 fn append_last(
     alloc: Global,
     members: &mut BySession<Entrant>,
@@ -124,7 +124,7 @@ fn append_last(
     }
 }
 
-/// The session for which a live entry counts.
+/// The session for which the entry counts, if it is live.
 pub fn entered_session(facts: &Facts, paper: &PaperCode, entry: &Entry) -> Option<SessionCode>
     ensures { result ≡ listing.entered_session (relations_of facts.now) paper.now entry.now }
 {
@@ -159,7 +159,7 @@ fn append_member(
     Ok(())
 }
 
-/// Of each session its members, numbers rising, each with the least of their live papers.
+/// The members of each session, numbers rising, each with the least of their live papers.
 fn members_by_session(alloc: Global, facts: &Facts) -> Result<BySession<Entrant>, Refusal>
     ensures ok { IfOk result (λ members. (s : Code) → listing.listed members.entries s
         ≡ listing.entrants (relations_of facts.now) s) }
@@ -174,7 +174,7 @@ fn members_by_session(alloc: Global, facts: &Facts) -> Result<BySession<Entrant>
     Ok(members)
 }
 
-/// Of each session the halls opened for it, codes rising.
+/// The halls opened for each session, codes rising.
 fn halls_by_session(alloc: Global, facts: &Facts) -> Result<BySession<HallCode>, Refusal>
     ensures ok { IfOk result (λ halls. (s : Code) → listing.listed halls.entries s
         ≡ seatings.open_halls (relations_of facts.now) s) }
@@ -200,8 +200,36 @@ pub fn session_lists(alloc: Global, facts: &Facts) -> Result<SessionLists, Refus
     })
 }
 
-/// The paper with which the number is to be listed: the least live one in the session, where it is that of a
-/// candidate.
+/// The members and the open halls of all sessions. Refused if this session is none of them, or if memory runs out.
+pub fn lists_with(
+    alloc: Global,
+    facts: &Facts,
+    session: &SessionCode,
+) -> Result<SessionLists, Refusal>
+    ensures ok { IfOk result (λ lists. listing.AreListsOf (relations_of facts.now) lists) }
+    ensures known { OnOk result (IsTrue (has_row code_cmp facts.now.sessions.entries session.now)) }
+    ensures refusal { IfErr result (spec.IsSessionRefusal (relations_of facts.now) session.now) }
+{
+    if !facts.sessions.contains_key(session) {
+        return Err(Refusal::UnknownSession);
+    }
+    session_lists(alloc, facts)
+}
+
+/// Which candidates these are.
+pub fn numbers_of(alloc: Global, entrants: &[Entrant]) -> Result<Vec<Number>, Refusal>
+    ensures ok { IfOk result (λ numbers. numbers.items
+        ≡ map (λ (entrant : Entrant). entrant.number) entrants.now) }
+    ensures memory { IfErr result (λ e. e ≡ NoMemory) }
+{
+    let numbers = entrants
+        .iter()
+        .map(|entrant| entrant.number)
+        .collect(alloc)?;
+    Ok(numbers)
+}
+
+/// The paper with which to list the number: the least live one in the session, or none if the number is no candidate's.
 fn listed_paper(facts: &Facts, session: &SessionCode, number: Number) -> Option<PaperCode>
     ensures { result ≡ listing.listed_paper (relations_of facts.now) session.now number }
 {
@@ -212,7 +240,7 @@ fn listed_paper(facts: &Facts, session: &SessionCode, number: Number) -> Option<
     }
 }
 
-/// The entrants of lesser numbers.
+/// The entrants with lesser numbers.
 fn lesser(alloc: Global, entrants: &[Entrant], number: Number) -> Result<Vec<Entrant>, Refusal>
     ensures ok { IfOk result (λ list. list.items
         ≡ filter (λ (e : Entrant). nat_lt e.number number) entrants.now) }
@@ -226,7 +254,7 @@ fn lesser(alloc: Global, entrants: &[Entrant], number: Number) -> Result<Vec<Ent
     Ok(list)
 }
 
-/// Appends the entrants of greater numbers.
+/// Appends the entrants with greater numbers.
 fn push_greater(
     list: &mut Vec<Entrant>,
     entrants: &[Entrant],
@@ -244,7 +272,7 @@ fn push_greater(
     Ok(())
 }
 
-/// The list made anew, with the candidate in their place, where there is a paper, and otherwise without them.
+/// A new list, with the candidate in their place if there is a paper, and otherwise without them.
 fn placed(
     alloc: Global,
     entrants: &[Entrant],
@@ -262,7 +290,7 @@ fn placed(
     Ok(list)
 }
 
-/// Makes sure that the session has a list of its own, which is empty where it had none.
+/// Gives the session an empty list if it has none.
 fn keep_list<T: Copy + Drop>(
     alloc: Global,
     lists: &mut BySession<T>,
@@ -281,7 +309,7 @@ fn keep_list<T: Copy + Drop>(
     Ok(())
 }
 
-/// Puts the list in the place of the session's own, and gives that one. Takes no memory.
+/// Replaces the session's list, and returns the old one. Takes no memory.
 fn exchange<T: Copy + Drop>(lists: &mut BySession<T>, session: &SessionCode, list: Vec<T>) -> Vec<T>
     requires { IsTrue (has_row code_cmp lists.old.entries session.now) }
     ensures old { result.items ≡ listing.listed lists.old.entries session.now }
@@ -314,7 +342,7 @@ fn without_hall(
     Ok(list)
 }
 
-/// The place of the first entrant whose number is no less, where numbers rise.
+/// The place of the first entrant whose number is no less. The numbers must rise.
 fn place_of(entrants: &[Entrant], number: Number) -> usize
     ensures within { result ≤ length entrants.now }
     ensures place { IsNonDecreasingBy (λ (e : Entrant). e.number) entrants.now
@@ -324,7 +352,7 @@ fn place_of(entrants: &[Entrant], number: Number) -> usize
     entrants.partition_point(|entrant| entrant.number < number)
 }
 
-/// The paper of the entrant at the place, where they have this number.
+/// The paper of the entrant at the place, if they have this number.
 fn paper_at(entrants: &[Entrant], place: usize, number: Number) -> Option<PaperCode>
     ensures found { IfSome result (λ paper. (place < length entrants.now)
         × (slice_index_or entrants.now place (listing.entrant number paper) ≡ listing.entrant number paper)) }
@@ -356,8 +384,8 @@ fn put_at(list: &mut Vec<Entrant>, place: usize, entrant: Entrant)
     list[place] = entrant;
 }
 
-/// Puts the candidate in their place, where numbers rise: with this paper, or with the lesser one with which
-/// they stand there already. After a refusal the list is as it was.
+/// Puts the candidate in their place among rising numbers: with this paper, or with the paper with which they are
+/// listed already if that is less. After a refusal the list is as it was.
 fn enter_among(list: &mut Vec<Entrant>, number: Number, paper: PaperCode) -> Result<(), Refusal>
     ensures ok { OnOk result (IsNonDecreasingBy (λ (e : Entrant). e.number) list.old.items
         → list.new.items ≡ listing.entered number paper list.old.items) }
@@ -380,7 +408,7 @@ fn enter_among(list: &mut Vec<Entrant>, number: Number, paper: PaperCode) -> Res
 }
 
 impl SessionLists {
-    /// The lists where there are no facts. Takes no memory.
+    /// The lists of an office without facts. Takes no memory.
     pub fn empty(alloc: Global) -> Self
         ensures { listing.AreListsOf no_relations result }
     {
@@ -413,9 +441,9 @@ impl SessionLists {
         listed(&self.halls, session)
     }
 
-    /// Lists the candidate anew among the members of the session, where of what the lists show only an entry of
-    /// theirs for a paper of the session has been set. Gives the list as it was, which `put_members` puts back;
-    /// after a refusal the lists are as they were.
+    /// Lists the candidate again among the members of the session, after one entry of theirs for a paper of the session
+    /// has been set and nothing else that the lists show has changed. Returns the list as it was, which `put_members`
+    /// puts back. After a refusal the lists are as they were.
     pub fn relist(
         &mut self,
         alloc: Global,
@@ -435,7 +463,7 @@ impl SessionLists {
             → listing.listed self.new.members.entries s ≡ listing.listed self.old.members.entries s) }
         ensures memory { IfErr result (λ e. e ≡ NoMemory) }
     {
-        // Candidates in order are members in order.
+        // Because the candidates are in order, so are the members.
         facts.show_order();
         let paper = listed_paper(facts, &session, number);
         let list = placed(alloc, self.members_of(&session), number, paper)?;
@@ -443,7 +471,7 @@ impl SessionLists {
         Ok(exchange(&mut self.members, &session, list))
     }
 
-    /// Makes sure that the session has a list of members, which is empty where it had none.
+    /// Gives the session an empty list of members if it has none.
     pub fn keep_members(&mut self, alloc: Global, session: SessionCode) -> Result<(), Refusal>
         ensures same { (s : Code)
             → listing.listed self.new.members.entries s ≡ listing.listed self.old.members.entries s }
@@ -456,9 +484,9 @@ impl SessionLists {
         keep_list(alloc, &mut self.members, session)
     }
 
-    /// Lists the candidate among the members of the session, where of what the lists show only their entry for
-    /// this paper, which is one of the session, has been made live. Looks at no entry. After a refusal the lists
-    /// are as they were.
+    /// Lists the candidate among the members of the session, after their entry for this paper of the session has been
+    /// made live and nothing else that the lists show has changed. Reads no entry. After a refusal the lists are as
+    /// they were.
     pub fn enter(
         &mut self,
         session: &SessionCode,
@@ -485,7 +513,7 @@ impl SessionLists {
         }
     }
 
-    /// Puts the list in the place of the session's own. Takes no memory.
+    /// Replaces the session's list of members. Takes no memory.
     pub fn put_members(&mut self, session: &SessionCode, list: Vec<Entrant>)
         requires { IsTrue (has_row code_cmp self.old.members.entries session.now) }
         ensures members { (s : Code) → listing.listed self.new.members.entries s
@@ -497,8 +525,8 @@ impl SessionLists {
         let _ = exchange(&mut self.members, session, list);
     }
 
-    /// Lists the halls of the session without this one, whose opening for it has been taken away. Gives the list
-    /// as it was, which `put_halls` puts back; after a refusal the lists are as they were.
+    /// Takes this hall, whose opening for the session has been taken away, out of the session's list. Returns the list
+    /// as it was, which `put_halls` puts back. After a refusal the lists are as they were.
     pub fn close(
         &mut self,
         alloc: Global,
@@ -521,8 +549,8 @@ impl SessionLists {
         Ok(exchange(&mut self.halls, &session, list))
     }
 
-    /// Lists the open halls of all sessions anew, where of what the lists show only openings have changed. Gives the
-    /// lists of halls as they were; after a refusal the lists are as they were.
+    /// Lists the open halls of all sessions again, after openings and nothing else that the lists show have changed.
+    /// Returns the lists of halls as they were. After a refusal the lists are as they were.
     pub fn relist_halls(
         &mut self,
         alloc: Global,
@@ -540,7 +568,7 @@ impl SessionLists {
         Ok(replace(&mut self.halls, halls))
     }
 
-    /// Puts the list in the place of the session's own. Takes no memory.
+    /// Replaces the session's list of halls. Takes no memory.
     pub fn put_halls(&mut self, session: &SessionCode, list: Vec<HallCode>)
         requires { IsTrue (has_row code_cmp self.old.halls.entries session.now) }
         ensures halls { (s : Code) → listing.listed self.new.halls.entries s
@@ -551,8 +579,8 @@ impl SessionLists {
     }
 }
 
-/// The paper that the candidate sits, as `sitting` gives it, where these are the members of the session. Of a
-/// member no entry is looked at.
+/// The paper that the candidate sits, as `sitting` finds it. `entrants` are the members of the session; for a member it
+/// reads no entry.
 pub fn sitting_among(
     facts: &Facts,
     entrants: &[Entrant],
@@ -568,7 +596,7 @@ pub fn sitting_among(
     }
 }
 
-/// The least live paper of the candidate, where they are found among these members, whose numbers rise.
+/// The least live paper of the candidate if they are among these members, whose numbers rise.
 fn paper_among(entrants: &[Entrant], number: Number) -> Option<PaperCode>
     ensures found { IfSome result (λ paper. Contains entrants.now (listing.entrant number paper)) }
     ensures none_only_if_absent { IsNonDecreasingBy (λ (e : Entrant). e.number) entrants.now → IsNone result

@@ -33,7 +33,7 @@ pub struct Hall {
 pub struct Opening {
     pub desks: DeskCount,
     pub until: ClosingTime,
-    /// Only for candidates with needs or extra time.
+    /// Whether it is only for candidates with needs or extra time.
     pub reserved: bool,
 }
 
@@ -55,7 +55,7 @@ pub struct Arrangement {
     pub extra: Extra,
 }
 
-/// What an appeal asks: another hall than this one, to sit this paper, or these needs and extra time.
+/// What an appeal asks for: another hall than this one, to sit this paper, or these needs and extra time.
 #[derive(Clone, Copy, PartialEq, Eq)]
 pub enum Subject {
     Hall(HallCode),
@@ -63,7 +63,7 @@ pub enum Subject {
     Arrangement(Arrangement),
 }
 
-/// Where an appeal stands, with the reason of its decision where there was one. `Pending` is printed `open`.
+/// The state of an appeal, with the reason of its decision once it is decided. `Pending` is printed `open`.
 #[derive(Clone, PartialEq, Eq, Drop)]
 pub enum Status {
     Pending,

@@ -3,7 +3,7 @@ ghost use Rattle.std.specs.Prelude.{◌≡◌, ◌⊎◌, ◌<◌, ◌≤◌, �
 ghost use Rattle.std.specs.Prelude.{IsSorted};
 ghost use Rattle.std.specs.Ordering.{is_lt, nat_cmp};
 ghost use Rattle.std.specs.List.Sorted.{IsStrictlySortedBy};
-ghost use Rattle.exam_plan.specs.HallSets.{most_halls, holds, halls_below};
+ghost use Rattle.exam_plan.specs.HallSets.{most_halls, holds, halls_below, sets_of};
 ghost use Rattle.exam_plan.specs.Problems.{most_members};
 ghost use Rattle.exam_rules.specs.Names.{ListsRise};
 ghost use Rattle.exam_rules.specs.Lists as listing;
@@ -16,40 +16,14 @@ ghost use Rattle.exam_rules.specs.Seatings as seatings;
 
 use crate::facts::Facts;
 use crate::fit::{Room, fitting_places, opened_room};
-use crate::lists::{Entrant, SessionLists};
-use crate::sessions::{members, sitting, sitting_beside};
+use crate::lists::{Entrant, SessionLists, lists_with, numbers_of};
+use crate::sessions::sitting_beside;
 use exam_plan::{MOST_HALLS, MOST_MEMBERS, Mask, Problem};
 use exam_types::{HallCode, Number, PaperCode, Refusal, SessionCode};
 use std::alloc::Global;
 
-/// What desks are ordered by: the sitting paper, and then the number.
+/// What the order of desks compares: the sitting paper, and then the number.
 type DeskKey = (Option<PaperCode>, Number);
-
-/// The halls opened for the session, codes rising. Refused where there is no such session, or not enough
-/// memory.
-pub fn open_halls(
-    alloc: Global,
-    facts: &Facts,
-    session: &SessionCode,
-) -> Result<Vec<HallCode>, Refusal>
-    ensures ok { IfOk result (λ halls. halls.items
-        ≡ seatings.open_halls (relations_of facts.now) session.now) }
-    ensures rising { OnOk result
-        (IsStrictlySortedBy code_cmp (seatings.open_halls (relations_of facts.now) session.now)) }
-    ensures known { OnOk result (IsTrue (has_row code_cmp facts.now.sessions.entries session.now)) }
-    ensures refusal { IfErr result (spec.IsSessionRefusal (relations_of facts.now) session.now) }
-{
-    if !facts.sessions.contains_key(session) {
-        return Err(Refusal::UnknownSession);
-    }
-    let halls = facts
-        .openings
-        .iter()
-        .filter(|(key, _)| key.0 == *session)
-        .map(|(key, _)| key.1)
-        .collect(alloc)?;
-    Ok(halls)
-}
 
 /// The desks of the hall in the session.
 fn desks(facts: &Facts, session: &SessionCode, hall: &HallCode) -> u32
@@ -95,7 +69,7 @@ fn rooms(
     Ok(rooms)
 }
 
-/// Of each candidate, by number and sitting paper, the places of the halls that fit, each place at its bit.
+/// For each candidate, by number and sitting paper, the places of the halls that fit, as a mask.
 fn fit_rows(
     alloc: Global,
     facts: &Facts,
@@ -108,11 +82,11 @@ fn fit_rows(
     requires halls { halls.now
         ≡ seatings.with_rooms (relations_of facts.now) session.now (map (λ hall. hall.0) halls.now) }
     requires few { length halls.now ≤ most_halls }
-    ensures ok { IfOk result (λ rows. map (halls_below (length halls.now)) rows.items
+    ensures ok { IfOk result (λ rows. map (halls_below (length halls.now)) (sets_of rows.items)
         ≡ map (λ key. seatings.fitting_places (relations_of facts.now) session.now key.1
         (map (λ hall. hall.0) halls.now)) keys.now) }
     ensures exist { IfOk result (λ rows.
-        All (λ row. (h : ℕ) → IsTrue (holds row h) → h < length halls.now) rows.items) }
+        All (λ set. (h : ℕ) → IsTrue (holds set h) → h < length halls.now) (sets_of rows.items)) }
     ensures memory { IfErr result (λ e. e ≡ NoMemory) }
 {
     let mut rows = Vec::with_capacity(alloc, keys.len())?;
@@ -123,25 +97,7 @@ fn fit_rows(
     Ok(rows)
 }
 
-/// What desks are ordered by, of each of these numbers.
-fn desk_keys(
-    alloc: Global,
-    facts: &Facts,
-    session: &SessionCode,
-    numbers: &[Number],
-) -> Result<Vec<DeskKey>, Refusal>
-    ensures ok { IfOk result (λ keys. keys.items
-        ≡ map (seatings.desk_key (relations_of facts.now) session.now) numbers.now) }
-    ensures memory { IfErr result (λ e. e ≡ NoMemory) }
-{
-    let keys = numbers
-        .iter()
-        .map(|number| (sitting(facts, session, *number), *number))
-        .collect(alloc)?;
-    Ok(keys)
-}
-
-/// The same of members whose least live papers are known.
+/// What the order of desks compares, for each of these members.
 fn entrant_keys(
     alloc: Global,
     facts: &Facts,
@@ -162,7 +118,7 @@ fn entrant_keys(
     Ok(keys)
 }
 
-/// Of each key how many keys are less.
+/// For each key, how many keys are less.
 fn ranks(alloc: Global, keys: &[DeskKey]) -> Result<Vec<u32>, Refusal>
     requires { length keys.now ≤ most_members }
     ensures ok { IfOk result (λ ranks. ranks.items ≡ seatings.ranks_of keys.now) }
@@ -186,7 +142,7 @@ fn place_in(sorted: &[DeskKey], key: &DeskKey) -> u32
     sorted.partition_point(|other| *other < *key) as u32
 }
 
-/// Of each member the places of the halls that fit, each place at its bit.
+/// For each member, the places of the halls that fit, as a mask.
 fn fit_table(
     alloc: Global,
     facts: &Facts,
@@ -198,58 +154,28 @@ fn fit_table(
         ≡ map (seatings.desk_key (relations_of facts.now) session.now)
         (spec.members (relations_of facts.now) session.now) }
     requires few { length halls.now ≤ most_halls }
-    ensures ok { IfOk result (λ rows. map (halls_below (length halls.now)) rows.items
+    ensures ok { IfOk result (λ rows. map (halls_below (length halls.now)) (sets_of rows.items)
         ≡ map (λ c. seatings.fitting_places (relations_of facts.now) session.now c halls.now)
         (spec.members (relations_of facts.now) session.now)) }
     ensures exist { IfOk result (λ rows.
-        All (λ row. (h : ℕ) → IsTrue (holds row h) → h < length halls.now) rows.items) }
+        All (λ set. (h : ℕ) → IsTrue (holds set h) → h < length halls.now) (sets_of rows.items)) }
     ensures memory { IfErr result (λ e. e ≡ NoMemory) }
 {
     let rooms = rooms(alloc, facts, session, halls)?;
     fit_rows(alloc, facts, session, keys, &rooms)
 }
 
-/// A session's seating problem, with the members and halls for which its indices stand.
+/// A session's seating problem, with the members and halls that its indices name.
 #[derive(Drop)]
 pub struct ListedProblem {
-    /// The i-th is candidate i of the problem.
+    /// The i-th number is candidate i of the problem.
     pub numbers: Vec<Number>,
-    /// The j-th is hall j of the problem.
+    /// The j-th code is hall j of the problem.
     pub halls: Vec<HallCode>,
     pub problem: Problem,
 }
 
-/// The seating problem of the session, with its members and its open halls, as `members`, `open_halls` and
-/// `problem` give them one by one.
-pub fn listed_problem(
-    alloc: Global,
-    facts: &Facts,
-    session: &SessionCode,
-) -> Result<ListedProblem, Refusal>
-    ensures numbers { IfOk result (λ listed. listed.numbers.items
-        ≡ spec.members (relations_of facts.now) session.now) }
-    ensures halls { IfOk result (λ listed. listed.halls.items
-        ≡ seatings.open_halls (relations_of facts.now) session.now) }
-    ensures ok { IfOk result (λ listed. listed.problem
-        ≡ seatings.problem_of (relations_of facts.now) session.now) }
-    // The premise of the laws that carry what is so by indices over to numbers and codes.
-    ensures lists { OnOk result (ListsRise (relations_of facts.now) session.now) }
-    ensures known { OnOk result (IsTrue (has_row code_cmp facts.now.sessions.entries session.now)) }
-    ensures refusal { IfErr result (seatings.IsProblemRefusal (relations_of facts.now) session.now) }
-{
-    let numbers = members(alloc, facts, session)?;
-    if numbers.len() > MOST_MEMBERS {
-        return Err(Refusal::TooMany);
-    }
-    let keys = desk_keys(alloc, facts, session, &numbers)?;
-    let halls = open_halls(alloc, facts, session)?;
-    if halls.len() > MOST_HALLS {
-        return Err(Refusal::TooMany);
-    }
-    problem_over(alloc, facts, session, numbers, &keys, halls)
-}
-
-/// The same where the members and the open halls of all sessions are listed.
+/// The seating problem of the session, with its members and its open halls, from the lists of all sessions.
 pub fn indexed_problem(
     alloc: Global,
     facts: &Facts,
@@ -275,18 +201,6 @@ pub fn indexed_problem(
     let numbers = numbers_of(alloc, entrants)?;
     let halls = Vec::from_slice(alloc, halls)?;
     problem_over(alloc, facts, session, numbers, &keys, halls)
-}
-
-fn numbers_of(alloc: Global, entrants: &[Entrant]) -> Result<Vec<Number>, Refusal>
-    ensures ok { IfOk result (λ numbers. numbers.items
-        ≡ map (λ (entrant : Entrant). entrant.number) entrants.now) }
-    ensures memory { IfErr result (λ e. e ≡ NoMemory) }
-{
-    let numbers = entrants
-        .iter()
-        .map(|entrant| entrant.number)
-        .collect(alloc)?;
-    Ok(numbers)
 }
 
 /// The seating problem over the members and the open halls of the session.
@@ -324,16 +238,17 @@ fn problem_over(
     })
 }
 
-/// The seating problem of the session: the i-th candidate is the i-th of `members`, the j-th hall the j-th of
-/// `open_halls`. Refused where there is no such session, or not enough memory. Where the limits hold no
-/// session has too many members or open halls, so that refusal is for other facts.
+/// The seating problem of the session: the i-th candidate is the i-th of its members, by number, and the j-th hall the
+/// j-th of those opened for it, by code. Refused if there is no such session, if there are more members or open halls
+/// than a session may have, or if memory runs out. Facts within the office's limits never have too many.
 pub fn problem(alloc: Global, facts: &Facts, session: &SessionCode) -> Result<Problem, Refusal>
     ensures ok { IfOk result (λ p. p ≡ seatings.problem_of (relations_of facts.now) session.now) }
-    // The premise of the laws that carry what is so by indices over to numbers and codes.
+    // The premise of the laws that carry what holds for indices over to numbers and codes.
     ensures lists { OnOk result (ListsRise (relations_of facts.now) session.now) }
     ensures known { OnOk result (IsTrue (has_row code_cmp facts.now.sessions.entries session.now)) }
     ensures refusal { IfErr result (seatings.IsProblemRefusal (relations_of facts.now) session.now) }
 {
-    let listed = listed_problem(alloc, facts, session)?;
+    let lists = lists_with(alloc, facts, session)?;
+    let listed = indexed_problem(alloc, facts, &lists, session)?;
     Ok(listed.problem)
 }

@@ -1,30 +1,25 @@
 //! Who belongs to a session, which paper each sits, and under which arrangement.
-ghost use Rattle.std.specs.Prelude.{◌≡◌, ◌↔◌, ◌++◌, [], Some, filter, codes, Contains, IsTrue, IfOk, IfErr, OnOk};
-ghost use Rattle.exam_types.specs.declared.refusal.Refusal.TheVariants.{NoMemory};
-ghost use Rattle.std.specs.List.Sorted.{IsStrictlySortedBy};
-ghost use Rattle.std.specs.Ordering.{nat_cmp};
+ghost use Rattle.std.specs.Prelude.{◌≡◌, ◌↔◌, [], Some, filter, codes, Contains, IsTrue};
 ghost use Rattle.std.specs.BTreeMap.Range.{entries_between};
 ghost use Rattle.std.specs.declared.ops.Bound.TheVariants.{Unbounded, Excluded};
-ghost use Rattle.exam_rules.specs.Relations.{Code, relations_of, code_cmp, entry_cmp, has_row, is_row_of};
-ghost use Rattle.exam_rules.specs.Relations.{leading};
+ghost use Rattle.exam_rules.specs.Relations.{Code, relations_of, entry_cmp, is_row_of, leading};
 ghost use Rattle.exam_rules.specs.Sessions as spec;
 
 use crate::appeals::{granted_arrangement, granted_paper};
 use crate::facts::Facts;
 use crate::rows::{Arrangement, Entry};
 use crate::standing::standing_arrangement;
-use exam_types::{Extra, Features, Number, PaperCode, Refusal, SessionCode};
-use std::alloc::Global;
+use exam_types::{Extra, Features, Number, PaperCode, SessionCode};
 use std::collections::btree_map::Range;
 
-/// The least paper code, by which a candidate's entries begin.
+/// The least paper code, with which a candidate's entries begin.
 fn least_paper() -> PaperCode
     ensures { result ≡ codes "-" }
 {
     PaperCode::parse(b"-").unwrap()
 }
 
-/// No entry of the candidate stands before the least key. For the proof of `entries_from` alone.
+/// The candidate has no entry before the least key. Only the proof of `entries_from` uses it.
 fn no_entry_before(facts: &Facts, number: Number, least: PaperCode)
     requires { least ≡ codes "-" }
     ensures { filter (is_row_of number)
@@ -32,7 +27,7 @@ fn no_entry_before(facts: &Facts, number: Number, least: PaperCode)
 {
     match facts.entries.range(..(number, least)).next_back() {
         Some((key, _)) => {
-            // What a code is made of shows that none is less, so the row before is of another candidate.
+            // Reading the bytes shows that no code is less, so the row before is another candidate's.
             let _code = key.1.as_bytes();
         }
         None => {}
@@ -41,7 +36,7 @@ fn no_entry_before(facts: &Facts, number: Number, least: PaperCode)
 
 /// The entries from the candidate's first on; those of later numbers follow.
 pub fn entries_from<'a>(facts: &'a Facts, number: Number) -> Range<'a, (Number, PaperCode), Entry>
-    // The rows that stand together are all of the candidate's.
+    // The leading rows with this number are all of the candidate's.
     ensures rows { leading (is_row_of number) result ≡ filter (is_row_of number) facts.now.entries.entries }
     ensures live { (s : Code)
         → spec.live_papers_in (relations_of facts.now) (leading (is_row_of number) result) s number
@@ -52,7 +47,7 @@ pub fn entries_from<'a>(facts: &'a Facts, number: Number) -> Range<'a, (Number, 
     facts.entries.range((number, least)..)
 }
 
-/// Whether there is the paper, and it is of the session.
+/// Whether the paper exists and is of the session.
 pub fn is_paper_of(facts: &Facts, session: &SessionCode, paper: &PaperCode) -> bool
     ensures { result ≡ spec.is_paper_of (relations_of facts.now) session.now paper.now }
 {
@@ -62,7 +57,7 @@ pub fn is_paper_of(facts: &Facts, session: &SessionCode, paper: &PaperCode) -> b
     }
 }
 
-/// Whether the candidate has a live entry for the paper, which is of the session.
+/// Whether the candidate has a live entry for the paper, and it is of the session.
 pub fn is_live_paper(
     facts: &Facts,
     session: &SessionCode,
@@ -92,8 +87,7 @@ pub fn least_live_paper(facts: &Facts, session: &SessionCode, number: Number) ->
     None
 }
 
-/// Whether the number has a live entry for a paper of the session. In an office every entry is of a
-/// candidate.
+/// Whether the number has a live entry for a paper of the session. In an office every entry has a candidate.
 pub fn has_live_entry(facts: &Facts, session: &SessionCode, number: Number) -> bool
     ensures { result ≡ spec.has_live_entry (relations_of facts.now) session.now number }
 {
@@ -106,26 +100,6 @@ pub fn is_member(facts: &Facts, session: &SessionCode, number: Number) -> bool
     ensures listed { IsTrue result ↔ Contains (spec.members (relations_of facts.now) session.now) number }
 {
     facts.candidates.contains_key(&number) && has_live_entry(facts, session, number)
-}
-
-/// The numbers of the members, rising. Refused where there is no such session, or not enough memory.
-pub fn members(alloc: Global, facts: &Facts, session: &SessionCode) -> Result<Vec<Number>, Refusal>
-    ensures ok { IfOk result (λ numbers. numbers.items ≡ spec.members (relations_of facts.now) session.now) }
-    ensures rising { OnOk result
-        (IsStrictlySortedBy nat_cmp (spec.members (relations_of facts.now) session.now)) }
-    ensures known { OnOk result (IsTrue (has_row code_cmp facts.now.sessions.entries session.now)) }
-    ensures refusal { IfErr result (spec.IsSessionRefusal (relations_of facts.now) session.now) }
-{
-    if !facts.sessions.contains_key(session) {
-        return Err(Refusal::UnknownSession);
-    }
-    let numbers = facts
-        .candidates
-        .keys()
-        .copied()
-        .filter(|number| has_live_entry(facts, session, *number))
-        .collect(alloc)?;
-    Ok(numbers)
 }
 
 /// The paper of the candidate's granted clash appeal, where it is live and of this session.
@@ -141,9 +115,9 @@ fn granted_sitting(facts: &Facts, session: &SessionCode, number: Number) -> Opti
     }
 }
 
-/// The paper that the member sits: that of the granted clash appeal where it is live and of this session,
-/// otherwise the least live one; none for a number without a live entry there. A number of entries that is no
-/// candidate's, which no office has, counts as if it were.
+/// The paper that the member sits: that of the granted clash appeal if it is live and of this session, otherwise the
+/// least live one, and none for a number without a live entry there. Does not check that the candidate exists; in an
+/// office every entry has one.
 pub fn sitting(facts: &Facts, session: &SessionCode, number: Number) -> Option<PaperCode>
     ensures { result ≡ spec.sitting (relations_of facts.now) session.now number }
 {
@@ -153,7 +127,7 @@ pub fn sitting(facts: &Facts, session: &SessionCode, number: Number) -> Option<P
     }
 }
 
-/// The same of whom this is the least live paper there.
+/// The same for a candidate whose least live paper there is this one.
 pub fn sitting_beside(
     facts: &Facts,
     session: &SessionCode,
@@ -197,49 +171,7 @@ fn no_extra() -> Extra
     Extra::new(0).unwrap()
 }
 
-/// The members with their live papers that they do not sit, by number and code. Refused where there is no
-/// such session, or not enough memory.
-pub fn clashes(
-    alloc: Global,
-    facts: &Facts,
-    session: &SessionCode,
-) -> Result<Vec<(Number, PaperCode)>, Refusal>
-    ensures ok { IfOk result (λ list. list.items ≡ spec.clashes (relations_of facts.now) session.now) }
-    ensures known { OnOk result (IsTrue (has_row code_cmp facts.now.sessions.entries session.now)) }
-    ensures refusal { IfErr result (spec.IsSessionRefusal (relations_of facts.now) session.now) }
-{
-    let numbers = members(alloc, facts, session)?;
-    let mut list = Vec::new(alloc);
-    for number in &numbers {
-        push_clashes(&mut list, facts, session, *number)?;
-    }
-    Ok(list)
-}
-
-/// Appends the candidate's live papers that they do not sit.
-pub fn push_clashes(
-    list: &mut Vec<(Number, PaperCode)>,
-    facts: &Facts,
-    session: &SessionCode,
-    number: Number,
-) -> Result<(), Refusal>
-    ensures ok { OnOk result (list.new.items ≡ list.old.items
-        ++ spec.clashes_of (relations_of facts.now) session.now number) }
-    ensures memory { IfErr result (λ e. e ≡ NoMemory) }
-{
-    let sat = sitting(facts, session, number);
-    for (key, entry) in entries_from(facts, number) {
-        if key.0 != number {
-            break;
-        }
-        if entry.live && is_paper_of(facts, session, &key.1) && is_clash(&sat, &key.1) {
-            list.push((number, key.1))?;
-        }
-    }
-    Ok(())
-}
-
-/// Whether a live paper is another than the one that is sat.
+/// Whether this live paper is not the one that is sat.
 pub fn is_clash(sat: &Option<PaperCode>, paper: &PaperCode) -> bool
     ensures { result ≡ spec.is_clash sat.now paper.now }
 {

@@ -1,4 +1,4 @@
-//! Standing grants: arrangements that were granted for one session and stand for later ones.
+//! Standing grants: arrangements that were granted for one session and hold for later ones too.
 ghost use Rattle.std.specs.Prelude.{◌≡◌, ◌&&◌};
 ghost use Rattle.std.specs.Ordering.{is_lt};
 ghost use Rattle.exam_rules.specs.Relations.{relations_of};
@@ -9,7 +9,7 @@ use crate::facts::Facts;
 use crate::rows::{Appeal, Arrangement, Subject};
 use exam_types::{Number, Reference, SessionCode, SessionDay};
 
-/// What a standing grant gives: an arrangement, in sessions from the date of its own on.
+/// What a standing grant gives: an arrangement, for sessions from its own date on.
 #[derive(Clone, Copy)]
 pub struct StandingGrant {
     pub day: SessionDay,
@@ -32,7 +32,7 @@ pub fn is_standing(facts: &Facts, key: &(Number, Reference), appeal: &Appeal) ->
     is_granted(&appeal.status) && facts.standing.contains_key(key)
 }
 
-/// The arrangement that the appeal asks, with its session and the session's date.
+/// The arrangement that the appeal asks for, with its session and the session's date.
 fn standing_grant(facts: &Facts, appeal: &Appeal) -> Option<StandingGrant>
     ensures { result ≡ spec.standing_grant (relations_of facts.now) appeal.now }
 {
@@ -64,8 +64,7 @@ fn later_of(last: Option<StandingGrant>, grant: StandingGrant) -> Option<Standin
     }
 }
 
-/// Of the candidate's standing grants whose date is not later than the day the last, by date and then by
-/// session code.
+/// The last of the candidate's standing grants, by date and then by session code, whose date is not later than the day.
 fn last_until(facts: &Facts, number: Number, day: SessionDay) -> Option<StandingGrant>
     ensures { result ≡ spec.last_until day (spec.standing_grants (relations_of facts.now) number) }
 {

@@ -1,5 +1,5 @@
-//! Small offices, and what the calls answer on them. A test is data: the facts, and what is so of them. So
-//! the functions that own facts are few, and each is proved once.
+//! Small offices, and what the calls answer on them. A test is data: the facts, and what must hold for them. So only a
+//! few functions own facts, and each is proved once.
 mod relisting;
 mod scenes;
 mod setups;
@@ -119,7 +119,7 @@ fn an_unknown_session_is_refused(rt: HostRuntime) -> Result<(), Fail> {
 
 #[test]
 fn one_entry_set_is_listed_as_all_anew(rt: HostRuntime) -> Result<(), Fail> {
-    // The paper ZZ-9 is of no session, so that nobody is listed at first. 4 is nobody's number.
+    // The paper ZZ-9 is of no session, so nobody is listed at first. 4 is nobody's number.
     let facts = [
         Fact::Paper("AB-0", 60, "-"),
         Fact::Entered(1, "ZZ-9"),

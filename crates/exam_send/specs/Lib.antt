@@ -1,6 +1,5 @@
 -- The definitions that contracts of this crate cite. Each file says:
 --
--- - Sending, Given: a beginning of the bytes went out, not all of them or perhaps all; what a
---   reader gave
+-- - Sending, Given: a beginning of the bytes was written, perhaps all of them or not all; what a reader gave
 pub mod Sending
 pub mod Given

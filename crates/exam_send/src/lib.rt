@@ -1,4 +1,4 @@
-//! Bytes to any writer, whole or a beginning of them.
+//! Writing bytes to any writer: all of them, or a beginning.
 #![tactic(auto)]
 
 mod sending;

@@ -48,7 +48,7 @@ after_put ways tree = now (now ways tree putting) tree all_there
 abbrev after_delete : (ℕ → Way) → ℕ → ℕ → Way
 after_delete ways tree = now (now ways tree deleting) tree arrived
 
--- the rows that are put are among those that are meant to be there
+-- the rows that are put are among those of the new table
 comes : {K V : Type 0} {cmp : K → K → Ordering} {old new : List (K × V)} {deletes : List K} (row : K → V → Row) (puts : List (Bor K × Bor V)) (rows : List Row)
     → Turns cmp old new (map deref_pair puts) deletes → HoldsRows row new rows → (r : Row) → Has (map (λ (y : Bor K × Bor V). Null ∷ row y.0.now y.1.now) puts) r → Has rows r
 comes {K} {V} {cmp} {old} {new} row puts rows turns holds r h =

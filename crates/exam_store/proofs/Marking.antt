@@ -15,7 +15,8 @@ use Rattle.exam_rows.specs.Faults.{is_store_refusal}
 use Rattle.exam_rows.specs.Inside.{Contains}
 use Rattle.exam_rows.specs.Loaded.{AreUnderstood, IsUnderstood}
 use Rattle.exam_store.specs.Found.{is_open_refusal, version_texts}
-use Rattle.exam_rows.specs.Versions.{ContainsOf, HasFirst, HasVersion, IsVersion, marks_since, version, version_row}
+use Rattle.exam_rows.specs.Versions.{ContainsOf, HasVersion, IsKnown, IsOlder, IsVersion, marks_since, version, version_row}
+use Rattle.exam_rows.specs.declared.version.Version.{Version}
 
 listed : (has_marks : Bool) → lists_marks (made_schema has_marks) ≡ has_marks
 listed true = marks_listed.0
@@ -42,17 +43,17 @@ one_version v w all a b = let same : (Null ∷ version_row v) ∷ [] ≡ (Null �
 pub of_newest : (db : Database) (all : Trees) → Contains db all → ContainsOf version db all
 of_newest db all was = (was, λ none. absurd (let e : true ≡ false = none in cc))
 
--- and those of the first
-pub of_first : (db : Database) (all : Trees) → ContainsOf 1 db all → HasFirst all db
-of_first db all was = (was.0, was.1 refl)
+-- a version has the marks as its number tells
+pub known_marks : (v : Version) → IsKnown v → v.has_marks ≡ marks_since v.number
+known_marks v known = ap (λ (w : Version). w.has_marks) known.1
 
-pub newest_since : (v : ℕ) → IsVersion v → (v == version) ≡ marks_since v
-newest_since v (inl one) = rw one refl
-newest_since v (inr two) = rw two refl
+pub older : (v : ℕ) → IsVersion v → v ≢ version → IsOlder v
+older v (inl before) other = before
+older v (inr newest) other = absurd (other newest)
 
-pub older : (v : ℕ) → IsVersion v → v ≢ version → v ≡ 1
-older v (inl one) other = one
-older v (inr two) other = absurd (other two)
+pub no_older : (v : ℕ) → IsOlder v → v ≡ version → ⊥
+no_older v (inl one) newest = let same : 1 ≡ version = sym one ∙ newest in cc
+no_older v (inr two) newest = let same : 2 ≡ version = sym two ∙ newest in cc
 
 -- a database that is left as it was has the tables that it had
 pub still_of : (v : ℕ) (old new : State) (all : Trees) → IsUnchanged old new → ContainsOf v old.now all → ContainsOf v new.now all
@@ -64,6 +65,11 @@ still_made old new all same was = subst (λ (db : Database). ContainsMade db all
 one_more : (db : Database) (texts : List (List ℕ)) (text : List ℕ) → AreUnderstood db texts → IsUnderstood db text → AreUnderstood db (texts ++ text ∷ [])
 one_more db [] text all last = (last, tt)
 one_more db (t ∷ texts) text all last = (all.0, one_more db texts text all.1 last)
+
+-- of texts that are understood the first ones are
+pub some_understood : (db : Database) (texts more : List (List ℕ)) → AreUnderstood db (texts ++ more) → AreUnderstood db texts
+some_understood db [] more all = tt
+some_understood db (t ∷ texts) more all = (all.0, some_understood db texts more all.1)
 
 -- what loads the tables of the version is understood, where the marks are there as the version has them
 pub understood_of : (v : ℕ) (db : Database) → AreUnderstood db held_texts → lists_marks db.schema ≡ marks_since v → (IsTrue (lists_marks db.schema) → IsUnderstood db load_standing) → AreUnderstood db (version_texts v)

@@ -1,23 +1,25 @@
--- What a database that kept an office of version 1 keeps with the newest tables.
-use Rattle.std.proofs.Common.{◌≡◌, ◌≤◌, ℕ, pos, true, false, true≢false, inl, inr, refl, sym, subst, ◌∙◌}
+-- What a database that kept an office of an older version keeps with the newest tables.
+use Rattle.std.proofs.Common.{◌≡◌, ◌≤◌, ℕ, IsTrue, pos, false, inl, inr, refl, sym, subst, ◌∙◌}
 use Rattle.std.specs.Cmp.Derive.{both_true}
 use Rattle.std.proofs.lemmas.Bool.{both_ways, cases_eq}
 use Rattle.sqlite_trees.specs.Tree.{Trees}
 use Rattle.sqlite.specs.Effect.{Database}
 use Rattle.sqlite.specs.State.{State, HasCleanDisk, IsUnchanged, Survives}
 use Rattle.exam_types.specs.declared.refusal.Refusal.{Refusal}
-use Rattle.exam_tables.specs.Made.{lists_marks}
+use Rattle.exam_tables.specs.Made.{ContainsMade}
 use Rattle.exam_tables.proofs.Keys.{equal_itself}
-use Rattle.exam_store.proofs.Marking.{listed_of, one_version}
+use Rattle.exam_store.proofs.Marking.{made_of, no_older, one_version}
 use Rattle.exam_office.specs.State.{State as Office}
-use Rattle.exam_rows.specs.Versions.{FailsToCreate, FailsToMake, HasVersion, Widens, version, with_version}
+use Rattle.exam_rows.specs.Versions.{FailsToCreate, FailsToMake, HasVersion, IsKnown, Widens, version, version_at, with_version}
 use Rattle.exam_rows.proofs.Creating.{made_later}
 use Rattle.exam_store.specs.Kept.{HoldsOffice, Migrates}
-use Rattle.exam_store.specs.Refused.{HoldsNone}
+use Rattle.exam_office.specs.Good.{IsGood}
+use Rattle.exam_store.specs.Refused.{HoldsNone, HoldsNoOffice, IsGoodIn, is_within}
+use Rattle.exam_rows.specs.declared.version.Version.{Version}
 
--- the newest version takes the place of the first
-renewed : (all : Trees) → HasVersion 1 all → HasVersion version (with_version all)
-renewed all has = rw (has, both_true (equal_itself (pos 1)) refl) refl
+-- the newest version takes the place of an older one
+renewed : (v : ℕ) (all : Trees) → HasVersion v all → HasVersion version (with_version all)
+renewed v all has = rw (has, both_true (equal_itself (pos 1)) refl) refl
 
 holds_with : (all : Trees) (office : Office) → HoldsOffice all office → HoldsOffice (with_version all) office
 holds_with all office held = record {
@@ -36,8 +38,8 @@ holds_with all office held = record {
 }
 
 pub migrates : (old new : Database) → Widens old new → Migrates old new
-migrates old new widens office was =
-    record { all = with_version was.all; contains = widens was.all was.contains; version = renewed was.all was.version; held = holds_with was.all office was.held }
+migrates old new widens v before office was =
+    record { all = with_version was.all; contains = widens was.all (made_of v old was.all was.contains); version = renewed v was.all was.version; held = holds_with was.all office was.held }
 
 -- where the tables hold no office of the version that they name, they hold none of any version
 pub none_of_any : (v w : ℕ) (all : Trees) → HasVersion v all → (v ≡ w → HoldsNone v all) → HoldsNone w all
@@ -46,11 +48,24 @@ none_of_any v w all has none = elim (cases_eq v w) [
   | inr other ↦ inl (λ held. other (one_version v w all has held))
 ]
 
+-- tables that hold no good office hold none of any version
+pub none_good : (v : ℕ) (all : Trees) → HoldsNoOffice IsGood all → HoldsNoOffice (IsGoodIn v) all
+none_good v all (inl none) = inl none
+none_good v all (inr (inl none)) = inr (inl none)
+none_good v all (inr (inr (office, held, wrong))) = inr (inr (office, held, λ good. wrong good.0))
+
+-- what a version can hold is told by its number
+pub within_as : (v : Version) (office : Office) → IsKnown v → IsTrue (is_within v office) → IsTrue (is_within (version_at v.number) office)
+within_as v office known within = subst (λ w. IsTrue (is_within w office)) known.1 within
+
+pub within_of : (v : Version) (office : Office) → IsKnown v → IsTrue (is_within (version_at v.number) office) → IsTrue (is_within v office)
+within_of v office known within = subst (λ w. IsTrue (is_within w office)) (sym known.1) within
+
 -- why the tables are not made, where no transaction was under way
 pub not_made : (old mid new : State) (e : Refusal) → Survives old mid (λ _. ⊥) → HasCleanDisk mid → mid.faults ≤ new.faults → old.in_transaction ≡ false → IsUnchanged old mid → FailsToCreate mid new e → FailsToMake old new e
 not_made old mid new e s clean up calm same (inl failed) = made_later old mid new e s clean up failed
 not_made old mid new e s clean up calm same (inr (told, going)) = absurd (both_ways _ (same.0.mode ∙ calm) going)
 
--- a database with the table of marks keeps no office of version 1
-pub newest_alone : (old new : Database) → lists_marks old.schema ≡ true → Migrates old new
-newest_alone old new marked office was = absurd (true≢false (sym marked ∙ listed_of 1 old was.all (was.contains.0, λ none. was.contains.1)))
+-- a database with the number of the newest version keeps no office of an older one
+pub newest_alone : (old new : Database) → ((all : Trees) → ContainsMade old all → HasVersion version all) → Migrates old new
+newest_alone old new newest v before office was = absurd (no_older v before (one_version v version was.all was.version (newest was.all (made_of v old was.all was.contains))))

@@ -81,7 +81,7 @@ appeal_by k test means rows has =
     (subst (λ (j : ℕ × Code). (equal (first_key plain).collation (whole j.0) (whole k.0) && (equal (first_key plain).collation (Text j.1) (Text k.1) && true)) ≡ true) (appeals_exact.keys k e.0 ((Equal-is (appeal_cmp k e.0)).0 is))
     (both_true (equal_itself (pos k.0)) (both_true (text_itself k.1) refl)))) rows has
 
--- rows refer as the entries do that they stand for
+-- rows refer as the entries do that they represent
 module _ {K X L Y : Type 0} (child_row : K → X → Row) (parent_row : L → Y → Row) (children : List (K × X)) (parents : List (L × Y)) (child parent : List Row) (held_child : HoldsRows child_row children child) (held_parent : HoldsRows parent_row parents parent) (test : Row → Row → Bool) where
   refer_by : ((x : K × X) → Has children x → list_any (λ p. test p (Null ∷ child_row x.0 x.1)) (map (λ e. Null ∷ parent_row e.0 e.1) parents) ≡ true) → AllByRecursion (λ r. list_any (λ p. test p r) parent ≡ true) child
   refer_by each = all_from _ child (λ r h.

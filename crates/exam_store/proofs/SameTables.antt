@@ -13,7 +13,7 @@ use Rattle.exam_office.specs.State.{State}
 use Rattle.exam_rows.specs.Inside.{Contains}
 use Rattle.exam_store.specs.Kept.{HaveSameTables, Keeps}
 
--- the rows that are meant of one database are meant of another with the same ones
+-- what one database holds, another with the same rows holds too
 carried : (tables : List Table) (here there one other all : Trees) → AllByRecursion (λ t. IsPermutation (one t.tree) (other t.tree)) tables
     → AllByRecursion (λ t. Holds (places t) (here t.tree) (one t.tree)) tables → AllByRecursion (λ t. Holds (places t) (there t.tree) (other t.tree)) tables
     → AllByRecursion (λ t. Holds (places t) (here t.tree) (all t.tree)) tables → AllByRecursion (λ t. Holds (places t) (there t.tree) (all t.tree)) tables

@@ -17,14 +17,14 @@ use Rattle.exam_rows.specs.Transactions.{Commits}
 use Rattle.exam_store.specs.Kept.{Rekeeps}
 use Rattle.exam_store.specs.Stores.{OfficeIn}
 
--- At a reply exactly the command's step is made. At a refusal, the step's own or one of the store, the office
+-- With a reply, exactly the command's step is made. With a refusal, the step's own or one of the store, the office
 -- stays as it was.
 abbrev pub MayApply : Command → ℕ → State → Result Reply Refusal → State → Type 0
 MayApply done today before (Ok reply) after = Step done today before (Ok reply) after
 MayApply done today before (Err e) after =
     (after ≡ before) × (Step done today before (Err e) before ⊎ IsTrue (is_store_refusal e))
 
--- Why a command is refused: as its step is, for want of memory, or since the office after it is not saved.
+-- Why a command is refused: its step is refused, memory runs out, or the office after it cannot be saved.
 abbrev pub FailsToApply : Command → ℕ → State → Shown → Shown → Refusal → Type 0
 FailsToApply done today before old new e =
     Step done today before (Err e) before
@@ -32,7 +32,7 @@ FailsToApply done today before old new e =
     ⊎ ((reply : Reply) × (after : State) × Step done today before (Ok reply) after
     × FailsToSave before after old new e))
 
--- what kept the office keeps that after the command
+-- a database that keeps the office keeps after the command the office that the step makes
 abbrev pub TurnsBy : Command → ℕ → State → Database → Database → Type 0
 TurnsBy done today before old new =
     (reply : Reply) × (after : State) × Step done today before (Ok reply) after
@@ -55,7 +55,7 @@ FailsInStore (Err e) = IsTrue (is_store_refusal e)
 abbrev pub NoneFails : List (Result Reply Refusal) → Type 0
 NoneFails replies = All (λ reply. FailsInStore reply → ⊥) replies
 
--- the same answer where the office is in memory alone: there a refusal by the store is one for want of memory
+-- the same answer for an office that is only in memory: a refusal by the store becomes one because memory ran out
 abbrev pub in_memory : Result Reply Refusal → Result Reply Refusal
 in_memory (Ok reply) = Ok reply
 in_memory (Err e) = Err (if is_store_refusal e then NoMemory else e)

@@ -1,4 +1,4 @@
--- What opening finds in a database, and what brings an older office to the newest version.
+-- What opening finds in a database, and how an older office becomes one of the newest version.
 use Rattle.std.specs.Prelude.{◌≡◌, ◌⊎◌, ◌++◌, ℕ, Bool, true, IsTrue, List, [], ◌∷◌, if◌then◌else◌}
 use Rattle.sqlite_trees.specs.declared.store.Store.{Ghosts}
 use Rattle.sqlite_trees.specs.Tree.{Trees}
@@ -7,23 +7,22 @@ use Rattle.sqlite.specs.State.{State, HasCleanDisk, IsUnchanged, Survives}
 use Rattle.sqlite.specs.Held.{Held, state}
 use Rattle.exam_types.specs.declared.refusal.Refusal.{Refusal}
 use Rattle.exam_types.specs.declared.refusal.Refusal.TheVariants.{Store, OldSchema}
-use Rattle.exam_office.specs.Good.{IsGood}
 use Rattle.exam_office.specs.State.{State as Office, empty_state}
 use Rattle.exam_tables.specs.Made.{ContainsMade}
 use Rattle.exam_tables.specs.Texts.{held_texts, load_office, load_standing, load_texts}
 use Rattle.exam_rows.specs.Inside.{Contains, IsOurs}
 use Rattle.exam_store.specs.Kept.{Keeps}
 use Rattle.exam_rows.specs.Loaded.{AreUnderstood, FailsThen, IsLoadRefusal, IsMadeHere}
-use Rattle.exam_rows.specs.Versions.{ContainsOf, FailsToMake, HasVersion, IsVersion, marks_since, version}
+use Rattle.exam_rows.specs.Versions.{ContainsOf, FailsToMake, HasVersion, IsOlder, IsVersion, marks_since, version}
 use Rattle.exam_rows.specs.Faults.{is_store_refusal}
-use Rattle.exam_store.specs.Refused.{HoldsFormed, HoldsNone}
+use Rattle.exam_store.specs.Refused.{HoldsFormed, HoldsNone, IsGoodIn}
 
--- if there is a version row, it is that of the newest
+-- if there is a version row, it is that of the newest version
 abbrev pub IsNoOlder : Database → Type 0
 IsNoOlder db = (v : ℕ) → IsVersion v → (all : Trees) → ContainsMade db all → HasVersion v all → v ≡ version
 
--- No table or column is missing, where the tables are ours they keep the office, whose values have the forms of
--- their columns, and the office is of no older version; nothing changes, also over a crash.
+-- No table or column is missing. If the tables are ours, they keep the office, whose values have the forms of their
+-- columns. The office is of no older version. Nothing changes, even over a crash.
 pub record Finds (old new : State) (office : Office) : Type 0 where
   pub understood : HasCleanDisk new → AreUnderstood old.now load_texts
   pub kept : HasCleanDisk new → IsOurs old.now → Keeps old.now office
@@ -32,17 +31,18 @@ pub record Finds (old new : State) (office : Office) : Type 0 where
   pub same : HasCleanDisk new → IsUnchanged old new
   pub survives : Survives old new (λ _. ⊥)
 
--- There is no memory, a query fails and the refusal is that of its error, or the tables of this version hold no
--- good office of it and the database is of no older version.
+-- Memory runs out; or a query fails and the refusal is that of its error; or the tables of this version hold no good
+-- office of it, and the database is of no older version.
 abbrev pub FindsNone : {S : Type 0} → Ghosts S → Held S → Held S → Refusal → Type 0
 FindsNone g old new =
     IsLoadRefusal (FailsThen g old new)
     (((all : Trees) → ContainsOf version (state g old).now all → HoldsNone version all)
     × IsNoOlder (state g old).now)
 
--- the office is one of version 1
+-- the office is one of an older version
 abbrev pub FindsOld : Database → Refusal → Type 0
-FindsOld old e = (e ≡ OldSchema) × ((all : Trees) → ContainsMade old all → HasVersion 1 all)
+FindsOld old e =
+    (e ≡ OldSchema) × ((all : Trees) → ContainsMade old all → (v : ℕ) × IsOlder v × HasVersion v all)
 
 -- why no office is opened
 abbrev pub FailsToOpen : {S : Type 0} → Ghosts S → Held S → Held S → Refusal → Type 0
@@ -58,17 +58,17 @@ MakesEmpty old new = Keeps new empty_state
 
 -- ---- from an older version to the newest
 
--- what loads the tables of a version, beside the version itself
+-- the texts that load the tables of a version, beside the version itself
 abbrev pub version_texts : ℕ → List (List ℕ)
 version_texts v = held_texts ++ (if marks_since v then load_standing ∷ [] else [])
 
 -- the tables are those of this version and hold a good office of it
 abbrev pub HoldsGood : ℕ → Database → Trees → Type 0
 HoldsGood v db all =
-    ContainsOf v db all × HasVersion v all × (office : Office) × HoldsFormed all office × IsGood office
+    ContainsOf v db all × HasVersion v all × (office : Office) × HoldsFormed all office × IsGoodIn v office
 
--- Why an office is not brought to the newest version: a transaction is under way, the tables hold no good office of
--- any version, or those of version 1 are there and the new ones are not made.
+-- Why an office is not brought to the newest version: a transaction is already open, the tables hold no good office of
+-- any version, or those of an older version exist and cannot be made those of the newest.
 abbrev pub FailsToMigrate : {S : Type 0} → Ghosts S → Held S → Held S → Refusal → Type 0
 FailsToMigrate g old new e =
     ((e ≡ Store) × IsTrue (state g old).in_transaction)

@@ -1,5 +1,5 @@
 -- The database that keeps an office.
-use Rattle.std.specs.Prelude.{◌≡◌, ◌↔◌}
+use Rattle.std.specs.Prelude.{◌≡◌, ◌↔◌, ℕ}
 use Rattle.sqlite_trees.specs.Tree.{Trees}
 use Rattle.sqlite.specs.Effect.{Database}
 use Rattle.sqlite.specs.State.{State, HasCleanDisk}
@@ -7,7 +7,7 @@ use Rattle.exam_office.specs.State.{State as Office}
 use Rattle.exam_rows.specs.Held.{HoldsFacts, HoldsRows}
 use Rattle.exam_rows.specs.Inside.{Contains, IsOurs}
 use Rattle.exam_rows.specs.Rows.{seat_row}
-use Rattle.exam_rows.specs.Versions.{HasFirst, HasVersion, version}
+use Rattle.exam_rows.specs.Versions.{ContainsOf, HasVersion, IsOlder, version}
 
 -- each table of facts has the rows of its relation, and the table of seats those of the plans
 pub record HoldsOffice (all : Trees) (office : Office) : Type 0 where
@@ -21,18 +21,18 @@ pub record Keeps (db : Database) (office : Office) : Type 0 where
   pub version : HasVersion version all
   pub held : HoldsOffice all office
 
--- the tables of version 1 have the rows of the office, and its number
-pub record KeepsFirst (db : Database) (office : Office) : Type 0 where
+-- the tables of the version with this number have the rows of the office, and that number
+pub record KeepsIn (v : ℕ) (db : Database) (office : Office) : Type 0 where
   pub all : Trees
-  pub contains : HasFirst all db
-  pub version : HasVersion 1 all
+  pub contains : ContainsOf v db all
+  pub version : HasVersion v all
   pub held : HoldsOffice all office
 
--- what kept an office in version 1 keeps it in the newest
+-- a database that keeps an office in an older version becomes one that keeps it in the newest
 abbrev pub Migrates : Database → Database → Type 0
-Migrates old new = (office : Office) → KeepsFirst old office → Keeps new office
+Migrates old new = (v : ℕ) → IsOlder v → (office : Office) → KeepsIn v old office → Keeps new office
 
--- what kept the one office keeps the other
+-- a database that keeps the one office becomes one that keeps the other
 abbrev pub Rekeeps : Office → Office → Database → Database → Type 0
 Rekeeps before after old new = Keeps old before → Keeps new after
 
@@ -40,11 +40,11 @@ Rekeeps before after old new = Keeps old before → Keeps new after
 abbrev pub IsKept : State → Office → Type 0
 IsKept s office = Keeps s.now office × (s.committed ≡ s.now)
 
--- the tables that are seen keep the office, where they are ours
+-- the tables that are seen keep the office, if they are ours
 abbrev pub KeepsOurs : State → Office → Type 0
 KeepsOurs s office = HasCleanDisk s → IsOurs s.now → Keeps s.now office
 
--- the eleven tables are there in both, with the same rows in any order
+-- the eleven tables exist in both, with the same rows in any order
 pub record HaveSameTables (here there : Database) : Type 0 where
   pub ours : IsOurs here
   pub same : (all : Trees) → Contains here all ↔ Contains there all

@@ -1,7 +1,7 @@
 -- The definitions that contracts of this crate cite. Each file says:
 --
 -- - Saves: the changes that save an office, and why it is not saved
--- - Refused: tables that hold no office
+-- - Refused: a good office of a version; tables that hold none
 -- - Kept: the database that keeps an office
 -- - Found: what opening finds: the office that the tables keep, or why there is none
 -- - Applied: a command on an office in a database: its step or a failure of the store; lists of

@@ -40,13 +40,13 @@ pub record TurnsTables (before after : State) (c : Changes) : Type 0 where
 
 -- ---- why an office is not saved
 
--- The database, within that limit of steps, refuses a write of those that turn the tables of the one office into
--- those of the other. Where it keeps the one, no foreign key stands against it: it does not get to write the rows.
+-- The database, within that limit of steps, refuses one of the writes that turn the tables of the one office into those
+-- of the other. If it keeps the one, no foreign key is the reason: the database stops before it has written the rows.
 abbrev pub RefusesChange : State → State → Option ℕ → Database → Type 0
 RefusesChange before after limit db =
     (c : Changes) × TurnsTables before after c × RefusesOne (all_saved c) limit db
     × (Keeps db before → RefusesOneRow (all_saved c) limit db)
 
--- there is no memory, or a call of the disk failed, the connection was shut, or the database refuses a write
+-- there is no memory, a call of the disk failed, the connection was shut, or the database refuses a write
 abbrev pub FailsToSave : State → State → Shown → Shown → Refusal → Type 0
 FailsToSave before after old new = FailsFor (RefusesChange before after old.step_limit old.now) old new

@@ -18,7 +18,7 @@ use Rattle.exam_rows.specs.Inside.{IsOurs}
 use Rattle.exam_store.specs.Found.{Finds}
 use Rattle.exam_store.specs.Kept.{Keeps}
 
--- The day of each session and of each appeal is one from 2000-01-01 to 2199-12-31: only these have texts of their own
+-- The day of each session and of each appeal is from 2000-01-01 to 2199-12-31: only these days have texts of their own
 -- in the tables.
 pub record HasDays (r : Relations) : Type 0 where
   pub sessions : All (λ (x : Session). IsDay x.day) (values_of r.sessions)
@@ -33,20 +33,20 @@ abbrev pub HasRowDays : Command → Type 0
 HasRowDays (command.Import import) = All HasRowDay import.rows
 HasRowDays _ = Unit {0}
 
--- What a crash at this moment may leave is opened, and this office is found in it: on a disk that returns what was
--- written, where the tables are ours.
+-- What a crash at this moment may leave is opened, and this office is found in it. The disk returns what was written,
+-- and the tables are ours.
 pub record Reopens (crashed was now : Shown) (found : State) : Type 0 where
   pub left : crashed.may_leave was.now.trees
   pub ours : IsOurs was.now
   pub clean : HasCleanDisk now
   pub finds : Finds was now found
 
--- The database keeps that office. It is the one that was found in it, if its days are such days.
+-- The database keeps that office. It is the one that was found in it, if the office has such days.
 pub record IsFoundAs (db : Database) (found office : State) : Type 0 where
   pub kept : Keeps db office
   pub same : HasDays office.relations → found ≡ office
 
--- the office that was found is the one before the command or, made by its step, the one after it
+-- the office that was found is the one before the command, or the one that its step makes
 abbrev pub IsBeforeOrAfter : Command → ℕ → State → Database → State → Type 0
 IsBeforeOrAfter done today before db found =
     IsFoundAs db found before

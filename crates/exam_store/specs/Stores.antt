@@ -9,7 +9,7 @@ pub record OfficeIn (S : Type 0) : Type 0 where
   pub office : State
   pub database : Held S
 
--- it is stored as the pair of its fields
+-- a pair of its fields represents it
 abbrev pub office_code : {S : Type 0} → Coded S → Coded (OfficeIn S)
 office_code {S} store =
     code_by (State × Held S) (coded× office.the_row.coded (held_code store))

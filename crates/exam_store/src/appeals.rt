@@ -16,8 +16,8 @@ use sqlite::{Alter, Connection};
 use std::alloc::Global;
 use std::io::Write;
 
-/// Sends the text of the session's appeals in the office that the database keeps, each as soon as it is read.
-/// Refused as an unknown session exactly where the office has no such session.
+/// Sends the text of the session's appeals in the office that the database keeps, each as soon as it is read. Refused
+/// with `UnknownSession` exactly if the office has no such session.
 pub fn send_kept<S: Alter, F: AppealText, W: Write>(
     alloc: Global,
     conn: &mut Connection<S>,
@@ -48,7 +48,7 @@ pub fn send_kept<S: Alter, F: AppealText, W: Write>(
     if !facts.sessions.contains_key(session) {
         return Err(SendFault::Refused(Refusal::UnknownSession));
     }
-    // The appeals are in the order of their keys.
+    // This shows that the appeals are in the order of their keys.
     office.show_order();
     let count = count_appeals(facts, session);
     send_appeals(alloc, conn, session, count, form, writer)

@@ -32,15 +32,15 @@ pub fn tables_hold_one_office()
     ensures { (all : Trees) (a b : State) → HoldsFormed all a → HoldsFormed all b → a ≡ b }
 {}
 
-/// A list of commands over a store is one over an office in memory, with the same replies, but that memory runs
-/// out there where the store refuses a command here. So each law over lists in memory holds of a store.
+/// A list of commands over a store has the same replies as one over an office in memory, except that memory runs out
+/// there when the store refuses a command here. So each law over lists in memory holds for a store.
 pub fn applied_lists_are_runs()
     ensures { (done : List (Command × ℕ)) (before after : State) (replies : List (Result Reply Refusal))
         → Applies done before replies after → Run done before (map in_memory replies) after }
 {}
 
-/// A list of commands gives from one office the same replies and the same office in whatever stores it is applied,
-/// as long as no store refuses a command. Databases that keep the offices have the same tables then.
+/// A list of commands gives from one office the same replies and the same office in any store, as long as no store
+/// refuses a command. Databases that keep the offices then have the same tables.
 pub fn applied_list_gives_one_office()
     ensures office { (done : List (Command × ℕ)) (before one other : State)
         (first second : List (Result Reply Refusal)) → NoneFails first → NoneFails second
@@ -53,9 +53,9 @@ pub fn applied_list_gives_one_office()
         → Keeps here one → Keeps there other → HaveSameTables here there }
 {}
 
-/// After an accepted lodging in a store the same lodging, at any later moment, on any day and after any commands
-/// between, answered or refused, changes nothing. It answers where the appeal is by then, unless the store refuses
-/// it. The office of a store is in order (`Store::show_good`).
+/// After an accepted lodging in a store, the same lodging at any later moment, on any day and after any commands
+/// between, answered or refused, changes nothing. It answers the appeal's current state, unless the store refuses it.
+/// The office of a store is in order (`Store::show_good`).
 pub fn repeated_lodging_is_applied_once()
     ensures { (lodging : Lodging) (day later : ℕ) (before mid late after : State) (first : Reply)
         (done : List (Command × ℕ)) (replies : List (Result Reply Refusal)) (second : Result Reply Refusal)
@@ -68,7 +68,7 @@ pub fn repeated_lodging_is_applied_once()
         × (after ≡ late) }
 {}
 
-/// The same of a retraction, which answers once more that the appeal is retracted.
+/// The same for a retraction, which answers again that the appeal is retracted.
 pub fn repeated_retraction_is_applied_once()
     ensures { (number : ℕ) (reference : Code) (day later : ℕ) (before mid late after : State) (first : Reply)
         (done : List (Command × ℕ)) (replies : List (Result Reply Refusal)) (second : Result Reply Refusal)
@@ -79,8 +79,8 @@ pub fn repeated_retraction_is_applied_once()
         → ((second ≡ Ok reply.Retracted) ⊎ FailsInStore second) × (after ≡ late) }
 {}
 
-/// The same of a decision, which answers that it is unchanged or, where a later grant has superseded the appeal,
-/// that it is not open.
+/// The same for a decision, which answers that nothing has changed or, if a later grant has superseded the appeal, that
+/// it is not open.
 pub fn repeated_decision_is_applied_once()
     ensures { (decision : Decision) (day later : ℕ) (before mid late after : State) (first : Reply)
         (done : List (Command × ℕ)) (replies : List (Result Reply Refusal)) (second : Result Reply Refusal)
@@ -95,10 +95,10 @@ pub fn repeated_decision_is_applied_once()
         × (after ≡ late) }
 {}
 
-/// A store that was open and kept its office stops at any moment of a command, and what the stop left is opened:
-/// the office that opening finds is the one before the command or the one after it. Once the command has answered,
-/// it is the one after it. A stop in the middle of a call is a disk that fails from some call on, so `new` is what
-/// the call gave on such a disk, and `may_leave` of it what a crash may have left on the disk.
+/// A store that was open and kept its office stops at any moment of a command, and what the stop left is opened. Then
+/// the office that opening finds is the one before the command or the one after it; once the command has answered, it
+/// is the one after it. A stop in the middle of a call is a disk that fails from some call on, so `new` is what the
+/// call gave on such a disk, and its `may_leave` is what a crash may have left on the disk.
 pub fn stopped_command_is_made_or_not<S: Alter, T: Alter>()
     ensures any_moment { (done : Command) (today : ℕ) (old new : OfficeIn S) (answer : Result Reply Refusal)
         (was now : Held T) (found : State)
@@ -115,9 +115,9 @@ pub fn stopped_command_is_made_or_not<S: Alter, T: Alter>()
         → OnOk answer (IsFoundAs (state T.Store was).now found new.office) }
 {}
 
-/// The day of each session and of each appeal is one from 2000-01-01 to 2199-12-31 in the empty office and in one
-/// that was opened, and a command on such a day, whose rows have such days, keeps it so. (A `Day` is one, and so is
-/// the day of each `Row`.) So the office that is found after a stop is the one before the command or after it, and
+/// The day of each session and of each appeal is from 2000-01-01 to 2199-12-31 in the empty office and in one that was
+/// opened. A command on such a day, whose rows have such days, leaves it true. (A `Day` is such a day, and so is the
+/// day of each `Row`.) So the office that is found after a stop is exactly the one before the command or after it, and
 /// not only one with the same texts in the tables (`IsFoundAs`).
 pub fn offices_have_days()
     ensures empty { HasDays empty_state.relations }

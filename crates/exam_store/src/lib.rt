@@ -1,4 +1,4 @@
-//! The office in the tables of a database: one transaction a command, and opening.
+//! The office in the tables of a database: one transaction for each command, and opening.
 #![tactic(auto)]
 
 mod appeals;

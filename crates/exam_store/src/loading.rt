@@ -6,54 +6,72 @@ ghost use Rattle.exam_tables.specs.Made.{ContainsMade, lists_marks};
 ghost use Rattle.exam_tables.specs.Texts.{held_texts, load_standing};
 ghost use Rattle.exam_rows.specs.Faults.{is_store_refusal};
 ghost use Rattle.exam_rows.specs.Loaded.{AreUnderstood, FailsThen, IsLoadRefusal, IsUnderstood, OnlyReads};
-ghost use Rattle.exam_rows.specs.Versions.{ContainsOf, IsVersion, marks_since};
+ghost use Rattle.exam_rows.specs.Versions.{ContainsOf, IsKnown};
 ghost use Rattle.exam_store.specs.Found.{version_texts};
-ghost use Rattle.exam_store.specs.Refused.{HoldsFormed, HoldsNoOffice, HoldsNone};
+ghost use Rattle.exam_office.specs.Good.{IsGood};
+ghost use Rattle.exam_store.specs.Refused.{HoldsFormed, HoldsNoOffice, HoldsNone, is_within};
 
 use exam_office::Office;
-use exam_rows::{NEWEST, Seats, has_marks, load_facts, load_rows};
+use exam_rows::{Seats, Version, has_marks, load_facts, load_rows};
 use exam_types::Refusal;
 use sqlite::{Alter, Connection};
 use std::alloc::Global;
 
-/// The office that the tables of this version hold. Refused as a bad store where they hold none.
+/// The good office that the tables of this version hold, with no more than the version can hold. Refused with `BadStore`
+/// if they hold none.
 pub fn load_version<S: Alter>(
     alloc: Global,
     conn: &mut Connection<S>,
-    version: u8,
+    version: Version,
 ) -> Result<Office, Refusal>
-    requires known { IsVersion version }
+    requires known { IsKnown version }
     ensures rows { HasCleanDisk (state S.Store conn.new) → IfOk result (λ office. (all : _)
         → ContainsMade (state S.Store conn.old).now all
         → HoldsFormed all office × IsUnchanged (state S.Store conn.old) (state S.Store conn.new)) }
     ensures marks { HasCleanDisk (state S.Store conn.new)
-        → OnOk result (lists_marks (state S.Store conn.old).now.schema ≡ marks_since version) }
+        → OnOk result (lists_marks (state S.Store conn.old).now.schema ≡ version.has_marks) }
+    ensures within { IfOk result (λ office. IsTrue (is_within version office)) }
     ensures bad { HasCleanDisk (state S.Store conn.new) → IfErr result (IsLoadRefusal
         (FailsThen S.Store conn.old conn.new)
-        ((all : _) → ContainsOf version (state S.Store conn.old).now all → HoldsNone version all)) }
+        ((all : _) → ContainsOf version.number (state S.Store conn.old).now all
+        → HoldsNone version.number all)) }
     ensures left { HasCleanDisk (state S.Store conn.new)
         → OnlyReads (state S.Store conn.old) (state S.Store conn.new) result }
     ensures understood { HasCleanDisk (state S.Store conn.new)
-        → OnOk result (AreUnderstood (state S.Store conn.old).now (version_texts version)) }
+        → OnOk result (AreUnderstood (state S.Store conn.old).now (version_texts version.number)) }
     ensures survives { Survives (state S.Store conn.old) (state S.Store conn.new) (λ _. ⊥) }
     ensures early { HasCleanDisk (state S.Store conn.new) → HasCleanDisk (state S.Store conn.old) }
     ensures told { IfErr result (λ e. IsTrue (is_store_refusal e)) }
 {
     let office = load_office(alloc, conn)?;
-    if has_marks(conn) != (version == NEWEST) {
+    if has_marks(conn) != version.has_marks {
+        return Err(Refusal::BadStore);
+    }
+    if !is_within(&office, &version) {
         return Err(Refusal::BadStore);
     }
     Ok(office)
 }
 
-/// The office that the tables of any version hold. Refused as a bad store where they hold none.
+/// Whether the office has no more than the version can hold.
+fn is_within(office: &Office, version: &Version) -> bool
+    ensures { result ≡ is_within version.now office.now }
+{
+    match &version.limits {
+        Some(most) => office.holds_at_most(most.openings, most.greatest_sum),
+        None => true,
+    }
+}
+
+/// The office that the tables of any version hold. Refused with `BadStore` if they hold none.
 fn load_office<S: Alter>(alloc: Global, conn: &mut Connection<S>) -> Result<Office, Refusal>
     ensures rows { HasCleanDisk (state S.Store conn.new) → IfOk result (λ office. (all : _)
         → ContainsMade (state S.Store conn.old).now all
         → HoldsFormed all office × IsUnchanged (state S.Store conn.old) (state S.Store conn.new)) }
     ensures bad { HasCleanDisk (state S.Store conn.new) → IfErr result (IsLoadRefusal
         (FailsThen S.Store conn.old conn.new)
-        ((all : _) → ContainsMade (state S.Store conn.old).now all → HoldsNoOffice all)) }
+        ((all : _) → ContainsMade (state S.Store conn.old).now all
+        → HoldsNoOffice IsGood all)) }
     ensures left { HasCleanDisk (state S.Store conn.new)
         → OnlyReads (state S.Store conn.old) (state S.Store conn.new) result }
     ensures understood { HasCleanDisk (state S.Store conn.new)

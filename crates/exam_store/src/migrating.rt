@@ -5,23 +5,22 @@ ghost use Rattle.sqlite.specs.State.{HasCleanDisk, IsUnchanged, Survives};
 ghost use Rattle.exam_rows.specs.Faults.{is_store_refusal};
 ghost use Rattle.exam_rows.specs.Loaded.{AreUnderstood, FailsThen, IsLoadRefusal, OnlyReads};
 ghost use Rattle.exam_rows.specs.Transactions.{Commits};
-ghost use Rattle.exam_rows.specs.Versions.{ContainsOf, IsVersion, marks_since, version};
+ghost use Rattle.exam_rows.specs.Versions.{ContainsOf, IsKnown, IsVersion, version};
 ghost use Rattle.exam_store.specs.Found.{FailsToMigrate, HoldsGood, version_texts};
 ghost use Rattle.exam_store.specs.Kept.{Migrates};
 ghost use Rattle.exam_store.specs.Refused.{HoldsNone};
-ghost use Rattle.exam_tables.specs.Made.{ContainsMade, lists_marks};
+ghost use Rattle.exam_tables.specs.Made.{ContainsMade};
 ghost use Rattle.exam_tables.specs.Texts.{load_office as office_text};
 
 use crate::loading::load_version;
-use exam_rows::{NEWEST, save_widened, version_of};
+use exam_rows::{NEWEST, Version, save_widened, version_of};
 use exam_types::Refusal;
 use sqlite::{Alter, Connection};
 use std::alloc::Global;
 
-/// Brings the office that is there to the newest version, in one transaction or not at all, and gives its
-/// version before and after. An office of the newest version is judged too, and nothing is written. Refused as
-/// `BadStore` if the tables of no version hold a good office of it, and as `Store` also if a transaction is under
-/// way.
+/// Brings the office in the database to the newest version, in one transaction or not at all, and returns its version
+/// before and after. An office of the newest version is checked too, and nothing is written. Refused with `BadStore` if
+/// the tables of no version hold a good office of it, and with `Store` also if a transaction is already open.
 pub fn migrate<S: Alter>(alloc: Global, conn: &mut Connection<S>) -> Result<(u8, u8), Refusal>
     ensures versions { IfOk result (λ v. IsVersion v.0 × (v.1 ≡ version)) }
     ensures found { HasCleanDisk (state S.Store conn.new) → IfOk result (λ v. (all : _)
@@ -41,23 +40,21 @@ pub fn migrate<S: Alter>(alloc: Global, conn: &mut Connection<S>) -> Result<(u8,
         return Err(Refusal::Store);
     }
     let version = judged_version(alloc, conn)?;
-    if version == NEWEST {
-        return Ok((version, NEWEST));
+    if version.number == NEWEST.number {
+        return Ok((version.number, NEWEST.number));
     }
     save_widened(conn)?;
-    Ok((version, NEWEST))
+    Ok((version.number, NEWEST.number))
 }
 
-/// The version of the office that is there, which is good.
-fn judged_version<S: Alter>(alloc: Global, conn: &mut Connection<S>) -> Result<u8, Refusal>
-    ensures known { IfOk result IsVersion }
+/// The version of the office in the database, which must be good and hold no more than the version can.
+fn judged_version<S: Alter>(alloc: Global, conn: &mut Connection<S>) -> Result<Version, Refusal>
+    ensures known { IfOk result IsKnown }
     ensures found { HasCleanDisk (state S.Store conn.new) → IfOk result (λ v. (all : _)
         → ContainsMade (state S.Store conn.old).now all
-        → HoldsGood v (state S.Store conn.old).now all) }
-    ensures marks { HasCleanDisk (state S.Store conn.new)
-        → IfOk result (λ v. lists_marks (state S.Store conn.old).now.schema ≡ marks_since v) }
+        → HoldsGood v.number (state S.Store conn.old).now all) }
     ensures understood { HasCleanDisk (state S.Store conn.new) → IfOk result (λ v.
-        AreUnderstood (state S.Store conn.old).now (office_text ∷ version_texts v)) }
+        AreUnderstood (state S.Store conn.old).now (office_text ∷ version_texts v.number)) }
     ensures bad { HasCleanDisk (state S.Store conn.new) → IfErr result (IsLoadRefusal
         (FailsThen S.Store conn.old conn.new) ((v : _) → IsVersion v → (all : _)
         → ContainsOf v (state S.Store conn.old).now all → HoldsNone v all)) }

@@ -24,8 +24,8 @@ use sqlite::{Alter, Connection};
 use std::alloc::{AllocError, Global};
 use std::collections::BTreeMap;
 
-/// Makes the tables of the office before a command those of the office after it, in one transaction or not at
-/// all. No command takes a row away from a good office but an opening.
+/// Turns the tables of the office before a command into those of the office after it, in one transaction or not at all.
+/// A command deletes rows of a good office only from the openings and the seats.
 pub fn save<S: Alter>(alloc: Global, conn: &mut Connection<S>, draft: &Draft) -> Result<(), Refusal>
     requires { IsGood draft.now.before → KeepsRows draft.now.before.relations draft.now.after.relations }
     ensures made { Commits (state S.Store conn.old) (state S.Store conn.new) result
@@ -37,20 +37,20 @@ pub fn save<S: Alter>(alloc: Global, conn: &mut Connection<S>, draft: &Draft) ->
     ensures ended { conn.old.in_transaction ≡ false → conn.new.in_transaction ≡ false }
     ensures told { IfErr result (λ e. IsTrue (is_store_refusal e)) }
 {
-    // What a good office refers to is there, before the changes and after them.
+    // What a good office refers to exists, before the changes and after them.
     draft.show_good();
     let changes = changes_of(alloc, draft)?;
     save_changes(alloc, conn, &changes)
 }
 
-/// What makes the tables of the office before a command those of the office after it. Goes over the tables that
-/// the command may have changed in more than one row, and over no other. A table that loses no row needs puts alone.
+/// What turns the tables of the office before a command into those of the office after it. Reads only the tables that
+/// the command may have changed in more than one row. A table that loses no row needs only puts.
 fn changes_of(alloc: Global, draft: &Draft) -> Result<Changes<'_>, Refusal>
     requires { IsGood draft.now.before → KeepsRows draft.now.before.relations draft.now.after.relations }
     ensures turns { IfOk result (TurnsTables draft.now.before draft.now.after) }
     ensures memory { IfErr result (λ e. e ≡ NoMemory) }
 {
-    // Before the command the office is good, and its keys rise.
+    // The office before the command is good, and its keys rise.
     draft.show_good();
     let before = draft.tables_before();
     let after = draft.facts();
@@ -68,7 +68,7 @@ fn changes_of(alloc: Global, draft: &Draft) -> Result<Changes<'_>, Refusal>
     })
 }
 
-/// What makes the table after a command of the one before it.
+/// What turns the table before a command into the one after it.
 fn difference_since<'a, K: Ord, V: PartialEq>(
     alloc: Global,
     before: Before<'a, K, V>,
@@ -86,7 +86,7 @@ fn difference_since<'a, K: Ord, V: PartialEq>(
     }
 }
 
-/// What makes the seats after a command of those before it, by the plans that the command may have changed.
+/// What turns the seats before a command into those after it, by the plans that the command may have changed.
 fn seats_since<'a>(
     alloc: Global,
     before: PlansBefore<'a>,
@@ -100,7 +100,7 @@ fn seats_since<'a>(
     }
 }
 
-/// What leaves a table as it is.
+/// A difference that leaves the table as it is.
 fn no_difference<'a, K: Ord, V>(alloc: Global) -> Difference<'a, K, V>
     ensures { (rows : List (K × V)) → TurnsTable K.cmp rows rows result }
 {
@@ -110,7 +110,7 @@ fn no_difference<'a, K: Ord, V>(alloc: Global) -> Difference<'a, K, V>
     }
 }
 
-/// What puts the row at this key, which the table has.
+/// The difference that puts the row at this key, which the table has.
 fn row_put<'a, K: Ord, V: PartialEq>(
     alloc: Global,
     key: &'a K,
@@ -131,7 +131,7 @@ fn row_put<'a, K: Ord, V: PartialEq>(
     })
 }
 
-/// What puts the rows at these keys, all of which the table has.
+/// The difference that puts the rows at these keys, all of which the table has.
 fn rows_put<'a, K: Ord, V: PartialEq>(
     alloc: Global,
     was: &'a BTreeMap<K, Option<V>>,
@@ -142,7 +142,7 @@ fn rows_put<'a, K: Ord, V: PartialEq>(
         → old ≡ put_back K.cmp after.now.entries was.now.entries
         → IfOk result (TurnsTable K.cmp old after.now.entries) }
 {
-    // The length of a map tells that its keys rise.
+    // The contract of `len` says that the keys rise.
     let (_, _) = (was.len(), after.len());
     let mut put = Vec::new(alloc);
     for (key, _) in was {

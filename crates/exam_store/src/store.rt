@@ -36,8 +36,8 @@ use std::io::Write;
 use std::marker::Model;
 use std::mem;
 
-/// An office whose tables lie in a database. Each call refuses as `NoMemory` where there is not enough
-/// memory, and as `Store` where a call of the database failed.
+/// An office whose tables are in a database. Each call refuses with `NoMemory` if there is not enough memory, and with
+/// `Store` if a call of the database failed.
 pub struct Store<S: Alter> {
     conn: Connection<S>,
     office: Office,
@@ -53,7 +53,7 @@ impl<S: Alter> Model for Store<S> {
 
     ghost view = { λ s. record { office = s.office; database = s.conn } };
 
-    // No transaction is under way between two calls.
+    // No transaction is open between two calls.
     ghost invariant = { λ s. s.conn.in_transaction ≡ false };
 }
 
@@ -64,7 +64,7 @@ impl<S: Alter + Drop> Drop for Store<S> {
 }
 
 impl Store<MemStore> {
-    /// An empty office in memory. Refused only where there is not enough of it.
+    /// An empty office in memory. Refused only if there is not enough memory.
     pub fn in_memory(alloc: Global) -> Result<Store<MemStore>, Refusal>
         ensures office { IfOk result (λ store. store.office ≡ empty_state) }
         ensures kept { IfOk result (λ store. IsKept (state over_memory store.database) store.office
@@ -84,9 +84,9 @@ impl Store<MemStore> {
 }
 
 impl<S: Alter> Store<S> {
-    /// Makes an empty office in a database with nothing in it, or opens the good office that is there.
-    /// The connection comes back beside a refusal: `OldSchema` where that office is of an older version,
-    /// `BadStore` where the database holds something else, and `Store` also where a transaction is under way.
+    /// Makes an empty office in an empty database, or opens the good office in it. A refusal returns the connection. It
+    /// is `OldSchema` if that office is of an older version, `BadStore` if the database holds something else, and
+    /// `Store` also if a transaction is already open.
     pub fn create(
         alloc: Global,
         mut conn: Connection<S>,
@@ -117,9 +117,9 @@ impl<S: Alter> Store<S> {
         }
     }
 
-    /// Opens the good office that is there. The connection comes back beside a refusal: `OldSchema` where it is of
-    /// an older version, `BadStore` where the database holds no good office of this version, and `Store` also
-    /// where a transaction is under way.
+    /// Opens the good office in the database. A refusal returns the connection. It is `OldSchema` if the office is of
+    /// an older version, `BadStore` if the database holds no good office of this version, and `Store` also if a
+    /// transaction is already open.
     pub fn open(
         alloc: Global,
         mut conn: Connection<S>,
@@ -142,7 +142,7 @@ impl<S: Alter> Store<S> {
         }
     }
 
-    /// Carries out a command on a day, in one transaction, or refuses it; after a refusal all is as before.
+    /// Carries out a command on a day, in one transaction, or refuses it. After a refusal everything is as before.
     pub fn apply(&mut self, alloc: Global, command: &Command, today: Day) -> Result<Reply, Refusal>
         ensures step { MayApply command.now today self.old.office result self.new.office }
         ensures kept { IsSound (state S.Store self.new.database) → Rekeeps self.old.office self.new.office
@@ -154,7 +154,7 @@ impl<S: Alter> Store<S> {
             → IfErr result (FailsToApply command.now today self.old.office
             (state S.Store self.old.database) (state S.Store self.new.database)) }
     {
-        // The office is the draft's until it is saved or taken back.
+        // The draft holds the office until it is saved or taken back.
         let office = mem::replace(&mut self.office, Office::empty(alloc));
         match Draft::of(alloc, office, command, today) {
             Ok(draft) => match save(alloc, &mut self.conn, &draft) {
@@ -175,9 +175,9 @@ impl<S: Alter> Store<S> {
         }
     }
 
-    /// Applies commands in order, each on its day, and gives what each answers. Refused for want of memory
-    /// before any command, and then all is as before. Whatever it answers, every session is seated as
-    /// promised.
+    /// Applies commands in order, each on its day, and returns what each answers. If there is not enough memory for the
+    /// replies, it refuses before any command, and everything is as before. Whatever it answers, every session is
+    /// seated as promised.
     pub fn apply_all(
         &mut self,
         alloc: Global,
@@ -195,9 +195,9 @@ impl<S: Alter> Store<S> {
         ensures memory { IfErr result (λ e. e ≡ NoMemory) }
         ensures same { OnErr result (self.new ≡ self.old) }
     {
-        // What an office promises is shown here for a refusal, and once more after the commands.
+        // Shows the promise for a refusal here, and again after the commands.
         self.show_seated();
-        // Room for all replies first, so that nothing fails once a command is applied.
+        // Make room for all replies first, so that nothing fails once a command is applied.
         let mut replies = Vec::with_capacity(alloc, commands.len())?;
         'commands: for (command, today) in commands {
             replies.push_reserved(self.apply(alloc, command, *today));
@@ -206,15 +206,15 @@ impl<S: Alter> Store<S> {
         Ok(replies)
     }
 
-    /// In every session whoever sits has a fitting hall and a desk of their own, and no lawful plan seats
-    /// more. Does nothing.
+    /// In every session, each seated candidate has a fitting hall and a desk of their own, and no lawful plan seats
+    /// more. Does nothing at run time.
     pub fn show_seated(&self)
         ensures { (s : Code) → IsSeated self.now.office s }
     {
         self.office.show_seated();
     }
 
-    /// The office is good, and the keys of its tables and of its seats rise. Does nothing.
+    /// The office is good, and the keys of its tables and of its seats rise. Does nothing at run time.
     pub fn show_good(&self)
         ensures good { IsGood self.now.office }
         ensures order { IsInOrder self.now.office }
@@ -223,7 +223,7 @@ impl<S: Alter> Store<S> {
         self.office.show_order();
     }
 
-    /// One session with its plan. Refused as an unknown session where there is no such session.
+    /// One session with its plan. Refused with `UnknownSession` if there is no such session.
     pub fn load_session(
         &mut self,
         alloc: Global,
@@ -236,14 +236,14 @@ impl<S: Alter> Store<S> {
         self.office.session_view(alloc, session)
     }
 
-    /// The access code of a candidate, or none where there is no such candidate. Takes no memory.
+    /// The access code of a candidate, or none if there is no such candidate. Takes no memory.
     pub fn access_code(&self, number: Number) -> Option<AccessCode>
         ensures { result ≡ option_map (λ own. own.code) (own_of self.now.office number) }
     {
         Some(self.office.facts().candidates.get(&number)?.code)
     }
 
-    /// What the office shows of one candidate, or none where there is no such candidate.
+    /// What the office shows of one candidate, or none if there is no such candidate.
     pub fn view_candidate(&mut self, alloc: Global, number: Number) -> Result<Option<Own>, Refusal>
         ensures ok { IfOk result (λ own. option_map shown own ≡ own_of self.old.office number) }
         ensures memory { IfErr result (λ e. (e ≡ NoMemory) × IsSome (own_of self.old.office number)) }
@@ -252,9 +252,9 @@ impl<S: Alter> Store<S> {
         self.office.own(alloc, number)
     }
 
-    /// Sends the text of the session's appeals, by candidate and reference, each as soon as the database shows it,
-    /// so that no list of them is made. After a fault a beginning of the text may have gone out; an unknown session
-    /// is refused before anything does. The office and what keeps it stay as they were.
+    /// Sends the text of the session's appeals, by candidate and reference, each as soon as the database shows it, so
+    /// no list of them is made. After a fault a beginning of the text may have been sent; an unknown session is refused
+    /// before anything is. The office and what keeps it stay as they were.
     pub fn send_appeals<F: AppealText, W: Write>(
         &mut self,
         alloc: Global,
@@ -285,7 +285,7 @@ impl<S: Alter> Store<S> {
         send_kept(alloc, &mut self.conn, &self.office, session, form, writer)
     }
 
-    /// Gives the connection back. Takes no memory.
+    /// Returns the connection. Takes no memory.
     pub fn close(self) -> Connection<S>
         ensures { result ≡ self.database }
     {
@@ -294,7 +294,7 @@ impl<S: Alter> Store<S> {
     }
 }
 
-/// The store of this office. Refused where a transaction is under way.
+/// The store of this office. Refused with `Store` if a transaction is open.
 fn store_of<S: Alter>(
     conn: Connection<S>,
     office: Office,
@@ -313,7 +313,7 @@ fn store_of<S: Alter>(
     }
 }
 
-/// The empty office, whose tables are made, or the office that is there.
+/// Makes the empty office with its tables, or loads the office that exists.
 fn create_office<S: Alter>(alloc: Global, conn: &mut Connection<S>) -> Result<Office, Refusal>
     ensures empty { IsBlank (state S.Store conn.old).now
         → IfOk result (λ office. (office ≡ empty_state) × (conn.new.in_transaction ≡ false)) }
@@ -339,7 +339,7 @@ fn create_office<S: Alter>(alloc: Global, conn: &mut Connection<S>) -> Result<Of
     Ok(Office::empty(alloc))
 }
 
-/// The office that is there. Refused as of an old schema where it is of an older version.
+/// The office in the database. Refused with `OldSchema` if it is of an older version.
 fn load_kept<S: Alter>(alloc: Global, conn: &mut Connection<S>) -> Result<Office, Refusal>
     ensures found { IfOk result (Finds (state S.Store conn.old) (state S.Store conn.new)) }
     ensures kept { IfOk result (KeepsOurs (state S.Store conn.new)) }
@@ -351,7 +351,7 @@ fn load_kept<S: Alter>(alloc: Global, conn: &mut Connection<S>) -> Result<Office
     ensures told { IfErr result (λ e. IsTrue (is_open_refusal e)) }
 {
     let version = version_of(conn)?;
-    if version != NEWEST {
+    if version.number != NEWEST.number {
         return Err(Refusal::OldSchema);
     }
     load_version(alloc, conn, version)

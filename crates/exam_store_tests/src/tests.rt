@@ -74,8 +74,8 @@ fn refusal_of_creating(alloc: Global, conn: Connection<MemStore>) -> u16 {
     }
 }
 
-/// Compares the number of the refusal, 0 of none, of opening an office of these rows after a line of statements and
-/// those that come then, for each line.
+/// For each line, compares the number of the refusal (0 for none) of opening an office that was made by these rows, by
+/// the line's statements and by those that follow.
 fn expect_each<R: Abort + AllocGlobal>(
     rt: &R,
     rows: &[&str],

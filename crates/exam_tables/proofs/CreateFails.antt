@@ -1,4 +1,4 @@
--- Why CREATE TABLE fails, where nothing in the schema stands against it.
+-- Why CREATE TABLE fails if nothing in the schema forbids it.
 use Rattle.std.proofs.Common.{◌≡◌, ◌⊎◌, ◌+◌, ◌*◌, ◌^◌, ◌<◌, ◌≤◌, inl, inr, ℕ, List, [], length, codes, not, ◌==◌, true, false, None, Some, Option, Ok, Err, Result, refl, sym, ap, subst, ◌∙◌, arith, IsUtf8, nat_lt, true≢false}
 use Rattle.std.specs.List.{list_all}
 use Rattle.std.proofs.lemmas.Bool.{not-true, ltb-true}
@@ -28,7 +28,7 @@ use Rattle.exam_tables.specs.Refusals.{Fails}
 use Rattle.exam_tables.proofs.Failing.{IsWhole}
 use Rattle.exam_tables.proofs.StatementFails.{IsQuiet, fails_by}
 
--- nothing stands against the table: its name is free, and its text and its columns are neither too long nor too many
+-- nothing forbids the table: its name is free, and its text and its columns are neither too long nor too many
 pub record IsFree (schema : Schema) (table : Table) (text : List ℕ) : Type 0 where
   pub name : is_used schema table.name ≡ false
   pub keys : list_all (λ (i : Index). not (is_used schema i.name)) (automatics table 0 0 table.uniques) ≡ true
@@ -92,7 +92,7 @@ stops {B} {First} stop it = let same : it.0 ≡ stop = cc in subst First same it
 
 module _ (schema : Schema) (table : Table) (text : List ℕ) (is : command_of (understood schema text) ≡ CreateTable) (plain : IsPlain (understood schema text)) (whole : IsWhole text 0 (understood schema text))
     (one : statement_of text (understood schema text) ≡ text) (defined : table_defined_by text ≡ Ok table) (uncounted : lacks_sequence (created schema table) ≡ false) (free : IsFree schema table text) where
-  -- whoever carries it out does
+  -- carrying it out does not stop either
   not_stopped : (db : Database) → db.schema ≡ schema → (stop : Option Error) → Then (MakesTable text db) MakesSequence (Err stop) → ⊥
   not_stopped db has stop (inl at_table) = made schema table text defined free db has stop (stops {First = λ s. MakesTable text db (Err s)} stop at_table)
   not_stopped db has stop (inr (after, makes, counts)) =
@@ -133,6 +133,6 @@ module _ (schema : Schema) (table : Table) (text : List ℕ) (is : command_of (u
         first (inl it) = it
         first (inr (after, makes, gives)) = absurd cc
 
-    -- The text that makes the table fails for want of memory, or where the disk or the connection does.
+    -- The text that makes the table fails only if memory runs out, or if the disk or the connection fails.
     pub fails_create : (e : Error) → ExecutesInside 0 text [] old new (Err e) → Fails old new ⊥ e
     fails_create = fails_by text [] old new schema has CreateTable is creates_quietly plain whole ⊥ (λ e does. absurd (never (Some e) does)) never

@@ -55,7 +55,7 @@ gives_named a e h = absurd cc
 is : (e f : Error) → e ≡ f → IsTrue (is_failure f) → IsTrue (is_failure e)
 is e f same named = subst (λ x. IsTrue (is_failure x)) (sym same) named
 
--- it is the error that is told
+-- this error is the one that is reported
 told : {A : Type 0} (e f : Error) → ◌≡◌ {A = Result A (Option Error)} (Err (Some e)) (Err (Some f)) → IsTrue (is_failure f) → IsTrue (is_failure e)
 told e f same named = let it : e ≡ f = cc in is e f it named
 
@@ -203,7 +203,7 @@ module _ (old new : State) (Refused : Type 0) where
   cause e TooBig (Broken, same, why, back, tells) big = inr (is e _ same refl, inl (inr why))
   cause e TooBig (Unstorable, same, why, back, tells) big = inr (is e _ same refl, inr (big why))
 
--- what the answer of a statement tells: the database does it, or why it fails
+-- what follows from the answer of a statement: the database does it, or why it fails
 pub record Answers (sql : List ℕ) (params : Row) (old new : State) : Type 0 where
   pub done : (count : ℕ) → Executes sql params old new (Ok count) → RunsTo old.step_limit sql params old.now new.now
   pub fails : (e : Error) → ExecutesInside 0 sql params old new (Err e) → Fails old new (Refuses old.step_limit old.now sql params) e

@@ -31,7 +31,7 @@ pub record Comes (table : Table) (key : List ℕ) (first : Value) (columns value
   -- a row has its rowid only if it has its key
   pub tied : (r : Row) → Has rows r → same_rowid r (Int id ∷ columns) ≡ true → same_key key (bare (places table) r) (Null ∷ values) ≡ true
 
--- The source `first ∷ columns` of a statement is kept as it is, and stands for the values.
+-- The source `first ∷ columns` of a statement is stored as it is, and represents the values.
 pub record Fits (table : Table) (key : List ℕ) (first : Value) (columns values : Row) : Type 0 where
   pub whole : mended_from table.key 0 table.columns columns ≡ columns
   pub typed : cast_all table.columns columns ≡ columns

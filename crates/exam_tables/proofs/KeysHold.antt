@@ -67,7 +67,7 @@ module _ (schema : Schema) (at : ℕ) (table : Table) (key target : List ℕ) (k
         (c, known, stop, table, place, subst (λ k. WritesRows task trees k (Err stop)) (sym its_command) stopped)
 
   module _ (limit : Option ℕ) (db : Database) (all : Trees) (was : ContainsIn schema db all) where
-    -- the rows that are written are those that are meant
+    -- the database has this schema
     in_schema : db ≡ record { schema = schema; trees = db.trees }
     in_schema = database_is db was.schema_is refl
 

@@ -19,7 +19,7 @@ use Rattle.sqlite.specs.State.{State, FailsToQuery, FailsToShow, IsNotRun}
 use Rattle.sqlite.proofs.Callers.{IsPlain}
 use Rattle.exam_tables.specs.Refusals.{is_failure}
 
--- want of memory, or a failure
+-- memory ran out, or a failure
 abbrev IsKnown : Error → Type 0
 IsKnown e = (e ≡ SqliteFailure OutOfMemory) ⊎ IsTrue (is_failure e)
 
@@ -41,7 +41,7 @@ of_read limit (Select q names) db params e (inr (inr long)) = is e _ long.0 refl
 of_read limit (Rows values width names) db params e long = is e _ long.0 refl
 of_read limit _ db params e invalid = is e _ invalid refl
 
--- It fails for want of memory, or as a failure: its text is understood.
+-- It fails because memory runs out, or as a failure: its text is understood.
 pub query_fails : (sql : List ℕ) (params : Row) (old new : State) (schema : Schema) → old.now.schema ≡ schema → IsPlain (understood schema sql) → (e : Error) → FailsToQuery sql params old new e → IsKnown e
 unfolding FailsToQuery IsNotRun
 query_fails sql params old new schema has plain = fails

@@ -1,4 +1,4 @@
--- What the rows of the eleven tables refer to: where each has it, no foreign key stands against a statement.
+-- What the rows of the eleven tables refer to: if each has it, no foreign key forbids a statement.
 use Rattle.std.proofs.Common.{◌≡◌, ℕ, List, [], ◌∷◌, Bool, true, refl, subst, ◌∙◌}
 use Rattle.std.specs.Cmp.Derive.{both_true}
 use Rattle.std.specs.List.{AllByRecursion, list_any}
@@ -18,7 +18,8 @@ use Rattle.exam_tables.specs.Content.{ContainsIn, Holds, places, bare}
 use Rattle.exam_tables.specs.Tables.{store_schema, stored_session, stored_paper, stored_hall, stored_candidate, stored_opening, stored_entry, stored_arrangement, stored_appeal, stored_seat, stored_standing}
 use Rattle.exam_tables.proofs.Queries.{has_permuted}
 
--- a foreign key: the tree of the rows that refer to others, the places of their columns, and the tree and the key of those others
+-- a foreign key: the tree of the rows that refer to others, the places of their columns, and the tree and the key of
+-- those others
 pub record Link : Type 0 where
   pub child : ℕ
   pub columns : List ℕ
@@ -28,7 +29,7 @@ pub record Link : Type 0 where
 abbrev pub link : ℕ → List ℕ → ℕ → List ℕ → Link
 link child columns parent key = record { child = child; columns = columns; parent = parent; key = key }
 
--- the foreign keys of the eleven tables, by the rows that are meant
+-- the foreign keys of the eleven tables, by their rows read by columns
 abbrev pub links : List Link
 links =
     link 3 (3 ∷ []) 1 (1 ∷ []) ∷ link 8 (1 ∷ []) 1 (1 ∷ []) ∷ link 8 (2 ∷ []) 5 (1 ∷ [])
@@ -50,7 +51,7 @@ Stand all = AllByRecursion (Stands all) links
 
 module _ (child_places parent_places : List ℕ) (kept_child child kept_parent parent : List Row) (children : Holds child_places kept_child child) (parents : Holds parent_places kept_parent parent) (test kept_test : Row → Row → Bool)
     (same : (p r : Row) → kept_test p r ≡ test (bare parent_places p) (bare child_places r)) (stands : AllByRecursion (λ r. list_any (λ p. test p r) parent ≡ true) child) where
-  -- rows that are kept refer as those that are meant
+  -- stored rows refer as the rows read by columns do
   kept : (r : Row) → Has kept_child r → list_any (λ p. kept_test p r) kept_parent ≡ true
   kept r h =
       let meant : list_any (λ p. test p (bare child_places r)) parent ≡ true =
@@ -101,6 +102,6 @@ module _ (db all : Trees) where
     ),
   )
 
--- Where each row that is meant has what it refers to, the foreign keys hold.
+-- If what each row refers to exists, the foreign keys hold.
 pub refers : (db : Database) (all : Trees) → ContainsIn store_schema db all → Stand all → Refers among.All store_schema db.trees
 refers db all was stand = from_rows db.trees all was.rows stand

@@ -64,7 +64,7 @@ query_unlisted : reads_listing store_schema session_appeals ≡ false
 unfolding understood everything store_schema
 query_unlisted = refl
 
--- the row, as it is meant, is of that session
+-- the row, read by columns, is of that session
 abbrev pub is_of : List ℕ → Row → Bool
 is_of s row = agree plain (3 ∷ []) row (1 ∷ []) (Null ∷ Text s ∷ [])
 

@@ -69,7 +69,7 @@ module _ (sql : List ℕ) (params : Row) (old new : State) (schema : Schema) (ha
         let known = from_schema it.is in
         command_fails c known it.now e (rw (quiet c known) at ran)
 
-    -- It fails for want of memory, where the disk or the connection does, or where the database refuses it.
+    -- It fails because memory runs out, because the disk or the connection fails, or because the database refuses it.
     pub fails_by : (e : Error) → ExecutesInside 0 sql params old new (Err e) → Why e
     unfolding EndsScope
     fails_by e (inl (ran, same)) = fails_as e ran

@@ -177,7 +177,7 @@ module _ (schema : Schema) (at : ℕ) (table : Table) (key target : List ℕ) (k
             subst (λ (t : Trees). AllByRecursion (λ s. s.tree ≢ table.tree → t s.tree ≡ db s.tree) schema.tables) (sym trees) step.tables,
           )
 
-      -- a row gives way to the new one only if it has its key
+      -- a row conflicts with the new one only if it has its key
       meets : (db : Trees) (new : Comes table key first columns values (db table.tree)) (r : Row) → Has (db table.tree) r → conflicts None schema.indexes table (Int new.id ∷ columns) r ≡ true
           → same_key key (bare (places table) r) (Null ∷ values) ≡ true
       meets db new r h is = elim (or_cases _ _ (sym (keyed.barred r (Int new.id ∷ columns)) ∙ is)) [
@@ -232,7 +232,7 @@ module _ (schema : Schema) (at : ℕ) (table : Table) (key target : List ℕ) (k
       lacks db new are = sym (filter_all _ (db table.tree) (all_from _ (db table.tree) (λ r h. ap not (false_from_ne_true _ (λ same.
           are.complete r h (keyed.aimed r (Int new.id ∷ columns) ∙ subst (λ b. same_key key (bare (places table) r) b ≡ true) (sym new.full) same))))))
 
-      -- the query finds the row t alone, and writes it anew
+      -- the query finds only the row t, and writes it again
       found_anew : (db : Trees) (given : Row) (terms project : List Term) (t : Row) (found : List Row) → IsShaped TableShape (db table.tree) → overlay db [] table.tree ≡ db table.tree → Has (db table.tree) t
           → ((r : Row) → list_all (holds (given ∷ r ∷ [])) terms ≡ same_rowid r t) → eval_all project (given ∷ t ∷ []) ≡ rowid t ∷ rowid t ∷ columns
           → IsAnswer (one_table table.tree terms project []) (overlay db []) given found → found ≡ (rowid t ∷ rowid t ∷ columns) ∷ []
@@ -242,7 +242,7 @@ module _ (schema : Schema) (at : ℕ) (table : Table) (key target : List ℕ) (k
           let same = subst (λ l. IsPermutation (map (λ r. eval_all project (given ∷ r ∷ [])) l) found) alone (picks table.tree terms project [] (overlay db []) given found answer) in
           one_permutation _ found (subst (λ r. IsPermutation (r ∷ []) found) written same)
 
-      -- where one row stands in the place of the row t with the key, no other row has the key
+      -- if one row replaces the row t with the key, no other row has the key
       stands : (db next : Trees) (t : Row) (id : ℤ) → IsShaped TableShape (db table.tree) → Has (db table.tree) t → rowid t ≡ Int id → same_key key (bare (places table) t) (Null ∷ values) ≡ true
           → are_fresh (without_all (db table.tree) (id ∷ [])) ((Int id ∷ columns) ∷ []) ≡ true → next table.tree ≡ put_row (Int id ∷ columns) (without_all (db table.tree) (id ∷ [])) → rules.Fits schema next
           → without_all (db table.tree) (id ∷ []) ≡ without values (db table.tree)
@@ -271,7 +271,7 @@ module _ (schema : Schema) (at : ℕ) (table : Table) (key target : List ℕ) (k
                 inl (ap (λ (r : Row). id_in (rowid r)) (keyed.alone next next_shaped unique r (Int id ∷ columns) there new (subst (λ b. same_key key (bare (places table) r) b ≡ true) (sym (fits.moved t id lies same)) also)))
           ]
 
-      -- DO UPDATE writes the row t with the key anew, at its rowid
+      -- DO UPDATE writes the row t with the key again, at its rowid
       changes : (db : Trees) (one : Written) (given : Row) (terms project : List Term) (t : Row) → IsShaped TableShape (db table.tree) → overlay db [] table.tree ≡ db table.tree
           → Has (db table.tree) t → same_key key (bare (places table) t) (Null ∷ values) ≡ true → ((r : Row) → list_all (holds (given ∷ r ∷ [])) terms ≡ same_rowid r t)
           → eval_all project (given ∷ t ∷ []) ≡ rowid t ∷ rowid t ∷ columns → Updates task (record { lets = []; body = one_table table.tree terms project [] }) given db (Ok one) → IsPut columns values db one.trees

@@ -1,4 +1,4 @@
--- Why the version is not set: whatever rows the tables have, only steps that are too few stand against it.
+-- Why the version is not set: whatever rows the tables have, only a limit of steps that is too low prevents it.
 use Rattle.std.proofs.Common.{◌≡◌, ◌⊎◌, ◌==◌, ◌||◌, ◌&&◌, not, inl, inr, ℕ, ℤ, zero, suc, pos, negsuc, List, [], ◌∷◌, length, Bool, true, false, None, Some, Option, Ok, Err, Result, refl, sym, ap, ap₂, subst, ◌∙◌, arith, IsSome, lit≤, lit<, length-append, true≢false, All, map, Equal}
 use Rattle.std.specs.List.{AllByRecursion, list_all, list_any}
 use Rattle.std.specs.Ordering.{is_eq}
@@ -56,7 +56,7 @@ use Rattle.exam_tables.proofs.OfOffice as office
 use Rattle.exam_tables.proofs.Statements.{finds, replaces, tries_one, without, held_at, database_is}
 use Rattle.exam_tables.proofs.TableFacts.{office_keyed}
 
--- no index stands on the first table
+-- the first table has no index
 unguarded : list_all (λ (t : Table). not (t.tree == 0) || list_all (λ i. not (guards i t)) store_schema.indexes) store_schema.tables ≡ true
 unfolding store_schema
 unguarded = refl
@@ -335,7 +335,7 @@ module _ (version : ℤ) where
         (on_rows limit db.trees (held_at store_schema 0 stored_office (1 ∷ []) (0 ∷ []) office_keyed db.trees all was.rows).shaped rules stop
         (on_insert store_schema 0 stored_office (1 ∷ []) (0 ∷ []) office_keyed Replace [] office.terms 3 limit given (text_of office.put_text c) db.trees stop ran)).1
 
--- It fails for want of memory, where the disk or the connection does, or where the steps are limited.
+-- It fails because memory runs out, because the disk or the connection fails, or because the steps are limited.
 pub version_fails : (old new : State) (all : Trees) (version : ℤ) → ContainsIn store_schema old.now all → ((rule : Constraint) → Keeps rule store_schema old.now.trees)
     → (e : Error) → ExecutesInside 0 office.put_text (Int version ∷ []) old new (Err e) → Fails old new (IsSome old.step_limit) e
 version_fails old new all version was rules e ran = narrow ((office.put_answers old new version was.schema_is).fails e ran)

@@ -1,4 +1,4 @@
--- What a table holds: its rows in any order, read by columns, with NULL in place of their rowids.
+-- What a table holds: its rows in any order, read by columns, with NULL in the place of each rowid.
 use Rattle.std.specs.Prelude.{◌≡◌, ℕ, Bool, not, List, [], ◌∷◌, map, filter, length}
 use Rattle.std.specs.Prelude.{IsPermutation}
 use Rattle.std.specs.List.{range_with_len, AllByRecursion}
@@ -14,7 +14,7 @@ use Rattle.sqlite_schema.specs.declared.schema.Table.{Table}
 use Rattle.sqlite_schema.specs.declared.schema.Schema.{Schema}
 use Rattle.sqlite.specs.Effect.{Database}
 
--- where a kept row has the value of each column: a column that stands for the rowid is at 0
+-- the place in a stored row of the value of each column; a column that is the rowid is at 0
 abbrev pub places : Table → List ℕ
 places table = map (place_of table) (range_with_len 0 (length table.columns))
 
@@ -22,22 +22,22 @@ places table = map (place_of table) (range_with_len 0 (length table.columns))
 abbrev pub bare : List ℕ → Row → Row
 bare places row = Null ∷ map (column row) places
 
--- these rows, as they are kept, are those rows, as they are meant
+-- the stored rows `kept`, read by columns and in any order, are `rows`
 pub record Holds (places : List ℕ) (kept rows : List Row) : Type 0 where
   -- the rowids are numbers that rise, so none comes twice
   pub shaped : IsShaped TableShape kept
   pub same : IsPermutation (map (bare places) kept) rows
 
--- Each table of the schema has these rows: `all` gives for each of its trees the rows that are meant.
+-- Each table of the schema has these rows: `all` gives the rows of each of its trees, read by columns.
 pub record ContainsIn (schema : Schema) (db : Database) (all : Trees) : Type 0 where
   pub schema_is : db.schema ≡ schema
   pub rows : AllByRecursion (λ t. Holds (places t) (db.trees t.tree) (all t.tree)) schema.tables
 
--- the row takes the place of the row with its key
+-- the row replaces the row with its key
 abbrev pub put : List ℕ → Row → List Row → List Row
 put key row rows = row ∷ filter (λ r. not (agree plain key r key row)) rows
 
--- no row with the key of this one is left
+-- the rows without those that have the key of this one
 abbrev pub delete : List ℕ → Row → List Row → List Row
 delete key row rows = filter (λ r. not (agree plain key r key row)) rows
 
@@ -45,6 +45,6 @@ delete key row rows = filter (λ r. not (agree plain key r key row)) rows
 abbrev pub same_key : List ℕ → Row → Row → Bool
 same_key key a b = agree plain key a key b
 
--- both kept rows have the same rowid, as SQL compares
+-- both stored rows have the same rowid, as SQL compares
 abbrev pub same_rowid : Row → Row → Bool
 same_rowid a b = agree plain (0 ∷ []) a (0 ∷ []) b

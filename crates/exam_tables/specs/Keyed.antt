@@ -15,7 +15,7 @@ use Rattle.sqlite_rules.specs.Action.{works}
 use Rattle.sqlite_rules.specs.Lists.{Has}
 use Rattle.exam_tables.specs.Content.{places, bare, same_key, same_rowid}
 
--- where each row of the table passes UNIQUE, no two rows have the same key
+-- if each row of the table passes UNIQUE, no two rows have the same key
 abbrev pub IsAlone : Schema → Table → List ℕ → Type 0
 IsAlone schema table key =
     (db : Trees) → IsShaped TableShape (db table.tree)
@@ -23,15 +23,15 @@ IsAlone schema table key =
     → (r s : Row) → Has (db table.tree) r → Has (db table.tree) s
     → same_key key (bare (places table) r) (bare (places table) s) ≡ true → r ≡ s
 
--- `key` has the places of the key among the columns, from 1, and `target` its places in a kept row.
+-- `key` has the places of the key among the columns, from 1, and `target` its places in a stored row.
 pub record IsKeyed (schema : Schema) (at : ℕ) (table : Table) (key target : List ℕ) : Type 0 where
   pub place : slice_get schema.tables at ≡ Some table
   pub uncounted : table.is_counted ≡ false
   pub unstamped : table.stamps.terms ≡ []
-  -- a table with its tree is read as it is
+  -- all tables with this tree are read alike
   pub apart :
       list_all (λ t. not (t.tree == table.tree) || bytes_eq (places t) (places table)) schema.tables ≡ true
-  -- a row gives way to one with its rowid or its key
+  -- a row conflicts with one that has its rowid or its key
   pub barred : (a b : Row)
       → conflicts None schema.indexes table b a
       ≡ (same_rowid a b || same_key key (bare (places table) a) (bare (places table) b))
@@ -40,5 +40,5 @@ pub record IsKeyed (schema : Schema) (at : ℕ) (table : Table) (key target : Li
       → conflicts (Some target) schema.indexes table b a
       ≡ same_key key (bare (places table) a) (bare (places table) b)
   pub alone : IsAlone schema table key
-  -- no foreign key to it acts
+  -- no foreign key to the table changes or deletes rows
   pub still : (olds news : List Row) → works schema Enforced 0 table.tree olds news ≡ []

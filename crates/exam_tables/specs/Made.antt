@@ -12,11 +12,11 @@ abbrev pub made_schema : Bool → Schema
 made_schema true = store_schema
 made_schema false = first_schema
 
--- the table of marks is among those of the schema
+-- the table of marks is one of those of the schema
 abbrev pub lists_marks : Schema → Bool
 lists_marks schema = is_some (table_named schema (codes "standing"))
 
--- The tables that are there have these rows. Where there is no table of marks, no mark is meant.
+-- The tables that exist have these rows. If there is no table of marks, there are no marks.
 pub record ContainsMade (db : Database) (all : Trees) : Type 0 where
   pub has_marks : Bool
   pub contains : ContainsIn (made_schema has_marks) db all

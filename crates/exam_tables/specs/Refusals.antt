@@ -16,24 +16,24 @@ use Rattle.sqlite.specs.Effect.{Database}
 use Rattle.sqlite.specs.Listing.{understood}
 use Rattle.sqlite.specs.State.{State, text_of}
 
--- foreign keys hold after every statement
+-- foreign keys are tested after every statement
 abbrev pub at_once : Mode
 at_once = record { keys = Enforced; in_doubt = false; may_wait = false }
 
--- The database understands the statement and refuses it: a rule of its tables stands against it, no rowid is
--- left, a row is too big, or the steps that it may take are too few.
+-- The database understands the statement and refuses it: a rule of its tables forbids it, no rowid is left, a row is
+-- too big, or the steps that it may take are too few.
 abbrev pub Refuses : Option ℕ → Database → List ℕ → Row → Type 0
 Refuses limit db text params =
     (c : Compiled) × (understood db.schema text ≡ Ok c) × (stop : Option Error)
     × Does limit at_once params db (text_of text c) c.returning c.command (Err stop)
 
--- the database understands the statement, and within that limit of steps it makes it this one
+-- the database understands the statement, and within that limit of steps it turns the database into this one
 abbrev pub RunsTo : Option ℕ → List ℕ → Row → Database → Database → Type 0
 RunsTo limit text params db after =
     (c : Compiled) × (understood db.schema text ≡ Ok c) × (tally : Tally)
     × Does limit at_once params db (text_of text c) c.returning c.command (Ok (tally, after))
 
--- the place of the table whose rows the command writes or takes out
+-- the place of the table whose rows the command writes or deletes
 abbrev pub written_table : Command → Option ℕ
 written_table (InsertOr at way from clauses) = Some at
 written_table (Delete at q) = Some at
@@ -51,13 +51,13 @@ RefusesRows limit db text params =
 abbrev pub IsDown : State → State → Type 0
 IsDown old new = MoreFaults old.faults new.faults ⊎ (old.is_open ≡ false)
 
--- neither want of memory nor a text that is not understood
+-- the error is neither that memory ran out nor that the text is not understood
 abbrev pub is_failure : Error → Bool
 is_failure (SqliteFailure OutOfMemory) = false
 is_failure (SqlInputError fault) = false
 is_failure _ = true
 
--- want of memory, or a failure, with its reason
+-- memory ran out, or a failure with its reason
 abbrev pub Fails : State → State → Type 0 → Error → Type 0
 Fails old new Refused e =
     (e ≡ SqliteFailure OutOfMemory) ⊎ (IsTrue (is_failure e) × (IsDown old new ⊎ Refused))

@@ -192,7 +192,7 @@ seat = strict_table (codes "seat")
     (refers (2 ∷ []) (codes "candidate") (codes "number" ∷ [])
     ∷ refers (1 ∷ 3 ∷ []) (codes "opening") (codes "session" ∷ codes "hall" ∷ []) ∷ [])
 
--- It is made last, also where all are new, so that a database that is brought to this version has the schema of a
+-- It is made last, even if all tables are new, so that a database that is brought to this version has the schema of a
 -- new one.
 abbrev pub standing_text : List ℕ
 standing_text = codes "CREATE TABLE standing (number INTEGER NOT NULL, ref TEXT NOT NULL, PRIMARY KEY (number, ref), FOREIGN KEY (number, ref) REFERENCES appeal (number, ref)) STRICT"

@@ -1,5 +1,5 @@
--- The texts that put a row of a table, whether its key is there or not, that delete an opening or a seat by its key,
--- that load all rows, and that read the appeals of a session.
+-- The texts that put a row of a table, whether or not its key exists; that delete an opening or a seat by its key; that
+-- load all rows; and that read the appeals of a session.
 use Rattle.std.specs.Prelude.{ℕ, List, [], ◌∷◌, ◌++◌, codes}
 
 abbrev pub put_session : List ℕ
@@ -79,16 +79,16 @@ load_seat = codes "SELECT session, number, hall FROM seat"
 abbrev pub session_appeals : List ℕ
 session_appeals = codes "SELECT number, ref, session, kind, target, needs, extra, reason, state, answer, lodged FROM appeal WHERE session = ?1 ORDER BY number, ref"
 
--- what loads the tables of facts
+-- the texts that load the tables of facts
 abbrev pub fact_texts : List (List ℕ)
 fact_texts =
     load_session ∷ load_paper ∷ load_hall ∷ load_candidate ∷ load_opening ∷ load_entry ∷ load_arrangement ∷ load_appeal
     ∷ []
 
--- what loads the office
+-- the texts that load the office
 abbrev pub held_texts : List (List ℕ)
 held_texts = fact_texts ++ load_seat ∷ []
 
--- and what loads its version first, and the marks where their table is there
+-- the texts that load its version first, and the marks if their table exists
 abbrev pub load_texts : List (List ℕ)
 load_texts = load_office ∷ held_texts ++ load_standing ∷ []

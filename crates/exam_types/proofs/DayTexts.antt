@@ -50,7 +50,7 @@ pub written : (n y m d : ℕ) (none year to_month month to_day day : List ℕ) �
 written n y m d none year to_month month to_day day ya mb dc e₀ e₁ e₂ e₃ e₄ e₅ =
     rw (day_text-is n, ← ya, ← mb, ← dc, e₅, e₄, e₃, e₂, e₁, e₀) refl
 
--- what was read, where the parts of a text of the right shape are these
+-- what the parts of a text with the right form are read as
 abbrev AreParts : List ℕ → Option (ℕ × ℕ × ℕ) → Type 0
 AreParts bytes r = (y m d : ℕ) → (r ≡ Some (y, m, d)) ↔ ((y < 10000) × (m < 100) × (d < 100) × (date_text y m d ≡ bytes))
 
@@ -67,7 +67,7 @@ same_some p q e =
 same_parts : (r : Option (ℕ × ℕ × ℕ)) (y m d y₂ m₂ d₂ : ℕ) → r ≡ Some (y, m, d) → r ≡ Some (y₂, m₂, d₂) → (y ≡ y₂) × (m ≡ m₂) × (d ≡ d₂)
 same_parts r y m d y₂ m₂ d₂ e f = same_some (y, m, d) (y₂, m₂, d₂) (sym e ∙ f)
 
--- where no day has this text, none is read
+-- if no day has this text, none is read
 pub no_text : (bytes : List ℕ) (r : Option ℕ) → r ≡ None → ((n : ℕ) → IsDay n → day_text n ≡ bytes → ⊥) → (n : ℕ) → (r ≡ Some n) ↔ (IsDay n × (day_text n ≡ bytes))
 no_text bytes r none never n = (λ e. cc, λ h. absurd (never n h.0 h.1))
 
@@ -78,7 +78,7 @@ is_date bytes r n y m d parts read is text =
     let same = same_parts r y m d (year_of n) (month_of n) (month_day_of n) read (parts_of_text bytes r n parts is text) in
     rw (same.0, same.1, same.2) (omega (arith, signed_arith))
 
--- a date with the parts of a text has a day's number where that is the day's text
+-- a date with the parts of a text has a day's number if that is the day's text
 pub text_of_date : (bytes : List ℕ) (r : Option (ℕ × ℕ × ℕ)) (date : Date) (y m d : ℕ) → AreParts bytes r → r ≡ Some (y, m, d) → IsYmd (pos y) (pos m) (pos d) date → (n : ℕ) → (IsDay n × (epoch_day date ≡ pos n)) ↔ (IsDay n × (day_text n ≡ bytes))
 text_of_date bytes r date y m d parts read ymd n = (
   λ h. let same = date_parts date n h.0 h.1 in
@@ -149,7 +149,7 @@ minus_by_test false (Some n) z a k test is number exact =
     absurd (omega (arith, signed_arith))
 minus_by_test false None z a k test is number exact = refl
 
--- a date some days earlier, where that is not before the first day
+-- a date some days earlier, if that is not before the first day
 pub minus_is : (r : Option ℕ) (z : ℤ) (a k : ℕ) → IsDay a → z ≡ pos a -ℤ pos k → ((n : ℕ) → (r ≡ Some n) ↔ (IsDay n × (z ≡ pos n))) → r ≡ (if nat_le (10957 + k) a then Some (a - k) else None)
 minus_is r z a k is number exact = minus_by_test (nat_le (10957 + k) a) r z a k refl is number exact
 

@@ -54,7 +54,7 @@ halves_equal x y = elim (cases_eq x y) [
   ]
 ]
 
--- a mask has each bit of another where their common bits are the other's
+-- a mask has each bit of another if their common bits are the other's
 pub met_bits : (names : List (List ℕ)) (a b : ℕ) → a < 2 ^ length names → b < 2 ^ length names → all_met names (summed_among names a) (summed_among names b) ≡ nat_eq (bit_and a b) b
 met_bits [] a b l m = let c : bit_and a b ≤ b = and_le_r a b in sym (eq-eqb _ _ (omega arith))
 met_bits (name ∷ names) a b l m =

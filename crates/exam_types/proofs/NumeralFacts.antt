@@ -16,7 +16,7 @@ some_is : (b : Bool) (m n : ℕ) → cond b (Some m) None ≡ Some n → (b ≡ 
 some_is true m n e = (refl, cc)
 some_is false m n e = cc
 
--- the k digits that a text is, where it is one
+-- the k digits of a text, if it has them
 pub reads_digits : (k n : ℕ) (bytes : List ℕ) → length bytes ≡ k → number_of bytes ≡ Some n → digits k n ≡ bytes
 reads_digits k n bytes len read =
     let is = some_is (list_all is_digit bytes) (digits_value bytes) n read in
@@ -67,7 +67,7 @@ Reads bytes read n = (read ≡ Some n → (n < 10000) × (decimal n ≡ bytes)) 
 not_none : {X : Type 0} (read : Option ℕ) (n : ℕ) → read ≡ None → read ≡ Some n → X
 not_none read n none some = cc
 
--- a reader that gives nothing, where there is nothing to read
+-- a reader that finds no number answers none
 nothing_to_read : (bytes : List ℕ) (read : Option ℕ) (n : ℕ) → read ≡ None → ((n < 10000) × (decimal n ≡ bytes) → ⊥) → Reads bytes read n
 nothing_to_read bytes read n none never = (not_none read n none, λ is. absurd (never is))
 

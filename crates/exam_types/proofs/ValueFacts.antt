@@ -1,4 +1,4 @@
--- The value that is written so is the one that is found.
+-- The value with a text is the one that is found.
 use Rattle.std.proofs.Common.{◌≡◌, ◌∙◌, ◌+◌, ◌-◌, ◌≤◌, ◌<◌, ℕ, zero, suc, List, Bool, true, false, Option, Some, None, cond, refl, sym, ap, arith, inl, inr}
 use Rattle.std.proofs.lemmas.Bool.{cases_eq}
 use Rattle.std.specs.Prelude.{◌↔◌, bytes_eq, find}
@@ -40,7 +40,7 @@ none-written text least (suc count) bytes n e low high same = step (bytes_eq (te
             differs : n ≡ least → ⊥
             differs is = let t : bytes_eq (text least) bytes ≡ true = (bytes_eq-Decides (text least) bytes).1 (ap text (sym is) ∙ same) in cc (t, h)
 
--- what answers exactly the values in a range that are written so
+-- what answers exactly the values of a range that have this text
 pub value_found : (P : ℕ → Type 0) (text : ℕ → List ℕ) (least greatest : ℕ) (bytes : List ℕ) (r : Option ℕ) → ((n : ℕ) → P n ↔ ((least ≤ n) × (n ≤ greatest)))
     → ((n : ℕ) → (r ≡ Some n) ↔ (P n × (text n ≡ bytes))) → r ≡ value_in text least greatest bytes
 unfolding value_in
@@ -63,7 +63,7 @@ value_found P text least greatest bytes r between exact = step (find (λ k. byte
 abbrev IsExact : (ℕ → Type 0) → (ℕ → List ℕ) → List ℕ → Option ℕ → Type 0
 IsExact P text bytes r = (n : ℕ) → (r ≡ Some n) ↔ (P n × (text n ≡ bytes))
 
--- a value is answered where a number is read and is in the range
+-- if a number is read and is in the range, a value is answered
 pub read_in_range : (P : ℕ → Type 0) (text : ℕ → List ℕ) (limit : ℕ) (bytes : List ℕ) (read : Option ℕ) (v : ℕ) (r : Option ℕ) → ((n : ℕ) → P n → n < limit)
     → ((n : ℕ) → (read ≡ Some n) ↔ ((n < limit) × (text n ≡ bytes))) → read ≡ Some v → ((n : ℕ) → (r ≡ Some n) ↔ (P n × (n ≡ v))) → IsExact P text bytes r
 read_in_range P text limit bytes read v r below reads some ranged n = (λ is. there ((ranged n).0 is), λ is. back is)
@@ -77,7 +77,7 @@ read_in_range P text limit bytes read v r below reads some ranged n = (λ is. th
         let same : n ≡ v = cc in
         (ranged n).1 (is.0, same)
 
--- and none where none is read
+-- if no number is read, none is answered
 pub none_read : (P : ℕ → Type 0) (text : ℕ → List ℕ) (limit : ℕ) (bytes : List ℕ) (r : Option ℕ) → ((n : ℕ) → P n → n < limit)
     → ((n : ℕ) → (None ≡ Some n) ↔ ((n < limit) × (text n ≡ bytes))) → r ≡ None → IsExact P text bytes r
 none_read P text limit bytes r below reads none n = (λ is. cc (is, none), λ is. back is)

@@ -12,18 +12,18 @@ use Rattle.exam_types.specs.declared.session_day.TheConstants.{FIRST_SESSION_DAY
 abbrev pub IsDay : ℕ → Type 0
 IsDay n = (FIRST_DAY ≤ n) × (n ≤ LAST_DAY)
 
--- and 2000-01-11, the first day that has ten days before it, is day 10,967
+-- 2000-01-11, the first day that has ten days before it, is day 10,967
 abbrev pub IsSessionDay : ℕ → Type 0
 IsSessionDay n = (FIRST_SESSION_DAY ≤ n) × (n ≤ LAST_DAY)
 
--- every fourth year, but of the centuries only every fourth
+-- every fourth year is a leap year, but of the full centuries only every fourth
 abbrev pub is_leap : ℕ → Bool
 is_leap y = (y % 4 == 0) && (not (y % 100 == 0) || (y % 400 == 0))
 
 abbrev pub year_days : ℕ → ℕ
 year_days y = if is_leap y then 366 else 365
 
--- thirty days have September, April, June and November
+-- April, June, September and November have thirty days
 abbrev pub month_days : ℕ → ℕ → ℕ
 month_days y m =
     if m == 2 then (if is_leap y then 29 else 28)
@@ -55,7 +55,7 @@ year_of n = unwrap_or (find (λ y. nat_lt n (year_start (y + 1))) (range_with_le
 unfoldable pub month_of : ℕ → ℕ
 month_of n = unwrap_or (find (λ m. nat_lt n (month_start (year_of n) (m + 1))) (range_with_len 1 11)) 12
 
--- and its day in that month, from 1
+-- its day in that month, from 1
 unfoldable pub month_day_of : ℕ → ℕ
 month_day_of n = n - month_start (year_of n) (month_of n) + 1
 
@@ -76,12 +76,12 @@ spelled_day bytes =
     month_start (digits_value (take 4 bytes)) (digits_value (slice_range bytes 5 7))
     + digits_value (drop 8 bytes) - 1
 
--- the day that a text names: that of its digits, if it has this text
+-- the day that a text names: the day that its digits spell, if the text of that day is this one
 unfoldable pub day_of : List ℕ → Option ℕ
 day_of bytes =
     let n = spelled_day bytes in if is_day n && bytes_eq (day_text n) bytes then Some n else None
 
--- the day of a session that a text names
+-- the session's day that a text names
 abbrev pub session_day_in : List ℕ → Option ℕ
 session_day_in bytes =
     option_and_then (λ n. if nat_le FIRST_SESSION_DAY n then Some n else None) (day_of bytes)

@@ -1,4 +1,4 @@
--- A mask is the sum of the set that it is read as.
+-- A mask is the sum of the set that it represents.
 use Rattle.std.specs.Prelude.{◌≡◌, ◌<◌, ◌≤◌, ℕ, zero, suc, ◌/◌, ◌%◌, ◌^◌, ◌==◌, List, [], ◌∷◌, length}
 use Rattle.std.proofs.Common.{refl, arith, pow-suc}
 use Rattle.exam_types.specs.Features.{feature_names, features_sum, greatest_sum, part, sum_among, summed_among, summed_features}

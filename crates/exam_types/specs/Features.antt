@@ -13,6 +13,7 @@ feature_names =
     ∷ codes "reader"
     ∷ codes "small-room"
     ∷ codes "computer"
+    ∷ codes "quiet"
     ∷ []
 
 -- for each name, whether it is in the set
@@ -23,7 +24,7 @@ Flags (name ∷ names) = Bool × Flags names
 abbrev pub Features : Type 0
 Features = Flags feature_names
 
--- a wanted name stands at the end, after a + where something stands before it
+-- appends a wanted name, after a + if there is text before it
 abbrev pub after_plus : List ℕ → List ℕ → List ℕ
 after_plus [] name = name
 after_plus (b ∷ text) name = (b ∷ text) ++ 43 ∷ name
@@ -44,7 +45,7 @@ abbrev pub dash_if_empty : List ℕ → List ℕ
 dash_if_empty [] = codes "-"
 dash_if_empty (b ∷ text) = b ∷ text
 
--- the names in their order, joined by +, and - for the empty set
+-- the names in their order, joined by +, or - for the empty set
 abbrev pub features_text : Features → List ℕ
 features_text f = dash_if_empty (add_names feature_names f [])
 
@@ -59,7 +60,7 @@ named_among (name ∷ names) bytes = (has_part bytes name, named_among names byt
 abbrev pub named_features : List ℕ → Features
 named_features bytes = named_among feature_names bytes
 
--- the set that a text is: that which its parts name, where it is written so
+-- the set that a text is: the set that its parts name, if that set has this text
 unfoldable pub features_in : List ℕ → Option Features
 features_in bytes =
     if bytes_eq (features_text (named_features bytes)) bytes then Some (named_features bytes) else None
@@ -72,7 +73,7 @@ none_among (name ∷ names) = (false, none_among names)
 abbrev pub no_features : Features
 no_features = none_among feature_names
 
--- a feature is there, or not wanted
+-- a feature is there, or it is not wanted
 abbrev pub is_met : Bool → Bool → Bool
 is_met wanted there = not wanted || there
 
@@ -91,7 +92,7 @@ abbrev pub sum_among : (names : List (List ℕ)) → Flags names → ℕ
 sum_among [] flags = 0
 sum_among (name ∷ names) flags = part flags.0 1 + 2 * sum_among names flags.1
 
--- each feature counts as a power of two
+-- the k-th feature, counted from 0, adds 2 to the power of k
 abbrev pub features_sum : Features → ℕ
 features_sum f = sum_among feature_names f
 

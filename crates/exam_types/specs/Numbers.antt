@@ -1,4 +1,4 @@
--- The numbered values: their ranges, and their texts.
+-- The ranges and the texts of the numbered values.
 use Rattle.std.specs.Prelude.{ℕ, ◌≤◌, ◌+◌, ◌-◌, ◌/◌, ◌%◌, List, ◌∷◌, ◌++◌, Option, find, bytes_eq}
 use Rattle.std.specs.Fmt.{decimal}
 use Rattle.std.specs.List.{range_with_len}
@@ -24,7 +24,7 @@ IsStartTime m = m ≤ GREATEST_START
 abbrev pub IsClosingTime : ℕ → Type 0
 IsClosingTime m = m ≤ GREATEST_CLOSING
 
--- minutes of a paper
+-- the length of a paper in minutes
 abbrev pub IsExamMinutes : ℕ → Type 0
 IsExamMinutes m = (LEAST_EXAM_MINUTES ≤ m) × (m ≤ GREATEST_EXAM_MINUTES)
 
@@ -44,12 +44,12 @@ number_text n = digits 7 n
 unfoldable pub minute_text : ℕ → List ℕ
 minute_text m = digits 2 (m / 60) ++ 58 ∷ digits 2 (m % 60)
 
--- of the numbers from a least to a greatest one, that which is written so
+-- the number from a least to a greatest one that has this text, if there is one
 unfoldable pub value_in : (ℕ → List ℕ) → ℕ → ℕ → List ℕ → Option ℕ
 value_in text least greatest bytes =
     find (λ n. bytes_eq (text n) bytes) (range_with_len least (greatest + 1 - least))
 
--- The value that a text is, if it is one. The ranges stand here as numbers, not as the constants of the code.
+-- The value that a text is, if it is one. The ranges are written here as numbers, not as the constants of the code.
 
 abbrev pub number_in : List ℕ → Option ℕ
 number_in = value_in number_text 1 9999999

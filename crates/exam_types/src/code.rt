@@ -24,7 +24,7 @@ pub trait Alphabet {
         ensures { result ≡ allowed byte };
 }
 
-/// Capitals and digits.
+/// Allows capitals and digits.
 pub struct CapitalsAndDigits;
 
 impl Alphabet for CapitalsAndDigits {
@@ -35,7 +35,7 @@ impl Alphabet for CapitalsAndDigits {
     }
 }
 
-/// Capitals, digits and dashes.
+/// Allows capitals, digits and dashes.
 pub struct Dashed;
 
 impl Alphabet for Dashed {
@@ -51,8 +51,8 @@ pub trait Kind<const GREATEST: usize> {
     ghost is_short: { GREATEST < 256 };
 }
 
-/// A code of the kind `K`: `LEAST` to `GREATEST` bytes of its alphabet, which lie in the value itself.
-/// Contracts see its bytes. Ordered by its bytes.
+/// A code of the kind `K`: `LEAST` to `GREATEST` bytes of its alphabet, kept in the value itself, so a code takes no
+/// memory. Contracts see its bytes. Codes are ordered by their bytes.
 #[derive_where(Clone, Copy)]
 pub struct Code<K, A: Alphabet, const LEAST: usize, const GREATEST: usize> {
     cells: [u8; GREATEST],
@@ -106,7 +106,7 @@ where
 }
 
 impl<K, A: Alphabet, const LEAST: usize, const GREATEST: usize> Code<K, A, LEAST, GREATEST> {
-    /// Appends the code's bytes. Refused where there is not enough memory.
+    /// Appends the code's bytes. Refused if there is not enough memory.
     pub fn write_to(&self, out: &mut Vec<u8>) -> Result<(), Refusal>
         ensures ok { OnOk result (out.new.items ≡ out.old.items ++ self.now) }
         ensures form { IsTrue (is_code A.allowed LEAST GREATEST self.now) }
@@ -134,7 +134,7 @@ impl<K, A: Alphabet, const LEAST: usize, const GREATEST: usize> fmt::Display
     }
 }
 
-/// Whether these are between low and high bytes of the alphabet.
+/// Whether these are `low` to `high` bytes, each of them in the alphabet.
 fn has_form<A: Alphabet>(bytes: &[u8], low: usize, high: usize) -> bool
     ensures { result ≡ is_code A.allowed low high bytes.now }
 {

@@ -45,7 +45,7 @@ impl Model for Day {
 }
 
 impl Day {
-    /// The day that a text `YYYY-MM-DD` names, or none where no day is written so.
+    /// The day that the text `YYYY-MM-DD` names, or none if no day has this text.
     pub fn parse(bytes: &[u8]) -> Option<Day>
         ensures exact { (n : ℕ) → (result ≡ Some n) ↔ (IsDay n × (spec.day_text n ≡ bytes.now)) }
         ensures value { result ≡ spec.day_of bytes.now }
@@ -54,7 +54,7 @@ impl Day {
         Day::from_date(date_of(year, month, day)?)
     }
 
-    /// Appends the text `YYYY-MM-DD`. Where memory is short the vector stays as it was.
+    /// Appends the text `YYYY-MM-DD`. Refused if there is not enough memory; the vector then stays as it was.
     pub fn write_to(&self, out: &mut Vec<u8>) -> Result<(), Refusal>
         ensures form { IsDay self.now }
         ensures ok { OnOk result (out.new.items ≡ out.old.items ++ spec.day_text self.now) }
@@ -66,7 +66,7 @@ impl Day {
         Ok(())
     }
 
-    /// The day that many days before, or none where that is before 2000-01-01.
+    /// The day so many days earlier, or none if that is before 2000-01-01.
     pub fn minus(self, days: u16) -> Option<Day>
         ensures { result ≡ (if nat_le (FIRST_DAY + days) self then Some (self - days) else None) }
     {
@@ -124,7 +124,7 @@ impl fmt::Display for Day {
     }
 }
 
-/// The year, the month and the day that a text of the right shape spells.
+/// The year, the month and the day that a text of the form `YYYY-MM-DD` spells, or none if the text has another form.
 fn parts_of(bytes: &[u8]) -> Option<(u32, u32, u32)>
     ensures { (y m d : ℕ) → (result ≡ Some (y, m, d))
         ↔ ((y < 10000) × (m < 100) × (d < 100) × (spec.date_text y m d ≡ bytes.now)) }
@@ -146,7 +146,7 @@ fn days_back(days: u16) -> Span
     count.days()
 }
 
-/// The date, where the calendar has it.
+/// The date, or none if the calendar does not have it.
 fn date_of(year: u32, month: u32, day: u32) -> Option<Date>
     requires year { year < 10000 }
     requires month { month < 100 }

@@ -11,7 +11,7 @@ use arrayvec::ArrayVec;
 /// Room for the longest text of digits and separators, that of a day.
 pub type ShortText = ArrayVec<u8, 16>;
 
-/// The number that the bytes spell, where all of them are digits.
+/// The number that the bytes spell, or none if one of them is no digit.
 pub fn number_of(bytes: &[u8]) -> Option<u32>
     requires { length bytes.now ≤ 9 }
     ensures value { result ≡ spec.number_of bytes.now }

@@ -20,14 +20,16 @@ const NAMES: &[&[u8]] = &[
     b"reader",
     b"small-room",
     b"computer",
+    b"quiet",
 ];
 
 /// The sum of the set of all features.
 const GREATEST_SUM: u32 = (1 << NAMES.len()) - 1;
 
-/// A set of features: bit k of the mask is 1 where the k-th feature is in it.
-/// Contracts see for each feature whether it is in the set.
+/// A set of features: bit k of the mask, counted from 0, is 1 exactly if feature k of `NAMES` is in the set. Contracts
+/// see for each feature whether it is in the set.
 #[derive(Clone, Copy, Debug, PartialEq, Eq)]
+#[tactic(auto, using(crate::specs::FeatureSums::sum_of_summed))]
 pub struct Features {
     mask: u8,
 }
@@ -56,14 +58,14 @@ impl Features {
         Features { mask: 0 }
     }
 
-    /// Whether each wanted feature is there.
+    /// Whether the set has each wanted feature.
     pub fn holds(self, wanted: Features) -> bool
         ensures { result ≡ spec.holds_features self wanted }
     {
         self.mask & wanted.mask == wanted.mask
     }
 
-    /// Whether both are one set.
+    /// Whether both sets have the same features.
     pub fn equals(self, other: Features) -> bool
         ensures value { result ≡ spec.same_features self other }
         ensures decides { IsTrue result ↔ (self ≡ other) }
@@ -105,7 +107,7 @@ impl Features {
         }
     }
 
-    /// Appends the text. Refused where there is not enough memory.
+    /// Appends the text. Refused if there is not enough memory.
     pub fn write_to(&self, out: &mut Vec<u8>) -> Result<(), Refusal>
         ensures ok { OnOk result (out.new.items ≡ out.old.items ++ spec.features_text self.now) }
         ensures err { OnErr result (out.new.items ≡ out.old.items) }
@@ -114,7 +116,7 @@ impl Features {
         append(out, self.text().as_slice())
     }
 
-    /// The names joined by `+`, or `-` where there are none.
+    /// The names joined by `+`, or `-` for the empty set.
     fn text(&self) -> ArrayVec<u8, 64>
         ensures { result.items ≡ spec.features_text self.now }
     {
@@ -139,7 +141,7 @@ fn add_names(text: &mut ArrayVec<u8, 64>, mask: u8, names: &[&[u8]])
     }
 }
 
-/// Appends a wanted name, after a `+` where there is text before it.
+/// Appends the name if it is wanted, after a `+` if there is text before it.
 fn add_name(text: &mut ArrayVec<u8, 64>, wanted: bool, name: &[u8])
     requires { array_vec_len text.old + length name.now < 64 }
     ensures text { text.new.items ≡ spec.add_name text.old.items wanted name.now }
@@ -153,7 +155,7 @@ fn add_name(text: &mut ArrayVec<u8, 64>, wanted: bool, name: &[u8])
     }
 }
 
-/// The features that the parts between `+` name.
+/// The features that are named by the parts of the text between its `+`.
 fn named_features(bytes: &[u8]) -> Features
     ensures { result ≡ spec.named_features bytes.now }
 {
@@ -162,7 +164,7 @@ fn named_features(bytes: &[u8]) -> Features
     }
 }
 
-/// The sum of those of these features that the parts between `+` name.
+/// The sum of the features among `names` that are named by the parts of the text between its `+`.
 fn named_among(names: &[&[u8]], bytes: &[u8]) -> u8
     requires { length names.now ≤ 8 }
     ensures value { let all = map (λ name. name.now) names.now in

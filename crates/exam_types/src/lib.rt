@@ -1,4 +1,4 @@
-//! The office's small values. Contracts see each as what it means: its bytes, its number or its flags.
+//! The office's small values. Contracts see each value as what it means: its bytes, its number or its flags.
 #![tactic(auto)]
 
 mod code;

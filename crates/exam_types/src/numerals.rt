@@ -101,7 +101,7 @@ impl Spelling for Decimal {
             return None;
         }
         let number = number_of(bytes)?;
-        // A number with leading zeros is printed otherwise.
+        // A number with leading zeros is written without them, so its bytes differ.
         if Decimal::write(number).as_slice() == bytes {
             Some(number)
         } else {

@@ -8,7 +8,7 @@ use crate::refusal::Refusal;
 use crate::text::append;
 use std::marker::{Model, PhantomData};
 
-/// Which numbers a value may have, and how they are written.
+/// The range of a value, and how its numbers are written.
 pub trait Form {
     type Spelling: Spelling;
 
@@ -27,7 +27,7 @@ pub trait Form {
     ghost is_between: { (n : ℕ) → in_range n ↔ ((least ≤ n) × (n ≤ greatest)) };
 }
 
-/// A number in the range of its form, made and given as a `W`. Contracts see the number.
+/// A number in the range of its form, made from a `W` and returned as one. Contracts see the number.
 #[derive_where(Clone, Copy, Debug, PartialEq, Eq, PartialOrd, Ord)]
 pub struct Ranged<W, F: Form> {
     value: u32,
@@ -56,7 +56,7 @@ impl<W, F: Form> Ranged<W, F> {
         Ranged::of(F::Spelling::read(bytes)?)
     }
 
-    /// Appends the text. Refused where there is not enough memory.
+    /// Appends the text. Refused if there is not enough memory.
     pub fn write_to(&self, out: &mut Vec<u8>) -> Result<(), Refusal>
         ensures ok { OnOk result (out.new.items ≡ out.old.items ++ F.Spelling.text self.now) }
         ensures form { F.in_range self.now }
@@ -80,7 +80,7 @@ impl<W, F: Form> Ranged<W, F> {
 }
 
 impl<F: Form> Ranged<u32, F> {
-    /// The value with this number, or none where it is out of range.
+    /// The value with this number, or none if it is out of range.
     pub fn new(value: u32) -> Option<Self>
         ensures { (n : ℕ) → (result ≡ Some n) ↔ (F.in_range n × (n ≡ value)) }
     {
@@ -100,7 +100,7 @@ impl<F: Form> Ranged<u16, F>
 where
     F::Spelling: ShortSpelling,
 {
-    /// The value with this number, or none where it is out of range.
+    /// The value with this number, or none if it is out of range.
     pub fn new(value: u16) -> Option<Self>
         ensures { (n : ℕ) → (result ≡ Some n) ↔ (F.in_range n × (n ≡ value)) }
     {

@@ -10,14 +10,14 @@ use thiserror::Error;
 /// Why a call is refused. After a refusal everything is as before.
 #[derive(Clone, Copy, Debug, PartialEq, Eq, Error)]
 pub enum Refusal {
-    /// A row of an import is bad: its record, counted from 1 after the header, and its first bad column from
-    /// the left, counted from 1, or 0 for a wrong count of fields.
+    /// A row of an import is bad. `record` counts records from 1 after the header. `column` is the first bad column,
+    /// counted from 1 from the left, or 0 if the count of fields is wrong.
     #[error("record {record} column {column} is bad")]
     BadRow { record: u32, column: u32 },
     /// The first record of an import is not the header of its kind.
     #[error("the header is not that of the kind")]
     BadHeader,
-    /// A row of an import repeats the key of an earlier one with another content: its record, counted from 1.
+    /// A row of an import has the key of an earlier row but other contents. `record` is the row's, counted from 1.
     #[error("record {record} contradicts an earlier one")]
     RowConflict { record: u32 },
     /// There is no such session.
@@ -47,10 +47,10 @@ pub enum Refusal {
     /// The candidate is no member of the session.
     #[error("no member of the session")]
     NotInSession,
-    /// The last day to lodge, which the refusal carries, is over.
+    /// The last day to lodge, which the refusal carries, has passed.
     #[error("the last day to lodge is over")]
     PastClosing { day: Day },
-    /// The candidate has another appeal with this reference.
+    /// The candidate already has another appeal with this reference.
     #[error("the reference is taken")]
     RefTaken,
     /// There is no such appeal.
@@ -65,13 +65,13 @@ pub enum Refusal {
     /// The candidate has no clash in the session.
     #[error("no clash in the session")]
     NoClash,
-    /// What the appeal asks for is so already.
+    /// What the appeal asks for is the case already.
     #[error("nothing to change")]
     NothingToChange,
     /// A limit of the office would be passed.
     #[error("a limit would be passed")]
     TooMany,
-    /// An open appeal of this kind stands.
+    /// There is already an open appeal of this kind.
     #[error("an open appeal of this kind stands")]
     AppealStands,
     /// There is not enough memory.
@@ -111,7 +111,7 @@ impl<T: Drop> From<AllocFailed<T>> for Refusal {
 }
 
 impl Refusal {
-    /// The number by which the office prints it, 1 to 27.
+    /// The number by which the office prints this refusal, 1 to 27.
     pub fn number(&self) -> u16
         ensures { result ≡ refusal_number self.now }
     {

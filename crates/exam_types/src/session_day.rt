@@ -11,8 +11,8 @@ use std::marker::Model;
 /// The number of 2000-01-11, where 1970-01-01 is 0.
 pub const FIRST_SESSION_DAY: u32 = 10_967;
 
-/// A day from 2000-01-11 to 2199-12-31, ten days before which there is a [`Day`]. Contracts see
-/// its number, where 1970-01-01 is 0.
+/// A day from 2000-01-11 to 2199-12-31, so the day ten days earlier is a [`Day`] as well. Contracts see its number,
+/// where 1970-01-01 is 0.
 #[derive(Clone, Copy, Debug, PartialEq, Eq, PartialOrd, Ord)]
 pub struct SessionDay {
     day: Day,
@@ -32,7 +32,7 @@ impl Model for SessionDay {
 }
 
 impl SessionDay {
-    /// The day as a session's, or none before 2000-01-11.
+    /// The day as a session's day, or none before 2000-01-11.
     pub fn new(day: Day) -> Option<SessionDay>
         ensures { result ≡ (if nat_le FIRST_SESSION_DAY day then Some day else None) }
     {
@@ -42,7 +42,7 @@ impl SessionDay {
         Some(SessionDay { day })
     }
 
-    /// The day that a text `YYYY-MM-DD` names, or none where no session can have a day written so.
+    /// The day that the text `YYYY-MM-DD` names, or none if no session can be on a day with this text.
     pub fn parse(bytes: &[u8]) -> Option<SessionDay>
         ensures exact { (n : ℕ) → (result ≡ Some n) ↔ (IsSessionDay n × (spec.day_text n ≡ bytes.now)) }
         ensures value { result ≡ spec.session_day_in bytes.now }
@@ -50,7 +50,7 @@ impl SessionDay {
         SessionDay::new(Day::parse(bytes)?)
     }
 
-    /// Appends the text `YYYY-MM-DD`. Where memory is short the vector stays as it was.
+    /// Appends the text `YYYY-MM-DD`. Refused if there is not enough memory; the vector then stays as it was.
     pub fn write_to(&self, out: &mut Vec<u8>) -> Result<(), Refusal>
         ensures form { IsSessionDay self.now }
         ensures ok { OnOk result (out.new.items ≡ out.old.items ++ spec.day_text self.now) }

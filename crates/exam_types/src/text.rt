@@ -1,4 +1,4 @@
-//! Texts of a person's words, and how bytes are appended.
+//! The texts of names, titles and reasons, and how bytes are appended.
 ghost use Rattle.std.specs.Prelude.{◌≡◌, ◌++◌, false, nat_eq, IsTrue, IfSome, IfNone, IfOk, IfErr, OnOk};
 ghost use Rattle.std.specs.Prelude.{OnErr, Some, None, if◌then◌else◌};
 ghost use Rattle.std.specs.Cmp.{partial_equiv_from_equiv};
@@ -27,7 +27,7 @@ const SHORTEST_REASON: usize = 0;
 /// The length of the longest reason, in bytes.
 const LONGEST_REASON: usize = 200;
 
-/// Why an appeal is lodged, or why it was decided so: 0 to 200 bytes.
+/// Why an appeal was lodged, or why it was decided as it was: 0 to 200 bytes.
 pub type Reason = Text<SHORTEST_REASON, LONGEST_REASON>;
 
 /// `LEAST` to `GREATEST` bytes of UTF-8 with no control character. Contracts see the bytes.
@@ -49,7 +49,7 @@ impl<const LEAST: usize, const GREATEST: usize> Model for Text<LEAST, GREATEST> 
 }
 
 impl<const LEAST: usize, const GREATEST: usize> Text<LEAST, GREATEST> {
-    /// The text that these bytes are, or none. Refused where there is not enough memory.
+    /// The text that these bytes are, or none. Refused if there is not enough memory, but only if the bytes are a text.
     pub fn parse(alloc: Global, bytes: &[u8]) -> Result<Option<Self>, Refusal>
         ensures ok { IfOk result (λ text. text
             ≡ (if is_text LEAST GREATEST bytes.now then Some bytes.now else None)) }
@@ -63,7 +63,7 @@ impl<const LEAST: usize, const GREATEST: usize> Text<LEAST, GREATEST> {
         }
     }
 
-    /// Appends the bytes. Refused where there is not enough memory.
+    /// Appends the bytes. Refused if there is not enough memory.
     pub fn write_to(&self, out: &mut Vec<u8>) -> Result<(), Refusal>
         ensures ok { OnOk result (out.new.items ≡ out.old.items ++ self.now) }
         ensures form { IsTrue (is_text LEAST GREATEST self.now) }
@@ -73,7 +73,7 @@ impl<const LEAST: usize, const GREATEST: usize> Text<LEAST, GREATEST> {
         append(out, self.text.as_bytes())
     }
 
-    /// An equal text. Refused where there is not enough memory.
+    /// An equal text. Refused if there is not enough memory.
     pub fn copy(&self) -> Result<Self, Refusal>
         ensures ok { IfOk result (λ text. text ≡ self.now) }
         ensures memory { IfErr result (λ e. e ≡ NoMemory) }
@@ -114,7 +114,7 @@ impl<const LEAST: usize, const GREATEST: usize> Eq for Text<LEAST, GREATEST> {
     ghost laws = { nat_list_eq_equiv };
 }
 
-/// The bytes as text, where they are between low and high bytes of UTF-8 with no control character.
+/// The bytes as text, or none if they are not `low` to `high` bytes of UTF-8 with no control character.
 fn plain_text(bytes: &[u8], low: usize, high: usize) -> Option<&str>
     ensures some { IfSome result (λ text. (text.now ≡ bytes.now) × IsTrue (is_text low high bytes.now)) }
     ensures none { IfNone result (is_text low high bytes.now ≡ false) }
@@ -131,7 +131,7 @@ fn has_control(bytes: &[u8]) -> bool
     bytes.iter().any(|b| *b < 32 || *b == 127)
 }
 
-/// The bytes as text, where they are UTF-8.
+/// The bytes as text, or none if they are not UTF-8.
 fn text_of(bytes: &[u8]) -> Option<&str>
     ensures some { IfSome result (λ text. (text.now ≡ bytes.now) × IsTrue (is_utf8 bytes.now)) }
     ensures none { IfNone result (is_utf8 bytes.now ≡ false) }
@@ -142,7 +142,7 @@ fn text_of(bytes: &[u8]) -> Option<&str>
     }
 }
 
-/// Appends the bytes, or leaves the vector as it was.
+/// Appends the bytes. Refused if there is not enough memory; the vector then stays as it was.
 pub fn append(out: &mut Vec<u8>, bytes: &[u8]) -> Result<(), Refusal>
     ensures ok { OnOk result (out.new.items ≡ out.old.items ++ bytes.now) }
     ensures err { OnErr result (out.new.items ≡ out.old.items) }

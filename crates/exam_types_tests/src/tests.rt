@@ -145,7 +145,9 @@ fn reads_features(rt: HostRuntime) {
         (b"-".as_slice(), true),
         (b"step-free", true),
         (b"screen+computer", true),
-        (b"step-free+screen+reader+small-room+computer", true),
+        (b"computer+quiet", true),
+        (b"step-free+screen+reader+small-room+computer+quiet", true),
+        (b"quiet+computer", false),
         (b"computer+screen", false),
         (b"screen+step-free", false),
         (b"screen+screen", false),
@@ -170,6 +172,8 @@ fn sums_features(rt: HostRuntime) -> Result<(), Fail> {
         (b"small-room", 8),
         (b"computer", 16),
         (b"step-free+screen+reader+small-room+computer", 31),
+        (b"quiet", 32),
+        (b"step-free+screen+reader+small-room+computer+quiet", 63),
     ] {
         let features = Features::parse(text).ok_or("features")?;
         assert_eq!(rt; features.sum(), sum, "{text:?}");
@@ -178,7 +182,7 @@ fn sums_features(rt: HostRuntime) -> Result<(), Fail> {
         assert_eq!(rt; none.holds(features), sum == 0, "{text:?}");
         assert_eq!(rt; none.equals(features), sum == 0, "{text:?}");
     }
-    assert!(rt; Features::from_sum(32).is_none());
+    assert!(rt; Features::from_sum(64).is_none());
     Ok(())
 }
 

@@ -399,5 +399,5 @@ DROP TABLE standing; UPDATE office SET version = 1
 
 pub const MIGRATED: &str = "\
 $ migrate
-> migrated 1 to 2
+> migrated 1 to 3
 ";

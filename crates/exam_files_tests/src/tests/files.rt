@@ -59,7 +59,7 @@ PH-2,Physics,S2,1,-
 $ halls
 hall,title,features
 A,Aula,-
-ABCDEFGH,Hall,step-free+screen+reader+small-room+computer
+ABCDEFGH,Hall,step-free+screen+reader+small-room+computer+quiet
 > added 1 changed 1 same 0
 $ openings
 session,hall,desks,until,reserved
@@ -242,7 +242,7 @@ fn bytes_that_are_no_text_are_refused(rt: HostRuntime) -> Result<(), Fail> {
 }
 
 #[test]
-fn a_file_has_at_most_4194304_bytes(rt: HostRuntime) -> Result<(), Fail> {
+fn a_file_that_is_too_long_is_refused(rt: HostRuntime) -> Result<(), Fail> {
     let mut file = vec![in rt.alloc(); b'\n'; 4_194_304]?;
     expect(&rt, Kind::Halls, file.as_slice(), "! refused 2\n")?;
     file.push(b'\n')?;

@@ -86,19 +86,19 @@ fn a_file_has_at_most_4194304_bytes(rt: HostRuntime) -> Result<(), Fail> {
 }
 
 #[test]
-fn opening_129_is_too_many(rt: HostRuntime) -> Result<(), Fail> {
+fn opening_257_is_too_many(rt: HostRuntime) -> Result<(), Fail> {
     let alloc = rt.alloc();
     let mut halls = String::from_str(alloc, "$ import halls f\nhall,title,features\nZ,Hall Z,-\n")?;
     let mut openings = String::from_str(
         alloc,
         "$ import openings f\nsession,hall,desks,until,reserved\n",
     )?;
-    for n in 100..226 {
+    for n in 100..354 {
         halls.push_str(format!(in alloc; "H{n},Hall {n},-\n")?.as_str())?;
         openings.push_str(format!(in alloc; "S1,H{n},1,12:00,no\n")?.as_str())?;
     }
-    halls.push_str("> added 127 changed 0 same 0\n")?;
-    openings.push_str("> added 126 changed 0 same 0\n")?;
+    halls.push_str("> added 255 changed 0 same 0\n")?;
+    openings.push_str("> added 254 changed 0 same 0\n")?;
     play(&rt, &[halls.as_str(), openings.as_str(), ONE_MORE])
 }
 

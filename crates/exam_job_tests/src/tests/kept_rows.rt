@@ -24,12 +24,12 @@ SELECT code, title, session, minutes, requires FROM paper ORDER BY code
 PH-2|Optics|S1|1|0|
 $ import halls f
 hall,title,features
-A,Great Hall,step-free+screen+reader+small-room+computer
+A,Great Hall,step-free+screen+reader+small-room+computer+quiet
 C,Hall C,reader
 > added 1 changed 1 same 0
 $ sql
 SELECT code, title, features FROM hall ORDER BY code
-> A|Great Hall|31|
+> A|Great Hall|63|
 B|Hall B|0|
 C|Hall C|4|
 $ import openings f
@@ -92,7 +92,7 @@ SELECT number, needs, extra FROM arrangement ORDER BY number
 3|2|5|
 $ sql
 SELECT one, version FROM office
-> 1|2|
+> 1|3|
 ";
 
 #[test]
@@ -156,7 +156,7 @@ number,needs,extra
 /// The first candidate is seated.
 const ALL_ROWS: &str = "\
 $ tables
-> 1|2|
+> 1|3|
 
 S1|2027-06-01|540|
 
@@ -237,7 +237,7 @@ FROM appeal ORDER BY number, ref
 1|HALLTWO|S1|1|B|0|0|Too cold|4|NULL|2027-05-01|
 2|CLASHOLD|S1|2|MA-1|0|0|I sat this|5|Was yes|2027-05-03|
 2|CLASHYES|S1|2|MA-1|0|0|I sit this|2|Yes|2027-05-02|
-3|NEEDSALL|S1|3||31|100|All|2||2027-05-04|
+3|NEEDSALL|S1|3||63|100|All|2||2027-05-04|
 3|NEEDSNONE|S1|3||0|0|None|5|Not now|2027-05-05|
 4|NEEDSONE|S1|3||1|1|One|1|NULL|2027-05-06|
 4|NEEDSTWO|S1|3||8|25|Eight|3|No|2027-05-07|
@@ -253,7 +253,7 @@ appeals 9
 0000001 HALLTWO          hall        retracted  2027-05-01 B
 0000002 CLASHOLD         clash       superseded 2027-05-03 MA-1
 0000002 CLASHYES         clash       granted    2027-05-02 MA-1
-0000003 NEEDSALL         arrangement granted    2027-05-04 step-free+screen+reader+small-room+computer 100
+0000003 NEEDSALL         arrangement granted    2027-05-04 step-free+screen+reader+small-room+computer+quiet 100
 0000003 NEEDSNONE        arrangement superseded 2027-05-05 - 0
 0000004 NEEDSONE         arrangement open       2027-05-06 step-free 1
 0000004 NEEDSTWO         arrangement refused    2027-05-07 small-room 25

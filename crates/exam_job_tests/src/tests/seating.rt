@@ -80,6 +80,37 @@ fn shortage_names_seated_and_unseated(rt: HostRuntime) -> Result<(), Fail> {
     )
 }
 
+/// The third one needs a quiet hall, and there is none until hall B becomes one.
+const B_BECOMES_QUIET: &str = "\
+$ import arrangements f
+number,needs,extra
+0000003,quiet,0
+> added 1 changed 0 same 0
+$ import entries f
+number,paper
+0000003,MA-1
+> added 1 changed 0 same 0
+$ shortage S1
+> SHORTAGE session S1
+unseated 1
+halls 0 desks 0
+candidates 1
+0000003
+$ import halls f
+hall,title,features
+B,Hall B,quiet
+> added 0 changed 1 same 0
+$ door-list S1 B
+> DOOR LIST session S1 hall B
+date 2027-06-01 start 09:00 desks 1 seated 1
+   1 0000003 MA-1         Cy Dahl
+";
+
+#[test]
+fn hall_that_becomes_quiet_seats_who_needs_it(rt: HostRuntime) -> Result<(), Fail> {
+    play(&rt, &[FIRST_TAKES_A, B_BECOMES_QUIET])
+}
+
 /// The fourth one sits a paper that no hall fits.
 const TWO_ARE_SHORT: &str = "\
 $ import papers f

@@ -1,4 +1,4 @@
-//! What lodgings and retractions answer, in what order they are refused, and that they move nobody.
+//! What lodgings and retractions answer, the order in which they are refused, and that they move nobody.
 use super::lines::Line;
 use super::scenes::{Order, Plea, Scene, Story, play};
 use super::setups::{Fact, Grant, Sitting};
@@ -27,7 +27,7 @@ const OPEN: &str = "Lodged Pending";
 
 const RETRACTED: &str = "Lodged Retracted";
 
-/// Of the first candidate, against their hall, on the last day.
+/// The first candidate's appeal against their hall, on the last day.
 const AGAINST_B: Plea<'static> = Plea {
     on: "2027-05-30",
     number: 1,
@@ -37,7 +37,7 @@ const AGAINST_B: Plea<'static> = Plea {
     reason: "draught",
 };
 
-/// Of the third candidate, on their clash, on the last day.
+/// The third candidate's appeal on their clash, on the last day.
 const FOR_PH_2: Plea<'static> = Plea {
     on: "2027-05-27",
     number: 3,
@@ -47,7 +47,7 @@ const FOR_PH_2: Plea<'static> = Plea {
     reason: "",
 };
 
-/// Of the second candidate, on the last day.
+/// The second candidate's appeal for a screen, on the last day.
 const FOR_A_SCREEN: Plea<'static> = Plea {
     on: "2027-05-22",
     number: 2,
@@ -241,7 +241,7 @@ const REFUSED: &[Story<'static>] = &[
         ],
     },
     Story {
-        name: "appeal 65 is not lodged",
+        name: "no appeal is lodged past the most that a candidate may have",
         facts: &[
             Fact::School,
             Fact::Row(Line::Opening("S1", "B", 1)),

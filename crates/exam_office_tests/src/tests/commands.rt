@@ -54,7 +54,7 @@ const STORIES: &[Story<'static>] = &[
         ],
     },
     Story {
-        name: "member 4097 is not reinstated",
+        name: "nobody is reinstated past the most members of a session",
         facts: &[
             Fact::School,
             Fact::Rows(Kind::Candidates, 1, 4_098),

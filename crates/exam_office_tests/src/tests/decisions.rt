@@ -16,7 +16,7 @@ const LODGED: &[Fact<'static>] = &[
     Fact::Lodged(2, "CL1", Grant::Paper("MA-1")),
 ];
 
-/// On the last day to decide.
+/// A grant on the last day to decide.
 const GRANT: Ruling<'static> = Ruling {
     on: "2027-05-31",
     number: 1,
@@ -24,7 +24,7 @@ const GRANT: Ruling<'static> = Ruling {
     outcome: Outcome::Grant,
 };
 
-/// On the day of the session.
+/// The same on the day of the session.
 const ON_THE_DAY: Ruling<'static> = Ruling {
     on: "2027-06-01",
     ..GRANT
@@ -35,7 +35,7 @@ const LATER: Ruling<'static> = Ruling {
     ..GRANT
 };
 
-/// Of who left the session.
+/// The same for the third candidate, who has left the session.
 const OF_THE_THIRD: Ruling<'static> = Ruling { number: 3, ..GRANT };
 
 const STORIES: &[Story<'static>] = &[
@@ -123,7 +123,7 @@ const STORIES: &[Story<'static>] = &[
     },
 ];
 
-/// The first has withdrawn from PH-2. Both have a granted arrangement, and the first an open one more.
+/// The first has withdrawn from PH-2. Both have a granted arrangement, and the first has another one open.
 const GRANTED: &[Fact<'static>] = &[
     Fact::School,
     Fact::Row(Line::Paper("PH-2", "S1", "-")),

@@ -1,4 +1,4 @@
-//! Each limit is reached, and not passed: one import reaches it, and the next would pass it.
+//! Each limit can be reached, but not passed: one import reaches it, and the next would pass it.
 use super::lines::Line;
 use super::scenes::{Order, Scene, Story, play};
 use super::setups::Fact;
@@ -7,7 +7,7 @@ use std::test::Fail;
 
 const STORIES: &[Story<'static>] = &[
     Story {
-        name: "400 sessions",
+        name: "the most sessions",
         facts: &[Fact::Rows(Kind::Sessions, 0, 399)],
         sittings: &[],
         scenes: &[
@@ -21,9 +21,9 @@ const STORIES: &[Story<'static>] = &[
             ),
         ],
     },
-    // One paper is there.
+    // One paper exists already.
     Story {
-        name: "2,000 papers",
+        name: "the most papers",
         facts: &[Fact::School, Fact::Rows(Kind::Papers, 0, 1_998)],
         sittings: &[],
         scenes: &[
@@ -37,9 +37,9 @@ const STORIES: &[Story<'static>] = &[
             ),
         ],
     },
-    // Two halls are there.
+    // Two halls exist already.
     Story {
-        name: "500 halls",
+        name: "the most halls",
         facts: &[Fact::School, Fact::Rows(Kind::Halls, 0, 497)],
         sittings: &[],
         scenes: &[
@@ -54,28 +54,28 @@ const STORIES: &[Story<'static>] = &[
         ],
     },
     Story {
-        name: "128 openings",
+        name: "the most openings of a session",
         facts: &[
             Fact::School,
             Fact::Row(Line::Opening("S1", "A", 1)),
             Fact::Row(Line::Opening("S1", "B", 1)),
-            Fact::Rows(Kind::Halls, 0, 127),
-            Fact::Rows(Kind::Openings, 0, 125),
+            Fact::Rows(Kind::Halls, 0, 255),
+            Fact::Rows(Kind::Openings, 0, 253),
         ],
         sittings: &[],
         scenes: &[
             Scene::Order(
-                Order::Import(Kind::Openings, &[Line::Opening("S1", "H125", 1)]),
+                Order::Import(Kind::Openings, &[Line::Opening("S1", "H253", 1)]),
                 "Imported 1 0 0",
             ),
             Scene::Order(
-                Order::Import(Kind::Openings, &[Line::Opening("S1", "H126", 1)]),
+                Order::Import(Kind::Openings, &[Line::Opening("S1", "H254", 1)]),
                 "TooMany",
             ),
         ],
     },
     Story {
-        name: "20,000 candidates",
+        name: "the most candidates",
         facts: &[Fact::Rows(Kind::Candidates, 1, 20_000)],
         sittings: &[],
         scenes: &[
@@ -90,7 +90,7 @@ const STORIES: &[Story<'static>] = &[
         ],
     },
     Story {
-        name: "4,096 members of a session",
+        name: "the most members of a session",
         facts: &[
             Fact::Row(Line::Session("S1")),
             Fact::Row(Line::Paper("MA-1", "S1", "-")),

@@ -155,7 +155,7 @@ fn kind_of(row: &Row) -> Kind
     }
 }
 
-/// Appends a row of the import's kind, and gives its refusal, if it is refused.
+/// Appends a row of the import's kind, and returns its refusal, if it is refused.
 fn push(import: &mut Import, row: Row) -> Result<Option<Refusal>, Fail> {
     if kind_of(&row) != import.kind() || import.rows().len() >= 4_194_304 {
         return Err(Fail::new("a row of another kind"));

@@ -17,7 +17,7 @@ const ENTERED: &[Fact<'static>] = &[
     Fact::Row(Line::Entry(1, "MA-1")),
 ];
 
-/// Rows that refer to what is not there.
+/// Rows that refer to what does not exist.
 const UNKNOWN: &[Case<'static>] = &[
     (
         &[Fact::School, Fact::Row(Line::Paper("PH-2", "S9", "-"))],
@@ -70,8 +70,8 @@ const TOO_MANY: &[Case<'static>] = &[
     ),
 ];
 
-/// Two granted arrangement appeals for one session; and marks of what stands for no other session: without an
-/// appeal, of a hall appeal, and of an appeal that is open.
+/// Two granted arrangement appeals for one session; and marks that no standing grant bears: one without an appeal, one
+/// of a hall appeal, and one of an open appeal.
 const APPEALS: &[Case<'static>] = &[
     (
         &[
@@ -129,7 +129,7 @@ const PLANS: &[Case<'static>] = &[
     (ENTERED, &[("S1", 1, "B")], None),
 ];
 
-/// Expects of each case the first bad table, and that there is an office if no table is bad.
+/// Expects the first bad table in each case, and an office if no table is bad.
 fn expect_all<R: Abort + AllocGlobal>(rt: &R, cases: &[Case]) -> Result<(), Fail> {
     for (facts, sittings, table) in cases {
         let refusal = table.map(|_| Refusal::BadStore);

@@ -12,7 +12,7 @@ struct Seen<'a> {
     papers: &'a [&'a str],
     sitting: &'a str,
     clashes: &'a [&'a str],
-    /// `-` is nowhere.
+    /// `-` means no hall.
     hall: &'a str,
     desk: Option<u32>,
 }
@@ -34,7 +34,7 @@ const MATHS: Seen<'static> = Seen {
     desk: None,
 };
 
-/// The first and the fifth sit MA-1 and the second PH-2, and nowhere is a desk for the third.
+/// The first and the fifth sit MA-1, the second sits PH-2, and there is no desk for the third.
 const SEATED: &[Fact<'static>] = &[
     Fact::School,
     Fact::Row(Line::Opening("S1", "A", 2)),
@@ -49,7 +49,8 @@ const SEATED: &[Fact<'static>] = &[
 
 const SEATS: &[Sitting<'static>] = &[("S1", 1, "B"), ("S1", 2, "A"), ("S1", 5, "A")];
 
-/// Members see their desks, and who is a member of no session sees none. A granted clash turns what is sat.
+/// Members see their desks; a candidate who is a member of no session sees none. A granted clash changes the paper that
+/// is sat.
 const CASES: &[Case<'static>] = &[
     Case {
         facts: SEATED,
@@ -131,7 +132,7 @@ fn are_papers(papers: &[PaperCode], wanted: &[&str]) -> Result<bool, Fail> {
     Ok(papers.len() == wanted.len())
 }
 
-/// Whether the member sees the session so.
+/// Whether the member sees the session like this.
 fn is_seen(own: &OwnSession, seen: &Seen) -> Result<bool, Fail> {
     let are_right = are_papers(&own.papers, seen.papers)?
         && are_papers(&own.clashes, seen.clashes)?

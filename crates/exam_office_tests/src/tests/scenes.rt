@@ -50,9 +50,9 @@ pub struct Ruling<'a> {
 pub enum Scene<'a> {
     /// A command, and what it answers.
     Order(Order<'a>, &'a str),
-    /// In which halls candidates sit in a session; `-` is nowhere.
+    /// The halls in which candidates sit in a session; `-` means no hall.
     Seats(&'a str, &'a [(u32, &'a str)]),
-    /// At which minute of the day a candidate ends in a session.
+    /// The minute of the day at which a candidate ends in a session.
     Ends(&'a str, u32, u16),
     /// A candidate's entry for a paper is withdrawn.
     IsWithdrawn(u32, &'a str),
@@ -60,7 +60,7 @@ pub enum Scene<'a> {
     EntryCount(usize),
     /// How many sit, over all sessions.
     SeatCount(usize),
-    /// Where a candidate's appeal with a reference stands.
+    /// The state of a candidate's appeal with a reference.
     Stands(u32, &'a str, AppealState),
     /// How many appeals there are, whatever became of them.
     AppealCount(usize),
@@ -133,15 +133,15 @@ fn command_of(alloc: Global, order: Order) -> Result<Command, Fail> {
     }
 }
 
-/// Whether everybody whom the part seats sits so in the office.
+/// Whether everybody whom the part seats sits in the same hall in the office.
 fn are_seated(office: &Office, part: &Part) -> bool {
     part.plans
         .iter()
         .all(|(key, hall)| office.seats().get(key) == Some(hall))
 }
 
-/// What a command answers on the office. Carried out first over the part of the office that it reads, it answers the
-/// same, and seats as the office does afterwards.
+/// What a command answers on the office. First carries it out over the part of the office that it reads, and compares
+/// that it answers the same and seats as the office does afterwards.
 fn answer_of(
     alloc: Global,
     office: &mut Office,
@@ -157,7 +157,7 @@ fn answer_of(
     Ok(reply)
 }
 
-/// Whether an order is answered so.
+/// Whether an order has this answer.
 fn is_answered(
     alloc: Global,
     office: &mut Office,
@@ -169,7 +169,7 @@ fn is_answered(
     Ok(text_of(alloc, &answer)?.as_str() == wanted)
 }
 
-/// Whether the candidates sit so in a session.
+/// Whether the candidates sit in these halls in a session.
 fn are_places(office: &Office, of: &str, places: &[(u32, &str)]) -> Result<bool, Fail> {
     for (value, code) in places {
         let key = (session(of)?, number(*value)?);
@@ -180,13 +180,13 @@ fn are_places(office: &Office, of: &str, places: &[(u32, &str)]) -> Result<bool,
     Ok(true)
 }
 
-/// At which minute of the day a candidate ends in a session.
+/// The minute of the day at which a candidate ends in a session.
 fn end_of(office: &Office, of: &str, value: u32) -> Result<u16, Fail> {
     let end = finish(office.facts(), &session(of)?, number(value)?).ok_or("finish")?;
     Ok(end.get())
 }
 
-/// Where an appeal stands.
+/// The state of an appeal.
 fn standing_of(office: &Office, value: u32, code: &str) -> Result<AppealState, Fail> {
     let appeal = office
         .facts()
@@ -196,14 +196,14 @@ fn standing_of(office: &Office, value: u32, code: &str) -> Result<AppealState, F
     Ok(state_of(&appeal.status))
 }
 
-/// Whether there is such an entry, and it is withdrawn.
+/// Whether the entry exists and is withdrawn.
 fn is_withdrawn(office: &Office, value: u32, code: &str) -> Result<bool, Fail> {
     let key = (number(value)?, paper(code)?);
     let entry = office.facts().entries.get(&key);
     Ok(entry.map_or(false, |entry| !entry.live))
 }
 
-/// Whether a look at the office finds it so. Of a command it says yes.
+/// Whether a look at the office finds what the scene says. True for a command.
 fn is_so(office: &Office, scene: &Scene) -> Result<bool, Fail> {
     match scene {
         Scene::Order(_, _) => Ok(true),
@@ -217,7 +217,7 @@ fn is_so(office: &Office, scene: &Scene) -> Result<bool, Fail> {
     }
 }
 
-/// Takes a scene. Whether the office answers as it should, or looks so.
+/// Takes a scene. Whether the office answers, or looks, as the scene says.
 fn take(alloc: Global, office: &mut Office, scene: &Scene) -> Result<bool, Fail> {
     match scene {
         Scene::Order(order, wanted) => is_answered(alloc, office, *order, wanted),
@@ -225,7 +225,7 @@ fn take(alloc: Global, office: &mut Office, scene: &Scene) -> Result<bool, Fail>
     }
 }
 
-/// Takes the scenes of a story in order. The first that is not as it should be, if one is not.
+/// Takes the scenes of a story in order. Returns the first that is not as it should be, if there is one.
 fn first_missed(alloc: Global, story: &Story) -> Result<Option<usize>, Fail> {
     let mut office = office_of(alloc, story.facts, story.sittings)?;
     for (place, scene) in story.scenes.iter().enumerate() {
@@ -245,7 +245,7 @@ pub fn play<R: Abort + AllocGlobal>(rt: &R, stories: &[Story]) -> Result<(), Fai
     Ok(())
 }
 
-/// What commands answer, run as one list; a semicolon after each.
+/// What commands answer when they are run as one list; a semicolon after each answer.
 pub fn answers_of(alloc: Global, facts: &[Fact], orders: &[Order]) -> Result<String, Fail> {
     let mut commands = Vec::new(alloc);
     for order in orders {

@@ -19,7 +19,7 @@ const THREE_NEEDS: &[Fact<'static>] = &[
     Fact::Row(Line::Arrangement(3, "reader", 0)),
 ];
 
-/// The first sits PH-2, which wants a computer, by a granted clash appeal; the third is granted a need of a
+/// The first sits PH-2, which requires a computer, by a granted clash appeal; the third was granted the need of a
 /// screen.
 const GRANTED: &[Fact<'static>] = &[
     Fact::School,
@@ -138,7 +138,7 @@ const STORIES: &[Story<'static>] = &[
             Scene::Seats("S2", &[(1, "B")]),
         ],
     },
-    // The free hall B is barred to the first, so another entry changes nothing for them.
+    // A granted appeal bars the first from the free hall B, so another entry changes nothing for them.
     Story {
         name: "an import repairs by the appeals that were granted",
         facts: &[

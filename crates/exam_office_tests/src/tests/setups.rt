@@ -7,7 +7,7 @@ use std::alloc::Global;
 use std::collections::BTreeMap;
 use std::test::Fail;
 
-/// What an appeal asks for, or was granted.
+/// What an appeal asks for, or grants.
 #[derive(Clone, Copy)]
 pub enum Grant<'a> {
     AnotherHallThan(&'a str),
@@ -17,20 +17,20 @@ pub enum Grant<'a> {
     Extra(u16),
 }
 
-/// A fact, or some facts, in words. A later fact takes the place of an earlier one with its key.
+/// A fact, or several facts, in words. A later fact replaces an earlier one with its key.
 #[derive(Clone, Copy)]
 pub enum Fact<'a> {
     /// Session S1 with the paper MA-1, the halls A, which is step-free, and B, and five candidates.
     School,
     /// A row, as an import brings it.
     Row(Line<'a>),
-    /// The rows of a kind with these numbers, from the first up to but not with the second: sessions S0 and
-    /// on, papers P0 and on of S1, halls H0 and on, their openings for S1 with a desk each, candidates,
-    /// entries for MA-1.
+    /// The rows of a kind with these numbers, from the first number up to, but not including, the second: sessions S0
+    /// and on, papers P0 and on of S1, halls H0 and on, their openings for S1 with a desk each, candidates, entries for
+    /// MA-1.
     Rows(Kind, u32, u32),
     /// A withdrawn entry.
     Withdrawn(u32, &'a str),
-    /// An appeal of a candidate for S1 with a reference, granted.
+    /// A granted appeal of a candidate for S1, with a reference.
     Granted(u32, &'a str, Grant<'a>),
     /// The mark of a standing grant, of a candidate and a reference.
     Marked(u32, &'a str),
@@ -52,7 +52,7 @@ const SCHOOL: &[Line<'static>] = &[
     Line::Candidate(5),
 ];
 
-/// The school with the halls A and B opened for S1, a desk each. Nobody is entered.
+/// The school with the halls A and B opened for S1, with a desk each. Nobody is entered.
 pub const OPENED: &[Fact<'static>] = &[
     Fact::School,
     Fact::Row(Line::Opening("S1", "A", 1)),
@@ -146,7 +146,7 @@ pub fn key_of(value: u32, code: &str) -> Result<(Number, Reference), Fail> {
     Ok((number, reference(code)?))
 }
 
-/// Where an appeal stands that is granted, or open.
+/// The status of an appeal that is granted, or open.
 fn status_of(alloc: Global, is_granted: bool) -> Result<Status, Fail> {
     if is_granted {
         return Ok(Status::Granted(reason(alloc, "ok")?));

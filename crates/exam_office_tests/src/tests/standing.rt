@@ -1,4 +1,4 @@
-//! Arrangements that stand for later sessions: two days at an office.
+//! Arrangements that also hold for later sessions: two days at an office.
 use super::lines::{Line, number};
 use super::scenes::{Order, Plea, Ruling, Scene, Story, play};
 use super::setups::{Fact, Grant, office_of};
@@ -27,7 +27,7 @@ const NEEDS_A_SCREEN: Plea<'static> = Plea {
     reason: "",
 };
 
-/// Its grant, which stands for later sessions.
+/// Its grant, which also holds for later sessions.
 const STANDING: Ruling<'static> = Ruling {
     on: "2027-05-22",
     number: 1,
@@ -51,7 +51,7 @@ const BOTH_ENTRIES: Scene<'static> = Scene::Order(
     "Imported 2 0 0",
 );
 
-/// S1 is held after S2 now.
+/// S1 is now held after S2.
 const LATER: Scene<'static> = Scene::Order(
     Order::Import(Kind::Sessions, &[Line::SessionOn("S1", "2027-06-03")]),
     "Imported 0 1 0",
@@ -143,7 +143,7 @@ fn standing_grants(rt: HostRuntime) -> Result<(), Fail> {
     play(&rt, STORIES)
 }
 
-/// Of the candidate's two appeals the first stands for later sessions.
+/// Of the candidate's two appeals, the first also holds for later sessions.
 const MARKED: &[Fact<'static>] = &[
     Fact::School,
     Fact::Granted(1, "AR1", Grant::Needs("screen")),
@@ -151,7 +151,7 @@ const MARKED: &[Fact<'static>] = &[
     Fact::Marked(1, "AR1"),
 ];
 
-/// Whether the candidate is shown that the appeal stands for later sessions.
+/// Whether the candidate is shown that the appeal also holds for later sessions.
 #[test]
 fn an_appellant_sees_which_grant_stands(rt: HostRuntime) -> Result<(), Fail> {
     let office = office_of(rt.alloc(), MARKED, &[])?;

@@ -1,4 +1,4 @@
-//! Which sessions a command touches, by example; and that over a part of the office it answers as over the whole.
+//! Which sessions a command touches, by example; and that it answers over a part of the office as over the whole.
 use super::lines::Line;
 use super::scenes::{Order, Plea, Ruling, touched_by};
 use super::setups::{Fact, Grant};
@@ -112,7 +112,7 @@ const NAMED: &[Case<'static>] = &[
     ),
 ];
 
-/// Other commands touch one session at most: a grant touches that of its appeal, unless it stands.
+/// Other commands touch at most one session: a grant touches that of its appeal, unless it also holds for later ones.
 const OTHERS: &[Case<'static>] = &[
     (Order::Withdraw(1, "MB-1"), "S2 "),
     (Order::Withdraw(1, "XX"), ""),
@@ -155,8 +155,8 @@ const OTHERS: &[Case<'static>] = &[
     ),
 ];
 
-/// A grant that stands touches each session of the appellant, and so does one that ends it. A date touches each session
-/// of who has a standing grant.
+/// A grant that also holds for later sessions touches each session of the appellant, and so does one that ends it. A
+/// date touches each session of a candidate with a standing grant.
 const WHERE_ONE_STANDS: &[Case<'static>] = &[
     (
         Order::Decide(Ruling {

@@ -79,7 +79,7 @@ fn quotes_are_escaped_and_the_unseated_have_no_desk(rt: HostRuntime) -> Result<(
     Ok(())
 }
 
-/// An answer where the appeal was decided, and each kind with what it asks.
+/// The answer shows the reason of each decision, and what each kind of appeal asks for.
 #[test]
 fn decided_appeals_tell_their_answers(rt: HostRuntime) -> Result<(), Fail> {
     let own = decided_rows(rt.alloc())?;

@@ -45,7 +45,7 @@ const ROWS: [Row<'static>; 14] = [
 const POSTED: &[u8] =
     b"{\"hall\":\"B\",\"kind\":\"hall\",\"reason\":\"\",\"ref\":\"HA1\",\"session\":\"S1\"}";
 
-/// What is done for a request, where the candidate 0000001 is known.
+/// What is done for a request if the candidate 0000001 is known.
 fn chosen(alloc: Global, asked: &Request<'_>) -> Result<Choice, Fail> {
     let router = server_routes(alloc).ok().ok_or("routes")?;
     let found = find(&router, asked.target);

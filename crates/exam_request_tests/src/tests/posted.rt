@@ -19,7 +19,7 @@ fn a_hall_is_appealed_against(rt: HostRuntime) -> Result<(), Fail> {
     Ok(())
 }
 
-/// Members stand in any order, with white space between, and texts may have escapes.
+/// Members may come in any order, with white space between, and texts may have escapes.
 #[test]
 fn a_paper_is_asked_for(rt: HostRuntime) -> Result<(), Fail> {
     let body =
@@ -53,7 +53,7 @@ fn extra_in<R: AllocGlobal>(rt: &R, extra: &[u8]) -> Result<Option<u16>, Fail> {
     }
 }
 
-/// What may stand for extra time, and what it is read as.
+/// What may be written as extra time, and what it is read as.
 const EXTRAS: &[(&[u8], Option<u16>)] = &[
     (b"0", Some(0)),
     (b"100", Some(100)),
@@ -83,23 +83,23 @@ const NO_POSTINGS: &[&[u8]] = &[
     b"{\"hall\":\"B\",\"kind\":\"hall\",\"reason\":\"\",\"ref\":\"HA1\",\"session\":\"S1\",\"x\":1}",
     b"{\"hall\":\"B\",\"kind\":\"hall\",\"reason\":\"\",\"ref\":\"HA1\"}",
     b"{\"paper\":\"B\",\"kind\":\"hall\",\"reason\":\"\",\"ref\":\"HA1\",\"session\":\"S1\"}",
-    // members that are no values
+    // members whose values are not allowed
     b"{\"hall\":\"B\",\"kind\":\"Hall\",\"reason\":\"\",\"ref\":\"HA1\",\"session\":\"S1\"}",
     b"{\"hall\":\"b\",\"kind\":\"hall\",\"reason\":\"\",\"ref\":\"HA1\",\"session\":\"S1\"}",
     b"{\"hall\":null,\"kind\":\"hall\",\"reason\":\"\",\"ref\":\"HA1\",\"session\":\"S1\"}",
     b"{\"hall\":\"B\",\"kind\":\"hall\",\"reason\":\"\\u0000\",\"ref\":\"HA1\",\"session\":\"S1\"}",
-    // a member that comes twice, also the same and with an escape
+    // a member that comes twice, even with the same value or with an escape
     b"{\"hall\":\"B\",\"kind\":\"hall\",\"reason\":\"\",\"ref\":\"HA1\",\"session\":\"S1\",\"hall\":\"B\"}",
     b"{\"hall\":\"B\",\"kind\":\"hall\",\"reason\":\"\",\"ref\":\"HA1\",\"session\":\"S1\",\"h\\u0061ll\":\"B\"}",
     b"{\"hall\":\"B\",\"hall\":\"B\",\"kind\":\"hall\",\"reason\":\"\",\"ref\":\"HA1\"}",
-    // no object, and one behind a byte order mark
+    // no object, and one after a byte order mark
     b"",
     b"[]",
     b"{}",
     b"{} {}",
     b"null",
     b"\xef\xbb\xbf{\"hall\":\"B\",\"kind\":\"hall\",\"reason\":\"\",\"ref\":\"HA1\",\"session\":\"S1\"}",
-    // a surrogate alone, and bytes that are no text
+    // an unpaired surrogate, and bytes that are no text
     b"{\"hall\":\"B\",\"kind\":\"hall\",\"reason\":\"\\ud800\",\"ref\":\"HA1\",\"session\":\"S1\"}",
     b"{\"hall\":\"B\",\"kind\":\"hall\",\"reason\":\"\xff\",\"ref\":\"HA1\",\"session\":\"S1\"}",
 ];

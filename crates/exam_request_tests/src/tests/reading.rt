@@ -1,5 +1,5 @@
 //! Requests, whole and cut, from readers that give all at once or a byte at a time, and that fail.
-use exam_request::{Asked, Fault, Request, read_request};
+use exam_request::{Asked, Fault, MOST_REQUEST, Request, read_request};
 use std::io;
 use std::io::Read;
 use std::process::Abort;
@@ -34,9 +34,9 @@ impl Read for Drip<'_> {
     }
 }
 
-/// The fault of an input, by its number, or 0 where it is a request.
+/// The fault of an input, by its number, or 0 if it is a request.
 fn fault_of(input: &[u8]) -> Result<u16, Fail> {
-    let mut buffer = [0; 12_288];
+    let mut buffer = [0; MOST_REQUEST];
     let mut reader = input;
     match read_request(&mut reader, &mut buffer) {
         Ok(Asked::Request(_)) => Ok(0),
@@ -59,7 +59,7 @@ fn is_get(asked: &Request<'_>) -> bool {
 
 #[test]
 fn a_request_is_read_at_once(rt: HostRuntime) -> Result<(), Fail> {
-    let mut buffer = [0; 12_288];
+    let mut buffer = [0; MOST_REQUEST];
     let mut reader = GET;
     match read_request(&mut reader, &mut buffer) {
         Ok(Asked::Request(asked)) => assert!(rt; is_get(&asked)),
@@ -70,7 +70,7 @@ fn a_request_is_read_at_once(rt: HostRuntime) -> Result<(), Fail> {
 
 #[test]
 fn no_read_is_made_behind_the_body(rt: HostRuntime) -> Result<(), Fail> {
-    let mut buffer = [0; 12_288];
+    let mut buffer = [0; MOST_REQUEST];
     let mut reader = Drip {
         bytes: POST,
         reads: 0,
@@ -87,12 +87,12 @@ fn no_read_is_made_behind_the_body(rt: HostRuntime) -> Result<(), Fail> {
     Ok(())
 }
 
-/// Wherever the reader fails, that is told in place of a request.
+/// Wherever the reader fails, the answer is this failure and no request.
 #[test]
 fn a_failed_read_is_told(rt: HostRuntime) -> Result<(), Fail> {
     let whole = POST.len() - 3;
     for given in 0..whole {
-        let mut buffer = [0; 12_288];
+        let mut buffer = [0; MOST_REQUEST];
         let mut reader = Drip {
             bytes: &POST[..given],
             reads: 0,
@@ -103,7 +103,7 @@ fn a_failed_read_is_told(rt: HostRuntime) -> Result<(), Fail> {
     Ok(())
 }
 
-/// Wherever the input ends, the head or the body is cut.
+/// Wherever the input ends, the answer is that the head or the body is cut off.
 #[test]
 fn a_cut_is_told(rt: HostRuntime) -> Result<(), Fail> {
     let whole = POST.len() - 3;
@@ -144,7 +144,7 @@ fn heads_have_at_most_32_lines(rt: HostRuntime) -> Result<(), Fail> {
     expect_fault(&rt, head.as_slice(), 31)
 }
 
-/// Inputs and their faults, 0 where they are requests.
+/// Inputs and their faults; 0 if they are requests.
 const FAULTS: &[(&[u8], u16)] = &[
     (b"", 31),
     (b"\r\nGET / HTTP/1.0\r\n\r\n", 31),
@@ -156,14 +156,14 @@ const FAULTS: &[(&[u8], u16)] = &[
     (b"GET / HTTP/1.0\r\na : b\r\n\r\n", 31),
     (b"GET / HTTP/1.0\r\na: b\r\n c\r\n\r\n", 31),
     (b"GET /\xff HTTP/1.0\r\n\r\n", 31),
-    // the host stands once, or in the older version not at all
+    // the host comes once, or in the older version not at all
     (b"GET / HTTP/1.1\r\n\r\n", 32),
     (b"GET / HTTP/1.1\r\nHost:\r\n\r\n", 0),
     (b"GET / HTTP/1.1\r\nHost: a\r\nHOST: a\r\n\r\n", 32),
     (b"GET / HTTP/1.0\r\n\r\n", 0),
     (b"GET / HTTP/1.0\r\nHost: a\r\n\r\n", 0),
     (b"GET / HTTP/1.0\r\nHost: a\r\nhost: b\r\n\r\n", 32),
-    // the host comes before a transfer coding, and that before the length
+    // the host is checked before a transfer coding, and that before the length
     (
         b"GET / HTTP/1.1\r\nTransfer-Encoding: chunked\r\nContent-Length: x\r\n\r\n",
         32,
@@ -212,10 +212,10 @@ fn lengths_are_digits(rt: HostRuntime) -> Result<(), Fail> {
     Ok(())
 }
 
-/// Two code lines are none, also where both hold the same.
+/// Two code lines count as none, even if both hold the same.
 #[test]
 fn two_code_lines_are_none(rt: HostRuntime) -> Result<(), Fail> {
-    let mut buffer = [0; 12_288];
+    let mut buffer = [0; MOST_REQUEST];
     let mut reader =
         b"GET / HTTP/1.0\r\nexam-code: ABCD1234\r\nEXAM-CODE: ABCD1234\r\n\r\n".as_slice();
     match read_request(&mut reader, &mut buffer) {

@@ -17,7 +17,7 @@ const TOO_LATE: &[u8] =
 const ONE_SEAT: &[u8] =
     b"HTTP/1.1 200 OK\r\nContent-Type: application/json\r\nContent-Length: 138\r\nConnection: close\r\n\r\n{\"seats\":[{\"date\":\"2027-06-01\",\"desk\":1,\"extra\":0,\"finish\":\"10:00\",\"hall\":\"A\",\"needs\":\"-\",\"paper\":\"MA-1\",\"session\":\"S1\",\"start\":\"09:00\"}]}";
 
-/// Takes at most so many bytes at a call. Once its room is full it fails, or takes none.
+/// Takes at most so many bytes at a call. When its room is full it fails, or takes none.
 #[derive(Drop)]
 struct Narrow {
     taken: ArrayVec<u8, 512>,
@@ -55,7 +55,7 @@ impl Write for Narrow {
     }
 }
 
-/// Wherever the writer stops, a beginning went out and that is told.
+/// Wherever the writer stops, a beginning was written, and the answer is a failure.
 fn expect_cut<R: Abort>(rt: &R, answer: &Answer, whole: &[u8], fails: bool) {
     for (room, _) in whole.iter().enumerate() {
         let mut out = Narrow::new(7, room, fails);

@@ -14,7 +14,7 @@ use sqlite::types::ValueRef;
 use sqlite::{Alter, Connection, Row, Transaction};
 use std::alloc::Global;
 
-/// Where each seated candidate sits, by session and candidate.
+/// The hall in which each seated candidate sits, by session and candidate.
 pub struct Seats;
 
 impl StoredRows for Seats {

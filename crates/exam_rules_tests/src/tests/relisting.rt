@@ -1,10 +1,10 @@
-//! One entry set, its candidate listed anew, and the lists that come of it beside those made from all facts.
+//! Sets one entry, lists its candidate again, and compares the lists with those made from all facts.
 use super::setups::{Fact, number, paper, school_with, session};
 use exam_rules::{Entrant, Entry, Facts, SessionLists, session_lists};
 use std::process::Abort;
 use std::test::Fail;
 
-/// An entry of a candidate for a paper set, and who is then listed with which paper.
+/// One entry of a candidate for a paper is set; then these are listed, each with a paper.
 #[derive(Clone, Copy)]
 pub struct Turn<'a> {
     pub number: u32,
@@ -32,8 +32,8 @@ fn expect_listed<R: Abort>(
     Ok(())
 }
 
-/// Takes the turns in order, from the lists of the school with these facts, where these are listed at first.
-/// Each turn is taken, put back and taken again.
+/// Takes the turns in order. The lists begin as those of the school with these facts, which must show `listed`. Each
+/// turn is taken, put back and taken again.
 pub fn relist_each<'a, R: Abort + AllocGlobal>(
     rt: &R,
     facts: &[Fact],

@@ -1,8 +1,7 @@
 //! What the rules say of the facts, in words.
 use super::setups::{Fact, add_fact, arrangement, hall, number, paper, school_with, session};
 use exam_rules::{
-    Facts, arrangement_in_force, clashes, finish, fits, is_member, members, open_halls, problem,
-    sitting,
+    Facts, arrangement_in_force, clashes, finish, fits, is_member, problem, session_lists, sitting,
 };
 use exam_types::{Minute, PaperCode};
 use std::process::Abort;
@@ -22,7 +21,7 @@ pub enum Scene<'a> {
     Clash(u32, &'a str),
     /// The needs and the extra time of a candidate that are in force.
     InForce(u32, &'a str, u16),
-    /// Who is seated, and how many halls are open.
+    /// Which members are listed, and how many halls are open.
     Listed(&'a [u32], usize),
     /// The places of the halls that fit the candidate at a place, and their place in the order of desks.
     Row(usize, &'a [usize], u32),
@@ -90,13 +89,14 @@ fn expect_lists<R: Abort + AllocGlobal>(
     halls: usize,
 ) -> Result<(), Fail> {
     let session = session("S1")?;
-    let listed = members(rt.alloc(), facts, &session)?;
+    let lists = session_lists(rt.alloc(), facts)?;
+    let listed = lists.members_of(&session);
     assert_eq!(rt; listed.len(), numbers.len());
     for (listed, value) in listed.iter().zip(numbers) {
-        assert_eq!(rt; listed.get(), *value);
-        assert!(rt; is_member(facts, &session, *listed), "{value}");
+        assert_eq!(rt; listed.number.get(), *value);
+        assert!(rt; is_member(facts, &session, listed.number), "{value}");
     }
-    assert_eq!(rt; open_halls(rt.alloc(), facts, &session)?.len(), halls);
+    assert_eq!(rt; lists.halls_of(&session).len(), halls);
     Ok(())
 }
 

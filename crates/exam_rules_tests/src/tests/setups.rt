@@ -9,7 +9,7 @@ use exam_types::{
 use std::alloc::Global;
 use std::test::Fail;
 
-/// What an appeal was granted.
+/// What an appeal grants.
 #[derive(Clone, Copy)]
 pub enum Grant<'a> {
     AnotherHallThan(&'a str),
@@ -17,7 +17,7 @@ pub enum Grant<'a> {
     Needs(&'a str, u16),
 }
 
-/// A fact in words. A later fact takes the place of an earlier one with its key.
+/// A fact in words. A later fact replaces an earlier one with its key.
 #[derive(Clone, Copy)]
 pub enum Fact<'a> {
     /// A session at 09:00 on a day.
@@ -30,11 +30,11 @@ pub enum Fact<'a> {
     Entered(u32, &'a str),
     /// The needs and the extra time of a candidate.
     Arrangement(u32, &'a str, u16),
-    /// An appeal of a candidate, by its reference, for a session, granted.
+    /// A granted appeal of a candidate, by its reference, for a session.
     Granted(u32, &'a str, &'a str, Grant<'a>),
-    /// The same, superseded since.
+    /// The same, but superseded since.
     Superseded(u32, &'a str, &'a str, Grant<'a>),
-    /// The mark of a candidate's appeal, by its reference: its grant stands for later sessions.
+    /// The mark of a candidate's appeal, by its reference: its grant also holds for later sessions.
     Marked(u32, &'a str),
 }
 

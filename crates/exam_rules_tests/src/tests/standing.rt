@@ -1,4 +1,4 @@
-//! Arrangements that were granted for one session and stand for later ones. Each test looks at session S1 on
+//! Arrangements that were granted for one session and also hold for later ones. Each test looks at session S1 on
 //! 2027-06-01, where 1 has entered for MA-1.
 use super::scenes::{Scene, play};
 use super::setups::{Fact, Grant};

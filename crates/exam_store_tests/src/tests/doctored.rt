@@ -18,7 +18,7 @@ UPDATE session SET start = 1440
 UPDATE paper SET title = ''
 UPDATE paper SET minutes = 0
 UPDATE paper SET minutes = 601
-UPDATE paper SET requires = 32
+UPDATE paper SET requires = 64
 UPDATE hall SET features = -1
 INSERT INTO hall VALUES ('ABCDEFGHI', 'Hall', 0)
 INSERT INTO hall VALUES ('A-B', 'Hall', 0)
@@ -31,7 +31,7 @@ INSERT INTO candidate VALUES (10000000, 'Flo Ray', 'CODE0009')
 INSERT INTO candidate VALUES (9, '', 'CODE0009')
 INSERT INTO candidate VALUES (9, 'Flo Ray', 'SEVENLY')
 INSERT INTO candidate VALUES (9, 'Flo Ray', 'code0009')
-INSERT INTO arrangement VALUES (1, 32, 0)
+INSERT INTO arrangement VALUES (1, 64, 0)
 INSERT INTO arrangement VALUES (1, 0, 101)
 ";
 
@@ -51,7 +51,7 @@ INSERT INTO appeal VALUES (1, 'R1', 'S1', 1, 'Z', 0, 0, '', 1, NULL, '2027-05-01
 INSERT INTO appeal VALUES (1, 'R1', 'S1', 2, 'A', 0, 0, '', 1, NULL, '2027-05-01')
 INSERT INTO appeal VALUES (1, 'R1', 'S1', 2, 'MA-1', 2, 0, '', 1, NULL, '2027-05-01')
 INSERT INTO appeal VALUES (1, 'R1', 'S1', 3, 'A', 0, 0, '', 1, NULL, '2027-05-01')
-INSERT INTO appeal VALUES (1, 'R1', 'S1', 3, '', 32, 0, '', 1, NULL, '2027-05-01')
+INSERT INTO appeal VALUES (1, 'R1', 'S1', 3, '', 64, 0, '', 1, NULL, '2027-05-01')
 INSERT INTO appeal VALUES (1, 'R1', 'S1', 3, '', 0, 101, '', 1, NULL, '2027-05-01')
 INSERT INTO appeal VALUES (1, 'R1', 'S1', 1, 'A', 0, 0, '', 0, NULL, '2027-05-01')
 INSERT INTO appeal VALUES (1, 'R1', 'S1', 1, 'A', 0, 0, '', 6, NULL, '2027-05-01')
@@ -75,7 +75,7 @@ fn an_appeal_of_no_form_is_refused(rt: HostRuntime) -> Result<(), Fail> {
 
 /// Another version, a table that is missing, and one with fewer columns.
 const OTHER_TABLES: &str = "\
-UPDATE office SET version = 3
+UPDATE office SET version = 4
 UPDATE office SET version = 9
 UPDATE office SET one = 2
 INSERT INTO office VALUES (2, 2)
@@ -108,7 +108,7 @@ fn another_schema_is_refused(rt: HostRuntime) -> Result<(), Fail> {
     Ok(())
 }
 
-/// Open appeals, and granted ones of a kind of which a candidate may have one for a session.
+/// Open appeals, and granted ones of the kinds that a candidate may have only once for a session.
 const SINGLES: &str = "\
 INSERT INTO appeal VALUES (1, 'R1', 'S1', 1, 'A', 0, 0, '', 1, NULL, '2027-05-01')
 INSERT INTO appeal VALUES (1, 'R1', 'S1', 2, 'MA-1', 0, 0, '', 1, NULL, '2027-05-01')

@@ -1,6 +1,7 @@
-//! Offices of version 1 are brought to the newest version, whole or not at all.
+//! Offices of older versions are brought to the newest, whole or not at all.
 use super::{
-    BAD_STORE, BASE, FIRST_SEATED, expect_each, office_of, refusal_of_creating, refusal_of_opening,
+    BAD_STORE, BASE, FIRST_SEATED, after, expect_each, office_of, refusal_of_creating,
+    refusal_of_opening,
 };
 use exam_office::{Command, Reply};
 use exam_store::{Store, migrate};
@@ -10,35 +11,39 @@ use std::alloc::Global;
 use std::process::Abort;
 use std::test::Fail;
 
-/// What makes the tables of the newest version those of version 1.
-const BACK: &str = "DROP TABLE standing; UPDATE office SET version = 1";
+/// Turns the tables of the newest version into those of version 1.
+const TO_FIRST: &str = "DROP TABLE standing; UPDATE office SET version = 1";
+
+/// Turns them into those of version 2.
+const TO_SECOND: &str = "UPDATE office SET version = 2";
 
 /// The number of the refusal of an office of an older version.
 const OLD_SCHEMA: u16 = 27;
 
-/// An office of version 1 with one candidate seated, after these statements.
-fn old_office(alloc: Global, sql: &str) -> Result<Connection<MemStore>, Fail> {
-    office_of(alloc, &[BASE, FIRST_SEATED, BACK, sql])
+/// An office of an older version, made so by the first text, with one candidate seated, after these statements.
+fn old_office(alloc: Global, back: &str, sql: &str) -> Result<Connection<MemStore>, Fail> {
+    office_of(alloc, &[BASE, FIRST_SEATED, sql, back])
 }
 
-/// Whatever else is wrong with it.
-#[test]
-fn an_old_office_is_not_opened(rt: HostRuntime) -> Result<(), Fail> {
+/// Expects that an office of an older version is refused as such, whatever else is wrong with it.
+fn expect_old<R: Abort + AllocGlobal>(rt: &R, back: &str) -> Result<(), Fail> {
     let alloc = rt.alloc();
     assert_eq!(rt;
-        refusal_of_opening(alloc, old_office(alloc, "")?),
+        refusal_of_creating(alloc, old_office(alloc, back, "")?),
         OLD_SCHEMA
     );
-    assert_eq!(rt;
-        refusal_of_creating(alloc, old_office(alloc, "")?),
-        OLD_SCHEMA
-    );
-    let statements = "DELETE FROM seat\nDROP TABLE seat\n";
-    expect_each(&rt, &[BASE, FIRST_SEATED], statements, BACK, OLD_SCHEMA)
+    let statements = "UPDATE seat SET hall = 'B'\nDELETE FROM seat\nDROP TABLE seat\n";
+    expect_each(rt, &[BASE, FIRST_SEATED], statements, back, OLD_SCHEMA)
 }
 
-/// Brings what the connection holds to the newest version. Gives the old version and the new one, or the number of the
-/// refusal and 0.
+#[test]
+fn an_old_office_is_not_opened(rt: HostRuntime) -> Result<(), Fail> {
+    expect_old(&rt, TO_FIRST)?;
+    expect_old(&rt, TO_SECOND)
+}
+
+/// Brings what the connection holds to the newest version. Returns the old version and the new one, or the number of
+/// the refusal and 0.
 fn migrated(alloc: Global, conn: &mut Connection<MemStore>) -> (u16, u16) {
     match migrate(alloc, conn) {
         Ok((old, new)) => (u16::from(old), u16::from(new)),
@@ -73,12 +78,12 @@ fn count(conn: &mut Connection<MemStore>, sql: &str) -> Result<usize, Fail> {
 }
 
 #[test]
-fn an_old_office_is_migrated(rt: HostRuntime) -> Result<(), Fail> {
+fn an_office_of_version_1_is_migrated(rt: HostRuntime) -> Result<(), Fail> {
     let alloc = rt.alloc();
-    let mut conn = old_office(alloc, "")?;
-    assert_eq!(rt; migrated(alloc, &mut conn), (1, 2));
-    // Again, and nothing is written.
-    assert_eq!(rt; migrated(alloc, &mut conn), (2, 2));
+    let mut conn = old_office(alloc, TO_FIRST, "")?;
+    assert_eq!(rt; migrated(alloc, &mut conn), (1, 3));
+    // The second time, nothing is written.
+    assert_eq!(rt; migrated(alloc, &mut conn), (3, 3));
     assert_eq!(rt; count(&mut conn, "SELECT number FROM seat")?, 1);
     assert_eq!(rt; count(&mut conn, "SELECT number FROM standing")?, 0);
     let mut conn = withdrawn(alloc, conn)?;
@@ -87,9 +92,80 @@ fn an_old_office_is_migrated(rt: HostRuntime) -> Result<(), Fail> {
     Ok(())
 }
 
+/// A standing grant.
+const MARKED: &str = "\
+INSERT INTO appeal VALUES (1, 'AR1', 'S1', 3, '', 0, 25, '', 2, 'Yes', '2027-05-01');
+INSERT INTO standing VALUES (1, 'AR1')";
+
+#[test]
+fn an_office_of_version_2_keeps_its_marks(rt: HostRuntime) -> Result<(), Fail> {
+    let alloc = rt.alloc();
+    let mut conn = old_office(alloc, TO_SECOND, MARKED)?;
+    assert_eq!(rt; migrated(alloc, &mut conn), (2, 3));
+    assert_eq!(rt; migrated(alloc, &mut conn), (3, 3));
+    assert_eq!(rt; count(&mut conn, "SELECT number FROM seat")?, 1);
+    assert_eq!(rt; count(&mut conn, "SELECT number FROM standing")?, 1);
+    assert_eq!(rt; refusal_of_opening(alloc, conn), 0);
+    Ok(())
+}
+
+/// From two halls to 128, all of them opened.
+const MANY_OPENINGS: &str = "\
+INSERT INTO hall SELECT code || 'C', title, 7 FROM hall;
+INSERT INTO hall SELECT code || 'D', title, 7 FROM hall;
+INSERT INTO hall SELECT code || 'E', title, 7 FROM hall;
+INSERT INTO hall SELECT code || 'F', title, 7 FROM hall;
+INSERT INTO hall SELECT code || 'G', title, 7 FROM hall;
+INSERT INTO hall SELECT code || 'H', title, 7 FROM hall;
+INSERT INTO opening SELECT 'S1', code, 1, 720, 0 FROM hall WHERE features = 7";
+
+/// The most that an older version could hold, beside as many openings.
+const AT_LIMITS: &str = "\
+UPDATE hall SET features = 31
+UPDATE hall SET features = 31; UPDATE paper SET requires = 31
+INSERT INTO arrangement VALUES (2, 31, 0)
+INSERT INTO appeal VALUES (2, 'R1', 'S1', 3, '', 31, 0, '', 3, 'No', '2027-05-01')
+";
+
+/// What no older version could hold.
+const PAST_LIMITS: &str = "\
+UPDATE hall SET features = 32
+UPDATE hall SET features = 63; UPDATE paper SET requires = 32
+INSERT INTO arrangement VALUES (2, 32, 0)
+INSERT INTO appeal VALUES (2, 'R1', 'S1', 3, '', 32, 0, '', 3, 'No', '2027-05-01')
+INSERT INTO hall VALUES ('Z', 'Hall Z', 0); INSERT INTO opening VALUES ('S1', 'Z', 1, 720, 0)
+";
+
+/// Compares for each line what migrating that office of an older version answers after its statements.
+fn expect_migrated<R: Abort + AllocGlobal>(
+    rt: &R,
+    back: &str,
+    lines: &str,
+    answer: (u16, u16),
+) -> Result<(), Fail> {
+    let alloc = rt.alloc();
+    for sql in lines.lines() {
+        let full = after(old_office(alloc, "", MANY_OPENINGS)?, sql)?;
+        let mut conn = after(full, back)?;
+        let found = migrated(alloc, &mut conn);
+        drop(conn);
+        assert_eq!(rt; found, answer, "{sql}");
+    }
+    Ok(())
+}
+
+#[test]
+fn an_old_office_has_the_limits_of_its_version(rt: HostRuntime) -> Result<(), Fail> {
+    expect_migrated(&rt, TO_FIRST, AT_LIMITS, (1, 3))?;
+    expect_migrated(&rt, TO_FIRST, PAST_LIMITS, (BAD_STORE, 0))?;
+    expect_migrated(&rt, TO_SECOND, AT_LIMITS, (2, 3))?;
+    expect_migrated(&rt, TO_SECOND, PAST_LIMITS, (BAD_STORE, 0))
+}
+
 /// Rows and tables that no office of version 1 has.
-const NO_OLD_OFFICES: &str = "\
+const NO_FIRST_OFFICES: &str = "\
 UPDATE office SET version = 2
+UPDATE office SET version = 3
 UPDATE session SET start = 1440
 UPDATE paper SET minutes = 601
 UPDATE hall SET features = 32
@@ -103,7 +179,16 @@ DROP TABLE office
 CREATE TABLE standing (number INTEGER NOT NULL, ref TEXT NOT NULL, PRIMARY KEY (number, ref)) STRICT
 ";
 
-/// Compares that these tables are refused.
+/// Changes after which there is no good office of version 2.
+const NO_SECOND_OFFICES: &str = "\
+UPDATE office SET version = 1
+UPDATE paper SET minutes = 601
+DELETE FROM seat
+DROP TABLE standing
+DROP TABLE office
+";
+
+/// Expects that these tables are refused.
 fn expect_refused<R: Abort + AllocGlobal>(rt: &R, conn: Connection<MemStore>, sql: &str) {
     let mut conn = conn;
     let found = migrated(rt.alloc(), &mut conn);
@@ -114,12 +199,15 @@ fn expect_refused<R: Abort + AllocGlobal>(rt: &R, conn: Connection<MemStore>, sq
 #[test]
 fn what_is_no_good_office_is_not_migrated(rt: HostRuntime) -> Result<(), Fail> {
     let alloc = rt.alloc();
-    for sql in NO_OLD_OFFICES.lines() {
-        expect_refused(&rt, old_office(alloc, sql)?, sql);
+    for sql in NO_FIRST_OFFICES.lines() {
+        expect_refused(&rt, after(old_office(alloc, TO_FIRST, "")?, sql)?, sql);
+    }
+    for sql in NO_SECOND_OFFICES.lines() {
+        expect_refused(&rt, after(old_office(alloc, TO_SECOND, "")?, sql)?, sql);
     }
     expect_refused(&rt, Connection::open_in_memory(alloc)?, "nothing");
-    // A bad office of the newest version is judged too.
-    let sql = "UPDATE hall SET features = 32";
+    // A bad office of the newest version is refused too.
+    let sql = "UPDATE paper SET minutes = 601";
     expect_refused(&rt, office_of(alloc, &[BASE, sql])?, sql);
     Ok(())
 }

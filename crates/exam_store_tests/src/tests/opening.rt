@@ -1,9 +1,10 @@
-//! Offices that were closed are opened anew, where their plan is still a best one.
+//! Offices that were closed are opened again, if their plan is still a best one.
 use super::{BAD_STORE, BASE, FIRST_SEATED, expect_each, refusal_of_creating, refusal_of_opening};
 use sqlite::Connection;
 use std::test::Fail;
 
-/// The first candidate's seat is gone, closes early, or is another's too, and they are withdrawn in part or whole.
+/// The first candidate has no seat; their hall closes early; the second candidate, who is not entered, has a seat too;
+/// the entry is withdrawn; and its mark is no value.
 const OTHER_PLANS: &str = "\
 DELETE FROM seat
 UPDATE opening SET until = 599 WHERE hall = 'A'
@@ -12,7 +13,7 @@ UPDATE entry SET live = 0
 UPDATE entry SET live = 2
 ";
 
-/// Any best plan will do, were it not the one that a repair from nothing makes.
+/// Any best plan is accepted, even if it is not the one that a repair from nothing makes.
 const OTHER_BEST_PLAN: &str = "UPDATE seat SET hall = 'B'";
 
 #[test]

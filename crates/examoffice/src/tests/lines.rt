@@ -42,7 +42,7 @@ const LINES: &[(&str, &str, End)] = &[
     ("a.db", "exports S1", (2, "", "line not understood\n")),
     ("b.db", "init", (0, "ready\n", "")),
     ("b.db", "export S1", (1, "", "refused 4\n")),
-    ("b.db", "migrate", (0, "already 2\n", "")),
+    ("b.db", "migrate", (0, "already 3\n", "")),
     ("b.db", "check", (0, "good\n", "")),
     ("folder.db", "init", (1, "", "refused 23\n")),
     ("folder.db", "export S1", (1, "", "refused 23\n")),

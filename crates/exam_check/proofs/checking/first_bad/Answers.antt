@@ -18,10 +18,10 @@ returns-in_err-version-clause-looks g c =
     rw is (version_looks g.S.Store c.args.conn.now c.version_of.new.conn c.in_err-version.field-0.0 c.version_of.ensures.early c.version_of.ensures.survives c.in_err-version.ensures.left c.in_err-version.ensures.unchanged
     c.in_err-version.ensures.bad c.in_err-version.ensures.told)
 
-pub returns-then-version-ne-NEWEST-clause-looks : goal.returns-then-version-ne-NEWEST-clause-looks
-returns-then-version-ne-NEWEST-clause-looks g c =
-    let old_is : c.in_ok-version.version ≡ 1 = older c.in_ok-version.version c.in_ok-version.ensures.known (search rules) in
-    looks_old g.S.Store c.args.conn.now c.version_of.new.conn c.version_of.ensures.early c.version_of.ensures.survives c.in_ok-version.ensures.left (λ clean all was. subst (λ v. HasVersion v all) old_is (c.in_ok-version.ensures.ok clean all was).0)
+pub returns-then-version-clause-looks : goal.returns-then-version-clause-looks
+returns-then-version-clause-looks g c =
+    let v = c.in_ok-version.version.number in
+    looks_old g.S.Store c.args.conn.now c.version_of.new.conn c.version_of.ensures.early c.version_of.ensures.survives c.in_ok-version.ensures.left (λ clean all was. (v, older v c.in_ok-version.ensures.known.0 (search rules), (c.in_ok-version.ensures.ok clean all was).0))
 
 pub returns-in_err-read-clause-looks : goal.returns-in_err-read-clause-looks
 returns-in_err-read-clause-looks g c =
@@ -53,7 +53,7 @@ returns-clause-found g c = λ clean all was.
     let old = state g.S.Store c.args.conn.now in
     let mid = state g.S.Store c.version_of.new.conn in
     let it = c.in_ok-version.ensures.ok (c.in_ok-read.ensures.looks.early clean) all was in
-    let newest : c.in_ok-version.version ≡ version = search rules in
+    let newest : c.in_ok-version.version.number ≡ version = search rules in
     let known = (c.in_ok-read.ensures.understood clean).1.1.1.1.1.1.1.1.0 in
     let contains = newest_tables mid.now all known (still_made old mid all it.1 was) in (
       (of_newest old.now all (subst (λ (db : Database). Contains db all) it.1.0.now_is contains), subst (λ v. HasVersion v all) newest it.0),

@@ -5,6 +5,7 @@ use Rattle.exam_request.specs.Input.{head_len}
 use Rattle.exam_request.proofs.Finding.{none_in}
 use Rattle.exam_request.proofs.InHand.{cut_short, ended, in_hand, taken, too_long}
 use Rattle.exam_request.proofs.reading.read_head.Goals as goal
+use Rattle.exam_request.specs.Sizes.{most_head}
 
 pub loop-filled-init : goal.loop-filled-init
 loop-filled-init g c = (omega arith, c.requires, none_in _ refl, Consumes-nil _)
@@ -31,5 +32,5 @@ returns-in-Some g c =
 pub returns : goal.returns
 returns g c =
     let inv = c.loop-filled.invariant in
-    let all : c.loop-filled.filled ≡ 8192 = omega arith in
+    let all : c.loop-filled.filled ≡ most_head = omega arith in
     too_long _ _ _ (length-take-le _ _ (omega arith) ∙ all) inv.2 inv.3

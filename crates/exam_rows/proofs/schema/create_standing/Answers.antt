@@ -9,11 +9,11 @@ use Rattle.exam_rows.proofs.Creating.{leads_by, limited, no_marks}
 use Rattle.exam_rows.proofs.schema.create_standing.Goals as goal
 
 pub returns-clause-made : goal.returns-clause-made
-returns-clause-made g c = λ all.
+returns-clause-made g c = λ is_open all.
     let old = state g.S.Store c.args.tx.now.conn.now in
     let new = state g.S.Store c.run.new.tx.conn.now in
-    leads_by (HasFirst all) (HasRuled all) old new standing_text [] c.run.result
+    leads_by (HasFirst all) (HasRuled is_open all) old new standing_text [] c.run.result
     (λ count run was.
     let held = no_marks new.now all was.1 (adds_standing old new (Ok count) run all was.0) in
-    (held, sound_rules new.now held.schema_is (adds_soundly old new count was.0.schema_is run)))
+    (held, λ open_now. sound_rules new.now held.schema_is (adds_soundly old new count was.0.schema_is run)))
     (λ was error run. limited old new error (adding_fails old new was.0.schema_is error run)) c.run.ensures.failed c.run.ensures.ran c.run.ensures.kept c.run.ensures.survives c.run.ensures.told

@@ -12,7 +12,7 @@ returns-clause-ok g c = λ clean.
     IfOk-weaker c.version_in.result _ _ (λ version is all was.
     let rows = c.in_ok-rows.rows.items in
     let shown = office.shows (state g.S.Store c.args.conn.now) (state g.S.Store c.all_rows.new.conn) rows all was (c.in_ok-rows.ensures.shown clean) in
-    (version_held version (all 0) rows shown.0 (sym c.as_slice.ensures.value ∙ is), shown.2)) c.version_in.ensures.ok
+    (version_held version.number (all 0) rows shown.0 (sym c.as_slice.ensures.value ∙ is), shown.2)) c.version_in.ensures.ok
 
 pub returns-clause-bad : goal.returns-clause-bad
 returns-clause-bad g c = λ clean.

@@ -6,6 +6,7 @@ use Rattle.exam_rows.specs.Transactions.{Commits}
 use Rattle.exam_rows.specs.Versions.{FailsToMake, Widens}
 use Rattle.exam_rows.proofs.Committing.{committed_by, undone_by}
 use Rattle.exam_rows.proofs.Creating.{not_created}
+use Rattle.exam_rows.proofs.Marked.{older_of}
 use Rattle.exam_rows.proofs.Undoing.{uncommitted, undone}
 use Rattle.exam_rows.proofs.writing.save_widened.Goals as goal
 
@@ -18,7 +19,7 @@ returns-clause-made g c =
     let settled : IsTrue old.is_open → old.now ≡ old.committed = search rules in
     let same : end ≡ c.conn-2-1.given.0 = search rules in
     subst (λ h. Commits old (state g.S.Store h) c.commit.result Widens) same
-    (committed_by old (state g.S.Store last) (state g.S.Store end) c.commit.result Widens settled (λ clean. (λ all was. ((made all).made clean refl).0 was, ((made (λ tree. [])).made clean refl).1)) (λ clean. let kept = (made (λ tree. [])).kept clean in record { was_open = kept.was_open; committed = kept.committed })
+    (committed_by old (state g.S.Store last) (state g.S.Store end) c.commit.result Widens settled (λ clean. (λ all was. ((made all).made clean refl).0 (older_of old all c.has_marks-has_marks.result c.has_marks-has_marks.ensures c.show_rules.ensures was), ((made (λ tree. [])).made clean refl).1)) (λ clean. let kept = (made (λ tree. [])).kept clean in record { was_open = kept.was_open; committed = kept.committed })
     (survives_begin g.S.Store c.args.conn.now (state g.S.Store last) _ (made (λ tree. [])).survives) c.commit.ensures.ok c.commit.ensures.failed c.commit.ensures.survives (λ trees is may. g.met.S.Store.settled end.store trees is may))
 
 pub returns-clause-failed : goal.returns-clause-failed
@@ -46,7 +47,7 @@ returns-in_err-widen_tables-clause-failed g c = λ clean first.
     let same : end ≡ c.conn-1.given.0 = search rules in
     let clean_end : HasCleanDisk (state g.S.Store end) = subst (λ h. HasCleanDisk (state g.S.Store h)) (sym same) clean in
     let clean_last : HasCleanDisk last = omega (arith, c.drop-tx.ensures.survives.clean, clean_end) in
-    rw is (inl (subst (λ h. FailsToMake old (state g.S.Store h) e) same (undone (IsSome old.step_limit) old last (state g.S.Store end) e c.drop-tx.ensures.survives.counts ((made first.0).failed clean_last refl first.1))))
+    rw is (inl (subst (λ h. FailsToMake old (state g.S.Store h) e) same (undone (IsSome old.step_limit) old last (state g.S.Store end) e c.drop-tx.ensures.survives.counts ((made first.0).failed clean_last refl (older_of old first.0 c.has_marks-has_marks.result c.has_marks-has_marks.ensures c.show_rules.ensures first.1)))))
 
 pub returns-in_err-widen_tables-clause-made : goal.returns-in_err-widen_tables-clause-made
 returns-in_err-widen_tables-clause-made g c =

@@ -14,7 +14,7 @@ loop-key-init c = let start : c.into_iter-key-iterator.result ≡ c.entries_from
   λ s. ap (λ o. with_member c.args.number o (listed c.args.members.now.entries s)) (ap (first_in (relations_of c.args.facts.now) c.args.number s) start ∙ ap head_of (c.entries_from-key-items.ensures.live s)),
 )
 
--- a list where one is appended or none
+-- a list to which one is appended, or none
 marked : (n : ℕ) (p : Code) (b : Bool) (old new : List Entrant) → new ≡ cond b (with_last (entrant n p) old) old → new ≡ with_member n (cond b (Some p) None) old
 marked n p true old new e = e
 marked n p false old new e = e

@@ -6,7 +6,7 @@ use Rattle.std.proofs.lemmas.Option.{IfSome_then}
 use Rattle.exam_rules.specs.declared.lists.Entrant.{Entrant}
 use Rattle.exam_rules.proofs.lists.paper_among.Goals as goal
 
--- nobody has the number, where it is not that of the first whose number is no smaller
+-- nobody has the number, if the first whose number is no smaller does not have it
 absent : (xs : List Entrant) (n i : ℕ) → IsNonDecreasingBy (λ (e : Entrant). e.number) xs
     → IsPartitionPoint (λ (e : Entrant). nat_lt e.number n ≡ true) (λ (e : Entrant). nat_lt e.number n ≡ false) xs i
     → ((d : Entrant) → i < length xs → (get_or xs i d).number ≢ n)

@@ -2,7 +2,7 @@ use Rattle.std.proofs.Common.{◌≡◌, ◌≤◌, ◌<◌, ℕ, true, List, Op
 use Rattle.std.specs.Prelude.{All}
 use Rattle.std.proofs.lemmas.List.{length-map}
 use Rattle.std.proofs.lemmas.List.Elements.{All-map}
-use Rattle.exam_plan.specs.HallSets.{most_halls, holds, halls_below}
+use Rattle.exam_plan.specs.HallSets.{most_halls, holds, halls_below, sets_of}
 use Rattle.exam_rules.specs.Relations.{Code, relations_of}
 use Rattle.exam_rules.specs.Sessions.{members, sitting}
 use Rattle.exam_rules.specs.Seatings.{with_rooms, opened_room, fitting_places, desk_key}
@@ -24,8 +24,8 @@ pub returns-clause-ok : goal.returns-clause-ok
 returns-clause-ok c =
     let rooms : c.deref.result.now ≡ with_rooms (relations_of c.args.facts.now) c.args.session.now c.args.halls.now = c.deref.ensures.value ∙ c.in_ok-rooms.ensures.ok in
     let long : length c.deref.result.now ≡ length c.args.halls.now = ap length rooms ∙ length-map c.args.halls.now (λ h. (h, opened_room (relations_of c.args.facts.now) c.args.session.now h)) in
-    subst (λ n. IfOk c.fit_rows.result (λ rows. map (halls_below n) rows.items ≡ map (λ m. fitting_places (relations_of c.args.facts.now) c.args.session.now m c.args.halls.now) (members (relations_of c.args.facts.now) c.args.session.now))) long
-    (subst (λ (places : List (List ℕ)). IfOk c.fit_rows.result (λ rows. map (halls_below (length c.deref.result.now)) rows.items ≡ places))
+    subst (λ n. IfOk c.fit_rows.result (λ rows. map (halls_below n) (sets_of rows.items) ≡ map (λ m. fitting_places (relations_of c.args.facts.now) c.args.session.now m c.args.halls.now) (members (relations_of c.args.facts.now) c.args.session.now))) long
+    (subst (λ (places : List (List ℕ)). IfOk c.fit_rows.result (λ rows. map (halls_below (length c.deref.result.now)) (sets_of rows.items) ≡ places))
     (ap (map (λ (key : Option Code × ℕ). fitting_places (relations_of c.args.facts.now) c.args.session.now key.1 (map (λ hall. hall.0) c.deref.result.now))) c.requires.keys
     ∙ map-map (desk_key (relations_of c.args.facts.now) c.args.session.now) (λ (key : Option Code × ℕ). fitting_places (relations_of c.args.facts.now) c.args.session.now key.1 (map (λ hall. hall.0) c.deref.result.now)) (members (relations_of c.args.facts.now) c.args.session.now)
     ∙ ap (λ (halls : List Code). map (λ n. fitting_places (relations_of c.args.facts.now) c.args.session.now n halls) (members (relations_of c.args.facts.now) c.args.session.now)) (rooms_named (relations_of c.args.facts.now) c.args.session.now c.args.halls.now c.deref.result.now rooms))
@@ -35,4 +35,4 @@ pub returns-clause-exist : goal.returns-clause-exist
 returns-clause-exist c =
     let rooms : c.deref.result.now ≡ with_rooms (relations_of c.args.facts.now) c.args.session.now c.args.halls.now = c.deref.ensures.value ∙ c.in_ok-rooms.ensures.ok in
     let long : length c.deref.result.now ≡ length c.args.halls.now = ap length rooms ∙ length-map c.args.halls.now (λ h. (h, opened_room (relations_of c.args.facts.now) c.args.session.now h)) in
-    subst (λ n. IfOk c.fit_rows.result (λ rows. All (λ row. (h : ℕ) → holds row h ≡ true → h < n) rows.items)) long c.fit_rows.ensures.exist
+    subst (λ n. IfOk c.fit_rows.result (λ rows. All (λ set. (h : ℕ) → holds set h ≡ true → h < n) (sets_of rows.items))) long c.fit_rows.ensures.exist

@@ -9,8 +9,8 @@ use Rattle.exam_rows.proofs.LoadTexts.{office_loads}
 use Rattle.exam_rows.proofs.Leaving.{both_survive, left_then, still_itself, still_then}
 use Rattle.exam_rows.proofs.Refusing.{part_failed}
 use Rattle.exam_store.specs.Found.{version_texts}
-use Rattle.exam_store.proofs.Marking.{is_of, made_of, still_made, still_of}
-use Rattle.exam_store.proofs.Newest.{none_of_any}
+use Rattle.exam_store.proofs.Marking.{is_of, known_marks, made_of, still_made, still_of}
+use Rattle.exam_store.proofs.Newest.{none_of_any, within_as}
 use Rattle.exam_store.proofs.migrating.judged_version.Goals as goal
 
 pub returns-clause-found : goal.returns-clause-found
@@ -19,18 +19,14 @@ returns-clause-found g c = λ clean all was.
     let early = c.load_version.ensures.early clean in
     let same = c.in_ok-version.ensures.left early in
     let there = still_made old (state g.S.Store c.version_of.new.conn) all same was in
-    let lists = ap (λ (db : Database). lists_marks db.schema) (sym same.0.now_is) ∙ c.in_ok-office.ensures.marks clean in
-    (is_of c.in_ok-version.version old.now all lists was, (c.in_ok-version.ensures.ok early all was).0, c.in_ok-office.office, (c.in_ok-office.ensures.rows clean all there).0, c.show_good.ensures)
+    let v = c.in_ok-version.version in
+    let lists = ap (λ (db : Database). lists_marks db.schema) (sym same.0.now_is) ∙ c.in_ok-office.ensures.marks clean ∙ known_marks v c.in_ok-version.ensures.known in
+    (is_of v.number old.now all lists was, (c.in_ok-version.ensures.ok early all was).0, c.in_ok-office.office, (c.in_ok-office.ensures.rows clean all there).0, (c.show_good.ensures, within_as v c.in_ok-office.office c.in_ok-version.ensures.known c.in_ok-office.ensures.within))
 
 pub returns-clause-understood : goal.returns-clause-understood
 returns-clause-understood g c = λ clean.
     let early = c.load_version.ensures.early clean in
-    (c.in_ok-version.ensures.understood early, subst (λ (db : Database). AreUnderstood db (version_texts c.in_ok-version.version)) (c.in_ok-version.ensures.left early).0.now_is (c.in_ok-office.ensures.understood clean))
-
-pub returns-clause-marks : goal.returns-clause-marks
-returns-clause-marks g c = λ clean.
-    let same = c.in_ok-version.ensures.left (c.load_version.ensures.early clean) in
-    ap (λ (db : Database). lists_marks db.schema) (sym same.0.now_is) ∙ c.in_ok-office.ensures.marks clean
+    (c.in_ok-version.ensures.understood early, subst (λ (db : Database). AreUnderstood db (version_texts c.in_ok-version.version.number)) (c.in_ok-version.ensures.left early).0.now_is (c.in_ok-office.ensures.understood clean))
 
 pub returns-clause-left : goal.returns-clause-left
 returns-clause-left g c = λ clean.
@@ -54,7 +50,7 @@ returns-in_err-office-clause-bad g c = λ clean.
     let early = c.load_version.ensures.early clean in
     let same = c.in_ok-version.ensures.left early in
     rw is (part_failed c.in_err-office.field-0.0 (λ told. (told.0, still_then old mid (state g.S.Store told.0) same told.1, told.2, told.3, told.4))
-    (λ none v known all was. none_of_any c.in_ok-version.version v all (c.in_ok-version.ensures.ok early all (made_of v old.now all was)).0 (λ is_v. none all (still_of c.in_ok-version.version old mid all same (rw is_v was)))) (c.in_err-office.ensures.bad clean))
+    (λ none v known all was. none_of_any c.in_ok-version.version.number v all (c.in_ok-version.ensures.ok early all (made_of v old.now all was)).0 (λ is_v. none all (still_of c.in_ok-version.version.number old mid all same (rw is_v was)))) (c.in_err-office.ensures.bad clean))
 
 pub returns-in_err-office-clause-left : goal.returns-in_err-office-clause-left
 returns-in_err-office-clause-left g c = λ clean.

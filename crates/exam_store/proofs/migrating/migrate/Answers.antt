@@ -1,10 +1,11 @@
-use Rattle.std.proofs.Common.{◌≡◌, IsTrue, Ok, Err, false, inl, inr, arith, rules}
+use Rattle.std.proofs.Common.{◌≡◌, IsTrue, Ok, Err, false, inl, inr, arith, subst, rules}
 use Rattle.sqlite.specs.State.{HasCleanDisk}
 use Rattle.sqlite.specs.Held.{state}
-use Rattle.exam_rows.specs.Versions.{Widens, version}
+use Rattle.exam_tables.specs.Texts.{held_texts}
+use Rattle.exam_rows.specs.Versions.{HasVersion, Widens, version}
 use Rattle.exam_rows.proofs.Committing.{commits_err, commits_ok, commits_weaker, then_commits, unchanged_commits}
 use Rattle.exam_store.specs.Kept.{Migrates}
-use Rattle.exam_store.proofs.Marking.{is_of, of_first, older, still_of}
+use Rattle.exam_store.proofs.Marking.{some_understood, still_made}
 use Rattle.exam_store.proofs.Newest.{migrates, newest_alone, not_made}
 use Rattle.exam_store.proofs.migrating.migrate.Goals as goal
 
@@ -15,7 +16,7 @@ returns-clause-made g c =
     let old = state g.S.Store c.args.conn.now in
     let mid = state g.S.Store c.judged_version.new.conn in
     let new = state g.S.Store c.save_widened.new.conn in
-    commits_ok old new tt (c.in_ok-version.version, version) Migrates
+    commits_ok old new tt (c.in_ok-version.version.number, version) Migrates
     (commits_weaker old new (Ok tt) Widens Migrates migrates (then_commits old mid new (Ok tt) Widens c.in_ok-version.ensures.left c.judged_version.ensures.survives c.in_ok-save_widened.ensures.made))
 
 pub returns-in_err-save_widened-clause-made : goal.returns-in_err-save_widened-clause-made
@@ -37,13 +38,11 @@ returns-in_err-save_widened-clause-refusal g c = λ clean.
     let s = c.in_err-save_widened.ensures.made.survives in
     let clean_mid : HasCleanDisk mid = omega (arith, s.clean, clean) in
     let same = c.in_ok-version.ensures.left clean_mid in
-    let first : c.in_ok-version.version ≡ 1 = older c.in_ok-version.version c.in_ok-version.ensures.known (search rules) in
     let calm : old.in_transaction ≡ false = search rules in
+    let known = c.in_ok-version.ensures.understood clean_mid in
     rw is (inr (inr (
-      rw first at c.in_ok-version.ensures.understood clean_mid,
-      λ made.
-          let there = still_of 1 old mid made.0 same (is_of 1 old.now made.0 (rw first at c.in_ok-version.ensures.marks clean_mid) made.1) in
-          not_made old mid new e c.judged_version.ensures.survives clean_mid s.counts calm same (c.in_err-save_widened.ensures.failed clean (made.0, of_first mid.now made.0 there)),
+      (known.0, some_understood old.now held_texts _ known.1),
+      λ made. not_made old mid new e c.judged_version.ensures.survives clean_mid s.counts calm same (c.in_err-save_widened.ensures.failed clean (made.0, still_made old mid made.0 same made.1)),
     )))
 
 -- no office of any version is there
@@ -61,11 +60,11 @@ returns-clause-understood g c = λ clean. c.in_ok-version.ensures.understood (om
 
 -- of the newest version already
 
-pub returns-then-version-eq-NEWEST-clause-made : goal.returns-then-version-eq-NEWEST-clause-made
-returns-then-version-eq-NEWEST-clause-made g c =
+pub returns-then-version-clause-made : goal.returns-then-version-clause-made
+returns-then-version-clause-made g c =
     let old = state g.S.Store c.args.conn.now in
     let new = c.judged_version.new.conn in
-    let newest : c.in_ok-version.version ≡ version = search rules in
+    let newest : c.in_ok-version.version.number ≡ version = search rules in
     let settled : IsTrue old.is_open → old.now ≡ old.committed = search rules in
-    unchanged_commits old (state g.S.Store new) (c.in_ok-version.version, version) Migrates settled c.in_ok-version.ensures.left (λ clean. newest_alone old.now (state g.S.Store new).now (rw newest at c.in_ok-version.ensures.marks clean)) (λ trees is may. g.met.S.Store.settled new.store trees is may)
+    unchanged_commits old (state g.S.Store new) (c.in_ok-version.version.number, version) Migrates settled c.in_ok-version.ensures.left (λ clean. newest_alone old.now (state g.S.Store new).now (λ all was. subst (λ v. HasVersion v all) newest (c.in_ok-version.ensures.found clean all was).1)) (λ trees is may. g.met.S.Store.settled new.store trees is may)
     c.judged_version.ensures.survives

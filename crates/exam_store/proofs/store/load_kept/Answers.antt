@@ -15,7 +15,7 @@ returns-clause-found g c =
     let old = state g.S.Store c.args.conn.now in
     let mid = state g.S.Store c.version_of.new.conn in
     let new = state g.S.Store c.load_version.new.conn in
-    let newest : c.in_ok-version.version ≡ version = search rules in
+    let newest : c.in_ok-version.version.number ≡ version = search rules in
     loaded old mid new c.load_version.result c.load_version.ensures.early (λ clean all was. subst (λ v. HasVersion v all) newest (c.in_ok-version.ensures.ok clean all was).0) c.in_ok-version.ensures.left c.in_ok-version.ensures.understood
     c.load_version.ensures.rows (rw newest at c.load_version.ensures.understood) c.load_version.ensures.left c.version_of.ensures.survives c.load_version.ensures.survives
 
@@ -34,7 +34,7 @@ returns-clause-refusal g c = λ clean.
     let old = state g.S.Store c.args.conn.now in
     let mid = state g.S.Store c.version_of.new.conn in
     let same = c.in_ok-version.ensures.left (c.load_version.ensures.early clean) in
-    let newest : c.in_ok-version.version ≡ version = search rules in
+    let newest : c.in_ok-version.version.number ≡ version = search rules in
     IfErr-weaker c.load_version.result _ _ (λ e why.
     inl (part_failed e (λ told. (told.0, still_then old mid (state g.S.Store told.0) same told.1, told.2, told.3, told.4)) (λ none. (λ all was. none all (still_of version old mid all same was), λ v known all was has. one_version v version all has (subst (λ v. HasVersion v all) newest (c.in_ok-version.ensures.ok (c.load_version.ensures.early clean) all was).0))) why))
     (rw newest at c.load_version.ensures.bad clean)
@@ -44,10 +44,10 @@ returns-in_err-version-clause-refusal g c = λ clean.
     let is : c.from_residual.result ≡ Err c.in_err-version.field-0.0 = search rules in
     rw is (inl (part_failed c.in_err-version.field-0.0 (λ told. (c.args.conn.now, still_itself (state g.S.Store c.args.conn.now), load_office, office_loads, told)) (λ none. (λ all was. inl (none all (made_of version _ all was) version (inr refl)), λ v known all was has. absurd (none all was v known has))) (c.in_err-version.ensures.bad clean)))
 
-pub returns-then-version-ne-NEWEST-clause-refusal : goal.returns-then-version-ne-NEWEST-clause-refusal
-returns-then-version-ne-NEWEST-clause-refusal g c = λ clean.
-    let old_is : c.in_ok-version.version ≡ 1 = older c.in_ok-version.version c.in_ok-version.ensures.known (search rules) in
-    inr (refl, λ all was. subst (λ v. HasVersion v all) old_is (c.in_ok-version.ensures.ok clean all was).0)
+pub returns-then-version-clause-refusal : goal.returns-then-version-clause-refusal
+returns-then-version-clause-refusal g c = λ clean.
+    let v = c.in_ok-version.version.number in
+    inr (refl, λ all was. (v, older v c.in_ok-version.ensures.known.0 (search rules), (c.in_ok-version.ensures.ok clean all was).0))
 
 pub returns-clause-told : goal.returns-clause-told
 returns-clause-told g c = IfErr-weaker c.load_version.result _ _ opens_as c.load_version.ensures.told

@@ -10,7 +10,7 @@ use Rattle.exam_office.proofs.ImportConflicts.{conflicts-none, conflicts-other, 
 use Rattle.exam_office.proofs.ImportRowsEqual.{eq_same, row_exact}
 use Rattle.exam_office.proofs.import.Import.push.Goals as goal
 
--- where nothing conflicts, want of memory says so
+-- if nothing conflicts, memory ran out
 nothing_conflicts : {X : Type 0} (r : Result X Refusal) (row : Row) (rows : List Row) → conflicts row rows ≡ false
     → IfErr r (λ e. e ≡ NoMemory → conflicts row rows ≡ false)
 nothing_conflicts (Ok x) row rows none = tt

@@ -1,10 +1,12 @@
-use Rattle.std.proofs.Common.{sym, arith, ap, ◌∙◌}
-use Rattle.exam_plan.proofs.HallBits.{holds_empty, least_holds}
-use Rattle.exam_plan.specs.HallSets.{holds}
+use Rattle.std.proofs.Common.{sym, arith}
+use Rattle.exam_plan.proofs.HallBits.{first_low, first_high, first_nowhere}
 use Rattle.exam_plan.proofs.hall_set.HallSet.first.Goals as goal
 
-pub returns-then-self-eq0 : goal.returns-then-self-eq0
-returns-then-self-eq0 c h = ap (λ n. holds n h) (sym c.self.view_is ∙ c.if-self-eq0.true) ∙ holds_empty h
+pub returns-then-self-ne0 : goal.returns-then-self-ne0
+returns-then-self-ne0 c = rw (sym c.self.view_is) (first_low c.self.inside.low c.self.inside.high c.self.invariant.0 (omega (arith, c.if-self-ne0.true)))
 
-pub returns-else-self-eq0 : goal.returns-else-self-eq0
-returns-else-self-eq0 c = rw (sym c.self.view_is) (least_holds c.self.inside.bits (omega (arith, c.if-self-eq0.false)) c.self.invariant)
+pub returns-then-self-ne0-2 : goal.returns-then-self-ne0-2
+returns-then-self-ne0-2 c = rw (sym c.self.view_is) (first_high c.self.inside.low c.self.inside.high (omega (arith, c.if-self-ne0.false)) c.self.invariant.1 (omega (arith, c.if-self-ne0-2.true)))
+
+pub returns-else-self-ne0-2 : goal.returns-else-self-ne0-2
+returns-else-self-ne0-2 c = rw (sym c.self.view_is) (first_nowhere c.self.inside.low c.self.inside.high (omega (arith, c.if-self-ne0.false)) (omega (arith, c.if-self-ne0-2.false)))

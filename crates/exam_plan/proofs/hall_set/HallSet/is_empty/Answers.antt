@@ -1,6 +1,5 @@
-use Rattle.std.proofs.Common.{sym}
-use Rattle.exam_plan.proofs.HallBits.{none_holds}
+use Rattle.exam_plan.proofs.HallBits.{none_found}
 use Rattle.exam_plan.proofs.hall_set.HallSet.is_empty.Goals as goal
 
 pub returns : goal.returns
-returns c = rw (sym c.self.view_is) (none_holds c.self.inside.bits)
+returns c = none_found c.first.result c.is_none.result c.args.self c.first.ensures c.is_none.ensures

@@ -1,23 +1,6 @@
-use Rattle.std.proofs.Common.{◌+◌, get_or, arith}
-use Rattle.std.proofs.lemmas.List.{length-set}
-use Rattle.exam_plan.proofs.Steps.{same_within}
-use Rattle.exam_plan.proofs.Tallying.{discounts_more, discounting_done, borrowed_none}
+use Rattle.std.proofs.Common.{sym}
+use Rattle.exam_plan.proofs.Tallying.{tally_less}
 use Rattle.exam_plan.proofs.tally.Tally.discount.Goals as goal
 
-pub loop-place-preserved : goal.loop-place-preserved
-loop-place-preserved c = record {
-  whole = simp length-set c.loop-place.invariant.whole;
-  counting = discounts_more c.args.self.now.digits c.loop-place.self.digits c.args.halls c.loop-place.place (get_or c.loop-place.self.digits c.loop-place.place c.index-self-place.result) c.loop-place.borrow c.common-both.result c.union.result c.minus.result (omega (arith, c.loop-place-test.true, c.loop-place.invariant.whole))
-      (same_within c.loop-place.self.digits c.loop-place.place c.index-self-place.result 0 (omega (arith, c.loop-place-test.true, c.loop-place.invariant.whole)))
-      c.common-both.ensures c.union.ensures c.minus.ensures c.minus-borrow.result c.minus-borrow.ensures (c.loop-place.place + 1) (omega arith) c.loop-place.invariant.counting;
-}
-
 pub returns-clause-less : goal.returns-clause-less
-returns-clause-less c =
-    discounting_done c.args.self.now.digits c.loop-place.self.digits c.args.halls c.loop-place.place c.loop-place.borrow
-    (borrowed_none c.args.self.now.digits c.loop-place.self.digits c.args.halls c.loop-place.place c.loop-place.borrow (omega (arith, c.loop-place-test.false, c.loop-place.auto.place-end)) c.loop-place.invariant.whole c.requires.counted c.loop-place.invariant.counting)
-    c.loop-place.invariant.counting
-
-pub returns-then-is_empty-clause-less : goal.returns-then-is_empty-clause-less
-returns-then-is_empty-clause-less c =
-    discounting_done c.args.self.now.digits c.loop-place.self.digits c.args.halls c.loop-place.place c.loop-place.borrow (c.is_empty.ensures.0 c.if-is_empty.true) c.loop-place.invariant.counting
+returns-clause-less c = tally_less c.args.self.now _ c.args.halls _ _ c.mask.ensures.word (sym c.mask.ensures.bits) c.requires.counted c.discount_word.ensures.less c.discount_word-2.ensures.less

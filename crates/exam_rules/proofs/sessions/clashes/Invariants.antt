@@ -1,9 +1,0 @@
-use Rattle.std.proofs.Common.{◌≡◌, ◌++◌, drop}
-use Rattle.std.specs.List.{flat_map}
-use Rattle.exam_rules.specs.Relations.{relations_of}
-use Rattle.exam_rules.specs.Sessions.{clashes_of}
-use Rattle.exam_rules.proofs.sessions.clashes.Given as goal
-
--- what is left makes of the list so far the whole
-abbrev pub invariant-loop-number : goal.invariant-loop-number
-invariant-loop-number l = l.list.items ++ flat_map (clashes_of (relations_of l.facts) l.session) (drop l.number-index l.number-items) ≡ flat_map (clashes_of (relations_of l.facts) l.session) l.number-items
