@@ -221,7 +221,7 @@ INSERT INTO appeal VALUES
 (1, 'HALLTWO', 'S1', 1, 'B', 0, 0, 'Too cold', 4, NULL, '2027-05-01'),
 (2, 'CLASHYES', 'S1', 2, 'MA-1', 0, 0, 'I sit this', 2, 'Yes', '2027-05-02'),
 (2, 'CLASHOLD', 'S1', 2, 'MA-1', 0, 0, 'I sat this', 5, 'Was yes', '2027-05-03'),
-(3, 'NEEDSALL', 'S1', 3, '', 31, 100, 'All', 2, '', '2027-05-04'),
+(3, 'NEEDSALL', 'S1', 3, '', 63, 100, 'All', 2, '', '2027-05-04'),
 (3, 'NEEDSNONE', 'S1', 3, '', 0, 0, 'None', 5, 'Not now', '2027-05-05'),
 (4, 'NEEDSONE', 'S1', 3, '', 1, 1, 'One', 1, NULL, '2027-05-06'),
 (4, 'NEEDSTWO', 'S1', 3, '', 8, 25, 'Eight', 3, 'No', '2027-05-07')
