@@ -6,7 +6,7 @@ use Rattle.exam_office.specs.declared.command.Command.TheVariants as command
 use Rattle.exam_office.specs.declared.import_row.Kind.{Kind}
 use Rattle.exam_office.specs.Imports.{ImportRows}
 use Rattle.exam_line.specs.declared.line.Job.{Job}
-use Rattle.exam_line.specs.Lines.{task_shown}
+use Rattle.exam_line.specs.Lines.{job_shown}
 use Rattle.exam_store.specs.Stores.{OfficeIn}
 use Rattle.exam_job.specs.Jobs.{Commands, Does, ImportsFile, denoted, short, unread}
 use Rattle.exam_job.specs.Reading.{ReadsImport}
@@ -30,10 +30,10 @@ unimported g contents kind today input rest fault old before (Err given) (inl (i
 unimported g contents kind today input rest fault old before (Err given) (inr (refusal, refused, read)) is =
     denoted (Err refusal) read (ap Err (is ∙ refused), refl, refl)
 
--- a line's command, once it is known which one
+-- a line's job, once it is known which one
 pub done_as : {S W : Type 0} (g : Ghosts S) (contents : W → Option (List ℕ)) (job known : Job) (today : ℕ) (input rest : Option (List ℕ))
     (old : OfficeIn S) (before : W) (result : Result (Unit {0}) JobFault) (new : OfficeIn S) (after : W)
-    → job ≡ known → Does g contents (task_shown known) today input rest old before result new after
-    → Does g contents (task_shown job) today input rest old before result new after
+    → job ≡ known → Does g contents (job_shown known) today input rest old before result new after
+    → Does g contents (job_shown job) today input rest old before result new after
 done_as g contents job known today input rest old before result new after is done =
-    subst (λ (j : Job). Does g contents (task_shown j) today input rest old before result new after) (sym is) done
+    subst (λ (j : Job). Does g contents (job_shown j) today input rest old before result new after) (sym is) done

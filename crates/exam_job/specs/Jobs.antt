@@ -10,7 +10,7 @@ use Rattle.exam_office.specs.declared.command.Reply.{Reply}
 use Rattle.exam_office.specs.declared.import_row.Kind.{Kind}
 use Rattle.exam_office.specs.Imports.{ImportRows}
 use Rattle.exam_files.specs.ImportFiles.{import_of}
-use Rattle.exam_line.specs.Lines.{Said, Task}
+use Rattle.exam_line.specs.Lines.{Job, Said}
 use Rattle.exam_line.specs.Lines as line
 use Rattle.exam_line.specs.declared.line.Sheet.TheVariants as sheet
 use Rattle.exam_send.specs.Given.{Gave}
@@ -72,37 +72,27 @@ pub data ImportsFile {S W : Type 0} (g : Ghosts S) (contents : W → Option (Lis
 
 -- ---- lines
 
--- What a line's command does. `init` has nothing to do after the store was opened. `serve`, `migrate` and `check` do
--- nothing here: the program itself does them. Only an import reads the reader.
-abbrev pub Does : {S W : Type 0} → Ghosts S → (W → Option (List ℕ)) → Task → ℕ → Option (List ℕ)
+-- What a line's job does. `init` has nothing to do after the store was opened. `serve`, `migrate` and `check` do nothing
+-- here: the program itself does them. Only an import reads the reader.
+abbrev pub Does : {S W : Type 0} → Ghosts S → (W → Option (List ℕ)) → Job → ℕ → Option (List ℕ)
     → Option (List ℕ) → OfficeIn S → W → Result (Unit {0}) JobFault → OfficeIn S → W → Type 0
 Does g contents line.init today input rest old before result new after =
     (rest ≡ input) × (new ≡ old) × Prints contents (codes "ready\n") before result after
 Does g contents (line.import kind file) today input rest old before result new after =
     ImportsFile g contents kind today input rest old before result new after
-Does g contents (line.withdraw number paper) today input rest old before result new after =
-    (rest ≡ input) × Commands g contents (command.Withdraw number paper) today old before result new after
-Does g contents (line.reinstate number paper) today input rest old before result new after =
-    (rest ≡ input) × Commands g contents (command.Reinstate number paper) today old before result new after
-Does g contents (line.close_hall session hall) today input rest old before result new after =
-    (rest ≡ input) × Commands g contents (command.CloseHall session hall) today old before result new after
-Does g contents (line.decide decision) today input rest old before result new after =
-    (rest ≡ input) × Commands g contents (command.Decide decision) today old before result new after
-Does g contents (line.serve port) today input rest old before result new after =
-    (rest ≡ input) × (new ≡ old) × (result ≡ Ok tt) × (after ≡ before)
-Does g contents line.migrate today input rest old before result new after =
-    (rest ≡ input) × (new ≡ old) × (result ≡ Ok tt) × (after ≡ before)
-Does g contents line.check today input rest old before result new after =
-    (rest ≡ input) × (new ≡ old) × (result ≡ Ok tt) × (after ≡ before)
+Does g contents (line.apply done) today input rest old before result new after =
+    (rest ≡ input) × Commands g contents done today old before result new after
 Does g contents (line.print session sheet.Appeals) today input rest old before result new after =
     (rest ≡ input) × PrintsAppeals g contents session old before result new after
 Does g contents (line.print session which) today input rest old before result new after =
     (rest ≡ input) × (new ≡ old) × PrintsSheet contents old.office session which before result after
+Does g contents other today input rest old before result new after =
+    (rest ≡ input) × (new ≡ old) × (result ≡ Ok tt) × (after ≡ before)
 
 -- a line is carried out and reported
 abbrev pub Runs : {S O E : Type 0} → Ghosts S → (O → Option (List ℕ)) → (E → Option (List ℕ)) → Said
     → Option (List ℕ) → Option (List ℕ) → OfficeIn S → O → E → ℕ → OfficeIn S → O → E → Type 0
 Runs g contents errors said input rest old before untold status new after told =
     (result : Result (Unit {0}) JobFault)
-    × Does g contents said.task said.today input rest old before result new after
+    × Does g contents said.job said.today input rest old before result new after
     × Reports errors result untold status told

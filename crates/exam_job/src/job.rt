@@ -1,10 +1,7 @@
-//! The commands of the program, over any store, reader and writers.
-ghost use Rattle.std.specs.Prelude.{◌≡◌, IfOk, IfErr};
-ghost use Rattle.exam_types.specs.declared.refusal.Refusal.TheVariants.{NoMemory};
+//! The jobs of command lines, over any store, reader and writers.
 ghost use Rattle.exam_rules.specs.Relations.{Code};
 ghost use Rattle.exam_office.specs.Headline.{IsSeated};
-ghost use Rattle.exam_office.specs.declared.command.Command.TheVariants.{Decide};
-ghost use Rattle.exam_line.specs.Lines.{shown, task_shown};
+ghost use Rattle.exam_line.specs.Lines.{job_shown, shown};
 ghost use Rattle.exam_job.specs.Jobs as spec;
 
 use crate::appeals::print_appeals;
@@ -13,24 +10,24 @@ use crate::reading::read_import_file;
 use crate::report::{DONE, JobFault, print, print_fault};
 use crate::sheets::print_sheet;
 use exam_line::{Job, Line, Sheet};
-use exam_office::{Command, Decision, Kind, Reply};
+use exam_office::{Command, Kind, Reply};
 use exam_store::Store;
 use exam_types::{Day, Refusal};
 use sqlite::Alter;
 use std::alloc::Global;
 use std::io::{Read, Write};
 
-/// Carries out the line's command over the store, and returns the exit status. The reader is the import file; the
-/// writers are standard output and standard error. Whatever becomes of the line, every session is seated as promised.
+/// Carries out the line's job over the store, and returns the exit status. The reader is the import file; the writers
+/// are standard output and standard error. Whatever becomes of the line, every session is seated as promised.
 pub fn run_job<S: Alter, R: Read, O: Write, E: Write>(
     alloc: Global,
-    line: &Line<'_>,
+    line: Line<'_>,
     store: &mut Store<S>,
     reader: &mut R,
     out: &mut O,
     err: &mut E,
 ) -> u8
-    ensures runs { spec.Runs S.Store O.contents E.contents (shown line.now) (R.remaining reader.old)
+    ensures runs { spec.Runs S.Store O.contents E.contents (shown line) (R.remaining reader.old)
         (R.remaining reader.new) store.old out.old err.old result store.new out.new err.new }
     ensures headline { (s : Code) → IsSeated store.new.office s }
 {
@@ -40,16 +37,16 @@ pub fn run_job<S: Alter, R: Read, O: Write, E: Write>(
     }
 }
 
-/// Carries out the line's command over the store. After `Write` a command is carried out, although its line was not
-/// written whole. Whatever it answers, every session is seated as promised.
+/// Carries out the line's job over the store. After `Write` a command is carried out, although its reply was not written
+/// whole. Whatever it answers, every session is seated as promised.
 pub fn carry_out<S: Alter, R: Read, O: Write>(
     alloc: Global,
-    line: &Line<'_>,
+    line: Line<'_>,
     store: &mut Store<S>,
     reader: &mut R,
     out: &mut O,
 ) -> Result<(), JobFault>
-    ensures does { spec.Does S.Store O.contents (task_shown line.now.job) line.now.today (R.remaining reader.old)
+    ensures does { spec.Does S.Store O.contents (job_shown line.job) line.today (R.remaining reader.old)
         (R.remaining reader.new) store.old out.old result store.new out.new }
     ensures headline { (s : Code) → IsSeated store.new.office s }
 {
@@ -58,42 +55,30 @@ pub fn carry_out<S: Alter, R: Read, O: Write>(
     done
 }
 
-/// Carries out the line's command over the store.
+/// Carries out the line's job over the store.
 fn carry_out_job<S: Alter, R: Read, O: Write>(
     alloc: Global,
-    line: &Line<'_>,
+    line: Line<'_>,
     store: &mut Store<S>,
     reader: &mut R,
     out: &mut O,
 ) -> Result<(), JobFault>
-    ensures { spec.Does S.Store O.contents (task_shown line.now.job) line.now.today (R.remaining reader.old)
+    ensures { spec.Does S.Store O.contents (job_shown line.job) line.today (R.remaining reader.old)
         (R.remaining reader.new) store.old out.old result store.new out.new }
 {
-    match &line.job {
+    match line.job {
         // The store is open, so there is nothing left to do.
         Job::Init => print(out, b"ready\n"),
-        Job::Import { kind, .. } => import(alloc, store, *kind, line.today, reader, out),
-        Job::Withdraw { number, paper } => {
-            let command = Command::Withdraw(*number, *paper);
-            carry_out_command(alloc, store, command, line.today, out)
-        }
-        Job::Reinstate { number, paper } => {
-            let command = Command::Reinstate(*number, *paper);
-            carry_out_command(alloc, store, command, line.today, out)
-        }
-        Job::CloseHall { session, hall } => {
-            let command = Command::CloseHall(*session, *hall);
-            carry_out_command(alloc, store, command, line.today, out)
-        }
-        Job::Decide(decision) => decide(alloc, store, decision, line.today, out),
+        Job::Import { kind, .. } => import(alloc, store, kind, line.today, reader, out),
+        Job::Apply(command) => carry_out_command(alloc, store, command, line.today, out),
         // The program itself does these: it serves over sockets, and it migrates and checks before the office is open.
         // Over this store there is nothing to do.
         Job::Serve { .. } | Job::Migrate | Job::Check => Ok(()),
         Job::Sheet {
             session,
             sheet: Sheet::Appeals,
-        } => print_appeals(alloc, store, session, out),
-        Job::Sheet { session, sheet } => print_sheet(alloc, store, session, sheet, out),
+        } => print_appeals(alloc, store, &session, out),
+        Job::Sheet { session, sheet } => print_sheet(alloc, store, &session, &sheet, out),
     }
 }
 
@@ -111,32 +96,6 @@ fn import<S: Alter, R: Read, O: Write>(
 {
     let import = read_import_file(alloc, kind, reader)?;
     carry_out_command(alloc, store, Command::Import(import), today, out)
-}
-
-/// Carries out a copy of the decision.
-fn decide<S: Alter, O: Write>(
-    alloc: Global,
-    store: &mut Store<S>,
-    decision: &Decision,
-    today: Day,
-    out: &mut O,
-) -> Result<(), JobFault>
-    ensures { spec.Commands S.Store O.contents (Decide decision.now) today store.old out.old result store.new out.new }
-{
-    let command = Command::Decide(copy_of(decision)?);
-    carry_out_command(alloc, store, command, today, out)
-}
-
-fn copy_of(decision: &Decision) -> Result<Decision, Refusal>
-    ensures same { IfOk result (λ copy. copy ≡ decision.now) }
-    ensures memory { IfErr result (λ e. e ≡ NoMemory) }
-{
-    Ok(Decision {
-        number: decision.number,
-        reference: decision.reference,
-        outcome: decision.outcome,
-        answer: decision.answer.copy()?,
-    })
 }
 
 /// Carries out a command of the office as a list of one, and prints what it answers.

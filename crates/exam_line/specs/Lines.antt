@@ -11,6 +11,8 @@ use Rattle.exam_types.specs.Codes.{is_hall_code, is_paper_code, is_reference, is
 use Rattle.exam_types.specs.Days.{day_of}
 use Rattle.exam_types.specs.Numbers.{number_in, value_in}
 use Rattle.exam_types.specs.Texts.{is_reason}
+use Rattle.exam_office.specs.declared.command.Command.{Command}
+use Rattle.exam_office.specs.declared.command.Command.TheVariants.{Withdraw, Reinstate, CloseHall, Decide}
 use Rattle.exam_office.specs.declared.command.Decision.{Decision}
 use Rattle.exam_office.specs.declared.command.Outcome.{Outcome}
 use Rattle.exam_office.specs.declared.command.Outcome.TheVariants.{Grant, Refuse, Standing}
@@ -18,7 +20,7 @@ use Rattle.exam_office.specs.declared.import_row.Kind.{Kind}
 use Rattle.exam_office.specs.declared.import_row.Kind.TheVariants.{Sessions, Papers, Halls, Openings}
 use Rattle.exam_office.specs.declared.import_row.Kind.TheVariants.{Candidates, Entries, Arrangements}
 use Rattle.exam_line.specs.Grammar.{grammar}
-use Rattle.exam_line.specs.declared.line.Job.{Job}
+use Rattle.exam_line.specs.declared.line.Job as coded
 use Rattle.exam_line.specs.declared.line.Job.TheVariants as job
 use Rattle.exam_line.specs.declared.line.Line.{Line}
 use Rattle.exam_line.specs.declared.line.LineFault.{LineFault}
@@ -28,39 +30,33 @@ use Rattle.exam_line.specs.declared.line.Sheet.TheVariants.{DoorList, Attendance
 
 -- ---- what a line may say
 
--- a command with its values
-pub data Task : Type 0 where
-  init : Task
-  migrate : Task
-  check : Task
-  import : Kind → Text → Task
-  withdraw : ℕ → Text → Task
-  reinstate : ℕ → Text → Task
-  close_hall : Text → Text → Task
-  decide : Decision → Task
-  serve : ℕ → Task
-  print : Text → Sheet → Task
+-- what a line tells the program to do; a command of the office is one of these
+pub data Job : Type 0 where
+  init : Job
+  migrate : Job
+  check : Job
+  import : Kind → Text → Job
+  apply : Command → Job
+  serve : ℕ → Job
+  print : Text → Sheet → Job
 
--- the path of the database, the day, and the command
+-- the path of the database, the day, and the job
 pub record Said : Type 0 where
   pub db : Text
   pub today : ℕ
-  pub task : Task
+  pub job : Job
 
-abbrev pub task_shown : Job → Task
-task_shown job.Init = init
-task_shown job.Migrate = migrate
-task_shown job.Check = check
-task_shown (job.Import kind file) = import kind file.now
-task_shown (job.Withdraw number paper) = withdraw number paper
-task_shown (job.Reinstate number paper) = reinstate number paper
-task_shown (job.CloseHall session hall) = close_hall session hall
-task_shown (job.Decide decision) = decide decision
-task_shown (job.Serve port) = serve port
-task_shown (job.Sheet session sheet) = print session sheet
+abbrev pub job_shown : coded.Job → Job
+job_shown job.Init = init
+job_shown job.Migrate = migrate
+job_shown job.Check = check
+job_shown (job.Import kind file) = import kind file.now
+job_shown (job.Apply command) = apply command
+job_shown (job.Serve port) = serve port
+job_shown (job.Sheet session sheet) = print session sheet
 
 abbrev pub shown : Line → Said
-shown line = record { db = line.db.now; today = line.today; task = task_shown line.job }
+shown line = record { db = line.db.now; today = line.today; job = job_shown line.job }
 
 -- ---- the values of words
 
@@ -109,20 +105,21 @@ hall_of = text_of is_hall_code (codes "hall")
 abbrev pub paper_of : List Row → Option Text
 paper_of = text_of is_paper_code (codes "paper")
 
--- ---- the commands
+-- ---- the jobs
 
-abbrev pub import_of : List Row → Option Task
-import_of words =
-    option_and_then (λ kind. option_map (import kind) (first_of (codes "file") words))
-    (value_of kind_in (codes "kind") words)
+-- what two values make, if both are there
+abbrev pub both : {X Y Z : Type 0} → (X → Y → Z) → Option X → Option Y → Option Z
+both make first second = option_and_then (λ x. option_map (make x) second) first
 
--- a candidate and a paper
-abbrev pub entry_of : List Row → Option (ℕ × Text)
-entry_of words = option_and_then (λ number. option_map (λ paper. (number, paper)) (paper_of words)) (number_of words)
+abbrev pub import_of : List Row → Option Job
+import_of words = both import (value_of kind_in (codes "kind") words) (first_of (codes "file") words)
 
--- a session and a hall
-abbrev pub opening_of : List Row → Option (Text × Text)
-opening_of words = option_and_then (λ session. option_map (λ hall. (session, hall)) (hall_of words)) (session_of words)
+-- a command about the entry of a candidate for a paper
+abbrev pub entry_job : (ℕ → Text → Command) → List Row → Option Job
+entry_job command words = both (λ number paper. apply (command number paper)) (number_of words) (paper_of words)
+
+abbrev pub closing_of : List Row → Option Job
+closing_of words = both (λ session hall. apply (CloseHall session hall)) (session_of words) (hall_of words)
 
 -- an appeal, the outcome, and the text of the reason
 abbrev pub decided_of : List Row → Option (ℕ × Text × Outcome × Text)
@@ -154,43 +151,41 @@ sheet_of name words =
     else (if bytes_eq name (codes "export") then Some Export
     else None)))))
 
-abbrev pub print_of : Text → List Row → Option Task
-print_of name words =
-    option_and_then (λ session. option_map (print session) (sheet_of name words)) (session_of words)
+abbrev pub print_of : Text → List Row → Option Job
+print_of name words = both print (session_of words) (sheet_of name words)
 
--- a command without a decision
-abbrev pub plain_task_of : Text → List Row → Option Task
-plain_task_of name words =
+-- a job without a decision
+abbrev pub plain_job_of : Text → List Row → Option Job
+plain_job_of name words =
     if bytes_eq name (codes "init") then Some init
     else (if bytes_eq name (codes "migrate") then Some migrate
     else (if bytes_eq name (codes "check") then Some check
     else (if bytes_eq name (codes "import") then import_of words
-    else (if bytes_eq name (codes "withdraw") then option_map (λ e. withdraw e.0 e.1) (entry_of words)
-    else (if bytes_eq name (codes "reinstate") then option_map (λ e. reinstate e.0 e.1) (entry_of words)
-    else (if bytes_eq name (codes "close-hall") then option_map (λ o. close_hall o.0 o.1) (opening_of words)
+    else (if bytes_eq name (codes "withdraw") then entry_job Withdraw words
+    else (if bytes_eq name (codes "reinstate") then entry_job Reinstate words
+    else (if bytes_eq name (codes "close-hall") then closing_of words
     else (if bytes_eq name (codes "serve") then option_map serve (value_of port_in (codes "port") words)
     else print_of name words)))))))
 
--- the command with this name and these words
-abbrev pub task_of : Text → List Row → Option Task
-task_of name words =
-    if bytes_eq name (codes "decide") then option_map decide (decision_of words)
-    else plain_task_of name words
+-- the job with this name and these words
+abbrev pub job_of : Text → List Row → Option Job
+job_of name words =
+    if bytes_eq name (codes "decide") then option_map (λ d. apply (Decide d)) (decision_of words)
+    else plain_job_of name words
 
 -- ---- the line
 
 -- the path of the database and the day
 abbrev pub options_of : List Row → Option (Text × ℕ)
 options_of words =
-    option_and_then (λ db. option_map (λ today. (db, today)) (value_of day_of (codes "today") words))
-    (first_of (codes "db") words)
+    both (λ db today. (db, today)) (first_of (codes "db") words) (value_of day_of (codes "today") words)
 
 abbrev pub said_in : List Row → Option (Text × List Row) → Option Said
 said_in words command =
     option_and_then (λ given.
     option_and_then (λ named.
-    option_map (λ task. let s : Said = record { db = given.0; today = given.1; task = task } in s)
-    (task_of named.0 named.1))
+    option_map (λ job. let s : Said = record { db = given.0; today = given.1; job = job } in s)
+    (job_of named.0 named.1))
     command)
     (options_of words)
 

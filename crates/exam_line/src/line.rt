@@ -6,16 +6,15 @@ ghost use Rattle.exam_line.specs.Lines as spec;
 
 use crate::grammar::office_command;
 use crate::values::{
-    decision_of, entry_of, hall_of, kind_of, number_of, opening_of, paper_of, port_of, session_of,
-    text, today_of,
+    decision_of, hall_of, kind_of, number_of, paper_of, port_of, session_of, text, today_of,
 };
 use clap::ArgMatches;
 use clap::error::ErrorKind;
-use exam_office::{Decision, Kind};
-use exam_types::{Day, HallCode, Number, PaperCode, Refusal, SessionCode};
+use exam_office::{Command, Kind};
+use exam_types::{Day, HallCode, PaperCode, Refusal, SessionCode};
 use std::alloc::Global;
 
-/// A command of the program, with its values.
+/// What a line tells the program to do.
 #[derive(Drop)]
 pub enum Job<'a> {
     Init,
@@ -28,19 +27,8 @@ pub enum Job<'a> {
         kind: Kind,
         file: &'a str,
     },
-    Withdraw {
-        number: Number,
-        paper: PaperCode,
-    },
-    Reinstate {
-        number: Number,
-        paper: PaperCode,
-    },
-    CloseHall {
-        session: SessionCode,
-        hall: HallCode,
-    },
-    Decide(Decision),
+    /// Applies a command of the office.
+    Apply(Command),
     /// Answers candidates over HTTP on the port.
     Serve {
         port: u16,
@@ -129,16 +117,14 @@ fn read_line<'a>(alloc: Global, matches: &ArgMatches<'a>) -> Result<Option<Line<
     let Some((db, today)) = options_of(matches) else {
         return Ok(None);
     };
-    let Some((name, words)) = command_of(matches) else {
+    let Some((name, words)) = named_job(matches) else {
         return Ok(None);
     };
-    match read_job(alloc, name, words)? {
-        Some(job) => Ok(Some(Line { db, today, job })),
-        None => Ok(None),
-    }
+    let job = read_job(alloc, name, words)?;
+    Ok(job.map(|job| Line { db, today, job }))
 }
 
-/// The options before the command.
+/// The options before the job.
 fn options_of<'a>(matches: &ArgMatches<'a>) -> Option<(&'a str, Day)>
     ensures { option_map (λ o. (o.0.now, o.1)) result ≡ spec.options_of (spec.rows matches.now) }
 {
@@ -147,8 +133,8 @@ fn options_of<'a>(matches: &ArgMatches<'a>) -> Option<(&'a str, Day)>
     Some((db, today))
 }
 
-/// The name of the command, with its own words.
-fn command_of<'m, 'a>(matches: &'m ArgMatches<'a>) -> Option<(&'a str, &'m ArgMatches<'a>)>
+/// The name of the job, with its words.
+fn named_job<'m, 'a>(matches: &'m ArgMatches<'a>) -> Option<(&'a str, &'m ArgMatches<'a>)>
     ensures { option_map (λ c. (c.0.now, spec.rows c.1.now)) result ≡ subcommand_rows_of matches.entry.now }
 {
     matches.subcommand()
@@ -159,41 +145,41 @@ fn read_job<'a>(
     name: &'a str,
     words: &ArgMatches<'a>,
 ) -> Result<Option<Job<'a>>, Refusal>
-    ensures ok { IfOk result (λ job. option_map spec.task_shown job
-        ≡ spec.task_of name.entry.now (spec.rows words.now)) }
+    ensures ok { IfOk result (λ job. option_map spec.job_shown job
+        ≡ spec.job_of name.entry.now (spec.rows words.now)) }
     ensures memory { IfErr result (λ e. (e ≡ refusal.NoMemory)
-        × IsSome (spec.task_of name.entry.now (spec.rows words.now))) }
+        × IsSome (spec.job_of name.entry.now (spec.rows words.now))) }
 {
     match name {
-        "decide" => match decision_of(alloc, words)? {
-            Some(decision) => Ok(Some(Job::Decide(decision))),
-            None => Ok(None),
-        },
+        "decide" => {
+            let decision = decision_of(alloc, words)?;
+            Ok(decision.map(|decision| Job::Apply(Command::Decide(decision))))
+        }
         _ => Ok(read_plain_job(name, words)),
     }
 }
 
-/// A command whose values take no memory.
+/// A job whose values take no memory.
 fn read_plain_job<'a>(name: &str, words: &ArgMatches<'a>) -> Option<Job<'a>>
-    ensures { option_map spec.task_shown result ≡ spec.plain_task_of name.now (spec.rows words.now) }
+    ensures { option_map spec.job_shown result ≡ spec.plain_job_of name.now (spec.rows words.now) }
 {
     match name {
         "init" => Some(Job::Init),
         "migrate" => Some(Job::Migrate),
         "check" => Some(Job::Check),
         "import" => import_of(words),
-        "withdraw" => {
-            let (number, paper) = entry_of(words)?;
-            Some(Job::Withdraw { number, paper })
-        }
-        "reinstate" => {
-            let (number, paper) = entry_of(words)?;
-            Some(Job::Reinstate { number, paper })
-        }
-        "close-hall" => {
-            let (session, hall) = opening_of(words)?;
-            Some(Job::CloseHall { session, hall })
-        }
+        "withdraw" => Some(Job::Apply(Command::Withdraw(
+            number_of(words)?,
+            paper_of(words)?,
+        ))),
+        "reinstate" => Some(Job::Apply(Command::Reinstate(
+            number_of(words)?,
+            paper_of(words)?,
+        ))),
+        "close-hall" => Some(Job::Apply(Command::CloseHall(
+            session_of(words)?,
+            hall_of(words)?,
+        ))),
         "serve" => {
             let port = port_of(words)?;
             Some(Job::Serve { port })
@@ -203,7 +189,7 @@ fn read_plain_job<'a>(name: &str, words: &ArgMatches<'a>) -> Option<Job<'a>>
 }
 
 fn import_of<'a>(words: &ArgMatches<'a>) -> Option<Job<'a>>
-    ensures { option_map spec.task_shown result ≡ spec.import_of (spec.rows words.now) }
+    ensures { option_map spec.job_shown result ≡ spec.import_of (spec.rows words.now) }
 {
     let kind = kind_of(words)?;
     let file = text(words, "file")?;
@@ -211,7 +197,7 @@ fn import_of<'a>(words: &ArgMatches<'a>) -> Option<Job<'a>>
 }
 
 fn print_of<'a>(name: &str, words: &ArgMatches<'a>) -> Option<Job<'a>>
-    ensures { option_map spec.task_shown result ≡ spec.print_of name.now (spec.rows words.now) }
+    ensures { option_map spec.job_shown result ≡ spec.print_of name.now (spec.rows words.now) }
 {
     let session = session_of(words)?;
     let sheet = sheet_of(name, words)?;

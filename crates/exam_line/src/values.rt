@@ -1,4 +1,4 @@
-//! The values of the words of a command.
+//! The values of the words of a line.
 ghost use Rattle.std.specs.Prelude.{◌≡◌, ◌↔◌, ◌≤◌, ℕ, Some, option_map, codes, IfOk, IfErr, IsSome};
 ghost use Rattle.std.specs.Fmt.{decimal};
 ghost use Rattle.clap.specs.Words.{first_of};
@@ -48,24 +48,6 @@ pub fn paper_of(words: &ArgMatches<'_>) -> Option<PaperCode>
     ensures { result ≡ spec.paper_of (spec.rows words.now) }
 {
     PaperCode::parse(text(words, "paper")?.as_bytes())
-}
-
-/// A candidate and a paper.
-pub fn entry_of(words: &ArgMatches<'_>) -> Option<(Number, PaperCode)>
-    ensures { result ≡ spec.entry_of (spec.rows words.now) }
-{
-    let number = number_of(words)?;
-    let paper = paper_of(words)?;
-    Some((number, paper))
-}
-
-/// A session and a hall.
-pub fn opening_of(words: &ArgMatches<'_>) -> Option<(SessionCode, HallCode)>
-    ensures { result ≡ spec.opening_of (spec.rows words.now) }
-{
-    let session = session_of(words)?;
-    let hall = hall_of(words)?;
-    Some((session, hall))
 }
 
 /// The kind of imports that the words name.

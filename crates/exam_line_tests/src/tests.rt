@@ -1,5 +1,6 @@
 //! Lines that are understood, words that are not, and the text of a request for help.
 use exam_line::{Job, LineFault, Sheet, parse_line};
+use exam_office::Command;
 use std::alloc::{AllocError, Global};
 use std::test::Fail;
 
@@ -24,16 +25,23 @@ fn sheet_name(sheet: &Sheet) -> &'static str {
     }
 }
 
+fn command_name(command: &Command) -> &'static str {
+    match command {
+        Command::Withdraw(..) => "withdraw",
+        Command::Reinstate(..) => "reinstate",
+        Command::CloseHall(..) => "close-hall",
+        Command::Decide(_) => "decide",
+        _ => "a command of no line",
+    }
+}
+
 fn job_name(job: &Job<'_>) -> &'static str {
     match job {
         Job::Init => "init",
         Job::Migrate => "migrate",
         Job::Check => "check",
         Job::Import { .. } => "import",
-        Job::Withdraw { .. } => "withdraw",
-        Job::Reinstate { .. } => "reinstate",
-        Job::CloseHall { .. } => "close-hall",
-        Job::Decide(_) => "decide",
+        Job::Apply(command) => command_name(command),
         Job::Serve { .. } => "serve",
         Job::Sheet { sheet, .. } => sheet_name(sheet),
     }

@@ -43,7 +43,7 @@ fn output_of(alloc: Global, line: &str) -> Result<(&str, Output), Fail> {
 fn run_line<S: Alter>(
     alloc: Global,
     store: &mut Store<S>,
-    line: &Line<'_>,
+    line: Line<'_>,
     source: &mut Source<'_>,
     out: &mut Output,
     err: &mut Vec<u8>,
@@ -61,7 +61,7 @@ fn run_words<S: Alter>(
 ) -> Result<String, Fail> {
     let mut err = Vec::new(alloc);
     let status = match parse_line(alloc, words) {
-        Ok(line) => run_line(alloc, store, &line, source, out, &mut err),
+        Ok(line) => run_line(alloc, store, line, source, out, &mut err),
         Err(_) => 2,
     };
     marked(alloc, status, out.taken(), err.as_slice())

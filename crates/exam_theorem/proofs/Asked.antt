@@ -4,7 +4,7 @@ use Rattle.std.specs.Prelude.{Ok, Err, option_and_then}
 use Rattle.clap.specs.Words.{Text}
 use Rattle.exam_rules.specs.Relations.{Code}
 use Rattle.exam_office.specs.State.{State}
-use Rattle.exam_line.specs.Lines.{Answers, Said, task_shown}
+use Rattle.exam_line.specs.Lines.{Answers, Said, job_shown}
 use Rattle.exam_line.specs.declared.line.Line.{Line}
 use Rattle.exam_line.specs.declared.line.LineFault.{LineFault}
 use Rattle.exam_line.specs.declared.line.LineFault.TheVariants.{NoMemory}
@@ -16,8 +16,8 @@ use Rattle.exam_theorem.specs.declared.orders.LineStop.TheVariants as stop
 use Rattle.exam_theorem.proofs.Reading.{line_is, no_line}
 
 -- the sheet of a line that was read
-pub asked_is : (words : List Text) (l : Line) → Answers (Ok l) words → sheet_asked words ≡ sheet_of (task_shown l.job)
-asked_is words l h = ap (λ (o : Option Said). option_and_then (λ (s : Said). sheet_of s.task) o) (line_is words l h)
+pub asked_is : (words : List Text) (l : Line) → Answers (Ok l) words → sheet_asked words ≡ sheet_of (job_shown l.job)
+asked_is words l h = ap (λ (o : Option Said). option_and_then (λ (s : Said). sheet_of s.job) o) (line_is words l h)
 
 module _ {W : Type 0} (contents : W → Option (List ℕ)) (office : State) (words : List Text) (before : W) where
   pub unread : (f : LineFault) → Answers (Err f) words → PrintsAsked contents office (sheet_asked words) before (Err (stop.NoLine f)) before
@@ -31,8 +31,8 @@ module _ {W : Type 0} (contents : W → Option (List ℕ)) (office : State) (wor
       by (inl is) = subst (λ g. PrintsAsked contents office (sheet_asked words) before (Err (stop.NoLine g)) before) (sym is) (short (sheet_asked words))
       by (inr is) =
           subst (λ asked. PrintsAsked contents office asked before (Err (stop.NoLine f)) before)
-          (sym (ap (λ (o : Option Said). option_and_then (λ (s : Said). sheet_of s.task) o) is)) (f, refl, refl)
+          (sym (ap (λ (o : Option Said). option_and_then (λ (s : Said). sheet_of s.job) o) is)) (f, refl, refl)
 
-  pub printed : (l : Line) (end : LineEnd) (after : W) → Answers (Ok l) words → PrintsAsked contents office (sheet_of (task_shown l.job)) before end after
+  pub printed : (l : Line) (end : LineEnd) (after : W) → Answers (Ok l) words → PrintsAsked contents office (sheet_of (job_shown l.job)) before end after
       → PrintsAsked contents office (sheet_asked words) before end after
   printed l end after h prints = subst (λ asked. PrintsAsked contents office asked before end after) (sym (asked_is words l h)) prints

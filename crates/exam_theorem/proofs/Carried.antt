@@ -10,7 +10,7 @@ use Rattle.exam_office.specs.declared.command.Reply.{Reply}
 use Rattle.exam_office.specs.declared.import_row.Kind.{Kind}
 use Rattle.exam_office.specs.Imports.{ImportRows}
 use Rattle.exam_files.specs.ImportFiles.{import_of}
-use Rattle.exam_line.specs.Lines.{Task}
+use Rattle.exam_line.specs.Lines.{Job}
 use Rattle.exam_line.specs.Lines as line
 use Rattle.exam_store.specs.Stores.{OfficeIn}
 use Rattle.exam_job.specs.Jobs.{Commands, Does, Imports, ImportsFile, Stops, TellsReply, denoted, unread, short}
@@ -74,15 +74,9 @@ module _ {S W : Type 0} (g : Ghosts S) (contents : W → Option (List ℕ)) (tod
   office_stays : new ≡ old → (new.office ≡ old.office) × KeepsOn g old new
   office_stays same = (ap (λ (o : OfficeIn S). o.office) same, unchanged g old new same)
 
-  pub follows : (task : Task) (result : Result (Unit {0}) JobFault) → Does g contents task today (Some file) rest old before result new after
-      → FollowsCommand (command_of task file) today old.office (told result) new.office × KeepsOn g old new
-  follows line.init result h = office_stays h.1
+  pub follows : (job : Job) (result : Result (Unit {0}) JobFault) → Does g contents job today (Some file) rest old before result new after
+      → FollowsCommand (command_of job file) today old.office (told result) new.office × KeepsOn g old new
   follows (line.import kind path) result h = imported kind result h
-  follows (line.withdraw number paper) result h = commanded (command.Withdraw number paper) result h.1
-  follows (line.reinstate number paper) result h = commanded (command.Reinstate number paper) result h.1
-  follows (line.close_hall session hall) result h = commanded (command.CloseHall session hall) result h.1
-  follows (line.decide decision) result h = commanded (command.Decide decision) result h.1
-  follows (line.serve port) result h = office_stays h.1
-  follows line.migrate result h = office_stays h.1
-  follows line.check result h = office_stays h.1
+  follows (line.apply done) result h = commanded done result h.1
   follows (line.print session which) result h = sheet_keeps g contents today (Some file) rest old new before result after session which h
+  follows other result h = office_stays h.1

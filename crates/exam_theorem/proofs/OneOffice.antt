@@ -78,7 +78,7 @@ module _ (one_result : OneResult) where
 
     one_line : (line : Option Said) (words : List Text) (file : List ℕ) → FollowsLine line words file before first one → FollowsLine line words file before second other → one ≡ other
     one_line None words file here there = here.3 ∙ sym there.3
-    one_line (Some s) words file here there = one_command (command_of s.task file) s.today here there
+    one_line (Some s) words file here there = one_command (command_of s.job file) s.today here there
 
   -- ---- requests
 

@@ -40,7 +40,7 @@ short (Some (Err refusal)) today office = inr (refl, refl)
 
 short_line : (line : Option Said) (words : List Text) (file : List ℕ) (office : State) → FollowsLine line words file office (Err (stop.NoLine NoMemory)) office
 short_line None words file office = (NoMemory, refl, tt, refl)
-short_line (Some s) words file office = short (command_of s.task file) s.today office
+short_line (Some s) words file office = short (command_of s.job file) s.today office
 
 pub unread : (words : List Text) (file : List ℕ) (f : LineFault) (office : State) → Answers (Err f) words → FollowsWords words file office (Err (stop.NoLine f)) office
 unread words file f office h = by (no_line words f h)
@@ -51,5 +51,5 @@ unread words file f office h = by (no_line words f h)
 
 -- a line that was read is followed
 pub followed : (words : List Text) (file : List ℕ) (l : Line) (before after : State) (end : LineEnd) → Answers (Ok l) words
-    → FollowsCommand (command_of (lines.task_shown l.job) file) l.today before end after → FollowsWords words file before end after
+    → FollowsCommand (command_of (lines.job_shown l.job) file) l.today before end after → FollowsWords words file before end after
 followed words file l before after end h follows = subst (λ line. FollowsLine line words file before end after) (sym (line_is words l h)) follows

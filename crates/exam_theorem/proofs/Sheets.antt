@@ -4,7 +4,7 @@ use Rattle.std.specs.Prelude.{is_some}
 use Rattle.sqlite.specs.Held.{state}
 use Rattle.sqlite_trees.specs.declared.store.Store.{Ghosts}
 use Rattle.exam_rules.specs.Relations.{Code, code_cmp, has_row}
-use Rattle.exam_line.specs.Lines.{Task}
+use Rattle.exam_line.specs.Lines.{Job}
 use Rattle.exam_line.specs.Lines as line
 use Rattle.exam_line.specs.declared.line.Sheet.{Sheet}
 use Rattle.exam_line.specs.declared.line.Sheet.TheVariants as sheet
@@ -32,9 +32,9 @@ module _ {S W : Type 0} (g : Ghosts S) (contents : W → Option (List ℕ)) (tod
   sheet_keeps s sheet.Appeals h = (h.1.office, appeals_kept s h.1)
   sheet_keeps s which h = (ap (λ (o : OfficeIn S). o.office) h.1, unchanged g old new h.1)
 
-  pub task_keeps : (task : Task) → is_some (sheet_of task) ≡ true → Does g contents task today input rest old before result new after → (new.office ≡ old.office) × KeepsOn g old new
-  task_keeps (line.print s which) asks h = sheet_keeps s which h
-  task_keeps other asks h = absurd cc
+  pub job_keeps : (job : Job) → is_some (sheet_of job) ≡ true → Does g contents job today input rest old before result new after → (new.office ≡ old.office) × KeepsOn g old new
+  job_keeps (line.print s which) asks h = sheet_keeps s which h
+  job_keeps other asks h = absurd cc
 
   abbrev Rested : Type 0
   Rested = IsSound (state g new.database) × KeepsIt g old
@@ -45,7 +45,7 @@ module _ {S W : Type 0} (g : Ghosts S) (contents : W → Option (List ℕ)) (tod
   printed s sheet.Appeals h rested = inr (result, refl, h.1.sheet rested.0.0 rested.1.0)
   printed s which h rested = inr (result, refl, h.2)
 
-  pub task_printed : (task : Task) → is_some (sheet_of task) ≡ true → Does g contents task today input rest old before result new after → RestsOnAsked Rested (sheet_of task)
-      → PrintsAsked contents old.office (sheet_of task) before (told result) after
-  task_printed (line.print s which) asks h rested = printed s which h rested
-  task_printed other asks h rested = absurd cc
+  pub job_printed : (job : Job) → is_some (sheet_of job) ≡ true → Does g contents job today input rest old before result new after → RestsOnAsked Rested (sheet_of job)
+      → PrintsAsked contents old.office (sheet_of job) before (told result) after
+  job_printed (line.print s which) asks h rested = printed s which h rested
+  job_printed other asks h rested = absurd cc

@@ -71,7 +71,7 @@ module _ (before after : State) where
 
   lined : (line : Option Said) (words : List Text) (file : List ℕ) (end : LineEnd) → FollowsLine line words file before end after → KeepsOthers (LineMayUnseat line file)
   lined None words file end h = stays (LineMayUnseat None file) h.3
-  lined (Some said) words file end h = commanded (command_of said.task file) said.today end h
+  lined (Some said) words file end h = commanded (command_of said.job file) said.today end h
 
   pub line_spares : (words : List Text) (file : List ℕ) (end : LineEnd) → FollowsWords words file before end after → Spares (of_line words file) before after
   line_spares words file end h = lined (line_of words) words file end h

@@ -80,7 +80,7 @@ IsNoLine words before end after =
 abbrev pub FollowsLine : Option Said → List Text → List ℕ → State → LineEnd → State → Type 0
 FollowsLine None words file before end after = IsNoLine words before end after
 FollowsLine (Some said) words file before end after =
-    FollowsCommand (command_of said.task file) said.today before end after
+    FollowsCommand (command_of said.job file) said.today before end after
 
 -- what becomes of the words of a command line, with the file that it imports
 abbrev pub FollowsWords : List Text → List ℕ → State → LineEnd → State → Type 0

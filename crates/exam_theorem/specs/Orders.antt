@@ -11,7 +11,7 @@ use Rattle.exam_office.specs.Imports.{ImportRows}
 use Rattle.exam_office.specs.Steps.{IsNamed}
 use Rattle.exam_files.specs.ImportFiles.{import_of}
 use Rattle.exam_line.specs.Grammar.{grammar}
-use Rattle.exam_line.specs.Lines.{Said, Task, said}
+use Rattle.exam_line.specs.Lines.{Job, Said, said}
 use Rattle.exam_line.specs.Lines as line
 use Rattle.exam_line.specs.declared.line.Sheet.{Sheet}
 use Rattle.exam_theorem.specs.declared.orders.Order.{Order}
@@ -40,27 +40,20 @@ abbrev pub import_command : Result ImportRows Refusal → Result Command Refusal
 import_command (Ok rows) = Ok (command.Import rows)
 import_command (Err refusal) = Err refusal
 
--- the command of the office, or why the file denotes none; none for a line that makes, serves or prints
-abbrev pub command_of : Task → List ℕ → Option (Result Command Refusal)
-command_of line.init file = None
+-- the command of the office, or why the file denotes none; none for any other job
+abbrev pub command_of : Job → List ℕ → Option (Result Command Refusal)
 command_of (line.import kind path) file = Some (import_command (import_of kind file))
-command_of (line.withdraw number paper) file = Some (Ok (command.Withdraw number paper))
-command_of (line.reinstate number paper) file = Some (Ok (command.Reinstate number paper))
-command_of (line.close_hall session hall) file = Some (Ok (command.CloseHall session hall))
-command_of (line.decide decision) file = Some (Ok (command.Decide decision))
-command_of (line.serve port) file = None
-command_of line.migrate file = None
-command_of line.check file = None
-command_of (line.print session sheet) file = None
+command_of (line.apply done) file = Some (Ok done)
+command_of other file = None
 
 -- the session and the sheet of a line that prints one
-abbrev pub sheet_of : Task → Option (Code × Sheet)
+abbrev pub sheet_of : Job → Option (Code × Sheet)
 sheet_of (line.print session sheet) = Some (session, sheet)
 sheet_of other = None
 
 -- the session and the sheet that words ask for
 abbrev pub sheet_asked : List Text → Option (Code × Sheet)
-sheet_asked words = option_and_then (λ s. sheet_of s.task) (line_of words)
+sheet_asked words = option_and_then (λ s. sheet_of s.job) (line_of words)
 
 -- ---- whom an order may cost a seat
 
@@ -78,7 +71,7 @@ GivenMayUnseat (Some (Ok done)) c = CommandMayUnseat done c
 
 abbrev pub LineMayUnseat : Option Said → List ℕ → ℕ → Type 0
 LineMayUnseat None file c = ⊥
-LineMayUnseat (Some said) file c = GivenMayUnseat (command_of said.task file) c
+LineMayUnseat (Some said) file c = GivenMayUnseat (command_of said.job file) c
 
 -- a decision may cost only the appellant a seat; a request costs nobody one
 abbrev pub MayUnseat : Given → ℕ → Type 0

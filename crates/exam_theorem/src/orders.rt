@@ -108,7 +108,7 @@ fn follow_words<S: Alter>(
     ensures kept { KeepsOn S.Store store.old store.new }
 {
     match parse_line(alloc, words) {
-        Ok(line) => follow_line(alloc, store, &line, file),
+        Ok(line) => follow_line(alloc, store, line, file),
         Err(fault) => Err(LineStop::NoLine(fault)),
     }
 }
@@ -117,11 +117,11 @@ fn follow_words<S: Alter>(
 fn follow_line<S: Alter>(
     alloc: Global,
     store: &mut Store<S>,
-    line: &Line<'_>,
+    line: Line<'_>,
     mut file: &[u8],
 ) -> LineEnd
-    ensures follows { spec.FollowsCommand (command_of (lines.task_shown line.now.job) file.entry.now)
-        line.now.today store.old.office result store.new.office }
+    ensures follows { spec.FollowsCommand (command_of (lines.job_shown line.job) file.entry.now)
+        line.today store.old.office result store.new.office }
     ensures kept { KeepsOn S.Store store.old store.new }
 {
     told(carry_out(alloc, line, store, &mut file, &mut io::sink()))

@@ -59,15 +59,15 @@ fn words_of(alloc: Global, command: &str) -> Result<Vec<String>, AllocError> {
 /// Carries out the command that the words say. Does not print the exit status, since the printed lines show it.
 fn run_words(rt: &HostRuntime, store: &mut Store<MemStore>, words: &[String]) {
     let _ = match parse_line(rt.alloc(), words) {
-        Ok(line) => run_line(rt, store, &line),
+        Ok(line) => run_line(rt, store, line),
         Err(fault) => print_line_fault(&fault, &mut rt.stdout(), &mut rt.stdout()),
     };
 }
 
 /// Carries out a command over the file that it imports, or over none.
-fn run_line(rt: &HostRuntime, store: &mut Store<MemStore>, line: &Line<'_>) -> u8 {
-    match &line.job {
-        Job::Import { file, .. } => match File::open(rt, *file) {
+fn run_line(rt: &HostRuntime, store: &mut Store<MemStore>, line: Line<'_>) -> u8 {
+    match line.job {
+        Job::Import { file, .. } => match File::open(rt, file) {
             Ok(mut file) => run_over(rt, store, line, &mut file),
             Err(_) => print_fault(&JobFault::File, &mut rt.stdout()),
         },
@@ -79,7 +79,7 @@ fn run_line(rt: &HostRuntime, store: &mut Store<MemStore>, line: &Line<'_>) -> u
 fn run_over<R: Read>(
     rt: &HostRuntime,
     store: &mut Store<MemStore>,
-    line: &Line<'_>,
+    line: Line<'_>,
     file: &mut R,
 ) -> u8 {
     let mut out = rt.stdout();

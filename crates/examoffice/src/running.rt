@@ -34,7 +34,7 @@ fn run_words<S: Start, O: Write, E: Write>(
     err: &mut E,
 ) -> u8 {
     match parse_line(rt.alloc(), words) {
-        Ok(line) => run_line(rt, &line, start, out, err),
+        Ok(line) => run_line(rt, line, start, out, err),
         Err(fault) => print_line_fault(&fault, out, err),
     }
 }
@@ -42,12 +42,12 @@ fn run_words<S: Start, O: Write, E: Write>(
 /// Carries the line out over the file that it names, and returns the exit status.
 fn run_line<S: Start, O: Write, E: Write>(
     rt: &HostRuntime,
-    line: &Line<'_>,
+    line: Line<'_>,
     start: S,
     out: &mut O,
     err: &mut E,
 ) -> u8 {
-    match run_task(rt, line, start, out, err) {
+    match try_line(rt, line, start, out, err) {
         Ok(status) => status,
         Err(fault) => print_fault(&fault, err),
     }
@@ -55,14 +55,14 @@ fn run_line<S: Start, O: Write, E: Write>(
 
 /// Carries the line out over the office that it names; or brings that office to the newest version; or looks for the
 /// first bad table.
-fn run_task<S: Start, O: Write, E: Write>(
+fn try_line<S: Start, O: Write, E: Write>(
     rt: &HostRuntime,
-    line: &Line<'_>,
+    line: Line<'_>,
     start: S,
     out: &mut O,
     err: &mut E,
 ) -> Result<u8, JobFault> {
-    match &line.job {
+    match line.job {
         Job::Migrate => {
             migrate_file(rt, line.db, start, out)?;
             Ok(DONE)
@@ -75,12 +75,12 @@ fn run_task<S: Start, O: Write, E: Write>(
 /// Opens what the line names, or makes it; carries the line out; and closes the office.
 fn run_open<S: Start, O: Write, E: Write>(
     rt: &HostRuntime,
-    line: &Line<'_>,
+    line: Line<'_>,
     start: S,
     out: &mut O,
     err: &mut E,
 ) -> Result<u8, JobFault> {
-    let mut store = match &line.job {
+    let mut store = match line.job {
         Job::Init => create_office(rt, line.db, start)?,
         _ => open_office(rt, line.db, start)?,
     };
@@ -92,18 +92,18 @@ fn run_open<S: Start, O: Write, E: Write>(
 /// Carries the line out over the office.
 fn run_over<S: Start, O: Write, E: Write>(
     rt: &HostRuntime,
-    line: &Line<'_>,
+    line: Line<'_>,
     store: &mut Store<OfficeFile<S>>,
     out: &mut O,
     err: &mut E,
 ) -> Result<u8, JobFault> {
-    match &line.job {
+    match line.job {
         Job::Import { file, .. } => {
             let mut file = open_import(rt, file)?;
             Ok(run_job(rt.alloc(), line, store, &mut file, out, err))
         }
         Job::Serve { port } => {
-            serve(rt, store, line.today, *port, out, err)?;
+            serve(rt, store, line.today, port, out, err)?;
             Ok(DONE)
         }
         _ => Ok(run_job(rt.alloc(), line, store, &mut empty(), out, err)),
