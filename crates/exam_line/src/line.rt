@@ -23,21 +23,13 @@ pub enum Job<'a> {
     /// Looks for the first bad table of the database.
     Check,
     /// Imports the file at the path.
-    Import {
-        kind: Kind,
-        file: &'a str,
-    },
+    Import { kind: Kind, file: &'a str },
     /// Applies a command of the office.
     Apply(Command),
     /// Answers candidates over HTTP on the port.
-    Serve {
-        port: u16,
-    },
+    Serve { port: u16 },
     /// Prints a sheet of the session.
-    Sheet {
-        session: SessionCode,
-        sheet: Sheet,
-    },
+    Sheet { session: SessionCode, sheet: Sheet },
 }
 
 /// The kinds of sheets.
@@ -120,8 +112,10 @@ fn read_line<'a>(alloc: Global, matches: &ArgMatches<'a>) -> Result<Option<Line<
     let Some((name, words)) = named_job(matches) else {
         return Ok(None);
     };
-    let job = read_job(alloc, name, words)?;
-    Ok(job.map(|job| Line { db, today, job }))
+    match read_job(alloc, name, words)? {
+        Some(job) => Ok(Some(Line { db, today, job })),
+        None => Ok(None),
+    }
 }
 
 /// The options before the job.
@@ -168,18 +162,9 @@ fn read_plain_job<'a>(name: &str, words: &ArgMatches<'a>) -> Option<Job<'a>>
         "migrate" => Some(Job::Migrate),
         "check" => Some(Job::Check),
         "import" => import_of(words),
-        "withdraw" => Some(Job::Apply(Command::Withdraw(
-            number_of(words)?,
-            paper_of(words)?,
-        ))),
-        "reinstate" => Some(Job::Apply(Command::Reinstate(
-            number_of(words)?,
-            paper_of(words)?,
-        ))),
-        "close-hall" => Some(Job::Apply(Command::CloseHall(
-            session_of(words)?,
-            hall_of(words)?,
-        ))),
+        "withdraw" => Some(Job::Apply(Command::Withdraw(number_of(words)?, paper_of(words)?))),
+        "reinstate" => Some(Job::Apply(Command::Reinstate(number_of(words)?, paper_of(words)?))),
+        "close-hall" => Some(Job::Apply(Command::CloseHall(session_of(words)?, hall_of(words)?))),
         "serve" => {
             let port = port_of(words)?;
             Some(Job::Serve { port })
