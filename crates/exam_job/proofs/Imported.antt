@@ -1,14 +1,12 @@
 -- An import file that was read, or was not.
-use Rattle.std.proofs.Common.{◌≡◌, ◌∙◌, ℕ, List, Option, Result, Ok, Err, refl, sym, subst, ap, inl, inr}
+use Rattle.std.proofs.Common.{◌≡◌, ◌∙◌, ℕ, List, Option, Result, Ok, Err, refl, ap, inl, inr}
 use Rattle.std.specs.Prelude.{IsErrAnd}
 use Rattle.sqlite_trees.specs.declared.store.Store.{Ghosts}
 use Rattle.exam_office.specs.declared.command.Command.TheVariants as command
 use Rattle.exam_office.specs.declared.import_row.Kind.{Kind}
 use Rattle.exam_office.specs.Imports.{ImportRows}
-use Rattle.exam_line.specs.declared.line.Job.{Job}
-use Rattle.exam_line.specs.Lines.{job_shown}
 use Rattle.exam_store.specs.Stores.{OfficeIn}
-use Rattle.exam_job.specs.Jobs.{Commands, Does, ImportsFile, denoted, short, unread}
+use Rattle.exam_job.specs.Jobs.{Commands, ImportsFile, denoted, short, unread}
 use Rattle.exam_job.specs.Reading.{ReadsImport}
 use Rattle.exam_job.specs.declared.report.JobFault.{JobFault}
 
@@ -29,11 +27,3 @@ unimported g contents kind today input rest fault old before (Err given) (inl (i
 unimported g contents kind today input rest fault old before (Err given) (inl (inr lack, read)) is = short read (ap Err (is ∙ lack), refl, refl)
 unimported g contents kind today input rest fault old before (Err given) (inr (refusal, refused, read)) is =
     denoted (Err refusal) read (ap Err (is ∙ refused), refl, refl)
-
--- a line's job, once it is known which one
-pub done_as : {S W : Type 0} (g : Ghosts S) (contents : W → Option (List ℕ)) (job known : Job) (today : ℕ) (input rest : Option (List ℕ))
-    (old : OfficeIn S) (before : W) (result : Result (Unit {0}) JobFault) (new : OfficeIn S) (after : W)
-    → job ≡ known → Does g contents (job_shown known) today input rest old before result new after
-    → Does g contents (job_shown job) today input rest old before result new after
-done_as g contents job known today input rest old before result new after is done =
-    subst (λ (j : Job). Does g contents (job_shown j) today input rest old before result new after) (sym is) done

@@ -27,7 +27,7 @@ pub fn run_job<S: Alter, R: Read, O: Write, E: Write>(
     out: &mut O,
     err: &mut E,
 ) -> u8
-    ensures runs { spec.Runs S.Store O.contents E.contents (shown line) (R.remaining reader.old)
+    ensures runs { spec.Runs S.Store O.contents E.contents (shown line.entry) (R.remaining reader.old)
         (R.remaining reader.new) store.old out.old err.old result store.new out.new err.new }
     ensures headline { (s : Code) → IsSeated store.new.office s }
 {
@@ -46,7 +46,7 @@ pub fn carry_out<S: Alter, R: Read, O: Write>(
     reader: &mut R,
     out: &mut O,
 ) -> Result<(), JobFault>
-    ensures does { spec.Does S.Store O.contents (job_shown line.job) line.today (R.remaining reader.old)
+    ensures does { spec.Does S.Store O.contents (job_shown line.entry.job) line.entry.today (R.remaining reader.old)
         (R.remaining reader.new) store.old out.old result store.new out.new }
     ensures headline { (s : Code) → IsSeated store.new.office s }
 {
@@ -63,22 +63,22 @@ fn carry_out_job<S: Alter, R: Read, O: Write>(
     reader: &mut R,
     out: &mut O,
 ) -> Result<(), JobFault>
-    ensures { spec.Does S.Store O.contents (job_shown line.job) line.today (R.remaining reader.old)
+    ensures { spec.Does S.Store O.contents (job_shown line.entry.job) line.entry.today (R.remaining reader.old)
         (R.remaining reader.new) store.old out.old result store.new out.new }
 {
-    match line.job {
+    let Line { today, job, .. } = line;
+    match job {
         // The store is open, so there is nothing left to do.
         Job::Init => print(out, b"ready\n"),
-        Job::Import { kind, .. } => import(alloc, store, kind, line.today, reader, out),
-        Job::Apply(command) => carry_out_command(alloc, store, command, line.today, out),
+        Job::Import { kind, .. } => import(alloc, store, kind, today, reader, out),
+        Job::Apply(command) => carry_out_command(alloc, store, command, today, out),
         // The program itself does these: it serves over sockets, and it migrates and checks before the office is open.
         // Over this store there is nothing to do.
         Job::Serve { .. } | Job::Migrate | Job::Check => Ok(()),
-        Job::Sheet {
-            session,
-            sheet: Sheet::Appeals,
-        } => print_appeals(alloc, store, &session, out),
-        Job::Sheet { session, sheet } => print_sheet(alloc, store, &session, &sheet, out),
+        Job::Sheet { session, sheet } => match &sheet {
+            Sheet::Appeals => print_appeals(alloc, store, &session, out),
+            which => print_sheet(alloc, store, &session, which, out),
+        },
     }
 }
 

@@ -1,4 +1,4 @@
-use Rattle.std.proofs.Common.{◌≡◌, ◌<◌, inr, length, arith}
+use Rattle.std.proofs.Common.{◌≡◌, inr, length, arith}
 use Rattle.exam_job.proofs.OneCommand.{carried, is_one}
 use Rattle.exam_job.proofs.job.carry_out_command.Goals as goal
 
