@@ -274,7 +274,7 @@ fn sessions_and_appeals_have_limits(rt: HostRuntime) -> Result<(), Fail> {
 #[test]
 fn halls_and_openings_have_limits(rt: HostRuntime) -> Result<(), Fail> {
     assert!(rt; has_limit(rt.alloc(), "hall", 499, Table::Hall)?);
-    assert!(rt; has_limit(rt.alloc(), "opening", 127, Table::Opening)?);
+    assert!(rt; has_limit(rt.alloc(), "opening", 255, Table::Opening)?);
     Ok(())
 }
 
