@@ -120,8 +120,8 @@ fn follow_line<S: Alter>(
     line: Line<'_>,
     mut file: &[u8],
 ) -> LineEnd
-    ensures follows { spec.FollowsCommand (command_of (lines.job_shown line.job) file.entry.now)
-        line.today store.old.office result store.new.office }
+    ensures follows { spec.FollowsCommand (command_of (lines.job_shown line.entry.job) file.entry.now)
+        line.entry.today store.old.office result store.new.office }
     ensures kept { KeepsOn S.Store store.old store.new }
 {
     told(carry_out(alloc, line, store, &mut file, &mut io::sink()))

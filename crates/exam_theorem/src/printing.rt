@@ -92,8 +92,8 @@ fn print_line<S: Alter, O: Write>(
     out: &mut O,
 ) -> LineEnd
     ensures sheet { RestsOnAsked (IsSound (state S.Store store.new.database) × KeepsIt S.Store store.old)
-        (sheet_of (lines.job_shown line.job)) → PrintsAsked O.contents store.old.office
-        (sheet_of (lines.job_shown line.job)) out.old result out.new }
+        (sheet_of (lines.job_shown line.entry.job)) → PrintsAsked O.contents store.old.office
+        (sheet_of (lines.job_shown line.entry.job)) out.old result out.new }
     ensures office { store.new.office ≡ store.old.office }
     ensures kept { KeepsOn S.Store store.old store.new }
 {
