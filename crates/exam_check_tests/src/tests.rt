@@ -1,33 +1,18 @@
 //! An office as the rows of its tables, and what makes a table of it bad.
 use exam_check::{Table, check, check_line};
+use exam_school::{ROWS, TWO_SIT};
 use exam_store::Store;
 use exam_types::Refusal;
 use sqlite::{Connection, MemStore};
 use std::alloc::Global;
 use std::test::Fail;
 
-/// One session with one paper, and two halls with a desk each. The first candidate sits in hall B, since the second,
-/// who needs step-free access, sits in hall A.
-const SEATED: &str = "INSERT INTO session VALUES ('S1', '2027-06-01', 540); \
-INSERT INTO paper VALUES ('MA-1', 'Maths', 'S1', 60, 0); \
-INSERT INTO hall VALUES ('A', 'Hall A', 1); \
-INSERT INTO hall VALUES ('B', 'Hall B', 0); \
-INSERT INTO opening VALUES ('S1', 'A', 1, 720, 0); \
-INSERT INTO opening VALUES ('S1', 'B', 1, 720, 0); \
-INSERT INTO candidate VALUES (1, 'Bo Berg', 'CODE0001'); \
-INSERT INTO candidate VALUES (2, 'Ada Lin', 'CODE0002'); \
-INSERT INTO candidate VALUES (3, 'Cy Dahl', 'CODE0003'); \
-INSERT INTO arrangement VALUES (2, 1, 0); \
-INSERT INTO entry VALUES (1, 'MA-1', 1); \
-INSERT INTO entry VALUES (2, 'MA-1', 1); \
-INSERT INTO seat VALUES ('S1', 1, 'B'); \
-INSERT INTO seat VALUES ('S1', 2, 'A')";
-
-/// That office after these statements.
+/// The school with two seats after these statements.
 fn office_after(alloc: Global, sql: &str) -> Result<Connection<MemStore>, Fail> {
     let mut conn = Store::in_memory(alloc)?.close();
-    conn.execute_batch(SEATED)?;
-    conn.execute_batch(sql)?;
+    for rows in [ROWS, TWO_SIT, sql] {
+        conn.execute_batch(rows)?;
+    }
     Ok(conn)
 }
 
@@ -287,10 +272,10 @@ fn papers_have_a_limit(rt: HostRuntime) -> Result<(), Fail> {
     Ok(())
 }
 
-/// What is found after the three candidates were doubled so many times, each of them entered for the paper.
+/// What is found after the five candidates were doubled so many times, each of them entered for the paper.
 fn found_of_candidates(alloc: Global, doublings: u32) -> Result<Option<Table>, Fail> {
     let mut conn = office_after(alloc, "")?;
-    let mut many: u32 = 3;
+    let mut many: u32 = 5;
     for _ in 0..doublings {
         let sql = format!(in alloc;
             "INSERT INTO candidate SELECT number + {many}, name, code FROM candidate"
@@ -304,12 +289,12 @@ fn found_of_candidates(alloc: Global, doublings: u32) -> Result<Option<Table>, F
     Ok(check(alloc, &mut conn)?)
 }
 
-/// 6,144 candidates are more than a session may have, 24,576 more than an office may have.
+/// 5,120 candidates are more than a session may have, 20,480 more than an office may have.
 #[test]
 fn candidates_and_members_have_limits(rt: HostRuntime) -> Result<(), Fail> {
-    assert_eq!(rt; found_of_candidates(rt.alloc(), 11)?, Some(Table::Entry));
+    assert_eq!(rt; found_of_candidates(rt.alloc(), 10)?, Some(Table::Entry));
     assert_eq!(rt;
-        found_of_candidates(rt.alloc(), 13)?,
+        found_of_candidates(rt.alloc(), 12)?,
         Some(Table::Candidate)
     );
     Ok(())

@@ -1,8 +1,9 @@
 //! Requests that fail at each of their bytes, and answers that are cut off at each of theirs.
 use super::client::{Giving, serve};
 use super::exchanges::{LAST_DAY, LODGED, ONE_APPEAL, expect_answer};
-use super::office::{FIRST_IN_A, FIRST_IN_B, office_with};
+use super::office::office_with;
 use exam_http::HttpFault;
+use exam_school::{ONE_SITS, TWO_SIT};
 use exam_store::Store;
 use sqlite::MemStore;
 use std::alloc::Global;
@@ -79,7 +80,7 @@ fn expect_unwritten<R: Abort + AllocGlobal>(
 
 #[test]
 fn a_posting_that_is_cut_changes_nothing(rt: HostRuntime) -> Result<(), Fail> {
-    let mut store = office_with(rt.alloc(), FIRST_IN_B)?;
+    let mut store = office_with(rt.alloc(), TWO_SIT)?;
     expect_unread(&rt, &mut store, POSTING)?;
     assert_eq!(rt; appeal_count(store)?, 0);
     Ok(())
@@ -88,7 +89,7 @@ fn a_posting_that_is_cut_changes_nothing(rt: HostRuntime) -> Result<(), Fail> {
 /// The appeal is posted again when it is too late to lodge a new one. Then the answer is lost after each of its bytes.
 #[test]
 fn an_appeal_stands_whose_answer_is_cut(rt: HostRuntime) -> Result<(), Fail> {
-    let mut store = office_with(rt.alloc(), FIRST_IN_B)?;
+    let mut store = office_with(rt.alloc(), TWO_SIT)?;
     expect_cut(&rt, &mut store, (POSTING, ANSWER), 10)?;
     expect_answer(&rt, &mut store, LODGED)?;
     expect_unwritten(&rt, &mut store, (POSTING, ANSWER))?;
@@ -127,7 +128,7 @@ const REQUESTS: &[(&str, &str)] = &[
 
 #[test]
 fn each_read_and_each_write_may_fail(rt: HostRuntime) -> Result<(), Fail> {
-    let mut store = office_with(rt.alloc(), FIRST_IN_A)?;
+    let mut store = office_with(rt.alloc(), ONE_SITS)?;
     for (request, answer) in REQUESTS {
         expect_unread(&rt, &mut store, request.as_bytes())?;
         expect_unwritten(&rt, &mut store, (request.as_bytes(), answer.as_bytes()))?;

@@ -1,7 +1,7 @@
 //! Requests in turn, each read at once and then byte by byte, with each answer byte for byte.
 use super::client::{Giving, serve};
-use super::office::{FIRST_IN_A, FIRST_IN_B, office_with};
-use exam_office::Kind;
+use super::office::office_with;
+use exam_school::{ONE_SITS, TWO_SIT};
 use exam_store::Store;
 use sqlite::MemStore;
 use std::process::Abort;
@@ -39,13 +39,13 @@ pub fn expect_answer<R: Abort + AllocGlobal>(
     Ok(())
 }
 
-/// Makes the requests in turn, after these imports.
+/// Makes the requests in turn, at the school with these rows.
 fn exchange<R: Abort + AllocGlobal>(
     rt: &R,
-    imports: &[(Kind, &str)],
+    rows: &str,
     exchanges: &[Exchange<'_>],
 ) -> Result<(), Fail> {
-    let mut store = office_with(rt.alloc(), imports)?;
+    let mut store = office_with(rt.alloc(), rows)?;
     for asked in exchanges {
         expect_answer(rt, &mut store, *asked)?;
     }
@@ -113,7 +113,7 @@ const SEATS: &[Exchange<'_>] = &[
 #[test]
 fn a_candidate_sees_their_seat_and_nobody_elses(rt: HostRuntime) -> Result<(), Fail> {
     assert_eq!(rt; UNKNOWN.len(), 108);
-    exchange(&rt, FIRST_IN_A, SEATS)
+    exchange(&rt, ONE_SITS, SEATS)
 }
 
 const AGAINST_B: &str = posted!(
@@ -191,7 +191,7 @@ const APPEALS: &[Exchange<'_>] = &[
 
 #[test]
 fn an_appeal_is_lodged_once_and_taken_back_once(rt: HostRuntime) -> Result<(), Fail> {
-    exchange(&rt, FIRST_IN_B, APPEALS)
+    exchange(&rt, TWO_SIT, APPEALS)
 }
 
 /// The request for a seat up to the line of the code; an empty line after it would make it complete.
@@ -301,7 +301,7 @@ const HOSTILE: &[Exchange<'_>] = &[
 
 #[test]
 fn hostile_requests_are_refused(rt: HostRuntime) -> Result<(), Fail> {
-    exchange(&rt, FIRST_IN_A, HOSTILE)
+    exchange(&rt, ONE_SITS, HOSTILE)
 }
 
 /// 8,192 bytes without an empty line. The server looks for one after each byte: this takes minutes under `rt try`.
@@ -313,5 +313,5 @@ const LONG_HEAD: &[Exchange<'_>] = &[(
 
 #[test]
 fn a_head_that_does_not_end_is_too_large(rt: HostRuntime) -> Result<(), Fail> {
-    exchange(&rt, FIRST_IN_A, LONG_HEAD)
+    exchange(&rt, ONE_SITS, LONG_HEAD)
 }

@@ -1,6 +1,7 @@
 //! A request over a socket of this machine.
-use super::office::{FIRST_IN_A, day_of, office_with};
+use super::office::office_with;
 use exam_http::serve_one;
+use exam_school::{ONE_SITS, Words};
 use std::io::{self, Write};
 use std::net::{Ipv4Addr, SocketAddrV4, TcpListener, TcpStream};
 use std::test::Fail;
@@ -18,8 +19,8 @@ const ONE_SEAT: &str =
 /// The client connects and writes, then the server accepts and serves, then the client reads to the end.
 #[test]
 fn a_seat_is_shown_over_a_socket(rt: HostRuntime) -> Result<(), Fail> {
-    let mut store = office_with(rt.alloc(), FIRST_IN_A)?;
-    let today = day_of("2027-05-30")?;
+    let mut store = office_with(rt.alloc(), ONE_SITS)?;
+    let today = Words::of("2027-05-30").day()?;
     let listener = TcpListener::bind(&rt, SocketAddrV4::new(Ipv4Addr::LOCALHOST, 0))?;
     let mut client = TcpStream::connect(&rt, listener.local_addr()?)?;
     client.write_all(REQUEST)?;

@@ -1,71 +1,70 @@
 //! Sets one entry, lists its candidate again, and compares the lists with those made from all facts.
-use super::setups::{Fact, number, paper, school_with, session};
-use exam_rules::{Entrant, Entry, Facts, SessionLists, session_lists};
-use std::process::Abort;
+use exam_rules::{Entrant, Facts, SessionLists, session_lists};
+use exam_school::{OPENED, Words, add_fact, expect_answer, school_with};
+use exam_types::{Number, SessionCode};
+use std::alloc::Global;
 use std::test::Fail;
 
-/// One entry of a candidate for a paper is set; then these are listed, each with a paper.
-#[derive(Clone, Copy)]
-pub struct Turn<'a> {
-    pub number: u32,
-    pub paper: &'a str,
-    pub live: bool,
-    pub listed: &'a [(u32, &'a str)],
-}
-
-fn set_entry(facts: &mut Facts, turn: Turn) -> Result<(), Fail> {
-    let key = (number(turn.number)?, paper(turn.paper)?);
-    facts.entries.insert(key, Entry { live: turn.live })?;
-    Ok(())
-}
-
-fn expect_listed<R: Abort>(
-    rt: &R,
+fn expect_listed(
+    alloc: Global,
     entrants: &[Entrant],
-    wanted: &[(u32, &str)],
+    wanted: &str,
+    fact: &str,
 ) -> Result<(), Fail> {
-    assert_eq!(rt; entrants.len(), wanted.len());
-    for (entrant, (value, code)) in entrants.iter().zip(wanted) {
-        assert!(rt; entrant.number == number(*value)?, "{value}");
-        assert!(rt; entrant.paper == paper(code)?, "{value}");
+    let mut text = String::new(alloc);
+    for entrant in entrants {
+        let number = entrant.number.get();
+        let paper = entrant.paper;
+        text.push_str(format!(in alloc; "{number} {paper} ")?.as_str())?;
     }
-    Ok(())
+    expect_answer(text.as_str(), wanted, fact)
 }
 
-/// Takes the turns in order. The lists begin as those of the school with these facts, which must show `listed`. Each
-/// turn is taken, put back and taken again.
-pub fn relist_each<'a, R: Abort + AllocGlobal>(
-    rt: &R,
-    facts: &[Fact],
-    listed: &'a [(u32, &'a str)],
-    turns: &[Turn<'a>],
-) -> Result<(), Fail> {
-    let mut facts = school_with(rt.alloc(), facts)?;
-    let mut lists = session_lists(rt.alloc(), &facts)?;
-    let mut before = listed;
-    for turn in turns {
-        set_entry(&mut facts, *turn)?;
-        relist(rt, &facts, &mut lists, *turn, before)?;
-        before = turn.listed;
-    }
-    Ok(())
+/// The candidate of an entry.
+fn number_of(fact: &str) -> Result<Number, Fail> {
+    let mut words = Words::of(fact);
+    let _ = words.next();
+    words.number()
 }
 
-fn relist<R: Abort + AllocGlobal>(
-    rt: &R,
+/// Lists the candidate of the entry again, puts the list back, and lists them once more.
+fn relist(
+    alloc: Global,
     facts: &Facts,
     lists: &mut SessionLists,
-    turn: Turn,
-    before: &[(u32, &str)],
+    session: SessionCode,
+    fact: &str,
+    (before, wanted): (&str, &str),
 ) -> Result<(), Fail> {
-    let session = session("S1")?;
-    let number = number(turn.number)?;
-    let old = lists.relist(rt.alloc(), facts, session, number)?;
-    expect_listed(rt, lists.members_of(&session), turn.listed)?;
+    let number = number_of(fact)?;
+    let old = lists.relist(alloc, facts, session, number)?;
+    expect_listed(alloc, lists.members_of(&session), wanted, fact)?;
     lists.put_members(&session, old);
-    expect_listed(rt, lists.members_of(&session), before)?;
-    let _again = lists.relist(rt.alloc(), facts, session, number)?;
-    let anew = session_lists(rt.alloc(), facts)?;
-    expect_listed(rt, anew.members_of(&session), turn.listed)?;
-    expect_listed(rt, lists.members_of(&session), turn.listed)
+    expect_listed(alloc, lists.members_of(&session), before, fact)?;
+    let _again = lists.relist(alloc, facts, session, number)?;
+    expect_listed(alloc, lists.members_of(&session), wanted, fact)
+}
+
+/// Takes the turns in order. The lists begin as those of the school with these facts, which show nobody.
+pub fn relist_each(alloc: Global, facts: &str, turns: &str) -> Result<(), Fail> {
+    let session = Words::of("S1").session()?;
+    let mut school = school_with(alloc, &[OPENED, facts])?;
+    let mut lists = session_lists(alloc, &school.facts)?;
+    let mut before = "-";
+    for turn in turns.lines() {
+        let (fact, wanted) = turn.split_once(" > ").ok_or("turn")?;
+        add_fact(alloc, &mut school, fact)?;
+        relist(
+            alloc,
+            &school.facts,
+            &mut lists,
+            session,
+            fact,
+            (before, wanted),
+        )?;
+        let anew = session_lists(alloc, &school.facts)?;
+        expect_listed(alloc, anew.members_of(&session), wanted, fact)?;
+        before = wanted;
+    }
+    Ok(())
 }
