@@ -53,21 +53,23 @@ fn exchange<R: Abort + AllocGlobal>(
 }
 
 /// The answer for an unknown candidate and to a wrong code, of 108 bytes.
-const UNKNOWN: &str = answered!("404 Not Found", 11, "{\"error\":6}");
+pub const UNKNOWN: &str = answered!("404 Not Found", 11, "{\"error\":6}");
 
 const OTHER_ROUTE: &str = answered!("404 Not Found", 12, "{\"error\":37}");
 
 const BAD_HEAD: &str = answered!("400 Bad Request", 12, "{\"error\":31}");
 
+pub const SEAT_IN_A: &str = answered!(
+    "200 OK",
+    138,
+    "{\"seats\":[{\"date\":\"2027-06-01\",\"desk\":1,\"extra\":0,\"finish\":\"10:00\",\"hall\":\"A\",\"needs\":\"-\",\"paper\":\"MA-1\",\"session\":\"S1\",\"start\":\"09:00\"}]}"
+);
+
 const SEATS: &[Exchange<'_>] = &[
     (
         LAST_DAY,
         &[(asked!("GET /candidates/0000001/seats"), 1)],
-        answered!(
-            "200 OK",
-            138,
-            "{\"seats\":[{\"date\":\"2027-06-01\",\"desk\":1,\"extra\":0,\"finish\":\"10:00\",\"hall\":\"A\",\"needs\":\"-\",\"paper\":\"MA-1\",\"session\":\"S1\",\"start\":\"09:00\"}]}"
-        ),
+        SEAT_IN_A,
     ),
     (
         LAST_DAY,
@@ -116,12 +118,12 @@ fn a_candidate_sees_their_seat_and_nobody_elses(rt: HostRuntime) -> Result<(), F
     exchange(&rt, ONE_SITS, SEATS)
 }
 
-const AGAINST_B: &str = posted!(
+pub const AGAINST_B: &str = posted!(
     65,
     "{\"hall\":\"B\",\"kind\":\"hall\",\"reason\":\"\",\"ref\":\"HA1\",\"session\":\"S1\"}"
 );
 
-const OPEN: &str = answered!("200 OK", 16, "{\"state\":\"open\"}");
+pub const OPEN: &str = answered!("200 OK", 16, "{\"state\":\"open\"}");
 
 const RETRACTED: &str = answered!("200 OK", 21, "{\"state\":\"retracted\"}");
 
@@ -198,13 +200,13 @@ fn an_appeal_is_lodged_once_and_taken_back_once(rt: HostRuntime) -> Result<(), F
 const SEAT_ASKED: &str =
     "GET /candidates/0000001/seats HTTP/1.1\r\nHost: office\r\nExam-Code: CODE0001\r\n";
 
-const BAD_HOST: &str = answered!("400 Bad Request", 12, "{\"error\":32}");
+pub const BAD_HOST: &str = answered!("400 Bad Request", 12, "{\"error\":32}");
 
 const BAD_LENGTH: &str = answered!("400 Bad Request", 12, "{\"error\":33}");
 
 const TOO_LARGE: &str = answered!("413 Content Too Large", 12, "{\"error\":34}");
 
-const BAD_BODY: &str = answered!("400 Bad Request", 12, "{\"error\":36}");
+pub const BAD_BODY: &str = answered!("400 Bad Request", 12, "{\"error\":36}");
 
 const HOSTILE: &[Exchange<'_>] = &[
     (
