@@ -4,30 +4,39 @@
 mod questions;
 mod relisting;
 
-use exam_school::{OPENED, add_fact, expect_answer, school_with};
+use exam_school::{OPENED, School, add_fact, expect_answer, school_with};
 use questions::answer;
 use relisting::relist_each;
 use std::alloc::Global;
 use std::test::Fail;
 
-/// Takes the lines of a story in turn.
-fn tell(alloc: Global, story: &str) -> Result<(), Fail> {
-    let mut school = school_with(alloc, &[OPENED])?;
-    for line in story.lines().skip(1) {
-        match line.split_once(" > ") {
-            Some((asked, wanted)) => {
-                let found = answer(alloc, &school.facts, asked)?;
-                expect_answer(found.as_str(), wanted, asked)?;
-            }
-            None => add_fact(alloc, &mut school, line)?,
+/// Adds the fact of a line, or asks its question.
+fn take(alloc: Global, school: &mut School, line: &str) -> Result<(), Fail> {
+    match line.split_once(" > ") {
+        Some((asked, wanted)) => {
+            let found = answer(alloc, &school.facts, asked)?;
+            expect_answer(found.as_str(), wanted, asked)
         }
+        None => add_fact(alloc, school, line),
+    }
+}
+
+/// Takes the lines of a story in turn.
+fn tell(alloc: Global, school: &mut School, story: &str) -> Result<(), Fail> {
+    for line in story.lines().skip(1) {
+        take(alloc, school, line)?;
     }
     Ok(())
 }
 
+fn tell_anew(alloc: Global, story: &str) -> Result<(), Fail> {
+    let mut school = school_with(alloc, &[OPENED])?;
+    tell(alloc, &mut school, story)
+}
+
 fn play(alloc: Global, text: &str) -> Result<(), Fail> {
     for story in text.split("# ").skip(1) {
-        tell(alloc, story)?;
+        tell_anew(alloc, story)?;
     }
     Ok(())
 }

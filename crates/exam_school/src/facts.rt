@@ -41,12 +41,12 @@ fn appeal_of(
     status: &str,
     words: &mut Words<'_>,
 ) -> Result<((Number, Reference), Appeal), Fail> {
-    let status = status_of(alloc, status)?;
     let key = appeal_key(words)?;
     let session = words.session()?;
     let subject = subject_of(words)?;
-    let reason = reason(alloc, b"")?;
     let lodged = Day::parse(b"2027-05-20").ok_or("day")?;
+    let reason = reason(alloc, b"")?;
+    let status = status_of(alloc, status)?;
     let appeal = Appeal {
         session,
         subject,
@@ -118,6 +118,13 @@ fn add_all(alloc: Global, school: &mut School, text: &str) -> Result<(), Fail> {
     Ok(())
 }
 
+fn add_texts(alloc: Global, school: &mut School, texts: &[&str]) -> Result<(), Fail> {
+    for text in texts {
+        add_all(alloc, school, text)?;
+    }
+    Ok(())
+}
+
 /// The school with these facts. Nobody is entered, and no hall is opened.
 pub fn school_with(alloc: Global, texts: &[&str]) -> Result<School, Fail> {
     let mut school = School {
@@ -125,8 +132,6 @@ pub fn school_with(alloc: Global, texts: &[&str]) -> Result<School, Fail> {
         seats: BTreeMap::new(alloc),
     };
     add_all(alloc, &mut school, SCHOOL)?;
-    for text in texts {
-        add_all(alloc, &mut school, text)?;
-    }
+    add_texts(alloc, &mut school, texts)?;
     Ok(school)
 }
