@@ -29,17 +29,29 @@ fn office_of(alloc: Global, texts: &[&str]) -> Result<Office, Fail> {
     Ok(Office::from_parts(alloc, facts, seats)?)
 }
 
+/// Takes a line: gives the command or asks the question, if it has an answer.
+fn take(alloc: Global, office: &mut Office, line: &str) -> Result<(), Fail> {
+    match line.split_once(" > ") {
+        Some((asked, wanted)) => {
+            let found = answer(alloc, office, asked)?;
+            expect_answer(found.as_str(), wanted, asked)
+        }
+        None => Ok(()),
+    }
+}
+
+fn take_all(alloc: Global, office: &mut Office, lines: &str) -> Result<(), Fail> {
+    for line in lines.lines() {
+        take(alloc, office, line)?;
+    }
+    Ok(())
+}
+
 /// Tells a story at an office that begins with these facts and those of the story.
 fn tell(alloc: Global, facts: &str, story: &str) -> Result<(), Fail> {
     let (_, lines) = story.split_once('\n').ok_or("story")?;
     let mut office = office_of(alloc, &[facts, lines])?;
-    for line in lines.lines() {
-        if let Some((asked, wanted)) = line.split_once(" > ") {
-            let found = answer(alloc, &mut office, asked)?;
-            expect_answer(found.as_str(), wanted, asked)?;
-        }
-    }
-    Ok(())
+    take_all(alloc, &mut office, lines)
 }
 
 /// Tells the stories of a text. These facts stand at the beginning of each.

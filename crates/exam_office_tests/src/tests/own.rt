@@ -1,7 +1,7 @@
 //! What a candidate sees of themselves: appeals, with whether each also holds for later sessions; and of each session
 //! the paper that they sit, its end in minutes, hall and desk, all their papers, and those that clash.
 use super::play;
-use exam_office::{Office, OwnSession};
+use exam_office::{Office, Own, OwnAppeal, OwnSession};
 use exam_school::{OPENED, code_or_dash};
 use exam_types::{Number, PaperCode};
 use std::alloc::Global;
@@ -19,6 +19,15 @@ fn push_codes(
     Ok(())
 }
 
+fn push_appeals(alloc: Global, text: &mut String, appeals: &[OwnAppeal]) -> Result<(), Fail> {
+    for appeal in appeals {
+        let reference = appeal.reference;
+        let standing = appeal.standing;
+        text.push_str(format!(in alloc; "{reference} {standing} ")?.as_str())?;
+    }
+    Ok(())
+}
+
 fn push_session(alloc: Global, text: &mut String, own: &OwnSession) -> Result<(), Fail> {
     let sitting = own.sitting;
     let end = own.finish.get();
@@ -30,21 +39,21 @@ fn push_session(alloc: Global, text: &mut String, own: &OwnSession) -> Result<()
     push_codes(alloc, text, "not", &own.clashes)
 }
 
-/// What the candidate sees in the office.
-pub fn own_text(alloc: Global, office: &Office, number: Number) -> Result<String, Fail> {
-    let Some(own) = office.own(alloc, number)? else {
-        return Ok(String::from_str(alloc, "nobody")?);
-    };
+fn text_of(alloc: Global, own: &Own) -> Result<String, Fail> {
     let mut text = String::new(alloc);
-    for appeal in &own.appeals {
-        let reference = appeal.reference;
-        let standing = appeal.standing;
-        text.push_str(format!(in alloc; "{reference} {standing} ")?.as_str())?;
-    }
+    push_appeals(alloc, &mut text, &own.appeals)?;
     for session in &own.sessions {
         push_session(alloc, &mut text, session)?;
     }
     Ok(text)
+}
+
+/// What the candidate sees in the office.
+pub fn own_text(alloc: Global, office: &Office, number: Number) -> Result<String, Fail> {
+    match office.own(alloc, number)? {
+        Some(own) => text_of(alloc, &own),
+        None => Ok(String::from_str(alloc, "nobody")?),
+    }
 }
 
 /// The first and the fifth sit MA-1, the second sits PH-2, and there is no desk for the third.

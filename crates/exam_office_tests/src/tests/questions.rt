@@ -49,16 +49,29 @@ fn obeyed(alloc: Global, office: &mut Office, line: &str) -> Result<String, Fail
     text_of(alloc, &reply)
 }
 
-/// What commands answer when they are run as one list; a semicolon after each answer.
-pub fn answers_of(alloc: Global, office: &mut Office, lines: &str) -> Result<String, Fail> {
-    let mut commands = Vec::new(alloc);
-    for line in lines.lines() {
-        commands.push(order_of(alloc, line)?)?;
-    }
+fn texts_of(alloc: Global, answers: &[Result<Reply, Refusal>]) -> Result<String, Fail> {
     let mut text = String::new(alloc);
-    for answer in &run(alloc, office, &commands)? {
+    for answer in answers {
         text.push_str(text_of(alloc, answer)?.as_str())?;
         text.push(';')?;
+    }
+    Ok(text)
+}
+
+/// What commands answer when they are run as one list; a semicolon after each answer.
+pub fn answers_of(
+    alloc: Global,
+    office: &mut Office,
+    commands: &[(Command, Day)],
+) -> Result<String, Fail> {
+    let answers = run(alloc, office, commands)?;
+    texts_of(alloc, answers.as_slice())
+}
+
+fn codes_of(alloc: Global, sessions: &[SessionCode]) -> Result<String, Fail> {
+    let mut text = String::new(alloc);
+    for code in sessions {
+        text.push_str(format!(in alloc; "{code} ")?.as_str())?;
     }
     Ok(text)
 }
@@ -66,11 +79,8 @@ pub fn answers_of(alloc: Global, office: &mut Office, lines: &str) -> Result<Str
 /// The codes of the sessions that a command touches.
 fn touched_by(alloc: Global, facts: &Facts, line: &str) -> Result<String, Fail> {
     let (command, _) = order_of(alloc, line)?;
-    let mut text = String::new(alloc);
-    for code in &touched(alloc, facts, &command)? {
-        text.push_str(format!(in alloc; "{code} ")?.as_str())?;
-    }
-    Ok(text)
+    let sessions = touched(alloc, facts, &command)?;
+    codes_of(alloc, sessions.as_slice())
 }
 
 /// Who sits in the session, each with their hall.

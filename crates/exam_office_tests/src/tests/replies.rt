@@ -1,11 +1,10 @@
 //! What imports answer, and how they are refused.
-use super::orders::push;
+use super::orders::{order_of, push};
 use super::questions::answers_of;
 use super::{office_of, play};
-use exam_office::{Import, Kind};
+use exam_office::{Import, Kind, Office};
 use exam_school::{OPENED, expect_same};
-use exam_types::Refusal;
-use std::process::Abort;
+use std::alloc::Global;
 use std::test::Fail;
 
 const REPLIES: &str = "\
@@ -36,26 +35,40 @@ fn replies(rt: HostRuntime) -> Result<(), Fail> {
     play(rt.alloc(), OPENED, REPLIES)
 }
 
+/// Imports two contents of one key.
+fn expect_conflict(alloc: Global, import: &mut Import) -> Result<(), Fail> {
+    push(alloc, import, "S1 A 1 12:00")??;
+    let pushed = push(alloc, import, "S1 A 2 12:00")?;
+    let count = import.rows().len();
+    let found = format!(in alloc; "{pushed:?} {count}")?;
+    expect_same(
+        found.as_str(),
+        "Err(RowConflict { record: 2 }) 1",
+        "openings",
+    )
+}
+
 #[test]
 fn a_key_with_two_contents_is_a_conflict(rt: HostRuntime) -> Result<(), Fail> {
     let mut import = Import::new(rt.alloc(), Kind::Openings);
-    push(rt.alloc(), &mut import, "S1 A 1 12:00")??;
-    let pushed = push(rt.alloc(), &mut import, "S1 A 2 12:00")?;
-    assert!(&rt; pushed == Err(Refusal::RowConflict { record: 2 }));
-    assert_eq!(&rt; import.rows().len(), 1usize);
-    Ok(())
+    expect_conflict(rt.alloc(), &mut import)
 }
 
-const COMMANDS: &str = "\
-import entries 1 MA-1
-import entries 1 XX
-import entries 1 MA-1
-";
+/// Runs three imports as one list.
+fn expect_answers(alloc: Global, office: &mut Office) -> Result<(), Fail> {
+    let known = order_of(alloc, "import entries 1 MA-1")?;
+    let unknown = order_of(alloc, "import entries 1 XX")?;
+    let again = order_of(alloc, "import entries 1 MA-1")?;
+    let found = answers_of(alloc, office, &[known, unknown, again])?;
+    expect_same(
+        found.as_str(),
+        "Imported 1 0 0;UnknownPaper;Imported 0 0 1;",
+        "list",
+    )
+}
 
 #[test]
 fn a_list_of_commands_answers_each(rt: HostRuntime) -> Result<(), Fail> {
     let mut office = office_of(rt.alloc(), &[OPENED])?;
-    let found = answers_of(rt.alloc(), &mut office, COMMANDS)?;
-    let wanted = "Imported 1 0 0;UnknownPaper;Imported 0 0 1;";
-    expect_same(found.as_str(), wanted, "three imports")
+    expect_answers(rt.alloc(), &mut office)
 }
