@@ -7,8 +7,10 @@ mod line_faults;
 mod outputs;
 mod seating;
 mod standing;
+mod theorem;
 
-use exam_scripts::{Step, expect_same, told};
+use exam_school::{PEOPLE, Step, TIMETABLE, expect_same};
+use exam_scripts::answer_to;
 use exam_store::Store;
 use sqlite::{Connection, MemStore};
 use std::alloc::Global;
@@ -18,16 +20,16 @@ use std::test::Fail;
 type InMemory = Connection<MemStore>;
 
 /// Takes a step. It is dear to prove, as each call that takes a connection in memory for one of any kind.
-fn told_in_memory(
+fn answer_in_memory(
     alloc: Global,
     conn: InMemory,
     line: &str,
     file: &[u8],
 ) -> (InMemory, Result<String, Fail>) {
-    told(alloc, conn, line, file)
+    answer_to(alloc, conn, line, file)
 }
 
-/// Takes a step, and compares what is told of it.
+/// Takes a step, and compares its answer.
 fn expect(
     alloc: Global,
     conn: InMemory,
@@ -35,9 +37,9 @@ fn expect(
     file: &[u8],
     wanted: &str,
 ) -> (InMemory, Result<(), Fail>) {
-    let (conn, told) = told_in_memory(alloc, conn, line, file);
-    let compared = match told {
-        Ok(told) => expect_same(told.as_str(), wanted, line),
+    let (conn, answer) = answer_in_memory(alloc, conn, line, file);
+    let compared = match answer {
+        Ok(answer) => expect_same(answer.as_str(), wanted, line),
         Err(fail) => Err(fail),
     };
     (conn, compared)
@@ -46,7 +48,7 @@ fn expect(
 /// Takes the step that stands behind a `$ `.
 fn expect_part(alloc: Global, conn: InMemory, part: &str) -> (InMemory, Result<(), Fail>) {
     match Step::parse(part) {
-        Some(step) => expect(alloc, conn, step.line, step.file.as_bytes(), step.told),
+        Some(step) => expect(alloc, conn, step.line, step.file.as_bytes(), step.answer),
         None => (conn, Err(Fail::new("step"))),
     }
 }
@@ -65,26 +67,21 @@ fn played(alloc: Global, conn: InMemory, day: &str) -> (InMemory, Result<(), Fai
     (conn, Ok(()))
 }
 
-/// Plays days in turn.
-fn all_played(alloc: Global, conn: InMemory, days: &[&str]) -> (InMemory, Result<(), Fail>) {
-    let mut conn = conn;
+/// The texts of these days as one, behind that of the base office: the school with its halls opened.
+fn text_of(alloc: Global, days: &[&str]) -> Result<String, Fail> {
+    let mut text = String::from_str(alloc, TIMETABLE)?;
+    text.push_str(PEOPLE)?;
     for day in days {
-        let (left, compared) = played(alloc, conn, day);
-        conn = left;
-        match compared {
-            Ok(()) => {}
-            Err(fail) => return (conn, Err(fail)),
-        }
+        text.push_str(day)?;
     }
-    (conn, Ok(()))
+    Ok(text)
 }
 
 /// The office in memory after the base day and these.
 fn office_after(alloc: Global, days: &[&str]) -> Result<InMemory, Fail> {
+    let text = text_of(alloc, days)?;
     let conn = Store::in_memory(alloc)?.close();
-    let (conn, compared) = all_played(alloc, conn, &[BASE]);
-    compared?;
-    let (conn, compared) = all_played(alloc, conn, days);
+    let (conn, compared) = played(alloc, conn, text.as_str());
     compared?;
     Ok(conn)
 }
@@ -94,68 +91,3 @@ fn play(rt: &HostRuntime, days: &[&str]) -> Result<(), Fail> {
     drop(office_after(rt.alloc(), days)?);
     Ok(())
 }
-
-/// One session with one paper, and two halls with a desk each.
-const BASE: &str = "\
-$ import sessions f
-session,date,start
-S1,2027-06-01,09:00
-> added 1 changed 0 same 0
-$ import papers f
-paper,title,session,minutes,requires
-MA-1,Maths,S1,60,-
-> added 1 changed 0 same 0
-$ import halls f
-hall,title,features
-A,Hall A,step-free
-B,Hall B,-
-> added 2 changed 0 same 0
-$ import openings f
-session,hall,desks,until,reserved
-S1,A,1,12:00,no
-S1,B,1,12:00,no
-> added 2 changed 0 same 0
-$ import candidates f
-number,name,code
-0000001,Bo Berg,CODE0001
-0000002,Ada Lin,CODE0002
-0000003,Cy Dahl,CODE0003
-0000004,Di Roe,CODE0004
-0000005,Ed Poe,CODE0005
-> added 5 changed 0 same 0
-";
-
-/// The first candidate sits in the hall of the least code.
-const FIRST_TAKES_A: &str = "\
-$ import entries f
-number,paper
-0000001,MA-1
-> added 1 changed 0 same 0
-$ door-list S1 A
-> DOOR LIST session S1 hall A
-date 2027-06-01 start 09:00 desks 1 seated 1
-   1 0000001 MA-1         Bo Berg
-$ door-list S1 B
-> DOOR LIST session S1 hall B
-date 2027-06-01 start 09:00 desks 1 seated 0
-";
-
-/// The second one needs that hall.
-const SECOND_NEEDS_A: &str = "\
-$ import arrangements f
-number,needs,extra
-0000002,step-free,0
-> added 1 changed 0 same 0
-$ import entries f
-number,paper
-0000002,MA-1
-> added 1 changed 0 same 0
-$ door-list S1 A
-> DOOR LIST session S1 hall A
-date 2027-06-01 start 09:00 desks 1 seated 1
-   1 0000002 MA-1         Ada Lin
-$ door-list S1 B
-> DOOR LIST session S1 hall B
-date 2027-06-01 start 09:00 desks 1 seated 1
-   1 0000001 MA-1         Bo Berg
-";

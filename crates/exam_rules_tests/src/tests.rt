@@ -1,151 +1,181 @@
-//! Small offices, and what the calls answer on them. A test is data: the facts, and what must hold for them. So only a
-//! few functions own facts, and each is proved once.
+//! Small offices, and what the calls answer on them, as texts that are played. A text has stories, each behind `# ` and
+//! its name. The lines of a story are facts, which are added to those of the school, and questions of session S1 with
+//! their answers. So only a few functions own facts, and each is proved once.
+mod questions;
 mod relisting;
-mod scenes;
-mod setups;
-mod standing;
 
-use exam_rules::{clashes, problem, sitting};
-use exam_types::Refusal;
-use relisting::{Turn, relist_each};
-use scenes::{Scene, play};
-use setups::{Fact, Grant, number, school_with, session};
+use exam_school::{OPENED, School, add_fact, expect_answer, school_with};
+use questions::answer;
+use relisting::relist_each;
+use std::alloc::Global;
 use std::test::Fail;
 
-#[test]
-fn a_quarter_more_of_ninety_minutes_ends_at_ten_fifty_three(rt: HostRuntime) -> Result<(), Fail> {
-    let facts = [
-        Fact::Paper("MA-1", 90, "-"),
-        Fact::Hall("A", "-", 653),
-        Fact::Hall("B", "-", 652),
-        Fact::Entered(1, "MA-1"),
-        Fact::Arrangement(1, "-", 25),
-    ];
-    let scenes = [
-        Scene::Finish(1, 653),
-        Scene::Fits(1, "A", true),
-        Scene::Fits(1, "B", false),
-    ];
-    play(&rt, &facts, &scenes)
+/// Adds the fact of a line, or asks its question.
+fn take(alloc: Global, school: &mut School, line: &str) -> Result<(), Fail> {
+    match line.split_once(" > ") {
+        Some((asked, wanted)) => {
+            let found = answer(alloc, &school.facts, asked)?;
+            expect_answer(found.as_str(), wanted, asked)
+        }
+        None => add_fact(alloc, school, line),
+    }
 }
 
-#[test]
-fn a_granted_clash_appeal_turns_the_clash(rt: HostRuntime) -> Result<(), Fail> {
-    let facts = [
-        Fact::Paper("PH-2", 60, "computer"),
-        Fact::Entered(3, "MA-1"),
-        Fact::Entered(3, "PH-2"),
-        Fact::Entered(4, "PH-2"),
-    ];
-    let scenes = [
-        Scene::Sits(3, "MA-1"),
-        Scene::Clash(3, "PH-2"),
-        Scene::Fact(Fact::Granted(3, "R1", "S2", Grant::Paper("PH-2"))),
-        Scene::Sits(3, "MA-1"),
-        Scene::Fact(Fact::Granted(3, "R1", "S1", Grant::Paper("PH-2"))),
-        Scene::Sits(3, "PH-2"),
-        Scene::Clash(3, "MA-1"),
-    ];
-    play(&rt, &facts, &scenes)
-}
-
-#[test]
-fn a_granted_arrangement_takes_the_place_of_the_imported_one(rt: HostRuntime) -> Result<(), Fail> {
-    let scenes = [
-        Scene::InForce(1, "-", 0),
-        Scene::Fact(Fact::Arrangement(1, "screen", 25)),
-        Scene::InForce(1, "screen", 25),
-        Scene::Fact(Fact::Granted(1, "R1", "S1", Grant::Needs("-", 50))),
-        Scene::InForce(1, "-", 50),
-    ];
-    play(&rt, &[Fact::Entered(1, "MA-1")], &scenes)
-}
-
-#[test]
-fn a_granted_hall_appeal_bars_the_hall(rt: HostRuntime) -> Result<(), Fail> {
-    let scenes = [
-        Scene::Fits(1, "B", true),
-        Scene::Fact(Fact::Granted(1, "R1", "S1", Grant::AnotherHallThan("B"))),
-        Scene::Fits(1, "B", false),
-        Scene::Fits(1, "A", true),
-    ];
-    play(&rt, &[Fact::Entered(1, "MA-1")], &scenes)
-}
-
-#[test]
-fn desks_are_in_order_of_papers(rt: HostRuntime) -> Result<(), Fail> {
-    let facts = [
-        Fact::Paper("AB-0", 60, "-"),
-        Fact::Entered(1, "MA-1"),
-        Fact::Entered(2, "AB-0"),
-        Fact::Arrangement(2, "step-free", 0),
-    ];
-    let scenes = [
-        Scene::Listed(&[1, 2], 2),
-        Scene::Row(0, &[0, 1], 1),
-        Scene::Row(1, &[0], 0),
-    ];
-    play(&rt, &facts, &scenes)
-}
-
-#[test]
-fn copies_of_facts_are_equal(rt: HostRuntime) -> Result<(), Fail> {
-    let facts = [
-        Fact::Entered(1, "MA-1"),
-        Fact::Granted(1, "R1", "S1", Grant::AnotherHallThan("B")),
-        Fact::Marked(1, "R1"),
-    ];
-    let facts = school_with(rt.alloc(), &facts)?;
-    let copy = facts.clone()?;
-    assert!(rt; copy.papers == facts.papers);
-    assert!(rt; copy.halls == facts.halls);
-    assert!(rt; copy.candidates == facts.candidates);
-    assert!(rt; copy.appeals == facts.appeals);
-    assert!(rt; copy.standing == facts.standing);
+/// Takes the lines of a story in turn.
+fn tell(alloc: Global, school: &mut School, story: &str) -> Result<(), Fail> {
+    for line in story.lines().skip(1) {
+        take(alloc, school, line)?;
+    }
     Ok(())
 }
 
-#[test]
-fn an_unknown_session_is_refused(rt: HostRuntime) -> Result<(), Fail> {
-    let facts = school_with(rt.alloc(), &[])?;
-    let unknown = session("S9")?;
-    assert!(rt; sitting(&facts, &unknown, number(1)?).is_none());
-    let refusal = problem(rt.alloc(), &facts, &unknown).err();
-    assert_eq!(rt; refusal, Some(Refusal::UnknownSession));
-    let refusal = clashes(rt.alloc(), &facts, &unknown).err();
-    assert_eq!(rt; refusal, Some(Refusal::UnknownSession));
+fn tell_anew(alloc: Global, story: &str) -> Result<(), Fail> {
+    let mut school = school_with(alloc, &[OPENED])?;
+    tell(alloc, &mut school, story)
+}
+
+fn play(alloc: Global, text: &str) -> Result<(), Fail> {
+    for story in text.split("# ").skip(1) {
+        tell_anew(alloc, story)?;
+    }
     Ok(())
 }
+
+const RULES: &str = "\
+# a quarter more of ninety minutes ends at 10:53
+paper MA-1 S1 90 -
+hall A -
+opening S1 A 1 10:53
+opening S1 B 1 10:52
+entry 1 MA-1
+arrangement 1 - 25
+finish 1 > 653
+fits 1 A > true
+fits 1 B > false
+# a granted clash appeal turns the clash
+paper PH-2 S1 60 computer
+entry 3 MA-1
+entry 3 PH-2
+entry 4 PH-2
+sits 3 > MA-1
+clashes > 3 PH-2
+granted 3 R1 S2 clash PH-2
+sits 3 > MA-1
+granted 3 R1 S1 clash PH-2
+sits 3 > PH-2
+clashes > 3 MA-1
+# a granted arrangement takes the place of the imported one
+entry 1 MA-1
+in-force 1 > - 0
+arrangement 1 screen 25
+in-force 1 > screen 25
+granted 1 R1 S1 arrangement - 50
+in-force 1 > - 50
+# a granted hall appeal bars the hall
+entry 1 MA-1
+fits 1 B > true
+granted 1 R1 S1 hall B
+fits 1 B > false
+fits 1 A > true
+# desks are in order of papers
+paper AB-0 S1 60 -
+entry 1 MA-1
+entry 2 AB-0
+arrangement 2 step-free 0
+listed > 1 true 2 true halls 2
+row 0 > 0 1 rank 1
+row 1 > 0 rank 0
+# an unknown session is refused
+refusals S9 1 > Some(UnknownSession) Some(UnknownSession) true
+";
+
+#[test]
+fn rules_by_example(rt: HostRuntime) -> Result<(), Fail> {
+    play(rt.alloc(), RULES)
+}
+
+/// Arrangements that were granted for one session and also hold for later ones. In the first story the one appeal of
+/// candidate 1 bears no mark at first, and the mark of candidate 1 has no appeal.
+const STANDING: &str = "\
+# a marked grant counts for a later session
+session S0 2027-05-31
+entry 1 MA-1
+standing 1 AR9
+standing 2 AR1
+granted 1 AR1 S0 arrangement screen 25
+in-force 1 > - 0
+finish 1 > 600
+fits 1 A > true
+standing 1 AR1
+in-force 1 > screen 25
+finish 1 > 615
+fits 1 A > false
+# a standing grant counts from its date on
+session S2 2027-06-02
+entry 1 MA-1
+arrangement 1 - 5
+granted 1 AR1 S2 arrangement - 25
+standing 1 AR1
+in-force 1 > - 5
+session S2 2027-06-01
+in-force 1 > - 25
+session S2 2027-05-20
+in-force 1 > - 25
+# the latest date and then the greater code decides
+session S0 2027-05-31
+session S2 2027-05-30
+session S3 2027-05-31
+entry 1 MA-1
+granted 1 AR1 S2 arrangement - 20
+standing 1 AR1
+granted 1 AR2 S0 arrangement - 30
+in-force 1 > - 20
+standing 1 AR2
+in-force 1 > - 30
+granted 1 AR0 S3 arrangement - 40
+standing 1 AR0
+in-force 1 > - 40
+# the own grant of the session comes first
+session S0 2027-05-31
+entry 1 MA-1
+arrangement 1 - 5
+granted 1 AR1 S0 arrangement - 25
+standing 1 AR1
+in-force 1 > - 25
+granted 1 AR2 S1 arrangement - 50
+in-force 1 > - 50
+superseded 1 AR2 S1 arrangement - 50
+in-force 1 > - 25
+superseded 1 AR1 S0 arrangement - 25
+in-force 1 > - 5
+";
+
+#[test]
+fn standing_grants(rt: HostRuntime) -> Result<(), Fail> {
+    play(rt.alloc(), STANDING)
+}
+
+/// The paper ZZ-9 is of no session, so nobody is listed.
+const NOBODY_LISTED: &str = "\
+paper AB-0 S1 60 -
+entry 1 ZZ-9
+entry 2 ZZ-9
+entry 3 ZZ-9
+";
+
+/// An entry that is set in each turn, and who is listed then. 9 is nobody's number.
+const TURNS: &str = "\
+entry 2 MA-1 > 2 MA-1
+entry 1 MA-1 > 1 MA-1 2 MA-1
+entry 3 MA-1 > 1 MA-1 2 MA-1 3 MA-1
+entry 2 AB-0 > 1 MA-1 2 AB-0 3 MA-1
+withdrawn 2 MA-1 > 1 MA-1 2 AB-0 3 MA-1
+withdrawn 2 AB-0 > 1 MA-1 3 MA-1
+entry 2 MA-1 > 1 MA-1 2 MA-1 3 MA-1
+entry 9 MA-1 > 1 MA-1 2 MA-1 3 MA-1
+";
 
 #[test]
 fn one_entry_set_is_listed_as_all_anew(rt: HostRuntime) -> Result<(), Fail> {
-    // The paper ZZ-9 is of no session, so nobody is listed at first. 4 is nobody's number.
-    let facts = [
-        Fact::Paper("AB-0", 60, "-"),
-        Fact::Entered(1, "ZZ-9"),
-        Fact::Entered(2, "ZZ-9"),
-        Fact::Entered(3, "ZZ-9"),
-    ];
-    let all = [(1, "MA-1"), (2, "MA-1"), (3, "MA-1")];
-    let other = [(1, "MA-1"), (2, "AB-0"), (3, "MA-1")];
-    let turns = [
-        turn(2, "MA-1", true, &[(2, "MA-1")]),
-        turn(1, "MA-1", true, &[(1, "MA-1"), (2, "MA-1")]),
-        turn(3, "MA-1", true, &all),
-        turn(2, "AB-0", true, &other),
-        turn(2, "MA-1", false, &other),
-        turn(2, "AB-0", false, &[(1, "MA-1"), (3, "MA-1")]),
-        turn(2, "MA-1", true, &all),
-        turn(4, "MA-1", true, &all),
-    ];
-    relist_each(&rt, &facts, &[], &turns)
-}
-
-fn turn<'a>(number: u32, paper: &'a str, live: bool, listed: &'a [(u32, &'a str)]) -> Turn<'a> {
-    Turn {
-        number,
-        paper,
-        live,
-        listed,
-    }
+    relist_each(rt.alloc(), NOBODY_LISTED, TURNS)
 }

@@ -1,15 +1,16 @@
 //! Commands of the program.
 use crate::faults::{Output, Source};
-use crate::steps::dated;
-use exam_job::run_job;
+use exam_job::{print_line_fault, run_job};
 use exam_line::{Line, parse_line};
+use exam_school::dated;
 use exam_store::Store;
 use sqlite::Alter;
 use std::alloc::{AllocError, Global};
 use std::str;
 use std::test::Fail;
 
-fn words_of(alloc: Global, line: &str, day: &str) -> Result<Vec<String>, AllocError> {
+/// The words of a command line of the program.
+pub fn words_of(alloc: Global, line: &str, day: &str) -> Result<Vec<String>, AllocError> {
     let mut words = Vec::new(alloc);
     for word in ["examoffice", "--db", "f", "--today", day] {
         words.push(String::from_str(alloc, word)?)?;
@@ -20,7 +21,7 @@ fn words_of(alloc: Global, line: &str, day: &str) -> Result<Vec<String>, AllocEr
     Ok(words)
 }
 
-/// A command, and its import file, of whose fault the line tells behind it.
+/// A command, and its import file. The fault of the file is named behind the command.
 fn source_of<'a>(line: &'a str, file: &'a [u8]) -> Result<(&'a str, Source<'a>), Fail> {
     match line.split_once(" failing after ") {
         Some((line, count)) => Ok((line, Source::torn(file, count.parse()?))),
@@ -28,7 +29,7 @@ fn source_of<'a>(line: &'a str, file: &'a [u8]) -> Result<(&'a str, Source<'a>),
     }
 }
 
-/// A command, and its standard output, of whose fault the line tells behind it.
+/// A command, and its standard output. The fault of the output is named behind the command.
 fn output_of(alloc: Global, line: &str) -> Result<(&str, Output), Fail> {
     if let Some((line, room)) = line.split_once(" with room for ") {
         return Ok((line, Output::with_room(alloc, room.parse()?)));
@@ -62,7 +63,7 @@ fn run_words<S: Alter>(
     let mut err = Vec::new(alloc);
     let status = match parse_line(alloc, words) {
         Ok(line) => run_line(alloc, store, line, source, out, &mut err),
-        Err(_) => 2,
+        Err(fault) => print_line_fault(&fault, out, &mut err),
     };
     marked(alloc, status, out.taken(), err.as_slice())
 }

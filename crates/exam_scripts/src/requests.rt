@@ -1,6 +1,6 @@
 //! Candidates' requests to the server.
-use crate::steps::dated;
 use exam_http::serve_one;
+use exam_school::dated;
 use exam_store::Store;
 use exam_types::Day;
 use sqlite::Alter;
@@ -8,16 +8,21 @@ use std::alloc::Global;
 use std::str;
 use std::test::Fail;
 
-/// The last four digits of the candidate's number in a target such as `/candidates/0000001/appeals`. The candidate's
-/// access code is then `CODE0001`.
-fn digits_of(line: &str) -> Option<&str> {
+/// The request of a line, and the last four digits of the access code that it shows: of the code behind `as`, or else of
+/// the candidate's number in a target such as `/candidates/0000001/appeals`.
+fn parts_of(line: &str) -> Option<(&str, &str)> {
+    if let Some(parts) = line.split_once(" as CODE") {
+        return Some(parts);
+    }
     let (_, target) = line.split_once("/candidates/000")?;
     let (digits, _) = target.split_once('/')?;
-    Some(digits)
+    Some((line, digits))
 }
 
 /// The bytes of a candidate's request with this body.
-fn request_of(alloc: Global, line: &str, digits: &str, body: &str) -> Result<String, Fail> {
+pub fn request_of(alloc: Global, line: &str, body: &str) -> Result<String, Fail> {
+    let (line, digits) = parts_of(line).ok_or("target")?;
+    let body = body.trim_end();
     let length = body.len();
     Ok(format!(in alloc;
         "{line} HTTP/1.0\r\nExam-Code: CODE{digits}\r\nContent-Length: {length}\r\n\r\n{body}"
@@ -60,8 +65,7 @@ pub fn ask<S: Alter>(
 ) -> Result<String, Fail> {
     let (line, day) = dated(line);
     let today = Day::parse(day.as_bytes()).ok_or("day")?;
-    let digits = digits_of(line).ok_or("target")?;
-    let request = request_of(alloc, line, digits, body.trim_end())?;
+    let request = request_of(alloc, line, body)?;
     let answer = served(alloc, store, today, request.as_str())?;
     marked_body(alloc, answer.as_slice())
 }

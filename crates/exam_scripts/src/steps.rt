@@ -1,4 +1,4 @@
-//! The steps of a text.
+//! Steps at a closed office.
 use crate::commands::run;
 use crate::requests::ask;
 use crate::tables::{all_shown, shown};
@@ -9,56 +9,20 @@ use std::alloc::Global;
 use std::str;
 use std::test::Fail;
 
-/// A step of a text: a command, the lines below it, and what is told of it.
-#[derive(Clone, Copy)]
-pub struct Step<'a> {
-    pub line: &'a str,
-    pub file: &'a str,
-    pub told: &'a str,
-}
-
-impl Step<'_> {
-    /// The step that stands behind a `$ `.
-    pub fn parse(part: &str) -> Option<Step<'_>> {
-        let (line, rest) = part.split_once('\n')?;
-        let file = file_of(rest);
-        let told = rest.strip_prefix(file)?;
-        Some(Step { line, file, told })
-    }
-}
-
-/// The lines below a command up to what is told.
-fn file_of(rest: &str) -> &str {
-    for mark in ["> ", "! ", "? "] {
-        if let Some((file, _)) = rest.split_once(mark) {
-            return file;
-        }
-    }
-    rest
-}
-
-/// Compares what was told at a place with what its text says.
-pub fn expect_same(found: &str, wanted: &str, place: &str) -> Result<(), Fail> {
-    if found == wanted {
-        return Ok(());
-    }
-    Err(Fail::new(format_args!("{place}: {found} in place of {wanted}")))
-}
-
-/// Takes a command, a request or a statement at the closed office. Gives what is told of it.
-pub fn told<S: Alter>(
+/// Takes a command, a request or a statement at the closed office. Gives what is printed or answered.
+pub fn answer_to<S: Alter>(
     alloc: Global,
     mut conn: Connection<S>,
     line: &str,
     file: &[u8],
 ) -> (Connection<S>, Result<String, Fail>) {
-    let told = match line {
+    let answer = match line {
         "sql" => shown(alloc, &mut conn, file),
         "tables" => all_shown(alloc, &mut conn),
         "migrate" => migrated(alloc, &mut conn),
         _ => return answered(alloc, conn, line, file),
     };
-    (conn, told)
+    (conn, answer)
 }
 
 /// Brings the office over a connection to the newest version. Gives what the program prints.
@@ -109,8 +73,8 @@ fn closed_after<S: Alter>(
     line: &str,
     file: &[u8],
 ) -> (Connection<S>, Result<String, Fail>) {
-    let told = printed(alloc, &mut store, line, file);
-    (store.close(), told)
+    let answer = printed(alloc, &mut store, line, file);
+    (store.close(), answer)
 }
 
 /// Asks the server or runs a command. Gives what is answered or printed.
@@ -124,12 +88,4 @@ fn printed<S: Alter>(
         return ask(alloc, store, line, str::from_utf8(file)?);
     }
     run(alloc, store, line, file)
-}
-
-/// The day of a command that names none.
-const MAY_1: &str = "2027-05-01";
-
-/// A command, and its day, which may be named behind it.
-pub fn dated(line: &str) -> (&str, &str) {
-    line.split_once(" on ").unwrap_or((line, MAY_1))
 }

@@ -1,5 +1,5 @@
 //! Two files in memory, the log and the database, which fail after so many calls, and offices over them.
-use exam_scripts::{Step, expect_same, told};
+use exam_scripts::{Step, answer_to, expect_same};
 use sqlite::{Connection, FileStore, Files, Options};
 use sqlite_disk::{Crash, Disk, Fuse, Memory};
 use std::alloc::Global;
@@ -46,7 +46,7 @@ fn told_over<D: Disk + Drop>(
     line: &str,
     file: &str,
 ) -> (Connection<FileStore<D>>, Result<String, Fail>) {
-    told(alloc, conn, line, file.as_bytes())
+    answer_to(alloc, conn, line, file.as_bytes())
 }
 
 /// Takes a step, and closes the files.
@@ -191,7 +191,7 @@ fn after(alloc: Global, files: Files<Fused>, day: &str) -> Result<Files<Fused>, 
     for part in day.split("$ ").skip(1) {
         let step = Step::parse(part).ok_or("step")?;
         let left = taken(alloc, files, step.line, step.file)?;
-        expect_same(left.told.as_str(), step.told, step.line)?;
+        expect_same(left.told.as_str(), step.answer, step.line)?;
         files = left.files;
     }
     Ok(files)

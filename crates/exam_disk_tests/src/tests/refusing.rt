@@ -37,7 +37,7 @@ fn files_behind(
 ) -> Result<Files<Fused>, Fail> {
     let files = same(alloc, files)?;
     let left = taken(alloc, files, step.line, step.file)?;
-    expect_same(left.told.as_str(), step.told, step.line)?;
+    expect_same(left.told.as_str(), step.answer, step.line)?;
     Ok(left.files)
 }
 
@@ -78,7 +78,7 @@ fn expect_fault(step: &Step<'_>, told: &str) -> Result<(), Fail> {
     if is_fault(told) {
         return Ok(());
     }
-    expect_same(told, step.told, step.line)
+    expect_same(told, step.answer, step.line)
 }
 
 /// The tables are those after the step, or if it was not answered those before it. The same step is then answered as it
@@ -97,7 +97,7 @@ fn expect_seen(
         return expect_same(again, course.after.again.as_str(), place);
     }
     expect_same(rows, course.before.as_str(), place)?;
-    expect_same(again, step.told, place)
+    expect_same(again, step.answer, place)
 }
 
 /// The files hold the tables before the step or after all of it.
@@ -125,7 +125,7 @@ fn expect_each(
     place: &str,
     ways: &[Unsynced],
 ) -> Result<(), Fail> {
-    let is_answered = left.told.as_str() == step.told;
+    let is_answered = left.told.as_str() == step.answer;
     let remains = remains_of(alloc, left.files)?;
     for way in ways {
         let place = format!(in alloc; "{place}, {way:?}")?;

@@ -1,44 +1,16 @@
 //! Files that are imported into an office in memory, and sheets of its session S1, as texts that are played.
 //!
-//! In a text `$ ` begins a file of a kind or the words of a sheet. The lines below are the file. The answer to its
-//! import, or the sheet, follows `> `, and the refusal follows `! `.
+//! In a text `$ ` begins an import or a sheet, and the lines below are the imported file. The answer to the import, or
+//! the sheet, follows `> `, and the refusal follows `! `.
 use super::sheets::write_sheet;
 use super::slow::Slow;
 use exam_files::{SheetFault, read_import};
 use exam_office::{Command, Kind, Office, Reply, SessionView, step};
+use exam_school::{PEOPLE, Step, TIMETABLE, expect_same};
 use exam_types::{Day, Refusal, SessionCode};
 use std::alloc::Global;
-use std::process::Abort;
 use std::str;
 use std::test::Fail;
-
-/// One session with one paper, two halls with a desk each, and three candidates.
-pub const BASE: &str = "\
-$ sessions
-session,date,start
-S1,2027-06-01,09:00
-> added 1 changed 0 same 0
-$ papers
-paper,title,session,minutes,requires
-MA-1,Maths,S1,60,-
-> added 1 changed 0 same 0
-$ halls
-hall,title,features
-A,Hall A,step-free
-B,Hall B,-
-> added 2 changed 0 same 0
-$ openings
-session,hall,desks,until,reserved
-S1,A,1,12:00,no
-S1,B,1,12:00,no
-> added 2 changed 0 same 0
-$ candidates
-number,name,code
-0000001,Bo Berg,CODE0001
-0000002,Ada Lin,CODE0002
-0000003,Cy Dahl,CODE0003
-> added 3 changed 0 same 0
-";
 
 pub fn session() -> Option<SessionCode> {
     SessionCode::parse(b"S1")
@@ -47,13 +19,13 @@ pub fn session() -> Option<SessionCode> {
 /// The kind of a file, unless these are the words of a sheet.
 fn kind_of(line: &str) -> Option<Kind> {
     match line {
-        "sessions" => Some(Kind::Sessions),
-        "papers" => Some(Kind::Papers),
-        "halls" => Some(Kind::Halls),
-        "openings" => Some(Kind::Openings),
-        "candidates" => Some(Kind::Candidates),
-        "entries" => Some(Kind::Entries),
-        "arrangements" => Some(Kind::Arrangements),
+        "import sessions f" => Some(Kind::Sessions),
+        "import papers f" => Some(Kind::Papers),
+        "import halls f" => Some(Kind::Halls),
+        "import openings f" => Some(Kind::Openings),
+        "import candidates f" => Some(Kind::Candidates),
+        "import entries f" => Some(Kind::Entries),
+        "import arrangements f" => Some(Kind::Arrangements),
         _ => None,
     }
 }
@@ -119,39 +91,33 @@ fn sheet(alloc: Global, office: &Office, line: &str) -> Result<String, Fail> {
     }
 }
 
-/// Imports a file or writes a sheet, and returns the text of the answer.
-fn told(alloc: Global, office: &mut Office, line: &str, file: &str) -> Result<String, Fail> {
-    let told = match kind_of(line) {
-        Some(kind) => imported(alloc, office, kind, file.as_bytes())?,
-        None => sheet(alloc, office, line)?,
-    };
-    Ok(format!(in alloc; "{line}\n{file}{told}")?)
-}
-
-/// The lines below the first, up to the answer.
-fn file_of(rest: &str) -> &str {
-    match (rest.split_once("> "), rest.split_once("! ")) {
-        (Some((file, _)), _) | (None, Some((file, _))) => file,
-        (None, None) => rest,
+/// Imports a file or writes a sheet.
+fn answer_to(alloc: Global, office: &mut Office, line: &str, file: &str) -> Result<String, Fail> {
+    match kind_of(line) {
+        Some(kind) => imported(alloc, office, kind, file.as_bytes()),
+        None => sheet(alloc, office, line),
     }
 }
 
 /// Plays a text at the office, and compares the answers with it.
-pub fn played<R: Abort + AllocGlobal>(rt: &R, office: &mut Office, text: &str) -> Result<(), Fail> {
+pub fn played(alloc: Global, office: &mut Office, text: &str) -> Result<(), Fail> {
     for part in text.split("$ ").skip(1) {
-        let (line, rest) = part.split_once('\n').ok_or("line")?;
-        let told = told(rt.alloc(), office, line, file_of(rest))?;
-        assert_eq!(rt; told.as_str(), part);
+        let step = Step::parse(part).ok_or("step")?;
+        let answer = answer_to(alloc, office, step.line, step.file)?;
+        expect_same(answer.as_str(), step.answer, step.line)?;
     }
     Ok(())
 }
 
-/// Plays texts in turn at the base office.
-pub fn play<R: Abort + AllocGlobal>(rt: &R, texts: &[&str]) -> Result<(), Fail> {
-    let mut office = Office::empty(rt.alloc());
-    played(rt, &mut office, BASE)?;
-    for text in texts {
-        played(rt, &mut office, text)?;
-    }
-    Ok(())
+/// The school with its halls opened.
+pub fn school(alloc: Global) -> Result<Office, Fail> {
+    let mut office = Office::empty(alloc);
+    played(alloc, &mut office, TIMETABLE)?;
+    played(alloc, &mut office, PEOPLE)?;
+    Ok(office)
+}
+
+/// Plays a text at the school.
+pub fn play(alloc: Global, text: &str) -> Result<(), Fail> {
+    played(alloc, &mut school(alloc)?, text)
 }

@@ -1,11 +1,12 @@
 //! Each sheet, whole to writers that take much or a byte at a time, and cut off when a writer fails.
-use super::office::{BASE, play, played, session, taken, view_of};
+use super::office::{play, played, school, session, taken, view_of};
 use super::slow::Slow;
 use exam_files::{
     SheetFault, appeal_register, attendance, clash_list, door_list, export_seats, shortage_sheet,
 };
-use exam_office::{Command, Lodging, Office, SessionView};
+use exam_office::{Command, Lodging, SessionView};
 use exam_rules::Subject;
+use exam_school::expect_same;
 use exam_types::{HallCode, Number, PaperCode, Reason, Reference};
 use std::alloc::Global;
 use std::process::Abort;
@@ -13,15 +14,15 @@ use std::test::Fail;
 
 /// 0000002 needs hall A, so 0000001 sits in hall B. 0000003 is unseated and has a clash.
 const ENTERED: &str = "\
-$ papers
+$ import papers f
 paper,title,session,minutes,requires
 PH-2,Physics,S1,60,-
 > added 1 changed 0 same 0
-$ arrangements
+$ import arrangements f
 number,needs,extra
 0000002,step-free,0
 > added 1 changed 0 same 0
-$ entries
+$ import entries f
 number,paper
 0000001,MA-1
 0000002,MA-1
@@ -33,7 +34,7 @@ number,paper
 /// The words of each sheet of that session, in which 0000001 appeals against hall B, and its text.
 const SHEETS: &[(&str, &str)] = &[
     (
-        "door-list A",
+        "door-list S1 A",
         "\
 DOOR LIST session S1 hall A
 date 2027-06-01 start 09:00 desks 1 seated 1
@@ -41,7 +42,7 @@ date 2027-06-01 start 09:00 desks 1 seated 1
 ",
     ),
     (
-        "attendance MA-1",
+        "attendance S1 MA-1",
         "\
 ATTENDANCE session S1 paper MA-1
 date 2027-06-01 start 09:00 candidates 3
@@ -51,7 +52,7 @@ date 2027-06-01 start 09:00 candidates 3
 ",
     ),
     (
-        "clashes",
+        "clashes S1",
         "\
 CLASHES session S1
 date 2027-06-01 clashes 1
@@ -59,7 +60,7 @@ date 2027-06-01 clashes 1
 ",
     ),
     (
-        "shortage",
+        "shortage S1",
         "\
 SHORTAGE session S1
 unseated 1
@@ -73,7 +74,7 @@ candidates 3
 ",
     ),
     (
-        "appeals",
+        "appeals S1",
         "\
 APPEALS session S1
 appeals 1
@@ -81,7 +82,7 @@ appeals 1
 ",
     ),
     (
-        "export",
+        "export S1",
         "\
 session,number,paper,hall,desk
 S1,0000001,MA-1,B,1
@@ -98,7 +99,7 @@ pub fn write_sheet(
     line: &str,
     out: &mut Slow,
 ) -> Result<Result<(), SheetFault>, Fail> {
-    let (word, code) = line.split_once(' ').unwrap_or((line, ""));
+    let (word, code) = line.split_once(" S1 ").unwrap_or((line, ""));
     Ok(match word {
         "door-list" => {
             let hall = HallCode::parse(code.as_bytes()).ok_or("hall")?;
@@ -108,10 +109,10 @@ pub fn write_sheet(
             let paper = PaperCode::parse(code.as_bytes()).ok_or("paper")?;
             attendance(alloc, view, &paper, out)
         }
-        "clashes" => clash_list(alloc, view, out),
-        "shortage" => shortage_sheet(alloc, view, out),
-        "appeals" => appeal_register(alloc, view, out),
-        "export" => export_seats(alloc, view, out),
+        "clashes S1" => clash_list(alloc, view, out),
+        "shortage S1" => shortage_sheet(alloc, view, out),
+        "appeals S1" => appeal_register(alloc, view, out),
+        "export S1" => export_seats(alloc, view, out),
         _ => return Err(Fail::new("no sheet")),
     })
 }
@@ -160,21 +161,18 @@ fn lodging(alloc: Global) -> Result<Lodging, Fail> {
 }
 
 /// The session that the sheets show.
-fn view<R: Abort + AllocGlobal>(rt: &R) -> Result<SessionView, Fail> {
-    let mut office = Office::empty(rt.alloc());
-    played(rt, &mut office, BASE)?;
-    played(rt, &mut office, ENTERED)?;
-    let lodge = Command::Lodge(lodging(rt.alloc())?);
-    assert_eq!(rt;
-        taken(rt.alloc(), &mut office, &lodge)?.as_str(),
-        "> done\n"
-    );
-    view_of(rt.alloc(), &office)
+fn view(alloc: Global) -> Result<SessionView, Fail> {
+    let mut office = school(alloc)?;
+    played(alloc, &mut office, ENTERED)?;
+    let lodge = Command::Lodge(lodging(alloc)?);
+    let answer = taken(alloc, &mut office, &lodge)?;
+    expect_same(answer.as_str(), "> done\n", "appeal")?;
+    view_of(alloc, &office)
 }
 
 #[test]
 fn each_sheet_is_cut_where_its_writer_fails(rt: HostRuntime) -> Result<(), Fail> {
-    let view = view(&rt)?;
+    let view = view(rt.alloc())?;
     for (line, text) in SHEETS {
         expect_sheet(&rt, &view, line, text.as_bytes())?;
     }
@@ -184,73 +182,73 @@ fn each_sheet_is_cut_where_its_writer_fails(rt: HostRuntime) -> Result<(), Fail>
 /// A session with nobody in it. There is no sheet of a paper of another session, of a closed hall, or of an unknown
 /// hall.
 const NOBODY: &str = "\
-$ sessions
+$ import sessions f
 session,date,start
 S2,2027-06-02,09:00
 > added 1 changed 0 same 0
-$ papers
+$ import papers f
 paper,title,session,minutes,requires
 MB-1,Maths,S2,60,-
 > added 1 changed 0 same 0
-$ halls
+$ import halls f
 hall,title,features
 C,Hall C,-
 HALL2027,Aula,-
 > added 2 changed 0 same 0
-$ openings
+$ import openings f
 session,hall,desks,until,reserved
 S1,HALL2027,2000,12:00,no
 > added 1 changed 0 same 0
-$ door-list HALL2027
+$ door-list S1 HALL2027
 > DOOR LIST session S1 hall HALL2027
 date 2027-06-01 start 09:00 desks 2000 seated 0
-$ attendance MA-1
+$ attendance S1 MA-1
 > ATTENDANCE session S1 paper MA-1
 date 2027-06-01 start 09:00 candidates 0
-$ clashes
+$ clashes S1
 > CLASHES session S1
 date 2027-06-01 clashes 0
-$ shortage
+$ shortage S1
 > SHORTAGE session S1
 unseated 0
 halls 0 desks 0
 candidates 0
-$ appeals
+$ appeals S1
 > APPEALS session S1
 appeals 0
-$ export
+$ export S1
 > session,number,paper,hall,desk
-$ attendance MB-1
+$ attendance S1 MB-1
 ! refused 5
-$ attendance XX-1
+$ attendance S1 XX-1
 ! refused 5
-$ door-list C
+$ door-list S1 C
 ! refused 25
-$ door-list D
+$ door-list S1 D
 ! refused 7
 ";
 
 #[test]
 fn sheets_of_an_empty_session_have_their_headings(rt: HostRuntime) -> Result<(), Fail> {
-    play(&rt, &[NOBODY])
+    play(rt.alloc(), NOBODY)
 }
 
 /// The code of a paper that fills its column, and desks ordered by the paper before the number.
 const DESKS: &str = "\
-$ papers
+$ import papers f
 paper,title,session,minutes,requires
 NBCDEFGH-123,Latin,S1,60,-
 > added 1 changed 0 same 0
-$ openings
+$ import openings f
 session,hall,desks,until,reserved
 S1,A,1000,12:00,no
 > added 0 changed 1 same 0
-$ entries
+$ import entries f
 number,paper
 0000002,NBCDEFGH-123
 0000003,MA-1
 > added 2 changed 0 same 0
-$ door-list A
+$ door-list S1 A
 > DOOR LIST session S1 hall A
 date 2027-06-01 start 09:00 desks 1000 seated 2
    1 0000003 MA-1         Cy Dahl
@@ -259,5 +257,5 @@ date 2027-06-01 start 09:00 desks 1000 seated 2
 
 #[test]
 fn occupants_are_listed_by_desk(rt: HostRuntime) -> Result<(), Fail> {
-    play(&rt, &[DESKS])
+    play(rt.alloc(), DESKS)
 }

@@ -111,7 +111,7 @@ fn number_of(answer: Result<(), SheetFault>) -> u16 {
 }
 
 #[test]
-fn a_source_that_gives_another_count_is_told(rt: HostRuntime) -> Result<(), Fail> {
+fn a_source_that_gives_another_count_is_refused(rt: HostRuntime) -> Result<(), Fail> {
     for (given, end, count, wanted, length, left) in GIVEN {
         let mut source = Careless {
             left: *given,

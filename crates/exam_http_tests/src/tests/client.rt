@@ -1,6 +1,6 @@
 //! A client of the server that is slow, and may fail.
-use super::office::day_of;
 use exam_http::{HttpFault, serve_one};
+use exam_school::Words;
 use exam_store::Store;
 use sqlite::MemStore;
 use std::alloc::Global;
@@ -62,6 +62,12 @@ pub fn serve(
         taken: Vec::new(alloc),
         most,
     };
-    let served = serve_one(alloc, store, day_of(on)?, &mut request, &mut answer);
+    let served = serve_one(
+        alloc,
+        store,
+        Words::of(on).day()?,
+        &mut request,
+        &mut answer,
+    );
     Ok((served, answer.taken))
 }

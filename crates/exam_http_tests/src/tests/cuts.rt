@@ -1,21 +1,17 @@
 //! Requests that fail at each of their bytes, and answers that are cut off at each of theirs.
 use super::client::{Giving, serve};
-use super::exchanges::{LAST_DAY, LODGED, ONE_APPEAL, expect_answer};
-use super::office::{FIRST_IN_A, FIRST_IN_B, office_with};
+use super::exchanges::{
+    AGAINST_B, BAD_BODY, BAD_HOST, LAST_DAY, LODGED, ONE_APPEAL, OPEN, SEAT_IN_A, UNKNOWN,
+    expect_answer,
+};
+use super::office::office_with;
 use exam_http::HttpFault;
+use exam_school::{ONE_SITS, TWO_SIT};
 use exam_store::Store;
 use sqlite::MemStore;
 use std::alloc::Global;
 use std::process::Abort;
 use std::test::Fail;
-
-const POSTING: &[u8] =
-    b"POST /candidates/0000001/appeals HTTP/1.1\r\nHost: office\r\nExam-Code: CODE0001\r\n\
-Content-Length: 65\r\n\r\n{\"hall\":\"B\",\"kind\":\"hall\",\"reason\":\"\",\"ref\":\"HA1\",\
-\"session\":\"S1\"}";
-
-const ANSWER: &[u8] = b"HTTP/1.1 200 OK\r\nContent-Type: application/json\r\nContent-Length: 16\r\n\
-Connection: close\r\n\r\n{\"state\":\"open\"}";
 
 /// More bytes than an answer has.
 const UNLIMITED: usize = 1_000_000;
@@ -79,8 +75,8 @@ fn expect_unwritten<R: Abort + AllocGlobal>(
 
 #[test]
 fn a_posting_that_is_cut_changes_nothing(rt: HostRuntime) -> Result<(), Fail> {
-    let mut store = office_with(rt.alloc(), FIRST_IN_B)?;
-    expect_unread(&rt, &mut store, POSTING)?;
+    let mut store = office_with(rt.alloc(), TWO_SIT)?;
+    expect_unread(&rt, &mut store, AGAINST_B.as_bytes())?;
     assert_eq!(rt; appeal_count(store)?, 0);
     Ok(())
 }
@@ -88,10 +84,11 @@ fn a_posting_that_is_cut_changes_nothing(rt: HostRuntime) -> Result<(), Fail> {
 /// The appeal is posted again when it is too late to lodge a new one. Then the answer is lost after each of its bytes.
 #[test]
 fn an_appeal_stands_whose_answer_is_cut(rt: HostRuntime) -> Result<(), Fail> {
-    let mut store = office_with(rt.alloc(), FIRST_IN_B)?;
-    expect_cut(&rt, &mut store, (POSTING, ANSWER), 10)?;
+    let mut store = office_with(rt.alloc(), TWO_SIT)?;
+    let exchange = (AGAINST_B.as_bytes(), OPEN.as_bytes());
+    expect_cut(&rt, &mut store, exchange, 10)?;
     expect_answer(&rt, &mut store, LODGED)?;
-    expect_unwritten(&rt, &mut store, (POSTING, ANSWER))?;
+    expect_unwritten(&rt, &mut store, exchange)?;
     expect_answer(&rt, &mut store, ONE_APPEAL)?;
     assert_eq!(rt; appeal_count(store)?, 1);
     Ok(())
@@ -99,35 +96,22 @@ fn an_appeal_stands_whose_answer_is_cut(rt: HostRuntime) -> Result<(), Fail> {
 
 /// Requests that are answered with rows, with refusals or with faults.
 const REQUESTS: &[(&str, &str)] = &[
-    (
-        asked!("GET /candidates/0000001/seats"),
-        answered!(
-            "200 OK",
-            138,
-            "{\"seats\":[{\"date\":\"2027-06-01\",\"desk\":1,\"extra\":0,\"finish\":\"10:00\",\"hall\":\"A\",\"needs\":\"-\",\"paper\":\"MA-1\",\"session\":\"S1\",\"start\":\"09:00\"}]}"
-        ),
-    ),
+    (asked!("GET /candidates/0000001/seats"), SEAT_IN_A),
     (
         asked!("DELETE /candidates/0000001/appeals/HA1"),
         answered!("404 Not Found", 12, "{\"error\":15}"),
     ),
-    (
-        asked!("GET /candidates/9999999/seats"),
-        answered!("404 Not Found", 11, "{\"error\":6}"),
-    ),
+    (asked!("GET /candidates/9999999/seats"), UNKNOWN),
     (
         "GET /candidates/0000001/seats HTTP/1.1\r\nExam-Code: CODE0001\r\n\r\n",
-        answered!("400 Bad Request", 12, "{\"error\":32}"),
+        BAD_HOST,
     ),
-    (
-        posted!(2, "{}"),
-        answered!("400 Bad Request", 12, "{\"error\":36}"),
-    ),
+    (posted!(2, "{}"), BAD_BODY),
 ];
 
 #[test]
 fn each_read_and_each_write_may_fail(rt: HostRuntime) -> Result<(), Fail> {
-    let mut store = office_with(rt.alloc(), FIRST_IN_A)?;
+    let mut store = office_with(rt.alloc(), ONE_SITS)?;
     for (request, answer) in REQUESTS {
         expect_unread(&rt, &mut store, request.as_bytes())?;
         expect_unwritten(&rt, &mut store, (request.as_bytes(), answer.as_bytes()))?;

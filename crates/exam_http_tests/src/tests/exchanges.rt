@@ -1,7 +1,7 @@
 //! Requests in turn, each read at once and then byte by byte, with each answer byte for byte.
 use super::client::{Giving, serve};
-use super::office::{FIRST_IN_A, FIRST_IN_B, office_with};
-use exam_office::Kind;
+use super::office::office_with;
+use exam_school::{ONE_SITS, TWO_SIT};
 use exam_store::Store;
 use sqlite::MemStore;
 use std::process::Abort;
@@ -39,13 +39,13 @@ pub fn expect_answer<R: Abort + AllocGlobal>(
     Ok(())
 }
 
-/// Makes the requests in turn, after these imports.
+/// Makes the requests in turn, at the school with these rows.
 fn exchange<R: Abort + AllocGlobal>(
     rt: &R,
-    imports: &[(Kind, &str)],
+    rows: &str,
     exchanges: &[Exchange<'_>],
 ) -> Result<(), Fail> {
-    let mut store = office_with(rt.alloc(), imports)?;
+    let mut store = office_with(rt.alloc(), rows)?;
     for asked in exchanges {
         expect_answer(rt, &mut store, *asked)?;
     }
@@ -53,21 +53,23 @@ fn exchange<R: Abort + AllocGlobal>(
 }
 
 /// The answer for an unknown candidate and to a wrong code, of 108 bytes.
-const UNKNOWN: &str = answered!("404 Not Found", 11, "{\"error\":6}");
+pub const UNKNOWN: &str = answered!("404 Not Found", 11, "{\"error\":6}");
 
 const OTHER_ROUTE: &str = answered!("404 Not Found", 12, "{\"error\":37}");
 
 const BAD_HEAD: &str = answered!("400 Bad Request", 12, "{\"error\":31}");
 
+pub const SEAT_IN_A: &str = answered!(
+    "200 OK",
+    138,
+    "{\"seats\":[{\"date\":\"2027-06-01\",\"desk\":1,\"extra\":0,\"finish\":\"10:00\",\"hall\":\"A\",\"needs\":\"-\",\"paper\":\"MA-1\",\"session\":\"S1\",\"start\":\"09:00\"}]}"
+);
+
 const SEATS: &[Exchange<'_>] = &[
     (
         LAST_DAY,
         &[(asked!("GET /candidates/0000001/seats"), 1)],
-        answered!(
-            "200 OK",
-            138,
-            "{\"seats\":[{\"date\":\"2027-06-01\",\"desk\":1,\"extra\":0,\"finish\":\"10:00\",\"hall\":\"A\",\"needs\":\"-\",\"paper\":\"MA-1\",\"session\":\"S1\",\"start\":\"09:00\"}]}"
-        ),
+        SEAT_IN_A,
     ),
     (
         LAST_DAY,
@@ -113,15 +115,15 @@ const SEATS: &[Exchange<'_>] = &[
 #[test]
 fn a_candidate_sees_their_seat_and_nobody_elses(rt: HostRuntime) -> Result<(), Fail> {
     assert_eq!(rt; UNKNOWN.len(), 108);
-    exchange(&rt, FIRST_IN_A, SEATS)
+    exchange(&rt, ONE_SITS, SEATS)
 }
 
-const AGAINST_B: &str = posted!(
+pub const AGAINST_B: &str = posted!(
     65,
     "{\"hall\":\"B\",\"kind\":\"hall\",\"reason\":\"\",\"ref\":\"HA1\",\"session\":\"S1\"}"
 );
 
-const OPEN: &str = answered!("200 OK", 16, "{\"state\":\"open\"}");
+pub const OPEN: &str = answered!("200 OK", 16, "{\"state\":\"open\"}");
 
 const RETRACTED: &str = answered!("200 OK", 21, "{\"state\":\"retracted\"}");
 
@@ -191,20 +193,20 @@ const APPEALS: &[Exchange<'_>] = &[
 
 #[test]
 fn an_appeal_is_lodged_once_and_taken_back_once(rt: HostRuntime) -> Result<(), Fail> {
-    exchange(&rt, FIRST_IN_B, APPEALS)
+    exchange(&rt, TWO_SIT, APPEALS)
 }
 
 /// The request for a seat up to the line of the code; an empty line after it would make it complete.
 const SEAT_ASKED: &str =
     "GET /candidates/0000001/seats HTTP/1.1\r\nHost: office\r\nExam-Code: CODE0001\r\n";
 
-const BAD_HOST: &str = answered!("400 Bad Request", 12, "{\"error\":32}");
+pub const BAD_HOST: &str = answered!("400 Bad Request", 12, "{\"error\":32}");
 
 const BAD_LENGTH: &str = answered!("400 Bad Request", 12, "{\"error\":33}");
 
 const TOO_LARGE: &str = answered!("413 Content Too Large", 12, "{\"error\":34}");
 
-const BAD_BODY: &str = answered!("400 Bad Request", 12, "{\"error\":36}");
+pub const BAD_BODY: &str = answered!("400 Bad Request", 12, "{\"error\":36}");
 
 const HOSTILE: &[Exchange<'_>] = &[
     (
@@ -301,7 +303,7 @@ const HOSTILE: &[Exchange<'_>] = &[
 
 #[test]
 fn hostile_requests_are_refused(rt: HostRuntime) -> Result<(), Fail> {
-    exchange(&rt, FIRST_IN_A, HOSTILE)
+    exchange(&rt, ONE_SITS, HOSTILE)
 }
 
 /// 8,192 bytes without an empty line. The server looks for one after each byte: this takes minutes under `rt try`.
@@ -313,5 +315,5 @@ const LONG_HEAD: &[Exchange<'_>] = &[(
 
 #[test]
 fn a_head_that_does_not_end_is_too_large(rt: HostRuntime) -> Result<(), Fail> {
-    exchange(&rt, FIRST_IN_A, LONG_HEAD)
+    exchange(&rt, ONE_SITS, LONG_HEAD)
 }

@@ -1,6 +1,7 @@
 //! Appeals that candidates post to the server, what the office decides of them, and who moves then.
+use super::play;
 use super::seating::TWO_PAPERS_AT_ONCE;
-use super::{FIRST_TAKES_A, SECOND_NEEDS_A, play};
+use exam_school::{FIRST_TAKES_A, SECOND_NEEDS_A};
 use std::test::Fail;
 
 /// The first candidate sits in hall B, and hall A does not come free.

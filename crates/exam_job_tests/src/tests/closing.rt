@@ -83,7 +83,7 @@ $ withdraw 0000001 MA-1
 ";
 
 #[test]
-fn entries_that_cannot_be_withdrawn_or_reinstated_are_told(rt: HostRuntime) -> Result<(), Fail> {
+fn entries_that_cannot_be_withdrawn_or_reinstated_are_refused(rt: HostRuntime) -> Result<(), Fail> {
     play(&rt, &[NOT_ENTERED])
 }
 
@@ -101,6 +101,6 @@ $ door-list S1 C
 ";
 
 #[test]
-fn an_unknown_hall_is_told_from_one_that_is_not_opened(rt: HostRuntime) -> Result<(), Fail> {
+fn an_unknown_hall_is_refused_unlike_one_that_is_not_opened(rt: HostRuntime) -> Result<(), Fail> {
     play(&rt, &[UNKNOWN])
 }

@@ -62,7 +62,7 @@ fn refused_imports_keep_no_row(rt: HostRuntime) -> Result<(), Fail> {
     play(&rt, &[REFUSED, NOTHING_KEPT])
 }
 
-/// Runs an import of bytes at the base office, and compares what is told of it.
+/// Runs an import of bytes at the base office, and compares its answer.
 fn expect_refused(rt: &HostRuntime, line: &str, file: &[u8], wanted: &str) -> Result<(), Fail> {
     let conn = office_after(rt.alloc(), &[])?;
     let (conn, compared) = expect(rt.alloc(), conn, line, file, wanted);

@@ -1,5 +1,6 @@
 //! The rows that the tables hold after commands.
-use super::{FIRST_TAKES_A, SECOND_NEEDS_A, play};
+use super::play;
+use exam_school::{FIRST_TAKES_A, SECOND_NEEDS_A};
 use std::test::Fail;
 
 /// Each kind, with keys that are new and keys that are there, and values at the ends of their ranges.

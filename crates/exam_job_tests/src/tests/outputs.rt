@@ -1,5 +1,6 @@
 //! An import file and a standard output that fail, and reads that are interrupted.
-use super::{FIRST_TAKES_A, play};
+use super::play;
+use exam_school::FIRST_TAKES_A;
 use std::test::Fail;
 
 const FILE: &str = "\

@@ -1,5 +1,6 @@
 //! Who sits where after imports, withdrawals and a smaller hall, and the sheets that say so.
-use super::{FIRST_TAKES_A, SECOND_NEEDS_A, play};
+use super::play;
+use exam_school::{FIRST_TAKES_A, SECOND_NEEDS_A};
 use std::test::Fail;
 
 #[test]

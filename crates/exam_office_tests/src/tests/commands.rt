@@ -1,99 +1,62 @@
 //! What withdrawals, reinstatements and closed halls answer, and who sits where after them.
-use super::lines::Line;
-use super::scenes::{Order, Scene, Story, play};
-use super::setups::{Fact, Sitting};
-use exam_office::Kind;
+use super::play;
 use std::test::Fail;
 
 /// The halls A, with one desk, and B, with two, are opened, and C is not. Three of five candidates are entered.
-const ENTERED: &[Fact<'static>] = &[
-    Fact::School,
-    Fact::Row(Line::Hall("C", "-")),
-    Fact::Row(Line::Opening("S1", "A", 1)),
-    Fact::Row(Line::Opening("S1", "B", 2)),
-    Fact::Row(Line::Entry(1, "MA-1")),
-    Fact::Row(Line::Entry(2, "MA-1")),
-    Fact::Row(Line::Entry(3, "MA-1")),
-];
+const ENTERED: &str = "\
+hall C -
+opening S1 A 1 12:00
+opening S1 B 2 12:00
+entry 1 MA-1
+entry 2 MA-1
+entry 3 MA-1
+seat S1 1 A
+seat S1 2 B
+seat S1 3 B
+";
 
-const SEATED: &[Sitting<'static>] = &[("S1", 1, "A"), ("S1", 2, "B"), ("S1", 3, "B")];
+const OBEYED: &str = "\
+# a withdrawal unseats the one it names
+withdraw 9 XX > UnknownCandidate
+withdraw 1 XX > UnknownPaper
+withdraw 4 MA-1 > NoEntry
+withdraw 1 MA-1 > Withdrawn
+entry 1 MA-1 > withdrawn
+seats S1 > 2 B 3 B
+withdraw 1 MA-1 > AlreadyWithdrawn
+# a reinstated candidate is seated again
+withdraw 1 MA-1 > Withdrawn
+reinstate 9 XX > UnknownCandidate
+reinstate 1 XX > UnknownPaper
+reinstate 4 MA-1 > NoEntry
+reinstate 2 MA-1 > NotWithdrawn
+reinstate 1 MA-1 > Reinstated
+seats S1 > 1 A 2 B 3 B
+# a closed hall unseats where no desk is free
+close-hall S9 Z > UnknownSession
+close-hall S1 Z > UnknownHall
+close-hall S1 C > HallNotOpened
+close-hall S1 A > Closed
+seats S1 > 2 B 3 B
+close-hall S1 A > HallNotOpened
+# a closed hall moves where a desk is free
+withdraw 3 MA-1 > Withdrawn
+close-hall S1 A > Closed
+seats S1 > 1 B 2 B
+";
 
-const WITHDRAWAL: Order<'static> = Order::Withdraw(1, "MA-1");
-
-const REINSTATEMENT: Order<'static> = Order::Reinstate(4_097, "MA-1");
-
-const CLOSING: Order<'static> = Order::CloseHall("S1", "A");
-
-const STORIES: &[Story<'static>] = &[
-    Story {
-        name: "a withdrawal unseats the one it names",
-        facts: ENTERED,
-        sittings: SEATED,
-        scenes: &[
-            Scene::Order(Order::Withdraw(9, "XX"), "UnknownCandidate"),
-            Scene::Order(Order::Withdraw(1, "XX"), "UnknownPaper"),
-            Scene::Order(Order::Withdraw(4, "MA-1"), "NoEntry"),
-            Scene::Order(WITHDRAWAL, "Withdrawn"),
-            Scene::IsWithdrawn(1, "MA-1"),
-            Scene::Seats("S1", &[(1, "-"), (2, "B"), (3, "B")]),
-            Scene::Order(WITHDRAWAL, "AlreadyWithdrawn"),
-        ],
-    },
-    Story {
-        name: "a reinstated candidate is seated again",
-        facts: ENTERED,
-        sittings: SEATED,
-        scenes: &[
-            Scene::Order(WITHDRAWAL, "Withdrawn"),
-            Scene::Order(Order::Reinstate(9, "XX"), "UnknownCandidate"),
-            Scene::Order(Order::Reinstate(1, "XX"), "UnknownPaper"),
-            Scene::Order(Order::Reinstate(4, "MA-1"), "NoEntry"),
-            Scene::Order(Order::Reinstate(2, "MA-1"), "NotWithdrawn"),
-            Scene::Order(Order::Reinstate(1, "MA-1"), "Reinstated"),
-            Scene::Seats("S1", &[(1, "A"), (2, "B"), (3, "B")]),
-        ],
-    },
-    Story {
-        name: "nobody is reinstated past the most members of a session",
-        facts: &[
-            Fact::School,
-            Fact::Rows(Kind::Candidates, 1, 4_098),
-            Fact::Rows(Kind::Entries, 1, 4_097),
-            Fact::Withdrawn(4_097, "MA-1"),
-        ],
-        sittings: &[],
-        scenes: &[
-            Scene::Order(REINSTATEMENT, "TooMany"),
-            Scene::Order(Order::Withdraw(4_096, "MA-1"), "Withdrawn"),
-            Scene::Order(REINSTATEMENT, "Reinstated"),
-        ],
-    },
-    Story {
-        name: "a closed hall unseats where no desk is free",
-        facts: ENTERED,
-        sittings: SEATED,
-        scenes: &[
-            Scene::Order(Order::CloseHall("S9", "Z"), "UnknownSession"),
-            Scene::Order(Order::CloseHall("S1", "Z"), "UnknownHall"),
-            Scene::Order(Order::CloseHall("S1", "C"), "HallNotOpened"),
-            Scene::Order(CLOSING, "Closed"),
-            Scene::Seats("S1", &[(1, "-"), (2, "B"), (3, "B")]),
-            Scene::Order(CLOSING, "HallNotOpened"),
-        ],
-    },
-    Story {
-        name: "a closed hall moves where a desk is free",
-        facts: ENTERED,
-        sittings: SEATED,
-        scenes: &[
-            Scene::Order(Order::Withdraw(3, "MA-1"), "Withdrawn"),
-            Scene::Order(CLOSING, "Closed"),
-            Scene::Seats("S1", &[(1, "B"), (2, "B"), (3, "-")]),
-        ],
-    },
-];
+const FULL: &str = "\
+# nobody is reinstated past the most members of a session
+1..4098 candidate *
+1..4097 entry * MA-1
+withdrawn 4097 MA-1
+reinstate 4097 MA-1 > TooMany
+withdraw 4096 MA-1 > Withdrawn
+reinstate 4097 MA-1 > Reinstated
+";
 
 #[test]
 fn withdrawals_reinstatements_and_closed_halls(rt: HostRuntime) -> Result<(), Fail> {
-    play(&rt, STORIES)
+    play(rt.alloc(), ENTERED, OBEYED)?;
+    play(rt.alloc(), "", FULL)
 }

@@ -1,117 +1,41 @@
 //! Each limit can be reached, but not passed: one import reaches it, and the next would pass it.
-use super::lines::Line;
-use super::scenes::{Order, Scene, Story, play};
-use super::setups::Fact;
-use exam_office::Kind;
+use super::play;
 use std::test::Fail;
 
-const STORIES: &[Story<'static>] = &[
-    Story {
-        name: "the most sessions",
-        facts: &[Fact::Rows(Kind::Sessions, 0, 399)],
-        sittings: &[],
-        scenes: &[
-            Scene::Order(
-                Order::Import(Kind::Sessions, &[Line::Session("T1")]),
-                "Imported 1 0 0",
-            ),
-            Scene::Order(
-                Order::Import(Kind::Sessions, &[Line::Session("T2")]),
-                "TooMany",
-            ),
-        ],
-    },
-    // One paper exists already.
-    Story {
-        name: "the most papers",
-        facts: &[Fact::School, Fact::Rows(Kind::Papers, 0, 1_998)],
-        sittings: &[],
-        scenes: &[
-            Scene::Order(
-                Order::Import(Kind::Papers, &[Line::Paper("T1", "S1", "-")]),
-                "Imported 1 0 0",
-            ),
-            Scene::Order(
-                Order::Import(Kind::Papers, &[Line::Paper("T2", "S1", "-")]),
-                "TooMany",
-            ),
-        ],
-    },
-    // Two halls exist already.
-    Story {
-        name: "the most halls",
-        facts: &[Fact::School, Fact::Rows(Kind::Halls, 0, 497)],
-        sittings: &[],
-        scenes: &[
-            Scene::Order(
-                Order::Import(Kind::Halls, &[Line::Hall("T1", "-")]),
-                "Imported 1 0 0",
-            ),
-            Scene::Order(
-                Order::Import(Kind::Halls, &[Line::Hall("T2", "-")]),
-                "TooMany",
-            ),
-        ],
-    },
-    Story {
-        name: "the most openings of a session",
-        facts: &[
-            Fact::School,
-            Fact::Row(Line::Opening("S1", "A", 1)),
-            Fact::Row(Line::Opening("S1", "B", 1)),
-            Fact::Rows(Kind::Halls, 0, 255),
-            Fact::Rows(Kind::Openings, 0, 253),
-        ],
-        sittings: &[],
-        scenes: &[
-            Scene::Order(
-                Order::Import(Kind::Openings, &[Line::Opening("S1", "H253", 1)]),
-                "Imported 1 0 0",
-            ),
-            Scene::Order(
-                Order::Import(Kind::Openings, &[Line::Opening("S1", "H254", 1)]),
-                "TooMany",
-            ),
-        ],
-    },
-    Story {
-        name: "the most candidates",
-        facts: &[Fact::Rows(Kind::Candidates, 1, 20_000)],
-        sittings: &[],
-        scenes: &[
-            Scene::Order(
-                Order::Import(Kind::Candidates, &[Line::Candidate(20_000)]),
-                "Imported 1 0 0",
-            ),
-            Scene::Order(
-                Order::Import(Kind::Candidates, &[Line::Candidate(20_001)]),
-                "TooMany",
-            ),
-        ],
-    },
-    Story {
-        name: "the most members of a session",
-        facts: &[
-            Fact::Row(Line::Session("S1")),
-            Fact::Row(Line::Paper("MA-1", "S1", "-")),
-            Fact::Rows(Kind::Candidates, 1, 4_098),
-            Fact::Rows(Kind::Entries, 1, 4_096),
-        ],
-        sittings: &[],
-        scenes: &[
-            Scene::Order(
-                Order::Import(Kind::Entries, &[Line::Entry(4_096, "MA-1")]),
-                "Imported 1 0 0",
-            ),
-            Scene::Order(
-                Order::Import(Kind::Entries, &[Line::Entry(4_097, "MA-1")]),
-                "TooMany",
-            ),
-        ],
-    },
-];
+/// One session, one paper, two halls and five candidates exist already, and among the sessions and the candidates of a
+/// story they are counted once.
+const LIMITS: &str = "\
+# the most sessions
+0..399 session S* 2027-06-01
+import sessions T1 2027-06-01 > Imported 1 0 0
+import sessions T2 2027-06-01 > TooMany
+# the most papers
+0..1998 paper P* S1 60 -
+import papers T1 S1 60 - > Imported 1 0 0
+import papers T2 S1 60 - > TooMany
+# the most halls
+0..497 hall H* -
+import halls T1 - > Imported 1 0 0
+import halls T2 - > TooMany
+# the most openings of a session
+opening S1 A 1 12:00
+opening S1 B 1 12:00
+0..255 hall H* -
+0..253 opening S1 H* 1 12:00
+import openings S1 H253 1 12:00 > Imported 1 0 0
+import openings S1 H254 1 12:00 > TooMany
+# the most candidates
+1..20000 candidate *
+import candidates 20000 > Imported 1 0 0
+import candidates 20001 > TooMany
+# the most members of a session
+1..4098 candidate *
+1..4096 entry * MA-1
+import entries 4096 MA-1 > Imported 1 0 0
+import entries 4097 MA-1 > TooMany
+";
 
 #[test]
 fn limits(rt: HostRuntime) -> Result<(), Fail> {
-    play(&rt, STORIES)
+    play(rt.alloc(), "", LIMITS)
 }

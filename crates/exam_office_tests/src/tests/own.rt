@@ -1,174 +1,96 @@
-//! What a candidate sees of themselves.
-use super::lines::{Line, number, paper};
-use super::setups::{Fact, Grant, OPENED, Sitting, office_of};
-use exam_office::{Own, OwnSession};
-use exam_types::{HallCode, PaperCode};
+//! What a candidate sees of themselves: appeals, with whether each also holds for later sessions; and of each session
+//! the paper that they sit, its end in minutes, hall and desk, all their papers, and those that clash.
+use super::play;
+use exam_office::{Office, Own, OwnAppeal, OwnSession};
+use exam_school::{OPENED, code_or_dash};
+use exam_types::{Number, PaperCode};
 use std::alloc::Global;
 use std::test::Fail;
 
-/// A session as its member should see it; each sits a paper of an hour from 09:00.
-#[derive(Clone, Copy)]
-struct Seen<'a> {
-    papers: &'a [&'a str],
-    sitting: &'a str,
-    clashes: &'a [&'a str],
-    /// `-` means no hall.
-    hall: &'a str,
-    desk: Option<u32>,
+fn push_codes(
+    alloc: Global,
+    text: &mut String,
+    word: &str,
+    codes: &[PaperCode],
+) -> Result<(), Fail> {
+    for code in codes {
+        text.push_str(format!(in alloc; "{word} {code} ")?.as_str())?;
+    }
+    Ok(())
 }
 
-/// What a candidate should see in an office of these facts and plans.
-struct Case<'a> {
-    facts: &'a [Fact<'a>],
-    sittings: &'a [Sitting<'a>],
-    number: u32,
-    seen: &'a [Seen<'a>],
-    appeals: usize,
+fn push_appeals(alloc: Global, text: &mut String, appeals: &[OwnAppeal]) -> Result<(), Fail> {
+    for appeal in appeals {
+        let reference = appeal.reference;
+        let standing = appeal.standing;
+        text.push_str(format!(in alloc; "{reference} {standing} ")?.as_str())?;
+    }
+    Ok(())
 }
 
-const MATHS: Seen<'static> = Seen {
-    papers: &["MA-1"],
-    sitting: "MA-1",
-    clashes: &[],
-    hall: "-",
-    desk: None,
-};
+fn push_session(alloc: Global, text: &mut String, own: &OwnSession) -> Result<(), Fail> {
+    let sitting = own.sitting;
+    let end = own.finish.get();
+    let hall = code_or_dash(&own.hall);
+    let desk = own.desk;
+    let line = format!(in alloc; "sits {sitting} until {end} in {hall} {desk:?} ")?;
+    text.push_str(line.as_str())?;
+    push_codes(alloc, text, "of", &own.papers)?;
+    push_codes(alloc, text, "not", &own.clashes)
+}
+
+fn text_of(alloc: Global, own: &Own) -> Result<String, Fail> {
+    let mut text = String::new(alloc);
+    push_appeals(alloc, &mut text, &own.appeals)?;
+    for session in &own.sessions {
+        push_session(alloc, &mut text, session)?;
+    }
+    Ok(text)
+}
+
+/// What the candidate sees in the office.
+pub fn own_text(alloc: Global, office: &Office, number: Number) -> Result<String, Fail> {
+    match office.own(alloc, number)? {
+        Some(own) => text_of(alloc, &own),
+        None => Ok(String::from_str(alloc, "nobody")?),
+    }
+}
 
 /// The first and the fifth sit MA-1, the second sits PH-2, and there is no desk for the third.
-const SEATED: &[Fact<'static>] = &[
-    Fact::School,
-    Fact::Row(Line::Opening("S1", "A", 2)),
-    Fact::Row(Line::Opening("S1", "B", 1)),
-    Fact::Row(Line::Paper("PH-2", "S1", "-")),
-    Fact::Row(Line::Entry(1, "MA-1")),
-    Fact::Row(Line::Entry(2, "PH-2")),
-    Fact::Row(Line::Entry(3, "MA-1")),
-    Fact::Row(Line::Entry(5, "MA-1")),
-    Fact::Lodged(1, "HA1", Grant::AnotherHallThan("B")),
-];
-
-const SEATS: &[Sitting<'static>] = &[("S1", 1, "B"), ("S1", 2, "A"), ("S1", 5, "A")];
-
-/// Members see their desks; a candidate who is a member of no session sees none. A granted clash changes the paper that
-/// is sat.
-const CASES: &[Case<'static>] = &[
-    Case {
-        facts: SEATED,
-        sittings: SEATS,
-        number: 1,
-        seen: &[Seen {
-            hall: "B",
-            desk: Some(1),
-            ..MATHS
-        }],
-        appeals: 1,
-    },
-    Case {
-        facts: SEATED,
-        sittings: SEATS,
-        number: 2,
-        seen: &[Seen {
-            papers: &["PH-2"],
-            sitting: "PH-2",
-            clashes: &[],
-            hall: "A",
-            desk: Some(2),
-        }],
-        appeals: 0,
-    },
-    Case {
-        facts: SEATED,
-        sittings: SEATS,
-        number: 3,
-        seen: &[MATHS],
-        appeals: 0,
-    },
-    Case {
-        facts: SEATED,
-        sittings: SEATS,
-        number: 5,
-        seen: &[Seen {
-            hall: "A",
-            desk: Some(1),
-            ..MATHS
-        }],
-        appeals: 0,
-    },
-    Case {
-        facts: OPENED,
-        sittings: &[],
-        number: 4,
-        seen: &[],
-        appeals: 0,
-    },
-    Case {
-        facts: &[
-            Fact::School,
-            Fact::Row(Line::Opening("S1", "A", 1)),
-            Fact::Row(Line::Paper("PH-2", "S1", "-")),
-            Fact::Row(Line::Entry(1, "MA-1")),
-            Fact::Row(Line::Entry(1, "PH-2")),
-            Fact::Granted(1, "CL1", Grant::Paper("PH-2")),
-        ],
-        sittings: &[("S1", 1, "A")],
-        number: 1,
-        seen: &[Seen {
-            papers: &["MA-1", "PH-2"],
-            sitting: "PH-2",
-            clashes: &["MA-1"],
-            hall: "A",
-            desk: Some(1),
-        }],
-        appeals: 1,
-    },
-];
-
-fn are_papers(papers: &[PaperCode], wanted: &[&str]) -> Result<bool, Fail> {
-    for (code, text) in papers.iter().zip(wanted) {
-        if *code != paper(text)? {
-            return Ok(false);
-        }
-    }
-    Ok(papers.len() == wanted.len())
-}
-
-/// Whether the member sees the session like this.
-fn is_seen(own: &OwnSession, seen: &Seen) -> Result<bool, Fail> {
-    let are_right = are_papers(&own.papers, seen.papers)?
-        && are_papers(&own.clashes, seen.clashes)?
-        && own.sitting == paper(seen.sitting)?;
-    let is_there = own.hall == HallCode::parse(seen.hall.as_bytes()) && own.desk == seen.desk;
-    Ok(are_right && is_there && own.finish.get() == 600)
-}
-
-/// What the candidate sees in the office of these facts and plans.
-fn own_in(
-    alloc: Global,
-    facts: &[Fact],
-    sittings: &[Sitting],
-    value: u32,
-) -> Result<Option<Own>, Fail> {
-    let office = office_of(alloc, facts, sittings)?;
-    Ok(office.own(alloc, number(value)?)?)
-}
-
-/// Whether the candidate sees these sessions, and as many appeals.
-fn holds(alloc: Global, case: &Case) -> Result<bool, Fail> {
-    let own = own_in(alloc, case.facts, case.sittings, case.number)?.ok_or("candidate")?;
-    for (session, wanted) in own.sessions.iter().zip(case.seen) {
-        if !is_seen(session, wanted)? {
-            return Ok(false);
-        }
-    }
-    Ok(own.appeals.len() == case.appeals && own.sessions.len() == case.seen.len())
-}
+const SEEN: &str = "\
+# members see their desks
+opening S1 A 2 12:00
+paper PH-2 S1 60 -
+entry 1 MA-1
+entry 2 PH-2
+entry 3 MA-1
+entry 5 MA-1
+lodged 1 HA1 S1 hall B
+seat S1 1 B
+seat S1 2 A
+seat S1 5 A
+own 1 > HA1 false sits MA-1 until 600 in B Some(1) of MA-1
+own 2 > sits PH-2 until 600 in A Some(2) of PH-2
+own 3 > sits MA-1 until 600 in - None of MA-1
+own 5 > sits MA-1 until 600 in A Some(1) of MA-1
+# a candidate who is a member of no session sees none
+own 4 > -
+own 9 > nobody
+# a granted clash changes the paper that is sat
+paper PH-2 S1 60 -
+entry 1 MA-1
+entry 1 PH-2
+granted 1 CL1 S1 clash PH-2
+seat S1 1 A
+own 1 > CL1 false sits PH-2 until 600 in A Some(1) of MA-1 of PH-2 not MA-1
+# of two appeals the first also holds for later sessions
+granted 1 AR1 S1 arrangement screen 0
+lodged 1 AR2 S1 arrangement reader 0
+standing 1 AR1
+own 1 > AR1 true AR2 false
+";
 
 #[test]
 fn candidates_see_themselves(rt: HostRuntime) -> Result<(), Fail> {
-    for case in CASES {
-        let number = case.number;
-        assert!(&rt; holds(rt.alloc(), case)?, "{number}");
-    }
-    assert!(&rt; own_in(rt.alloc(), OPENED, &[], 9)?.is_none());
-    Ok(())
+    play(rt.alloc(), OPENED, SEEN)
 }

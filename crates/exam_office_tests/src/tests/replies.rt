@@ -1,134 +1,74 @@
 //! What imports answer, and how they are refused.
-use super::lines::{Line, filled};
-use super::scenes::{Order, Scene, Story, answers_of, play};
-use super::setups::{Fact, OPENED};
-use exam_office::Kind;
-use exam_types::Refusal;
+use super::orders::{order_of, push};
+use super::questions::answers_of;
+use super::{office_of, play};
+use exam_office::{Import, Kind, Office};
+use exam_school::{OPENED, expect_same};
+use std::alloc::Global;
 use std::test::Fail;
 
-const STORIES: &[Story<'static>] = &[
-    Story {
-        name: "a row that stands twice counts once",
-        facts: OPENED,
-        sittings: &[],
-        scenes: &[Scene::Order(
-            Order::Import(
-                Kind::Entries,
-                &[
-                    Line::Entry(1, "MA-1"),
-                    Line::Entry(2, "MA-1"),
-                    Line::Entry(1, "MA-1"),
-                ],
-            ),
-            "Imported 2 0 0",
-        )],
-    },
-    Story {
-        name: "new, changed and same rows are told apart",
-        facts: OPENED,
-        sittings: &[],
-        scenes: &[
-            Scene::Order(
-                Order::Import(
-                    Kind::Openings,
-                    &[Line::Opening("S1", "A", 2), Line::Opening("S1", "B", 1)],
-                ),
-                "Imported 0 1 1",
-            ),
-            Scene::Order(
-                Order::Import(Kind::Candidates, &[Line::Candidate(6)]),
-                "Imported 1 0 0",
-            ),
-        ],
-    },
-    Story {
-        name: "a withdrawn entry stays withdrawn",
-        facts: &[
-            Fact::School,
-            Fact::Row(Line::Opening("S1", "A", 1)),
-            Fact::Row(Line::Opening("S1", "B", 1)),
-            Fact::Withdrawn(1, "MA-1"),
-        ],
-        sittings: &[],
-        scenes: &[
-            Scene::Order(
-                Order::Import(Kind::Entries, &[Line::Entry(1, "MA-1")]),
-                "Imported 0 0 1",
-            ),
-            Scene::IsWithdrawn(1, "MA-1"),
-            Scene::SeatCount(0),
-        ],
-    },
-    Story {
-        name: "what a row refers to is looked up in the order of its columns",
-        facts: OPENED,
-        sittings: &[],
-        scenes: &[
-            Scene::Order(
-                Order::Import(Kind::Papers, &[Line::Paper("PH-2", "S9", "-")]),
-                "UnknownSession",
-            ),
-            Scene::Order(
-                Order::Import(Kind::Openings, &[Line::Opening("S9", "Z", 1)]),
-                "UnknownSession",
-            ),
-            Scene::Order(
-                Order::Import(Kind::Openings, &[Line::Opening("S1", "Z", 1)]),
-                "UnknownHall",
-            ),
-            Scene::Order(
-                Order::Import(Kind::Entries, &[Line::Entry(9, "XX")]),
-                "UnknownCandidate",
-            ),
-            Scene::Order(
-                Order::Import(Kind::Arrangements, &[Line::Arrangement(9, "-", 0)]),
-                "UnknownCandidate",
-            ),
-        ],
-    },
-    Story {
-        name: "a refused import keeps no row",
-        facts: OPENED,
-        sittings: &[],
-        scenes: &[
-            Scene::Order(
-                Order::Import(
-                    Kind::Entries,
-                    &[Line::Entry(1, "MA-1"), Line::Entry(1, "XX")],
-                ),
-                "UnknownPaper",
-            ),
-            Scene::EntryCount(0),
-            Scene::SeatCount(0),
-        ],
-    },
-];
+const REPLIES: &str = "\
+# a row that stands twice counts once
+import entries 1 MA-1, 2 MA-1, 1 MA-1 > Imported 2 0 0
+# new, changed and same rows are counted apart
+import openings S1 A 2 12:00, S1 B 1 12:00 > Imported 0 1 1
+import candidates 6 > Imported 1 0 0
+# a withdrawn entry stays withdrawn
+withdrawn 1 MA-1
+import entries 1 MA-1 > Imported 0 0 1
+entry 1 MA-1 > withdrawn
+seats S1 > -
+# what a row refers to is looked up in the order of its columns
+import papers PH-2 S9 60 - > UnknownSession
+import openings S9 Z 1 12:00 > UnknownSession
+import openings S1 Z 1 12:00 > UnknownHall
+import entries 9 XX > UnknownCandidate
+import arrangements 9 - 0 > UnknownCandidate
+# a refused import keeps no row
+import entries 1 MA-1, 1 XX > UnknownPaper
+entries > 0
+seats S1 > -
+";
 
 #[test]
 fn replies(rt: HostRuntime) -> Result<(), Fail> {
-    play(&rt, STORIES)
+    play(rt.alloc(), OPENED, REPLIES)
 }
 
-const TWO_CONTENTS: &[Line<'static>] = &[Line::Opening("S1", "A", 1), Line::Opening("S1", "A", 2)];
+/// Imports two contents of one key.
+fn expect_conflict(alloc: Global, import: &mut Import) -> Result<(), Fail> {
+    push(alloc, import, "S1 A 1 12:00")??;
+    let pushed = push(alloc, import, "S1 A 2 12:00")?;
+    let count = import.rows().len();
+    let found = format!(in alloc; "{pushed:?} {count}")?;
+    expect_same(
+        found.as_str(),
+        "Err(RowConflict { record: 2 }) 1",
+        "openings",
+    )
+}
 
 #[test]
 fn a_key_with_two_contents_is_a_conflict(rt: HostRuntime) -> Result<(), Fail> {
-    let (import, refusal) = filled(rt.alloc(), Kind::Openings, TWO_CONTENTS)?;
-    assert_eq!(&rt; refusal, Some(Refusal::RowConflict { record: 2 }));
-    assert_eq!(&rt; import.rows().len(), 1usize);
-    Ok(())
+    let mut import = Import::new(rt.alloc(), Kind::Openings);
+    expect_conflict(rt.alloc(), &mut import)
 }
 
-const KNOWN: Order<'static> = Order::Import(Kind::Entries, &[Line::Entry(1, "MA-1")]);
-
-const UNKNOWN: Order<'static> = Order::Import(Kind::Entries, &[Line::Entry(1, "XX")]);
+/// Runs three imports as one list.
+fn expect_answers(alloc: Global, office: &mut Office) -> Result<(), Fail> {
+    let known = order_of(alloc, "import entries 1 MA-1")?;
+    let unknown = order_of(alloc, "import entries 1 XX")?;
+    let again = order_of(alloc, "import entries 1 MA-1")?;
+    let found = answers_of(alloc, office, &[known, unknown, again])?;
+    expect_same(
+        found.as_str(),
+        "Imported 1 0 0;UnknownPaper;Imported 0 0 1;",
+        "list",
+    )
+}
 
 #[test]
 fn a_list_of_commands_answers_each(rt: HostRuntime) -> Result<(), Fail> {
-    let replies = answers_of(rt.alloc(), OPENED, &[KNOWN, UNKNOWN, KNOWN])?;
-    assert!(&rt;
-        replies.as_str() == "Imported 1 0 0;UnknownPaper;Imported 0 0 1;",
-        "{replies}"
-    );
-    Ok(())
+    let mut office = office_of(rt.alloc(), &[OPENED])?;
+    expect_answers(rt.alloc(), &mut office)
 }

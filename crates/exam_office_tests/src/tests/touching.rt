@@ -1,197 +1,73 @@
-//! Which sessions a command touches, by example; and that it answers over a part of the office as over the whole.
-use super::lines::Line;
-use super::scenes::{Order, Plea, Ruling, touched_by};
-use super::setups::{Fact, Grant};
-use exam_office::{Kind, Outcome};
+//! Which sessions a command touches, by example.
+use super::play;
 use std::test::Fail;
 
 /// The halls A, which S1 and S2 open, and B, which S1 opens; papers MA-1 and PH-2 of S1 and MB-1 of S2. Candidate 1
 /// is entered for MA-1 and MB-1, candidate 2 has withdrawn from PH-2, and candidate 3 is entered for nothing.
-const TWO_SESSIONS: &[Fact<'static>] = &[
-    Fact::School,
-    Fact::Row(Line::Session("S2")),
-    Fact::Row(Line::Paper("PH-2", "S1", "-")),
-    Fact::Row(Line::Paper("MB-1", "S2", "-")),
-    Fact::Row(Line::Opening("S1", "A", 1)),
-    Fact::Row(Line::Opening("S1", "B", 1)),
-    Fact::Row(Line::Opening("S2", "A", 1)),
-    Fact::Row(Line::Entry(1, "MA-1")),
-    Fact::Row(Line::Entry(1, "MB-1")),
-    Fact::Withdrawn(2, "PH-2"),
-    Fact::Lodged(1, "HA1", Grant::AnotherHallThan("B")),
-    Fact::Granted(1, "HA2", Grant::AnotherHallThan("B")),
-];
+const TWO_SESSIONS: &str = "\
+# an import touches what its rows name
+session S2 2027-06-01
+paper PH-2 S1 60 -
+paper MB-1 S2 60 -
+opening S1 A 1 12:00
+opening S1 B 1 12:00
+opening S2 A 1 12:00
+entry 1 MA-1
+entry 1 MB-1
+withdrawn 2 PH-2
+lodged 1 HA1 S1 hall B
+granted 1 HA2 S1 hall B
+seat S1 1 A
+seat S2 1 A
+touched import sessions S2 2027-06-01, S9 2027-06-01 > S2 S9
+touched import openings S2 B 1 12:00 > S2
+touched import openings S9 B 1 12:00 > -
+touched import candidates 1 > -
+touched import entries 3 MB-1, 3 XX > S2
+touched import papers MA-1 S2 60 - > S1 S2
+touched import papers MA-1 S9 60 - > S1
+touched import papers NEW S2 60 - > S2
+touched import halls A screen > S1 S2
+touched import halls B screen > S1
+touched import halls C screen > -
+touched import arrangements 1 screen 0 > S1 S2
+touched import arrangements 2 screen 0 > -
+touched withdraw 1 MB-1 > S2
+touched withdraw 1 XX > -
+touched reinstate 2 PH-2 > S1
+touched close-hall S2 A > S2
+touched close-hall S9 A > -
+touched retract 1 HA1 > -
+touched lodge 1 HA3 S1 hall A > -
+touched decide 1 HA1 granted > S1
+touched decide 1 HA1 refused > -
+touched decide 1 HA9 granted > -
+touched decide 1 HA1 standing > S1 S2
+";
 
-/// The two sessions with a standing grant of candidate 1 for S1, and an open appeal of the same kind.
-const ONE_STANDS: &[Fact<'static>] = &[
-    Fact::School,
-    Fact::Row(Line::Session("S2")),
-    Fact::Row(Line::Session("S3")),
-    Fact::Row(Line::Paper("MB-1", "S2", "-")),
-    Fact::Row(Line::Entry(1, "MA-1")),
-    Fact::Row(Line::Entry(1, "MB-1")),
-    Fact::Granted(1, "AR1", Grant::Needs("screen")),
-    Fact::Marked(1, "AR1"),
-    Fact::Lodged(1, "AR2", Grant::Needs("reader")),
-    Fact::Lodged(1, "HA1", Grant::AnotherHallThan("B")),
-];
-
-/// A decision of the first candidate's appeal, which it names by its reference.
-const DECISION: Ruling<'static> = Ruling {
-    on: "2027-05-31",
-    number: 1,
-    reference: "HA1",
-    outcome: Outcome::Grant,
-};
-
-const OF_AR2: Ruling<'static> = Ruling {
-    reference: "AR2",
-    ..DECISION
-};
-
-const STANDING: Outcome = Outcome::Standing;
-
-/// A command, and the codes of the sessions that it touches, a blank after each.
-type Case<'a> = (Order<'a>, &'a str);
-
-/// An import touches what its rows name.
-const ROWS: &[Case<'static>] = &[
-    (
-        Order::Import(Kind::Sessions, &[Line::Session("S2"), Line::Session("S9")]),
-        "S2 S9 ",
-    ),
-    (
-        Order::Import(Kind::Openings, &[Line::Opening("S2", "B", 1)]),
-        "S2 ",
-    ),
-    (
-        Order::Import(Kind::Openings, &[Line::Opening("S9", "B", 1)]),
-        "",
-    ),
-    (Order::Import(Kind::Candidates, &[Line::Candidate(1)]), ""),
-    (
-        Order::Import(
-            Kind::Entries,
-            &[Line::Entry(3, "MB-1"), Line::Entry(3, "XX")],
-        ),
-        "S2 ",
-    ),
-];
-
-/// A paper touches its old session and its new one, a hall each session that opens it, and an arrangement each session
-/// of its candidate.
-const NAMED: &[Case<'static>] = &[
-    (
-        Order::Import(Kind::Papers, &[Line::Paper("MA-1", "S2", "-")]),
-        "S1 S2 ",
-    ),
-    (
-        Order::Import(Kind::Papers, &[Line::Paper("MA-1", "S9", "-")]),
-        "S1 ",
-    ),
-    (
-        Order::Import(Kind::Papers, &[Line::Paper("NEW", "S2", "-")]),
-        "S2 ",
-    ),
-    (
-        Order::Import(Kind::Halls, &[Line::Hall("A", "screen")]),
-        "S1 S2 ",
-    ),
-    (
-        Order::Import(Kind::Halls, &[Line::Hall("B", "screen")]),
-        "S1 ",
-    ),
-    (Order::Import(Kind::Halls, &[Line::Hall("C", "screen")]), ""),
-    (
-        Order::Import(Kind::Arrangements, &[Line::Arrangement(1, "screen", 0)]),
-        "S1 S2 ",
-    ),
-    (
-        Order::Import(Kind::Arrangements, &[Line::Arrangement(2, "screen", 0)]),
-        "",
-    ),
-];
-
-/// Other commands touch at most one session: a grant touches that of its appeal, unless it also holds for later ones.
-const OTHERS: &[Case<'static>] = &[
-    (Order::Withdraw(1, "MB-1"), "S2 "),
-    (Order::Withdraw(1, "XX"), ""),
-    (Order::Reinstate(2, "PH-2"), "S1 "),
-    (Order::CloseHall("S2", "A"), "S2 "),
-    (Order::CloseHall("S9", "A"), ""),
-    (Order::Retract(1, "HA1"), ""),
-    (
-        Order::Lodge(Plea {
-            on: "2027-05-30",
-            number: 1,
-            reference: "HA3",
-            session: "S1",
-            subject: Grant::AnotherHallThan("A"),
-            reason: "",
-        }),
-        "",
-    ),
-    (Order::Decide(DECISION), "S1 "),
-    (
-        Order::Decide(Ruling {
-            outcome: Outcome::Refuse,
-            ..DECISION
-        }),
-        "",
-    ),
-    (
-        Order::Decide(Ruling {
-            reference: "HA9",
-            ..DECISION
-        }),
-        "",
-    ),
-    (
-        Order::Decide(Ruling {
-            outcome: STANDING,
-            ..DECISION
-        }),
-        "S1 S2 ",
-    ),
-];
-
-/// A grant that also holds for later sessions touches each session of the appellant, and so does one that ends it. A
-/// date touches each session of a candidate with a standing grant.
-const WHERE_ONE_STANDS: &[Case<'static>] = &[
-    (
-        Order::Decide(Ruling {
-            outcome: STANDING,
-            ..OF_AR2
-        }),
-        "S1 S2 ",
-    ),
-    (Order::Decide(OF_AR2), "S1 S2 "),
-    (Order::Decide(DECISION), "S1 "),
-    (
-        Order::Decide(Ruling {
-            outcome: Outcome::Refuse,
-            ..OF_AR2
-        }),
-        "",
-    ),
-    (
-        Order::Import(Kind::Sessions, &[Line::SessionOn("S3", "2027-06-09")]),
-        "S1 S2 S3 ",
-    ),
-];
+/// The two sessions with a standing grant of candidate 1 for S1, and an open appeal of the same kind. A grant that also
+/// holds for later sessions touches each session of the appellant, and so does one that ends it. A date touches each
+/// session of a candidate with a standing grant.
+const ONE_STANDS: &str = "\
+# a grant and a date touch each session of a candidate whose grant stands
+session S2 2027-06-01
+session S3 2027-06-01
+paper MB-1 S2 60 -
+entry 1 MA-1
+entry 1 MB-1
+granted 1 AR1 S1 arrangement screen 0
+standing 1 AR1
+lodged 1 AR2 S1 arrangement reader 0
+lodged 1 HA1 S1 hall B
+touched decide 1 AR2 standing > S1 S2
+touched decide 1 AR2 granted > S1 S2
+touched decide 1 HA1 granted > S1
+touched decide 1 AR2 refused > -
+touched import sessions S3 2027-06-09 > S1 S2 S3
+";
 
 #[test]
 fn each_command_touches_these_sessions(rt: HostRuntime) -> Result<(), Fail> {
-    for (facts, cases) in [
-        (TWO_SESSIONS, ROWS),
-        (TWO_SESSIONS, NAMED),
-        (TWO_SESSIONS, OTHERS),
-        (ONE_STANDS, WHERE_ONE_STANDS),
-    ] {
-        for (order, wanted) in cases {
-            let found = touched_by(rt.alloc(), facts, *order)?;
-            assert!(&rt; found.as_str() == *wanted, "{found}, not {wanted}");
-        }
-    }
-    Ok(())
+    play(rt.alloc(), "", TWO_SESSIONS)?;
+    play(rt.alloc(), "", ONE_STANDS)
 }
