@@ -1,10 +1,7 @@
 -- What reading the tables one after the other finds, and what it leaves.
 use Rattle.std.specs.Prelude.{◌≡◌, ◌⊎◌, ℕ, List, [], ◌∷◌, ◌++◌, Option, Some, Result, IfErr, IsTrue}
-use Rattle.std.specs.declared.cmp.Ordering.{Ordering}
-use Rattle.std.specs.List as lists
 use Rattle.sqlite_trees.specs.declared.store.Store.{Ghosts}
 use Rattle.sqlite_trees.specs.Tree.{Trees}
-use Rattle.sqlite_value.specs.Order.{Row}
 use Rattle.sqlite.specs.Effect.{Database}
 use Rattle.sqlite.specs.Held.{Held, state}
 use Rattle.sqlite.specs.State.{HasCleanDisk, IsUnchanged, Survives}
@@ -15,23 +12,15 @@ use Rattle.exam_office.specs.State.{State as Office, Seats}
 use Rattle.exam_office.specs.declared.tables.Table.{Table as OfficeTable}
 use Rattle.exam_office.specs.declared.tables.Table.TheVariants as office
 use Rattle.exam_tables.specs.Texts.{load_session, load_paper, load_hall, load_opening, load_candidate, load_entry}
-use Rattle.exam_tables.specs.Texts.{load_arrangement, load_appeal, load_standing, load_seat, load_texts}
+use Rattle.exam_tables.specs.Texts.{load_arrangement, load_appeal, load_standing, load_seat}
 use Rattle.exam_rows.specs.Inside.{Contains}
-use Rattle.exam_rows.specs.Loaded.{IsUnderstood, KeysMatch, OnlyReads}
+use Rattle.exam_rows.specs.Loaded.{IsUnderstood, OnlyReads}
 use Rattle.exam_store.specs.Found.{is_open_refusal}
 use Rattle.exam_check.specs.FirstBad.{HasGoodVersion, HoldsNoTable, HoldsTableOf, first_unread}
 use Rattle.exam_check.specs.Refused.{FailsToCheck}
 use Rattle.exam_check.specs.declared.reading.Register.{Register}
 use Rattle.exam_check.specs.declared.reading.Tables.{Tables}
 use Rattle.exam_check.specs.declared.reading.Timetable.{Timetable}
-
--- what the loads of this product's tables have in common: keys are distinguished as in SQL, the text is one of the
--- eleven, and it shows the rows of the newest tables
-pub record IsOurTable {K X : Type 0} (cmp : K → K → Ordering) (key : List ℕ) (row : K → X → Row)
-    (text : List ℕ) (Holds : Database → Trees → Type 0) : Type 0 where
-  pub keys : KeysMatch cmp key row
-  pub loads : lists.Contains load_texts text
-  pub newest : (db : Database) (all : Trees) → Contains db all → Holds db all
 
 -- What a call that only reads leaves, whatever it answers, and why it refuses. It refuses with `BadStore` only if the
 -- tables are not those of the newest version, with its number.

@@ -165,7 +165,6 @@ fn read_table<T: StoredRows, S: Alter>(
     table: OfficeTable,
     unread: &mut Option<OfficeTable>,
 ) -> Result<BTreeMap<T::Key, T::Value>, Refusal>
-    requires { spec.IsOurTable T.Key.cmp T.key_places T.row_of T.load_text T.Holds }
     ensures looks { spec.Looks S.Store conn.old conn.new result }
     ensures seen { HasCleanDisk (state S.Store conn.new) → IfOk result (λ rows.
         spec.Sees T.load_text (state S.Store conn.old).now table unread.old unread.new

@@ -9,7 +9,8 @@ ghost use Rattle.sqlite_value.specs.Order.{Row as Columns};
 ghost use Rattle.exam_rows.specs.Faults.{is_store_refusal};
 ghost use Rattle.exam_rows.specs.Inside.{Makes, put_of, delete_of};
 ghost use Rattle.exam_types.specs.declared.refusal.Refusal.TheVariants.{NoMemory, BadStore};
-ghost use Rattle.exam_rows.specs.Loaded.{AreRowsOf, FailsToLoadFrom, HoldsTable, IsLoadRefusal, IsUnderstood, KeysMatch, OnlyReads};
+ghost use Rattle.exam_rows.specs.Loaded.{AreRowsOf, FailsToLoadFrom, HoldsTable, IsLoadRefusal, IsOurTable, IsUnderstood};
+ghost use Rattle.exam_rows.specs.Loaded.{KeysMatch, OnlyReads};
 ghost use Rattle.exam_rows.specs.Reading.{MayRead, WantsMemoryOfRow};
 
 use crate::differences::Keyed;
@@ -80,6 +81,9 @@ pub trait StoredRows {
     fn read(alloc: Global, row: &Row) -> Result<(Self::Key, Self::Value), Refusal>
         ensures read { MayRead (λ p. Self.IsRow p.0 p.1) (λ p. Self.row_of p.0 p.1) row.now result }
         ensures memory { WantsMemoryOfRow row.now result };
+
+    /// What the loads of all tables have in common.
+    ghost ours: { IsOurTable Self.Key.cmp Self.key_places Self.row_of Self.load_text Self.Holds };
 }
 
 /// A table that can lose rows. No command deletes a row of any other table.

@@ -5,6 +5,7 @@ ghost use Rattle.exam_tables.specs.Made.{ContainsMade};
 ghost use Rattle.exam_tables.specs.Texts.{put_arrangement, load_arrangement};
 ghost use Rattle.exam_rows.specs.Rows.{arrangement_row, IsArrangement};
 ghost use Rattle.exam_rows.specs.Stored as stored;
+ghost use Rattle.exam_rows.proofs.OurTables.{arrangements_ours};
 
 use crate::columns::{extra_at, features_at, number_at};
 use crate::statements::{all_rows, run};
@@ -67,4 +68,6 @@ impl StoredRows for Arrangements {
         let extra = extra_at(row, 2)?;
         Ok((number, Arrangement { needs, extra }))
     }
+
+    ghost ours = { arrangements_ours };
 }

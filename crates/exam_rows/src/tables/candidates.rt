@@ -5,6 +5,7 @@ ghost use Rattle.exam_tables.specs.Made.{ContainsMade};
 ghost use Rattle.exam_tables.specs.Texts.{put_candidate, load_candidate};
 ghost use Rattle.exam_rows.specs.Rows.{candidate_row, IsCandidate};
 ghost use Rattle.exam_rows.specs.Stored as stored;
+ghost use Rattle.exam_rows.proofs.OurTables.{candidates_ours};
 
 use crate::columns::{access_code_at, name_at, number_at};
 use crate::statements::{all_rows, run};
@@ -67,4 +68,6 @@ impl StoredRows for Candidates {
         let code = access_code_at(row, 2)?;
         Ok((number, Candidate { name, code }))
     }
+
+    ghost ours = { candidates_ours };
 }

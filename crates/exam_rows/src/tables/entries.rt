@@ -5,6 +5,7 @@ ghost use Rattle.exam_tables.specs.Made.{ContainsMade};
 ghost use Rattle.exam_tables.specs.Texts.{put_entry, load_entry};
 ghost use Rattle.exam_rows.specs.Rows.{entry_row, IsEntry};
 ghost use Rattle.exam_rows.specs.Stored as stored;
+ghost use Rattle.exam_rows.proofs.OurTables.{entries_ours};
 
 use crate::columns::{flag, flag_at, number_at, paper_code_at};
 use crate::statements::{all_rows, run};
@@ -67,4 +68,6 @@ impl StoredRows for Entries {
         let live = flag_at(row, 2)?;
         Ok(((number, paper), Entry { live }))
     }
+
+    ghost ours = { entries_ours };
 }

@@ -7,6 +7,7 @@ ghost use Rattle.exam_tables.specs.Texts.{put_session, load_session};
 ghost use Rattle.exam_rows.specs.Rows.{session_row, IsSession};
 ghost use Rattle.exam_rows.specs.Reading.{MayRead};
 ghost use Rattle.exam_rows.specs.Stored as stored;
+ghost use Rattle.exam_rows.proofs.OurTables.{sessions_ours};
 ghost use Rattle.sqlite_value.specs.declared.value.Value.TheVariants.{Text};
 
 use crate::columns::{day_text, session_code_at, session_day_at, start_at};
@@ -63,6 +64,8 @@ impl StoredRows for Sessions {
         let start = start_at(row, 2)?;
         Ok((code, Session { day, start }))
     }
+
+    ghost ours = { sessions_ours };
 }
 
 fn put_session<'a, S: Alter>(

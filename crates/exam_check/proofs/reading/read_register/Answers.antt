@@ -5,23 +5,7 @@ use Rattle.exam_tables.specs.Texts.{load_entry, load_arrangement, load_appeal, l
 use Rattle.exam_rows.proofs.Leaving.{understood_before}
 use Rattle.exam_check.proofs.Found.{read_as, still_contains}
 use Rattle.exam_check.proofs.Looking.{fails_then, looks_on, looks_then}
-use Rattle.exam_check.proofs.OurTables.{candidates_ours, entries_ours, arrangements_ours, appeals_ours, standing_ours}
 use Rattle.exam_check.proofs.reading.read_register.Goals as goal
-
-pub read_table-requires : goal.read_table-requires
-read_table-requires g c = candidates_ours
-
-pub read_table-requires-2 : goal.read_table-requires-2
-read_table-requires-2 g c = entries_ours
-
-pub read_table-requires-3 : goal.read_table-requires-3
-read_table-requires-3 g c = arrangements_ours
-
-pub read_table-requires-4 : goal.read_table-requires-4
-read_table-requires-4 g c = appeals_ours
-
-pub read_table-requires-5 : goal.read_table-requires-5
-read_table-requires-5 g c = standing_ours
 
 pub returns-in_err-entries-clause-looks : goal.returns-in_err-entries-clause-looks
 returns-in_err-entries-clause-looks g c =

@@ -8,11 +8,7 @@ use Rattle.exam_office.specs.declared.tables.Table.TheVariants as office
 use Rattle.exam_check.specs.Reading.{AreRead, office_of, register, register_texts, timetable, timetable_texts}
 use Rattle.exam_check.proofs.Found.{all_before, read_as, read_more, still_contains, understood_all}
 use Rattle.exam_check.proofs.Looking.{fails_then, looks_on, looks_then}
-use Rattle.exam_check.proofs.OurTables.{seats_ours}
 use Rattle.exam_check.proofs.reading.read_tables.Goals as goal
-
-pub read_table-requires : goal.read_table-requires
-read_table-requires g c = seats_ours
 
 pub returns-in_err-register-clause-looks : goal.returns-in_err-register-clause-looks
 returns-in_err-register-clause-looks g c =

@@ -5,20 +5,7 @@ use Rattle.exam_tables.specs.Texts.{load_paper, load_hall, load_opening}
 use Rattle.exam_rows.proofs.Leaving.{understood_before}
 use Rattle.exam_check.proofs.Found.{read_as, still_contains}
 use Rattle.exam_check.proofs.Looking.{fails_then, looks_on, looks_then}
-use Rattle.exam_check.proofs.OurTables.{sessions_ours, papers_ours, halls_ours, openings_ours}
 use Rattle.exam_check.proofs.reading.read_timetable.Goals as goal
-
-pub read_table-requires : goal.read_table-requires
-read_table-requires g c = sessions_ours
-
-pub read_table-requires-2 : goal.read_table-requires-2
-read_table-requires-2 g c = papers_ours
-
-pub read_table-requires-3 : goal.read_table-requires-3
-read_table-requires-3 g c = halls_ours
-
-pub read_table-requires-4 : goal.read_table-requires-4
-read_table-requires-4 g c = openings_ours
 
 pub returns-in_err-papers-clause-looks : goal.returns-in_err-papers-clause-looks
 returns-in_err-papers-clause-looks g c =

@@ -1,0 +1,87 @@
+-- What the loads of the ten tables have in common.
+use Rattle.std.proofs.Common.{◌≡◌, ◌&&◌, ℕ, pos, Bool, true, false, [], ◌∷◌, Ordering, Less, Equal, Greater, refl, ap, subst, ◌∙◌, lit<, true≢false}
+use Rattle.std.specs.Bool.{Decides, one_answer}
+use Rattle.std.specs.Cmp.{Equal-is, tied_itself, nat_cmp_total}
+use Rattle.std.specs.Cmp.Lexicographic.{nat_list_cmp_total}
+use Rattle.std.specs.List as lists
+use Rattle.std.specs.Ordering.{is_eq, ordering_then, nat_cmp}
+use Rattle.std.proofs.lemmas.Map.Lookups.{exact_unsigned, exact_bytes}
+use Rattle.sqlite_value.specs.declared.value.Value.TheVariants.{Text}
+use Rattle.sqlite_value.specs.Keys.{plain, first_key}
+use Rattle.sqlite_schema.specs.Rules.{equal}
+use Rattle.sqlite_trees.specs.Tree.{Trees}
+use Rattle.sqlite.specs.Effect.{Database}
+use Rattle.exam_tables.specs.Made.{ContainsMade}
+use Rattle.exam_tables.specs.Texts.{load_texts, load_office, load_session, load_paper, load_hall, load_candidate, load_opening, load_entry, load_arrangement, load_appeal, load_seat, load_standing}
+use Rattle.exam_tables.proofs.Keys.{equal_itself, int_same, text_itself, text_same}
+use Rattle.exam_rules.specs.Relations.{Code, code_cmp, opening_cmp, entry_cmp, appeal_cmp, seat_cmp}
+use Rattle.exam_rows.specs.Inside.{Contains}
+use Rattle.exam_rows.specs.Loaded.{IsOurTable}
+use Rattle.exam_rows.specs.Rows.{session_row, paper_row, hall_row, candidate_row, opening_row, entry_row, arrangement_row, appeal_row, standing_row, seat_row}
+use Rattle.exam_rows.specs.Stored.{whole}
+
+-- ---- keys
+
+pub text_key : (a b : Code) → equal (first_key plain).collation (Text a) (Text b) ≡ is_eq (code_cmp a b)
+text_key a b = one_answer _ _ (λ h. let e = text_same (Text a) b h in cc, λ (e : a ≡ b). subst (λ t. equal (first_key plain).collation (Text a) (Text t) ≡ true) e (text_itself a)) (same_codes a b)
+  where
+    same_codes : (a b : Code) → Decides (is_eq (code_cmp a b)) (a ≡ b)
+    same_codes a b = (λ h. exact_bytes a b ((Equal-is (code_cmp a b)).0 h), λ e. subst (λ t. is_eq (code_cmp a t) ≡ true) e (ap is_eq (tied_itself nat_list_cmp_total a)))
+
+pub whole_key : (m n : ℕ) → equal (first_key plain).collation (whole m) (whole n) ≡ is_eq (nat_cmp m n)
+whole_key m n = one_answer _ _ (λ h. let e = int_same (pos m) (pos n) h in cc, λ (e : m ≡ n). subst (λ k. equal (first_key plain).collation (whole m) (whole k) ≡ true) e (equal_itself (pos m))) (same_numbers m n)
+  where
+    same_numbers : (m n : ℕ) → Decides (is_eq (nat_cmp m n)) (m ≡ n)
+    same_numbers m n = (λ h. exact_unsigned m n ((Equal-is (nat_cmp m n)).0 h), λ e. subst (λ k. is_eq (nat_cmp m k) ≡ true) e (ap is_eq (tied_itself nat_cmp_total m)))
+
+one_part : (a b : Bool) → a ≡ b → (a && true) ≡ b
+one_part a b is = and_true a ∙ is
+  where
+    and_true : (b : Bool) → (b && true) ≡ b
+    and_true true = refl
+    and_true false = refl
+
+pub two_parts : (a b : Bool) (o p : Ordering) → a ≡ is_eq o → b ≡ is_eq p → (a && (b && true)) ≡ is_eq (ordering_then o p)
+two_parts a b Less p first second = ap (λ c. c && (b && true)) first
+two_parts a b Equal p first second = ap (λ c. c && (b && true)) first ∙ one_part b (is_eq p) second
+two_parts a b Greater p first second = ap (λ c. c && (b && true)) first
+
+-- ---- the tables
+
+-- the tables of the newest version are those of some version
+newest_made : (db : Database) (all : Trees) → Contains db all → ContainsMade db all
+newest_made db all was = record { has_marks = true; contains = was; unmarked = λ none. absurd (true≢false none) }
+
+pub sessions_ours : IsOurTable code_cmp (1 ∷ []) session_row load_session ContainsMade
+sessions_ours = record { keys = record { rows = λ a b. one_part _ _ (text_key a.0 b.0) }; loads = (1, lit< tt, refl); newest = newest_made }
+
+pub papers_ours : IsOurTable code_cmp (1 ∷ []) paper_row load_paper ContainsMade
+papers_ours = record { keys = record { rows = λ a b. one_part _ _ (text_key a.0 b.0) }; loads = (2, lit< tt, refl); newest = newest_made }
+
+pub halls_ours : IsOurTable code_cmp (1 ∷ []) hall_row load_hall ContainsMade
+halls_ours = record { keys = record { rows = λ a b. one_part _ _ (text_key a.0 b.0) }; loads = (3, lit< tt, refl); newest = newest_made }
+
+pub candidates_ours : IsOurTable nat_cmp (1 ∷ []) candidate_row load_candidate ContainsMade
+candidates_ours = record { keys = record { rows = λ a b. one_part _ _ (whole_key a.0 b.0) }; loads = (4, lit< tt, refl); newest = newest_made }
+
+pub openings_ours : IsOurTable opening_cmp (1 ∷ 2 ∷ []) opening_row load_opening ContainsMade
+openings_ours = record { keys = record { rows = λ a b. two_parts _ _ _ _ (text_key a.0.0 b.0.0) (text_key a.0.1 b.0.1) }; loads = (5, lit< tt, refl); newest = newest_made }
+
+pub entries_ours : IsOurTable entry_cmp (1 ∷ 2 ∷ []) entry_row load_entry ContainsMade
+entries_ours = record { keys = record { rows = λ a b. two_parts _ _ _ _ (whole_key a.0.0 b.0.0) (text_key a.0.1 b.0.1) }; loads = (6, lit< tt, refl); newest = newest_made }
+
+pub arrangements_ours : IsOurTable nat_cmp (1 ∷ []) arrangement_row load_arrangement ContainsMade
+arrangements_ours = record { keys = record { rows = λ a b. one_part _ _ (whole_key a.0 b.0) }; loads = (7, lit< tt, refl); newest = newest_made }
+
+pub appeals_ours : IsOurTable appeal_cmp (1 ∷ 2 ∷ []) appeal_row load_appeal ContainsMade
+appeals_ours = record { keys = record { rows = λ a b. two_parts _ _ _ _ (whole_key a.0.0 b.0.0) (text_key a.0.1 b.0.1) }; loads = (8, lit< tt, refl); newest = newest_made }
+
+pub seats_ours : IsOurTable seat_cmp (1 ∷ 2 ∷ []) seat_row load_seat ContainsMade
+seats_ours = record { keys = record { rows = λ a b. two_parts _ _ _ _ (text_key a.0.0 b.0.0) (whole_key a.0.1 b.0.1) }; loads = (9, lit< tt, refl); newest = newest_made }
+
+pub standing_ours : IsOurTable appeal_cmp (1 ∷ 2 ∷ []) standing_row load_standing Contains
+standing_ours = record { keys = record { rows = λ a b. two_parts _ _ _ _ (whole_key a.0.0 b.0.0) (text_key a.0.1 b.0.1) }; loads = (10, lit< tt, refl); newest = λ db all was. was }
+
+-- the text that loads the version
+pub office_loads : lists.Contains load_texts load_office
+office_loads = (0, lit< tt, refl)
