@@ -17,7 +17,7 @@ use Rattle.exam_rows.specs.Inside.{Contains}
 use Rattle.exam_rows.specs.Loaded.{FailsToLoad, FailsToLoadFrom, IsLoadRefusal, OnlyReads, Told}
 use Rattle.exam_rows.specs.Versions.{HasVersion, IsOlder, IsVersion, version}
 use Rattle.exam_rows.proofs.Leaving.{bad_unchanged, both_survive, reads_only, still_itself, still_then, then_reads}
-use Rattle.exam_rows.proofs.OurTables.{office_loads}
+use Rattle.exam_rows.specs.OurTables.{office_loads}
 use Rattle.exam_store.proofs.Marking.{made_of, opens_as}
 use Rattle.exam_check.specs.FirstBad.{HasGoodVersion}
 use Rattle.exam_check.specs.Reading.{Looks}

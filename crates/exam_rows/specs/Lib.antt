@@ -10,6 +10,7 @@
 --   that was just made; what a call that makes tables does
 -- - Loaded: the rows and the entries of a table; why nothing is loaded: memory ran out, a query
 --   failed, or the tables hold none
+-- - OurTables: what the loads of the ten tables have in common, each proved of its table
 -- - Parts: tables that are loaded one after the other: what they hold, and what loading them answers and leaves
 -- - Reading: what a reader answers: the value whose stored form is shown, or a refusal if there is
 --   none; which rows take memory
@@ -24,6 +25,7 @@ pub mod Faults
 pub mod Held
 pub mod Inside
 pub mod Loaded
+pub mod OurTables
 pub mod Parts
 pub mod Reading
 pub mod Rows

@@ -7,7 +7,7 @@ use Rattle.sqlite_trees.specs.Tree.{Trees}
 use Rattle.sqlite_trees.specs.declared.store.Store.{Ghosts}
 use Rattle.sqlite.specs.Effect.{Database}
 use Rattle.sqlite.specs.Held.{Held, state}
-use Rattle.sqlite.specs.State.{State, HasCleanDisk, Survives}
+use Rattle.sqlite.specs.State.{HasCleanDisk, Survives}
 use Rattle.exam_types.specs.declared.refusal.Refusal.{Refusal}
 use Rattle.exam_tables.specs.Made.{ContainsMade, lists_marks}
 use Rattle.exam_tables.specs.Texts.{load_standing}
@@ -58,20 +58,20 @@ then_part one more = record {
 }
 
 -- A call that makes no query leaves the database as it is only if the connection is open.
-abbrev pub IsReady : Bool → State → Type 0
-IsReady may_lack s = IsTrue may_lack → IsTrue s.is_open
+abbrev pub IsReady : Bool → Bool → Type 0
+IsReady may_lack is_open = IsTrue may_lack → IsTrue is_open
 
 -- what a call that loads them answers and leaves
 pub record Loading {S A : Type 0} (g : Ghosts S) (old new : Held S) (result : Result A Refusal)
     (part : Part A) : Type 0 where
-  pub rows : HasCleanDisk (state g new) → IsReady part.may_lack (state g old)
+  pub rows : HasCleanDisk (state g new) → IsReady part.may_lack (state g old).is_open
       → IfOk result (λ rows. (all : Trees) → part.Holds (state g old).now all → part.Has rows all)
-  pub bad : HasCleanDisk (state g new) → IsReady part.may_lack (state g old)
+  pub bad : HasCleanDisk (state g new) → IsReady part.may_lack (state g old).is_open
       → IfErr result (IsLoadRefusal (FailsThenFrom part.Holds g old new)
       ((all : Trees) → part.Holds (state g old).now all → part.HasNone all))
-  pub left : HasCleanDisk (state g new) → IsReady part.may_lack (state g old)
+  pub left : HasCleanDisk (state g new) → IsReady part.may_lack (state g old).is_open
       → OnlyReads (state g old) (state g new) result
-  pub understood : HasCleanDisk (state g new) → IsReady part.may_lack (state g old)
+  pub understood : HasCleanDisk (state g new) → IsReady part.may_lack (state g old).is_open
       → OnOk result (part.Understands (state g old).now)
   pub survives : Survives (state g old) (state g new) (λ _. ⊥)
   pub early : HasCleanDisk (state g new) → HasCleanDisk (state g old)

@@ -27,7 +27,7 @@ use Rattle.exam_rows.specs.Writes.{all_saved}
 use Rattle.exam_store.specs.Saves.{TurnsTables}
 use Rattle.exam_rows.specs.Versions.{HasVersion, new_tables, IsMade, version}
 use Rattle.exam_rows.proofs.EachTree.{whole}
-use Rattle.exam_rows.proofs.OurTables.{sessions_ours, papers_ours, halls_ours, openings_ours, candidates_ours, entries_ours, arrangements_ours, appeals_ours, standing_ours, seats_ours}
+use Rattle.exam_rows.specs.OurTables.{sessions_ours, papers_ours, halls_ours, openings_ours, candidates_ours, entries_ours, arrangements_ours, appeals_ours, standing_ours, seats_ours}
 use Rattle.exam_rows.proofs.SavedRows.{openings_named, seats_named, table_put, table_saved}
 
 -- the rows of each table are those of the new office

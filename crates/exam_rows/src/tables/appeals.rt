@@ -5,7 +5,7 @@ ghost use Rattle.exam_tables.specs.Made.{ContainsMade};
 ghost use Rattle.exam_tables.specs.Texts.{put_appeal, load_appeal};
 ghost use Rattle.exam_rows.specs.Rows.{appeal_row, IsAppeal};
 ghost use Rattle.exam_rows.specs.Stored as stored;
-ghost use Rattle.exam_rows.proofs.OurTables.{appeals_ours};
+ghost use Rattle.exam_rows.specs.OurTables.{appeals_ours};
 ghost use Rattle.sqlite.specs.Held.{state};
 ghost use Rattle.std.specs.Prelude.{◌≡◌};
 ghost use Rattle.exam_rows.specs.Inside.{Makes, put_of};

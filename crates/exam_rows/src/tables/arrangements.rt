@@ -5,7 +5,7 @@ ghost use Rattle.exam_tables.specs.Made.{ContainsMade};
 ghost use Rattle.exam_tables.specs.Texts.{put_arrangement, load_arrangement};
 ghost use Rattle.exam_rows.specs.Rows.{arrangement_row, IsArrangement};
 ghost use Rattle.exam_rows.specs.Stored as stored;
-ghost use Rattle.exam_rows.proofs.OurTables.{arrangements_ours};
+ghost use Rattle.exam_rows.specs.OurTables.{arrangements_ours};
 
 use crate::columns::{extra_at, features_at, number_at};
 use crate::statements::{all_rows, run};

@@ -5,7 +5,7 @@ ghost use Rattle.exam_tables.specs.Made.{ContainsMade};
 ghost use Rattle.exam_tables.specs.Texts.{put_candidate, load_candidate};
 ghost use Rattle.exam_rows.specs.Rows.{candidate_row, IsCandidate};
 ghost use Rattle.exam_rows.specs.Stored as stored;
-ghost use Rattle.exam_rows.proofs.OurTables.{candidates_ours};
+ghost use Rattle.exam_rows.specs.OurTables.{candidates_ours};
 
 use crate::columns::{access_code_at, name_at, number_at};
 use crate::statements::{all_rows, run};

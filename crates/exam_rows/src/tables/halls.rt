@@ -5,7 +5,7 @@ ghost use Rattle.exam_tables.specs.Made.{ContainsMade};
 ghost use Rattle.exam_tables.specs.Texts.{put_hall, load_hall};
 ghost use Rattle.exam_rows.specs.Rows.{hall_row, IsHall};
 ghost use Rattle.exam_rows.specs.Stored as stored;
-ghost use Rattle.exam_rows.proofs.OurTables.{halls_ours};
+ghost use Rattle.exam_rows.specs.OurTables.{halls_ours};
 
 use crate::columns::{features_at, hall_code_at, name_at};
 use crate::statements::{all_rows, run};

@@ -5,7 +5,7 @@ ghost use Rattle.exam_tables.specs.Made.{ContainsMade};
 ghost use Rattle.exam_tables.specs.Texts.{put_opening, delete_opening, load_opening};
 ghost use Rattle.exam_rows.specs.Rows.{opening_row, IsOpening};
 ghost use Rattle.exam_rows.specs.Stored as stored;
-ghost use Rattle.exam_rows.proofs.OurTables.{openings_ours};
+ghost use Rattle.exam_rows.specs.OurTables.{openings_ours};
 
 use crate::columns::{
     closing_time_at, desk_count_at, flag, flag_at, hall_code_at, session_code_at,

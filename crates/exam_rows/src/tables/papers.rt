@@ -5,7 +5,7 @@ ghost use Rattle.exam_tables.specs.Made.{ContainsMade};
 ghost use Rattle.exam_tables.specs.Texts.{put_paper, load_paper};
 ghost use Rattle.exam_rows.specs.Rows.{paper_row, IsPaper};
 ghost use Rattle.exam_rows.specs.Stored as stored;
-ghost use Rattle.exam_rows.proofs.OurTables.{papers_ours};
+ghost use Rattle.exam_rows.specs.OurTables.{papers_ours};
 
 use crate::columns::{exam_minutes_at, features_at, name_at, paper_code_at, session_code_at};
 use crate::statements::{all_rows, run};

@@ -5,7 +5,7 @@ ghost use Rattle.exam_tables.specs.Made.{ContainsMade};
 ghost use Rattle.exam_tables.specs.Texts.{put_seat, delete_seat, load_seat};
 ghost use Rattle.exam_rows.specs.Rows.{seat_row, IsSeat};
 ghost use Rattle.exam_rows.specs.Stored as stored;
-ghost use Rattle.exam_rows.proofs.OurTables.{seats_ours};
+ghost use Rattle.exam_rows.specs.OurTables.{seats_ours};
 
 use crate::columns::{hall_code_at, number_at, session_code_at};
 use crate::statements::{all_rows, run};

@@ -7,7 +7,7 @@ ghost use Rattle.exam_tables.specs.Texts.{put_session, load_session};
 ghost use Rattle.exam_rows.specs.Rows.{session_row, IsSession};
 ghost use Rattle.exam_rows.specs.Reading.{MayRead};
 ghost use Rattle.exam_rows.specs.Stored as stored;
-ghost use Rattle.exam_rows.proofs.OurTables.{sessions_ours};
+ghost use Rattle.exam_rows.specs.OurTables.{sessions_ours};
 ghost use Rattle.sqlite_value.specs.declared.value.Value.TheVariants.{Text};
 
 use crate::columns::{day_text, session_code_at, session_day_at, start_at};

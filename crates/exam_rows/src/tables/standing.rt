@@ -5,7 +5,7 @@ ghost use Rattle.exam_tables.specs.Texts.{put_standing, load_standing};
 ghost use Rattle.exam_rows.specs.Inside.{Contains};
 ghost use Rattle.exam_rows.specs.Rows.{standing_row, IsStanding};
 ghost use Rattle.exam_rows.specs.Stored as stored;
-ghost use Rattle.exam_rows.proofs.OurTables.{standing_ours};
+ghost use Rattle.exam_rows.specs.OurTables.{standing_ours};
 
 use crate::columns::{number_at, reference_at};
 use crate::statements::{all_rows, run};

@@ -1,5 +1,5 @@
 use Rattle.std.proofs.Common.{◌≡◌, Err, inl, inr, rules}
-use Rattle.exam_rows.proofs.Loading.{never_lacks}
+use Rattle.exam_rows.proofs.PartByPart.{never_lacks}
 use Rattle.exam_rows.proofs.Refusing.{part_failed}
 use Rattle.exam_rows.proofs.loading.load_facts.Goals as goal
 

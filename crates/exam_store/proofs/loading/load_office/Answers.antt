@@ -3,7 +3,7 @@ use Rattle.std.proofs.lemmas.Result.{IfOk-weaker, IfErr-weaker}
 use Rattle.sqlite.specs.Held.{state}
 use Rattle.sqlite.specs.Effect.{Database}
 use Rattle.exam_tables.specs.Texts.{fact_texts, load_seat}
-use Rattle.exam_rows.proofs.OurTables.{seats_ours}
+use Rattle.exam_rows.specs.OurTables.{seats_ours}
 use Rattle.sqlite.proofs.Callers.{unchanged_then}
 use Rattle.exam_store.specs.Refused.{HoldsFormed}
 use Rattle.exam_rows.specs.Loaded.{AreUnderstood, IsUnderstood}

@@ -4,7 +4,7 @@ use Rattle.sqlite.specs.Effect.{Database}
 use Rattle.sqlite.specs.Held.{state}
 use Rattle.sqlite.proofs.StateLemmas.{unchanged}
 use Rattle.exam_tables.specs.Made.{lists_marks}
-use Rattle.exam_rows.proofs.Loading.{never_lacks}
+use Rattle.exam_rows.proofs.PartByPart.{never_lacks}
 use Rattle.exam_rows.proofs.Marked.{contains_marks, holds_no_marks}
 use Rattle.exam_rows.proofs.Refusing.{part_failed}
 use Rattle.exam_rows.proofs.loading.MarksLoads.load.Goals as goal

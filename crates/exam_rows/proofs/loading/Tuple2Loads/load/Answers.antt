@@ -1,5 +1,5 @@
 use Rattle.std.proofs.Common.{◌≡◌, Err, rules}
-use Rattle.exam_rows.proofs.Loading.{all_load, first_fails, next_fails}
+use Rattle.exam_rows.proofs.PartByPart.{all_load, first_fails, next_fails}
 use Rattle.exam_rows.proofs.loading.Tuple2Loads.load.Goals as goal
 
 pub returns-in_err-table : goal.returns-in_err-table

@@ -1,17 +1,16 @@
 -- Tables that are loaded one after the other.
-use Rattle.std.proofs.Common.{inl, inr, false, Ok, Err, sym, subst, true≢false}
+use Rattle.std.proofs.Common.{Bool, inl, inr, false, Ok, Err, sym, subst, true≢false}
 use Rattle.sqlite_trees.specs.declared.store.Store.{Ghosts}
 use Rattle.sqlite.specs.Effect.{Database}
 use Rattle.sqlite.specs.Held.{Held, state}
 use Rattle.sqlite.proofs.Callers.{unchanged_then}
 use Rattle.exam_types.specs.declared.refusal.Refusal.{Refusal}
-use Rattle.sqlite.specs.State.{State}
 use Rattle.exam_rows.specs.Parts.{IsReady, Loading, Part, then_part}
 use Rattle.exam_rows.proofs.Leaving.{both_survive, left_then, still_then}
 use Rattle.exam_rows.proofs.Refusing.{part_failed}
 
 -- tables that always exist need no open connection
-pub never_lacks : {s : State} → IsReady false s
+pub never_lacks : {is_open : Bool} → IsReady false is_open
 never_lacks lacks = absurd (true≢false (sym lacks))
 
 -- the first are not loaded
