@@ -167,9 +167,9 @@ fn read_table<T: StoredRows, S: Alter>(
 ) -> Result<BTreeMap<T::Key, T::Value>, Refusal>
     ensures looks { spec.Looks S.Store conn.old conn.new result }
     ensures seen { HasCleanDisk (state S.Store conn.new) → IfOk result (λ rows.
-        spec.Sees T.load_text (state S.Store conn.old).now table unread.old unread.new
-        (λ all. HoldsTable T.Key.cmp T.IsRow T.row_of rows.entries (all T.tree))
-        (λ all. (entries : _) → HoldsTable T.Key.cmp T.IsRow T.row_of entries (all T.tree) → ⊥)) }
+        spec.Sees T.form.load (state S.Store conn.old).now table unread.old unread.new
+        (λ all. HoldsTable T.Key.cmp T.form.IsRow T.form.row rows.entries (all T.form.tree))
+        (λ all. (entries : _) → HoldsTable T.Key.cmp T.form.IsRow T.form.row entries (all T.form.tree) → ⊥)) }
 {
     let rows = T::shown(conn)?;
     match read_rows::<T>(alloc, rows.as_slice()) {

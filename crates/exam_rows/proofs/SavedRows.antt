@@ -17,7 +17,7 @@ use Rattle.exam_rules.specs.Relations.{opening_cmp, seat_cmp}
 use Rattle.exam_rows.specs.Differences.{has_key, is_one_of, Turns}
 use Rattle.exam_rows.specs.Held.{HoldsRows}
 use Rattle.exam_rows.specs.Loaded.{KeysMatch}
-use Rattle.exam_rows.specs.Writes.{opening_key, seat_key}
+use Rattle.exam_rows.specs.Forms.{opening_key, seat_key}
 use Rattle.exam_rows.specs.Rows.{opening_row, seat_row}
 use Rattle.exam_rows.proofs.Differing.{absent_key}
 use Rattle.exam_rows.specs.OurTables.{text_key, two_parts, whole_key}

@@ -3,6 +3,7 @@
 -- - Faults: the refusal for each error of the database
 -- - Stored: the stored form of each value: numbers, flags, days, feature sets, what an appeal asks for and its state
 -- - Rows: the columns of a row of each table, and the rows that there may be
+-- - Forms: how each table is stored: its tree, its key, the columns of a row, the statements that put and load rows
 -- - Held: the facts and the seats that tables hold
 -- - Differences: what must be put and deleted to make the new table from the old one, and that it turns the one into
 --   the other
@@ -22,6 +23,7 @@
 -- - Transactions: one transaction, whole or not at all, and what a crash leaves of it
 pub mod Differences
 pub mod Faults
+pub mod Forms
 pub mod Held
 pub mod Inside
 pub mod Loaded

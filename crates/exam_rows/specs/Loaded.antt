@@ -20,7 +20,6 @@ use Rattle.exam_tables.specs.Made.{ContainsMade}
 use Rattle.exam_tables.specs.Texts.{load_texts}
 use Rattle.exam_rules.specs.Orders.{KeysRise}
 use Rattle.exam_rows.specs.Faults.{refusal_of}
-use Rattle.exam_rows.specs.Inside as inside
 
 -- Two rows of a table have the same key in SQL exactly if their keys compare as equal.
 pub record KeysMatch {K X : Type 0} (cmp : K → K → Ordering) (key : List ℕ) (row : K → X → Row) : Type 0 where
@@ -90,11 +89,3 @@ FailsThen = FailsThenFrom ContainsMade
 -- why nothing is loaded: memory ran out, a query failed, or there is nothing to load
 abbrev pub IsLoadRefusal : (Refusal → Type 0) → Type 0 → Refusal → Type 0
 IsLoadRefusal Fails IsNone e = (e ≡ NoMemory) ⊎ (Fails e ⊎ ((e ≡ BadStore) × IsNone))
-
--- what the loads of this product's tables have in common: keys are distinguished as in SQL, the text is one of the
--- eleven, and it shows the rows of the newest tables
-pub record IsOurTable {K X : Type 0} (cmp : K → K → Ordering) (key : List ℕ) (row : K → X → Row)
-    (text : List ℕ) (Holds : Database → Trees → Type 0) : Type 0 where
-  pub keys : KeysMatch cmp key row
-  pub loads : Contains load_texts text
-  pub newest : (db : Database) (all : Trees) → inside.Contains db all → Holds db all

@@ -1,4 +1,4 @@
--- What the loads of the ten tables have in common.
+-- What the texts of the ten tables have in common.
 use Rattle.std.proofs.Common.{◌≡◌, ◌&&◌, ℕ, pos, Bool, true, false, [], ◌∷◌, Ordering, Less, Equal, Greater, refl, ap, subst, ◌∙◌, lit<, true≢false}
 use Rattle.std.specs.Bool.{Decides, one_answer}
 use Rattle.std.specs.Cmp.{Equal-is, tied_itself, nat_cmp_total}
@@ -12,12 +12,23 @@ use Rattle.sqlite_schema.specs.Rules.{equal}
 use Rattle.sqlite_trees.specs.Tree.{Trees}
 use Rattle.sqlite.specs.Effect.{Database}
 use Rattle.exam_tables.specs.Made.{ContainsMade}
-use Rattle.exam_tables.specs.Texts.{load_texts, load_office, load_session, load_paper, load_hall, load_candidate, load_opening, load_entry, load_arrangement, load_appeal, load_seat, load_standing}
+use Rattle.exam_tables.specs.Texts.{load_texts, load_office}
 use Rattle.exam_tables.proofs.Keys.{equal_itself, int_same, text_itself, text_same}
-use Rattle.exam_rules.specs.Relations.{Code, code_cmp, opening_cmp, entry_cmp, appeal_cmp, seat_cmp}
+use Rattle.exam_tables.proofs.OfAppeal as appeal
+use Rattle.exam_tables.proofs.OfArrangement as arrangement
+use Rattle.exam_tables.proofs.OfCandidate as candidate
+use Rattle.exam_tables.proofs.OfEntry as entry
+use Rattle.exam_tables.proofs.OfHall as hall
+use Rattle.exam_tables.proofs.OfOpening as opening
+use Rattle.exam_tables.proofs.OfPaper as paper
+use Rattle.exam_tables.proofs.OfSeat as seat
+use Rattle.exam_tables.proofs.OfSession as session
+use Rattle.exam_tables.proofs.OfStanding as standing
+use Rattle.exam_tables.proofs.Quiet.{session_is_query, paper_is_query, hall_is_query, candidate_is_query, opening_is_query, entry_is_query, arrangement_is_query, appeal_is_query, seat_is_query, standing_is_query}
+use Rattle.exam_rules.specs.Relations.{Code, code_cmp}
+use Rattle.exam_rows.specs.Forms as forms
+use Rattle.exam_rows.specs.Forms.{IsOurTable}
 use Rattle.exam_rows.specs.Inside.{Contains}
-use Rattle.exam_rows.specs.Loaded.{IsOurTable}
-use Rattle.exam_rows.specs.Rows.{session_row, paper_row, hall_row, candidate_row, opening_row, entry_row, arrangement_row, appeal_row, standing_row, seat_row}
 use Rattle.exam_rows.specs.Stored.{whole}
 
 -- ---- keys
@@ -52,35 +63,105 @@ two_parts a b Greater p first second = ap (λ c. c && (b && true)) first
 newest_made : (db : Database) (all : Trees) → Contains db all → ContainsMade db all
 newest_made db all was = record { has_marks = true; contains = was; unmarked = λ none. absurd (true≢false none) }
 
-pub sessions_ours : IsOurTable code_cmp (1 ∷ []) session_row load_session ContainsMade
-sessions_ours = record { keys = record { rows = λ a b. one_part _ _ (text_key a.0 b.0) }; loads = (1, lit< tt, refl); newest = newest_made }
+pub sessions_ours : IsOurTable forms.sessions.cmp forms.sessions
+sessions_ours = record {
+  keys = record { rows = λ a b. one_part _ _ (text_key a.0 b.0) };
+  loads = (1, lit< tt, refl);
+  query = session_is_query;
+  newest = newest_made;
+  shows = λ old new rows all was shown. let it = session.shows old new rows all was shown in (it.0, it.2);
+  fails = λ old new all was. session.load_fails old new was.has_marks was.contains.schema_is;
+}
 
-pub papers_ours : IsOurTable code_cmp (1 ∷ []) paper_row load_paper ContainsMade
-papers_ours = record { keys = record { rows = λ a b. one_part _ _ (text_key a.0 b.0) }; loads = (2, lit< tt, refl); newest = newest_made }
+pub papers_ours : IsOurTable forms.papers.cmp forms.papers
+papers_ours = record {
+  keys = record { rows = λ a b. one_part _ _ (text_key a.0 b.0) };
+  loads = (2, lit< tt, refl);
+  query = paper_is_query;
+  newest = newest_made;
+  shows = λ old new rows all was shown. let it = paper.shows old new rows all was shown in (it.0, it.2);
+  fails = λ old new all was. paper.load_fails old new was.has_marks was.contains.schema_is;
+}
 
-pub halls_ours : IsOurTable code_cmp (1 ∷ []) hall_row load_hall ContainsMade
-halls_ours = record { keys = record { rows = λ a b. one_part _ _ (text_key a.0 b.0) }; loads = (3, lit< tt, refl); newest = newest_made }
+pub halls_ours : IsOurTable forms.halls.cmp forms.halls
+halls_ours = record {
+  keys = record { rows = λ a b. one_part _ _ (text_key a.0 b.0) };
+  loads = (3, lit< tt, refl);
+  query = hall_is_query;
+  newest = newest_made;
+  shows = λ old new rows all was shown. let it = hall.shows old new rows all was shown in (it.0, it.2);
+  fails = λ old new all was. hall.load_fails old new was.has_marks was.contains.schema_is;
+}
 
-pub candidates_ours : IsOurTable nat_cmp (1 ∷ []) candidate_row load_candidate ContainsMade
-candidates_ours = record { keys = record { rows = λ a b. one_part _ _ (whole_key a.0 b.0) }; loads = (4, lit< tt, refl); newest = newest_made }
+pub candidates_ours : IsOurTable forms.candidates.cmp forms.candidates
+candidates_ours = record {
+  keys = record { rows = λ a b. one_part _ _ (whole_key a.0 b.0) };
+  loads = (4, lit< tt, refl);
+  query = candidate_is_query;
+  newest = newest_made;
+  shows = λ old new rows all was shown. let it = candidate.shows old new rows all was shown in (it.0, it.2);
+  fails = λ old new all was. candidate.load_fails old new was.has_marks was.contains.schema_is;
+}
 
-pub openings_ours : IsOurTable opening_cmp (1 ∷ 2 ∷ []) opening_row load_opening ContainsMade
-openings_ours = record { keys = record { rows = λ a b. two_parts _ _ _ _ (text_key a.0.0 b.0.0) (text_key a.0.1 b.0.1) }; loads = (5, lit< tt, refl); newest = newest_made }
+pub openings_ours : IsOurTable forms.openings.cmp forms.openings
+openings_ours = record {
+  keys = record { rows = λ a b. two_parts _ _ _ _ (text_key a.0.0 b.0.0) (text_key a.0.1 b.0.1) };
+  loads = (5, lit< tt, refl);
+  query = opening_is_query;
+  newest = newest_made;
+  shows = λ old new rows all was shown. let it = opening.shows old new rows all was shown in (it.0, it.2);
+  fails = λ old new all was. opening.load_fails old new was.has_marks was.contains.schema_is;
+}
 
-pub entries_ours : IsOurTable entry_cmp (1 ∷ 2 ∷ []) entry_row load_entry ContainsMade
-entries_ours = record { keys = record { rows = λ a b. two_parts _ _ _ _ (whole_key a.0.0 b.0.0) (text_key a.0.1 b.0.1) }; loads = (6, lit< tt, refl); newest = newest_made }
+pub entries_ours : IsOurTable forms.entries.cmp forms.entries
+entries_ours = record {
+  keys = record { rows = λ a b. two_parts _ _ _ _ (whole_key a.0.0 b.0.0) (text_key a.0.1 b.0.1) };
+  loads = (6, lit< tt, refl);
+  query = entry_is_query;
+  newest = newest_made;
+  shows = λ old new rows all was shown. let it = entry.shows old new rows all was shown in (it.0, it.2);
+  fails = λ old new all was. entry.load_fails old new was.has_marks was.contains.schema_is;
+}
 
-pub arrangements_ours : IsOurTable nat_cmp (1 ∷ []) arrangement_row load_arrangement ContainsMade
-arrangements_ours = record { keys = record { rows = λ a b. one_part _ _ (whole_key a.0 b.0) }; loads = (7, lit< tt, refl); newest = newest_made }
+pub arrangements_ours : IsOurTable forms.arrangements.cmp forms.arrangements
+arrangements_ours = record {
+  keys = record { rows = λ a b. one_part _ _ (whole_key a.0 b.0) };
+  loads = (7, lit< tt, refl);
+  query = arrangement_is_query;
+  newest = newest_made;
+  shows = λ old new rows all was shown. let it = arrangement.shows old new rows all was shown in (it.0, it.2);
+  fails = λ old new all was. arrangement.load_fails old new was.has_marks was.contains.schema_is;
+}
 
-pub appeals_ours : IsOurTable appeal_cmp (1 ∷ 2 ∷ []) appeal_row load_appeal ContainsMade
-appeals_ours = record { keys = record { rows = λ a b. two_parts _ _ _ _ (whole_key a.0.0 b.0.0) (text_key a.0.1 b.0.1) }; loads = (8, lit< tt, refl); newest = newest_made }
+pub appeals_ours : IsOurTable forms.appeals.cmp forms.appeals
+appeals_ours = record {
+  keys = record { rows = λ a b. two_parts _ _ _ _ (whole_key a.0.0 b.0.0) (text_key a.0.1 b.0.1) };
+  loads = (8, lit< tt, refl);
+  query = appeal_is_query;
+  newest = newest_made;
+  shows = λ old new rows all was shown. let it = appeal.shows old new rows all was shown in (it.0, it.2);
+  fails = λ old new all was. appeal.load_fails old new was.has_marks was.contains.schema_is;
+}
 
-pub seats_ours : IsOurTable seat_cmp (1 ∷ 2 ∷ []) seat_row load_seat ContainsMade
-seats_ours = record { keys = record { rows = λ a b. two_parts _ _ _ _ (text_key a.0.0 b.0.0) (whole_key a.0.1 b.0.1) }; loads = (9, lit< tt, refl); newest = newest_made }
+pub seats_ours : IsOurTable forms.seats.cmp forms.seats
+seats_ours = record {
+  keys = record { rows = λ a b. two_parts _ _ _ _ (text_key a.0.0 b.0.0) (whole_key a.0.1 b.0.1) };
+  loads = (9, lit< tt, refl);
+  query = seat_is_query;
+  newest = newest_made;
+  shows = λ old new rows all was shown. let it = seat.shows old new rows all was shown in (it.0, it.2);
+  fails = λ old new all was. seat.load_fails old new was.has_marks was.contains.schema_is;
+}
 
-pub standing_ours : IsOurTable appeal_cmp (1 ∷ 2 ∷ []) standing_row load_standing Contains
-standing_ours = record { keys = record { rows = λ a b. two_parts _ _ _ _ (whole_key a.0.0 b.0.0) (text_key a.0.1 b.0.1) }; loads = (10, lit< tt, refl); newest = λ db all was. was }
+pub standing_ours : IsOurTable forms.standing.cmp forms.standing
+standing_ours = record {
+  keys = record { rows = λ a b. two_parts _ _ _ _ (whole_key a.0.0 b.0.0) (text_key a.0.1 b.0.1) };
+  loads = (10, lit< tt, refl);
+  query = standing_is_query;
+  newest = λ db all was. was;
+  shows = λ old new rows all was shown. let it = standing.shows old new rows all was shown in (it.0, it.2);
+  fails = λ old new all was. standing.load_fails old new was.schema_is;
+}
 
 -- the text that loads the version
 pub office_loads : lists.Contains load_texts load_office

@@ -2,7 +2,6 @@
 use Rattle.std.specs.Prelude.{◌⊎◌, ℕ, Bool, true, false, IsTrue, List, Result, IfOk, IfErr, OnOk}
 use Rattle.std.specs.declared.cmp.Ordering.{Ordering}
 use Rattle.std.specs.BTreeMap.{BTreeMap}
-use Rattle.sqlite_value.specs.Order.{Row}
 use Rattle.sqlite_trees.specs.Tree.{Trees}
 use Rattle.sqlite_trees.specs.declared.store.Store.{Ghosts}
 use Rattle.sqlite.specs.Effect.{Database}
@@ -10,11 +9,10 @@ use Rattle.sqlite.specs.Held.{Held, state}
 use Rattle.sqlite.specs.State.{HasCleanDisk, Survives}
 use Rattle.exam_types.specs.declared.refusal.Refusal.{Refusal}
 use Rattle.exam_tables.specs.Made.{ContainsMade, lists_marks}
-use Rattle.exam_tables.specs.Texts.{load_standing}
-use Rattle.exam_rules.specs.Relations.{Code, appeal_cmp}
+use Rattle.exam_rules.specs.Relations.{Code}
 use Rattle.exam_rows.specs.Faults.{is_store_refusal}
+use Rattle.exam_rows.specs.Forms.{Form, standing}
 use Rattle.exam_rows.specs.Loaded.{FailsThenFrom, HoldsTable, IsLoadRefusal, IsUnderstood, OnlyReads}
-use Rattle.exam_rows.specs.Rows.{IsStanding, standing_row}
 
 -- some of the tables, whose rows are values of this type
 pub record Part (A : Type 0) : Type 1 where
@@ -30,21 +28,21 @@ pub record Part (A : Type 0) : Type 1 where
   pub Understands : Database → Type 0
 
 -- one table
-abbrev pub table_part : {K X : Type 0} → (K → K → Ordering) → (K → X → Type 0) → (K → X → Row) → ℕ → List ℕ
-    → (Database → Trees → Type 0) → Part (BTreeMap K X)
-table_part {K} {X} cmp IsRow row tree text Holds = record {
+abbrev pub table_part : {K X : Type 0} → (K → K → Ordering) → Form K X → Part (BTreeMap K X)
+table_part {K} {X} cmp form = record {
   may_lack = false;
-  Holds = Holds;
-  Has = λ table all. HoldsTable cmp IsRow row table.entries (all tree);
-  HasNone = λ all. (entries : List (K × X)) → HoldsTable cmp IsRow row entries (all tree) → ⊥;
-  Understands = λ db. IsUnderstood db text;
+  Holds = form.Holds;
+  Has = λ table all. HoldsTable cmp form.IsRow form.row table.entries (all form.tree);
+  HasNone = λ all. (entries : List (K × X)) → HoldsTable cmp form.IsRow form.row entries (all form.tree) → ⊥;
+  Understands = λ db. IsUnderstood db form.load;
 }
 
 -- the marks, of which version 1 has no table
 abbrev pub marks_part : Part (BTreeMap (ℕ × Code) (Unit {0}))
-marks_part = record (table_part appeal_cmp IsStanding standing_row 17 load_standing ContainsMade) {
+marks_part = record (table_part standing.cmp standing) {
   may_lack = true;
-  Understands = λ db. IsTrue (lists_marks db.schema) → IsUnderstood db load_standing;
+  Holds = ContainsMade;
+  Understands = λ db. IsTrue (lists_marks db.schema) → IsUnderstood db standing.load;
 }
 
 -- some tables, and then more

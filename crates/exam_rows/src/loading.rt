@@ -92,7 +92,7 @@ trait Loads {
 impl<T: StoredRows, M: Loads> Loads for (T, M) {
     type Rows = (BTreeMap<T::Key, T::Value>, M::Rows);
 
-    ghost part = { then_part (table_part T.Key.cmp T.IsRow T.row_of T.tree T.load_text T.Holds) M.part };
+    ghost part = { then_part (table_part T.Key.cmp T.form) M.part };
 
     fn load<S: Alter>(
         alloc: Global,
@@ -128,8 +128,7 @@ fn load_table<T: StoredRows, S: Alter>(
     alloc: Global,
     conn: &mut Connection<S>,
 ) -> Result<BTreeMap<T::Key, T::Value>, Refusal>
-    ensures { Loading S.Store conn.old conn.new result
-        (table_part T.Key.cmp T.IsRow T.row_of T.tree T.load_text T.Holds) }
+    ensures { Loading S.Store conn.old conn.new result (table_part T.Key.cmp T.form) }
 {
     load_rows::<T, S>(alloc, conn)
 }

@@ -1,19 +1,14 @@
 //! The table of arrangements.
-ghost use Rattle.std.specs.Prelude.{ℕ, List, [], ◌∷◌};
-ghost use Rattle.sqlite_value.specs.declared.value.Value.TheVariants.{Text};
-ghost use Rattle.exam_tables.specs.Made.{ContainsMade};
-ghost use Rattle.exam_tables.specs.Texts.{put_arrangement, load_arrangement};
-ghost use Rattle.exam_rows.specs.Rows.{arrangement_row, IsArrangement};
-ghost use Rattle.exam_rows.specs.Stored as stored;
+ghost use Rattle.exam_rows.specs.Forms as forms;
 ghost use Rattle.exam_rows.specs.OurTables.{arrangements_ours};
 
 use crate::columns::{extra_at, features_at, number_at};
-use crate::statements::{all_rows, run};
+use crate::statements::run;
 use crate::table::StoredRows;
 use exam_rules::Arrangement;
 use exam_types::{Number, Refusal};
 use sqlite::types::ValueRef;
-use sqlite::{Alter, Connection, Row, Transaction};
+use sqlite::{Alter, Row, Transaction};
 use std::alloc::Global;
 
 /// The imported arrangements, by candidate.
@@ -24,19 +19,11 @@ impl StoredRows for Arrangements {
 
     type Value = Arrangement;
 
-    ghost tree = { 12 };
+    ghost form = { forms.arrangements };
 
-    ghost key_places = { 1 ∷ [] };
-
-    ghost put_text = { put_arrangement };
-
-    ghost load_text = { load_arrangement };
-
-    ghost row_of = { arrangement_row };
-
-    ghost IsRow = { IsArrangement };
-
-    ghost Holds = { ContainsMade };
+    fn load_text() -> &'static str {
+        "SELECT number, needs, extra FROM arrangement"
+    }
 
     fn put<'a, S: Alter>(
         _alloc: Global,
@@ -53,10 +40,6 @@ impl StoredRows for Arrangements {
                 ValueRef::Int(i64::from(arrangement.extra.get())),
             ],
         )
-    }
-
-    fn shown<S: Alter>(conn: &mut Connection<S>) -> Result<Vec<Row>, Refusal> {
-        all_rows(conn, "SELECT number, needs, extra FROM arrangement")
     }
 
     fn read(_alloc: Global, row: &Row) -> Result<(Number, Arrangement), Refusal> {

@@ -1,19 +1,14 @@
 //! The table of halls.
-ghost use Rattle.std.specs.Prelude.{ℕ, List, [], ◌∷◌};
-ghost use Rattle.sqlite_value.specs.declared.value.Value.TheVariants.{Text};
-ghost use Rattle.exam_tables.specs.Made.{ContainsMade};
-ghost use Rattle.exam_tables.specs.Texts.{put_hall, load_hall};
-ghost use Rattle.exam_rows.specs.Rows.{hall_row, IsHall};
-ghost use Rattle.exam_rows.specs.Stored as stored;
+ghost use Rattle.exam_rows.specs.Forms as forms;
 ghost use Rattle.exam_rows.specs.OurTables.{halls_ours};
 
 use crate::columns::{features_at, hall_code_at, name_at};
-use crate::statements::{all_rows, run};
+use crate::statements::run;
 use crate::table::StoredRows;
 use exam_rules::Hall;
 use exam_types::{HallCode, Refusal};
 use sqlite::types::ValueRef;
-use sqlite::{Alter, Connection, Row, Transaction};
+use sqlite::{Alter, Row, Transaction};
 use std::alloc::Global;
 
 /// The halls, by their codes.
@@ -24,19 +19,11 @@ impl StoredRows for Halls {
 
     type Value = Hall;
 
-    ghost tree = { 5 };
+    ghost form = { forms.halls };
 
-    ghost key_places = { 1 ∷ [] };
-
-    ghost put_text = { put_hall };
-
-    ghost load_text = { load_hall };
-
-    ghost row_of = { hall_row };
-
-    ghost IsRow = { IsHall };
-
-    ghost Holds = { ContainsMade };
+    fn load_text() -> &'static str {
+        "SELECT code, title, features FROM hall"
+    }
 
     fn put<'a, S: Alter>(
         _alloc: Global,
@@ -53,10 +40,6 @@ impl StoredRows for Halls {
                 ValueRef::Int(i64::from(hall.features.sum())),
             ],
         )
-    }
-
-    fn shown<S: Alter>(conn: &mut Connection<S>) -> Result<Vec<Row>, Refusal> {
-        all_rows(conn, "SELECT code, title, features FROM hall")
     }
 
     fn read(alloc: Global, row: &Row) -> Result<(HallCode, Hall), Refusal> {

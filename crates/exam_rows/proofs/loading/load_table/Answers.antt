@@ -12,7 +12,7 @@ returns g c =
       rows = λ clean ready. IfOk-weaker c.load_rows.result _ _ (λ table held all was. (held all was).0) (read.rows clean);
       bad = λ clean ready.
           IfErr-weaker c.load_rows.result _ _ (λ e.
-          part_failed e (λ fails. (c.args.conn.now, still_itself (state g.S.Store c.args.conn.now), g.T.StoredRows.load_text, ours.loads, fails)) (λ none. none)) (read.bad clean ours.keys);
+          part_failed e (λ fails. (c.args.conn.now, still_itself (state g.S.Store c.args.conn.now), g.T.StoredRows.form.load, ours.loads, fails)) (λ none. none)) (read.bad clean);
       left = λ clean ready. read.left clean;
       understood = λ clean ready. read.understood clean;
       survives = read.survives;

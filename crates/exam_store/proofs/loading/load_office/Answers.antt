@@ -38,7 +38,7 @@ returns-in_err-seats-clause-bad g c = λ clean.
     let at_0 = state g.S.Store c.args.conn.now in
     let at_1 = state g.S.Store c.load_facts.new.conn in
     rw is (part_failed c.in_err-seats.field-0.0 (λ told. (c.load_facts.new.conn, still at_0 at_1 (c.in_ok-facts.ensures.left clean_1), load_seat, seats_ours.loads, told)) (λ none all was.
-    inr (inl (none all (still_there at_0 at_1 all was (c.in_ok-facts.ensures.rows clean_1 all was))))) (c.in_err-seats.ensures.bad clean seats_ours.keys))
+    inr (inl (none all (still_there at_0 at_1 all was (c.in_ok-facts.ensures.rows clean_1 all was))))) (c.in_err-seats.ensures.bad clean))
 
 pub returns-clause-bad : goal.returns-clause-bad
 returns-clause-bad g c = λ clean.
