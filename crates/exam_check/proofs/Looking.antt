@@ -33,6 +33,10 @@ fails_later g old mid new same e (inr (inr (inl ((at, still, text, loads, fails)
 fails_later g old mid new same e (inr (inr (inr (is, old_one)))) =
     inr (inr (inr (is, λ all was. old_one all (subst (λ (db : Database). ContainsMade db all) (sym same.0.now_is) was))))
 
+-- a refusal, whatever the value would have been
+pub fails_still : {S A B : Type 0} (g : Ghosts S) (old new : Held S) (e : Refusal) → Looks {A = A} g old new (Err e) → Looks {A = B} g old new (Err e)
+fails_still g old new e fails = record { early = fails.early; survives = fails.survives; left = fails.left; bad = fails.bad; refused = fails.refused; told = fails.told }
+
 module _ {S : Type 0} (g : Ghosts S) (old mid new : Held S) where
   pub looks_then : {A B : Type 0} (x : A) (result : Result B Refusal) → Looks {A = A} g old mid (Ok x) → Looks g mid new result → Looks g old new result
   looks_then x result first next = record {
@@ -49,7 +53,7 @@ module _ {S : Type 0} (g : Ghosts S) (old mid new : Held S) where
   }
 
   pub fails_then : {A B C : Type 0} (x : A) (e : Refusal) → Looks {A = A} g old mid (Ok x) → Looks {A = B} g mid new (Err e) → Looks {A = C} g old new (Err e)
-  fails_then x e first next = looks_then x (Err e) first (record { early = next.early; survives = next.survives; left = next.left; bad = next.bad; refused = next.refused; told = next.told })
+  fails_then x e first next = looks_then x (Err e) first (fails_still g mid new e next)
 
 -- what is made of what was read, which may want memory
 pub looks_on : {S A B : Type 0} (g : Ghosts S) (old new : Held S) (x : A) (result : Result B Refusal) → Looks {A = A} g old new (Ok x) → IfErr result (λ e. e ≡ NoMemory) → Looks g old new result
