@@ -1,17 +1,14 @@
 -- How each table is stored: one description of each of the ten tables.
-use Rattle.std.specs.Prelude.{◌≡◌, ◌⊎◌, ℕ, List, [], ◌∷◌, IsTrue, map, IsPermutation}
+use Rattle.std.specs.Prelude.{ℕ, List, [], ◌∷◌, map}
 use Rattle.std.specs.Borrow.{Bor}
 use Rattle.std.specs.List.{Contains}
 use Rattle.std.specs.declared.cmp.Ordering.{Ordering}
 use Rattle.std.specs.Ordering.{nat_cmp}
-use Rattle.sqlite_value.specs.declared.value.Value.TheVariants.{Null, Text}
+use Rattle.sqlite_value.specs.declared.value.Value.TheVariants.{Text}
 use Rattle.sqlite_value.specs.Order.{Row}
 use Rattle.sqlite_trees.specs.Tree.{Trees}
-use Rattle.sqlite.specs.declared.error.Error.{Error}
-use Rattle.sqlite.specs.declared.error.Error.TheVariants.{SqliteFailure}
-use Rattle.sqlite.specs.declared.error.ErrorCode.TheVariants.{OutOfMemory}
+use Rattle.sqlite_schema.specs.declared.schema.Schema.{Schema}
 use Rattle.sqlite.specs.Effect.{Database}
-use Rattle.sqlite.specs.State.{State, FailsToQuery, IsUnchanged, Shown}
 use Rattle.exam_rules.specs.Relations.{Code, code_cmp, opening_cmp, entry_cmp, appeal_cmp, seat_cmp}
 use Rattle.exam_rules.specs.declared.rows.Session.{Session}
 use Rattle.exam_rules.specs.declared.rows.Paper.{Paper}
@@ -21,8 +18,9 @@ use Rattle.exam_rules.specs.declared.rows.Candidate.{Candidate}
 use Rattle.exam_rules.specs.declared.rows.Entry.{Entry}
 use Rattle.exam_rules.specs.declared.rows.Arrangement.{Arrangement}
 use Rattle.exam_rules.specs.declared.rows.Appeal.{Appeal}
+use Rattle.exam_tables.specs.Content.{ContainsIn}
+use Rattle.exam_tables.specs.Loads.{IsLoad}
 use Rattle.exam_tables.specs.Made.{ContainsMade}
-use Rattle.exam_tables.specs.Refusals.{is_failure}
 use Rattle.exam_tables.specs.Tables.{stored_session, stored_paper, stored_hall, stored_candidate, stored_opening}
 use Rattle.exam_tables.specs.Tables.{stored_entry, stored_arrangement, stored_appeal, stored_seat, stored_standing}
 use Rattle.exam_tables.specs.Texts.{put_session, put_paper, put_hall, put_candidate, put_opening, put_entry}
@@ -128,12 +126,7 @@ pub record IsOurTable {K X : Type 0} (cmp : K → K → Ordering) (form : Form K
   pub keys : KeysMatch cmp form.places form.row
   pub loads : Contains load_texts form.load
   pub query : IsQuery form.load
+  -- the tables of a schema by which it loads the rows; also the newest ones
+  pub shows : (db : Database) (all : Trees) → form.Holds db all
+      → (schema : Schema) × ContainsIn schema db all × IsLoad schema form.tree form.load
   pub newest : (db : Database) (all : Trees) → inside.Contains db all → form.Holds db all
-  -- what it shows are the rows
-  pub shows : (old new : State) (rows : List Row) (all : Trees) → form.Holds old.now all
-      → Shown form.load [] old new rows
-      → IsPermutation (all form.tree) (map (λ r. Null ∷ r) rows) × IsUnchanged old new
-  -- it is understood, so it fails only for another reason
-  pub fails : (old new : State) (all : Trees) → form.Holds old.now all → (error : Error)
-      → FailsToQuery form.load [] old new error
-      → (error ≡ SqliteFailure OutOfMemory) ⊎ IsTrue (is_failure error)

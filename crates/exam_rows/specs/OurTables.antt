@@ -11,7 +11,8 @@ use Rattle.sqlite_value.specs.Keys.{plain, first_key}
 use Rattle.sqlite_schema.specs.Rules.{equal}
 use Rattle.sqlite_trees.specs.Tree.{Trees}
 use Rattle.sqlite.specs.Effect.{Database}
-use Rattle.exam_tables.specs.Made.{ContainsMade}
+use Rattle.exam_tables.specs.Made.{ContainsMade, made_schema}
+use Rattle.exam_tables.specs.Tables.{store_schema}
 use Rattle.exam_tables.specs.Texts.{load_texts, load_office}
 use Rattle.exam_tables.proofs.Keys.{equal_itself, int_same, text_itself, text_same}
 use Rattle.exam_tables.proofs.OfAppeal as appeal
@@ -69,8 +70,7 @@ sessions_ours = record {
   loads = (1, lit< tt, refl);
   query = session_is_query;
   newest = newest_made;
-  shows = λ old new rows all was shown. let it = session.shows old new rows all was shown in (it.0, it.2);
-  fails = λ old new all was. session.load_fails old new was.has_marks was.contains.schema_is;
+  shows = λ db all was. (made_schema was.has_marks, was.contains, session.loads was.has_marks);
 }
 
 pub papers_ours : IsOurTable forms.papers.cmp forms.papers
@@ -79,8 +79,7 @@ papers_ours = record {
   loads = (2, lit< tt, refl);
   query = paper_is_query;
   newest = newest_made;
-  shows = λ old new rows all was shown. let it = paper.shows old new rows all was shown in (it.0, it.2);
-  fails = λ old new all was. paper.load_fails old new was.has_marks was.contains.schema_is;
+  shows = λ db all was. (made_schema was.has_marks, was.contains, paper.loads was.has_marks);
 }
 
 pub halls_ours : IsOurTable forms.halls.cmp forms.halls
@@ -89,8 +88,7 @@ halls_ours = record {
   loads = (3, lit< tt, refl);
   query = hall_is_query;
   newest = newest_made;
-  shows = λ old new rows all was shown. let it = hall.shows old new rows all was shown in (it.0, it.2);
-  fails = λ old new all was. hall.load_fails old new was.has_marks was.contains.schema_is;
+  shows = λ db all was. (made_schema was.has_marks, was.contains, hall.loads was.has_marks);
 }
 
 pub candidates_ours : IsOurTable forms.candidates.cmp forms.candidates
@@ -99,8 +97,7 @@ candidates_ours = record {
   loads = (4, lit< tt, refl);
   query = candidate_is_query;
   newest = newest_made;
-  shows = λ old new rows all was shown. let it = candidate.shows old new rows all was shown in (it.0, it.2);
-  fails = λ old new all was. candidate.load_fails old new was.has_marks was.contains.schema_is;
+  shows = λ db all was. (made_schema was.has_marks, was.contains, candidate.loads was.has_marks);
 }
 
 pub openings_ours : IsOurTable forms.openings.cmp forms.openings
@@ -109,8 +106,7 @@ openings_ours = record {
   loads = (5, lit< tt, refl);
   query = opening_is_query;
   newest = newest_made;
-  shows = λ old new rows all was shown. let it = opening.shows old new rows all was shown in (it.0, it.2);
-  fails = λ old new all was. opening.load_fails old new was.has_marks was.contains.schema_is;
+  shows = λ db all was. (made_schema was.has_marks, was.contains, opening.loads was.has_marks);
 }
 
 pub entries_ours : IsOurTable forms.entries.cmp forms.entries
@@ -119,8 +115,7 @@ entries_ours = record {
   loads = (6, lit< tt, refl);
   query = entry_is_query;
   newest = newest_made;
-  shows = λ old new rows all was shown. let it = entry.shows old new rows all was shown in (it.0, it.2);
-  fails = λ old new all was. entry.load_fails old new was.has_marks was.contains.schema_is;
+  shows = λ db all was. (made_schema was.has_marks, was.contains, entry.loads was.has_marks);
 }
 
 pub arrangements_ours : IsOurTable forms.arrangements.cmp forms.arrangements
@@ -129,8 +124,7 @@ arrangements_ours = record {
   loads = (7, lit< tt, refl);
   query = arrangement_is_query;
   newest = newest_made;
-  shows = λ old new rows all was shown. let it = arrangement.shows old new rows all was shown in (it.0, it.2);
-  fails = λ old new all was. arrangement.load_fails old new was.has_marks was.contains.schema_is;
+  shows = λ db all was. (made_schema was.has_marks, was.contains, arrangement.loads was.has_marks);
 }
 
 pub appeals_ours : IsOurTable forms.appeals.cmp forms.appeals
@@ -139,8 +133,7 @@ appeals_ours = record {
   loads = (8, lit< tt, refl);
   query = appeal_is_query;
   newest = newest_made;
-  shows = λ old new rows all was shown. let it = appeal.shows old new rows all was shown in (it.0, it.2);
-  fails = λ old new all was. appeal.load_fails old new was.has_marks was.contains.schema_is;
+  shows = λ db all was. (made_schema was.has_marks, was.contains, appeal.loads was.has_marks);
 }
 
 pub seats_ours : IsOurTable forms.seats.cmp forms.seats
@@ -149,8 +142,7 @@ seats_ours = record {
   loads = (9, lit< tt, refl);
   query = seat_is_query;
   newest = newest_made;
-  shows = λ old new rows all was shown. let it = seat.shows old new rows all was shown in (it.0, it.2);
-  fails = λ old new all was. seat.load_fails old new was.has_marks was.contains.schema_is;
+  shows = λ db all was. (made_schema was.has_marks, was.contains, seat.loads was.has_marks);
 }
 
 pub standing_ours : IsOurTable forms.standing.cmp forms.standing
@@ -159,8 +151,7 @@ standing_ours = record {
   loads = (10, lit< tt, refl);
   query = standing_is_query;
   newest = λ db all was. was;
-  shows = λ old new rows all was shown. let it = standing.shows old new rows all was shown in (it.0, it.2);
-  fails = λ old new all was. standing.load_fails old new was.schema_is;
+  shows = λ db all was. (store_schema, was, standing.loads);
 }
 
 -- the text that loads the version
