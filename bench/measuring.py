@@ -127,6 +127,11 @@ def asked(port, method, page, code, body=""):
     return answer.partition(b"\r\n\r\n")[2].decode()
 
 
+def shown(value):
+    """A number with three digits that count, or all before the point."""
+    return f"{value:.{0 if value >= 100 else 1 if value >= 10 else 2 if value >= 1 else 3}f}"
+
+
 def table(heads, rows):
     """A table in Markdown."""
     print("|", " | ".join(heads), "|")
