@@ -2,6 +2,7 @@
 import contextlib
 import csv
 import os
+import runpy
 import shutil
 import socket
 import subprocess
@@ -13,6 +14,7 @@ from collections import namedtuple
 HERE = os.path.dirname(os.path.abspath(__file__))
 PROGRAM = os.path.join(HERE, "../crates/examoffice/out/examoffice")
 TODAY = "2027-04-01"
+FEATURES = runpy.run_path(os.path.join(HERE, "make-files"))["FEATURES"]
 KINDS = ["sessions", "papers", "halls", "openings", "candidates", "arrangements", "entries"]
 
 Took = namedtuple("Took", "clock used")  # seconds by the clock, and seconds of processor time
