@@ -1,14 +1,13 @@
 //! An import file, read and split into its rows.
-ghost use Rattle.std.specs.Prelude.{◌≡◌, ◌<◌, ◌≤◌, ◌++◌, length, take, IfOk, IfErr, OnOk, OnErr};
+ghost use Rattle.std.specs.Prelude.{◌≡◌, ◌<◌, ◌≤◌, length, take, IfOk, IfErr, OnOk, OnErr};
 ghost use Rattle.std.specs.Io.KnownBytes.{Consumes, IsAtEnd, Keeps};
 ghost use Rattle.exam_job.specs.declared.report.JobFault.TheVariants.{File};
-ghost use Rattle.exam_types.specs.declared.refusal.Refusal.TheVariants.{NoMemory};
 ghost use Rattle.exam_job.specs.Reading as spec;
 
 use crate::report::JobFault;
 use exam_files::{MOST_BYTES, read_import};
 use exam_office::{Import, Kind};
-use exam_types::Refusal;
+use exam_types::append;
 use std::alloc::Global;
 use std::io::{ErrorKind, Read};
 
@@ -48,13 +47,6 @@ fn read_file<R: Read>(alloc: Global, reader: &mut R) -> Result<Vec<u8>, JobFault
         append(&mut bytes, &piece[..count])?;
     }
     Ok(bytes)
-}
-
-fn append(bytes: &mut Vec<u8>, piece: &[u8]) -> Result<(), Refusal>
-    ensures ok { OnOk result (bytes.new.items ≡ bytes.old.items ++ piece.now) }
-    ensures memory { IfErr result (λ e. e ≡ NoMemory) }
-{
-    Ok(bytes.extend_from_slice(piece)?)
 }
 
 /// How many bytes one read gave; none at the end of the file. Repeats a read that is interrupted.

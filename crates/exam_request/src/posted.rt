@@ -1,7 +1,6 @@
 //! The body of a posting.
-ghost use Rattle.std.specs.Prelude.{◌≡◌, ◌<◌, false, length, nat_le, IsTrue, IsSome, IfOk, IfErr, IfSome, IfNone, Some, None};
+ghost use Rattle.std.specs.Prelude.{◌≡◌, ◌<◌, false, length, nat_le, IsTrue, IsSome, IfOk, IfErr, Some, None};
 ghost use Rattle.std.specs.Prelude.{option_map, if◌then◌else◌};
-ghost use Rattle.std.specs.Str.{is_utf8};
 ghost use Rattle.json.specs.Find.{as_object};
 ghost use Rattle.json.specs.Value.{value_view};
 ghost use Rattle.serde_json.specs.Read.{read};
@@ -10,12 +9,13 @@ ghost use Rattle.exam_types.specs.declared.refusal.Refusal.TheVariants.{NoMemory
 ghost use Rattle.exam_request.specs.Posted as spec;
 
 use exam_rules::{Arrangement, Subject};
-use exam_types::{Extra, Features, HallCode, PaperCode, Reason, Reference, Refusal, SessionCode};
+use exam_types::{
+    Extra, Features, HallCode, PaperCode, Reason, Reference, Refusal, SessionCode, text_of,
+};
 use json::{Error, Scratch, Value as Tree};
 use serde_json::Value;
 use serde_json::error::Category;
 use std::alloc::Global;
-use std::str;
 
 /// How many members the object of an appeal has that names one thing: `kind`, `reason`, `ref`, `session` and the thing.
 const MEMBERS_WITH_ONE: usize = 5;
@@ -41,17 +41,6 @@ pub fn posted_in(alloc: Global, body: &[u8]) -> Result<Option<Posted>, Refusal>
     match text_of(body) {
         Some(text) => lodged_in(alloc, text),
         None => Ok(None),
-    }
-}
-
-/// The bytes as text, if they are UTF-8.
-fn text_of(bytes: &[u8]) -> Option<&str>
-    ensures some { IfSome result (λ text. (text.now ≡ bytes.now) × IsTrue (is_utf8 bytes.now)) }
-    ensures none { IfNone result (is_utf8 bytes.now ≡ false) }
-{
-    match str::from_utf8(bytes) {
-        Ok(text) => Some(text),
-        Err(_) => None,
     }
 }
 

@@ -19,4 +19,4 @@ pub use features::Features;
 pub use numbers::{ClosingTime, DeskCount, ExamMinutes, Extra, Minute, Number, StartTime};
 pub use refusal::Refusal;
 pub use session_day::SessionDay;
-pub use text::{Name, Reason};
+pub use text::{Name, Reason, append, text_of};

@@ -132,7 +132,7 @@ fn has_control(bytes: &[u8]) -> bool
 }
 
 /// The bytes as text, or none if they are not UTF-8.
-fn text_of(bytes: &[u8]) -> Option<&str>
+pub fn text_of(bytes: &[u8]) -> Option<&str>
     ensures some { IfSome result (λ text. (text.now ≡ bytes.now) × IsTrue (is_utf8 bytes.now)) }
     ensures none { IfNone result (is_utf8 bytes.now ≡ false) }
 {
