@@ -11,7 +11,7 @@ use exam_store::Store;
 use sqlite::Alter;
 
 /// If two offices show the same of the candidate whom a request names, they answer the request the same on a day,
-/// unless one of them fails. So nobody learns anything about another candidate.
+/// unless one of them fails. So the bytes of an answer tell nobody anything about another candidate.
 pub fn own_rows_decide_an_answer<S: Alter, T: Alter>(one: &Store<S>, other: &Store<T>)
     ensures { (today : ℕ) (request : Request) (one_after : OfficeIn S) (other_after : OfficeIn T)
         (first second : Told) → own_named one.now.office request ≡ own_named other.now.office request

@@ -5,16 +5,24 @@ use Rattle.std.specs.Prelude.{drop, slice_range, bytes_eq, Option, Some, None}
 use Rattle.std.specs.List.{range_with_len}
 use Rattle.std.specs.Option.{option_and_then}
 use Rattle.exam_types.specs.Digits.{digits, digits_value}
-use Rattle.exam_types.specs.declared.day.TheConstants.{FIRST_DAY, LAST_DAY}
-use Rattle.exam_types.specs.declared.session_day.TheConstants.{FIRST_SESSION_DAY}
 
--- 2000-01-01 is day 10,957, and 2199-12-31 day 84,005
+-- 2000-01-01
+abbrev pub first_day : ℕ
+first_day = 10957
+
+-- 2199-12-31
+abbrev pub last_day : ℕ
+last_day = 84005
+
+-- 2000-01-11, the first day that has ten days before it
+abbrev pub first_session_day : ℕ
+first_session_day = 10967
+
 abbrev pub IsDay : ℕ → Type 0
-IsDay n = (FIRST_DAY ≤ n) × (n ≤ LAST_DAY)
+IsDay n = (first_day ≤ n) × (n ≤ last_day)
 
--- 2000-01-11, the first day that has ten days before it, is day 10,967
 abbrev pub IsSessionDay : ℕ → Type 0
-IsSessionDay n = (FIRST_SESSION_DAY ≤ n) × (n ≤ LAST_DAY)
+IsSessionDay n = (first_session_day ≤ n) × (n ≤ last_day)
 
 -- every fourth year is a leap year, but of the full centuries only every fourth
 abbrev pub is_leap : ℕ → Bool
@@ -41,7 +49,7 @@ days_of_months y (suc m) = days_of_months y m + month_days y (suc m)
 
 -- the number of the first day of a year
 abbrev pub year_start : ℕ → ℕ
-year_start y = FIRST_DAY + days_of_years (y - 2000)
+year_start y = first_day + days_of_years (y - 2000)
 
 -- the number of the first day of a month
 abbrev pub month_start : ℕ → ℕ → ℕ
@@ -68,7 +76,7 @@ unfoldable pub day_text : ℕ → List ℕ
 day_text n = date_text (year_of n) (month_of n) (month_day_of n)
 
 abbrev pub is_day : ℕ → Bool
-is_day n = nat_le FIRST_DAY n && nat_le n LAST_DAY
+is_day n = nat_le first_day n && nat_le n last_day
 
 -- the number that the digits of a text make
 abbrev pub spelled_day : List ℕ → ℕ
@@ -84,7 +92,7 @@ day_of bytes =
 -- the session's day that a text names
 abbrev pub session_day_in : List ℕ → Option ℕ
 session_day_in bytes =
-    option_and_then (λ n. if nat_le FIRST_SESSION_DAY n then Some n else None) (day_of bytes)
+    option_and_then (λ n. if nat_le first_session_day n then Some n else None) (day_of bytes)
 
 june_2027 : day_text 20970 ≡ codes "2027-06-01"
 unfolding day_text year_of month_of month_day_of days_of_years days_of_months

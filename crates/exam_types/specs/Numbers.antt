@@ -1,40 +1,36 @@
--- The ranges and the texts of the numbered values.
+-- The ranges and the texts of the numbered values. The ranges are numbers, not the constants of the code.
 use Rattle.std.specs.Prelude.{ℕ, ◌≤◌, ◌+◌, ◌-◌, ◌/◌, ◌%◌, List, ◌∷◌, ◌++◌, Option, find, bytes_eq}
 use Rattle.std.specs.Fmt.{decimal}
 use Rattle.std.specs.List.{range_with_len}
 use Rattle.exam_types.specs.Digits.{digits}
-use Rattle.exam_types.specs.declared.numbers.TheConstants.{LEAST_NUMBER, GREATEST_NUMBER, GREATEST_MINUTE}
-use Rattle.exam_types.specs.declared.numbers.TheConstants.{GREATEST_START, GREATEST_CLOSING}
-use Rattle.exam_types.specs.declared.numbers.TheConstants.{LEAST_EXAM_MINUTES, GREATEST_EXAM_MINUTES}
-use Rattle.exam_types.specs.declared.numbers.TheConstants.{GREATEST_EXTRA, LEAST_DESKS, GREATEST_DESKS}
 
 -- 1 to 9,999,999
 abbrev pub IsNumber : ℕ → Type 0
-IsNumber n = (LEAST_NUMBER ≤ n) × (n ≤ GREATEST_NUMBER)
+IsNumber n = (1 ≤ n) × (n ≤ 9999999)
 
 -- a time from 00:00 to 43:59, in minutes
 abbrev pub IsMinute : ℕ → Type 0
-IsMinute m = m ≤ GREATEST_MINUTE
+IsMinute m = m ≤ 2639
 
 -- 00:00 to 23:59
 abbrev pub IsStartTime : ℕ → Type 0
-IsStartTime m = m ≤ GREATEST_START
+IsStartTime m = m ≤ 1439
 
 -- 00:00 to 24:00
 abbrev pub IsClosingTime : ℕ → Type 0
-IsClosingTime m = m ≤ GREATEST_CLOSING
+IsClosingTime m = m ≤ 1440
 
 -- the length of a paper in minutes
 abbrev pub IsExamMinutes : ℕ → Type 0
-IsExamMinutes m = (LEAST_EXAM_MINUTES ≤ m) × (m ≤ GREATEST_EXAM_MINUTES)
+IsExamMinutes m = (1 ≤ m) × (m ≤ 600)
 
 -- extra time in percent
 abbrev pub IsExtra : ℕ → Type 0
-IsExtra p = p ≤ GREATEST_EXTRA
+IsExtra p = p ≤ 100
 
 -- desks of an opening
 abbrev pub IsDeskCount : ℕ → Type 0
-IsDeskCount n = (LEAST_DESKS ≤ n) × (n ≤ GREATEST_DESKS)
+IsDeskCount n = (1 ≤ n) × (n ≤ 2000)
 
 -- seven digits
 unfoldable pub number_text : ℕ → List ℕ
@@ -49,7 +45,7 @@ unfoldable pub value_in : (ℕ → List ℕ) → ℕ → ℕ → List ℕ → Op
 value_in text least greatest bytes =
     find (λ n. bytes_eq (text n) bytes) (range_with_len least (greatest + 1 - least))
 
--- The value that a text is, if it is one. The ranges are written here as numbers, not as the constants of the code.
+-- The value that a text is, if it is one.
 
 abbrev pub number_in : List ℕ → Option ℕ
 number_in = value_in number_text 1 9999999
