@@ -98,9 +98,9 @@ june_2027 : day_text 20970 ≡ codes "2027-06-01"
 unfolding day_text year_of month_of month_day_of days_of_years days_of_months
 june_2027 = refl
 
-first_day : day_text 10957 ≡ codes "2000-01-01"
+first_day_text : day_text first_day ≡ codes "2000-01-01"
 unfolding day_text year_of month_of month_day_of days_of_years days_of_months
-first_day = refl
+first_day_text = refl
 
 leap_day : day_text 46080 ≡ codes "2096-02-29"
 unfolding day_text year_of month_of month_day_of days_of_years days_of_months
@@ -110,9 +110,9 @@ no_leap_day : day_text 47541 ≡ codes "2100-03-01"
 unfolding day_text year_of month_of month_day_of days_of_years days_of_months
 no_leap_day = refl
 
-last_day : day_text 84005 ≡ codes "2199-12-31"
+last_day_text : day_text last_day ≡ codes "2199-12-31"
 unfolding day_text year_of month_of month_day_of days_of_years days_of_months
-last_day = refl
+last_day_text = refl
 
 day_of_june : day_of (codes "2027-06-01") ≡ Some 20970
 unfolding day_of day_text year_of month_of month_day_of days_of_years days_of_months
@@ -130,7 +130,7 @@ two_digits_each : day_of (codes "2027-6-1") ≡ None
 unfolding day_of day_text year_of month_of month_day_of days_of_years days_of_months
 two_digits_each = refl
 
-last_day_read : day_of (codes "2199-12-31") ≡ Some 84005
+last_day_read : day_of (codes "2199-12-31") ≡ Some last_day
 unfolding day_of day_text year_of month_of month_day_of days_of_years days_of_months
 last_day_read = refl
 
@@ -138,9 +138,9 @@ no_day_before_2000 : day_of (codes "1999-12-31") ≡ None
 unfolding day_of day_text year_of month_of month_day_of days_of_years days_of_months
 no_day_before_2000 = refl
 
-first_session_day : session_day_in (codes "2000-01-11") ≡ Some 10967
+first_session_day_read : session_day_in (codes "2000-01-11") ≡ Some first_session_day
 unfolding day_of day_text year_of month_of month_day_of days_of_years days_of_months
-first_session_day = refl
+first_session_day_read = refl
 
 no_session_before : session_day_in (codes "2000-01-10") ≡ None
 unfolding day_of day_text year_of month_of month_day_of days_of_years days_of_months
