@@ -9,7 +9,7 @@ use Rattle.std.specs.Cmp.{IsTotalOrder, nat_cmp_is, nat_cmp_total, then_total, o
 use Rattle.std.specs.declared.cmp.Ordering.{Ordering}
 use Rattle.std.specs.declared.cmp.Ordering.TheVariants.{Less}
 use Rattle.std.proofs.lemmas.Bool.{cases_eq, cases_lt, cases_Bool, eq-eqb, eqb-true, lt-ltb, le-ltb}
-use Rattle.std.proofs.lemmas.List.{length-set, length-take, length-replicate, get_or-set_same, get_or-set_other, get_or-replicate, get_or_past}
+use Rattle.std.proofs.lemmas.List.{length-set, length-take, length-replicate, get_or-set_same, get_or-set_other, get_or-replicate, get_or_past, get_or_default}
 use Rattle.std.proofs.lemmas.List.Elements.{All-from_get_or, All-map}
 use Rattle.std.proofs.lemmas.List.FromFn.{length-range_with_len, get_or-range_with_len, length-map-range_with_len, get_or-map-range_with_len, fill_by_all, sum_by-map-range_with_len_more}
 use Rattle.std.proofs.lemmas.List.Sorted.{ranks_by, sorted_far, length_permutation, All-permutation, Contains-permutation, sum_by-IsPermutation}
@@ -19,7 +19,7 @@ use Rattle.exam_plan.specs.Matching.{Plan, is_hall, occupants, desk_number}
 use Rattle.exam_plan.specs.Problems.{Problem, IsProblem, seating_of, plan_at, ranks_before}
 use Rattle.exam_plan.proofs.Counting.{bit, count_below, sum_below}
 use Rattle.exam_plan.proofs.NumberLaws.{differ_at, below_count, number_at}
-use Rattle.exam_plan.proofs.Steps.{one_counted, same_within, place_below}
+use Rattle.exam_plan.proofs.Steps.{one_counted, place_below}
 
 -- ---- counts in lists
 
@@ -135,12 +135,7 @@ module _ (p : Problem) (order : List (ℕ × ℕ)) (is : IsDeskOrder p order) wh
       let long : length pairs ≡ length p.fit = length-map-range_with_len (behind_rank p) 0 (length p.fit) in
       let here : Contains pairs (behind_rank p c) = (c, omega (arith, l, long), get_or-map-range_with_len (behind_rank p) 0 (length p.fit) c c (behind_rank p c) l (zero-add c)) in
       let there = Contains-permutation pairs order (behind_rank p c) is.all here in
-      (there.0, there.1, ap (λ (x : ℕ × ℕ). x.1) (within order there.0 (0, 0) (behind_rank p c) there.1 ∙ there.2))
-    where
-      within : (xs : List (ℕ × ℕ)) (j : ℕ) (d e : ℕ × ℕ) → j < length xs → get_or xs j d ≡ get_or xs j e
-      within [] j d e m = absurd (omega arith)
-      within (x ∷ xs) zero d e m = refl
-      within (x ∷ xs) (suc j) d e m = within xs j d e (omega arith)
+      (there.0, there.1, ap (λ (x : ℕ × ℕ). x.1) (get_or_default order there.0 (0, 0) (behind_rank p c) there.1 ∙ there.2))
 
   module _ (good : IsProblem p) where
     once : (r : ℕ) → count_by (λ (x : ℕ × ℕ). nat_eq r x.0) order ≤ 1
@@ -237,7 +232,7 @@ module _ (p : Problem) (order : List (ℕ × ℕ)) (q : Plan ℕ ℕ) (i : ℕ) 
         long = rw length-set before.long;
         room = rw length-set before.room;
         counted = one_counted (length p.desk_counts) h (get_or counts h 0) counts (λ k. met p order q k i) (λ k. met p order q k (i + 1)) before.room before.counted
-            (λ k. met_more p order q k i below ∙ ap (λ o. met p order q k i + bit (is_hall (seating_of p) k o)) sits) (same_within counts h 0 (get_or counts h 0) (omega (arith, exists, before.room)));
+            (λ k. met_more p order q k i below ∙ ap (λ o. met p order q k i + bit (is_hall (seating_of p) k o)) sits) (get_or_default counts h 0 (get_or counts h 0) (omega (arith, exists, before.room)));
         numbered = λ j k l there. elim (cases_lt j i) [
           | inl m ↦ get_or-set_other numbers here (get_or order j (0, 0)).1 _ None (λ e. others p order is good j i m below e) ∙ before.numbered j k m there
           | inr m ↦ (let same : i ≡ j = omega arith in
