@@ -1,5 +1,5 @@
 -- What is so by indices is so by names, for two seatings of which one renames the other.
-use Rattle.std.proofs.Common.{◌≡◌, ℕ, ◌+◌, ◌<◌, ◌≤◌, Bool, cond, IsTrue, List, [], ◌∷◌, length, map, filter, get_or, Contains, count_by, sum_by, Option, None, Some, IfSome, is_none, eq-eqb, refl, sym, ap, subst, ◌∙◌, arith}
+use Rattle.std.proofs.Common.{◌≡◌, ℕ, ◌+◌, ◌<◌, ◌≤◌, Bool, IsTrue, List, [], ◌∷◌, length, map, filter, get_or, Contains, count_by, sum_by, Option, None, Some, IfSome, is_none, refl, sym, ap, subst, ◌∙◌, arith}
 use Rattle.std.specs.declared.cmp.Ordering.{Ordering}
 use Rattle.std.specs.declared.cmp.Ordering.TheVariants.{Less}
 use Rattle.std.specs.List.{AllByRecursion}
@@ -9,9 +9,9 @@ use Rattle.std.specs.Option.{option_map, option_and_then}
 use Rattle.std.proofs.lemmas.List.{get_or-map, get_or_default, length-map}
 use Rattle.std.proofs.lemmas.List.Elements.{All-contains, All-map, recursion_from_All}
 use Rattle.std.proofs.lemmas.Option.{IfSome_then}
-use Rattle.exam_plan.specs.Naming.{Naming, named_plan, at_index, indexed_plan}
+use Rattle.exam_plan.specs.Naming.{Naming, named_plan, indexed_plan}
 use Rattle.exam_plan.specs.Matching.{Plan, IsLawful, IsBest, IsContested, IsCertificate, is_hall, occupants, unseated, desk_number, size}
-use Rattle.exam_plan.proofs.Renaming.{Renames, is_hall-known, IsLawful-named, IsBest-named, size-named, size-indexed, IsLawful-indexed}
+use Rattle.exam_plan.proofs.Renaming.{Renames, named_member, indexed_member, is_hall-known, IsLawful-named, IsBest-named, size-named, size-indexed, IsLawful-indexed}
 use Rattle.exam_plan.proofs.Small.{all_filter, count_same, filter_same, of_members, some_value}
 
 is_none-map : {A B : Type 0} (f : A → B) (o : Option A) → is_none (option_map f o) ≡ is_none o
@@ -52,16 +52,10 @@ sum_same f g n [] h = refl
 sum_same f g n (x ∷ xs) h = sum_by-cons f (n x) (map n xs) ∙ ap (λ t. t + sum_by f (map n xs)) h.0 ∙ ap (λ t. g x + t) (sum_same f g n xs h.1) ∙ sym (sum_by-cons g x xs)
 
 module _ {C H : Type 0} (name : Naming C H) (r : Renames name) where
-  pub named_member : (p : Plan ℕ ℕ) (c : C) (i : ℕ) → name.candidate_index c ≡ Some i → named_plan name p c ≡ option_map name.hall (p i)
-  named_member p c i e = ap (option_and_then (λ k. option_map name.hall (p k))) e
-
-  indexed_member : (q : Plan C H) (i : ℕ) → name.candidate_index (name.candidate i) ≡ Some i → indexed_plan name q i ≡ option_and_then name.hall_index (q (name.candidate i))
-  indexed_member q i e = ap (option_and_then (at_index name q i)) e ∙ ap (λ t. cond t (option_and_then name.hall_index (q (name.candidate i))) None) (eq-eqb i i refl)
-
   pub unseated-named : (p : Plan ℕ ℕ) → unseated name.of_names (named_plan name p) ≡ map name.candidate (unseated name.of_indices p)
   unseated-named p = ap (filter (λ c. is_none (named_plan name p c))) r.members
       ∙ filter_same (λ c. is_none (named_plan name p c)) (λ i. is_none (p i)) name.candidate name.of_indices.members
-      (of_members _ name.of_indices.members (λ i m. ap is_none (named_member p (name.candidate i) i (r.known i m)) ∙ is_none-map name.hall (p i)))
+      (of_members _ name.of_indices.members (λ i m. ap is_none (named_member name r p (name.candidate i) i (r.known i m)) ∙ is_none-map name.hall (p i)))
 
   -- a member has an index
   pub member_index : (c : C) → Contains name.of_names.members c → (i : ℕ) × (name.candidate_index c ≡ Some i) × Contains name.of_indices.members i
@@ -89,7 +83,7 @@ module _ {C H : Type 0} (name : Naming C H) (r : Renames name) where
 
   -- the contested candidates are the named_plan name contested ones
   pub IsContested-named : (c : C) (i : ℕ) → name.candidate_index c ≡ Some i → IsContested name.of_indices i → IsContested name.of_names c
-  IsContested-named c i e contested = ((r.named c i e).2, (named_plan name contested.1.0, IsBest-named name r contested.1.0 contested.1.1, named_member contested.1.0 c i e ∙ none_from name.hall (contested.1.0 i) contested.1.2))
+  IsContested-named c i e contested = ((r.named c i e).2, (named_plan name contested.1.0, IsBest-named name r contested.1.0 contested.1.1, named_member name r contested.1.0 c i e ∙ none_from name.hall (contested.1.0 i) contested.1.2))
 
   pub IsContested-indexed : (c : C) (i : ℕ) → name.candidate_index c ≡ Some i → IsContested name.of_names c → IsContested name.of_indices i
   IsContested-indexed c i e contested =
@@ -99,7 +93,7 @@ module _ {C H : Type 0} (name : Naming C H) (r : Renames name) where
         (
           indexed_plan name contested.1.0,
           IsBest-indexed contested.1.0 contested.1.1,
-          indexed_member contested.1.0 i at ∙ ap (λ t. option_and_then name.hall_index (contested.1.0 t)) is ∙ ap (option_and_then name.hall_index) contested.1.2,
+          indexed_member name r contested.1.0 i at ∙ ap (λ t. option_and_then name.hall_index (contested.1.0 t)) is ∙ ap (option_and_then name.hall_index) contested.1.2,
         ),
       )
 
@@ -138,7 +132,7 @@ module _ {C H : Type 0} (name : Naming C H) (r : Renames name) where
   -- desk numbers are the same, where names stand in the order of the indices' ranks
   pub desk_number-named : (before_b : C → C → Bool) (before_a : ℕ → ℕ → Bool) → ((i j : ℕ) → Contains name.of_indices.members i → Contains name.of_indices.members j → before_b (name.candidate i) (name.candidate j) ≡ before_a i j)
       → (p : Plan ℕ ℕ) → IsLawful name.of_indices p → (c : C) (i : ℕ) → name.candidate_index c ≡ Some i → desk_number name.of_names before_b (named_plan name p) c ≡ desk_number name.of_indices before_a p i
-  desk_number-named before_b before_a order p l c i at = ap (option_map (λ h. count_by (λ d. before_b d c) (occupants name.of_names (named_plan name p) h) + 1)) (named_member p c i at) ∙ inner (p i) (l.fitting i)
+  desk_number-named before_b before_a order p l c i at = ap (option_map (λ h. count_by (λ d. before_b d c) (occupants name.of_names (named_plan name p) h) + 1)) (named_member name r p c i at) ∙ inner (p i) (l.fitting i)
     where
       member : Contains name.of_indices.members i
       member = (r.named c i at).1
@@ -152,6 +146,6 @@ module _ {C H : Type 0} (name : Naming C H) (r : Renames name) where
           let sat : occupants name.of_names (named_plan name p) (name.hall k) ≡ map name.candidate (occupants name.of_indices p k) =
           ap (filter (λ c. is_hall name.of_names (name.hall k) (named_plan name p c))) r.members
           ∙ filter_same (λ c. is_hall name.of_names (name.hall k) (named_plan name p c)) (λ d. is_hall name.of_indices k (p d)) name.candidate name.of_indices.members
-          (of_members _ name.of_indices.members (λ d m. ap (is_hall name.of_names (name.hall k)) (named_member p (name.candidate d) d (r.known d m)) ∙ is_hall-known name r (name.hall k) k (p d) (r.known_hall i k fit) (IfSome_then (p d) (l.fitting d) (r.known_hall d)))) in
+          (of_members _ name.of_indices.members (λ d m. ap (is_hall name.of_names (name.hall k)) (named_member name r p (name.candidate d) d (r.known d m)) ∙ is_hall-known name r (name.hall k) k (p d) (r.known_hall i k fit) (IfSome_then (p d) (l.fitting d) (r.known_hall d)))) in
           ap (λ n. Some (n + 1)) (ap (count_by (λ d. before_b d c)) sat
           ∙ count_same (λ d. before_b d c) (λ d. before_a d i) name.candidate (occupants name.of_indices p k) (all_filter (λ d. before_b (name.candidate d) c ≡ before_a d i) (λ d. is_hall name.of_indices k (p d)) name.of_indices.members (of_members _ name.of_indices.members (λ d m. ap (before_b (name.candidate d)) (sym is) ∙ order d i m member))))

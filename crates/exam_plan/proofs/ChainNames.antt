@@ -12,8 +12,7 @@ use Rattle.std.proofs.lemmas.Option.{same_Some}
 use Rattle.exam_plan.specs.Naming.{Naming, named_plan, named_hop, named_chain}
 use Rattle.exam_plan.specs.Matching.{Plan, is_hall, occupants}
 use Rattle.exam_plan.specs.Chains.{Chain, chain_halls, HasFreeDesk, Leads, IsChain, chain_cmp, IsLeastChain}
-use Rattle.exam_plan.proofs.Renaming.{Renames, is_hall-known}
-use Rattle.exam_plan.proofs.Carrying.{named_member}
+use Rattle.exam_plan.proofs.Renaming.{Renames, named_member, is_hall-known}
 use Rattle.exam_plan.proofs.Small.{filter_same, of_members, some_value, value_at}
 
 -- the orders agree, candidates are told apart, and halls fit members alone

@@ -11,8 +11,8 @@ use Rattle.std.proofs.Math.Path.{fun_ext}
 use Rattle.exam_plan.specs.Naming.{Naming, named_plan, at_index, indexed_plan}
 use Rattle.exam_plan.specs.Matching.{Seating, Plan, SamePlan, IsLawful, is_hall}
 use Rattle.exam_plan.specs.Repair.{is_member, where_fitting, fitting_part, lesser_occupants, where_room, room_part, kept_part, IsSweep, IsRepair}
-use Rattle.exam_plan.proofs.Renaming.{Renames, is_hall-known}
-use Rattle.exam_plan.proofs.Carrying.{named_member, member_index, sum_same}
+use Rattle.exam_plan.proofs.Renaming.{Renames, named_member, indexed_member, is_hall-known}
+use Rattle.exam_plan.proofs.Carrying.{member_index, sum_same}
 use Rattle.exam_plan.proofs.ChainNames.{Follows, AreKnown}
 use Rattle.exam_plan.proofs.SweepNames.{IsSweep-named, IsSweep-indexed}
 use Rattle.exam_plan.proofs.Small.{of_members}
@@ -43,7 +43,7 @@ module _ {C H : Type 0} (name : Naming C H) (r : Renames name) (f : Follows name
   pub seat_index : (q : Plan C H) (c : C) (i : ℕ) → name.candidate_index c ≡ Some i → by_index q i ≡ option_and_then name.hall_index (q c)
   seat_index q c i at =
       let is : name.candidate i ≡ c = (r.named c i at).0 in
-      ap (option_and_then (at_index name q i)) (ap name.candidate_index is ∙ at) ∙ ap (λ t. cond t (option_and_then name.hall_index (q (name.candidate i))) None) (eq-eqb i i refl) ∙ ap (λ t. option_and_then name.hall_index (q t)) is
+      indexed_member name r q i (ap name.candidate_index is ∙ at) ∙ ap (λ t. option_and_then name.hall_index (q t)) is
 
   where_fitting-named : (c : C) (i : ℕ) → name.candidate_index c ≡ Some i → (o : Option H) → where_fitting name.of_names c o ≡ option_map name.hall (where_fitting name.of_indices i (option_and_then name.hall_index o))
   where_fitting-named c i at None = refl

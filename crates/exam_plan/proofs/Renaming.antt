@@ -29,13 +29,13 @@ is_some-map f None = refl
 is_some-map f (Some x) = refl
 
 module _ {C H : Type 0} (name : Naming C H) (r : Renames name) where
-  named_at : (p : Plan ℕ ℕ) (i : ℕ) → Contains name.of_indices.members i → named_plan name p (name.candidate i) ≡ option_map name.hall (p i)
-  named_at p i h = ap (option_and_then (λ k. option_map name.hall (p k))) (r.known i h)
+  pub named_member : (p : Plan ℕ ℕ) (c : C) (i : ℕ) → name.candidate_index c ≡ Some i → named_plan name p c ≡ option_map name.hall (p i)
+  named_member p c i e = ap (option_and_then (λ k. option_map name.hall (p k))) e
 
   pub size-named : (p : Plan ℕ ℕ) → size name.of_names (named_plan name p) ≡ size name.of_indices p
   size-named p = ap (count_by (λ c. is_some (named_plan name p c))) r.members
       ∙ count_same (λ c. is_some (named_plan name p c)) (λ i. is_some (p i)) name.candidate name.of_indices.members
-      (of_members _ name.of_indices.members (λ i h. ap is_some (named_at p i h) ∙ is_some-map name.hall (p i)))
+      (of_members _ name.of_indices.members (λ i h. ap is_some (named_member p (name.candidate i) i (r.known i h)) ∙ is_some-map name.hall (p i)))
 
   -- the same hall by names and by indices
   same_hall-known : (g h : H) (j k : ℕ) → name.hall_index g ≡ Some j → name.hall_index h ≡ Some k → name.of_names.same_hall g h ≡ name.of_indices.same_hall j k
@@ -56,7 +56,7 @@ module _ {C H : Type 0} (name : Naming C H) (r : Renames name) where
   occupied p l h (Some j) at =
       let e : count_by (λ c. is_hall name.of_names h (named_plan name p c)) name.of_names.members ≡ count_by (λ i. is_hall name.of_indices j (p i)) name.of_indices.members =
       ap (count_by (λ c. is_hall name.of_names h (named_plan name p c))) r.members
-      ∙ count_same _ (λ i. is_hall name.of_indices j (p i)) name.candidate name.of_indices.members (of_members _ name.of_indices.members (λ i m. ap (is_hall name.of_names h) (named_at p i m) ∙ is_hall-known h j (p i) at (IfSome_then (p i) (l.fitting i) (r.known_hall i)))) in
+      ∙ count_same _ (λ i. is_hall name.of_indices j (p i)) name.candidate name.of_indices.members (of_members _ name.of_indices.members (λ i m. ap (is_hall name.of_names h) (named_member p (name.candidate i) i (r.known i m)) ∙ is_hall-known h j (p i) at (IfSome_then (p i) (l.fitting i) (r.known_hall i)))) in
       let d : name.of_names.desks h ≡ name.of_indices.desks j = r.desks h j at in
       let f : length (occupants name.of_indices p j) ≡ count_by (λ i. is_hall name.of_indices j (p i)) name.of_indices.members = length-filter (λ i. is_hall name.of_indices j (p i)) name.of_indices.members in
       let w : length (occupants name.of_indices p j) ≤ name.of_indices.desks j = l.within_desks j in
@@ -64,7 +64,7 @@ module _ {C H : Type 0} (name : Naming C H) (r : Renames name) where
   occupied p l h None at =
       let e : count_by (λ c. is_hall name.of_names h (named_plan name p c)) name.of_names.members ≡ count_by (λ (i : ℕ). false) name.of_indices.members =
       ap (count_by (λ c. is_hall name.of_names h (named_plan name p c))) r.members
-      ∙ count_same _ (λ (i : ℕ). false) name.candidate name.of_indices.members (of_members _ name.of_indices.members (λ i m. ap (is_hall name.of_names h) (named_at p i m) ∙ is_hall-unknown h i (p i) at (l.fitting i))) in
+      ∙ count_same _ (λ (i : ℕ). false) name.candidate name.of_indices.members (of_members _ name.of_indices.members (λ i m. ap (is_hall name.of_names h) (named_member p (name.candidate i) i (r.known i m)) ∙ is_hall-unknown h i (p i) at (l.fitting i))) in
       let z : count_by (λ (i : ℕ). false) name.of_indices.members ≡ 0 = fold_stays (λ (m i : ℕ). m + 0) 0 (λ i. refl) name.of_indices.members in
       omega arith
 
@@ -90,8 +90,8 @@ module _ {C H : Type 0} (name : Naming C H) (r : Renames name) where
 
   -- ---- a plan by names, read by indices
 
-  indexed_at : (q : Plan C H) (i : ℕ) → Contains name.of_indices.members i → indexed_plan name q i ≡ option_and_then name.hall_index (q (name.candidate i))
-  indexed_at q i h = ap (option_and_then (at_index name q i)) (r.known i h) ∙ ap (λ t. cond t (option_and_then name.hall_index (q (name.candidate i))) None) (eq-eqb i i refl)
+  pub indexed_member : (q : Plan C H) (i : ℕ) → name.candidate_index (name.candidate i) ≡ Some i → indexed_plan name q i ≡ option_and_then name.hall_index (q (name.candidate i))
+  indexed_member q i e = ap (option_and_then (at_index name q i)) e ∙ ap (λ t. cond t (option_and_then name.hall_index (q (name.candidate i))) None) (eq-eqb i i refl)
 
   -- what is seated by an index is a member, and sits where the name sits
   indexed_from : (q : Plan C H) (i : ℕ) (o : Option ℕ) → name.candidate_index (name.candidate i) ≡ o → IsSome (option_and_then (at_index name q i) o) → Contains name.of_indices.members i
@@ -109,7 +109,7 @@ module _ {C H : Type 0} (name : Naming C H) (r : Renames name) where
   pub size-indexed : (q : Plan C H) → IsLawful name.of_names q → size name.of_indices (indexed_plan name q) ≡ size name.of_names q
   size-indexed q l = sym (ap (count_by (λ c. is_some (q c))) r.members
       ∙ count_same (λ c. is_some (q c)) (λ i. is_some (indexed_plan name q i)) name.candidate name.of_indices.members
-      (of_members _ name.of_indices.members (λ i m. sym (ap is_some (indexed_at q i m) ∙ is_some-index (name.candidate i) (q (name.candidate i)) (l.fitting (name.candidate i))))))
+      (of_members _ name.of_indices.members (λ i m. sym (ap is_some (indexed_member q i (r.known i m)) ∙ is_some-index (name.candidate i) (q (name.candidate i)) (l.fitting (name.candidate i))))))
 
   is_hall-index : (j : ℕ) → name.hall_index (name.hall j) ≡ Some j → (o : Option H) → is_hall name.of_names (name.hall j) o ≡ is_hall name.of_indices j (option_and_then name.hall_index o)
   is_hall-index j at None = refl
@@ -139,14 +139,14 @@ module _ {C H : Type 0} (name : Naming C H) (r : Renames name) where
   occupied-index q l j (inl at) =
       let e : count_by (λ c. is_hall name.of_names (name.hall j) (q c)) name.of_names.members ≡ count_by (λ i. is_hall name.of_indices j (indexed_plan name q i)) name.of_indices.members =
       ap (count_by (λ c. is_hall name.of_names (name.hall j) (q c))) r.members
-      ∙ count_same _ (λ i. is_hall name.of_indices j (indexed_plan name q i)) name.candidate name.of_indices.members (of_members _ name.of_indices.members (λ i m. is_hall-index j at (q (name.candidate i)) ∙ sym (ap (is_hall name.of_indices j) (indexed_at q i m)))) in
+      ∙ count_same _ (λ i. is_hall name.of_indices j (indexed_plan name q i)) name.candidate name.of_indices.members (of_members _ name.of_indices.members (λ i m. is_hall-index j at (q (name.candidate i)) ∙ sym (ap (is_hall name.of_indices j) (indexed_member q i (r.known i m))))) in
       let d : name.of_names.desks (name.hall j) ≡ name.of_indices.desks j = r.desks (name.hall j) j at in
       let f : length (occupants name.of_names q (name.hall j)) ≡ count_by (λ c. is_hall name.of_names (name.hall j) (q c)) name.of_names.members = length-filter (λ c. is_hall name.of_names (name.hall j) (q c)) name.of_names.members in
       let w : length (occupants name.of_names q (name.hall j)) ≤ name.of_names.desks (name.hall j) = l.within_desks (name.hall j) in
       omega arith
   occupied-index q l j (inr away) =
       let e : count_by (λ i. is_hall name.of_indices j (indexed_plan name q i)) (map (λ (i : ℕ). i) name.of_indices.members) ≡ count_by (λ (i : ℕ). false) name.of_indices.members =
-      count_same (λ i. is_hall name.of_indices j (indexed_plan name q i)) (λ (i : ℕ). false) (λ (i : ℕ). i) name.of_indices.members (of_members _ name.of_indices.members (λ i m. ap (is_hall name.of_indices j) (indexed_at q i m) ∙ is_hall-nowhere j away (q (name.candidate i)))) in
+      count_same (λ i. is_hall name.of_indices j (indexed_plan name q i)) (λ (i : ℕ). false) (λ (i : ℕ). i) name.of_indices.members (of_members _ name.of_indices.members (λ i m. ap (is_hall name.of_indices j) (indexed_member q i (r.known i m)) ∙ is_hall-nowhere j away (q (name.candidate i)))) in
       let z : count_by (λ (i : ℕ). false) name.of_indices.members ≡ 0 = fold_stays (λ (m i : ℕ). m + 0) 0 (λ i. refl) name.of_indices.members in
       let y : count_by (λ i. is_hall name.of_indices j (indexed_plan name q i)) (map (λ (i : ℕ). i) name.of_indices.members) ≡ count_by (λ i. is_hall name.of_indices j (indexed_plan name q i)) name.of_indices.members = ap (count_by (λ i. is_hall name.of_indices j (indexed_plan name q i))) (map-id name.of_indices.members) in
       omega arith

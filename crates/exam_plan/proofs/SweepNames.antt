@@ -12,8 +12,7 @@ use Rattle.exam_plan.specs.Naming.{Naming, named_plan, named_hop, named_chain}
 use Rattle.exam_plan.specs.Matching.{Plan, SamePlan}
 use Rattle.exam_plan.specs.Chains.{Chain, Leads, IsLeastChain, seated, augmented}
 use Rattle.exam_plan.specs.Repair.{TurnFrom, Turn, Sweeps, sweep_order, IsSweep}
-use Rattle.exam_plan.proofs.Renaming.{Renames}
-use Rattle.exam_plan.proofs.Carrying.{named_member}
+use Rattle.exam_plan.proofs.Renaming.{Renames, named_member}
 use Rattle.exam_plan.proofs.ChainNames.{Follows, AreKnown, IsKnownHop, hops_known, IsChain-named, IsLeastChain-named, IsLeastChain-indexed, no_chain-named}
 use Rattle.exam_plan.proofs.Small.{all_filter, filter_same, none_kept, of_members}
 
