@@ -1,8 +1,8 @@
 -- Counting: how many numbers below a bound pass a test, and counting in two ways.
-use Rattle.std.proofs.Common.{◌≡◌, ◌≢◌, ℕ, zero, suc, ◌+◌, ◌<◌, ◌≤◌, Bool, true, false, cond, [], ◌∷◌, ◌++◌, count_by, Option, None, Some, IfSome, nat_eq, refl, sym, ap, ◌∙◌, inl, inr, arith, add-zero, zero-add}
+use Rattle.std.proofs.Common.{◌≡◌, ◌≢◌, ℕ, zero, suc, ◌+◌, ◌<◌, ◌≤◌, Bool, true, false, cond, [], ◌∷◌, ◌++◌, count_by, Option, None, Some, IfSome, nat_eq, refl, sym, ap, ◌∙◌, inl, inr, arith, add-zero, zero-add, List}
 use Rattle.std.specs.List.{range_with_len}
 use Rattle.std.proofs.lemmas.Bool.{cases_eq, cases_Bool, eq-eqb, ne_eqb}
-use Rattle.std.proofs.lemmas.List.Sums.{sum_by_push}
+use Rattle.std.proofs.lemmas.List.Sums.{sum_by_push, sum_by-cons}
 
 abbrev pub bit : Bool → ℕ
 bit b = cond b 1 0
@@ -10,6 +10,9 @@ bit b = cond b 1 0
 pub bit_le : (x y : Bool) → (x ≡ true → y ≡ true) → bit x ≤ bit y
 bit_le false y f = omega arith
 bit_le true y f = let e : bit y ≡ 1 = ap bit (f refl) in omega arith
+
+pub count_by-cons : {X : Type 0} (P : X → Bool) (x : X) (xs : List X) → count_by P (x ∷ xs) ≡ bit (P x) + count_by P xs
+count_by-cons P x xs = sum_by-cons (λ y. bit (P y)) x xs
 
 -- how many numbers below n pass
 abbrev pub count_below : (ℕ → Bool) → ℕ → ℕ
