@@ -8,11 +8,10 @@ use Rattle.exam_plan.specs.Matching.{Plan, occupants, size, IsLawful, IsBest}
 use Rattle.exam_plan.specs.Chains.{augmented}
 use Rattle.exam_plan.specs.Problems.{Problem, IsProblem, seating_of}
 use Rattle.exam_plan.specs.Searches.{is_drawn}
-use Rattle.exam_plan.proofs.Counting.{count_below, count_below-le-bound, sits_at}
+use Rattle.exam_plan.proofs.Counting.{count_below, count_below-le-bound, sits_at, count_below-none}
 use Rattle.exam_plan.proofs.Seatings.{length-occupants, size-count, below-member}
 use Rattle.exam_plan.proofs.Optimality.{IsClosedSet, drawn_in, closed_is_greatest}
 use Rattle.exam_plan.proofs.Moves.{lawful-moved, size-moved}
-use Rattle.exam_plan.proofs.LawLemmas.{count_none}
 use Rattle.exam_plan.proofs.ShortOfDesks.{routed}
 use Rattle.exam_plan.proofs.Contested.{IsClosure, closure, marks_of}
 
@@ -75,7 +74,7 @@ module _ (p : Problem) (good : IsProblem p) where
   nobody_lawful = record {
     members = λ c s. absurd (let z : false ≡ true = s in cc);
     fitting = λ c. tt;
-    within_desks = λ h. (let e = length-occupants p nobody h in let z = count_none (length p.fit) in let s : count_below (λ c. sits_at h (nobody c)) (length p.fit) ≡ count_below (λ c. false) (length p.fit) = refl in omega (arith, e, z, s));
+    within_desks = λ h. (let e = length-occupants p nobody h in let z = count_below-none (λ c. false) (length p.fit) (λ c. refl) in let s : count_below (λ c. sits_at h (nobody c)) (length p.fit) ≡ count_below (λ c. false) (length p.fit) = refl in omega (arith, e, z, s));
   }
 
   pub some_best_plan : (q : Plan ℕ ℕ) × IsBest (seating_of p) q

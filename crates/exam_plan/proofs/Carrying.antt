@@ -1,5 +1,5 @@
 -- What is so by indices is so by names, for two seatings of which one renames the other.
-use Rattle.std.proofs.Common.{◌≡◌, ℕ, ◌+◌, ◌<◌, ◌≤◌, Bool, true, false, cond, IsTrue, List, [], ◌∷◌, length, map, filter, get_or, Contains, count_by, sum_by, Option, None, Some, IsSome, IfSome, is_none, eq-eqb, refl, sym, ap, subst, ◌∙◌, arith}
+use Rattle.std.proofs.Common.{◌≡◌, ℕ, ◌+◌, ◌<◌, ◌≤◌, Bool, IsTrue, List, [], ◌∷◌, length, map, filter, get_or, Contains, count_by, sum_by, Option, None, Some, IfSome, is_none, refl, sym, ap, subst, ◌∙◌, arith}
 use Rattle.std.specs.declared.cmp.Ordering.{Ordering}
 use Rattle.std.specs.declared.cmp.Ordering.TheVariants.{Less}
 use Rattle.std.specs.List.{AllByRecursion}
@@ -7,25 +7,12 @@ use Rattle.std.specs.List.Sorted.{IsStrictlySortedBy}
 use Rattle.std.proofs.lemmas.List.Sums.{sum_by-cons}
 use Rattle.std.specs.Option.{option_map, option_and_then}
 use Rattle.std.proofs.lemmas.List.{get_or-map, get_or_default, length-map}
-use Rattle.std.proofs.lemmas.List.Elements.{All-contains_itself, All-contains, All-map, recursion_from_All}
-use Rattle.exam_plan.specs.Naming.{Naming, named_plan, at_index, indexed_plan}
+use Rattle.std.proofs.lemmas.List.Elements.{All-contains, All-map, recursion_from_All}
+use Rattle.std.proofs.lemmas.Option.{IfSome_then}
+use Rattle.exam_plan.specs.Naming.{Naming, named_plan, indexed_plan}
 use Rattle.exam_plan.specs.Matching.{Plan, IsLawful, IsBest, IsContested, IsCertificate, is_hall, occupants, unseated, desk_number, size}
-use Rattle.exam_plan.proofs.Renaming.{Renames, IsLawful-named, IsBest-named, size-named, size-indexed, IsLawful-indexed}
-
-all_of : {X : Type 0} (P Q : X → Type 0) → ((x : X) → P x → Q x) → (xs : List X) → AllByRecursion P xs → AllByRecursion Q xs
-all_of P Q f [] h = tt
-all_of P Q f (x ∷ xs) h = (f x h.0, all_of P Q f xs h.1)
-
-pub of_elements : {X : Type 0} (Q : X → Type 0) (xs : List X) → ((x : X) → Contains xs x → Q x) → AllByRecursion Q xs
-of_elements Q xs f = all_of (Contains xs) Q f xs (recursion_from_All (Contains xs) xs (All-contains_itself xs))
-
-pub filter_same : {X Y : Type 0} (P : X → Bool) (Q : Y → Bool) (f : Y → X) (ys : List Y) → AllByRecursion (λ y. P (f y) ≡ Q y) ys → filter P (map f ys) ≡ map f (filter Q ys)
-filter_same P Q f [] h = refl
-filter_same {X} {Y} P Q f (y ∷ ys) h = inner (Q y) h.0 (filter_same P Q f ys h.1)
-  where
-    inner : (b : Bool) → P (f y) ≡ b → filter P (map f ys) ≡ map f (filter Q ys) → cond (P (f y)) (f y ∷ filter P (map f ys)) (filter P (map f ys)) ≡ map f (cond b (y ∷ filter Q ys) (filter Q ys))
-    inner true e rest = rw e (ap (λ t. f y ∷ t) rest)
-    inner false e rest = rw e rest
+use Rattle.exam_plan.proofs.Renaming.{Renames, named_member, indexed_member, is_hall-known, IsLawful-named, IsBest-named, size-named, size-indexed, IsLawful-indexed}
+use Rattle.exam_plan.proofs.Small.{all_filter, count_same, filter_same, of_members, some_value}
 
 is_none-map : {A B : Type 0} (f : A → B) (o : Option A) → is_none (option_map f o) ≡ is_none o
 is_none-map f None = refl
@@ -64,38 +51,11 @@ pub sum_same : {X Y : Type 0} (f : Y → ℕ) (g : X → ℕ) (n : X → Y) (xs 
 sum_same f g n [] h = refl
 sum_same f g n (x ∷ xs) h = sum_by-cons f (n x) (map n xs) ∙ ap (λ t. t + sum_by f (map n xs)) h.0 ∙ ap (λ t. g x + t) (sum_same f g n xs h.1) ∙ sym (sum_by-cons g x xs)
 
--- counting in a part of a list, by two names
-pub count_part_same : {X Y : Type 0} (P : Y → Bool) (Q : X → Bool) (n : X → Y) (part : X → Bool) (xs : List X) → AllByRecursion (λ x. P (n x) ≡ Q x) xs → count_by P (map n (filter part xs)) ≡ count_by Q (filter part xs)
-count_part_same P Q n part [] h = refl
-count_part_same {X} {Y} P Q n part (x ∷ xs) h = inner (part x) (count_part_same P Q n part xs h.1)
-  where
-    inner : (b : Bool) → count_by P (map n (filter part xs)) ≡ count_by Q (filter part xs) → count_by P (map n (cond b (x ∷ filter part xs) (filter part xs))) ≡ count_by Q (cond b (x ∷ filter part xs) (filter part xs))
-    inner true rest = sum_by-cons (λ y. cond (P y) 1 0) (n x) (map n (filter part xs)) ∙ ap (λ t. cond t 1 0 + count_by P (map n (filter part xs))) h.0 ∙ ap (λ t. cond (Q x) 1 0 + t) rest ∙ sym (sum_by-cons (λ y. cond (Q y) 1 0) x (filter part xs))
-    inner false rest = rest
-
-bools : (x y : Bool) → (x ≡ true → y ≡ true) → (y ≡ true → x ≡ true) → x ≡ y
-bools true y f g = sym (f refl)
-bools false true f g = g refl
-bools false false f g = refl
-
-is_some_value : {A : Type 0} (o : Option A) → IsSome o → (x : A) × (o ≡ Some x)
-is_some_value None e = absurd (let f : false ≡ true = e in cc)
-is_some_value (Some x) e = (x, refl)
-
-some_same : {A : Type 0} (x y : A) → Some x ≡ Some y → x ≡ y
-some_same x y e = cc
-
 module _ {C H : Type 0} (name : Naming C H) (r : Renames name) where
-  pub named_member : (p : Plan ℕ ℕ) (c : C) (i : ℕ) → name.candidate_index c ≡ Some i → named_plan name p c ≡ option_map name.hall (p i)
-  named_member p c i e = ap (option_and_then (λ k. option_map name.hall (p k))) e
-
-  indexed_member : (q : Plan C H) (i : ℕ) → name.candidate_index (name.candidate i) ≡ Some i → indexed_plan name q i ≡ option_and_then name.hall_index (q (name.candidate i))
-  indexed_member q i e = ap (option_and_then (at_index name q i)) e ∙ ap (λ t. cond t (option_and_then name.hall_index (q (name.candidate i))) None) (eq-eqb i i refl)
-
   pub unseated-named : (p : Plan ℕ ℕ) → unseated name.of_names (named_plan name p) ≡ map name.candidate (unseated name.of_indices p)
   unseated-named p = ap (filter (λ c. is_none (named_plan name p c))) r.members
       ∙ filter_same (λ c. is_none (named_plan name p c)) (λ i. is_none (p i)) name.candidate name.of_indices.members
-      (of_elements _ name.of_indices.members (λ i m. ap is_none (named_member p (name.candidate i) i (r.known i m)) ∙ is_none-map name.hall (p i)))
+      (of_members _ name.of_indices.members (λ i m. ap is_none (named_member name r p (name.candidate i) i (r.known i m)) ∙ is_none-map name.hall (p i)))
 
   -- a member has an index
   pub member_index : (c : C) → Contains name.of_names.members c → (i : ℕ) × (name.candidate_index c ≡ Some i) × Contains name.of_indices.members i
@@ -123,7 +83,7 @@ module _ {C H : Type 0} (name : Naming C H) (r : Renames name) where
 
   -- the contested candidates are the named_plan name contested ones
   pub IsContested-named : (c : C) (i : ℕ) → name.candidate_index c ≡ Some i → IsContested name.of_indices i → IsContested name.of_names c
-  IsContested-named c i e contested = ((r.named c i e).2, (named_plan name contested.1.0, IsBest-named name r contested.1.0 contested.1.1, named_member contested.1.0 c i e ∙ none_from name.hall (contested.1.0 i) contested.1.2))
+  IsContested-named c i e contested = ((r.named c i e).2, (named_plan name contested.1.0, IsBest-named name r contested.1.0 contested.1.1, named_member name r contested.1.0 c i e ∙ none_from name.hall (contested.1.0 i) contested.1.2))
 
   pub IsContested-indexed : (c : C) (i : ℕ) → name.candidate_index c ≡ Some i → IsContested name.of_names c → IsContested name.of_indices i
   IsContested-indexed c i e contested =
@@ -133,7 +93,7 @@ module _ {C H : Type 0} (name : Naming C H) (r : Renames name) where
         (
           indexed_plan name contested.1.0,
           IsBest-indexed contested.1.0 contested.1.1,
-          indexed_member contested.1.0 i at ∙ ap (λ t. option_and_then name.hall_index (contested.1.0 t)) is ∙ ap (option_and_then name.hall_index) contested.1.2,
+          indexed_member name r contested.1.0 i at ∙ ap (λ t. option_and_then name.hall_index (contested.1.0 t)) is ∙ ap (option_and_then name.hall_index) contested.1.2,
         ),
       )
 
@@ -144,7 +104,7 @@ module _ {C H : Type 0} (name : Naming C H) (r : Renames name) where
   IsCertificate-named candidates_rise halls_rise p candidates halls cert = record {
     members = All-map (Contains name.of_names.members) name.candidate candidates (λ k d h. subst (λ t. Contains t (name.candidate (get_or candidates k d))) (sym r.members) (contains_map name.candidate name.of_indices.members (get_or candidates k d) (cert.members k d h)));
     rising = sorted_map name.of_indices.candidate_cmp name.of_names.candidate_cmp name.candidate (Contains name.of_indices.members) candidates_rise candidates (recursion_from_All (Contains name.of_indices.members) candidates cert.members) cert.rising;
-    halls_rising = sorted_map name.of_indices.hall_cmp name.of_names.hall_cmp name.hall (λ j. name.hall_index (name.hall j) ≡ Some j) halls_rise halls (of_elements _ halls hall_known) cert.halls_rising;
+    halls_rising = sorted_map name.of_indices.hall_cmp name.of_names.hall_cmp name.hall (λ j. name.hall_index (name.hall j) ≡ Some j) halls_rise halls (of_members _ halls hall_known) cert.halls_rising;
     halls_of = λ h. (found h, back h);
     excess = length-map candidates name.candidate ∙ cert.excess ∙ ap (λ t. t + length (unseated name.of_indices p)) (sym desks_same) ∙ ap (λ t. sum_by name.of_names.desks (map name.hall halls) + t) (sym (ap length (unseated-named p) ∙ length-map (unseated name.of_indices p) name.candidate));
   }
@@ -153,7 +113,7 @@ module _ {C H : Type 0} (name : Naming C H) (r : Renames name) where
       hall_known j m = let w = (cert.halls_of j).0 m in r.known_hall w.0 j w.2
 
       desks_same : sum_by name.of_names.desks (map name.hall halls) ≡ sum_by name.of_indices.desks halls
-      desks_same = sum_same name.of_names.desks name.of_indices.desks name.hall halls (of_elements _ halls (λ j m. r.desks (name.hall j) j (hall_known j m)))
+      desks_same = sum_same name.of_names.desks name.of_indices.desks name.hall halls (of_members _ halls (λ j m. r.desks (name.hall j) j (hall_known j m)))
 
       found : (h : H) → Contains (map name.hall halls) h → (c : C) × Contains (map name.candidate candidates) c × IsTrue (name.of_names.fits c h)
       found h m =
@@ -165,24 +125,14 @@ module _ {C H : Type 0} (name : Naming C H) (r : Renames name) where
       back : (h : H) → (c : C) × Contains (map name.candidate candidates) c × IsTrue (name.of_names.fits c h) → Contains (map name.hall halls) h
       back h u =
           let w : (i : ℕ) × Contains candidates i × (name.candidate i ≡ u.0) = from_map name.candidate candidates u.0 u.1 in
-          let v : (j : ℕ) × (name.hall_index h ≡ Some j) = is_some_value (name.hall_index h) (r.known_fit u.0 h u.2) in
+          let v : (j : ℕ) × (name.hall_index h ≡ Some j) = some_value (name.hall_index h) (r.known_fit u.0 h u.2) in
           let at : name.candidate_index u.0 ≡ Some w.0 = ap name.candidate_index (sym w.2) ∙ r.known w.0 (All-contains (Contains name.of_indices.members) candidates w.0 cert.members w.1) in
           subst (Contains (map name.hall halls)) (r.halls h v.0 v.1) (contains_map name.hall halls v.0 ((cert.halls_of v.0).1 (w.0, w.1, sym (r.fits u.0 h w.0 v.0 at v.1) ∙ u.2)))
-
-  -- the same hall by indices and by names, for halls that fit somebody
-  same_hall-named : (i k d m : ℕ) → IsTrue (name.of_indices.fits i k) → IsTrue (name.of_indices.fits d m) → name.of_names.same_hall (name.hall k) (name.hall m) ≡ name.of_indices.same_hall k m
-  same_hall-named i k d m f g = bools _ _
-      (λ t. (r.same_a k m).1 (some_same k m (sym (r.known_hall i k f) ∙ ap name.hall_index ((r.same_b (name.hall k) (name.hall m)).0 t) ∙ r.known_hall d m g)))
-      (λ t. (r.same_b (name.hall k) (name.hall m)).1 (ap name.hall ((r.same_a k m).0 t)))
-
-  is_hall-named : (i k d : ℕ) (o : Option ℕ) → IsTrue (name.of_indices.fits i k) → IfSome o (λ m. IsTrue (name.of_indices.fits d m)) → is_hall name.of_names (name.hall k) (option_map name.hall o) ≡ is_hall name.of_indices k o
-  is_hall-named i k d None f g = refl
-  is_hall-named i k d (Some m) f g = same_hall-named i k d m f g
 
   -- desk numbers are the same, where names stand in the order of the indices' ranks
   pub desk_number-named : (before_b : C → C → Bool) (before_a : ℕ → ℕ → Bool) → ((i j : ℕ) → Contains name.of_indices.members i → Contains name.of_indices.members j → before_b (name.candidate i) (name.candidate j) ≡ before_a i j)
       → (p : Plan ℕ ℕ) → IsLawful name.of_indices p → (c : C) (i : ℕ) → name.candidate_index c ≡ Some i → desk_number name.of_names before_b (named_plan name p) c ≡ desk_number name.of_indices before_a p i
-  desk_number-named before_b before_a order p l c i at = ap (option_map (λ h. count_by (λ d. before_b d c) (occupants name.of_names (named_plan name p) h) + 1)) (named_member p c i at) ∙ inner (p i) (l.fitting i)
+  desk_number-named before_b before_a order p l c i at = ap (option_map (λ h. count_by (λ d. before_b d c) (occupants name.of_names (named_plan name p) h) + 1)) (named_member name r p c i at) ∙ inner (p i) (l.fitting i)
     where
       member : Contains name.of_indices.members i
       member = (r.named c i at).1
@@ -196,6 +146,6 @@ module _ {C H : Type 0} (name : Naming C H) (r : Renames name) where
           let sat : occupants name.of_names (named_plan name p) (name.hall k) ≡ map name.candidate (occupants name.of_indices p k) =
           ap (filter (λ c. is_hall name.of_names (name.hall k) (named_plan name p c))) r.members
           ∙ filter_same (λ c. is_hall name.of_names (name.hall k) (named_plan name p c)) (λ d. is_hall name.of_indices k (p d)) name.candidate name.of_indices.members
-          (of_elements _ name.of_indices.members (λ d m. ap (is_hall name.of_names (name.hall k)) (named_member p (name.candidate d) d (r.known d m)) ∙ is_hall-named i k d (p d) fit (l.fitting d))) in
+          (of_members _ name.of_indices.members (λ d m. ap (is_hall name.of_names (name.hall k)) (named_member name r p (name.candidate d) d (r.known d m)) ∙ is_hall-known name r (name.hall k) k (p d) (r.known_hall i k fit) (IfSome_then (p d) (l.fitting d) (r.known_hall d)))) in
           ap (λ n. Some (n + 1)) (ap (count_by (λ d. before_b d c)) sat
-          ∙ count_part_same (λ d. before_b d c) (λ d. before_a d i) name.candidate (λ d. is_hall name.of_indices k (p d)) name.of_indices.members (of_elements _ name.of_indices.members (λ d m. ap (before_b (name.candidate d)) (sym is) ∙ order d i m member)))
+          ∙ count_same (λ d. before_b d c) (λ d. before_a d i) name.candidate (occupants name.of_indices p k) (all_filter (λ d. before_b (name.candidate d) c ≡ before_a d i) (λ d. is_hall name.of_indices k (p d)) name.of_indices.members (of_members _ name.of_indices.members (λ d m. ap (before_b (name.candidate d)) (sym is) ∙ order d i m member))))

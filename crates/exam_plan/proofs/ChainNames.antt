@@ -1,5 +1,5 @@
 -- Augmenting chains by indices are those by names, for two seatings of which one renames the other.
-use Rattle.std.proofs.Common.{◌≡◌, ◌≢◌, ◌↔◌, ℕ, ◌<◌, Bool, true, false, IsTrue, List, [], ◌∷◌, ◌++◌, length, map, filter, get_or, Contains, Option, None, Some, IsSome, IfSome, refl, sym, ap, subst, ◌∙◌, arith}
+use Rattle.std.proofs.Common.{◌≡◌, ◌≢◌, ◌↔◌, ℕ, ◌<◌, true, IsTrue, List, [], ◌∷◌, ◌++◌, length, map, filter, get_or, Contains, Option, None, Some, IfSome, refl, sym, ap, subst, ◌∙◌, arith}
 use Rattle.std.specs.Prelude.{AllPairs}
 use Rattle.std.specs.declared.cmp.Ordering.TheVariants.{Greater}
 use Rattle.std.specs.Ordering.{nat_cmp, ordering_then}
@@ -8,11 +8,12 @@ use Rattle.std.specs.List.{AllByRecursion}
 use Rattle.std.specs.Option.{option_map, option_and_then}
 use Rattle.std.proofs.lemmas.List.{get_or-map, length-map}
 use Rattle.std.proofs.lemmas.List.Elements.{All-from_recursion}
+use Rattle.std.proofs.lemmas.Option.{same_Some}
 use Rattle.exam_plan.specs.Naming.{Naming, named_plan, named_hop, named_chain}
 use Rattle.exam_plan.specs.Matching.{Plan, is_hall, occupants}
 use Rattle.exam_plan.specs.Chains.{Chain, chain_halls, HasFreeDesk, Leads, IsChain, chain_cmp, IsLeastChain}
-use Rattle.exam_plan.proofs.Renaming.{Renames}
-use Rattle.exam_plan.proofs.Carrying.{named_member, filter_same, of_elements}
+use Rattle.exam_plan.proofs.Renaming.{Renames, named_member, is_hall-known}
+use Rattle.exam_plan.proofs.Small.{filter_same, of_members, some_value, value_at}
 
 -- the orders agree, candidates are told apart, and halls fit members alone
 pub record Follows {C H : Type 0} (name : Naming C H) : Type 0 where
@@ -21,21 +22,6 @@ pub record Follows {C H : Type 0} (name : Naming C H) : Type 0 where
   pub same_a : (i j : ℕ) → (name.of_indices.same_candidate i j ≡ true) ↔ (i ≡ j)
   pub same_b : (c d : C) → (name.of_names.same_candidate c d ≡ true) ↔ (c ≡ d)
   pub fit_members : (i j : ℕ) → IsTrue (name.of_indices.fits i j) → Contains name.of_indices.members i
-
-pub bools : (x y : Bool) → (x ≡ true → y ≡ true) → (y ≡ true → x ≡ true) → x ≡ y
-bools true y f g = sym (f refl)
-bools false true f g = g refl
-bools false false f g = refl
-
-some_same : {A : Type 0} (x y : A) → Some x ≡ Some y → x ≡ y
-some_same x y e = cc
-
-some_value : {A : Type 0} (o : Option A) → IsSome o → (x : A) × (o ≡ Some x)
-some_value None e = absurd (let f : false ≡ true = e in cc)
-some_value (Some x) e = (x, refl)
-
-pub value_at : {A : Type 0} (P : A → Type 0) (o : Option A) (x : A) → o ≡ Some x → IfSome o P → P x
-value_at {A} P o x e w = let R : Option A → Type 0 = λ t. IfSome t P in subst R e w
 
 module _ {C H : Type 0} (name : Naming C H) (r : Renames name) (f : Follows name) where
   abbrev pub IsKnown : ℕ → Type 0
@@ -47,20 +33,11 @@ module _ {C H : Type 0} (name : Naming C H) (r : Renames name) (f : Follows name
 
   -- ---- free desks
 
-  same_hall-known : (j k : ℕ) → IsKnown j → IsKnown k → name.of_names.same_hall (name.hall j) (name.hall k) ≡ name.of_indices.same_hall j k
-  same_hall-known j k known_j known_k = bools _ _
-      (λ t. (r.same_a j k).1 (some_same j k (sym known_j ∙ ap name.hall_index ((r.same_b (name.hall j) (name.hall k)).0 t) ∙ known_k)))
-      (λ t. (r.same_b (name.hall j) (name.hall k)).1 (ap name.hall ((r.same_a j k).0 t)))
-
-  pub is_hall-known : (j : ℕ) (o : Option ℕ) → IsKnown j → IfSome o IsKnown → is_hall name.of_names (name.hall j) (option_map name.hall o) ≡ is_hall name.of_indices j o
-  is_hall-known j None known_j known = refl
-  is_hall-known j (Some k) known_j known = same_hall-known j k known_j known
-
   as_many : (p : Plan ℕ ℕ) → AreKnown p → (j : ℕ) → IsKnown j → length (occupants name.of_names (named_plan name p) (name.hall j)) ≡ length (occupants name.of_indices p j)
   as_many p known j known_j =
       ap length (ap (filter (λ c. is_hall name.of_names (name.hall j) (named_plan name p c))) r.members
       ∙ filter_same (λ c. is_hall name.of_names (name.hall j) (named_plan name p c)) (λ i. is_hall name.of_indices j (p i)) name.candidate name.of_indices.members
-      (of_elements _ name.of_indices.members (λ i m. ap (is_hall name.of_names (name.hall j)) (named_member name r p (name.candidate i) i (r.known i m)) ∙ is_hall-known j (p i) known_j (known i))))
+      (of_members _ name.of_indices.members (λ i m. ap (is_hall name.of_names (name.hall j)) (named_member name r p (name.candidate i) i (r.known i m)) ∙ is_hall-known name r (name.hall j) j (p i) known_j (known i))))
       ∙ length-map (occupants name.of_indices p j) name.candidate
 
   free-named : (p : Plan ℕ ℕ) → AreKnown p → (j : ℕ) → IsKnown j → HasFreeDesk name.of_indices p j → HasFreeDesk name.of_names (named_plan name p) (name.hall j)
@@ -121,7 +98,7 @@ module _ {C H : Type 0} (name : Naming C H) (r : Renames name) (f : Follows name
       let long : length (map name.hall xs) ≡ length xs = length-map xs name.hall in
       let far : j < length xs = omega arith in
       let near : i < length xs = omega arith in
-      apart i j 0 below far (some_same (get_or xs i 0) (get_or xs j 0)
+      apart i j 0 below far (same_Some (get_or xs i 0) (get_or xs j 0)
       (sym (All-from_recursion IsKnown xs all i 0 near) ∙ ap name.hall_index (sym (get_or-map name.hall xs i 0 d near) ∙ e ∙ get_or-map name.hall xs j 0 d far) ∙ All-from_recursion IsKnown xs all j 0 far))
 
   pub IsChain-named : (p : Plan ℕ ℕ) → AreKnown p → (i : ℕ) (chain : Chain ℕ ℕ) → IsChain name.of_indices p i chain → IsChain name.of_names (named_plan name p) (name.candidate i) (named_chain name chain)
@@ -156,7 +133,7 @@ module _ {C H : Type 0} (name : Naming C H) (r : Renames name) (f : Follows name
       inner d None e t = absurd (let z : None ≡ Some h = t in cc)
       inner d (Some k) e t =
           let there : IsKnown k = value_at IsKnown (p d) k e (known d) in
-          let same : name.hall k ≡ h = some_same (name.hall k) h t in
+          let same : name.hall k ≡ h = same_Some (name.hall k) h t in
           e ∙ sym there ∙ ap name.hall_index (same ∙ sym is) ∙ at
 
       outer : (o : Option ℕ) → name.candidate_index c ≡ o → option_and_then (λ i. option_map name.hall (p i)) o ≡ Some h → (d : ℕ) × (name.candidate_index c ≡ Some d) × (p d ≡ Some j)

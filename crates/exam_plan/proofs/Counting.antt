@@ -1,11 +1,18 @@
 -- Counting: how many numbers below a bound pass a test, and counting in two ways.
-use Rattle.std.proofs.Common.{◌≡◌, ◌≢◌, ℕ, zero, suc, ◌+◌, ◌<◌, ◌≤◌, Bool, true, false, cond, [], ◌∷◌, ◌++◌, count_by, Option, None, Some, IfSome, nat_eq, refl, sym, ap, ◌∙◌, inl, inr, arith, add-zero, zero-add}
+use Rattle.std.proofs.Common.{◌≡◌, ◌≢◌, ℕ, zero, suc, ◌+◌, ◌<◌, ◌≤◌, Bool, true, false, cond, [], ◌∷◌, ◌++◌, count_by, Option, None, Some, IfSome, nat_eq, refl, sym, ap, ◌∙◌, inl, inr, arith, add-zero, zero-add, List}
 use Rattle.std.specs.List.{range_with_len}
 use Rattle.std.proofs.lemmas.Bool.{cases_eq, cases_Bool, eq-eqb, ne_eqb}
-use Rattle.std.proofs.lemmas.List.Sums.{sum_by_push}
+use Rattle.std.proofs.lemmas.List.Sums.{sum_by_push, sum_by-cons}
 
 abbrev pub bit : Bool → ℕ
 bit b = cond b 1 0
+
+pub bit_le : (x y : Bool) → (x ≡ true → y ≡ true) → bit x ≤ bit y
+bit_le false y f = omega arith
+bit_le true y f = let e : bit y ≡ 1 = ap bit (f refl) in omega arith
+
+pub count_by-cons : {X : Type 0} (P : X → Bool) (x : X) (xs : List X) → count_by P (x ∷ xs) ≡ bit (P x) + count_by P xs
+count_by-cons P x xs = sum_by-cons (λ y. bit (P y)) x xs
 
 -- how many numbers below n pass
 abbrev pub count_below : (ℕ → Bool) → ℕ → ℕ
@@ -44,6 +51,18 @@ count_below-lt P Q (suc n) c h below less = elim (cases_eq c n) [
   | inl e ↦ (let f = count_below-le P Q n (λ k l. h k (omega arith)) in let less' : bit (P n) < bit (Q n) = rw e at less in omega arith)
   | inr away ↦ (let f = count_below-lt P Q n c (λ k l. h k (omega arith)) (omega arith) less in let t : bit (P n) ≤ bit (Q n) = h n (omega arith) in omega arith)
 ]
+
+-- more pass below a bound than below a number under it that passes
+pub count_below-reaches : (P : ℕ → Bool) (c n : ℕ) → c < n → P c ≡ true → count_below P c < count_below P n
+count_below-reaches P c zero l t = absurd (omega arith)
+count_below-reaches P c (suc n) l t = elim (cases_eq c n) [
+  | inl e ↦ (let one : bit (P n) ≡ 1 = ap (λ k. bit (P k)) (sym e) ∙ ap bit t in let s : count_below P c ≡ count_below P n = ap (count_below P) e in omega (arith, one, s))
+  | inr a ↦ (let ih = count_below-reaches P c n (omega arith) t in omega (arith, ih))
+]
+
+pub count_below-none : (P : ℕ → Bool) (n : ℕ) → ((k : ℕ) → P k ≡ false) → count_below P n ≡ 0
+count_below-none P zero none = refl
+count_below-none P (suc n) none = let e = count_below-none P n none in let z : bit (P n) ≡ 0 = ap bit (none n) in omega (arith, e, z)
 
 pub count_below-add : (P Q R : ℕ → Bool) (n : ℕ) → ((k : ℕ) → k < n → bit (P k) + bit (Q k) ≡ bit (R k)) → count_below P n + count_below Q n ≡ count_below R n
 count_below-add P Q R zero h = refl

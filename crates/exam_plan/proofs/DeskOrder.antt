@@ -9,38 +9,35 @@ use Rattle.std.specs.Cmp.{IsTotalOrder, nat_cmp_is, nat_cmp_total, then_total, o
 use Rattle.std.specs.declared.cmp.Ordering.{Ordering}
 use Rattle.std.specs.declared.cmp.Ordering.TheVariants.{Less}
 use Rattle.std.proofs.lemmas.Bool.{cases_eq, cases_lt, cases_Bool, eq-eqb, eqb-true, lt-ltb, le-ltb}
-use Rattle.std.proofs.lemmas.List.{length-set, length-take, length-replicate, get_or-set_same, get_or-set_other, get_or-replicate, get_or_past}
+use Rattle.std.proofs.lemmas.List.{length-set, length-take, length-replicate, get_or-set_same, get_or-set_other, get_or-replicate, get_or_past, get_or_default}
 use Rattle.std.proofs.lemmas.List.Elements.{All-from_get_or, All-map}
 use Rattle.std.proofs.lemmas.List.FromFn.{length-range_with_len, get_or-range_with_len, length-map-range_with_len, get_or-map-range_with_len, fill_by_all, sum_by-map-range_with_len_more}
 use Rattle.std.proofs.lemmas.List.Sorted.{ranks_by, sorted_far, length_permutation, All-permutation, Contains-permutation, sum_by-IsPermutation}
-use Rattle.std.proofs.lemmas.List.Sums.{sum_by-cons, sum_by_more, count_by-le-length}
+use Rattle.std.proofs.lemmas.List.Sums.{sum_by_more, count_by-le-length}
 use Rattle.exam_plan.specs.DeskOrder.{behind_rank, rank_cmp}
 use Rattle.exam_plan.specs.Matching.{Plan, is_hall, occupants, desk_number}
 use Rattle.exam_plan.specs.Problems.{Problem, IsProblem, seating_of, plan_at, ranks_before}
-use Rattle.exam_plan.proofs.Counting.{bit, count_below, sum_below}
+use Rattle.exam_plan.proofs.Counting.{bit, count_below, sum_below, count_by-cons}
 use Rattle.exam_plan.proofs.NumberLaws.{differ_at, below_count, number_at}
-use Rattle.exam_plan.proofs.Steps.{one_counted, same_within, place_below}
+use Rattle.exam_plan.proofs.Steps.{one_counted, place_below}
 
 -- ---- counts in lists
 
 module _ {X : Type 0} (P : X → Bool) where
-  counted_cons : (x : X) (xs : List X) → count_by P (x ∷ xs) ≡ bit (P x) + count_by P xs
-  counted_cons x xs = sum_by-cons (λ y. bit (P y)) x xs
-
   pub counted_one : (xs : List X) (j : ℕ) (d : X) → j < length xs → P (get_or xs j d) ≡ true → 1 ≤ count_by P xs
   counted_one [] j d l t = absurd (omega arith)
-  counted_one (x ∷ xs) zero d l t = let one : bit (P x) ≡ 1 = ap bit t in let more = counted_cons x xs in omega (arith, one, more)
-  counted_one (x ∷ xs) (suc j) d l t = let ih = counted_one xs j d (omega arith) t in let more = counted_cons x xs in omega (arith, ih, more)
+  counted_one (x ∷ xs) zero d l t = let one : bit (P x) ≡ 1 = ap bit t in let more = count_by-cons P x xs in omega (arith, one, more)
+  counted_one (x ∷ xs) (suc j) d l t = let ih = counted_one xs j d (omega arith) t in let more = count_by-cons P x xs in omega (arith, ih, more)
 
   pub counted_two : (xs : List X) (i j : ℕ) (d : X) → i < j → j < length xs → P (get_or xs i d) ≡ true → P (get_or xs j d) ≡ true → 2 ≤ count_by P xs
   counted_two [] i j d l m s t = absurd (omega arith)
   counted_two (x ∷ xs) i zero d l m s t = absurd (omega arith)
-  counted_two (x ∷ xs) zero (suc j) d l m s t = let one : bit (P x) ≡ 1 = ap bit s in let rest = counted_one xs j d (omega arith) t in let more = counted_cons x xs in omega (arith, one, rest, more)
-  counted_two (x ∷ xs) (suc i) (suc j) d l m s t = let ih = counted_two xs i j d (omega arith) (omega arith) s t in let more = counted_cons x xs in omega (arith, ih, more)
+  counted_two (x ∷ xs) zero (suc j) d l m s t = let one : bit (P x) ≡ 1 = ap bit s in let rest = counted_one xs j d (omega arith) t in let more = count_by-cons P x xs in omega (arith, one, rest, more)
+  counted_two (x ∷ xs) (suc i) (suc j) d l m s t = let ih = counted_two xs i j d (omega arith) (omega arith) s t in let more = count_by-cons P x xs in omega (arith, ih, more)
 
   none_counted : (xs : List X) (d : X) → ((i : ℕ) → i < length xs → P (get_or xs i d) ≡ false) → count_by P xs ≡ 0
   none_counted [] d f = refl
-  none_counted (x ∷ xs) d f = let none : bit (P x) ≡ 0 = ap bit (f 0 (omega arith)) in let ih = none_counted xs d (λ i l. f (suc i) (omega arith)) in let more = counted_cons x xs in omega (arith, none, ih, more)
+  none_counted (x ∷ xs) d f = let none : bit (P x) ≡ 0 = ap bit (f 0 (omega arith)) in let ih = none_counted xs d (λ i l. f (suc i) (omega arith)) in let more = count_by-cons P x xs in omega (arith, none, ih, more)
 
 -- a test that agrees on a front and fails past it
 pub front_counted : {X : Type 0} (P Q : X → Bool) (xs : List X) (j : ℕ) (d : X) → ((i : ℕ) → i < j → i < length xs → P (get_or xs i d) ≡ Q (get_or xs i d))
@@ -51,8 +48,8 @@ front_counted P Q (x ∷ xs) zero d same past = sym (none_counted Q (x ∷ xs) d
 front_counted P Q (x ∷ xs) (suc j) d same past =
     let here : bit (P x) ≡ bit (Q x) = ap bit (same 0 (omega arith) (omega arith)) in
     let ih = front_counted P Q xs j d (λ i l m. same (suc i) (omega arith) (omega arith)) (λ i l m. past (suc i) (omega arith) (omega arith)) in
-    let front : count_by P (take (suc j) (x ∷ xs)) ≡ bit (P x) + count_by P (take j xs) = counted_cons P x (take j xs) in
-    let whole = counted_cons Q x xs in
+    let front : count_by P (take (suc j) (x ∷ xs)) ≡ bit (P x) + count_by P (take j xs) = count_by-cons P x (take j xs) in
+    let whole = count_by-cons Q x xs in
     omega (arith, here, ih, front, whole)
 
 counted_map : {X : Type 0} (T : X → Bool) (f : ℕ → X) (n : ℕ) → count_by T (map f (range_with_len 0 n)) ≡ count_below (λ d. T (f d)) n
@@ -135,12 +132,7 @@ module _ (p : Problem) (order : List (ℕ × ℕ)) (is : IsDeskOrder p order) wh
       let long : length pairs ≡ length p.fit = length-map-range_with_len (behind_rank p) 0 (length p.fit) in
       let here : Contains pairs (behind_rank p c) = (c, omega (arith, l, long), get_or-map-range_with_len (behind_rank p) 0 (length p.fit) c c (behind_rank p c) l (zero-add c)) in
       let there = Contains-permutation pairs order (behind_rank p c) is.all here in
-      (there.0, there.1, ap (λ (x : ℕ × ℕ). x.1) (within order there.0 (0, 0) (behind_rank p c) there.1 ∙ there.2))
-    where
-      within : (xs : List (ℕ × ℕ)) (j : ℕ) (d e : ℕ × ℕ) → j < length xs → get_or xs j d ≡ get_or xs j e
-      within [] j d e m = absurd (omega arith)
-      within (x ∷ xs) zero d e m = refl
-      within (x ∷ xs) (suc j) d e m = within xs j d e (omega arith)
+      (there.0, there.1, ap (λ (x : ℕ × ℕ). x.1) (get_or_default order there.0 (0, 0) (behind_rank p c) there.1 ∙ there.2))
 
   module _ (good : IsProblem p) where
     once : (r : ℕ) → count_by (λ (x : ℕ × ℕ). nat_eq r x.0) order ≤ 1
@@ -237,7 +229,7 @@ module _ (p : Problem) (order : List (ℕ × ℕ)) (q : Plan ℕ ℕ) (i : ℕ) 
         long = rw length-set before.long;
         room = rw length-set before.room;
         counted = one_counted (length p.desk_counts) h (get_or counts h 0) counts (λ k. met p order q k i) (λ k. met p order q k (i + 1)) before.room before.counted
-            (λ k. met_more p order q k i below ∙ ap (λ o. met p order q k i + bit (is_hall (seating_of p) k o)) sits) (same_within counts h 0 (get_or counts h 0) (omega (arith, exists, before.room)));
+            (λ k. met_more p order q k i below ∙ ap (λ o. met p order q k i + bit (is_hall (seating_of p) k o)) sits) (get_or_default counts h 0 (get_or counts h 0) (omega (arith, exists, before.room)));
         numbered = λ j k l there. elim (cases_lt j i) [
           | inl m ↦ get_or-set_other numbers here (get_or order j (0, 0)).1 _ None (λ e. others p order is good j i m below e) ∙ before.numbered j k m there
           | inr m ↦ (let same : i ≡ j = omega arith in

@@ -3,28 +3,28 @@ use Rattle.std.proofs.Common.{◌≡◌, ◌≢◌, ℕ, zero, suc, ◌+◌, ◌
 use Rattle.std.specs.Prelude.{MatchOption, is_some}
 use Rattle.std.specs.Int.{bit_at, bit_not, trailing_zeros, w128}
 use Rattle.std.specs.Int.Bits.{and_le_l, or_lt}
-use Rattle.std.proofs.lemmas.Bool.{cases_eq, cases_lt, eq-eqb, ne_eqb}
+use Rattle.std.proofs.lemmas.Bool.{cases_eq, cases_lt, eq-eqb, ne_eqb, and_parts}
 use Rattle.std.proofs.lemmas.Nat.{one_shl}
 use Rattle.std.proofs.lemmas.Nat.Bits.{bit_at-lt, bit_at-zero, bit_at_lowest, bit_at-suc, bit_at_or, bit_at_and, bit_at_xor, bit_at_not, bit_at_above, bit_at-pow_same, bit_at-pow_other, shr_and_one, bit_at-trailing_zeros, bit_at_cat_low, bit_at_cat_high}
+use Rattle.std.proofs.Math.Bool.{or_comm, and-false, and_self}
 use Rattle.exam_plan.specs.HallSets.{holds, IsLeast}
 
 -- ---- bits as tests
 
+-- what holds of two bits, whichever they are
+by_bits : (P : ℕ → ℕ → Type 0) → P zero zero → P zero (suc zero) → P (suc zero) zero → P (suc zero) (suc zero) → (x y : ℕ) → x < 2 → y < 2 → P x y
+by_bits P a b c d zero zero l m = a
+by_bits P a b c d zero (suc zero) l m = b
+by_bits P a b c d (suc zero) zero l m = c
+by_bits P a b c d (suc zero) (suc zero) l m = d
+by_bits P a b c d (suc (suc x)) y l m = absurd (omega arith)
+by_bits P a b c d x (suc (suc y)) l m = absurd (omega arith)
+
 or_test : (x y : ℕ) → x < 2 → y < 2 → nat_eq (max x y) 1 ≡ nat_eq x 1 || nat_eq y 1
-or_test zero zero l m = refl
-or_test zero (suc zero) l m = refl
-or_test (suc zero) zero l m = refl
-or_test (suc zero) (suc zero) l m = refl
-or_test (suc (suc x)) y l m = absurd (omega arith)
-or_test x (suc (suc y)) l m = absurd (omega arith)
+or_test = by_bits (λ x y. nat_eq (max x y) 1 ≡ nat_eq x 1 || nat_eq y 1) refl refl refl refl
 
 and_test : (x y : ℕ) → x < 2 → y < 2 → nat_eq (min x y) 1 ≡ nat_eq x 1 && nat_eq y 1
-and_test zero zero l m = refl
-and_test zero (suc zero) l m = refl
-and_test (suc zero) zero l m = refl
-and_test (suc zero) (suc zero) l m = refl
-and_test (suc (suc x)) y l m = absurd (omega arith)
-and_test x (suc (suc y)) l m = absurd (omega arith)
+and_test = by_bits (λ x y. nat_eq (min x y) 1 ≡ nat_eq x 1 && nat_eq y 1) refl refl refl refl
 
 not_test : (x : ℕ) → x < 2 → nat_eq (1 - x) 1 ≡ not (nat_eq x 1)
 not_test zero l = refl
@@ -32,12 +32,7 @@ not_test (suc zero) l = refl
 not_test (suc (suc x)) l = absurd (omega arith)
 
 other_test : (x y : ℕ) → x < 2 → y < 2 → nat_eq ((x + y) % 2) 1 ≡ (nat_eq x 1 || nat_eq y 1) && not (nat_eq x 1 && nat_eq y 1)
-other_test zero zero l m = refl
-other_test zero (suc zero) l m = refl
-other_test (suc zero) zero l m = refl
-other_test (suc zero) (suc zero) l m = refl
-other_test (suc (suc x)) y l m = absurd (omega arith)
-other_test x (suc (suc y)) l m = absurd (omega arith)
+other_test = by_bits (λ x y. nat_eq ((x + y) % 2) 1 ≡ (nat_eq x 1 || nat_eq y 1) && not (nat_eq x 1 && nat_eq y 1)) refl refl refl refl
 
 one_test : (x : ℕ) → x < 2 → not (nat_eq x 0) ≡ nat_eq x 1
 one_test zero l = refl
@@ -79,15 +74,9 @@ holds_one k h = elim (cases_eq h k) [
   | inr n ↦ ap (λ t. nat_eq t 1) (bit_at-pow_other k h n) ∙ sym (ne_eqb h k n)
 ]
 
-or_swap : (a b : Bool) → a || b ≡ b || a
-or_swap true true = refl
-or_swap true false = refl
-or_swap false true = refl
-or_swap false false = refl
-
 pub holds_with : (n k h : ℕ) → k < 128 → holds (bit_or n (1 * 2 ^ k % 2 ^ 128)) h ≡ nat_eq h k || holds n h
 holds_with n k h within =
-    ap (λ t. holds (bit_or n t) h) (one_shl k 128 within) ∙ holds_or n (2 ^ k) h ∙ or_swap (holds n h) (holds (2 ^ k) h) ∙ ap (λ t. t || holds n h) (holds_one k h)
+    ap (λ t. holds (bit_or n t) h) (one_shl k 128 within) ∙ holds_or n (2 ^ k) h ∙ or_comm (holds n h) (holds (2 ^ k) h) ∙ ap (λ t. t || holds n h) (holds_one k h)
 
 pub test_holds : (n k : ℕ) → not (nat_eq (bit_and (n / 2 ^ k) 1) 0) ≡ holds n k
 test_holds n k = ap (λ t. not (nat_eq t 0)) (shr_and_one n k) ∙ one_test (bit_at n k) (bit_at-lt n k)
@@ -227,22 +216,14 @@ without_least n k some within =
     let t = bit_at-trailing_zeros w128 n some within in
     let less = one_less (trailing_zeros w128 n) n t.1 t.2 in
     holds_and n (n - 1) k ∙ elim (cases_eq k (trailing_zeros w128 n)) [
-      | inl e ↦ ap (λ b. holds n k && nat_eq b 1) (ap (bit_at (n - 1)) e ∙ less.0) ∙ and_false (holds n k) ∙ sym (ap (λ b. cond b false (holds n k)) (eq-eqb k (trailing_zeros w128 n) e))
+      | inl e ↦ ap (λ b. holds n k && nat_eq b 1) (ap (bit_at (n - 1)) e ∙ less.0) ∙ and-false (holds n k) ∙ sym (ap (λ b. cond b false (holds n k)) (eq-eqb k (trailing_zeros w128 n) e))
       | inr away ↦ others (trailing_zeros w128 n) away t.2 less.1 ∙ sym (ap (λ b. cond b false (holds n k)) (ne_eqb k (trailing_zeros w128 n) away))
     ]
   where
-    and_false : (b : Bool) → b && false ≡ false
-    and_false true = refl
-    and_false false = refl
-
-    and_same : (b : Bool) → b && b ≡ b
-    and_same true = refl
-    and_same false = refl
-
     others : (t : ℕ) → k ≢ t → ((i : ℕ) → i < t → bit_at n i ≡ 0) → ((i : ℕ) → t < i → bit_at (n - 1) i ≡ bit_at n i) → holds n k && holds (n - 1) k ≡ holds n k
     others t away none same = elim (cases_lt k t) [
       | inl l ↦ (let z : holds n k ≡ false = ap (λ b. nat_eq b 1) (none k l) in ap (λ b. b && holds (n - 1) k) z ∙ sym z)
-      | inr g ↦ ap (λ b. holds n k && nat_eq b 1) (same k (omega (arith, g, away))) ∙ and_same (holds n k)
+      | inr g ↦ ap (λ b. holds n k && nat_eq b 1) (same k (omega (arith, g, away))) ∙ and_self (holds n k)
     ]
 
 -- the other halls of a set of two words
@@ -279,18 +260,13 @@ none_found None false set found e = cc
 none_found (Some h) true set found e = cc
 none_found (Some h) false set found e = ((λ t. absurd (let z : false ≡ true = t in cc)), (λ none. absurd (let z : false ≡ true = sym (none h) ∙ found.1 in cc)))
 
-both_true : (x y : Bool) → x && y ≡ true → (x ≡ true) × (y ≡ true)
-both_true true true e = (refl, refl)
-both_true true false e = cc
-both_true false y e = cc
-
 -- two sets meet where what they have in common has a least hall
 pub both_found : (o : Option ℕ) (r : Bool) (a b both : ℕ) → MatchOption o ((h : ℕ) → holds both h ≡ false) (IsLeast both) → ((h : ℕ) → holds both h ≡ holds a h && holds b h)
     → r ≡ is_some o → (r ≡ true) ↔ ((h : ℕ) × (holds a h ≡ true) × (holds b h ≡ true))
 both_found None true a b both found parts e = cc
 both_found None false a b both found parts e =
     ((λ t. absurd (let z : false ≡ true = t in cc)), (λ w. absurd (let z : false ≡ true = sym (found w.0) ∙ parts w.0 ∙ (λ i. w.1 i && w.2 i) in cc)))
-both_found (Some h) true a b both found parts e = ((λ t. let s = both_true (holds a h) (holds b h) (sym (parts h) ∙ found.1) in (h, s.0, s.1)), (λ w. refl))
+both_found (Some h) true a b both found parts e = ((λ t. let s = and_parts (holds a h) (holds b h) (sym (parts h) ∙ found.1) in (h, s.0, s.1)), (λ w. refl))
 both_found (Some h) false a b both found parts e = cc
 
 -- a set with one hall put in or taken out

@@ -1,11 +1,11 @@
 -- Who stays in a plan: the loops that put out, and that what stays is lawful.
-use Rattle.std.proofs.Common.{◌≡◌, ℕ, zero, suc, ◌+◌, ◌<◌, ◌≤◌, Bool, true, false, cond, ◌||◌, ◌&&◌, IsTrue, List, length, get_or, set, Option, None, Some, IsSome, IfSome, nat_eq, nat_lt, refl, sym, ap, ◌∙◌, inl, inr, subst, arith}
+use Rattle.std.proofs.Common.{◌≡◌, ℕ, zero, suc, ◌+◌, ◌<◌, ◌≤◌, Bool, true, false, cond, ◌&&◌, IsTrue, List, length, get_or, set, Option, None, Some, IfSome, nat_lt, refl, sym, ap, ◌∙◌, inl, inr, subst, arith}
 use Rattle.std.specs.Prelude.{All}
-use Rattle.std.specs.List.{range_with_len, list_any}
+use Rattle.std.specs.List.{range_with_len}
 use Rattle.std.specs.Ordering.{nat_cmp, is_lt}
 use Rattle.std.specs.Cmp.{nat_cmp_is}
 use Rattle.std.specs.declared.cmp.Ordering.TheVariants.{Less, Equal, Greater}
-use Rattle.std.proofs.lemmas.Bool.{cases_eq, cases_lt, cases_Bool, cases_order, or_left, or_right, eq-eqb, ne_eqb, eqb-true, and_parts, and_right, lt-ltb, le-ltb, ltb-true}
+use Rattle.std.proofs.lemmas.Bool.{cases_eq, cases_lt, cases_Bool, cases_order, eq-eqb, ne_eqb, eqb-true, and_parts, and_right, lt-ltb, le-ltb, ltb-true}
 use Rattle.std.proofs.lemmas.List.{get_or_past}
 use Rattle.std.proofs.lemmas.List.Elements.{All-set}
 use Rattle.exam_plan.specs.Matching.{Seating, Plan, is_hall, IsLawful}
@@ -13,8 +13,10 @@ use Rattle.exam_plan.specs.Problems.{Problem, seating_of, plan_at}
 use Rattle.exam_plan.specs.Repair.{is_member, where_fitting, fitting_part, lesser_occupants, where_room, room_part, kept_part}
 use Rattle.exam_plan.specs.Searches.{count_at}
 use Rattle.exam_plan.proofs.Counting.{bit, count_below, count_below-same, count_by-range, sits_at}
-use Rattle.exam_plan.proofs.Seatings.{is_hall-sits_at, length-occupants, below-member}
+use Rattle.exam_plan.proofs.Seatings.{is_hall-sits_at, length-occupants, below-member, member-below}
 use Rattle.exam_plan.proofs.Steps.{plan_at-get_or, plan_at-set, count_at-below}
+use Rattle.exam_plan.proofs.Small.{some_value}
+use Rattle.exam_plan.proofs.Rising.{listed_in, in_listed}
 
 -- the candidates below i went through the rule, and the others stand as they were
 pub record IsFilteredBelow (R : ℕ → Option ℕ → Option ℕ) (before m : List (Option ℕ)) (i : ℕ) : Type 0 where
@@ -49,25 +51,11 @@ places_none m n c all = All-set (λ (o : Option ℕ). IfSome o (λ k. k < n)) m 
 
 -- ---- the rules
 
-eqb_flip : (a b : ℕ) → nat_eq a b ≡ nat_eq b a
-eqb_flip a b = elim (cases_eq a b) [ inl e ↦ eq-eqb a b e ∙ sym (eq-eqb b a (sym e)) | inr n ↦ ne_eqb a b n ∙ sym (ne_eqb b a (λ e. n (sym e))) ]
-
-any_range : (c a n : ℕ) → a ≤ c → c < a + n → list_any (nat_eq c) (range_with_len a n) ≡ true
-any_range c a zero l m = absurd (omega arith)
-any_range c a (suc n) l m = elim (cases_eq c a) [
-  | inl e ↦ or_left (nat_eq c a) (list_any (nat_eq c) (range_with_len (a + 1) n)) (eq-eqb c a e)
-  | inr k ↦ or_right (nat_eq c a) (list_any (nat_eq c) (range_with_len (a + 1) n)) (any_range c (a + 1) n (omega arith) (omega arith))
-]
-
-any_outside : (c a n : ℕ) → a + n ≤ c → list_any (nat_eq c) (range_with_len a n) ≡ false
-any_outside c a zero l = refl
-any_outside c a (suc n) l = ap (λ b. b || list_any (nat_eq c) (range_with_len (a + 1) n)) (ne_eqb c a (λ e. absurd (omega arith))) ∙ any_outside c (a + 1) n (omega arith)
-
 pub member_is : (p : Problem) (c : ℕ) → c < length p.fit → is_member (seating_of p) c ≡ true
-member_is p c l = any_range c 0 (length p.fit) (omega arith) (omega arith)
+member_is p c l = listed_in (range_with_len 0 (length p.fit)) c (below-member (length p.fit) c l)
 
 member_below : (p : Problem) (c : ℕ) → is_member (seating_of p) c ≡ true → c < length p.fit
-member_below p c t = elim (cases_lt c (length p.fit)) [ inl l ↦ l | inr g ↦ absurd (let z : false ≡ true = sym (any_outside c 0 (length p.fit) (omega arith)) ∙ t in cc) ]
+member_below p c t = member-below (length p.fit) c (in_listed (range_with_len 0 (length p.fit)) c t)
 
 pub fitting_stays : (p : Problem) (c h : ℕ) → c < length p.fit → (seating_of p).fits c h ≡ true → where_fitting (seating_of p) c (Some h) ≡ Some h
 fitting_stays p c h l f = ap (λ b. cond (b && (seating_of p).fits c h) (Some h) None) (member_is p c l) ∙ ap (λ b. cond b (Some h) None) f
@@ -135,10 +123,6 @@ room_some g q c k (Some h) e = at (nat_lt (lesser_occupants g q c h) (g.desks h)
         (s, subst (λ (z : ℕ). lesser_occupants g q c z < g.desks z) same (ltb-true (lesser_occupants g q c h) (g.desks h) t))
     at false t = absurd (let z : None ≡ Some k = sym (ap (λ b. cond b (Some h) None) t) ∙ e in cc)
 
-some_of : (o : Option ℕ) → IsSome o → (h : ℕ) × (o ≡ Some h)
-some_of None s = absurd (let z : false ≡ true = s in cc)
-some_of (Some h) s = (h, refl)
-
 sits_some : (h : ℕ) (o : Option ℕ) → sits_at h o ≡ true → o ≡ Some h
 sits_some h None t = absurd (let z : false ≡ true = t in cc)
 sits_some h (Some k) t = ap Some (sym (eqb-true h k t))
@@ -149,7 +133,7 @@ if_some P (Some h) f = f h refl
 
 pub kept_lawful : (p : Problem) (q : Plan ℕ ℕ) → IsLawful (seating_of p) (kept_part (seating_of p) q)
 kept_lawful p q = record {
-  members = λ c s. (let w = some_of (kept_part (seating_of p) q c) s in let r = room_some (seating_of p) (fitting_part (seating_of p) q) c w.0 (fitting_part (seating_of p) q c) w.1 in
+  members = λ c s. (let w = some_value (kept_part (seating_of p) q c) s in let r = room_some (seating_of p) (fitting_part (seating_of p) q) c w.0 (fitting_part (seating_of p) q c) w.1 in
       below-member (length p.fit) c (fitting_some p c w.0 (q c) r.0).0);
   fitting = λ c. if_some (λ h. IsTrue ((seating_of p).fits c h)) (kept_part (seating_of p) q c) (λ h e. (let r = room_some (seating_of p) (fitting_part (seating_of p) q) c h (fitting_part (seating_of p) q c) e in
       (fitting_some p c h (q c) r.0).1));

@@ -5,18 +5,17 @@ use Rattle.std.specs.Ordering.{is_lt}
 use Rattle.std.specs.Option.{option_map, option_and_then}
 use Rattle.std.proofs.lemmas.List.Folds.{list_any_at}
 use Rattle.std.proofs.lemmas.Map.Views.{Contains-from_any, exact_unsigned_eq}
+use Rattle.std.proofs.lemmas.Option.{IfSome_then}
+use Rattle.std.proofs.lemmas.Bool.{false_from_ne_true}
 use Rattle.std.proofs.Math.Path.{fun_ext}
 use Rattle.exam_plan.specs.Naming.{Naming, named_plan, at_index, indexed_plan}
 use Rattle.exam_plan.specs.Matching.{Seating, Plan, SamePlan, IsLawful, is_hall}
 use Rattle.exam_plan.specs.Repair.{is_member, where_fitting, fitting_part, lesser_occupants, where_room, room_part, kept_part, IsSweep, IsRepair}
-use Rattle.exam_plan.proofs.Renaming.{Renames}
-use Rattle.exam_plan.proofs.Carrying.{named_member, member_index, of_elements, sum_same}
-use Rattle.exam_plan.proofs.ChainNames.{Follows, AreKnown, is_hall-known}
+use Rattle.exam_plan.proofs.Renaming.{Renames, named_member, indexed_member, is_hall-known}
+use Rattle.exam_plan.proofs.Carrying.{member_index, sum_same}
+use Rattle.exam_plan.proofs.ChainNames.{Follows, AreKnown}
 use Rattle.exam_plan.proofs.SweepNames.{IsSweep-named, IsSweep-indexed}
-
-only_false : (t : Bool) → (t ≡ true → ⊥) → t ≡ false
-only_false true h = absurd (h refl)
-only_false false h = refl
+use Rattle.exam_plan.proofs.Small.{of_members}
 
 module _ {C H : Type 0} (name : Naming C H) (r : Renames name) (f : Follows name) where
   abbrev Known : Plan ℕ ℕ → Type 0
@@ -34,7 +33,7 @@ module _ {C H : Type 0} (name : Naming C H) (r : Renames name) (f : Follows name
   member_listed g itself x m = list_any_at (g.same_candidate x) g.members m.0 x m.1 (itself x _ (sym m.2))
 
   outside : (c : C) → name.candidate_index c ≡ None → is_member name.of_names c ≡ false
-  outside c at = only_false (is_member name.of_names c) (λ t.
+  outside c at = false_from_ne_true (is_member name.of_names c) (λ t.
       let w = member_index name r c (Contains-from_any (λ x y. (f.same_b x y).0) c name.of_names.members t) in
       let e : None ≡ Some w.0 = sym at ∙ w.1 in cc)
 
@@ -44,7 +43,7 @@ module _ {C H : Type 0} (name : Naming C H) (r : Renames name) (f : Follows name
   pub seat_index : (q : Plan C H) (c : C) (i : ℕ) → name.candidate_index c ≡ Some i → by_index q i ≡ option_and_then name.hall_index (q c)
   seat_index q c i at =
       let is : name.candidate i ≡ c = (r.named c i at).0 in
-      ap (option_and_then (at_index name q i)) (ap name.candidate_index is ∙ at) ∙ ap (λ t. cond t (option_and_then name.hall_index (q (name.candidate i))) None) (eq-eqb i i refl) ∙ ap (λ t. option_and_then name.hall_index (q t)) is
+      indexed_member name r q i (ap name.candidate_index is ∙ at) ∙ ap (λ t. option_and_then name.hall_index (q t)) is
 
   where_fitting-named : (c : C) (i : ℕ) → name.candidate_index c ≡ Some i → (o : Option H) → where_fitting name.of_names c o ≡ option_map name.hall (where_fitting name.of_indices i (option_and_then name.hall_index o))
   where_fitting-named c i at None = refl
@@ -65,7 +64,7 @@ module _ {C H : Type 0} (name : Naming C H) (r : Renames name) (f : Follows name
 
       outer : (o : Option ℕ) → name.hall_index h ≡ o → where_fitting name.of_names c (Some h) ≡ option_map name.hall (where_fitting name.of_indices i (name.hall_index h))
       outer None e =
-          left ∙ ap (λ t. cond t (Some h) None) (only_false (name.of_names.fits c h) (λ t. let z : IsSome (name.hall_index h) = r.known_fit c h t in let y : false ≡ true = sym (ap (λ u. is_some u) e) ∙ z in cc))
+          left ∙ ap (λ t. cond t (Some h) None) (false_from_ne_true (name.of_names.fits c h) (λ t. let z : IsSome (name.hall_index h) = r.known_fit c h t in let y : false ≡ true = sym (ap (λ u. is_some u) e) ∙ z in cc))
           ∙ sym (ap (λ t. option_map name.hall (where_fitting name.of_indices i t)) e)
       outer (Some j) e =
           left ∙ ap (λ t. cond t (Some h) None) (r.fits c h i j at e) ∙ inner j (r.halls h j e) (name.of_indices.fits i j)
@@ -98,12 +97,8 @@ module _ {C H : Type 0} (name : Naming C H) (r : Renames name) (f : Follows name
       outer None = tt
       outer (Some j) = inner j (is_member name.of_indices i) (name.of_indices.fits i j) refl
 
-  weaker : (P Q : ℕ → Type 0) → ((j : ℕ) → P j → Q j) → (o : Option ℕ) → IfSome o P → IfSome o Q
-  weaker P Q g None w = tt
-  weaker P Q g (Some j) w = g j w
-
   fitting_part-known : (p : Plan ℕ ℕ) → Known (fitting_part name.of_indices p)
-  fitting_part-known p i = weaker (λ j. IsTrue (name.of_indices.fits i j)) (λ j. name.hall_index (name.hall j) ≡ Some j) (r.known_hall i) (fitting_part name.of_indices p i) (fitting_part-fits p i)
+  fitting_part-known p i = IfSome_then (fitting_part name.of_indices p i) (fitting_part-fits p i) (r.known_hall i)
 
   -- ---- those for whom there is a desk
 
@@ -111,10 +106,10 @@ module _ {C H : Type 0} (name : Naming C H) (r : Renames name) (f : Follows name
   lesser-named p known i k m at =
       ap (count_by (λ d. is_lt (name.of_names.candidate_cmp d (name.candidate i)) && is_hall name.of_names (name.hall k) (by_name p d))) r.members
       ∙ sum_same (λ d. cond (is_lt (name.of_names.candidate_cmp d (name.candidate i)) && is_hall name.of_names (name.hall k) (by_name p d)) 1 0) (λ d. cond (is_lt (name.of_indices.candidate_cmp d i) && is_hall name.of_indices k (p d)) 1 0) name.candidate name.of_indices.members
-      (of_elements _ name.of_indices.members (λ d n. λ t. cond (is_lt (f.candidates d i n m t) && both d n t) 1 0))
+      (of_members _ name.of_indices.members (λ d n. λ t. cond (is_lt (f.candidates d i n m t) && both d n t) 1 0))
     where
       both : (d : ℕ) → Contains name.of_indices.members d → is_hall name.of_names (name.hall k) (by_name p (name.candidate d)) ≡ is_hall name.of_indices k (p d)
-      both d n = ap (is_hall name.of_names (name.hall k)) (named_member name r p (name.candidate d) d (r.known d n)) ∙ is_hall-known name r f k (p d) at (known d)
+      both d n = ap (is_hall name.of_names (name.hall k)) (named_member name r p (name.candidate d) d (r.known d n)) ∙ is_hall-known name r (name.hall k) k (p d) at (known d)
 
   where_room-named : (p : Plan ℕ ℕ) → Known p → (i : ℕ) → Contains name.of_indices.members i → (o : Option ℕ) → IfSome o (λ j. name.hall_index (name.hall j) ≡ Some j) → where_room name.of_names (by_name p) (name.candidate i) (option_map name.hall o) ≡ option_map name.hall (where_room name.of_indices p i o)
   where_room-named p known i m None at = refl
@@ -160,7 +155,7 @@ module _ {C H : Type 0} (name : Naming C H) (r : Renames name) (f : Follows name
   kept_part-fits p i = room_part-keeps (λ i j. IsTrue (name.of_indices.fits i j)) (fitting_part name.of_indices p) i (fitting_part-fits p i)
 
   kept_part-known : (p : Plan ℕ ℕ) → Known (kept_part name.of_indices p)
-  kept_part-known p i = weaker (λ j. IsTrue (name.of_indices.fits i j)) (λ j. name.hall_index (name.hall j) ≡ Some j) (r.known_hall i) (kept_part name.of_indices p i) (kept_part-fits p i)
+  kept_part-known p i = IfSome_then (kept_part name.of_indices p i) (kept_part-fits p i) (r.known_hall i)
 
   -- a plan by indices that seats where it fits, named and read by indices again, is the same
   pub index_of_name : (p : Plan ℕ ℕ) → ((i : ℕ) → IfSome (p i) (λ j. IsTrue (name.of_indices.fits i j))) → SamePlan (by_index (by_name p)) p

@@ -13,12 +13,13 @@ use Rattle.exam_plan.specs.Matching.{Plan, SamePlan, occupants, unseated, size, 
 use Rattle.exam_plan.specs.Chains.{Chain, IsChain, IsLeastChain, augmented}
 use Rattle.exam_plan.specs.Repair.{where_fitting, fitting_part, lesser_occupants, where_room, kept_part, TurnFrom, Sweeps, sweep_order, IsRepair}
 use Rattle.exam_plan.specs.Problems.{Problem, IsProblem, seating_of}
-use Rattle.exam_plan.proofs.Counting.{bit, count_below, count_below-same, count_below-add, count_below-point, sits_at, sits_within}
-use Rattle.exam_plan.proofs.Seatings.{length-occupants, length-unseated, size-count, member-below, IfSome-at}
+use Rattle.exam_plan.proofs.Counting.{bit, count_below, count_below-same, count_below-add, count_below-point, sits_at, sits_within, count_below-reaches, count_below-none}
+use Rattle.exam_plan.proofs.Seatings.{length-occupants, length-unseated, size-count, member-below}
 use Rattle.exam_plan.proofs.Moves.{Avoids, AreDistinct, route_of, ends_free, lawful-moved, size-moved}
 use Rattle.exam_plan.proofs.KeptLemmas.{lesser_count, fitting_stays}
 use Rattle.exam_plan.proofs.Rising.{later_all, listed_in, in_listed}
 use Rattle.exam_plan.proofs.LeastChains as least
+use Rattle.exam_plan.proofs.Small.{value_at}
 
 pub one_least_chain : (p : Problem) (q : Plan ℕ ℕ) (c : ℕ) (a b : Chain ℕ ℕ) → IsLeastChain (seating_of p) q c a → IsLeastChain (seating_of p) q c b → a ≡ b
 one_least_chain p = least.least_chain_is_one (seating_of p) nat_cmp_total nat_cmp_total nat_cmp-IsAntisymmetric nat_cmp-IsAntisymmetric
@@ -53,20 +54,13 @@ best_has_no_chain p q best c none chain is =
     let s = size-moved p q best.lawful c none chain.hops chain.last route distinct in
     let g = best.greatest (augmented (seating_of p) q c chain.hops chain.last) l in omega (arith, s, g)
 
-fewer_before : (P : ℕ → Bool) (c n : ℕ) → c < n → P c ≡ true → count_below P c < count_below P n
-fewer_before P c zero l t = absurd (omega arith)
-fewer_before P c (suc n) l t = elim (cases_eq c n) [
-  | inl e ↦ (let one : bit (P n) ≡ 1 = ap (λ k. bit (P k)) (sym e) ∙ ap bit t in let s : count_below P c ≡ count_below P n = ap (count_below P) e in omega (arith, one, s))
-  | inr a ↦ (let ih = fewer_before P c n (omega arith) t in omega (arith, ih))
-]
-
 fitting_all : (p : Problem) (q : Plan ℕ ℕ) → IsLawful (seating_of p) q → (c : ℕ) → fitting_part (seating_of p) q c ≡ q c
 fitting_all p q lawful c = at (q c) refl
   where
     at : (o : Option ℕ) → q c ≡ o → where_fitting (seating_of p) c (q c) ≡ q c
     at None e = ap (where_fitting (seating_of p) c) e ∙ sym e
     at (Some h) e = ap (where_fitting (seating_of p) c) e
-        ∙ fitting_stays p c h (member-below (length p.fit) c (lawful.members c (ap is_some e))) (IfSome-at (λ k. IsTrue ((seating_of p).fits c k)) (q c) h e (lawful.fitting c)) ∙ sym e
+        ∙ fitting_stays p c h (member-below (length p.fit) c (lawful.members c (ap is_some e))) (value_at (λ k. IsTrue ((seating_of p).fits c k)) (q c) h e (lawful.fitting c)) ∙ sym e
 
 room_all : (p : Problem) (q : Plan ℕ ℕ) → IsLawful (seating_of p) q → (c : ℕ) → where_room (seating_of p) q c (q c) ≡ q c
 room_all p q lawful c = at (q c) refl
@@ -76,7 +70,7 @@ room_all p q lawful c = at (q c) refl
     at (Some h) e =
         let below : c < length p.fit = member-below (length p.fit) c (lawful.members c (ap is_some e)) in
         let lesser = lesser_count p q c h (omega arith) in
-        let fewer = fewer_before (λ d. sits_at h (q d)) c (length p.fit) below (ap (sits_at h) e ∙ eq-eqb h h refl) in
+        let fewer = count_below-reaches (λ d. sits_at h (q d)) c (length p.fit) below (ap (sits_at h) e ∙ eq-eqb h h refl) in
         let all = length-occupants p q h in
         let within : length (occupants (seating_of p) q h) ≤ get_or p.desk_counts h 0 = lawful.within_desks h in
         ap (where_room (seating_of p) q c) e ∙ ap (λ b. cond b (Some h) None) (lt-ltb (lesser_occupants (seating_of p) q c h) (get_or p.desk_counts h 0) (omega (arith, lesser, fewer, all, within))) ∙ sym e
@@ -118,13 +112,9 @@ best_stands p first q best =
 
 -- ---- a certificate shows that a plan is best
 
-pub count_none : (n : ℕ) → count_below (λ c. false) n ≡ 0
-count_none zero = refl
-count_none (suc n) = let e = count_none n in omega (arith, e)
-
 listed_count : (n : ℕ) (xs : List ℕ) → IsStrictlySortedBy nat_cmp xs → All (λ x. x < n) xs → length xs ≡ count_below (λ c. list_any (nat_eq c) xs) n
 unfolding IsStrictlySortedBy
-listed_count n [] s a = sym (count_none n)
+listed_count n [] s a = sym (count_below-none (λ c. false) n (λ c. refl))
 listed_count n (x ∷ xs) s a =
     let rest = listed_count n xs s.1 (All-tail (λ y. y < n) x xs a) in
     let o = count_below-point (λ c. list_any (nat_eq c) (x ∷ xs)) (λ c. list_any (nat_eq c) xs) n x (All-head (λ y. y < n) x xs a) (λ k l away. ap (λ b. bit (b || list_any (nat_eq k) xs)) (ne_eqb k x away)) in
@@ -149,7 +139,7 @@ one_more h hs (Some k) = elim (cases_eq k h) [
 
 module _ (p : Problem) (other : Plan ℕ ℕ) (also : IsLawful (seating_of p) other) where
   within_listed : (hs : List ℕ) → count_below (λ c. sits_within (λ h. list_any (nat_eq h) hs) (other c)) (length p.fit) ≤ sum_by (seating_of p).desks hs
-  within_listed [] = let e = count_below-same (λ c. sits_within (λ h. false) (other c)) (λ c. false) (length p.fit) (λ c l. nowhere (other c)) in let z = count_none (length p.fit) in omega (arith, e, z)
+  within_listed [] = let e = count_below-same (λ c. sits_within (λ h. false) (other c)) (λ c. false) (length p.fit) (λ c l. nowhere (other c)) in let z = count_below-none (λ c. false) (length p.fit) (λ c. refl) in omega (arith, e, z)
   within_listed (h ∷ hs) =
       let rest = within_listed hs in
       let s = count_below-split (λ c. sits_within (λ k. list_any (nat_eq k) (h ∷ hs)) (other c)) (λ c. sits_at h (other c)) (λ c. sits_within (λ k. list_any (nat_eq k) hs) (other c)) (length p.fit) (λ c l. one_more h hs (other c)) in
@@ -174,7 +164,7 @@ certified_best p q xs hs good lawful cert = record { lawful = lawful; greatest =
     drawn_bit other also c o false e t = omega arith
     drawn_bit other also c None true e t = omega arith
     drawn_bit other also c (Some h) true e t =
-        let fit = IfSome-at (λ k. IsTrue ((seating_of p).fits c k)) (other c) h e (also.fitting c) in
+        let fit = value_at (λ k. IsTrue ((seating_of p).fits c k)) (other c) h e (also.fitting c) in
         let m = (cert.halls_of h).1 (c, in_listed xs c t, fit) in
         let one : bit (list_any (nat_eq h) hs) ≡ 1 = ap bit (listed_in hs h m) in omega (arith, one)
 

@@ -2,13 +2,14 @@
 use Rattle.std.proofs.Common.{◌≡◌, length, refl}
 use Rattle.std.specs.declared.cmp.Ordering.{Ordering}
 use Rattle.std.specs.declared.cmp.Ordering.TheVariants.{Less, Equal, Greater}
-use Rattle.std.specs.Ordering.{ordering_then, ordering_reverse}
+use Rattle.std.specs.Ordering.{ordering_reverse}
 use Rattle.std.specs.Cmp.{IsTotalOrder, nat_cmp_total}
 use Rattle.std.specs.FinMap.{IsAntisymmetric, slice_cmp-IsAntisymmetric}
 use Rattle.std.proofs.lemmas.Cmp.{on_total, then_total, lists_total}
 use Rattle.std.proofs.lemmas.Map.Lookups.{exact_pairs}
 use Rattle.exam_plan.specs.Matching.{Seating, Plan}
 use Rattle.exam_plan.specs.Chains.{Chain, IsLeastChain, chain_cmp}
+use Rattle.exam_plan.proofs.Small.{both_tie}
 
 -- neither is greater: they tie
 tied : (o p : Ordering) → o ≡ ordering_reverse p → (o ≡ Greater → ⊥) → (p ≡ Greater → ⊥) → o ≡ Equal
@@ -17,16 +18,6 @@ tied Less Equal e f g = cc
 tied Less Greater e f g = absurd (g refl)
 tied Equal p e f g = refl
 tied Greater p e f g = absurd (f refl)
-
-second : (o p : Ordering) → ordering_then o p ≡ Equal → p ≡ Equal
-second Less p e = cc
-second Equal p e = e
-second Greater p e = cc
-
-first : (o p : Ordering) → ordering_then o p ≡ Equal → o ≡ Equal
-first Less p e = cc
-first Equal p e = refl
-first Greater p e = cc
 
 module _ {C H : Type 0} (g : Seating C H) (candidates : IsTotalOrder g.candidate_cmp) (halls : IsTotalOrder g.hall_cmp) (exact_candidates : IsAntisymmetric g.candidate_cmp) (exact_halls : IsAntisymmetric g.hall_cmp) where
   pub chain_cmp_total : IsTotalOrder (chain_cmp g)
@@ -37,9 +28,9 @@ module _ {C H : Type 0} (g : Seating C H) (candidates : IsTotalOrder g.candidate
 
   pub chain_cmp_exact : IsAntisymmetric (chain_cmp g)
   chain_cmp_exact a b e =
-      let rest = second _ _ e in
-      let hops : a.hops ≡ b.hops = slice_cmp-IsAntisymmetric (exact_pairs g.hall_cmp g.candidate_cmp exact_halls exact_candidates) a.hops b.hops (first _ _ rest) in
-      let last : a.last ≡ b.last = exact_halls a.last b.last (second _ _ rest) in
+      let rest = (both_tie _ _ e).1 in
+      let hops : a.hops ≡ b.hops = slice_cmp-IsAntisymmetric (exact_pairs g.hall_cmp g.candidate_cmp exact_halls exact_candidates) a.hops b.hops (both_tie _ _ rest).0 in
+      let last : a.last ≡ b.last = exact_halls a.last b.last (both_tie _ _ rest).1 in
       λ i. record { hops = hops i; last = last i }
 
   pub least_chain_is_one : (plan : Plan C H) (c : C) (a b : Chain C H) → IsLeastChain g plan c a → IsLeastChain g plan c b → a ≡ b

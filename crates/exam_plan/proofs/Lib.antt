@@ -1,3 +1,4 @@
+pub mod Small
 pub mod LeastChains
 pub mod Renaming
 pub mod Carrying

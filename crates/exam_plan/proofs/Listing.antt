@@ -1,15 +1,16 @@
 -- The list of the dead halls: one set after the other, each hall once.
-use Rattle.std.proofs.Common.{◌≡◌, ◌↔◌, ℕ, zero, suc, ◌+◌, ◌<◌, ◌≤◌, Bool, true, false, ◌||◌, List, [], ◌∷◌, ◌++◌, length, nat_eq, refl, sym, ap, ◌∙◌, inl, inr, subst, arith}
+use Rattle.std.proofs.Common.{◌≡◌, ◌↔◌, ℕ, ◌+◌, ◌<◌, ◌≤◌, Bool, true, false, ◌||◌, List, [], ◌∷◌, ◌++◌, length, nat_eq, refl, sym, ap, ◌∙◌, inl, inr, subst, arith}
 use Rattle.std.specs.Prelude.{Contains, filter}
 use Rattle.std.specs.List.{range_with_len, list_any, AllByRecursion, IsDistinct}
 use Rattle.std.specs.List.Sorted.{IsStrictlySortedBy}
 use Rattle.std.specs.Ordering.{nat_cmp}
-use Rattle.std.proofs.lemmas.Bool.{cases_lt, cases_Bool, eq-eqb, or_cases, or_left, or_right, or_from, or_parts}
+use Rattle.std.proofs.lemmas.Bool.{cases_Bool, eq-eqb, or_cases, or_left, or_right, or_from, or_parts}
 use Rattle.std.proofs.lemmas.List.{length-append, append_assoc}
 use Rattle.std.proofs.lemmas.List.Sums.{length-filter}
+use Rattle.std.proofs.lemmas.List.Folds.{list_any-append}
 use Rattle.exam_plan.specs.HallSets.{holds, halls_below}
 use Rattle.exam_plan.specs.Searches.{IsMarked}
-use Rattle.exam_plan.proofs.Counting.{bit, count_below, count_by-range, count_below-add, count_below-le-bound}
+use Rattle.exam_plan.proofs.Counting.{bit, count_below, count_by-range, count_below-add, count_below-le-bound, count_below-reaches, count_below-none}
 use Rattle.exam_plan.proofs.DrawLemmas.{filter_takes, filter_leaves}
 use Rattle.exam_plan.proofs.Rising.{passing, passes_in, filter_sorted, listed_in, in_listed, later_all}
 
@@ -18,26 +19,12 @@ use Rattle.exam_plan.proofs.Rising.{passing, passes_in, filter_sorted, listed_in
 pub many_below : (P : ℕ → Bool) (n : ℕ) → length (filter P (range_with_len 0 n)) ≡ count_below P n
 many_below P n = length-filter P (range_with_len 0 n) ∙ count_by-range P n
 
-count_reaches : (P : ℕ → Bool) (n k : ℕ) → k < n → P k ≡ true → count_below P k < count_below P n
-count_reaches P zero k l t = absurd (omega arith)
-count_reaches P (suc n) k l t = elim (cases_lt k n) [
-  | inl b ↦ (let h = count_reaches P n k b t in omega arith)
-  | inr g ↦ (let e : k ≡ n = omega arith in let one : bit (P n) ≡ 1 = ap bit (ap P (sym e) ∙ t) in let same : count_below P k ≡ count_below P n = ap (count_below P) e in omega (arith, one, same))
-]
-
 -- a hall that is still to be listed leaves room
 pub still_fewer : (P : ℕ → Bool) (n k : ℕ) → k < n → P k ≡ true → length (filter P (range_with_len 0 k)) < length (filter P (range_with_len 0 n))
-still_fewer P n k l t = let h = count_reaches P n k l t in let a = many_below P k in let b = many_below P n in omega (arith, h, a, b)
-
-pub few_below : (P : ℕ → Bool) (n : ℕ) → length (filter P (range_with_len 0 n)) ≤ n
-few_below P n = let a = many_below P n in let b = count_below-le-bound P n in omega (arith, a, b)
+still_fewer P n k l t = let h = count_below-reaches P k n l t in let a = many_below P k in let b = many_below P n in omega (arith, h, a, b)
 
 pub none_below : (P : ℕ → Bool) (n : ℕ) → ((h : ℕ) → P h ≡ false) → length (filter P (range_with_len 0 n)) ≡ 0
-none_below P n none = many_below P n ∙ at n
-  where
-    at : (n : ℕ) → count_below P n ≡ 0
-    at zero = refl
-    at (suc n) = let e = at n in let z : bit (P n) ≡ 0 = ap bit (none n) in omega (arith, e, z)
+none_below P n none = many_below P n ∙ count_below-none P n none
 
 -- ---- a list that goes on
 
@@ -49,14 +36,6 @@ pub leaves_same : (P : ℕ → Bool) (i : ℕ) (old so_far : List ℕ) → so_fa
 leaves_same P i old so_far is t = is ∙ ap (λ xs. old ++ xs) (filter_leaves P i (filter P (range_with_len 0 i)) refl t)
 
 -- ---- lists one after the other
-
-any_append : (h : ℕ) (xs ys : List ℕ) → list_any (nat_eq h) (xs ++ ys) ≡ list_any (nat_eq h) xs || list_any (nat_eq h) ys
-any_append h [] ys = refl
-any_append h (x ∷ xs) ys = ap (λ b. nat_eq h x || b) (any_append h xs ys) ∙ either (nat_eq h x) (list_any (nat_eq h) xs) (list_any (nat_eq h) ys)
-  where
-    either : (a b c : Bool) → a || (b || c) ≡ (a || b) || c
-    either true b c = refl
-    either false b c = refl
 
 none_as_recursion : (x : ℕ) (xs : List ℕ) → list_any (nat_eq x) xs ≡ false → AllByRecursion (λ y. nat_eq x y ≡ false) xs
 none_as_recursion x [] e = tt
@@ -75,12 +54,9 @@ distinct_append : (xs ys : List ℕ) → IsDistinct nat_eq xs → IsDistinct nat
 unfolding IsDistinct
 distinct_append [] ys dx dy apart = dy
 distinct_append (x ∷ xs) ys dx dy apart = (
-  none_as_recursion x (xs ++ ys) (any_append x xs ys ∙ or_from (list_any (nat_eq x) xs) (list_any (nat_eq x) ys) (recursion_as_none x xs dx.0) (apart x (or_left (nat_eq x x) (list_any (nat_eq x) xs) (same x)))),
+  none_as_recursion x (xs ++ ys) (list_any-append (nat_eq x) xs ys ∙ or_from (list_any (nat_eq x) xs) (list_any (nat_eq x) ys) (recursion_as_none x xs dx.0) (apart x (or_left (nat_eq x x) (list_any (nat_eq x) xs) (eq-eqb x x refl)))),
   distinct_append xs ys dx.1 dy (λ h t. apart h (or_right (nat_eq h x) (list_any (nat_eq h) xs) t)),
 )
-  where
-    same : (x : ℕ) → nat_eq x x ≡ true
-    same x = eq-eqb x x refl
 
 pub none_distinct : (xs : List ℕ) → xs ≡ [] → IsDistinct nat_eq xs
 unfolding IsDistinct
@@ -95,10 +71,16 @@ nothing_listed xs set e none h = (
 
 -- ---- the halls of one more search
 
+apart_bits : (a b : Bool) → (b ≡ true → a ≡ true → ⊥) → bit a + bit b ≡ bit (a || b)
+apart_bits true true apart = absurd (apart refl refl)
+apart_bits true false apart = refl
+apart_bits false true apart = refl
+apart_bits false false apart = refl
+
 module _ (n dead led both : ℕ) (is : (h : ℕ) → holds both h ≡ holds dead h || holds led h) (apart : (h : ℕ) → IsMarked (holds led) h → IsMarked (holds dead) h → ⊥) (within : (h : ℕ) → IsMarked (holds led) h → h < n)
     (listed after : List ℕ) (are : (h : ℕ) → Contains listed h ↔ IsMarked (holds dead) h) (after_is : after ≡ listed ++ halls_below n led) where
   any_after : (h : ℕ) → list_any (nat_eq h) after ≡ list_any (nat_eq h) listed || list_any (nat_eq h) (halls_below n led)
-  any_after h = ap (list_any (nat_eq h)) after_is ∙ any_append h listed (halls_below n led)
+  any_after h = ap (list_any (nat_eq h)) after_is ∙ list_any-append (nat_eq h) listed (halls_below n led)
 
   pub after_lists : (h : ℕ) → Contains after h ↔ IsMarked (holds both) h
   after_lists h = (
@@ -120,13 +102,7 @@ module _ (n dead led both : ℕ) (is : (h : ℕ) → holds both h ≡ holds dead
       ]))
 
   bits : (h : ℕ) → bit (holds dead h) + bit (holds led h) ≡ bit (holds both h)
-  bits h = at (holds dead h) (holds led h) refl refl ∙ ap bit (sym (is h))
-    where
-      at : (a b : Bool) → holds dead h ≡ a → holds led h ≡ b → bit a + bit b ≡ bit (a || b)
-      at true true d l = absurd (apart h l d)
-      at true false d l = refl
-      at false true d l = refl
-      at false false d l = refl
+  bits h = apart_bits (holds dead h) (holds led h) (apart h) ∙ ap bit (sym (is h))
 
   both_many : length (halls_below n dead) + length (halls_below n led) ≡ length (halls_below n both)
   both_many =
@@ -140,11 +116,5 @@ module _ (n dead led both : ℕ) (is : (h : ℕ) → holds both h ≡ holds dead
 pub room_left : (n dead led listed : ℕ) → ((h : ℕ) → IsMarked (holds led) h → IsMarked (holds dead) h → ⊥) → listed ≡ length (halls_below n dead) → listed + length (halls_below n led) ≤ n
 room_left n dead led listed apart many =
     let a = many_below (holds dead) n in let b = many_below (holds led) n in
-    let s = count_below-add (holds dead) (holds led) (λ h. holds dead h || holds led h) n (λ h l. at h (holds dead h) (holds led h) refl refl) in
+    let s = count_below-add (holds dead) (holds led) (λ h. holds dead h || holds led h) n (λ h l. apart_bits (holds dead h) (holds led h) (apart h)) in
     let c = count_below-le-bound (λ h. holds dead h || holds led h) n in omega (arith, a, b, s, c, many)
-  where
-    at : (h : ℕ) (a b : Bool) → holds dead h ≡ a → holds led h ≡ b → bit a + bit b ≡ bit (a || b)
-    at h true true d l = absurd (apart h l d)
-    at h true false d l = refl
-    at h false true d l = refl
-    at h false false d l = refl

@@ -1,17 +1,14 @@
 -- Lists of marks: a list that marks more has fewer places without a mark.
-use Rattle.std.proofs.Common.{◌≡◌, ◌≢◌, ℕ, suc, ◌+◌, ◌<◌, ◌≤◌, Bool, true, false, not, cond, List, [], ◌∷◌, length, get_or, count_by, refl, sym, ap, ◌∙◌, arith}
+use Rattle.std.proofs.Common.{◌≡◌, ◌≢◌, ℕ, suc, ◌<◌, ◌≤◌, Bool, true, false, not, List, [], ◌∷◌, length, get_or, count_by, refl, sym, ap, ◌∙◌, arith}
 use Rattle.std.specs.Cmp.{booleans_Decides}
 use Rattle.std.specs.Cmp.Lexicographic.{pointwise}
 use Rattle.std.proofs.Math.Bool.{beq}
-use Rattle.std.proofs.lemmas.List.Sums.{sum_by-cons}
 use Rattle.std.proofs.lemmas.Slice.Eq.{slice_eq-Decides}
+use Rattle.exam_plan.proofs.Counting.{count_by-cons}
 
 -- every mark of the first list is one of the second
 abbrev pub IsWider : List Bool → List Bool → Type 0
 IsWider xs ys = (h : ℕ) → get_or xs h false ≡ true → get_or ys h false ≡ true
-
-unmarked-cons : (x : Bool) (xs : List Bool) → count_by not (x ∷ xs) ≡ cond (not x) 1 0 + count_by not xs
-unmarked-cons x xs = sum_by-cons (λ y. cond (not y) 1 0) x xs
 
 wider-tail : (x y : Bool) (xs ys : List Bool) → IsWider (x ∷ xs) (y ∷ ys) → IsWider xs ys
 wider-tail x y xs ys w h = w (suc h)
@@ -21,11 +18,11 @@ unmarked-le [] [] e w = omega arith
 unmarked-le [] (y ∷ ys) e w = absurd (omega arith)
 unmarked-le (x ∷ xs) [] e w = absurd (omega arith)
 unmarked-le (false ∷ xs) (true ∷ ys) e w =
-    omega (arith, unmarked-cons false xs, unmarked-cons true ys, unmarked-le xs ys (omega arith) (wider-tail false true xs ys w))
+    omega (arith, count_by-cons not false xs, count_by-cons not true ys, unmarked-le xs ys (omega arith) (wider-tail false true xs ys w))
 unmarked-le (false ∷ xs) (false ∷ ys) e w =
-    omega (arith, unmarked-cons false xs, unmarked-cons false ys, unmarked-le xs ys (omega arith) (wider-tail false false xs ys w))
+    omega (arith, count_by-cons not false xs, count_by-cons not false ys, unmarked-le xs ys (omega arith) (wider-tail false false xs ys w))
 unmarked-le (true ∷ xs) (true ∷ ys) e w =
-    omega (arith, unmarked-cons true xs, unmarked-cons true ys, unmarked-le xs ys (omega arith) (wider-tail true true xs ys w))
+    omega (arith, count_by-cons not true xs, count_by-cons not true ys, unmarked-le xs ys (omega arith) (wider-tail true true xs ys w))
 unmarked-le (true ∷ xs) (false ∷ ys) e w = absurd (let z : false ≡ true = w 0 refl in cc)
 
 pub unmarked-lt : (xs ys : List Bool) → length ys ≡ length xs → IsWider xs ys → ys ≢ xs → count_by not ys < count_by not xs
@@ -33,11 +30,11 @@ unmarked-lt [] [] e w n = absurd (n refl)
 unmarked-lt [] (y ∷ ys) e w n = absurd (omega arith)
 unmarked-lt (x ∷ xs) [] e w n = absurd (omega arith)
 unmarked-lt (false ∷ xs) (true ∷ ys) e w n =
-    omega (arith, unmarked-cons false xs, unmarked-cons true ys, unmarked-le xs ys (omega arith) (wider-tail false true xs ys w))
+    omega (arith, count_by-cons not false xs, count_by-cons not true ys, unmarked-le xs ys (omega arith) (wider-tail false true xs ys w))
 unmarked-lt (false ∷ xs) (false ∷ ys) e w n =
-    omega (arith, unmarked-cons false xs, unmarked-cons false ys, unmarked-lt xs ys (omega arith) (wider-tail false false xs ys w) (λ t. n (ap (λ z. false ∷ z) t)))
+    omega (arith, count_by-cons not false xs, count_by-cons not false ys, unmarked-lt xs ys (omega arith) (wider-tail false false xs ys w) (λ t. n (ap (λ z. false ∷ z) t)))
 unmarked-lt (true ∷ xs) (true ∷ ys) e w n =
-    omega (arith, unmarked-cons true xs, unmarked-cons true ys, unmarked-lt xs ys (omega arith) (wider-tail true true xs ys w) (λ t. n (ap (λ z. true ∷ z) t)))
+    omega (arith, count_by-cons not true xs, count_by-cons not true ys, unmarked-lt xs ys (omega arith) (wider-tail true true xs ys w) (λ t. n (ap (λ z. true ∷ z) t)))
 unmarked-lt (true ∷ xs) (false ∷ ys) e w n = absurd (let z : false ≡ true = w 0 refl in cc)
 
 -- what a test of two lists of marks has told

@@ -1,6 +1,7 @@
 -- What a move along a chain leaves: one more in the last hall, and as many as before in each other hall.
 use Rattle.std.proofs.Common.{◌≡◌, ◌≢◌, ℕ, ◌+◌, ◌<◌, ◌≤◌, Bool, cond, IsTrue, List, [], ◌∷◌, length, get_or, Option, None, Some, IsSome, IfSome, is_some, nat_eq, ◌⊎◌, refl, sym, ap, ◌∙◌, inl, inr, subst, arith}
 use Rattle.std.proofs.lemmas.Bool.{cases_eq, eq-eqb, ne_eqb}
+use Rattle.std.proofs.lemmas.Option.{same_Some}
 use Rattle.exam_plan.specs.Matching.{Plan, occupants, size, IsLawful}
 use Rattle.exam_plan.specs.Chains.{Leads, HasFreeDesk, augmented}
 use Rattle.exam_plan.specs.Problems.{Problem, seating_of}
@@ -99,9 +100,6 @@ module _ (p : Problem) (q : Plan ℕ ℕ) where
   route_fits c [] last route = route
   route_fits c (hop ∷ hops) last route = (route.0, route_fits hop.1 hops last route.2)
 
-  some_same : (h k : ℕ) → Some h ≡ Some k → h ≡ k
-  some_same h k e = cc
-
   -- who sits in none of the chain's halls moves on from none
   pub fresh_from : (c d : ℕ) (hops : List (ℕ × ℕ)) (last : ℕ) → IsRoute d hops last → ((h : ℕ) → q c ≡ Some h → Avoids h hops last) → IsFresh c hops
   fresh_from c d [] last route away = tt
@@ -114,7 +112,7 @@ module _ (p : Problem) (q : Plan ℕ ℕ) where
     fits_member p c hop.0 route.0,
     route.1,
     fresh_from c c (hop ∷ hops) last route away,
-    path_of hop.1 hops last route.2 distinct.1 (λ h s. subst (λ (z : ℕ). Avoids z hops last) (some_same hop.0 h (sym route.1 ∙ s)) distinct.0),
+    path_of hop.1 hops last route.2 distinct.1 (λ h s. subst (λ (z : ℕ). Avoids z hops last) (same_Some hop.0 h (sym route.1 ∙ s)) distinct.0),
   )
 
   -- ---- a chain from an unseated candidate to a free desk gives a lawful plan that seats one more

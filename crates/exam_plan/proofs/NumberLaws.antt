@@ -1,15 +1,21 @@
 -- Desk numbers are distinct in a hall and at most its desks.
-use Rattle.std.proofs.Common.{◌≡◌, ◌≢◌, ℕ, zero, suc, ◌+◌, ◌<◌, ◌≤◌, Bool, true, false, List, [], ◌∷◌, length, get_or, count_by, Some, is_some, nat_eq, nat_lt, refl, sym, ap, ◌∙◌, inl, inr, arith}
-use Rattle.std.specs.List.{AllByRecursion, IsDistinct}
+use Rattle.std.proofs.Common.{◌≡◌, ◌≢◌, ℕ, zero, suc, ◌+◌, ◌<◌, ◌≤◌, Bool, true, false, List, length, get_or, count_by, Some, is_some, nat_eq, nat_lt, refl, sym, ap, ◌∙◌, inl, inr, arith}
+use Rattle.std.specs.List.{IsDistinct}
 use Rattle.std.specs.Option.{option_map}
 use Rattle.std.proofs.lemmas.Bool.{cases_eq, cases_order, cases_Bool, eq-eqb, lt-ltb, le-ltb, ltb-true}
+use Rattle.std.proofs.lemmas.Option.{same_Some}
+use Rattle.std.proofs.lemmas.Map.Keys.{apart_from_distinct}
 use Rattle.exam_plan.specs.Matching.{Plan, is_hall, occupants, desk_number, IsLawful}
 use Rattle.exam_plan.specs.Problems.{Problem, IsProblem, seating_of, ranks_before}
-use Rattle.exam_plan.proofs.Counting.{bit, count_below, count_below-same, sum_below, sum_below-le, sits_at}
+use Rattle.exam_plan.proofs.Counting.{bit, count_below, count_below-same, sum_below, sum_below-le, sits_at, bit_le}
 use Rattle.exam_plan.proofs.Seatings.{is_hall-sits_at, length-occupants, member-below}
 use Rattle.exam_plan.proofs.ShortOfDesks.{sum_by-passing}
 
 -- ---- sums of a test over those who pass another
+
+small : (b : Bool) → bit b ≤ 1
+small true = omega arith
+small false = omega arith
 
 within_all : (T D : ℕ → Bool) (n : ℕ) → sum_below (λ d. bit (T d)) D n ≤ count_below D n
 within_all T D zero = omega arith
@@ -17,10 +23,6 @@ within_all T D (suc n) = let e = within_all T D n in elim (cases_Bool (D n)) [
   | inl t ↦ rw t (let s = small (T n) in omega (arith, e, s))
   | inr t ↦ rw t (omega (arith, e))
 ]
-  where
-    small : (b : Bool) → bit b ≤ 1
-    small true = omega arith
-    small false = omega arith
 
 within_less : (T D : ℕ → Bool) (n c : ℕ) → c < n → D c ≡ true → T c ≡ false → sum_below (λ d. bit (T d)) D n < count_below D n
 within_less T D zero c l d t = absurd (omega arith)
@@ -31,10 +33,6 @@ within_less T D (suc n) c l d t = elim (cases_eq c n) [
     | inr dn ↦ rw dn (omega (arith, ih))
   ])
 ]
-  where
-    small : (b : Bool) → bit b ≤ 1
-    small true = omega arith
-    small false = omega arith
 
 fewer_pass : (S T D : ℕ → Bool) (n c : ℕ) → ((d : ℕ) → bit (S d) ≤ bit (T d)) → c < n → D c ≡ true → S c ≡ false → T c ≡ true → sum_below (λ d. bit (S d)) D n < sum_below (λ d. bit (T d)) D n
 fewer_pass S T D zero c w l d s t = absurd (omega arith)
@@ -46,18 +44,8 @@ fewer_pass S T D (suc n) c w l d s t = elim (cases_eq c n) [
 
 -- ---- distinct ranks
 
-all_differ : (x : ℕ) (xs : List ℕ) (j : ℕ) → AllByRecursion (λ y. nat_eq x y ≡ false) xs → j < length xs → x ≢ get_or xs j 0
-all_differ x [] j a l e = absurd (omega arith)
-all_differ x (y ∷ ys) zero a l e = let z : true ≡ false = sym (eq-eqb x y e) ∙ a.0 in cc
-all_differ x (y ∷ ys) (suc j) a l e = all_differ x ys j a.1 (omega arith) e
-
 pub differ_at : (xs : List ℕ) (i j : ℕ) → IsDistinct nat_eq xs → i < j → j < length xs → get_or xs i 0 ≢ get_or xs j 0
-unfolding IsDistinct
-differ_at [] i j d l m e = absurd (omega arith)
-differ_at (x ∷ xs) zero zero d l m e = absurd (omega arith)
-differ_at (x ∷ xs) zero (suc j) d l m e = all_differ x xs j d.0 (omega arith) e
-differ_at (x ∷ xs) (suc i) zero d l m e = absurd (omega arith)
-differ_at (x ∷ xs) (suc i) (suc j) d l m e = differ_at xs i j d.1 (omega arith) (omega arith) e
+differ_at xs i j d l m e = let z : true ≡ false = sym (eq-eqb (get_or xs i 0) (get_or xs j 0) e) ∙ apart_from_distinct nat_eq xs i j 0 d l m in cc
 
 module _ (p : Problem) (q : Plan ℕ ℕ) (h : ℕ) where
   -- those of the hall who rank below
@@ -71,13 +59,10 @@ module _ (p : Problem) (q : Plan ℕ ℕ) (h : ℕ) where
   pub number_at : (c : ℕ) → q c ≡ Some h → desk_number (seating_of p) (ranks_before p) q c ≡ Some (count_by (λ d. nat_lt (get_or p.rank d 0) (get_or p.rank c 0)) (occupants (seating_of p) q h) + 1)
   number_at c e = ap (option_map (λ k. count_by (λ d. ranks_before p d c) (occupants (seating_of p) q k) + 1)) e
 
-  same_number : (m n : ℕ) → Some m ≡ Some n → m ≡ n
-  same_number m n e = cc
-
   pub number_fits : IsLawful (seating_of p) q → (c n : ℕ) → q c ≡ Some h → desk_number (seating_of p) (ranks_before p) q c ≡ Some n → n ≤ (seating_of p).desks h
   number_fits lawful c n e number =
       let member : c < length p.fit = member-below (length p.fit) c (lawful.members c (ap is_some e)) in
-      let is : count_by (λ d. nat_lt (get_or p.rank d 0) (get_or p.rank c 0)) (occupants (seating_of p) q h) + 1 ≡ n = same_number _ n (sym (number_at c e) ∙ number) in
+      let is : count_by (λ d. nat_lt (get_or p.rank d 0) (get_or p.rank c 0)) (occupants (seating_of p) q h) + 1 ≡ n = same_Some _ n (sym (number_at c e) ∙ number) in
       let b = below_count (get_or p.rank c 0) in
       let l = within_less (λ d. nat_lt (get_or p.rank d 0) (get_or p.rank c 0)) (λ d. is_hall (seating_of p) h (q d)) (length p.fit) c member (sits c e) (le-ltb (get_or p.rank c 0) (get_or p.rank c 0) (omega arith)) in
       let o = length-occupants p q h in
@@ -87,18 +72,12 @@ module _ (p : Problem) (q : Plan ℕ ℕ) (h : ℕ) where
 
   ranks_less : (c d : ℕ) → c < length p.fit → q c ≡ Some h → q d ≡ Some h → get_or p.rank c 0 < get_or p.rank d 0 → desk_number (seating_of p) (ranks_before p) q c ≢ desk_number (seating_of p) (ranks_before p) q d
   ranks_less c d member ec ed less same =
-      let is = same_number _ _ (sym (number_at c ec) ∙ same ∙ number_at d ed) in
+      let is = same_Some _ _ (sym (number_at c ec) ∙ same ∙ number_at d ed) in
       let bc = below_count (get_or p.rank c 0) in
       let bd = below_count (get_or p.rank d 0) in
       let l = fewer_pass (λ k. nat_lt (get_or p.rank k 0) (get_or p.rank c 0)) (λ k. nat_lt (get_or p.rank k 0) (get_or p.rank d 0)) (λ k. is_hall (seating_of p) h (q k)) (length p.fit) c
-      (λ k. wider (get_or p.rank k 0)) member (sits c ec) (le-ltb (get_or p.rank c 0) (get_or p.rank c 0) (omega arith)) (lt-ltb (get_or p.rank c 0) (get_or p.rank d 0) less) in
+      (λ k. bit_le _ _ (λ t. lt-ltb (get_or p.rank k 0) (get_or p.rank d 0) (let a = ltb-true (get_or p.rank k 0) (get_or p.rank c 0) t in omega (arith, a, less)))) member (sits c ec) (le-ltb (get_or p.rank c 0) (get_or p.rank c 0) (omega arith)) (lt-ltb (get_or p.rank c 0) (get_or p.rank d 0) less) in
       omega (arith, is, bc, bd, l)
-    where
-      wider : (r : ℕ) → bit (nat_lt r (get_or p.rank c 0)) ≤ bit (nat_lt r (get_or p.rank d 0))
-      wider r = elim (cases_Bool (nat_lt r (get_or p.rank c 0))) [
-        | inl t ↦ (let a = ltb-true r (get_or p.rank c 0) t in let u : bit (nat_lt r (get_or p.rank d 0)) ≡ 1 = ap bit (lt-ltb r (get_or p.rank d 0) (omega (arith, a, less))) in rw t (omega (arith, u)))
-        | inr t ↦ rw t (omega arith)
-      ]
 
   pub numbers_differ : IsProblem p → (c d : ℕ) → c < length p.fit → d < length p.fit → q c ≡ Some h → q d ≡ Some h → desk_number (seating_of p) (ranks_before p) q c ≡ desk_number (seating_of p) (ranks_before p) q d → c ≡ d
   numbers_differ good c d lc ld ec ed same = elim (cases_order (get_or p.rank c 0) (get_or p.rank d 0)) [

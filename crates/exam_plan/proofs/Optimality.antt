@@ -1,11 +1,12 @@
 -- A plan with a closed set of full halls is best: those who sit outside the set can be no more, and the
 -- set's desks are all taken.
 use Rattle.std.proofs.Common.{◌≡◌, ℕ, ◌+◌, ◌<◌, ◌≤◌, Bool, true, false, not, ◌&&◌, IsTrue, length, get_or, Option, None, Some, IfSome, is_some, refl, sym, ap, ◌∙◌, inl, inr, arith}
-use Rattle.std.proofs.lemmas.Bool.{cases_Bool}
+use Rattle.std.proofs.lemmas.Bool.{cases_Bool, and_parts}
+use Rattle.std.proofs.lemmas.Option.{IfSome_then}
 use Rattle.exam_plan.specs.Matching.{Plan, occupants, size, IsLawful}
 use Rattle.exam_plan.specs.Problems.{Problem, IsProblem, seating_of}
-use Rattle.exam_plan.proofs.Counting.{bit, count_below, count_below-le, count_below-lt, count_below-add, sum_below, sum_below-le, sum_below-same, sits_within, sits_at, counted_twice}
-use Rattle.exam_plan.proofs.Seatings.{length-occupants, size-count, lawful_exists, IfSome-weaker}
+use Rattle.exam_plan.proofs.Counting.{bit, count_below, count_below-le, count_below-lt, count_below-add, sum_below, sum_below-le, sum_below-same, sits_within, sits_at, counted_twice, bit_le}
+use Rattle.exam_plan.proofs.Seatings.{length-occupants, size-count, lawful_exists}
 
 -- unseated, or in a hall of the set
 abbrev pub drawn_in : (ℕ → Bool) → Option ℕ → Bool
@@ -31,11 +32,6 @@ pub outside_bits : (D : ℕ → Bool) (o : Option ℕ) → bit (not (drawn_in D 
 outside_bits D None = refl
 outside_bits D (Some h) = elim (cases_Bool (D h)) [ inl t ↦ rw t refl | inr t ↦ rw t refl ]
 
-and_le : (s a : Bool) → bit (s && a) ≤ bit a
-and_le true a = omega arith
-and_le false true = omega arith
-and_le false false = omega arith
-
 module _ (p : Problem) (good : IsProblem p) (q : Plan ℕ ℕ) (lawful : IsLawful (seating_of p) q) (D : ℕ → Bool) (closed : IsClosedSet p q D) where
   -- the desks of the set's halls
   pub set_desks : count_below (λ c. sits_within D (q c)) (length p.fit) ≡ sum_below (λ h. get_or p.desk_counts h 0) D (length p.desk_counts)
@@ -55,7 +51,7 @@ module _ (p : Problem) (good : IsProblem p) (q : Plan ℕ ℕ) (lawful : IsLawfu
         let d = set_desks in omega (arith, a, b, d)
 
     inside : count_below (λ c. is_some (other c) && drawn_in D (q c)) (length p.fit) ≤ count_below (λ c. sits_within D (other c)) (length p.fit)
-    inside = count_below-le _ _ (length p.fit) (λ c l. within_bits D (other c) (drawn_in D (q c)) (λ t. IfSome-weaker (λ h. IsTrue ((seating_of p).fits c h)) (λ h. D h ≡ true) (other c) (λ h f. closed.stays c h t f) (also.fitting c)))
+    inside = count_below-le _ _ (length p.fit) (λ c l. within_bits D (other c) (drawn_in D (q c)) (λ t. IfSome_then (other c) (also.fitting c) (λ h f. closed.stays c h t f)))
 
     halves : count_below (λ c. is_some (other c) && not (drawn_in D (q c))) (length p.fit) + count_below (λ c. is_some (other c) && drawn_in D (q c)) (length p.fit) ≡ size (seating_of p) other
     halves = count_below-add _ _ (λ c. is_some (other c)) (length p.fit) (λ c l. split_bits (is_some (other c)) (drawn_in D (q c))) ∙ sym (size-count p other)
@@ -65,12 +61,12 @@ module _ (p : Problem) (good : IsProblem p) (q : Plan ℕ ℕ) (lawful : IsLawfu
 
     pub closed_is_greatest : size (seating_of p) other ≤ size (seating_of p) q
     closed_is_greatest =
-        let o = count_below-le (λ c. is_some (other c) && not (drawn_in D (q c))) (λ c. not (drawn_in D (q c))) (length p.fit) (λ c l. and_le (is_some (other c)) (not (drawn_in D (q c)))) in
+        let o = count_below-le (λ c. is_some (other c) && not (drawn_in D (q c))) (λ c. not (drawn_in D (q c))) (length p.fit) (λ c l. bit_le _ (not (drawn_in D (q c))) (λ t. (and_parts (is_some (other c)) _ t).1)) in
         omega (arith, o, halves, whole, inside, fewer_within)
 
     -- who sits outside the set is seated by every best plan
     pub closed_is_greater : (c : ℕ) → c < length p.fit → drawn_in D (q c) ≡ false → other c ≡ None → size (seating_of p) other < size (seating_of p) q
     closed_is_greater c below away none =
         let less : bit (is_some (other c) && not (drawn_in D (q c))) < bit (not (drawn_in D (q c))) = rw (none, away) (omega arith) in
-        let o = count_below-lt (λ c. is_some (other c) && not (drawn_in D (q c))) (λ c. not (drawn_in D (q c))) (length p.fit) c (λ c l. and_le (is_some (other c)) (not (drawn_in D (q c)))) below less in
+        let o = count_below-lt (λ c. is_some (other c) && not (drawn_in D (q c))) (λ c. not (drawn_in D (q c))) (length p.fit) c (λ c l. bit_le _ (not (drawn_in D (q c))) (λ t. (and_parts (is_some (other c)) _ t).1)) below less in
         omega (arith, o, halves, whole, inside, fewer_within)

@@ -1,41 +1,15 @@
 -- A plan by indices, read by names, is lawful and best where it was so by indices.
-use Rattle.std.proofs.Common.{◌≡◌, ℕ, ◌+◌, ◌≤◌, ◌↔◌, Bool, true, false, cond, IsTrue, List, [], ◌∷◌, length, map, count_by, Contains, Option, None, Some, IsSome, IfSome, is_some, nat_eq, eq-eqb, ◌⊎◌, inl, inr, refl, sym, ap, subst, ◌∙◌, add-zero, arith}
-use Rattle.std.specs.List.{AllByRecursion, fold}
+use Rattle.std.proofs.Common.{◌≡◌, ℕ, ◌+◌, ◌≤◌, ◌↔◌, Bool, true, false, cond, IsTrue, length, map, count_by, Contains, Option, None, Some, IsSome, IfSome, is_some, nat_eq, eq-eqb, ◌⊎◌, inl, inr, refl, sym, ap, subst, ◌∙◌, arith, map-id}
 use Rattle.std.specs.Option.{option_map, option_and_then}
+use Rattle.std.specs.Cmp.{both_ways}
 use Rattle.std.proofs.lemmas.List.Sums.{length-filter}
-use Rattle.std.proofs.lemmas.List.Elements.{All-contains_itself, recursion_from_All}
-use Rattle.std.proofs.lemmas.Bool.{cases_eq}
+use Rattle.std.proofs.lemmas.List.Folds.{fold_stays}
+use Rattle.std.proofs.lemmas.Bool.{cases_eq, false_from_ne_true}
 use Rattle.std.proofs.lemmas.Map.Views.{exact_unsigned_eq}
+use Rattle.std.proofs.lemmas.Option.{IfSome_then, same_Some}
 use Rattle.exam_plan.specs.Naming.{Naming, named_plan, at_index, indexed_plan}
 use Rattle.exam_plan.specs.Matching.{Plan, IsLawful, IsBest, is_hall, occupants, size}
-
-bools : (x y : Bool) → (x ≡ true → y ≡ true) → (y ≡ true → x ≡ true) → x ≡ y
-bools true y f g = sym (f refl)
-bools false true f g = g refl
-bools false false f g = refl
-
-module _ {X Y : Type 0} (P : X → Bool) (Q : Y → Bool) (f : Y → X) where
-  fold_same : (n : ℕ) (ys : List Y) → AllByRecursion (λ y. P (f y) ≡ Q y) ys → fold (λ (m : ℕ) (x : X). m + cond (P x) 1 0) n (map f ys) ≡ fold (λ (m : ℕ) (y : Y). m + cond (Q y) 1 0) n ys
-  fold_same n [] h = refl
-  fold_same n (y ∷ ys) h = ap (λ t. fold (λ (m : ℕ) (x : X). m + cond (P x) 1 0) (n + cond t 1 0) (map f ys)) h.0 ∙ fold_same (n + cond (Q y) 1 0) ys h.1
-
-  count_same : (ys : List Y) → AllByRecursion (λ y. P (f y) ≡ Q y) ys → count_by P (map f ys) ≡ count_by Q ys
-  count_same ys h = fold_same 0 ys h
-
-fold_none : {Y : Type 0} (n : ℕ) (ys : List Y) → fold (λ (m : ℕ) (y : Y). m + 0) n ys ≡ n
-fold_none n [] = refl
-fold_none n (y ∷ ys) = fold_none (n + 0) ys ∙ add-zero n
-
-map_itself : {X : Type 0} (xs : List X) → map (λ (x : X). x) xs ≡ xs
-map_itself [] = refl
-map_itself (x ∷ xs) = ap (λ t. x ∷ t) (map_itself xs)
-
-all_map : {X : Type 0} (P Q : X → Type 0) → ((x : X) → P x → Q x) → (xs : List X) → AllByRecursion P xs → AllByRecursion Q xs
-all_map P Q f [] h = tt
-all_map P Q f (x ∷ xs) h = (f x h.0, all_map P Q f xs h.1)
-
-of_members : {X : Type 0} (Q : X → Type 0) (xs : List X) → ((x : X) → Contains xs x → Q x) → AllByRecursion Q xs
-of_members Q xs f = all_map (Contains xs) Q f xs (recursion_from_All (Contains xs) xs (All-contains_itself xs))
+use Rattle.exam_plan.proofs.Small.{of_members, count_same}
 
 -- candidates and halls of a have names in b, and positions back
 pub record Renames {C H : Type 0} (name : Naming C H) : Type 0 where
@@ -50,42 +24,39 @@ pub record Renames {C H : Type 0} (name : Naming C H) : Type 0 where
   pub same_a : (j k : ℕ) → (name.of_indices.same_hall j k ≡ true) ↔ (j ≡ k)
   pub same_b : (h k : H) → (name.of_names.same_hall h k ≡ true) ↔ (h ≡ k)
 
-some_same : {A : Type 0} (x y : A) → Some x ≡ Some y → x ≡ y
-some_same x y e = cc
-
 is_some-map : {A B : Type 0} (f : A → B) (o : Option A) → is_some (option_map f o) ≡ is_some o
 is_some-map f None = refl
 is_some-map f (Some x) = refl
 
 module _ {C H : Type 0} (name : Naming C H) (r : Renames name) where
-  named_at : (p : Plan ℕ ℕ) (i : ℕ) → Contains name.of_indices.members i → named_plan name p (name.candidate i) ≡ option_map name.hall (p i)
-  named_at p i h = ap (option_and_then (λ k. option_map name.hall (p k))) (r.known i h)
+  pub named_member : (p : Plan ℕ ℕ) (c : C) (i : ℕ) → name.candidate_index c ≡ Some i → named_plan name p c ≡ option_map name.hall (p i)
+  named_member p c i e = ap (option_and_then (λ k. option_map name.hall (p k))) e
 
   pub size-named : (p : Plan ℕ ℕ) → size name.of_names (named_plan name p) ≡ size name.of_indices p
   size-named p = ap (count_by (λ c. is_some (named_plan name p c))) r.members
       ∙ count_same (λ c. is_some (named_plan name p c)) (λ i. is_some (p i)) name.candidate name.of_indices.members
-      (of_members _ name.of_indices.members (λ i h. ap is_some (named_at p i h) ∙ is_some-map name.hall (p i)))
+      (of_members _ name.of_indices.members (λ i h. ap is_some (named_member p (name.candidate i) i (r.known i h)) ∙ is_some-map name.hall (p i)))
 
   -- the same hall by names and by indices
-  same_hall-named : (h : H) (i j k : ℕ) → name.hall_index h ≡ Some j → IsTrue (name.of_indices.fits i k) → name.of_names.same_hall h (name.hall k) ≡ name.of_indices.same_hall j k
-  same_hall-named h i j k at fit = bools _ _
-      (λ t. (r.same_a j k).1 (some_same j k (sym at ∙ ap name.hall_index ((r.same_b h (name.hall k)).0 t) ∙ r.known_hall i k fit)))
-      (λ t. (r.same_b h (name.hall k)).1 (sym (r.halls h j at) ∙ ap name.hall ((r.same_a j k).0 t)))
+  same_hall-known : (g h : H) (j k : ℕ) → name.hall_index g ≡ Some j → name.hall_index h ≡ Some k → name.of_names.same_hall g h ≡ name.of_indices.same_hall j k
+  same_hall-known g h j k at at' = both_ways _ _
+      (λ t. (r.same_a j k).1 (same_Some j k (sym at ∙ ap name.hall_index ((r.same_b g h).0 t) ∙ at')))
+      (λ t. (r.same_b g h).1 (sym (r.halls g j at) ∙ ap name.hall ((r.same_a j k).0 t) ∙ r.halls h k at'))
 
-  is_hall-named : (h : H) (i j : ℕ) (o : Option ℕ) → name.hall_index h ≡ Some j → IfSome o (λ k. IsTrue (name.of_indices.fits i k)) → is_hall name.of_names h (option_map name.hall o) ≡ is_hall name.of_indices j o
-  is_hall-named h i j None at fit = refl
-  is_hall-named h i j (Some k) at fit = same_hall-named h i j k at fit
+  pub is_hall-known : (h : H) (j : ℕ) (o : Option ℕ) → name.hall_index h ≡ Some j → IfSome o (λ k. name.hall_index (name.hall k) ≡ Some k) → is_hall name.of_names h (option_map name.hall o) ≡ is_hall name.of_indices j o
+  is_hall-known h j None at known = refl
+  is_hall-known h j (Some k) at known = same_hall-known h (name.hall k) j k at known
 
   -- nobody sits in a hall without an index
   is_hall-unknown : (h : H) (i : ℕ) (o : Option ℕ) → name.hall_index h ≡ None → IfSome o (λ k. IsTrue (name.of_indices.fits i k)) → is_hall name.of_names h (option_map name.hall o) ≡ false
   is_hall-unknown h i None at fit = refl
-  is_hall-unknown h i (Some k) at fit = bools _ _ (λ t. absurd (let e : None ≡ Some k = sym at ∙ ap name.hall_index ((r.same_b h (name.hall k)).0 t) ∙ r.known_hall i k fit in cc)) (λ t. cc)
+  is_hall-unknown h i (Some k) at fit = false_from_ne_true _ (λ t. let e : None ≡ Some k = sym at ∙ ap name.hall_index ((r.same_b h (name.hall k)).0 t) ∙ r.known_hall i k fit in cc)
 
   occupied : (p : Plan ℕ ℕ) (l : IsLawful name.of_indices p) (h : H) (o : Option ℕ) → name.hall_index h ≡ o → count_by (λ c. is_hall name.of_names h (named_plan name p c)) name.of_names.members ≤ name.of_names.desks h
   occupied p l h (Some j) at =
       let e : count_by (λ c. is_hall name.of_names h (named_plan name p c)) name.of_names.members ≡ count_by (λ i. is_hall name.of_indices j (p i)) name.of_indices.members =
       ap (count_by (λ c. is_hall name.of_names h (named_plan name p c))) r.members
-      ∙ count_same _ (λ i. is_hall name.of_indices j (p i)) name.candidate name.of_indices.members (of_members _ name.of_indices.members (λ i m. ap (is_hall name.of_names h) (named_at p i m) ∙ is_hall-named h i j (p i) at (l.fitting i))) in
+      ∙ count_same _ (λ i. is_hall name.of_indices j (p i)) name.candidate name.of_indices.members (of_members _ name.of_indices.members (λ i m. ap (is_hall name.of_names h) (named_member p (name.candidate i) i (r.known i m)) ∙ is_hall-known h j (p i) at (IfSome_then (p i) (l.fitting i) (r.known_hall i)))) in
       let d : name.of_names.desks h ≡ name.of_indices.desks j = r.desks h j at in
       let f : length (occupants name.of_indices p j) ≡ count_by (λ i. is_hall name.of_indices j (p i)) name.of_indices.members = length-filter (λ i. is_hall name.of_indices j (p i)) name.of_indices.members in
       let w : length (occupants name.of_indices p j) ≤ name.of_indices.desks j = l.within_desks j in
@@ -93,8 +64,8 @@ module _ {C H : Type 0} (name : Naming C H) (r : Renames name) where
   occupied p l h None at =
       let e : count_by (λ c. is_hall name.of_names h (named_plan name p c)) name.of_names.members ≡ count_by (λ (i : ℕ). false) name.of_indices.members =
       ap (count_by (λ c. is_hall name.of_names h (named_plan name p c))) r.members
-      ∙ count_same _ (λ (i : ℕ). false) name.candidate name.of_indices.members (of_members _ name.of_indices.members (λ i m. ap (is_hall name.of_names h) (named_at p i m) ∙ is_hall-unknown h i (p i) at (l.fitting i))) in
-      let z : count_by (λ (i : ℕ). false) name.of_indices.members ≡ 0 = fold_none 0 name.of_indices.members in
+      ∙ count_same _ (λ (i : ℕ). false) name.candidate name.of_indices.members (of_members _ name.of_indices.members (λ i m. ap (is_hall name.of_names h) (named_member p (name.candidate i) i (r.known i m)) ∙ is_hall-unknown h i (p i) at (l.fitting i))) in
+      let z : count_by (λ (i : ℕ). false) name.of_indices.members ≡ 0 = fold_stays (λ (m i : ℕ). m + 0) 0 (λ i. refl) name.of_indices.members in
       omega arith
 
   fitting-named : (p : Plan ℕ ℕ) (l : IsLawful name.of_indices p) (c : C) (o : Option ℕ) → name.candidate_index c ≡ o → IfSome (option_and_then (λ i. option_map name.hall (p i)) o) (λ h. IsTrue (name.of_names.fits c h))
@@ -119,8 +90,8 @@ module _ {C H : Type 0} (name : Naming C H) (r : Renames name) where
 
   -- ---- a plan by names, read by indices
 
-  indexed_at : (q : Plan C H) (i : ℕ) → Contains name.of_indices.members i → indexed_plan name q i ≡ option_and_then name.hall_index (q (name.candidate i))
-  indexed_at q i h = ap (option_and_then (at_index name q i)) (r.known i h) ∙ ap (λ t. cond t (option_and_then name.hall_index (q (name.candidate i))) None) (eq-eqb i i refl)
+  pub indexed_member : (q : Plan C H) (i : ℕ) → name.candidate_index (name.candidate i) ≡ Some i → indexed_plan name q i ≡ option_and_then name.hall_index (q (name.candidate i))
+  indexed_member q i e = ap (option_and_then (at_index name q i)) e ∙ ap (λ t. cond t (option_and_then name.hall_index (q (name.candidate i))) None) (eq-eqb i i refl)
 
   -- what is seated by an index is a member, and sits where the name sits
   indexed_from : (q : Plan C H) (i : ℕ) (o : Option ℕ) → name.candidate_index (name.candidate i) ≡ o → IsSome (option_and_then (at_index name q i) o) → Contains name.of_indices.members i
@@ -138,17 +109,15 @@ module _ {C H : Type 0} (name : Naming C H) (r : Renames name) where
   pub size-indexed : (q : Plan C H) → IsLawful name.of_names q → size name.of_indices (indexed_plan name q) ≡ size name.of_names q
   size-indexed q l = sym (ap (count_by (λ c. is_some (q c))) r.members
       ∙ count_same (λ c. is_some (q c)) (λ i. is_some (indexed_plan name q i)) name.candidate name.of_indices.members
-      (of_members _ name.of_indices.members (λ i m. sym (ap is_some (indexed_at q i m) ∙ is_some-index (name.candidate i) (q (name.candidate i)) (l.fitting (name.candidate i))))))
+      (of_members _ name.of_indices.members (λ i m. sym (ap is_some (indexed_member q i (r.known i m)) ∙ is_some-index (name.candidate i) (q (name.candidate i)) (l.fitting (name.candidate i))))))
 
   is_hall-index : (j : ℕ) → name.hall_index (name.hall j) ≡ Some j → (o : Option H) → is_hall name.of_names (name.hall j) o ≡ is_hall name.of_indices j (option_and_then name.hall_index o)
   is_hall-index j at None = refl
   is_hall-index j at (Some h) = inner (name.hall_index h) refl
     where
       inner : (o : Option ℕ) → name.hall_index h ≡ o → name.of_names.same_hall (name.hall j) h ≡ is_hall name.of_indices j o
-      inner None e = bools _ _ (λ t. absurd (let z : None ≡ Some j = sym e ∙ ap name.hall_index (sym ((r.same_b (name.hall j) h).0 t)) ∙ at in cc)) (λ t. cc)
-      inner (Some k) e = bools _ _
-          (λ t. (r.same_a j k).1 (some_same j k (sym at ∙ ap name.hall_index ((r.same_b (name.hall j) h).0 t) ∙ e)))
-          (λ t. (r.same_b (name.hall j) h).1 (ap name.hall ((r.same_a j k).0 t) ∙ r.halls h k e))
+      inner None e = false_from_ne_true _ (λ t. let z : None ≡ Some j = sym e ∙ ap name.hall_index (sym ((r.same_b (name.hall j) h).0 t)) ∙ at in cc)
+      inner (Some k) e = same_hall-known (name.hall j) h j k at e
 
   is_hall-nowhere : (j : ℕ) → (name.hall_index (name.hall j) ≡ Some j → ⊥) → (o : Option H) → is_hall name.of_indices j (option_and_then name.hall_index o) ≡ false
   is_hall-nowhere j away None = refl
@@ -156,7 +125,7 @@ module _ {C H : Type 0} (name : Naming C H) (r : Renames name) where
     where
       inner : (o : Option ℕ) → name.hall_index h ≡ o → is_hall name.of_indices j o ≡ false
       inner None e = refl
-      inner (Some k) e = bools _ _ (λ t. absurd (away (ap name.hall_index (ap name.hall ((r.same_a j k).0 t) ∙ r.halls h k e) ∙ e ∙ ap Some (sym ((r.same_a j k).0 t))))) (λ t. cc)
+      inner (Some k) e = false_from_ne_true _ (λ t. away (ap name.hall_index (ap name.hall ((r.same_a j k).0 t) ∙ r.halls h k e) ∙ e ∙ ap Some (sym ((r.same_a j k).0 t))))
 
   -- whether j is the index of a hall
   is_index : (j : ℕ) → (name.hall_index (name.hall j) ≡ Some j) ⊎ (name.hall_index (name.hall j) ≡ Some j → ⊥)
@@ -164,22 +133,22 @@ module _ {C H : Type 0} (name : Naming C H) (r : Renames name) where
     where
       inner : (o : Option ℕ) → (o ≡ Some j) ⊎ (o ≡ Some j → ⊥)
       inner None = inr (λ e. cc)
-      inner (Some k) = elim (cases_eq k j) [ inl e ↦ inl (ap Some e) | inr n ↦ inr (λ e. n (some_same k j e)) ]
+      inner (Some k) = elim (cases_eq k j) [ inl e ↦ inl (ap Some e) | inr n ↦ inr (λ e. n (same_Some k j e)) ]
 
   occupied-index : (q : Plan C H) → IsLawful name.of_names q → (j : ℕ) → (name.hall_index (name.hall j) ≡ Some j) ⊎ (name.hall_index (name.hall j) ≡ Some j → ⊥) → count_by (λ i. is_hall name.of_indices j (indexed_plan name q i)) name.of_indices.members ≤ name.of_indices.desks j
   occupied-index q l j (inl at) =
       let e : count_by (λ c. is_hall name.of_names (name.hall j) (q c)) name.of_names.members ≡ count_by (λ i. is_hall name.of_indices j (indexed_plan name q i)) name.of_indices.members =
       ap (count_by (λ c. is_hall name.of_names (name.hall j) (q c))) r.members
-      ∙ count_same _ (λ i. is_hall name.of_indices j (indexed_plan name q i)) name.candidate name.of_indices.members (of_members _ name.of_indices.members (λ i m. is_hall-index j at (q (name.candidate i)) ∙ sym (ap (is_hall name.of_indices j) (indexed_at q i m)))) in
+      ∙ count_same _ (λ i. is_hall name.of_indices j (indexed_plan name q i)) name.candidate name.of_indices.members (of_members _ name.of_indices.members (λ i m. is_hall-index j at (q (name.candidate i)) ∙ sym (ap (is_hall name.of_indices j) (indexed_member q i (r.known i m))))) in
       let d : name.of_names.desks (name.hall j) ≡ name.of_indices.desks j = r.desks (name.hall j) j at in
       let f : length (occupants name.of_names q (name.hall j)) ≡ count_by (λ c. is_hall name.of_names (name.hall j) (q c)) name.of_names.members = length-filter (λ c. is_hall name.of_names (name.hall j) (q c)) name.of_names.members in
       let w : length (occupants name.of_names q (name.hall j)) ≤ name.of_names.desks (name.hall j) = l.within_desks (name.hall j) in
       omega arith
   occupied-index q l j (inr away) =
       let e : count_by (λ i. is_hall name.of_indices j (indexed_plan name q i)) (map (λ (i : ℕ). i) name.of_indices.members) ≡ count_by (λ (i : ℕ). false) name.of_indices.members =
-      count_same (λ i. is_hall name.of_indices j (indexed_plan name q i)) (λ (i : ℕ). false) (λ (i : ℕ). i) name.of_indices.members (of_members _ name.of_indices.members (λ i m. ap (is_hall name.of_indices j) (indexed_at q i m) ∙ is_hall-nowhere j away (q (name.candidate i)))) in
-      let z : count_by (λ (i : ℕ). false) name.of_indices.members ≡ 0 = fold_none 0 name.of_indices.members in
-      let y : count_by (λ i. is_hall name.of_indices j (indexed_plan name q i)) (map (λ (i : ℕ). i) name.of_indices.members) ≡ count_by (λ i. is_hall name.of_indices j (indexed_plan name q i)) name.of_indices.members = ap (count_by (λ i. is_hall name.of_indices j (indexed_plan name q i))) (map_itself name.of_indices.members) in
+      count_same (λ i. is_hall name.of_indices j (indexed_plan name q i)) (λ (i : ℕ). false) (λ (i : ℕ). i) name.of_indices.members (of_members _ name.of_indices.members (λ i m. ap (is_hall name.of_indices j) (indexed_member q i (r.known i m)) ∙ is_hall-nowhere j away (q (name.candidate i)))) in
+      let z : count_by (λ (i : ℕ). false) name.of_indices.members ≡ 0 = fold_stays (λ (m i : ℕ). m + 0) 0 (λ i. refl) name.of_indices.members in
+      let y : count_by (λ i. is_hall name.of_indices j (indexed_plan name q i)) (map (λ (i : ℕ). i) name.of_indices.members) ≡ count_by (λ i. is_hall name.of_indices j (indexed_plan name q i)) name.of_indices.members = ap (count_by (λ i. is_hall name.of_indices j (indexed_plan name q i))) (map-id name.of_indices.members) in
       omega arith
 
   fitting-index : (q : Plan C H) → IsLawful name.of_names q → (i : ℕ) → (o : Option ℕ) → name.candidate_index (name.candidate i) ≡ o → IfSome (option_and_then (at_index name q i) o) (λ j. IsTrue (name.of_indices.fits i j))

@@ -1,16 +1,17 @@
 -- Lists that rise: the numbers below a bound that pass a test, and lists with the same elements.
-use Rattle.std.proofs.Common.{◌≡◌, ◌≢◌, ℕ, zero, suc, ◌+◌, ◌<◌, Bool, true, false, cond, ◌||◌, List, [], ◌∷◌, ◌++◌, get_or, nat_eq, refl, sym, ap, ◌∙◌, inl, inr, subst, arith, zero-add}
+use Rattle.std.proofs.Common.{◌≡◌, ℕ, zero, suc, ◌+◌, ◌<◌, Bool, true, false, cond, ◌||◌, List, [], ◌∷◌, ◌++◌, get_or, nat_eq, refl, sym, ap, ◌∙◌, inl, inr, subst, arith, zero-add}
 use Rattle.std.specs.Prelude.{All, Contains, filter}
 use Rattle.std.specs.List.{range_with_len, list_any, AllByRecursion}
 use Rattle.std.specs.List.Sorted.{IsStrictlySortedBy}
 use Rattle.std.specs.Ordering.{nat_cmp}
 use Rattle.std.specs.Cmp.{nat_cmp_is}
-use Rattle.std.specs.declared.cmp.Ordering.TheVariants.{Less, Equal, Greater}
+use Rattle.std.specs.declared.cmp.Ordering.TheVariants.{Less}
 use Rattle.std.proofs.lemmas.Bool.{cases_eq, cases_lt, eq-eqb, ne_eqb, eqb-true}
 use Rattle.std.proofs.lemmas.List.Elements.{All-filter, All-contains, All-from_get_or, filter_passes, filter-append, Contains-push, Contains-append_left}
 use Rattle.std.proofs.lemmas.List.Folds.{list_any_at, Any-from_list_any}
 use Rattle.std.proofs.lemmas.List.Kept.{IsStrictlySortedBy-filter}
 use Rattle.std.proofs.lemmas.List.FromFn.{length-range_with_len, get_or-range_with_len}
+use Rattle.std.proofs.lemmas.Cmp.{ranked}
 use Rattle.exam_plan.proofs.Counting.{range_more}
 use Rattle.exam_plan.proofs.Seatings.{listed_below}
 
@@ -49,12 +50,9 @@ filter_sorted P n = IsStrictlySortedBy-filter nat_cmp P (range_with_len 0 n) (ra
 
 -- ---- a rising list has each element once
 
-pub apart_if_less : (x y : ℕ) → nat_cmp x y ≡ Less → x ≢ y
-apart_if_less x y l e = let z : nat_cmp x y ≡ Equal = sym (nat_cmp_is x y Equal e) in let b : Less ≡ Equal = sym l ∙ z in cc
-
 pub later_all : (x : ℕ) (xs : List ℕ) → AllByRecursion (λ y. nat_cmp x y ≡ Less) xs → list_any (nat_eq x) xs ≡ false
 later_all x [] a = refl
-later_all x (y ∷ ys) a = ap (λ b. b || list_any (nat_eq x) ys) (ne_eqb x y (apart_if_less x y a.0)) ∙ later_all x ys a.1
+later_all x (y ∷ ys) a = ap (λ b. b || list_any (nat_eq x) ys) (ne_eqb x y (λ s. let l : x < y = ranked x y Less (sym a.0) in omega arith)) ∙ later_all x ys a.1
 
 pub listed_in : (xs : List ℕ) (x : ℕ) → Contains xs x → list_any (nat_eq x) xs ≡ true
 listed_in xs x m = list_any_at (nat_eq x) xs m.0 x m.1 (eq-eqb x (get_or xs m.0 x) (sym m.2))
@@ -64,18 +62,9 @@ in_listed xs x t = let a = Any-from_list_any (nat_eq x) xs t in let same : x ≡
 
 -- ---- lists that rise and have the same elements
 
-pub less_means : (x y : ℕ) → nat_cmp x y ≡ Less → x < y
-less_means x y e = elim (cases_lt x y) [
-  | inl l ↦ l
-  | inr g ↦ elim (cases_eq x y) [
-    | inl s ↦ absurd (let z : Equal ≡ nat_cmp x y = nat_cmp_is x y Equal s in cc)
-    | inr n ↦ absurd (let z : Greater ≡ nat_cmp x y = nat_cmp_is x y Greater (omega arith) in cc)
-  ]
-]
-
 less_than_all : (x y : ℕ) (ys : List ℕ) → x < y → AllByRecursion (λ z. nat_cmp y z ≡ Less) ys → AllByRecursion (λ z. nat_cmp x z ≡ Less) ys
 less_than_all x y [] l a = tt
-less_than_all x y (z ∷ zs) l a = (sym (nat_cmp_is x z Less (let m = less_means y z a.0 in omega (arith, l, m))), less_than_all x y zs l a.1)
+less_than_all x y (z ∷ zs) l a = (sym (nat_cmp_is x z Less (let m : y < z = ranked y z Less (sym a.0) in omega (arith, l, m))), less_than_all x y zs l a.1)
 
 -- the first of a rising list is in no list whose first is greater
 not_first : (x y : ℕ) (xs ys : List ℕ) → x < y → AllByRecursion (λ z. nat_cmp y z ≡ Less) ys → ((z : ℕ) → list_any (nat_eq z) (x ∷ xs) ≡ list_any (nat_eq z) (y ∷ ys)) → ⊥

@@ -1,5 +1,5 @@
 -- The seating of a problem: its counts, and what fits.
-use Rattle.std.proofs.Common.{◌≡◌, ℕ, ◌+◌, ◌<◌, true, false, IsTrue, List, [], ◌∷◌, length, get_or, Option, None, Some, IfSome, is_some, is_none, nat_eq, refl, sym, ap, ◌∙◌, inl, inr, subst, arith}
+use Rattle.std.proofs.Common.{◌≡◌, ℕ, ◌+◌, ◌<◌, true, false, IsTrue, List, [], ◌∷◌, length, get_or, Option, None, Some, IfSome, is_some, is_none, nat_eq, refl, sym, ap, ◌∙◌, inl, inr, arith}
 use Rattle.std.specs.Prelude.{All, Contains}
 use Rattle.std.specs.List.{range_with_len, list_any, AllByRecursion}
 use Rattle.std.proofs.lemmas.Bool.{cases_lt, or_cases, eqb-true}
@@ -7,6 +7,7 @@ use Rattle.std.proofs.lemmas.List.{get_or_past}
 use Rattle.std.proofs.lemmas.List.FromFn.{length-range_with_len, get_or-range_with_len}
 use Rattle.std.proofs.lemmas.List.Elements.{All-get_or, recursion_from_All}
 use Rattle.std.proofs.lemmas.List.Sums.{length-filter}
+use Rattle.std.proofs.lemmas.Option.{IfSome_then}
 use Rattle.exam_plan.specs.Matching.{Plan, is_hall, occupants, unseated, size, IsLawful}
 use Rattle.exam_plan.specs.Problems.{Problem, IsProblem, seating_of}
 use Rattle.exam_plan.proofs.Counting.{bit, count_below, count_by-range, count_below-same, sits_at}
@@ -41,7 +42,7 @@ below-member n c l =
 
 -- ---- what fits
 
-any_below : (h n : ℕ) (xs : List ℕ) → AllByRecursion (λ k. k < n) xs → list_any (nat_eq h) xs ≡ true → h < n
+pub any_below : (h n : ℕ) (xs : List ℕ) → AllByRecursion (λ k. k < n) xs → list_any (nat_eq h) xs ≡ true → h < n
 any_below h n [] all t = absurd (let z : false ≡ true = t in cc)
 any_below h n (x ∷ xs) all t = elim (or_cases (nat_eq h x) (list_any (nat_eq h) xs) t) [
   | inl e ↦ (let s : h ≡ x = eqb-true h x e in let l : x < n = all.0 in omega arith)
@@ -62,12 +63,5 @@ fits_below p good c h t =
     let P : List ℕ → Type 0 = λ hs. All (λ k. k < length p.desk_counts) hs in
     any_below h (length p.desk_counts) (get_or p.fit c []) (recursion_from_All (λ k. k < length p.desk_counts) (get_or p.fit c []) (All-get_or P p.fit c [] (fits_member p c h t) good.exist)) t
 
-pub IfSome-weaker : (P Q : ℕ → Type 0) (o : Option ℕ) → ((h : ℕ) → P h → Q h) → IfSome o P → IfSome o Q
-IfSome-weaker P Q None f h = tt
-IfSome-weaker P Q (Some k) f h = f k h
-
-pub IfSome-at : (P : ℕ → Type 0) (o : Option ℕ) (h : ℕ) → o ≡ Some h → IfSome o P → P h
-IfSome-at P o h e s = let R : Option ℕ → Type 0 = λ t. IfSome t P in subst R e s
-
 pub lawful_exists : (p : Problem) → IsProblem p → (q : Plan ℕ ℕ) → IsLawful (seating_of p) q → (c : ℕ) → IfSome (q c) (λ h. h < length p.desk_counts)
-lawful_exists p good q l c = IfSome-weaker (λ h. IsTrue ((seating_of p).fits c h)) (λ h. h < length p.desk_counts) (q c) (fits_below p good c) (l.fitting c)
+lawful_exists p good q l c = IfSome_then (q c) (l.fitting c) (fits_below p good c)

@@ -7,6 +7,7 @@ use Rattle.std.specs.Ordering.{nat_cmp}
 use Rattle.std.proofs.lemmas.Bool.{cases_eq, cases_lt, cases_Bool, eq-eqb, ne_eqb}
 use Rattle.std.proofs.lemmas.List.Elements.{All-contains_itself}
 use Rattle.std.proofs.lemmas.List.Sums.{length-filter, sum_by-append}
+use Rattle.std.proofs.lemmas.Option.{same_Some}
 use Rattle.exam_plan.specs.Matching.{Plan, occupants, unseated, size, IsLawful, IsBest, IsCertificate, IsContested}
 use Rattle.exam_plan.specs.Chains.{HasFreeDesk, augmented}
 use Rattle.exam_plan.specs.Problems.{Problem, IsProblem, seating_of}
@@ -77,10 +78,7 @@ module _ (p : Problem) (q : Plan ℕ ℕ) where
   stays_fresh : (c x : ℕ) (hops : List (ℕ × ℕ)) (last : ℕ) → IsRoute p q c hops last → AreDistinct hops last → q x ≡ Some last → IsFresh x hops
   stays_fresh c x [] last route distinct sits = tt
   stays_fresh c x (hop ∷ hops) last route distinct sits =
-      ((λ e. avoids_last hop.0 hops last distinct.0 (some_same hop.0 last (sym route.1 ∙ ap q e ∙ sits))), stays_fresh hop.1 x hops last route.2 distinct.1 sits)
-    where
-      some_same : (a b : ℕ) → Some a ≡ Some b → a ≡ b
-      some_same a b e = cc
+      ((λ e. avoids_last hop.0 hops last distinct.0 (same_Some hop.0 last (sym route.1 ∙ ap q e ∙ sits))), stays_fresh hop.1 x hops last route.2 distinct.1 sits)
 
   -- ---- everybody moves along the route, and an occupant of its last hall leaves
 

@@ -1,17 +1,16 @@
 -- The steps of the searches' loops.
-use Rattle.std.proofs.Common.{◌≡◌, ◌≢◌, ℕ, zero, suc, ◌+◌, ◌<◌, ◌≤◌, ◌↔◌, Bool, true, false, not, ◌&&◌, ◌||◌, cond, IsTrue, List, [], ◌∷◌, ◌++◌, length, get_or, set, take, Option, None, Some, IfSome, is_some, nat_eq, nat_lt, ◌⊎◌, refl, sym, ap, ◌∙◌, inl, inr, subst, arith}
+use Rattle.std.proofs.Common.{◌≡◌, ◌≢◌, ℕ, zero, suc, ◌+◌, ◌<◌, ◌≤◌, ◌↔◌, Bool, true, false, not, ◌&&◌, ◌||◌, cond, IsTrue, List, [], ◌∷◌, ◌++◌, length, get_or, set, Option, None, Some, IfSome, is_some, nat_eq, nat_lt, ◌⊎◌, refl, sym, ap, ◌∙◌, inl, inr, subst, arith}
 use Rattle.std.specs.Prelude.{All, MatchOption}
 use Rattle.std.proofs.lemmas.List.Elements.{All-get_or, All-set}
 use Rattle.std.specs.Option.{option_map_or}
 use Rattle.std.proofs.lemmas.Bool.{cases_eq, cases_lt, cases_Bool, or_cases, or_left, or_right, and_parts, and_from, eq-eqb, ne_eqb, ltb-true, lt-ltb}
-use Rattle.std.proofs.lemmas.List.{get_or-set_same, get_or-set_other, get_or_past, length-append}
-use Rattle.std.proofs.Math.Seq.{take-append_seam}
+use Rattle.std.proofs.lemmas.List.{get_or-set_same, get_or-set_other, get_or_past, length-append, get_or_default}
 use Rattle.exam_plan.specs.HallSets.{holds}
 use Rattle.exam_plan.specs.Matching.{Plan, occupants}
 use Rattle.exam_plan.specs.Chains.{HasFreeDesk}
 use Rattle.exam_plan.specs.Problems.{Problem, IsProblem, IsPlan, plan_at, seating_of}
 use Rattle.exam_plan.specs.Searches.{IsMarked, MarksAll, IsTouching, Reaches, CanReach, AreLayers, AreInward, AreOnward, LeadsTo, IsLeastHall, IsLeastMover, IsAdvanced, count_at}
-use Rattle.exam_plan.proofs.Counting.{bit, count_below, count_below-same, count_by-range, count_below-more, count_below-lt, count_below-le-bound, sits_at}
+use Rattle.exam_plan.proofs.Counting.{bit, count_below, count_below-same, count_by-range, count_below-more, count_below-lt, count_below-le-bound, sits_at, bit_le}
 use Rattle.exam_plan.proofs.Seatings.{length-occupants, fits_below}
 
 -- ---- reading a plan
@@ -28,9 +27,6 @@ plan_at-set m c d o below = plan_at-get_or (set m c o) d ∙ elim (cases_eq c d)
       e ∙ sym (plan_at-get_or m d) ∙ sym (ap (λ t. cond t o (plan_at m d)) (ne_eqb c d n)))
 ]
 
-pub written_back : {X : Type 0} (n : ℕ) (xs zs : List X) → length xs ≡ n → take n (xs ++ zs) ≡ xs
-written_back n xs zs e = ap (λ k. take k (xs ++ zs)) (sym e) ∙ take-append_seam xs zs
-
 -- ---- counts
 
 sits_same : (h : ℕ) (o : Option ℕ) → bit (option_map_or (nat_eq h) o false) ≡ bit (sits_at h o)
@@ -46,11 +42,6 @@ count_at-le q h n = let e = count_at-below q h n in let f = count_below-le-bound
 pub count_at-more : (q : Plan ℕ ℕ) (h n : ℕ) → count_at q h (n + 1) ≡ count_at q h n + bit (sits_at h (q n))
 count_at-more q h n = let a = count_at-below q h (n + 1) in let b = count_at-below q h n in let e = count_below-more (λ c. sits_at h (q c)) n in omega (arith, a, b, e)
 
-pub same_within : (xs : List ℕ) (i d e : ℕ) → i < length xs → get_or xs i d ≡ get_or xs i e
-same_within [] i d e l = absurd (omega arith)
-same_within (y ∷ ys) zero d e l = refl
-same_within (y ∷ ys) (suc i) d e l = same_within ys i d e (omega arith)
-
 -- a count a hall, once one more is counted in the hall k
 pub one_counted : (halls k x : ℕ) (counts : List ℕ) (before after : ℕ → ℕ) → halls ≤ length counts → ((h : ℕ) → h < halls → get_or counts h 0 ≡ before h)
     → ((h : ℕ) → after h ≡ before h + bit (nat_eq h k)) → x ≡ get_or counts k x → (h : ℕ) → h < halls → get_or (set counts k (x + 1)) h 0 ≡ after h
@@ -61,7 +52,7 @@ one_counted halls k x counts before after long counted more read h below =
       | inl e ↦ (let inside : k < length counts = omega arith in
           let new : get_or (set counts k (x + 1)) h 0 ≡ x + 1 = ap (λ t. get_or (set counts k (x + 1)) t 0) e ∙ get_or-set_same counts k (x + 1) 0 inside in
           let one : bit (nat_eq h k) ≡ 1 = ap bit (eq-eqb h k e) in
-          let old : get_or counts h 0 ≡ x = ap (λ t. get_or counts t 0) e ∙ same_within counts k 0 x inside ∙ sym read in
+          let old : get_or counts h 0 ≡ x = ap (λ t. get_or counts t 0) e ∙ get_or_default counts k 0 x inside ∙ sym read in
           omega (arith, step, was, new, one, old))
       | inr n ↦ (let new : get_or (set counts k (x + 1)) h 0 ≡ get_or counts h 0 = rw get_or-set_other refl in
           let none : bit (nat_eq h k) ≡ 0 = ap bit (ne_eqb h k n) in
@@ -133,10 +124,6 @@ beyond a b rest h is held = at (holds a h) (holds b h) (sym is ∙ held)
     at true false e = (refl, refl)
     at true true e = cc
     at false y e = cc
-
-pub bit_le : (x y : Bool) → (x ≡ true → y ≡ true) → bit x ≤ bit y
-bit_le false y f = omega arith
-bit_le true y f = let e : bit y ≡ 1 = ap bit (f refl) in omega arith
 
 -- a set that has all halls of another and one more has more of them
 pub holds_more : (a b n k : ℕ) → ((h : ℕ) → holds a h ≡ true → holds b h ≡ true) → k < n → holds b k ≡ true → holds a k ≡ false → count_below (holds a) n < count_below (holds b) n
@@ -404,7 +391,7 @@ module _ (p : Problem) (q : Plan ℕ ℕ) (c : ℕ) where
 module _ (p : Problem) (q : Plan ℕ ℕ) where
   -- the layer that was read holds what it should
   pub layer_at : (layers : List ℕ) (n j v : ℕ) → AreLayers p q n layers → j < n → j < length layers → v ≡ get_or layers j v → MarksAll (holds v) (Reaches p q j)
-  layer_at layers n j v are below inside read = subst (λ (z : ℕ). MarksAll (holds z) (Reaches p q j)) (same_within layers j 0 v inside ∙ sym read) (are j below)
+  layer_at layers n j v are below inside read = subst (λ (z : ℕ). MarksAll (holds z) (Reaches p q j)) (get_or_default layers j 0 v inside ∙ sym read) (are j below)
 
   module _ (c row layer both j : ℕ) (fits : (h : ℕ) → holds row h ≡ (seating_of p).fits c h) (marks : MarksAll (holds layer) (Reaches p q j)) (common : (h : ℕ) → holds both h ≡ holds row h && holds layer h) where
     -- the least hall of both is the least that fits and reaches

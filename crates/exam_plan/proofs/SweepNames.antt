@@ -2,38 +2,26 @@
 use Rattle.std.proofs.Common.{◌≡◌, ℕ, Bool, true, false, cond, not, List, [], ◌∷◌, ◌++◌, map, filter, Contains, Option, None, Some, IfSome, inl, inr, refl, sym, ap, subst, ◌∙◌}
 use Rattle.std.specs.List.{AllByRecursion}
 use Rattle.std.specs.Option.{option_map, option_and_then}
+use Rattle.std.specs.Cmp.{both_ways}
 use Rattle.std.proofs.lemmas.List.{map-append}
+use Rattle.std.proofs.lemmas.List.Elements.{All-append, All-from_recursion, recursion_from_All}
+use Rattle.std.proofs.lemmas.Option.{same_Some}
+use Rattle.std.proofs.lemmas.Bool.{false_from_ne_true}
 use Rattle.std.proofs.Math.Path.{fun_ext}
 use Rattle.exam_plan.specs.Naming.{Naming, named_plan, named_hop, named_chain}
 use Rattle.exam_plan.specs.Matching.{Plan, SamePlan}
 use Rattle.exam_plan.specs.Chains.{Chain, Leads, IsLeastChain, seated, augmented}
 use Rattle.exam_plan.specs.Repair.{TurnFrom, Turn, Sweeps, sweep_order, IsSweep}
-use Rattle.exam_plan.proofs.Renaming.{Renames}
-use Rattle.exam_plan.proofs.Carrying.{named_member, filter_same, of_elements}
-use Rattle.exam_plan.proofs.ChainNames.{Follows, bools, AreKnown, IsKnownHop, hops_known, IsChain-named, IsLeastChain-named, IsLeastChain-indexed, no_chain-named}
-
-some_same : {A : Type 0} (x y : A) → Some x ≡ Some y → x ≡ y
-some_same x y e = cc
+use Rattle.exam_plan.proofs.Renaming.{Renames, named_member}
+use Rattle.exam_plan.proofs.ChainNames.{Follows, AreKnown, IsKnownHop, hops_known, IsChain-named, IsLeastChain-named, IsLeastChain-indexed, no_chain-named}
+use Rattle.exam_plan.proofs.Small.{all_filter, filter_same, none_kept, of_members}
 
 keeps_all : {X : Type 0} (xs : List X) → filter (λ (x : X). true) xs ≡ xs
 keeps_all [] = refl
 keeps_all (x ∷ xs) = ap (λ t. x ∷ t) (keeps_all xs)
 
-keeps_none : {X : Type 0} (xs : List X) → filter (λ (x : X). false) xs ≡ []
-keeps_none [] = refl
-keeps_none (x ∷ xs) = keeps_none xs
-
-all_filter : {X : Type 0} (P : X → Type 0) (q : X → Bool) (xs : List X) → AllByRecursion P xs → AllByRecursion P (filter q xs)
-all_filter P q [] all = tt
-all_filter {X} P q (x ∷ xs) all = inner (q x) (all_filter P q xs all.1)
-  where
-    inner : (t : Bool) → AllByRecursion P (filter q xs) → AllByRecursion P (cond t (x ∷ filter q xs) (filter q xs))
-    inner true rest = (all.0, rest)
-    inner false rest = rest
-
 all_append : {X : Type 0} (P : X → Type 0) (xs ys : List X) → AllByRecursion P xs → AllByRecursion P ys → AllByRecursion P (xs ++ ys)
-all_append P [] ys all more = more
-all_append P (x ∷ xs) ys all more = (all.0, all_append P xs ys all.1 more)
+all_append P xs ys all more = recursion_from_All P (xs ++ ys) (All-append P xs ys (All-from_recursion P xs all) (All-from_recursion P ys more))
 
 module _ {C H : Type 0} (name : Naming C H) (r : Renames name) (f : Follows name) where
   abbrev Known : Plan ℕ ℕ → Type 0
@@ -44,15 +32,15 @@ module _ {C H : Type 0} (name : Naming C H) (r : Renames name) (f : Follows name
 
   -- ---- the plan after a chain
 
-  -- a candidate is the named one exactly at its index
-  same-named : (i : ℕ) (c : C) (k : ℕ) → Contains name.of_indices.members i → name.candidate_index c ≡ Some k → name.of_names.same_candidate (name.candidate i) c ≡ name.of_indices.same_candidate i k
-  same-named i c k m at = bools _ _
-      (λ t. (f.same_a i k).1 (some_same i k (sym (r.known i m) ∙ ap name.candidate_index ((f.same_b (name.candidate i) c).0 t) ∙ at)))
-      (λ t. (f.same_b (name.candidate i) c).1 (ap name.candidate ((f.same_a i k).0 t) ∙ (r.named c k at).0))
+  -- the same candidate by names and by indices
+  same-named : (b c : C) (i k : ℕ) → name.candidate_index b ≡ Some i → name.candidate_index c ≡ Some k → name.of_names.same_candidate b c ≡ name.of_indices.same_candidate i k
+  same-named b c i k at at' = both_ways _ _
+      (λ t. (f.same_a i k).1 (same_Some i k (sym at ∙ ap name.candidate_index ((f.same_b b c).0 t) ∙ at')))
+      (λ t. (f.same_b b c).1 (sym (r.named b i at).0 ∙ ap name.candidate ((f.same_a i k).0 t) ∙ (r.named c k at').0))
 
   -- one without an index is no named one
   other-named : (i : ℕ) (c : C) → Contains name.of_indices.members i → name.candidate_index c ≡ None → name.of_names.same_candidate (name.candidate i) c ≡ false
-  other-named i c m at = bools _ _ (λ t. absurd (let e : None ≡ Some i = sym at ∙ ap name.candidate_index (sym ((f.same_b (name.candidate i) c).0 t)) ∙ r.known i m in cc)) (λ t. absurd (let e : false ≡ true = t in cc))
+  other-named i c m at = false_from_ne_true _ (λ t. let e : None ≡ Some i = sym at ∙ ap name.candidate_index (sym ((f.same_b (name.candidate i) c).0 t)) ∙ r.known i m in cc)
 
   seated-named : (q : Plan ℕ ℕ) (after : Plan C H) → ((c : C) → by_name q c ≡ after c) → (i h : ℕ) → Contains name.of_indices.members i → (c : C) → by_name (seated name.of_indices q i h) c ≡ seated name.of_names after (name.candidate i) (name.hall h) c
   seated-named q after same i h m c = outer (name.candidate_index c) refl
@@ -66,7 +54,7 @@ module _ {C H : Type 0} (name : Naming C H) (r : Renames name) (f : Follows name
       outer (Some k) at =
           ap (option_and_then (λ k. option_map name.hall (seated name.of_indices q i h k))) at
           ∙ inner k (name.of_indices.same_candidate i k)
-          ∙ ap (λ t. cond t (Some (name.hall h)) (option_map name.hall (q k))) (sym (same-named i c k m at))
+          ∙ ap (λ t. cond t (Some (name.hall h)) (option_map name.hall (q k))) (sym (same-named (name.candidate i) c i k (r.known i m) at))
           ∙ ap (cond (name.of_names.same_candidate (name.candidate i) c) (Some (name.hall h))) (sym (named_member name r q c k at) ∙ same c)
 
   pub augmented-named : (p : Plan ℕ ℕ) (i : ℕ) (hops : List (ℕ × ℕ)) (last : ℕ) → Contains name.of_indices.members i → AllByRecursion (IsKnownHop name r f) hops
@@ -120,7 +108,7 @@ module _ {C H : Type 0} (name : Naming C H) (r : Renames name) (f : Follows name
   Sweeps-named (c ∷ cs) all p after known w = (by_name w.0, Turn-named p known c all.0 w.0 w.1, Sweeps-named cs all.1 w.0 after (turn_known p known c (p c) w.0 w.1) w.2)
 
   members_all : AllByRecursion (Contains name.of_indices.members) name.of_indices.members
-  members_all = of_elements (Contains name.of_indices.members) name.of_indices.members (λ i m. m)
+  members_all = of_members (Contains name.of_indices.members) name.of_indices.members (λ i m. m)
 
   order_members : (first : Option ℕ) → AllByRecursion (Contains name.of_indices.members) (sweep_order name.of_indices first)
   order_members None = members_all
@@ -136,17 +124,15 @@ module _ {C H : Type 0} (name : Naming C H) (r : Renames name) (f : Follows name
       parts : (q : ℕ → Bool) → ((i : ℕ) → Contains name.of_indices.members i → name.of_names.same_candidate c (name.candidate i) ≡ q i) → sweep_order name.of_names (Some c) ≡ map name.candidate (filter q name.of_indices.members ++ filter (λ i. not (q i)) name.of_indices.members)
       parts q same =
           ap (λ (ms : List C). filter (name.of_names.same_candidate c) ms ++ filter (λ d. not (name.of_names.same_candidate c d)) ms) r.members
-          ∙ ap (λ t. t ++ filter (λ d. not (name.of_names.same_candidate c d)) (map name.candidate name.of_indices.members)) (filter_same (name.of_names.same_candidate c) q name.candidate name.of_indices.members (of_elements _ name.of_indices.members same))
-          ∙ ap (λ t. map name.candidate (filter q name.of_indices.members) ++ t) (filter_same (λ d. not (name.of_names.same_candidate c d)) (λ i. not (q i)) name.candidate name.of_indices.members (of_elements _ name.of_indices.members (λ i m. ap not (same i m))))
+          ∙ ap (λ t. t ++ filter (λ d. not (name.of_names.same_candidate c d)) (map name.candidate name.of_indices.members)) (filter_same (name.of_names.same_candidate c) q name.candidate name.of_indices.members (of_members _ name.of_indices.members same))
+          ∙ ap (λ t. map name.candidate (filter q name.of_indices.members) ++ t) (filter_same (λ d. not (name.of_names.same_candidate c d)) (λ i. not (q i)) name.candidate name.of_indices.members (of_members _ name.of_indices.members (λ i m. ap not (same i m))))
           ∙ sym (map-append name.candidate (filter q name.of_indices.members) (filter (λ i. not (q i)) name.of_indices.members))
 
       inner : (o : Option ℕ) → name.candidate_index c ≡ o → sweep_order name.of_names (Some c) ≡ map name.candidate (sweep_order name.of_indices o)
       inner None at =
-          parts (λ (i : ℕ). false) (λ i m. bools _ _ (λ t. absurd (let e : None ≡ Some i = sym at ∙ ap name.candidate_index ((f.same_b c (name.candidate i)).0 t) ∙ r.known i m in cc)) (λ t. absurd (let e : false ≡ true = t in cc)))
-          ∙ ap (map name.candidate) (ap (λ t. t ++ filter (λ (i : ℕ). true) name.of_indices.members) (keeps_none name.of_indices.members) ∙ keeps_all name.of_indices.members)
-      inner (Some k) at = parts (name.of_indices.same_candidate k) (λ i m. bools _ _
-          (λ t. (f.same_a k i).1 (some_same k i (sym at ∙ ap name.candidate_index ((f.same_b c (name.candidate i)).0 t) ∙ r.known i m)))
-          (λ t. (f.same_b c (name.candidate i)).1 (sym (r.named c k at).0 ∙ ap name.candidate ((f.same_a k i).0 t))))
+          parts (λ (i : ℕ). false) (λ i m. false_from_ne_true _ (λ t. let e : None ≡ Some i = sym at ∙ ap name.candidate_index ((f.same_b c (name.candidate i)).0 t) ∙ r.known i m in cc))
+          ∙ ap (map name.candidate) (ap (λ t. t ++ filter (λ (i : ℕ). true) name.of_indices.members) (none_kept (λ (i : ℕ). false) name.of_indices.members (λ i. refl)) ∙ keeps_all name.of_indices.members)
+      inner (Some k) at = parts (name.of_indices.same_candidate k) (λ i m. same-named c (name.candidate i) k i at (r.known i m))
 
   pub IsSweep-named : (first : Option C) (p after : Plan ℕ ℕ) → Known p → IsSweep name.of_indices (option_and_then name.candidate_index first) p after → IsSweep name.of_names first (by_name p) (by_name after)
   IsSweep-named first p after known swept =

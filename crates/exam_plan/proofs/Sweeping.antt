@@ -1,19 +1,20 @@
 -- A sweep so far, and at its end.
-use Rattle.std.proofs.Common.{◌≡◌, ℕ, zero, suc, ◌+◌, ◌<◌, ◌≤◌, Bool, true, false, not, cond, IsTrue, List, [], ◌∷◌, ◌++◌, length, get_or, Option, None, Some, IsSome, IfSome, is_some, nat_eq, refl, sym, ap, ◌∙◌, inl, inr, subst, arith, zero-add, append-nil, append_assoc}
+use Rattle.std.proofs.Common.{◌≡◌, ℕ, zero, suc, ◌+◌, ◌<◌, ◌≤◌, Bool, true, false, not, cond, IsTrue, List, [], ◌∷◌, ◌++◌, length, get_or, Option, None, Some, IsSome, IfSome, is_some, nat_eq, refl, sym, ap, ◌∙◌, inl, inr, subst, arith, append-nil, append_assoc}
 use Rattle.std.specs.Prelude.{filter, Contains, ◌↔◌}
 use Rattle.std.specs.Option.{option_eq}
 use Rattle.std.specs.List.{range_with_len}
 use Rattle.std.proofs.lemmas.Bool.{cases_eq, cases_lt, eq-eqb, ne_eqb, eqb-true}
-use Rattle.std.proofs.lemmas.List.Elements.{filter-append}
+use Rattle.std.proofs.lemmas.Option.{same_Some, IfSome_then}
 use Rattle.exam_plan.specs.Matching.{Seating, Plan, occupants, IsLawful, IsBest, IsContested}
 use Rattle.exam_plan.specs.Repair.{Turn, Sweeps, IsSweep}
 use Rattle.exam_plan.specs.Problems.{Problem, IsProblem, seating_of}
 use Rattle.exam_plan.specs.Searches.{IsMarked, AreClosed, IsSettled, IsTraced, LeadsTo, Draws, is_drawn}
-use Rattle.exam_plan.proofs.Counting.{range_more, range_next}
+use Rattle.exam_plan.proofs.Counting.{range_next}
 use Rattle.exam_plan.proofs.Seatings.{fits_member, fits_below}
 use Rattle.exam_plan.proofs.Optimality.{drawn_in, closed_is_greatest}
-use Rattle.exam_plan.proofs.Rising.{passing, passes_in}
+use Rattle.exam_plan.proofs.Rising.{next_filter, passing, passes_in}
 use Rattle.exam_plan.proofs.ShortOfDesks.{is_certificate, exactly_contested}
+use Rattle.exam_plan.proofs.DrawLemmas.{filter_next}
 
 -- the candidates who have had their turn: the first, and all others below i
 abbrev pub done : Problem → Option ℕ → ℕ → List ℕ
@@ -30,17 +31,14 @@ pub record IsSwept (p : Problem) (first : Option ℕ) (before q : Plan ℕ ℕ) 
 
 none_below : (c n : ℕ) → n ≤ c → filter (nat_eq c) (range_with_len 0 n) ≡ []
 none_below c zero l = refl
-none_below c (suc n) l = ap (filter (nat_eq c)) (range_more 0 n ∙ ap (λ k. range_with_len 0 n ++ k ∷ []) (zero-add n)) ∙ filter-append (nat_eq c) (range_with_len 0 n) (n ∷ [])
-    ∙ ap (λ xs. xs ++ filter (nat_eq c) (n ∷ [])) (none_below c n (omega arith)) ∙ ap (λ b. cond b (n ∷ []) []) (ne_eqb c n (λ e. absurd (omega arith)))
+none_below c (suc n) l = next_filter (nat_eq c) n false (ne_eqb c n (λ e. absurd (omega arith))) ∙ ap (λ xs. xs ++ []) (none_below c n (omega arith))
 
 one_of : (c n : ℕ) → c < n → filter (nat_eq c) (range_with_len 0 n) ≡ c ∷ []
 one_of c zero l = absurd (omega arith)
-one_of c (suc n) l =
-    ap (filter (nat_eq c)) (range_more 0 n ∙ ap (λ k. range_with_len 0 n ++ k ∷ []) (zero-add n)) ∙ filter-append (nat_eq c) (range_with_len 0 n) (n ∷ []) ∙
-    elim (cases_eq c n) [
-      | inl e ↦ ap (λ xs. xs ++ filter (nat_eq c) (n ∷ [])) (none_below c n (omega arith)) ∙ ap (λ b. cond b (n ∷ []) []) (eq-eqb c n e) ∙ ap (λ k. k ∷ []) (sym e)
-      | inr m ↦ ap (λ xs. xs ++ filter (nat_eq c) (n ∷ [])) (one_of c n (omega arith)) ∙ ap (λ b. c ∷ cond b (n ∷ []) []) (ne_eqb c n m)
-    ]
+one_of c (suc n) l = elim (cases_eq c n) [
+  | inl e ↦ next_filter (nat_eq c) n true (eq-eqb c n e) ∙ ap (λ xs. xs ++ n ∷ []) (none_below c n (omega arith)) ∙ ap (λ k. k ∷ []) (sym e)
+  | inr m ↦ next_filter (nat_eq c) n false (ne_eqb c n m) ∙ ap (λ xs. xs ++ []) (one_of c n (omega arith))
+]
 
 module _ (g : Seating ℕ ℕ) where
   -- one more turn
@@ -78,24 +76,19 @@ module _ (p : Problem) (first : Option ℕ) (before q : Plan ℕ ℕ) (dead : �
     | inr k ↦ (let e : i ≡ d = omega arith in subst (λ (z : ℕ). IsSettled p r deaths z) e here)
   ]
 
+  done_next : (c : ℕ) (b : Bool) → nat_eq c i ≡ b
+      → done p (Some c) (i + 1) ≡ filter (nat_eq c) (range_with_len 0 (length p.fit)) ++ (filter (λ d. not (nat_eq c d)) (range_with_len 0 i) ++ cond (not b) (i ∷ []) [])
+  done_next c b e = ap (λ xs. filter (nat_eq c) (range_with_len 0 (length p.fit)) ++ xs) (filter_next (λ d. not (nat_eq c d)) i (not b) (ap not e))
+
   done_more : (o : Option ℕ) → (o ≡ Some i → ⊥) → done p o (i + 1) ≡ done p o i ++ i ∷ []
   done_more None away = range_next i
-  done_more (Some c) away =
-      ap (λ xs. filter (nat_eq c) (range_with_len 0 (length p.fit)) ++ filter (λ d. not (nat_eq c d)) xs) (range_next i)
-      ∙ ap (λ xs. filter (nat_eq c) (range_with_len 0 (length p.fit)) ++ xs) (filter-append (λ d. not (nat_eq c d)) (range_with_len 0 i) (i ∷ [])
-      ∙ ap (λ b. filter (λ d. not (nat_eq c d)) (range_with_len 0 i) ++ cond (not b) (i ∷ []) []) (ne_eqb c i (λ e. away (ap Some e))))
+  done_more (Some c) away = done_next c false (ne_eqb c i (λ e. away (ap Some e)))
       ∙ sym (append_assoc (filter (nat_eq c) (range_with_len 0 (length p.fit))) (filter (λ d. not (nat_eq c d)) (range_with_len 0 i)) (i ∷ []))
 
   done_same : (o : Option ℕ) → o ≡ Some i → done p o (i + 1) ≡ done p o i
   done_same None e = cc
-  done_same (Some c) e =
-      ap (λ xs. filter (nat_eq c) (range_with_len 0 (length p.fit)) ++ filter (λ d. not (nat_eq c d)) xs) (range_next i)
-      ∙ ap (λ xs. filter (nat_eq c) (range_with_len 0 (length p.fit)) ++ xs) (filter-append (λ d. not (nat_eq c d)) (range_with_len 0 i) (i ∷ [])
-      ∙ ap (λ b. filter (λ d. not (nat_eq c d)) (range_with_len 0 i) ++ cond (not b) (i ∷ []) []) (eq-eqb c i (some_same c i e))
-      ∙ append-nil (filter (λ d. not (nat_eq c d)) (range_with_len 0 i)))
-    where
-      some_same : (a b : ℕ) → Some a ≡ Some b → a ≡ b
-      some_same a b e = cc
+  done_same (Some c) e = done_next c true (eq-eqb c i (same_Some c i e))
+      ∙ ap (λ xs. filter (nat_eq c) (range_with_len 0 (length p.fit)) ++ xs) (append-nil (filter (λ d. not (nat_eq c d)) (range_with_len 0 i)))
 
   pub swept_more : (r : Plan ℕ ℕ) (deaths : ℕ → Bool) → (first ≡ Some i → ⊥) → IsLawful (seating_of p) r → AreClosed p r deaths → ((d : ℕ) → IsSome (q d) → IsSome (r d))
       → IsSettled p r deaths i → ((d : ℕ) → IsSettled p q dead d → IsSettled p r deaths d) → Turn (seating_of p) q i r → IsSwept p first before r deaths (i + 1)
@@ -103,14 +96,10 @@ module _ (p : Problem) (first : Option ℕ) (before q : Plan ℕ ℕ) (dead : �
     lawful = lawful;
     closed = closed;
     kept = λ d s. kept d (swept.kept d s);
-    firstly = firstly first swept.firstly;
+    firstly = IfSome_then first swept.firstly others;
     settled = settled_more r deaths (λ d l. others d (swept.settled d l)) settled;
     turns = subst (λ (cs : List ℕ). Sweeps (seating_of p) before cs r) (sym (done_more first away)) (Sweeps-push (seating_of p) before (done p first i) q i r swept.turns turn);
   }
-    where
-      firstly : (o : Option ℕ) → IfSome o (λ c. IsSettled p q dead c) → IfSome o (λ c. IsSettled p r deaths c)
-      firstly None s = tt
-      firstly (Some c) s = others c s
 
   pub swept_skip : first ≡ Some i → IsSwept p first before q dead (i + 1)
   swept_skip same = record {

@@ -1,8 +1,10 @@
 -- The table of how many occupants of each hall each hall fits.
-use Rattle.std.proofs.Common.{◌≡◌, ◌≢◌, ℕ, zero, suc, ◌+◌, ◌<◌, ◌≤◌, ◌↔◌, Bool, true, false, not, ◌&&◌, ◌||◌, cond, IsTrue, List, [], ◌∷◌, length, get_or, set, Option, None, Some, nat_eq, refl, sym, ap, ◌∙◌, inl, inr, subst, arith}
+use Rattle.std.proofs.Common.{◌≡◌, ◌≢◌, ℕ, zero, suc, ◌+◌, ◌<◌, ◌≤◌, ◌↔◌, Bool, true, false, not, ◌&&◌, ◌||◌, cond, IsTrue, List, length, get_or, set, Option, None, Some, nat_eq, refl, sym, ap, ◌∙◌, inl, inr, subst, arith}
 use Rattle.std.specs.Option.{option_map_or}
 use Rattle.std.proofs.lemmas.Bool.{cases_eq, cases_lt, cases_Bool, and_parts, and_from, eq-eqb, ne_eqb, eqb-true, or_cases, or_left, or_right}
 use Rattle.std.proofs.lemmas.List.{get_or-set_same, get_or-set_other, get_or_past, length-set}
+use Rattle.std.proofs.lemmas.Option.{same_Some}
+use Rattle.std.proofs.Math.Bool.{and-true}
 use Rattle.exam_plan.specs.declared.onward.Onward.{Onward}
 use Rattle.exam_plan.specs.declared.tally.Tally.{Tally}
 use Rattle.exam_plan.specs.HallSets.{holds}
@@ -119,9 +121,6 @@ module _ (p : Problem) where
   blank_table q r table t blank = subst (λ (b : Bool). IsTable p r (cond b (length p.fit) 0) table) (sym blank)
       (nobody_in q r table (subst (λ (b : Bool). IsTable p q (cond b (length p.fit) 0) table) blank t))
 
-  some_same : (a b : ℕ) → Some a ≡ Some b → a ≡ b
-  some_same a b e = cc
-
   -- one more candidate is in the table, who sits in the hall, or nowhere
   pub one_in : (q : Plan ℕ ℕ) (table after : Onward) (i hall : ℕ) → IsTable p q i table → q i ≡ Some hall → IsEntered p table hall i after → IsTable p q (i + 1) after
   one_in q table after i hall t here entered = record {
@@ -135,7 +134,7 @@ module _ (p : Problem) where
     firsts = λ d h l e. elim (cases_lt d i) [
       | inl b ↦ (let f = t.firsts d h b e in let g = entered.lower h in omega (arith, f, g))
       | inr g ↦ (let b : d < i + 1 = l in let s : d ≡ i = omega (arith, b, g) in
-          let same : h ≡ hall = some_same h hall (sym e ∙ ap q s ∙ here) in
+          let same : h ≡ hall = same_Some h hall (sym e ∙ ap q s ∙ here) in
           let f = entered.first in
           let z : get_or after.firsts.items h 0 ≡ get_or after.firsts.items hall 0 = ap (λ x. get_or after.firsts.items x 0) same in
           omega (arith, f, s, z))
@@ -182,7 +181,7 @@ module _ (p : Problem) where
     firsts_moved : (before after : Onward) → IsTable p (plan_at m) n before → ((g : ℕ) → get_or after.firsts.items g 0 ≤ get_or before.firsts.items g 0) → get_or after.firsts.items hall 0 ≤ c
         → (d h : ℕ) → d < n → moved d ≡ Some h → get_or after.firsts.items h 0 ≤ d
     firsts_moved before after t lower first d h l e = elim (cases_eq d c) [
-      | inl s ↦ (let same : h ≡ hall = some_same h hall (sym e ∙ ap moved s ∙ moved_here) in
+      | inl s ↦ (let same : h ≡ hall = same_Some h hall (sym e ∙ ap moved s ∙ moved_here) in
           let z : get_or after.firsts.items h 0 ≡ get_or after.firsts.items hall 0 = ap (λ x. get_or after.firsts.items x 0) same in
           omega (arith, first, s, z))
       | inr away ↦ (let f = t.firsts d h l (sym (moved_other d away) ∙ e) in let g = lower h in omega (arith, f, g))
@@ -247,7 +246,7 @@ put_more before halls hall inside rest sets i new less w below among held put go
       let was : holds (get_or sets i 0) h ≡ holds (get_or before k 0) h = w i h ∙ ap (λ t. cond (nat_eq h hall && (holds halls i && not t)) inside (holds (get_or before i 0) h)) held ∙ ap (λ t. cond t inside (holds (get_or before i 0) h)) (none (nat_eq h hall) (holds halls i))
       ∙ ap (λ j. holds (get_or before j 0) h) (sym e) in
       let now : nat_eq h hall && (holds halls k && not (holds less k)) ≡ nat_eq h hall = ap (λ j. nat_eq h hall && (holds halls j && not (holds less j))) e ∙ ap (λ t. nat_eq h hall && (t && not (holds less i))) among
-      ∙ ap (λ t. nat_eq h hall && not t) (one_gone rest i less gone) ∙ all (nat_eq h hall) in
+      ∙ ap (λ t. nat_eq h hall && not t) (one_gone rest i less gone) ∙ and-true (nat_eq h hall) in
       ap (λ s. holds s h) at ∙ put h ∙ ap (λ t. cond (nat_eq h hall) inside t) was ∙ sym (ap (λ t. cond t inside (holds (get_or before k 0) h)) now))
   | inr away ↦ (
       let at : get_or (set sets i new) k 0 ≡ get_or sets k 0 = rw get_or-set_other refl in
@@ -259,16 +258,7 @@ put_more before halls hall inside rest sets i new less w below among held put go
     none true false = refl
     none false b = refl
 
-    all : (a : Bool) → a && not false ≡ a
-    all true = refl
-    all false = refl
-
 -- ---- one candidate more or less in a hall
-
-pub read_within : {X : Type 0} (xs : List X) (i : ℕ) (d e : X) → i < length xs → get_or xs i d ≡ get_or xs i e
-read_within [] i d e l = absurd (omega arith)
-read_within (x ∷ xs) zero d e l = refl
-read_within (x ∷ xs) (suc i) d e l = read_within xs i d e (omega arith)
 
 set_here : {X : Type 0} (xs after : List X) (i g : ℕ) (new d : X) → after ≡ set xs i new → i < length xs → g ≡ i → get_or after g d ≡ new
 set_here xs after i g new d is inside e = ap (λ ys. get_or ys g d) is ∙ ap (λ j. get_or (set xs i new) j d) e ∙ get_or-set_same xs i new d inside

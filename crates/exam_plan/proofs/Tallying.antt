@@ -1,6 +1,7 @@
 -- Counting by binary digits, all halls of a set at once.
 use Rattle.std.proofs.Common.{◌≡◌, ℕ, zero, suc, ◌+◌, ◌-◌, ◌*◌, ◌^◌, ◌<◌, ◌≤◌, ◌↔◌, Bool, true, false, not, cond, ◌&&◌, ◌||◌, List, [], ◌∷◌, length, replicate, get_or, set, refl, sym, ap, ◌∙◌, inl, inr, arith}
 use Rattle.std.proofs.lemmas.Bool.{cases_lt, cases_Bool, or_cases, or_left, or_right, lt-ltb, le-ltb}
+use Rattle.std.proofs.Math.Bool.{and_comm}
 use Rattle.exam_plan.specs.HallSets.{holds}
 use Rattle.exam_plan.specs.declared.tally.Tally.{Tally}
 use Rattle.exam_plan.specs.Tallies.{one_if, tallied, tally_of}
@@ -20,12 +21,6 @@ tallied_set (x ∷ xs) (suc i) new h l = let e = tallied_set xs i new h (omega a
 worth_none : (i : ℕ) → worth i false ≡ 0
 worth_none zero = refl
 worth_none (suc i) = let e = worth_none i in omega (arith, e)
-
-and_swap : (a b : Bool) → a && b ≡ b && a
-and_swap true true = refl
-and_swap true false = refl
-and_swap false true = refl
-and_swap false false = refl
 
 -- a digit and a carry make a digit and the next carry
 carries : (i : ℕ) (x s : Bool) → worth i ((x || s) && not (x && s)) + 2 * worth i (x && s) ≡ worth i x + worth i s
@@ -66,7 +61,7 @@ module _ (before digits : List ℕ) (halls i digit set_by new : ℕ) (inside : i
       let a = step h in
       let b = carries i (holds digit h) (holds set_by h) in
       let e = w h in
-      let f : worth next (holds both h) ≡ 2 * worth i (holds digit h && holds set_by h) = ap (λ n. worth n (holds both h)) follows ∙ ap (worth (suc i)) (both_is h ∙ and_swap (holds set_by h) (holds digit h)) in
+      let f : worth next (holds both h) ≡ 2 * worth i (holds digit h && holds set_by h) = ap (λ n. worth n (holds both h)) follows ∙ ap (worth (suc i)) (both_is h ∙ and_comm (holds set_by h) (holds digit h)) in
       omega (arith, a, b, e, f)
 
   pub discounts_more : (less : ℕ) → ((h : ℕ) → holds less h ≡ holds set_by h && not (holds digit h)) → (next : ℕ) → next ≡ suc i → IsDiscounting before halls digits i set_by → IsDiscounting before halls (set digits i new) next less

@@ -1,7 +1,9 @@
 -- What one turn of the sweep keeps.
 use Rattle.std.proofs.Common.{◌≡◌, ◌⊎◌, ℕ, zero, suc, ◌+◌, ◌<◌, ◌≤◌, ◌||◌, ◌&&◌, not, Bool, true, false, cond, IsTrue, List, [], ◌∷◌, length, get_or, set, nat_eq, nat_lt, Option, None, Some, IsSome, is_some, refl, sym, ap, ◌∙◌, inl, inr, subst, arith}
 use Rattle.std.proofs.lemmas.Bool.{cases_eq, cases_lt, eq-eqb, ne_eqb, eqb-true, ltb-true, lt-ltb, or_cases, or_left, or_right, and_from, and_parts}
-use Rattle.std.proofs.lemmas.List.{get_or-set_same, get_or-set_other, get_or_past}
+use Rattle.std.proofs.lemmas.List.{get_or_past, get_or_default}
+use Rattle.std.proofs.lemmas.Option.{same_Some}
+use Rattle.std.proofs.Math.Bool.{not-not}
 use Rattle.exam_plan.specs.HallSets.{holds}
 use Rattle.exam_plan.specs.Matching.{Plan, occupants, IsLawful}
 use Rattle.exam_plan.specs.Chains.{Chain, HasFreeDesk, Leads, IsChain, augmented}
@@ -12,7 +14,7 @@ use Rattle.exam_plan.proofs.Counting.{bit}
 use Rattle.exam_plan.proofs.Seatings.{length-occupants}
 use Rattle.exam_plan.proofs.Layers.{least_leads, least_distinct, least_is_least}
 use Rattle.exam_plan.proofs.Moves.{AllMoves, AreDistinct, moved_cases, moved_keeps, IsRoute, route_of, ends_free, occupants-moved, lawful-moved}
-use Rattle.exam_plan.proofs.Steps.{plan_at-get_or, count_at-below, same_within}
+use Rattle.exam_plan.proofs.Steps.{plan_at-get_or, count_at-below, one_counted}
 
 -- all that a turn owes that moves along a chain to the last hall
 pub record IsTurned (p : Problem) (q : Plan ℕ ℕ) (dead : ℕ → Bool) (c last : ℕ) (after : Plan ℕ ℕ) : Type 0 where
@@ -31,9 +33,6 @@ module _ (p : Problem) (q : Plan ℕ ℕ) (dead : ℕ → Bool) (closed : AreClo
   abbrev pub IsLiveMove : ℕ → ℕ → Type 0
   IsLiveMove d h = (IsMarked dead h → ⊥) × (IsWithin p dead d → ⊥) × ((g : ℕ) → q d ≡ Some g → IsMarked dead g → ⊥)
 
-  some_same : (a b : ℕ) → Some a ≡ Some b → a ≡ b
-  some_same a b e = cc
-
   -- no hall of a route to a free desk is dead
   pub live_route : (c : ℕ) (hops : List (ℕ × ℕ)) (last : ℕ) → IsRoute p q c hops last → HasFreeDesk (seating_of p) q last → ((g : ℕ) → q c ≡ Some g → IsMarked dead g → ⊥)
       → AllMoves IsLiveMove c hops last × (IsWithin p dead c → ⊥)
@@ -43,7 +42,7 @@ module _ (p : Problem) (q : Plan ℕ ℕ) (dead : ℕ → Bool) (closed : AreClo
       ((live, out, from), out)
   live_route c (hop ∷ hops) last route free from =
       let away : IsMarked dead hop.0 → ⊥ = λ m. beyond hop.0 hop.1 hops route.1 route.2 m in
-      let rest = live_route hop.1 hops last route.2 free (λ g e m. away (subst (λ (z : ℕ). IsMarked dead z) (some_same g hop.0 (sym e ∙ route.1)) m)) in
+      let rest = live_route hop.1 hops last route.2 free (λ g e m. away (subst (λ (z : ℕ). IsMarked dead z) (same_Some g hop.0 (sym e ∙ route.1)) m)) in
       let out : IsWithin p dead c → ⊥ = λ w. away (w hop.0 route.0) in
       (((away, out, from), rest.0), out)
     where
@@ -101,7 +100,7 @@ module _ (p : Problem) (q : Plan ℕ ℕ) (dead : ℕ → Bool) (closed : AreClo
           let less : length (occupants (seating_of p) arranged h) < get_or p.desk_counts h 0 = f in omega (arith, o, less));
       stays = λ d h k sits m fit. elim (moved_cases p q IsLiveMove c hops last moves d) [
         | inl e ↦ closed.stays d h k (sym e ∙ sits) m fit
-        | inr w ↦ absurd (w.2.0 (subst (λ (z : ℕ). IsMarked dead z) (some_same h w.0 (sym sits ∙ w.1)) m))
+        | inr w ↦ absurd (w.2.0 (subst (λ (z : ℕ). IsMarked dead z) (same_Some h w.0 (sym sits ∙ w.1)) m))
       ];
     }
 
@@ -189,14 +188,8 @@ module _ (p : Problem) (q after : Plan ℕ ℕ) (last : ℕ) (occupied : (h : �
   pub counts_after : (counts : List ℕ) (x : ℕ) → length counts ≡ length p.desk_counts → last < length p.desk_counts → ((h : ℕ) → h < length p.desk_counts → get_or counts h 0 ≡ count_at q h (length p.fit)) → x ≡ get_or counts last x
       → (h : ℕ) → h < length p.desk_counts → get_or (set counts last (x + 1)) h 0 ≡ count_at after h (length p.fit)
   counts_after counts x long inside counted read h below =
-      let a = count_is p q h in let b = count_is p after h in let o = occupied h in let was = counted h below in
-      elim (cases_eq h last) [
-        | inl e ↦ (let new : get_or (set counts last (x + 1)) h 0 ≡ x + 1 = ap (λ t. get_or (set counts last (x + 1)) t 0) e ∙ get_or-set_same counts last (x + 1) 0 (omega arith) in
-            let old : get_or counts h 0 ≡ x = ap (λ t. get_or counts t 0) e ∙ same_within counts last 0 x (omega arith) ∙ sym read in
-            let one : bit (nat_eq h last) ≡ 1 = ap bit (eq-eqb h last e) in omega (arith, a, b, o, was, new, old, one))
-        | inr n ↦ (let new : get_or (set counts last (x + 1)) h 0 ≡ get_or counts h 0 = rw get_or-set_other refl in
-            let none : bit (nat_eq h last) ≡ 0 = ap bit (ne_eqb h last n) in omega (arith, a, b, o, was, new, none))
-      ]
+      one_counted (length p.desk_counts) last x counts (λ g. count_at q g (length p.fit)) (λ g. count_at after g (length p.fit)) (omega arith) counted
+      (λ g. let a = count_is p q g in let b = count_is p after g in let o = occupied g in omega (arith, a, b, o)) read h below
 
   free_elsewhere : (h : ℕ) → (h ≡ last → ⊥) → (HasFreeDesk (seating_of p) after h → HasFreeDesk (seating_of p) q h) × (HasFreeDesk (seating_of p) q h → HasFreeDesk (seating_of p) after h)
   free_elsewhere h away =
@@ -213,7 +206,7 @@ module _ (p : Problem) (q after : Plan ℕ ℕ) (last : ℕ) (occupied : (h : �
         let b = count_is p after last in
         let same : holds rest h ≡ holds free h && not (not (nat_lt n d)) = is h ∙ ap (λ t. holds free h && not (t && not (nat_lt n d))) (eq-eqb h last e) in (
           (λ m. let parts = and_parts (holds free h) (not (not (nat_lt n d))) (sym same ∙ m) in
-              let l : n < d = ltb-true n d (twice (nat_lt n d) parts.1) in
+              let l : n < d = ltb-true n d (sym (not-not (nat_lt n d)) ∙ parts.1) in
               let f : length (occupants (seating_of p) after last) < get_or p.desk_counts last 0 = omega (arith, b, l, counted, desks) in
               subst (λ (z : ℕ). HasFreeDesk (seating_of p) after z) (sym e) f),
           (λ f. let l : length (occupants (seating_of p) after last) < get_or p.desk_counts last 0 = subst (λ (z : ℕ). HasFreeDesk (seating_of p) after z) e f in
@@ -225,10 +218,6 @@ module _ (p : Problem) (q after : Plan ℕ ℕ) (last : ℕ) (occupied : (h : �
           (λ f. same ∙ and_from (holds free h) true ((marks h).1 ((free_elsewhere h away).0 f)) refl),
         ))
   ]
-    where
-      twice : (b : Bool) → not (not b) ≡ true → b ≡ true
-      twice true e = refl
-      twice false e = cc
 
 -- ---- the dead halls after a failed search
 
@@ -270,12 +259,7 @@ module _ (p : Problem) (q : Plan ℕ ℕ) (c : ℕ) (unseated : q c ≡ None) (d
   both_settled d (inr w) = inr (λ k fit. dead_in k (w k fit))
 
 pub seated_at : (m : List (Option ℕ)) (c : ℕ) (o : Option ℕ) → c < length m → o ≡ get_or m c o → plan_at m c ≡ o
-seated_at m c o below read = plan_at-get_or m c ∙ within m c None o below ∙ sym read
-  where
-    within : (xs : List (Option ℕ)) (i : ℕ) (d e : Option ℕ) → i < length xs → get_or xs i d ≡ get_or xs i e
-    within [] i d e l = absurd (omega arith)
-    within (x ∷ xs) zero d e l = refl
-    within (x ∷ xs) (suc i) d e l = within xs i d e (omega arith)
+seated_at m c o below read = plan_at-get_or m c ∙ get_or_default m c None o below ∙ sym read
 
 pub none_of : (o : Option ℕ) (b : Bool) → b ≡ is_some o → b ≡ false → o ≡ None
 none_of None b told fails = refl

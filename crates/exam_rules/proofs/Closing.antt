@@ -8,7 +8,7 @@ use Rattle.std.specs.Cmp.Lexicographic.{nat_list_cmp_total}
 use Rattle.std.specs.List.{AllByRecursion}
 use Rattle.std.specs.List.Sorted.{IsStrictlySortedBy}
 use Rattle.std.specs.Map.{keys_of}
-use Rattle.std.specs.declared.cmp.Ordering.TheVariants.{Less, Equal}
+use Rattle.std.specs.declared.cmp.Ordering.TheVariants.{Less}
 use Rattle.std.specs.Ordering.{is_eq, nat_cmp}
 use Rattle.std.proofs.lemmas.Cmp.{tied_itself}
 use Rattle.std.proofs.lemmas.List.Kept.{IsStrictlySortedBy-filter}
@@ -23,7 +23,7 @@ use Rattle.exam_rules.specs.Relations.{Code, Relations, code_cmp, opening_cmp, r
 use Rattle.exam_rules.specs.Seatings.{open_halls}
 use Rattle.exam_rules.specs.Sessions as sessions
 use Rattle.exam_rules.proofs.Listing.{entrants_are_members}
-use Rattle.exam_rules.proofs.Naming.{halls_rise, same_code_exact, same_code_itself}
+use Rattle.exam_rules.proofs.Naming.{halls_rise, later_is_other, same_code_exact, same_code_itself}
 
 openings_exact : CmpEqualImpliesEq opening_cmp
 openings_exact = exact_pairs code_cmp code_cmp exact_bytes exact_bytes
@@ -41,17 +41,10 @@ abbrev halls_in : Code → Rows → List Code
 halls_in t rows = codes_of (filter (λ o. same_code o.0.0 t) rows)
 
 module _ (s h : Code) where
-  greater_is_other : (k : Code) → code_cmp h k ≡ Less → same_code k h ≡ false
-  greater_is_other k less = inner (same_code k h) refl
-    where
-      inner : (b : Bool) → same_code k h ≡ b → b ≡ false
-      inner true same = absurd (let tied : Less ≡ Equal = sym less ∙ ap (code_cmp h) (same_code_exact k h same) ∙ tied_itself nat_list_cmp_total h in cc)
-      inner false same = refl
-
   -- greater codes all stay
   all_stay : (xs : List Code) → AllByRecursion (λ k. code_cmp h k ≡ Less) xs → without_hall h xs ≡ xs
   all_stay [] up = refl
-  all_stay (k ∷ xs) up = ap (λ b. cond (not b) (k ∷ without_hall h xs) (without_hall h xs)) (greater_is_other k up.0) ∙ ap (λ ys. k ∷ ys) (all_stay xs up.1)
+  all_stay (k ∷ xs) up = ap (λ b. cond (not b) (k ∷ without_hall h xs) (without_hall h xs)) (later_is_other same_code same_code_exact code_cmp nat_list_cmp_total h k up.0) ∙ ap (λ ys. k ∷ ys) (all_stay xs up.1)
 
   key_of : (e : (Code × Code) × Opening) → is_at (opening_cmp (s, h)) e.0 ≡ true → (s, h) ≡ e.0
   key_of e at = openings_exact (s, h) e.0 ((Equal-is (opening_cmp (s, h) e.0)).0 at)

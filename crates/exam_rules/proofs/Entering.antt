@@ -12,6 +12,7 @@ use Rattle.std.specs.Cmp.{IsTotalOrder, nat_cmp_total, then_total, on_total, uns
 use Rattle.std.specs.Cmp.Lexicographic.{nat_list_cmp_total}
 use Rattle.std.specs.Ordering.{nat_cmp, match_ordering, MatchOrdering, ordering_then, is_eq, is_lt}
 use Rattle.std.proofs.lemmas.Bool.Decides.{nat_tests}
+use Rattle.std.proofs.lemmas.Bool.{and_parts}
 use Rattle.std.proofs.lemmas.Cmp.{ranked, tied_itself}
 use Rattle.std.proofs.lemmas.List.{get_or-map, length-map}
 use Rattle.std.proofs.lemmas.List.Kept.{IsStrictlySortedBy-filter}
@@ -27,10 +28,9 @@ use Rattle.exam_rules.specs.Sessions.{has_live_entry, head_of, is_live_entry, is
 use Rattle.exam_rules.specs.Names.{ListsRise}
 use Rattle.exam_rules.specs.Orders.{AreInOrder, KeysRise}
 use Rattle.exam_rules.specs.Lists.{listed, entrant, entrants, entered, lesser_paper, lowered, SetsEntry, MakesLive, AreListsOf}
-use Rattle.exam_rules.proofs.Listing.{listed_with, below_is_other}
+use Rattle.exam_rules.proofs.Listing.{listed_with}
 use Rattle.exam_rules.proofs.Naming.{halls_rise}
-use Rattle.exam_rules.proofs.Relisting.{entries_exact, least_of_other, lists_with}
-use Rattle.exam_rules.proofs.Together.{and_left}
+use Rattle.exam_rules.proofs.Relisting.{above_same, entries_exact, least_of_other, lists_with, raised}
 
 entries_total : IsTotalOrder entry_cmp
 entries_total = then_total (on_total (λ (k : ℕ × Code). k.0) nat_cmp_total) (on_total (λ (k : ℕ × Code). k.1) nat_list_cmp_total)
@@ -61,7 +61,7 @@ module _ (c : ℕ) (p : Code) (counts : Code → Bool) (here : counts p ≡ true
   -- of one candidate the papers decide
   by_paper : (e : (ℕ × Code) × Entry) → passes e ≡ true → entry_cmp (c, p) e.0 ≡ code_cmp p e.0.1
   by_paper e own =
-      let same : e.0.0 ≡ c = exact_unsigned_eq e.0.0 c (and_left (nat_eq e.0.0 c) (e.1.live && counts e.0.1) own) in
+      let same : e.0.0 ≡ c = exact_unsigned_eq e.0.0 c (and_parts (nat_eq e.0.0 c) (e.1.live && counts e.0.1) own).0 in
       ap (λ o. ordering_then o (code_cmp p e.0.1)) (ap (nat_cmp c) same ∙ tied_itself nat_cmp_total c)
 
   lesser_at : (q : Code) (o : Ordering) → code_cmp p q ≡ o → lesser_paper p q ≡ cond (is_lt o) p q
@@ -110,13 +110,6 @@ module _ (c : ℕ) (p : Code) (counts : Code → Bool) (here : counts p ≡ true
 -- ---- the list
 
 module _ (f g : ℕ → Option Code) (n : ℕ) (p : Code) (same : (d : ℕ) → nat_eq n d ≡ false → g d ≡ f d) (here : g n ≡ Some (lowered p (f n))) where
-  -- of greater numbers
-  above_same : (cs : List ℕ) → AllByRecursion (λ d. nat_cmp n d ≡ Less) cs → listed_with g cs ≡ listed_with f cs
-  above_same [] up = refl
-  above_same (d ∷ cs) up =
-      ap (λ o. cons_option (option_map (entrant d) o) (listed_with g cs)) (same d (below_is_other n d up.0))
-      ∙ ap (cons_option (option_map (entrant d) (f d))) (above_same cs up.1)
-
   entered_first : (cs : List ℕ) → AllByRecursion (λ d. nat_cmp n d ≡ Less) cs → entered n p (listed_with f cs) ≡ entrant n p ∷ listed_with f cs
   entered_first [] up = refl
   entered_first (d ∷ cs) up = inner (f d) (entered_first cs up.1)
@@ -156,7 +149,7 @@ module _ (f g : ℕ → Option Code) (n : ℕ) (p : Code) (same : (d : ℕ) → 
             let up : AllByRecursion (λ d. nat_cmp n d ≡ Less) (keys_of rows) = subst (λ m. AllByRecursion (λ d. nat_cmp m d ≡ Less) (keys_of rows)) (sym own) later in
             ap (λ d. cons_option (option_map (entrant d) (g d)) (listed_with g (keys_of rows))) (sym own)
             ∙ ap (λ o. cons_option (option_map (entrant n) o) (listed_with g (keys_of rows))) here
-            ∙ ap (λ es. entrant n (lowered p (f n)) ∷ es) (above_same (keys_of rows) up)
+            ∙ ap (λ es. entrant n (lowered p (f n)) ∷ es) (above_same f g n same (keys_of rows) (raised n n (omega arith) (keys_of rows) up))
             ∙ entered_here (keys_of rows) up (f n)
             ∙ ap (λ d. entered n p (cons_option (option_map (entrant d) (f d)) (listed_with f (keys_of rows)))) own
         inner Greater is rest =
@@ -263,16 +256,12 @@ rising_numbers xs up i j d low inside = by_order (nat_cmp i j) (ranked i j (nat_
     at : (k : ℕ) → k < length xs → get_or numbers k 0 ≡ (get_or xs k d).number
     at k within = get_or-map (λ (e : Entrant). e.number) xs k d 0 within
 
-    below : (o : Ordering) → MatchOrdering o ((get_or xs i d).number < (get_or xs j d).number) ((get_or xs i d).number ≡ (get_or xs j d).number) ((get_or xs j d).number < (get_or xs i d).number) → o ≡ Less → (get_or xs i d).number ≤ (get_or xs j d).number
-    below Less w is = omega arith
-    below Equal w is = omega arith
-    below Greater w is = absurd (let differ : Greater ≡ Less = is in cc)
-
     by_order : (o : Ordering) → MatchOrdering o (i < j) (i ≡ j) (j < i) → (get_or xs i d).number ≤ (get_or xs j d).number
     by_order Less w =
-        below (nat_cmp (get_or xs i d).number (get_or xs j d).number) (ranked (get_or xs i d).number (get_or xs j d).number (nat_cmp (get_or xs i d).number (get_or xs j d).number) refl)
-        (ap (λ k. nat_cmp k (get_or xs j d).number) (sym (at i (omega arith))) ∙ ap (nat_cmp (get_or numbers i 0)) (sym (at j inside))
-        ∙ Less-from_sorted nat_cmp numbers i j 0 up w (subst (λ k. j < k) (sym long) inside))
+        let less : (get_or xs i d).number < (get_or xs j d).number = ranked (get_or xs i d).number (get_or xs j d).number Less
+        (sym (ap (λ k. nat_cmp k (get_or xs j d).number) (sym (at i (omega arith))) ∙ ap (nat_cmp (get_or numbers i 0)) (sym (at j inside))
+        ∙ Less-from_sorted nat_cmp numbers i j 0 up w (subst (λ k. j < k) (sym long) inside))) in
+        omega arith
     by_order Equal w = let same : get_or xs i d ≡ get_or xs j d = ap (λ k. get_or xs k d) w in let numbers_same : (get_or xs i d).number ≡ (get_or xs j d).number = ap (λ (e : Entrant). e.number) same in omega arith
     by_order Greater w = absurd (omega arith)
 

@@ -1,5 +1,5 @@
 -- Numbers and codes are ordered as their indices, so chains by indices can be read by numbers and codes.
-use Rattle.std.proofs.Common.{◌≡◌, ℕ, ◌<◌, Contains, length, IsTrue, Option, None, Some, IfSome, inl, inr, sym, ap, ◌∙◌, eq-eqb}
+use Rattle.std.proofs.Common.{◌≡◌, ℕ, Contains, Some, inl, inr, sym, ap, ◌∙◌, eq-eqb}
 use Rattle.std.specs.declared.cmp.Ordering.{Ordering}
 use Rattle.std.specs.declared.cmp.Ordering.TheVariants.{Less, Equal, Greater}
 use Rattle.std.specs.Ordering.{nat_cmp, ordering_reverse}
@@ -8,9 +8,10 @@ use Rattle.std.specs.Cmp.Lexicographic.{nat_list_cmp_total}
 use Rattle.std.proofs.lemmas.Bool.{cases_order}
 use Rattle.std.proofs.lemmas.Cmp.{tied_itself}
 use Rattle.std.proofs.lemmas.Map.Views.{exact_unsigned_eq}
+use Rattle.std.proofs.lemmas.Option.{IfSome_then}
 use Rattle.exam_plan.specs.Matching.{Plan, IsLawful}
 use Rattle.exam_rules.specs.Relations.{Code, Relations, code_cmp}
-use Rattle.exam_rules.specs.Seatings.{indexed_seating, open_halls}
+use Rattle.exam_rules.specs.Seatings.{indexed_seating}
 use Rattle.exam_rules.specs.Names.{naming, number_at, hall_at, hall_index, ListsRise, SeatsInOpenHalls}
 use Rattle.exam_rules.proofs.Naming.{renames, numbers_rise, codes_rise, fit_member, fit_open, hall_known}
 use Rattle.exam_plan.proofs.ChainNames.{Follows, AreKnown}
@@ -38,15 +39,7 @@ follows r s up = record {
 -- a plan that seats in open halls alone seats in halls with names
 pub all_known : (r : Relations) (s : Code) (up : ListsRise r s) (p : Plan ℕ ℕ) → SeatsInOpenHalls r s p
     → AreKnown (naming r s) (renames r s up) (follows r s up) p
-all_known r s up p within i = inner (p i) (within i)
-  where
-    inner : (o : Option ℕ) → IfSome o (λ j. j < length (open_halls r s)) → IfSome o (λ j. hall_index r s (hall_at r s j) ≡ Some j)
-    inner None w = tt
-    inner (Some j) w = hall_known r s up j w
+all_known r s up p within i = IfSome_then (p i) (within i) (hall_known r s up)
 
 pub lawful_seats : (r : Relations) (s : Code) (p : Plan ℕ ℕ) → IsLawful (indexed_seating r s) p → SeatsInOpenHalls r s p
-lawful_seats r s p lawful i = inner (p i) (lawful.fitting i)
-  where
-    inner : (o : Option ℕ) → IfSome o (λ j. IsTrue ((indexed_seating r s).fits i j)) → IfSome o (λ j. j < length (open_halls r s))
-    inner None fit = tt
-    inner (Some j) fit = fit_open r s i j fit
+lawful_seats r s p lawful i = IfSome_then (p i) (lawful.fitting i) (fit_open r s i)

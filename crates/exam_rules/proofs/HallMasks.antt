@@ -2,11 +2,12 @@
 use Rattle.std.proofs.Common.{◌≡◌, ℕ, zero, suc, ◌+◌, ◌<◌, ◌≤◌, Bool, true, false, cond, ◌||◌, List, [], ◌∷◌, ◌++◌, length, map, get_or, drop, drop-cons, append_assoc, append-nil, add-one, nat_eq, refl, sym, ap, subst, ◌∙◌, inl, inr, arith}
 use Rattle.std.specs.Prelude.{All, filter}
 use Rattle.std.specs.List.{range_with_len}
-use Rattle.std.proofs.lemmas.Bool.{cases_Bool, or_cases, ne_eqb, eq-eqb, eqb-true}
+use Rattle.std.proofs.lemmas.Bool.{cases_Bool, or_cases, ne_eqb, eq-eqb, eqb-true, or_left}
 use Rattle.std.proofs.lemmas.List.{drop_all, map-append}
 use Rattle.std.proofs.lemmas.List.Elements.{All-push}
 use Rattle.exam_plan.specs.HallSets.{holds, halls_below, set_of_mask, sets_of}
 use Rattle.exam_plan.proofs.Rising.{next_filter}
+use Rattle.exam_plan.proofs.Small.{none_kept}
 use Rattle.exam_rules.specs.Seatings.{positions}
 use Rattle.exam_rules.proofs.Ranking.{map_step, map_end}
 
@@ -20,16 +21,7 @@ same_below P Q (suc n) same =
 
 -- no place is in a set of none
 pub no_places : (n mask : ℕ) → ((h : ℕ) → holds mask h ≡ false) → halls_below n mask ≡ []
-no_places zero mask none = refl
-no_places (suc n) mask none = next_filter (holds mask) n false (none n) ∙ ap (λ t. t ++ []) (no_places n mask none)
-
-or_first : (a b : Bool) → a ≡ true → a || b ≡ true
-or_first true b e = refl
-or_first false b e = absurd (let f : false ≡ true = e in cc)
-
-or_second : (a b : Bool) → a ≡ false → a || b ≡ b
-or_second true b e = absurd (let f : true ≡ false = e in cc)
-or_second false b e = refl
+no_places n mask none = none_kept (holds mask) (range_with_len 0 n) none
 
 module _ {A : Type 0} (p : A → Bool) where
   -- the places so far, which make the whole with what is left
@@ -62,8 +54,8 @@ module _ {A : Type 0} (p : A → Bool) where
       → ArePlaces xs (suc n) more
   places_more xs n d mask more below e tests so_far =
       step xs n d mask more true below e so_far
-      (next_filter (holds more) n true (tests n ∙ or_first (nat_eq n n) (holds mask n) (eq-eqb n n refl))
-      ∙ ap (λ t. t ++ n ∷ []) (same_below (holds more) (holds mask) n (λ h l. tests h ∙ or_second (nat_eq h n) (holds mask h) (ne_eqb h n (λ s. omega arith)))))
+      (next_filter (holds more) n true (tests n ∙ or_left (nat_eq n n) (holds mask n) (eq-eqb n n refl))
+      ∙ ap (λ t. t ++ n ∷ []) (same_below (holds more) (holds mask) n (λ h l. tests h ∙ ap (λ t. t || holds mask h) (ne_eqb h n (λ s. omega arith)))))
       (λ h held. elim (or_cases (nat_eq h n) (holds mask h) (sym (tests h) ∙ held)) [
         | inl s ↦ (let same : h ≡ n = eqb-true h n s in omega arith)
         | inr m ↦ (let l = so_far.within h m in omega (arith, l))

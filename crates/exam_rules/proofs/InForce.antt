@@ -1,5 +1,7 @@
 -- Which facts decide the arrangement in force.
 use Rattle.std.proofs.Common.{◌≡◌, ℕ, ◌==◌, ◌&&◌, ◌||◌, Bool, true, false, cond, List, [], ◌∷◌, map, filter, is_some, Option, None, Some, refl, sym, ap, ◌∙◌}
+use Rattle.std.proofs.lemmas.Bool.{and_parts}
+use Rattle.std.proofs.Math.Bool.{and-false}
 use Rattle.std.specs.List.{AllByRecursion, cons_option, filter_map, list_any}
 use Rattle.std.specs.Option.{option_map, option_and_then, option_or, unwrap_or}
 use Rattle.std.specs.Ordering.{nat_cmp}
@@ -8,7 +10,8 @@ use Rattle.exam_rules.specs.declared.rows.Arrangement.{Arrangement}
 use Rattle.exam_rules.specs.declared.standing.StandingGrant.{StandingGrant}
 use Rattle.exam_rules.specs.Relations.{Code, Relations, appeal_cmp, has_row, is_row_of, row_at, same_code}
 use Rattle.exam_rules.specs.Sessions.{arrangement_by, arrangement_in_force, asked_arrangement, granted_arrangement, granted_arrangement_in, has_standing_grant, head_of, is_granted, is_granted_appeal, is_marked, is_standing, no_arrangement, session_day, standing_grant, standing_grants, standing_grants_in}
-use Rattle.exam_rules.proofs.Together.{and_left, and_right, filter_and}
+use Rattle.exam_rules.proofs.Together.{filter_and}
+use Rattle.exam_plan.proofs.Small.{none_kept}
 
 abbrev pub Appeals : Type 0
 Appeals = List ((ℕ × Code) × Appeal)
@@ -73,10 +76,6 @@ all_of_none {X} P q (x ∷ xs) none = inner (q x) none (all_of_none P q xs)
     inner true none rest = absurd (let e : true ≡ false = none in cc)
     inner false none rest = rest none
 
-none_left : {X : Type 0} (p : X → Bool) (xs : List X) → ((x : X) → p x ≡ false) → filter p xs ≡ []
-none_left p [] off = refl
-none_left p (x ∷ xs) off = rw (off x) (none_left p xs off)
-
 made_of_map : {X Y Z : Type 0} (f : X → Y) (made : Y → Option Z) (xs : List X) → filter_map made (map f xs) ≡ filter_map (λ x. made (f x)) xs
 made_of_map f made [] = refl
 made_of_map f made (x ∷ xs) = ap (cons_option (made (f x))) (made_of_map f made xs)
@@ -101,8 +100,8 @@ grants_alone s c appeals =
     none : (a : (ℕ × Code) × Appeal) → is_granted_arrangement c a ≡ false → is_granted_appeal s c a ≡ true → wanted_in a ≡ None
     none a off on =
         not_asked (a.0.0 == c) (is_granted a.1.status) (wanted_in a) off
-        (and_left (a.0.0 == c) (same_code a.1.session s && is_granted a.1.status) on)
-        (and_right (same_code a.1.session s) (is_granted a.1.status) (and_right (a.0.0 == c) (same_code a.1.session s && is_granted a.1.status) on))
+        (and_parts (a.0.0 == c) (same_code a.1.session s && is_granted a.1.status) on).0
+        (and_parts (same_code a.1.session s) (is_granted a.1.status) (and_parts (a.0.0 == c) (same_code a.1.session s && is_granted a.1.status) on).1).1
 
 -- what an appeal gives, by its session's date and what it asks
 abbrev given : Appeal → Option ℕ → Option Arrangement → Option StandingGrant
@@ -119,8 +118,8 @@ standing_alone r c appeals = left_out (is_granted_arrangement c) (is_standing r 
     none a off on =
         ap (given a.1 (session_day r a.1.session))
         (not_asked (a.0.0 == c) (is_granted a.1.status) (wanted_in a) off
-        (and_left (a.0.0 == c) (is_granted a.1.status && is_marked r a.0) on)
-        (and_left (is_granted a.1.status) (is_marked r a.0) (and_right (a.0.0 == c) (is_granted a.1.status && is_marked r a.0) on)))
+        (and_parts (a.0.0 == c) (is_granted a.1.status && is_marked r a.0) on).0
+        (and_parts (is_granted a.1.status) (is_marked r a.0) (and_parts (a.0.0 == c) (is_granted a.1.status && is_marked r a.0) on).1).0)
 
 -- candidates with the same appeals have the same grants
 pub grants_of_own : (c : ℕ) (one other : Appeals) → filter (is_row_of c) other ≡ filter (is_row_of c) one → filter (is_granted_arrangement c) other ≡ filter (is_granted_arrangement c) one
@@ -183,16 +182,12 @@ module _ (r t : Relations) (c : ℕ) where
 
 module _ (r : Relations) (unmarked : r.standing ≡ []) where
   pub no_standing_grants : (c : ℕ) → standing_grants r c ≡ []
-  no_standing_grants c = ap (filter_map (λ (a : (ℕ × Code) × Appeal). standing_grant r a.1)) (none_left (is_standing r c) r.appeals off)
+  no_standing_grants c = ap (filter_map (λ (a : (ℕ × Code) × Appeal). standing_grant r a.1)) (none_kept (is_standing r c) r.appeals off)
     where
-      and_off : (b : Bool) → (b && false) ≡ false
-      and_off true = refl
-      and_off false = refl
-
       off : (a : (ℕ × Code) × Appeal) → is_standing r c a ≡ false
       off a =
           ap (λ marks. (a.0.0 == c) && (is_granted a.1.status && has_row appeal_cmp marks a.0)) unmarked
-          ∙ ap (λ b. (a.0.0 == c) && b) (and_off (is_granted a.1.status)) ∙ and_off (a.0.0 == c)
+          ∙ ap (λ b. (a.0.0 == c) && b) (and-false (is_granted a.1.status)) ∙ and-false (a.0.0 == c)
 
   -- the arrangement in force is the one granted for the session, or else the imported one, or else none
   pub in_force_unmarked : (s : Code) (c : ℕ) → arrangement_in_force r s c ≡ unwrap_or (option_or (granted_arrangement r s c) (row_at nat_cmp r.arrangements c)) no_arrangement

@@ -10,16 +10,15 @@ use Rattle.std.specs.Cmp.Lexicographic.{texts_ties}
 use Rattle.std.proofs.lemmas.List.{length-append, length-map, get_or-map}
 use Rattle.std.proofs.lemmas.Option.{slice_get_read, slice_get-get_or}
 use Rattle.std.proofs.Math.Seq.{get_or-append_seam}
-use Rattle.std.specs.declared.cmp.Ordering.TheVariants.{Less, Equal}
+use Rattle.std.specs.declared.cmp.Ordering.TheVariants.{Less}
 use Rattle.std.specs.Ordering.{nat_cmp}
-use Rattle.std.specs.Cmp.{nat_cmp_total}
 use Rattle.std.specs.List.Sorted.{IsStrictlySortedBy}
-use Rattle.std.proofs.lemmas.Cmp.{tied_itself}
+use Rattle.std.proofs.lemmas.Cmp.{ranked}
 use Rattle.std.proofs.lemmas.List.{get_or_append_left}
-use Rattle.std.proofs.lemmas.List.Elements.{All-cons, filter-append, filter_map-append}
+use Rattle.std.proofs.lemmas.List.Elements.{All-cons, filter-append, filter_map-append, filter_agree}
 use Rattle.std.proofs.lemmas.List.Kept.{IsStrictlySortedBy-filter}
 use Rattle.std.proofs.lemmas.Map.Keys.{Less-from_sorted}
-use Rattle.std.proofs.lemmas.Map.Views.{exact_unsigned_eq}
+use Rattle.std.proofs.lemmas.Bool.{ne_eqb}
 use Rattle.exam_rules.specs.declared.rows.Entry.{Entry}
 use Rattle.exam_rules.specs.declared.rows.Paper.{Paper}
 use Rattle.exam_rules.specs.Relations.{Code, Relations, code_cmp, same_code, row_at, is_row_of, leading}
@@ -100,12 +99,8 @@ module _ (r : Relations) (n : ℕ) where
       split None = refl
       split (Some t) = inner (same_code t s)
 
-pub below_is_other : (m n : ℕ) → nat_cmp m n ≡ Less → nat_eq m n ≡ false
-below_is_other m n less = inner (nat_eq m n) refl
-  where
-    inner : (b : Bool) → nat_eq m n ≡ b → b ≡ false
-    inner true e = absurd (let same : m ≡ n = exact_unsigned_eq m n e in let tied : Less ≡ Equal = sym less ∙ ap (λ k. nat_cmp m k) (sym same) ∙ tied_itself nat_cmp_total m in cc)
-    inner false e = refl
+below_is_other : (m n : ℕ) → nat_cmp m n ≡ Less → nat_eq m n ≡ false
+below_is_other m n less = ne_eqb m n (λ s. let l : m < n = ranked m n Less (sym less) in omega arith)
 
 -- if numbers rise, one that comes later is not the last so far
 ends_before : (xs : List Entrant) (rest : List ℕ) (n : ℕ) → IsStrictlySortedBy nat_cmp (map (λ (e : Entrant). e.number) xs ++ n ∷ rest) → ends_with xs n ≡ false
@@ -159,16 +154,11 @@ module _ (least : ℕ → Option Code) where
           step ∙ ap (with_last (entrant n p)) is ∙ ap (λ t. cond t (listed_with done) (listed_with done ++ entrant n p ∷ [])) other ∙ ap (λ o. listed_with done ++ cons_option (option_map (entrant n) o) []) (sym e)
       inner None e step = step ∙ is ∙ sym (append-nil (listed_with done)) ∙ ap (λ o. listed_with done ++ cons_option (option_map (entrant n) o) []) (sym e)
 
--- a test that is the same of each lets the same pass
-filter_same : (p q : ℕ → Bool) → ((c : ℕ) → p c ≡ q c) → (cs : List ℕ) → filter p cs ≡ filter q cs
-filter_same p q same [] = refl
-filter_same p q same (c ∷ cs) = rw (same c) (ap (λ t. cond (q c) (c ∷ t) t) (filter_same p q same cs))
-
 -- the numbers of those who are listed are the members
 pub entrants_are_members : (r : Relations) (s : Code) → map (λ (e : Entrant). e.number) (entrants r s) ≡ members r s
 entrants_are_members r s =
     listed_numbers (least_live_paper r s) (keys_of r.candidates)
-    ∙ filter_same (λ c. is_some (least_live_paper r s c)) (has_live_entry r s) (λ c. sym (any_is (is_live_entry r s c) (λ (e : (ℕ × Code) × Entry). e.0.1) r.entries)) (keys_of r.candidates)
+    ∙ filter_agree (λ c. is_some (least_live_paper r s c)) (has_live_entry r s) (λ c. sym (any_is (is_live_entry r s c) (λ (e : (ℕ × Code) × Entry). e.0.1) r.entries)) (keys_of r.candidates)
 
 -- and each is listed with the least of their live papers
 pub entrants_sit : (r : Relations) (s : Code) → All (λ (e : Entrant). least_live_paper r s e.number ≡ Some e.paper) (entrants r s)

@@ -1,5 +1,5 @@
 -- Desk numbers by numbers and codes: everybody who sits in a hall has a desk of their own in it.
-use Rattle.std.proofs.Common.{◌≡◌, ℕ, ◌<◌, ◌≤◌, IsTrue, length, Option, Some, IsSome, IfSome, is_some, refl, sym, ap, subst, ◌∙◌}
+use Rattle.std.proofs.Common.{◌≡◌, ℕ, ◌<◌, ◌≤◌, IsTrue, length, Some, is_some, sym, ap, subst, ◌∙◌}
 use Rattle.std.specs.Option.{option_and_then}
 use Rattle.std.proofs.Math.Path.{fun_ext}
 use Rattle.std.proofs.lemmas.List.{length-map}
@@ -15,14 +15,8 @@ use Rattle.exam_rules.proofs.Naming.{renames, index_below, order_same}
 use Rattle.exam_rules.proofs.Following.{follows}
 use Rattle.exam_plan.proofs.Carrying.{member_index, desk_number-named}
 use Rattle.exam_plan.proofs.KeptNames.{name_of_index, seat_index}
+use Rattle.exam_plan.proofs.Small.{some_value, value_at}
 use Rattle.exam_rules.proofs.Ranking.{is_problem}
-
-known : {A : Type 0} (o : Option A) → IsSome o → (x : A) × (o ≡ Some x)
-known {A} o some = inner o some
-  where
-    inner : (o : Option A) → IsSome o → (x : A) × (o ≡ Some x)
-    inner (Some x) some = (x, refl)
-    inner o some = absurd (cc)
 
 module _ (r : Relations) (s : Code) (up : ListsRise r s) (q : Plan ℕ Code) (lawful : IsLawful (seating r s) q) where
   lawful_indexed : IsLawful (indexed_seating r s) (indexed_plan r s q)
@@ -42,8 +36,8 @@ module _ (r : Relations) (s : Code) (up : ListsRise r s) (q : Plan ℕ Code) (la
   place : (c : ℕ) (h : Code) → q c ≡ Some h → Place c h
   place c h e =
       let member = member_index (naming r s) (renames r s up) c (lawful.members c (ap is_some e)) in
-      let fit : IsTrue (fits r s c h) = subst (λ (o : Option Code). IfSome o (λ k. IsTrue (fits r s c k))) e (lawful.fitting c) in
-      let hall = known (hall_index r s h) ((renames r s up).known_fit c h fit) in
+      let fit : IsTrue (fits r s c h) = value_at (λ k. IsTrue (fits r s c k)) (q c) h e (lawful.fitting c) in
+      let hall = some_value (hall_index r s h) ((renames r s up).known_fit c h fit) in
       record {
         index = member.0;
         hall = hall.0;

@@ -1,25 +1,28 @@
 -- The problem by indices is the seating by numbers and codes.
 use Rattle.std.proofs.Common.{◌≡◌, ℕ, zero, suc, ◌+◌, ◌<◌, ◌≤◌, Bool, true, false, cond, not, ◌&&◌, ◌||◌, IsTrue, List, [], ◌∷◌, length, map, filter, get_or, nat_eq, Contains, Option, None, Some, IsSome, refl, sym, ap, subst, ◌∙◌, inl, inr, arith}
 use Rattle.std.specs.declared.cmp.Ordering.{Ordering}
-use Rattle.std.specs.declared.cmp.Ordering.TheVariants.{Less, Equal, Greater}
-use Rattle.std.specs.Ordering.{nat_cmp, ordering_then, is_eq, MatchOrdering}
-use Rattle.std.specs.Cmp.{IsTotalOrder, nat_cmp_total}
+use Rattle.std.specs.declared.cmp.Ordering.TheVariants.{Less, Equal}
+use Rattle.std.specs.Ordering.{nat_cmp, ordering_then, is_eq}
+use Rattle.std.specs.Cmp.{IsTotalOrder, nat_cmp_total, Equal-is}
 use Rattle.std.specs.Cmp.Lexicographic.{nat_list_cmp_total, texts_ties}
 use Rattle.std.specs.List.{AllByRecursion, list_any, range_with_len}
 use Rattle.std.specs.Map.{keys_of}
 use Rattle.std.specs.Option.{option_map, option_and_then}
 use Rattle.std.specs.List.Sorted.{IsStrictlySortedBy}
 use Rattle.std.specs.Prelude.{nat_lt}
-use Rattle.std.proofs.lemmas.Cmp.{tied_itself, ranked}
-use Rattle.std.proofs.lemmas.Bool.{cases_lt}
+use Rattle.std.proofs.lemmas.Cmp.{tied_itself, ranked, nat_eq_equiv}
+use Rattle.std.proofs.lemmas.Bool.{cases_lt, and_parts, eq-eqb, false_from_ne_true, ne_eqb, or_right}
 use Rattle.std.proofs.lemmas.List.{get_or-map, get_or_past, get_or_default, length-map}
 use Rattle.std.proofs.lemmas.List.FromFn.{fill_by_all, length-range_with_len, get_or-range_with_len}
 use Rattle.std.proofs.lemmas.List.Elements.{All-from_recursion}
 use Rattle.std.proofs.lemmas.Map.Keys.{sorted_head, sorted_tail, Less-from_sorted}
 use Rattle.std.proofs.lemmas.Map.Lookups.{exact_bytes}
 use Rattle.std.proofs.lemmas.Map.Views.{exact_unsigned_eq}
+use Rattle.std.proofs.lemmas.Option.{same_Some}
 use Rattle.exam_plan.specs.Problems.{ranks_before}
 use Rattle.exam_plan.proofs.Renaming.{Renames}
+use Rattle.exam_plan.proofs.Seatings.{any_below}
+use Rattle.exam_plan.proofs.Small.{both_tie}
 use Rattle.exam_rules.specs.declared.rows.Hall.{Hall}
 use Rattle.exam_rules.specs.declared.rows.Opening.{Opening}
 use Rattle.exam_rules.specs.declared.fit.Terms.{Terms}
@@ -30,26 +33,18 @@ use Rattle.exam_rules.specs.Seatings.{positions, fits, desks, open_halls, fittin
 use Rattle.exam_rules.specs.Names.{naming, first_place, number_at, hall_at, index_of, hall_index, ListsRise}
 use Rattle.exam_rules.proofs.Places.{within}
 use Rattle.exam_rules.proofs.Ranking.{all_there, order_is_rank}
-use Rattle.exam_rules.proofs.Together.{and_left, and_right}
-
-some_same : {A : Type 0} (x y : A) → Some x ≡ Some y → x ≡ y
-some_same x y e = cc
 
 -- ---- codes are distinct
 
 pub same_code_exact : (h k : Code) → same_code h k ≡ true → h ≡ k
-same_code_exact h k e = exact_bytes h k (inner (code_cmp h k) (sym (texts_ties h k) ∙ e))
-  where
-    inner : (o : Ordering) → is_eq o ≡ true → o ≡ Equal
-    inner Less t = absurd (let f : false ≡ true = t in cc)
-    inner Equal t = refl
-    inner Greater t = absurd (let f : false ≡ true = t in cc)
+same_code_exact h k e = exact_bytes h k ((Equal-is (code_cmp h k)).0 (sym (texts_ties h k) ∙ e))
 
 pub same_code_itself : (h : Code) → same_code h h ≡ true
 same_code_itself h = texts_ties h h ∙ ap is_eq (tied_itself nat_list_cmp_total h)
 
-number_itself : (n : ℕ) → nat_eq n n ≡ true
-number_itself n = grind arith
+-- what is greater is another
+pub later_is_other : {A : Type 0} (same : A → A → Bool) → ((x y : A) → same x y ≡ true → x ≡ y) → (cmp : A → A → Ordering) → IsTotalOrder cmp → (x y : A) → cmp x y ≡ Less → same y x ≡ false
+later_is_other same exact cmp o x y less = false_from_ne_true (same y x) (λ t. let tied : Less ≡ Equal = sym less ∙ ap (cmp x) (exact y x t) ∙ tied_itself o x in cc)
 
 -- ---- the place of an element
 
@@ -65,8 +60,15 @@ module _ {A : Type 0} (same : A → A → Bool) (exact : (x y : A) → same x y 
       inner : (b : Bool) → same h x ≡ b → cond b (Some n) (first_place (same h) (n + 1) xs) ≡ Some i
           → (first_place (same h) (n + 1) xs ≡ Some i → (k : ℕ) × (i ≡ (n + 1) + k) × (k < length xs) × (get_or xs k d ≡ h))
           → (k : ℕ) × (i ≡ n + k) × (k < length (x ∷ xs)) × (get_or (x ∷ xs) k d ≡ h)
-      inner true t f rest = (0, (let g : n ≡ i = some_same n i f in omega arith), omega arith, sym (exact h x t))
+      inner true t f rest = (0, (let g : n ≡ i = same_Some n i f in omega arith), omega arith, sym (exact h x t))
       inner false t f rest = later (rest f)
+
+  -- in a whole list the place that is given is where the element is
+  place_at : (h : A) (xs : List A) (d : A) (i : ℕ) → first_place (same h) 0 xs ≡ Some i → (i < length xs) × (get_or xs i d ≡ h)
+  place_at h xs d i e =
+      let w = place_is h 0 xs d i e in
+      let at : i ≡ w.0 = (let is : i ≡ 0 + w.0 = w.1 in omega arith) in
+      (subst (λ t. t < length xs) (sym at) w.2, ap (λ t. get_or xs t d) at ∙ w.3)
 
   -- each element of a rising list is found at its place
   pub place_known : (cmp : A → A → Ordering) → IsTotalOrder cmp → (n : ℕ) (xs : List A) (d : A) (k i : ℕ) → IsStrictlySortedBy cmp xs → k < length xs → i ≡ n + k → first_place (same (get_or xs k d)) n xs ≡ Some i
@@ -74,15 +76,8 @@ module _ {A : Type 0} (same : A → A → Bool) (exact : (x y : A) → same x y 
   place_known cmp o n (x ∷ xs) d zero i up below e = rw (itself x) (ap Some (omega arith))
   place_known cmp o n (x ∷ xs) d (suc k) i up below e =
       let less : cmp x (get_or xs k d) ≡ Less = All-from_recursion (λ y. cmp x y ≡ Less) xs (sorted_head cmp x xs up) k d (omega arith) in
-      let other : same (get_or xs k d) x ≡ false = apart (get_or xs k d) less in
+      let other : same (get_or xs k d) x ≡ false = later_is_other same exact cmp o x (get_or xs k d) less in
       rw other (place_known cmp o (n + 1) xs d k i (sorted_tail cmp x xs up) (omega arith) (omega arith))
-    where
-      apart : (y : A) → cmp x y ≡ Less → same y x ≡ false
-      apart y less = inner (same y x) refl
-        where
-          inner : (b : Bool) → same y x ≡ b → b ≡ false
-          inner true t = absurd (let f : Less ≡ Equal = sym less ∙ ap (cmp x) (exact y x t) ∙ tied_itself o x in cc)
-          inner false t = refl
 
   -- an element of the list has a place
   pub place_exists : (h : A) (n : ℕ) (xs : List A) → list_any (same h) xs ≡ true → IsSome (first_place (same h) n xs)
@@ -99,15 +94,8 @@ none_below : {A : Type 0} (p : A → Bool) (m n : ℕ) (xs : List A) → m < n �
 none_below p m n [] h = refl
 none_below p m n (x ∷ xs) h = inner (p x) (none_below p m (n + 1) xs (omega arith))
   where
-    differ : (m n : ℕ) → m < n → nat_eq m n ≡ false
-    differ m n h = test (nat_eq m n) refl
-      where
-        test : (b : Bool) → nat_eq m n ≡ b → b ≡ false
-        test true e = absurd (let f : m ≡ n = exact_unsigned_eq m n e in omega arith)
-        test false e = refl
-
     inner : (b : Bool) → list_any (nat_eq m) (positions p (n + 1) xs) ≡ false → list_any (nat_eq m) (cond b (n ∷ positions p (n + 1) xs) (positions p (n + 1) xs)) ≡ false
-    inner true rest = rw (differ m n h) rest
+    inner true rest = rw (ne_eqb m n (λ s. omega arith)) rest
     inner false rest = rest
 
 -- a place is listed exactly if the element there passes
@@ -116,7 +104,7 @@ any_place p n [] d k m below e = absurd (omega arith)
 any_place p n (x ∷ xs) d zero m below e = inner (p x) (none_below p m (n + 1) xs (omega arith))
   where
     here : nat_eq m n ≡ true
-    here = let f : m ≡ n = omega arith in ap (λ t. nat_eq m t) (sym f) ∙ number_itself m
+    here = eq-eqb m n (omega arith)
 
     inner : (b : Bool) → list_any (nat_eq m) (positions p (n + 1) xs) ≡ false → list_any (nat_eq m) (cond b (n ∷ positions p (n + 1) xs) (positions p (n + 1) xs)) ≡ b
     inner true rest = rw here refl
@@ -124,23 +112,11 @@ any_place p n (x ∷ xs) d zero m below e = inner (p x) (none_below p m (n + 1) 
 any_place p n (x ∷ xs) d (suc k) m below e = inner (p x) (any_place p (n + 1) xs d k m (omega arith) (omega arith))
   where
     there : nat_eq m n ≡ false
-    there = test (nat_eq m n) refl
-      where
-        test : (b : Bool) → nat_eq m n ≡ b → b ≡ false
-        test true g = absurd (let f : m ≡ n = exact_unsigned_eq m n g in omega arith)
-        test false g = refl
+    there = ne_eqb m n (λ s. omega arith)
 
     inner : (b : Bool) → list_any (nat_eq m) (positions p (n + 1) xs) ≡ p (get_or xs k d) → list_any (nat_eq m) (cond b (n ∷ positions p (n + 1) xs) (positions p (n + 1) xs)) ≡ p (get_or xs k d)
     inner true rest = rw there rest
     inner false rest = rest
-
-any_bound : (b j : ℕ) (ys : List ℕ) → AllByRecursion (λ i. i < b) ys → list_any (nat_eq j) ys ≡ true → j < b
-any_bound b j [] a e = absurd (let f : false ≡ true = e in cc)
-any_bound b j (y ∷ ys) a e = inner (nat_eq j y) refl e (any_bound b j ys a.1)
-  where
-    inner : (t : Bool) → nat_eq j y ≡ t → (t || list_any (nat_eq j) ys) ≡ true → (list_any (nat_eq j) ys ≡ true → j < b) → j < b
-    inner true t f rest = let g : j ≡ y = exact_unsigned_eq j y t in let h : y < b = a.0 in omega arith
-    inner false t f rest = rest f
 
 -- ---- what fits is opened
 
@@ -151,13 +127,6 @@ lookup_any s h (o ∷ es) e = inner (is_eq (opening_cmp (s, h) o.0)) refl e (loo
     rest_of : List Code
     rest_of = map (λ (o : (Code × Code) × Opening). o.0.1) (filter (λ o. same_code o.0.0 s) es)
 
-    both : (a b : Ordering) → is_eq (ordering_then a b) ≡ true → (a ≡ Equal) × (b ≡ Equal)
-    both Less b e = absurd (let f : false ≡ true = e in cc)
-    both Equal Less e = absurd (let f : false ≡ true = e in cc)
-    both Equal Equal e = (refl, refl)
-    both Equal Greater e = absurd (let f : false ≡ true = e in cc)
-    both Greater b e = absurd (let f : false ≡ true = e in cc)
-
     found : (code_cmp s o.0.0 ≡ Equal) × (code_cmp h o.0.1 ≡ Equal) → list_any (same_code h) (map (λ (o : (Code × Code) × Opening). o.0.1) (filter (λ o. same_code o.0.0 s) (o ∷ es))) ≡ true
     found w =
         let own : same_code o.0.0 s ≡ true = ap (λ t. same_code t s) (sym (exact_bytes s o.0.0 w.0)) ∙ same_code_itself s in
@@ -165,16 +134,12 @@ lookup_any s h (o ∷ es) e = inner (is_eq (opening_cmp (s, h) o.0)) refl e (loo
         rw (own, is) refl
 
     skipped : (b : Bool) → list_any (same_code h) rest_of ≡ true → list_any (same_code h) (map (λ (o : (Code × Code) × Opening). o.0.1) (cond b (o ∷ filter (λ o. same_code o.0.0 s) es) (filter (λ o. same_code o.0.0 s) es))) ≡ true
-    skipped true rest = late (same_code h o.0.1) rest
-      where
-        late : (c : Bool) → list_any (same_code h) rest_of ≡ true → (c || list_any (same_code h) rest_of) ≡ true
-        late true rest = refl
-        late false rest = rest
+    skipped true rest = or_right (same_code h o.0.1) (list_any (same_code h) rest_of) rest
     skipped false rest = rest
 
     inner : (b : Bool) → is_eq (opening_cmp (s, h) o.0) ≡ b → IsSome (cond b (Some o.1) (row_at opening_cmp es (s, h))) → (IsSome (row_at opening_cmp es (s, h)) → list_any (same_code h) rest_of ≡ true)
         → list_any (same_code h) (map (λ (o : (Code × Code) × Opening). o.0.1) (filter (λ o. same_code o.0.0 s) (o ∷ es))) ≡ true
-    inner true t f rest = found (both (code_cmp s o.0.0) (code_cmp h o.0.1) t)
+    inner true t f rest = found (both_tie (code_cmp s o.0.0) (code_cmp h o.0.1) ((Equal-is (opening_cmp (s, h) o.0)).0 t))
     inner false t f rest = skipped (same_code o.0.0 s) (rest f)
 
 -- the open halls of a session rise, if the openings are in order
@@ -222,7 +187,7 @@ module _ (r : Relations) (s : Code) where
   pub fits_open : (c : ℕ) (h : Code) → IsTrue (fits r s c h) → list_any (same_code h) (open_halls r s) ≡ true
   fits_open c h e =
       lookup_any s h r.openings (opened h (suited (sitting_terms r s c) (opened_room r s h)
-      (and_left (suits_opened (sitting_terms r s c) (opened_room r s h)) (not (list_any (same_code h) (barred_halls r s c))) (and_right (has_live_entry r s c) (suits_opened (sitting_terms r s c) (opened_room r s h) && not (list_any (same_code h) (barred_halls r s c))) e))))
+      (and_parts (suits_opened (sitting_terms r s c) (opened_room r s h)) (not (list_any (same_code h) (barred_halls r s c))) (and_parts (has_live_entry r s c) (suits_opened (sitting_terms r s c) (opened_room r s h) && not (list_any (same_code h) (barred_halls r s c))) e).1).0))
 
   -- ---- the renaming
 
@@ -234,23 +199,17 @@ module _ (r : Relations) (s : Code) where
 
   -- the halls of a row are open halls
   row_bound : (i j : ℕ) → list_any (nat_eq j) (get_or rows i []) ≡ true → (i < length (members r s)) × (j < length (open_halls r s))
-  row_bound i j e = elim (cases_lt i (length (members r s))) [ inl below ↦ (below, any_bound (length (open_halls r s)) j (fitting_places r s (number_at r s i) (open_halls r s)) (within (fits r s (number_at r s i)) 0 (length (open_halls r s)) (open_halls r s) (omega arith)) (sym (ap (list_any (nat_eq j)) (row_is i below)) ∙ e)) | inr past ↦ absurd (empty past) ]
+  row_bound i j e = elim (cases_lt i (length (members r s))) [ inl below ↦ (below, any_below j (length (open_halls r s)) (fitting_places r s (number_at r s i) (open_halls r s)) (within (fits r s (number_at r s i)) 0 (length (open_halls r s)) (open_halls r s) (omega arith)) (sym (ap (list_any (nat_eq j)) (row_is i below)) ∙ e)) | inr past ↦ absurd (empty past) ]
     where
       empty : length (members r s) ≤ i → ⊥
       empty past = let long : length rows ≡ length (members r s) = length-map (members r s) (λ c. fitting_places r s c (open_halls r s)) in
           let none : get_or rows i [] ≡ [] = get_or_past rows i [] (omega arith) in let f : false ≡ true = sym (ap (list_any (nat_eq j)) none) ∙ e in cc
 
   number_place : (c i : ℕ) → index_of r s c ≡ Some i → (i < length (members r s)) × (number_at r s i ≡ c)
-  number_place c i e =
-      let w : (k : ℕ) × (i ≡ 0 + k) × (k < length (members r s)) × (get_or (members r s) k 0 ≡ c) = place_is nat_eq exact_unsigned_eq number_itself c 0 (members r s) 0 i e in
-      let k : ℕ = w.0 in let is : i ≡ 0 + k = w.1 in let same : i ≡ k = omega arith in
-      (subst (λ t. t < length (members r s)) (sym same) w.2, ap (number_at r s) same ∙ w.3)
+  number_place c i e = place_at nat_eq exact_unsigned_eq nat_eq_equiv.refl c (members r s) 0 i e
 
   pub hall_place : (h : Code) (j : ℕ) → hall_index r s h ≡ Some j → (j < length (open_halls r s)) × (hall_at r s j ≡ h)
-  hall_place h j e =
-      let w : (k : ℕ) × (j ≡ 0 + k) × (k < length (open_halls r s)) × (get_or (open_halls r s) k [] ≡ h) = place_is same_code same_code_exact same_code_itself h 0 (open_halls r s) [] j e in
-      let k : ℕ = w.0 in let is : j ≡ 0 + k = w.1 in let same : j ≡ k = omega arith in
-      (subst (λ t. t < length (open_halls r s)) (sym same) w.2, ap (hall_at r s) same ∙ w.3)
+  hall_place h j e = place_at same_code same_code_exact same_code_itself h (open_halls r s) [] j e
 
   length_members : length (range_with_len 0 (length rows)) ≡ length (members r s)
   length_members = length-range_with_len 0 (length rows) ∙ length-map (members r s) (λ c. fitting_places r s c (open_halls r s))
@@ -270,17 +229,25 @@ module _ (r : Relations) (s : Code) where
       let at : get_or (range_with_len 0 (length rows)) i i ≡ 0 + i = get_or-range_with_len 0 (length rows) i i (omega arith) in
       (i, omega arith, omega arith)
 
+  -- a member has the index of their place
+  pub index_known : ListsRise r s → (i : ℕ) → i < length (members r s) → index_of r s (number_at r s i) ≡ Some i
+  index_known up i below = place_known nat_eq exact_unsigned_eq nat_eq_equiv.refl nat_cmp nat_cmp_total 0 (members r s) 0 i i up.numbers below (omega arith)
+
+  -- an open hall has the index of its place
+  pub hall_known : ListsRise r s → (j : ℕ) → j < length (open_halls r s) → hall_index r s (hall_at r s j) ≡ Some j
+  hall_known up j below = place_known same_code same_code_exact same_code_itself code_cmp nat_list_cmp_total 0 (open_halls r s) [] j j up.codes below (omega arith)
+
   pub renames : ListsRise r s → Renames (naming r s)
   renames up = record {
     members = fill_by_all (number_at r s) (members r s) (length rows) 0 (sym (length-map (members r s) (λ c. fitting_places r s c (open_halls r s)))) (λ k h. refl);
-    known = λ i m. place_known nat_eq exact_unsigned_eq number_itself nat_cmp nat_cmp_total 0 (members r s) 0 i i up.numbers (below_member i m) (omega arith);
+    known = λ i m. index_known up i (below_member i m);
     named = λ c i e. let w = number_place c i e in (w.1, member_below i w.0, (i, w.0, at_any c i w.0 w.1));
     halls = λ h j e. (hall_place h j e).1;
-    known_hall = λ i j e. place_known same_code same_code_exact same_code_itself code_cmp nat_list_cmp_total 0 (open_halls r s) [] j j up.codes (row_bound i j e).1 (omega arith);
+    known_hall = λ i j e. hall_known up j (row_bound i j e).1;
     fits = λ c h i j e f. fits_same c h i j (number_place c i e) (hall_place h j f);
     known_fit = λ c h e. place_exists same_code same_code_exact same_code_itself h 0 (open_halls r s) (fits_open c h e);
     desks = λ h j e. desks_same h j (hall_place h j e);
-    same_a = λ j k. (exact_unsigned_eq j k, λ e. ap (nat_eq j) (sym e) ∙ number_itself j);
+    same_a = λ j k. (exact_unsigned_eq j k, λ e. ap (nat_eq j) (sym e) ∙ nat_eq_equiv.refl j);
     same_b = λ h k. (same_code_exact h k, λ e. ap (same_code h) (sym e) ∙ same_code_itself h);
   }
     where
@@ -293,27 +260,12 @@ module _ (r : Relations) (s : Code) where
       desks_same : (h : Code) (j : ℕ) → (j < length (open_halls r s)) × (hall_at r s j ≡ h) → desks r s h ≡ get_or (map (desks r s) (open_halls r s)) j 0
       desks_same h j v = sym (get_or-map (desks r s) (open_halls r s) j [] 0 v.0 ∙ ap (desks r s) v.1)
 
-  number_below : (i j : ℕ) → nat_cmp i j ≡ Less → i < j
-  number_below i j e = inner (nat_cmp i j) (ranked i j (nat_cmp i j) refl) e
-    where
-      inner : (o : Ordering) → MatchOrdering o (i < j) (i ≡ j) (j < i) → o ≡ Less → i < j
-      inner Less w h = w
-      inner Equal w h = absurd (let f : Equal ≡ Less = h in cc)
-      inner Greater w h = absurd (let f : Greater ≡ Less = h in cc)
-
   pub numbers_rise : ListsRise r s → (i j : ℕ) → Contains (range_with_len 0 (length rows)) i → Contains (range_with_len 0 (length rows)) j → nat_cmp i j ≡ Less → nat_cmp (number_at r s i) (number_at r s j) ≡ Less
-  numbers_rise up i j mi mj e = Less-from_sorted nat_cmp (members r s) i j 0 up.numbers (number_below i j e) (below_member j mj)
+  numbers_rise up i j mi mj e = Less-from_sorted nat_cmp (members r s) i j 0 up.numbers (ranked i j Less (sym e)) (below_member j mj)
 
-  -- a member has the index of their place, and an index is a member's
-  pub index_known : ListsRise r s → (i : ℕ) → i < length (members r s) → index_of r s (number_at r s i) ≡ Some i
-  index_known up i below = place_known nat_eq exact_unsigned_eq number_itself nat_cmp nat_cmp_total 0 (members r s) 0 i i up.numbers below (omega arith)
-
+  -- an index is a member's
   pub index_below : (c i : ℕ) → index_of r s c ≡ Some i → i < length (members r s)
   index_below c i e = (number_place c i e).0
-
-  -- an open hall has the index of its place
-  pub hall_known : ListsRise r s → (j : ℕ) → j < length (open_halls r s) → hall_index r s (hall_at r s j) ≡ Some j
-  hall_known up j below = place_known same_code same_code_exact same_code_itself code_cmp nat_list_cmp_total 0 (open_halls r s) [] j j up.codes below (omega arith)
 
   -- a hall that fits is an open one, and fits a member alone
   pub fit_open : (i j : ℕ) → list_any (nat_eq j) (get_or rows i []) ≡ true → j < length (open_halls r s)
@@ -327,7 +279,7 @@ module _ (r : Relations) (s : Code) where
   open_index j e = (hall_place (hall_at r s j) j e).0
 
   pub codes_rise : ListsRise r s → (j k : ℕ) → hall_index r s (hall_at r s j) ≡ Some j → hall_index r s (hall_at r s k) ≡ Some k → nat_cmp j k ≡ Less → code_cmp (hall_at r s j) (hall_at r s k) ≡ Less
-  codes_rise up j k ej ek e = Less-from_sorted code_cmp (open_halls r s) j k [] up.codes (number_below j k e) (open_index k ek)
+  codes_rise up j k ej ek e = Less-from_sorted code_cmp (open_halls r s) j k [] up.codes (ranked j k Less (sym e)) (open_index k ek)
 
   -- members come before one another in the order of desks as their indices rank
   pub order_same : (i j : ℕ) → Contains (range_with_len 0 (length rows)) i → Contains (range_with_len 0 (length rows)) j → stands_before r s (number_at r s i) (number_at r s j) ≡ ranks_before (problem_of r s) i j

@@ -4,7 +4,8 @@ use Rattle.std.specs.declared.cmp.Ordering.TheVariants.{Less}
 use Rattle.std.specs.Ordering.{nat_cmp}
 use Rattle.std.specs.List.{All, AllByRecursion}
 use Rattle.std.specs.List.Sorted.{IsStrictlySortedBy}
-use Rattle.std.proofs.lemmas.Bool.Decides.{nat_tests}
+use Rattle.std.specs.Cmp.{nat_cmp_is}
+use Rattle.std.proofs.lemmas.Bool.{and_left}
 use Rattle.std.proofs.lemmas.List.Elements.{All-from_recursion}
 use Rattle.exam_rules.specs.Relations.{Code, Relations}
 use Rattle.exam_rules.specs.Sessions.{has_live_entry, barred_halls}
@@ -33,16 +34,13 @@ positions-map p f n (x ∷ xs) = inner (p (f x)) (positions-map p f (n + 1) xs)
     inner true rest = ap (λ t. n ∷ t) rest
     inner false rest = rest
 
-and_false : (x y : Bool) → x ≡ false → (x && y) ≡ false
-and_false x y h = rw h refl
-
 and_true : (x y : Bool) → x ≡ true → y ≡ (x && y)
 and_true x y h = rw h refl
 
 module _ (r : Relations) (s : Code) (c : ℕ) where
   -- no hall fits one who is no member
   pub fits_nowhere : has_live_entry r s c ≡ false → (halls : List Code) → [] ≡ fitting_places r s c halls
-  fits_nowhere outside halls = sym (positions_none (fits r s c) 0 halls (λ h. and_false (has_live_entry r s c) (is_suiting (sitting_terms r s c) (barred_halls r s c) (h, opened_room r s h)) outside))
+  fits_nowhere outside halls = sym (positions_none (fits r s c) 0 halls (λ h. and_left (has_live_entry r s c) (is_suiting (sitting_terms r s c) (barred_halls r s c) (h, opened_room r s h)) outside))
 
   -- what suits a member in the rooms fits them
   pub fits_by_rooms : has_live_entry r s c ≡ true → (rows : List (Code × Option Room)) → rows ≡ with_rooms r s (map (λ (row : Code × Option Room). row.0) rows)
@@ -60,16 +58,13 @@ map-with_rooms r s (h ∷ halls) = ap (λ t. h ∷ t) (map-with_rooms r s halls)
 pub rooms_named : (r : Relations) (s : Code) (halls : List Code) (rows : List (Code × Option Room)) → rows ≡ with_rooms r s halls → map (λ (row : Code × Option Room). row.0) rows ≡ halls
 rooms_named r s halls rows rooms = ap (map (λ (row : Code × Option Room). row.0)) rooms ∙ map-with_rooms r s halls
 
-less_cmp : (m n : ℕ) → m < n → nat_cmp m n ≡ Less
-less_cmp m n h = grind (arith, nat_tests)
-
 module _ {A : Type 0} (p : A → Bool) where
   above : (m n : ℕ) (xs : List A) → m < n → AllByRecursion (λ i. nat_cmp m i ≡ Less) (positions p n xs)
   above m n [] h = tt
   above m n (x ∷ xs) h = inner (p x) (above m (n + 1) xs (omega arith))
     where
       inner : (b : Bool) → AllByRecursion (λ i. nat_cmp m i ≡ Less) (positions p (n + 1) xs) → AllByRecursion (λ i. nat_cmp m i ≡ Less) (cond b (n ∷ positions p (n + 1) xs) (positions p (n + 1) xs))
-      inner true rest = (less_cmp m n h, rest)
+      inner true rest = (sym (nat_cmp_is m n Less h), rest)
       inner false rest = rest
 
   pub positions_rise : (n : ℕ) (xs : List A) → IsStrictlySortedBy nat_cmp (positions p n xs)

@@ -1,24 +1,29 @@
 -- Places in the order of desks.
-use Rattle.std.proofs.Common.{◌≡◌, ℕ, zero, suc, ◌+◌, ◌<◌, ◌≤◌, Bool, true, false, cond, ◌||◌, List, [], ◌∷◌, ◌++◌, length, map, count_by, get_or, drop, drop-cons, append_assoc, append-nil, add-one, nat_eq, Option, IsSorted, refl, sym, ap, ◌∙◌, arith}
+use Rattle.std.proofs.Common.{◌≡◌, ℕ, zero, suc, ◌+◌, ◌<◌, ◌≤◌, Bool, true, false, cond, ◌||◌, List, [], ◌∷◌, ◌++◌, length, map, count_by, get_or, drop, drop-cons, append_assoc, append-nil, add-one, nat_eq, Option, IsSorted, refl, sym, ap, ◌∙◌, arith, inl, inr}
 use Rattle.std.specs.declared.cmp.Ordering.{Ordering}
 use Rattle.std.specs.declared.cmp.Ordering.TheVariants.{Less, Equal, Greater}
-use Rattle.std.specs.Ordering.{nat_cmp, ordering_then, ordering_index, ordering_reverse, is_lt, MatchOrdering}
+use Rattle.std.specs.Ordering.{nat_cmp, ordering_index, ordering_reverse, is_lt}
 use Rattle.std.specs.Option.{option_cmp}
 use Rattle.std.specs.Cmp.{IsTotalOrder, nat_cmp_total, on_total, then_total}
 use Rattle.std.specs.Cmp.Lexicographic.{options_total, nat_list_cmp_total}
 use Rattle.std.specs.List.{All, AllByRecursion, IsDistinct, list_any}
 use Rattle.std.specs.List.Sorted.{IsStrictlySortedBy, IsPermutation, IsPartitionedBy}
-use Rattle.std.proofs.lemmas.List.Sums.{sum_by-cons}
+use Rattle.std.proofs.lemmas.List.Sums.{sum_by-le-sum_by}
 use Rattle.std.proofs.lemmas.List.Sorted.{searchable_from_sorted, sum_by-IsPermutation}
 use Rattle.std.proofs.lemmas.Map.Keys.{sorted_head, sorted_tail}
 use Rattle.std.proofs.lemmas.Map.Lookups.{exact_unsigned}
 use Rattle.std.proofs.lemmas.Map.Views.{exact_unsigned_eq}
+use Rattle.std.proofs.lemmas.Map.Made.{All-is_member}
 use Rattle.std.specs.Prelude.{nat_lt}
-use Rattle.std.proofs.lemmas.Bool.Decides.{nat_tests}
-use Rattle.std.proofs.lemmas.Cmp.{tied_itself, ranked}
+use Rattle.std.proofs.lemmas.Bool.{cases_Bool, le-ltb, lt-ltb, ne_eqb}
+use Rattle.std.proofs.lemmas.Cmp.{tied_itself, ranked, nat_eq_equiv}
 use Rattle.std.proofs.lemmas.List.{length-map, drop_all}
-use Rattle.std.proofs.lemmas.List.Elements.{All-map}
+use Rattle.std.proofs.lemmas.List.Elements.{All-map, recursion_from_All}
+use Rattle.std.proofs.lemmas.List.Folds.{fold-map}
+use Rattle.std.proofs.lemmas.Simd.{map-map}
 use Rattle.exam_plan.specs.Problems.{Problem, IsProblem, most_members}
+use Rattle.exam_plan.proofs.Counting.{bit, bit_le, count_by-cons}
+use Rattle.exam_plan.proofs.Small.{both_tie}
 use Rattle.exam_rules.proofs.Places.{positions_rise, positions_exist}
 use Rattle.exam_rules.specs.Relations.{Code, Relations, code_cmp}
 use Rattle.exam_rules.specs.Sessions.{members, sitting}
@@ -43,62 +48,36 @@ lesser_first sorted key up = λ i j d le below passes.
     (searchable_from_sorted desk_total (λ (k : Option Code × ℕ). k) sorted key up i j d le below) passes
 
 module _ {A : Type 0} where
-  count_yes : (p : A → Bool) (x : A) (xs : List A) → p x ≡ true → count_by p (x ∷ xs) ≡ suc (count_by p xs)
-  count_yes p x xs e = sum_by-cons (λ y. cond (p y) 1 0) x xs ∙ ap (λ b. cond b 1 0 + count_by p xs) e ∙ one_more (count_by p xs)
-    where
-      one_more : (n : ℕ) → 1 + n ≡ suc n
-      one_more n = omega arith
-
-  count_no : (p : A → Bool) (x : A) (xs : List A) → p x ≡ false → count_by p (x ∷ xs) ≡ count_by p xs
-  count_no p x xs e = sum_by-cons (λ y. cond (p y) 1 0) x xs ∙ ap (λ b. cond b 1 0 + count_by p xs) e ∙ no_more (count_by p xs)
-    where
-      no_more : (n : ℕ) → 0 + n ≡ n
-      no_more n = omega arith
-
   -- if those that pass come first, up to i, there are i of them
   pub count_at_point : (p : A → Bool) (xs : List A) (i : ℕ) → i ≤ length xs → ((k : ℕ) (d : A) → k < i → p (get_or xs k d) ≡ true) → ((k : ℕ) (d : A) → i ≤ k → k < length xs → p (get_or xs k d) ≡ false) → i ≡ count_by p xs
   count_at_point p [] i bound front back = omega arith
   count_at_point p (x ∷ xs) zero bound front back =
-      let e : p x ≡ false = back 0 x (omega arith) (omega arith) in
+      let e : bit (p x) ≡ 0 = ap bit (back 0 x (omega arith) (omega arith)) in
       let rest : 0 ≡ count_by p xs = count_at_point p xs zero (omega arith) (λ k d h. absurd (omega arith)) (λ k d h l. back (suc k) d (omega arith) (omega arith)) in
-      let c : count_by p (x ∷ xs) ≡ count_by p xs = count_no p x xs e in
-      rest ∙ sym c
+      let c = count_by-cons p x xs in omega (arith, e, rest, c)
   count_at_point p (x ∷ xs) (suc i) bound front back =
-      let e : p x ≡ true = front 0 x (omega arith) in
+      let e : bit (p x) ≡ 1 = ap bit (front 0 x (omega arith)) in
       let rest : i ≡ count_by p xs = count_at_point p xs i (omega arith) (λ k d h. front (suc k) d (omega arith)) (λ k d h l. back (suc k) d (omega arith) (omega arith)) in
-      let c : count_by p (x ∷ xs) ≡ suc (count_by p xs) = count_yes p x xs e in
-      ap suc rest ∙ sym c
+      let c = count_by-cons p x xs in omega (arith, e, rest, c)
 
-  pub count_le : (p q : A → Bool) (xs : List A) → ((x : A) → p x ≡ true → q x ≡ true) → count_by p xs ≤ count_by q xs
-  count_le p q [] h = omega arith
-  count_le p q (x ∷ xs) h = inner (p x) (q x) refl refl (count_le p q xs h)
-    where
-      inner : (b d : Bool) → p x ≡ b → q x ≡ d → count_by p xs ≤ count_by q xs → count_by p (x ∷ xs) ≤ count_by q (x ∷ xs)
-      inner true true e f rest = let k : count_by p (x ∷ xs) ≡ suc (count_by p xs) = count_yes p x xs e in let l : count_by q (x ∷ xs) ≡ suc (count_by q xs) = count_yes q x xs f in omega arith
-      inner true false e f rest = absurd (let k : false ≡ true = sym f ∙ h x e in cc)
-      inner false true e f rest = let k : count_by p (x ∷ xs) ≡ count_by p xs = count_no p x xs e in let l : count_by q (x ∷ xs) ≡ suc (count_by q xs) = count_yes q x xs f in omega arith
-      inner false false e f rest = let k : count_by p (x ∷ xs) ≡ count_by p xs = count_no p x xs e in let l : count_by q (x ∷ xs) ≡ count_by q xs = count_no q x xs f in omega arith
+  count_le : (p q : A → Bool) (xs : List A) → ((x : A) → p x ≡ true → q x ≡ true) → count_by p xs ≤ count_by q xs
+  count_le p q xs h = sum_by-le-sum_by (λ x. bit (p x)) (λ x. bit (q x)) xs (λ x. bit_le (p x) (q x) (h x))
 
   -- if one of the list passes q and not p, fewer pass p
   pub count_less : (p q : A → Bool) (same : A → A → Bool) (a : A) → ((x : A) → same a x ≡ true → a ≡ x) → (xs : List A) → ((x : A) → p x ≡ true → q x ≡ true) → list_any (same a) xs ≡ true → p a ≡ false → q a ≡ true → count_by p xs < count_by q xs
   count_less p q same a exact [] h there out into = absurd (let k : false ≡ true = there in cc)
-  count_less p q same a exact (x ∷ xs) h there out into = inner (same a x) refl there (count_less p q same a exact xs h)
-    where
-      other : (b d : Bool) → p x ≡ b → q x ≡ d → count_by p xs < count_by q xs → count_by p (x ∷ xs) < count_by q (x ∷ xs)
-      other true true e f rest = let k : count_by p (x ∷ xs) ≡ suc (count_by p xs) = count_yes p x xs e in let l : count_by q (x ∷ xs) ≡ suc (count_by q xs) = count_yes q x xs f in omega arith
-      other true false e f rest = absurd (let k : false ≡ true = sym f ∙ h x e in cc)
-      other false true e f rest = let k : count_by p (x ∷ xs) ≡ count_by p xs = count_no p x xs e in let l : count_by q (x ∷ xs) ≡ suc (count_by q xs) = count_yes q x xs f in omega arith
-      other false false e f rest = let k : count_by p (x ∷ xs) ≡ count_by p xs = count_no p x xs e in let l : count_by q (x ∷ xs) ≡ count_by q xs = count_no q x xs f in omega arith
-
-      inner : (b : Bool) → same a x ≡ b → (b || list_any (same a) xs) ≡ true → (list_any (same a) xs ≡ true → p a ≡ false → q a ≡ true → count_by p xs < count_by q xs) → count_by p (x ∷ xs) < count_by q (x ∷ xs)
-      inner true e t rest =
-          let is : a ≡ x = exact x e in
-          let k : count_by p (x ∷ xs) ≡ count_by p xs = count_no p x xs (ap p (sym is) ∙ out) in let l : count_by q (x ∷ xs) ≡ suc (count_by q xs) = count_yes q x xs (ap q (sym is) ∙ into) in let m : count_by p xs ≤ count_by q xs = count_le p q xs h in omega arith
-      inner false e t rest = other (p x) (q x) refl refl (rest t out into)
+  count_less p q same a exact (x ∷ xs) h there out into =
+      let k = count_by-cons p x xs in
+      let l = count_by-cons q x xs in
+      elim (cases_Bool (same a x)) [
+        | inl t ↦ (let is : a ≡ x = exact x t in let e : bit (p x) ≡ 0 = ap bit (ap p (sym is) ∙ out) in let f : bit (q x) ≡ 1 = ap bit (ap q (sym is) ∙ into) in
+            let m = count_le p q xs h in omega (arith, k, l, e, f, m))
+        | inr t ↦ (let rest = count_less p q same a exact xs h (sym (ap (λ b. b || list_any (same a) xs) t) ∙ there) out into in
+            let m = bit_le (p x) (q x) (h x) in omega (arith, k, l, rest, m))
+      ]
 
 map_same : {A B : Type 0} (f g : A → B) → ((x : A) → f x ≡ g x) → (xs : List A) → map f xs ≡ map g xs
-map_same f g h [] = refl
-map_same f g h (x ∷ xs) = λ i. h x i ∷ map_same f g h xs i
+map_same f g h xs = λ i. map (λ x. h x i) xs
 
 -- counted in the sorted list or in the list itself
 pub ranks_sorted : (keys sorted : List (Option Code × ℕ)) → IsPermutation keys sorted → map (λ k. count_by (λ other. is_lt (desk_cmp other k)) sorted) keys ≡ ranks_of keys
@@ -114,42 +93,15 @@ map_step f xs i d before after whole below pushed so_far =
 pub map_end : {A Y : Type 0} (f : A → Y) (xs : List A) (i : ℕ) (before : List Y) → length xs ≤ i → before ++ map f (drop i xs) ≡ map f xs → before ≡ map f xs
 map_end f xs i before over so_far = sym (append-nil before) ∙ ap (λ t. before ++ map f t) (sym (drop_all i xs over)) ∙ so_far
 
-pub map-map : {A B C : Type 0} (f : A → B) (g : B → C) (xs : List A) → map g (map f xs) ≡ map (λ x. g (f x)) xs
-map-map f g [] = refl
-map-map f g (x ∷ xs) = ap (λ t. g (f x) ∷ t) (map-map f g xs)
-
-count_by-map : {A B : Type 0} (p : B → Bool) (f : A → B) (xs : List A) → count_by p (map f xs) ≡ count_by (λ x. p (f x)) xs
-count_by-map p f [] = refl
-count_by-map p f (x ∷ xs) =
-    let k : count_by p (map f (x ∷ xs)) ≡ cond (p (f x)) 1 0 + count_by p (map f xs) = sum_by-cons (λ y. cond (p y) 1 0) (f x) (map f xs) in
-    let l : count_by (λ x. p (f x)) (x ∷ xs) ≡ cond (p (f x)) 1 0 + count_by (λ x. p (f x)) xs = sum_by-cons (λ y. cond (p (f y)) 1 0) x xs in
-    k ∙ ap (λ n. cond (p (f x)) 1 0 + n) (count_by-map p f xs) ∙ sym l
-
-any_or : (b c : Bool) → c ≡ true → (b || c) ≡ true
-any_or true c h = refl
-any_or false c h = h
-
-same_itself : (n : ℕ) → nat_eq n n ≡ true
-same_itself n = grind arith
-
 -- each element of a list is in it
-all_in : (all xs : List ℕ) → ((x : ℕ) → list_any (nat_eq x) xs ≡ true → list_any (nat_eq x) all ≡ true) → AllByRecursion (λ x. list_any (nat_eq x) all ≡ true) xs
-all_in all [] f = tt
-all_in all (x ∷ xs) f = (f x (ap (λ b. b || list_any (nat_eq x) xs) (same_itself x)), all_in all xs (λ y h. f y (any_or (nat_eq y x) (list_any (nat_eq y) xs) h)))
-
 pub all_there : (xs : List ℕ) → AllByRecursion (λ x. list_any (nat_eq x) xs ≡ true) xs
-all_there xs = all_in xs xs (λ x h. h)
+all_there xs = recursion_from_All (λ x. list_any (nat_eq x) xs ≡ true) xs (All-is_member nat_eq_equiv xs)
 
 module _ (r : Relations) (s : Code) where
   -- the ranks of the members' keys are the members' ranks
   pub ranks_of_members : ranks_of (map (desk_key r s) (members r s)) ≡ map (rank r s) (members r s)
-  ranks_of_members = map-map (desk_key r s) (λ k. count_by (λ other. is_lt (desk_cmp other k)) (map (desk_key r s) (members r s))) (members r s)
-      ∙ map_same _ (rank r s) (λ c. count_by-map (λ other. is_lt (desk_cmp other (desk_key r s c))) (desk_key r s) (members r s)) (members r s)
-
-  tied : (o p : Ordering) → ordering_then o p ≡ Equal → p ≡ Equal
-  tied Less p e = absurd (let f : Less ≡ Equal = e in cc)
-  tied Equal p e = e
-  tied Greater p e = absurd (let f : Greater ≡ Equal = e in cc)
+  ranks_of_members = map-map (λ k. count_by (λ other. is_lt (desk_cmp other k)) (map (desk_key r s) (members r s))) (desk_key r s) (members r s)
+      ∙ map_same _ (rank r s) (λ c. fold-map (λ (n : ℕ) (other : Option Code × ℕ). n + bit (is_lt (desk_cmp other (desk_key r s c)))) (desk_key r s) 0 (members r s)) (members r s)
 
   lt_from : (o : Ordering) → is_lt o ≡ true → o ≡ Less
   lt_from Less e = refl
@@ -167,30 +119,15 @@ module _ (r : Relations) (s : Code) where
   rank_apart : (c d : ℕ) → list_any (nat_eq c) (members r s) ≡ true → list_any (nat_eq d) (members r s) ≡ true → c < d → nat_eq (rank r s c) (rank r s d) ≡ false
   rank_apart c d mc md lt = inner (desk_cmp (desk_key r s c) (desk_key r s d)) refl
     where
-      differ : (m n : ℕ) → (m ≡ n → ⊥) → nat_eq m n ≡ false
-      differ m n h = test (nat_eq m n) refl
-        where
-          test : (b : Bool) → nat_eq m n ≡ b → b ≡ false
-          test true e = absurd (h (exact_unsigned_eq m n e))
-          test false e = refl
-
       inner : (o : Ordering) → desk_cmp (desk_key r s c) (desk_key r s d) ≡ o → nat_eq (rank r s c) (rank r s d) ≡ false
-      inner Less e = differ (rank r s c) (rank r s d) (λ h. let k : rank r s c < rank r s d = rank_rises c d mc e in omega arith)
-      inner Equal e = absurd (let k : c ≡ d = exact_unsigned c d (tied (option_cmp code_cmp (sitting r s c) (sitting r s d)) (nat_cmp c d) e) in omega arith)
-      inner Greater e = differ (rank r s c) (rank r s d) (λ h. let k : rank r s d < rank r s c = rank_rises d c md (desk_total.antisymm (desk_key r s d) (desk_key r s c) ∙ ap ordering_reverse e) in omega arith)
+      inner Less e = ne_eqb (rank r s c) (rank r s d) (λ h. let k : rank r s c < rank r s d = rank_rises c d mc e in omega arith)
+      inner Equal e = absurd (let k : c ≡ d = exact_unsigned c d (both_tie (option_cmp code_cmp (sitting r s c) (sitting r s d)) (nat_cmp c d) e).1 in omega arith)
+      inner Greater e = ne_eqb (rank r s c) (rank r s d) (λ h. let k : rank r s d < rank r s c = rank_rises d c md (desk_total.antisymm (desk_key r s d) (desk_key r s c) ∙ ap ordering_reverse e) in omega arith)
 
   -- the rest of the members have other ranks than one before them
   others : (c : ℕ) (cs : List ℕ) → list_any (nat_eq c) (members r s) ≡ true → AllByRecursion (λ d. list_any (nat_eq d) (members r s) ≡ true) cs → AllByRecursion (λ d. nat_cmp c d ≡ Less) cs → AllByRecursion (λ n. nat_eq (rank r s c) n ≡ false) (map (rank r s) cs)
   others c [] mc ms above = tt
-  others c (d ∷ cs) mc ms above = (rank_apart c d mc ms.0 (below c d above.0), others c cs mc ms.1 above.1)
-    where
-      below : (c d : ℕ) → nat_cmp c d ≡ Less → c < d
-      below c d h = inner (nat_cmp c d) (ranked c d (nat_cmp c d) refl) h
-        where
-          inner : (o : Ordering) → MatchOrdering o (c < d) (c ≡ d) (d < c) → o ≡ Less → c < d
-          inner Less w h = w
-          inner Equal w h = absurd (let f : Equal ≡ Less = h in cc)
-          inner Greater w h = absurd (let f : Greater ≡ Less = h in cc)
+  others c (d ∷ cs) mc ms above = (rank_apart c d mc ms.0 (ranked c d Less (sym above.0)), others c cs mc ms.1 above.1)
 
   ranks_differ : (cs : List ℕ) → AllByRecursion (λ d. list_any (nat_eq d) (members r s) ≡ true) cs → IsStrictlySortedBy nat_cmp cs → IsDistinct nat_eq (map (rank r s) cs)
   unfolding IsDistinct
@@ -219,13 +156,7 @@ module _ (r : Relations) (s : Code) where
   pub order_is_rank : (c d : ℕ) → list_any (nat_eq c) (members r s) ≡ true → list_any (nat_eq d) (members r s) ≡ true → stands_before r s c d ≡ nat_lt (rank r s c) (rank r s d)
   order_is_rank c d mc md = inner (desk_cmp (desk_key r s c) (desk_key r s d)) refl
     where
-      lt_true : (m n : ℕ) → m < n → true ≡ nat_lt m n
-      lt_true m n h = grind (arith, nat_tests)
-
-      lt_false : (m n : ℕ) → n ≤ m → false ≡ nat_lt m n
-      lt_false m n h = grind (arith, nat_tests)
-
       inner : (o : Ordering) → desk_cmp (desk_key r s c) (desk_key r s d) ≡ o → is_lt o ≡ nat_lt (rank r s c) (rank r s d)
-      inner Less e = lt_true (rank r s c) (rank r s d) (rank_rises c d mc e)
-      inner Equal e = lt_false (rank r s c) (rank r s d) (let k : c ≡ d = exact_unsigned c d (tied (option_cmp code_cmp (sitting r s c) (sitting r s d)) (nat_cmp c d) e) in let m : rank r s c ≡ rank r s d = ap (rank r s) k in omega arith)
-      inner Greater e = lt_false (rank r s c) (rank r s d) (let k : rank r s d < rank r s c = rank_rises d c md (desk_total.antisymm (desk_key r s d) (desk_key r s c) ∙ ap ordering_reverse e) in omega arith)
+      inner Less e = sym (lt-ltb (rank r s c) (rank r s d) (rank_rises c d mc e))
+      inner Equal e = sym (le-ltb (rank r s c) (rank r s d) (let k : c ≡ d = exact_unsigned c d (both_tie (option_cmp code_cmp (sitting r s c) (sitting r s d)) (nat_cmp c d) e).1 in let m : rank r s c ≡ rank r s d = ap (rank r s) k in omega arith))
+      inner Greater e = sym (le-ltb (rank r s c) (rank r s d) (let k : rank r s d < rank r s c = rank_rises d c md (desk_total.antisymm (desk_key r s d) (desk_key r s c) ∙ ap ordering_reverse e) in omega arith))

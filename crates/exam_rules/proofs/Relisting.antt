@@ -7,10 +7,11 @@ use Rattle.std.specs.List.Sorted.{IsStrictlySortedBy}
 use Rattle.std.specs.Map.{keys_of}
 use Rattle.std.specs.BTreeMap.{is_at, insert_entry}
 use Rattle.std.specs.Cmp.Lexicographic.{texts_ties}
+use Rattle.std.specs.Cmp.{nat_cmp_is}
 use Rattle.std.specs.declared.cmp.Ordering.{Ordering}
 use Rattle.std.specs.declared.cmp.Ordering.TheVariants.{Less, Equal, Greater}
 use Rattle.std.specs.Ordering.{nat_cmp, match_ordering, MatchOrdering, is_eq}
-use Rattle.std.proofs.lemmas.Bool.Decides.{nat_tests}
+use Rattle.std.proofs.lemmas.Bool.{and_right, le-ltb, lt-ltb, ne_eqb}
 use Rattle.std.proofs.lemmas.Cmp.{ranked}
 use Rattle.std.proofs.lemmas.Map.Keys.{sorted_head, sorted_tail}
 use Rattle.std.proofs.lemmas.Map.Lookups.{CmpEqualImpliesEq, exact_pairs, exact_bytes, exact_unsigned}
@@ -57,11 +58,6 @@ of_one_session r s t p of other = inner (row_at code_cmp r.papers p) of
     inner None of = refl
     inner (Some paper) of = ap (λ u. same_code u t) (same_code_exact paper.session s of) ∙ other
 
-last_false : (a b c : Bool) → c ≡ false → (a && (b && c)) ≡ false
-last_false false b c fails = refl
-last_false true false c fails = refl
-last_false true true c fails = fails
-
 module _ (before after : Relations) (s : Code) (c : ℕ) (sets : SetsEntry before after s c) where
   -- if the entry does not count, the least live paper is the same
   least_same : (t : Code) (d : ℕ) → ((w : Entry) → is_live_entry before t d ((c, sets.paper), w) ≡ false) → least_live_paper after t d ≡ least_live_paper before t d
@@ -78,7 +74,7 @@ module _ (before after : Relations) (s : Code) (c : ℕ) (sets : SetsEntry befor
 
   -- in another session
   least_elsewhere : (t : Code) → same_code s t ≡ false → (d : ℕ) → least_live_paper after t d ≡ least_live_paper before t d
-  least_elsewhere t other d = least_same t d (λ w. last_false (nat_eq c d) w.live (is_paper_of before t sets.paper) (of_one_session before s t sets.paper sets.of_session other))
+  least_elsewhere t other d = least_same t d (λ w. and_right (nat_eq c d) _ (and_right w.live _ (of_one_session before s t sets.paper sets.of_session other)))
 
 -- ---- one list among others
 
@@ -114,14 +110,9 @@ listed_same f g same (d ∷ cs) =
     ∙ ap (cons_option (option_map (entrant d) (f d))) (listed_same f g same cs)
 
 -- numbers after one that is no less are greater
-raised : (n m : ℕ) → n ≤ m → (cs : List ℕ) → AllByRecursion (λ d. nat_cmp m d ≡ Less) cs → AllByRecursion (λ d. n < d) cs
+pub raised : (n m : ℕ) → n ≤ m → (cs : List ℕ) → AllByRecursion (λ d. nat_cmp m d ≡ Less) cs → AllByRecursion (λ d. n < d) cs
 raised n m low [] up = tt
-raised n m low (d ∷ cs) up = (above (nat_cmp m d) (ranked m d (nat_cmp m d) refl) up.0, raised n m low cs up.1)
-  where
-    above : (o : Ordering) → MatchOrdering o (m < d) (m ≡ d) (d < m) → o ≡ Less → n < d
-    above Less w is = omega arith
-    above Equal w is = absurd (let e : Equal ≡ Less = is in cc)
-    above Greater w is = absurd (let e : Greater ≡ Less = is in cc)
+raised n m low (d ∷ cs) up = ((let l : m < d = ranked m d Less (sym up.0) in omega arith), raised n m low cs up.1)
 
 -- another paper of one number changes that number's place alone
 module _ (f g : ℕ → Option Code) (n : ℕ) (same : (d : ℕ) → nat_eq n d ≡ false → g d ≡ f d) where
@@ -131,28 +122,16 @@ module _ (f g : ℕ → Option Code) (n : ℕ) (same : (d : ℕ) → nat_eq n d 
   abbrev greater : List Entrant → List Entrant
   greater es = filter (λ (e : Entrant). nat_lt n e.number) es
 
-  less_not_same : (d : ℕ) → n < d → nat_eq n d ≡ false
-  less_not_same d less = grind (arith, nat_tests)
-
-  more_not_same : (d : ℕ) → d < n → nat_eq n d ≡ false
-  more_not_same d less = grind (arith, nat_tests)
-
-  is_less : (d e : ℕ) → d < e → nat_lt d e ≡ true
-  is_less d e less = grind (arith, nat_tests)
-
-  not_less : (d e : ℕ) → e ≤ d → nat_lt d e ≡ false
-  not_less d e less = grind (arith, nat_tests)
-
   -- of greater numbers
-  above_same : (cs : List ℕ) → AllByRecursion (λ d. n < d) cs → listed_with g cs ≡ listed_with f cs
+  pub above_same : (cs : List ℕ) → AllByRecursion (λ d. n < d) cs → listed_with g cs ≡ listed_with f cs
   above_same [] up = refl
   above_same (d ∷ cs) up =
-      ap (λ o. cons_option (option_map (entrant d) o) (listed_with g cs)) (same d (less_not_same d up.0))
+      ap (λ o. cons_option (option_map (entrant d) o) (listed_with g cs)) (same d (ne_eqb n d (λ s. let l : n < d = up.0 in omega arith)))
       ∙ ap (cons_option (option_map (entrant d) (f d))) (above_same cs up.1)
 
   none_lesser : (cs : List ℕ) → AllByRecursion (λ d. n < d) cs → lesser (listed_with f cs) ≡ []
   none_lesser [] up = refl
-  none_lesser (d ∷ cs) up = inner (f d) (not_less d n (let k : n < d = up.0 in omega arith)) (none_lesser cs up.1)
+  none_lesser (d ∷ cs) up = inner (f d) (le-ltb d n (let k : n < d = up.0 in omega arith)) (none_lesser cs up.1)
     where
       inner : (o : Option Code) → nat_lt d n ≡ false → lesser (listed_with f cs) ≡ [] → lesser (cons_option (option_map (entrant d) o) (listed_with f cs)) ≡ []
       inner None after rest = rest
@@ -160,7 +139,7 @@ module _ (f g : ℕ → Option Code) (n : ℕ) (same : (d : ℕ) → nat_eq n d 
 
   all_greater : (cs : List ℕ) → AllByRecursion (λ d. n < d) cs → greater (listed_with f cs) ≡ listed_with f cs
   all_greater [] up = refl
-  all_greater (d ∷ cs) up = inner (f d) (is_less n d up.0) (all_greater cs up.1)
+  all_greater (d ∷ cs) up = inner (f d) (lt-ltb n d up.0) (all_greater cs up.1)
     where
       inner : (o : Option Code) → nat_lt n d ≡ true → greater (listed_with f cs) ≡ listed_with f cs → greater (cons_option (option_map (entrant d) o) (listed_with f cs)) ≡ cons_option (option_map (entrant d) o) (listed_with f cs)
       inner None after rest = rest
@@ -176,25 +155,20 @@ module _ (f g : ℕ → Option Code) (n : ℕ) (same : (d : ℕ) → nat_eq n d 
   placed_over : (o old : Option Code) (es : List Entrant) → placed n o es ≡ placed n o (cons_option (option_map (entrant n) old) es)
   placed_over o None es = refl
   placed_over o (Some p) es =
-      ap (λ b. cond b (entrant n p ∷ lesser es) (lesser es) ++ cons_option (option_map (entrant n) o) (greater es)) (sym (not_less n n (omega arith)))
-      ∙ ap (λ b. lesser (entrant n p ∷ es) ++ cons_option (option_map (entrant n) o) (cond b (entrant n p ∷ greater es) (greater es))) (sym (not_less n n (omega arith)))
+      ap (λ b. cond b (entrant n p ∷ lesser es) (lesser es) ++ cons_option (option_map (entrant n) o) (greater es)) (sym (le-ltb n n (omega arith)))
+      ∙ ap (λ b. lesser (entrant n p ∷ es) ++ cons_option (option_map (entrant n) o) (cond b (entrant n p ∷ greater es) (greater es))) (sym (le-ltb n n (omega arith)))
 
   -- a lesser number comes before
   placed_behind : (o old : Option Code) (d : ℕ) (es : List Entrant) → d < n → cons_option (option_map (entrant d) old) (placed n o es) ≡ placed n o (cons_option (option_map (entrant d) old) es)
   placed_behind o None d es less = refl
   placed_behind o (Some p) d es less =
-      ap (λ b. cond b (entrant d p ∷ lesser es) (lesser es) ++ cons_option (option_map (entrant n) o) (greater es)) (sym (is_less d n less))
-      ∙ ap (λ b. lesser (entrant d p ∷ es) ++ cons_option (option_map (entrant n) o) (cond b (entrant d p ∷ greater es) (greater es))) (sym (not_less n d (omega arith)))
+      ap (λ b. cond b (entrant d p ∷ lesser es) (lesser es) ++ cons_option (option_map (entrant n) o) (greater es)) (sym (lt-ltb d n less))
+      ∙ ap (λ b. lesser (entrant d p ∷ es) ++ cons_option (option_map (entrant n) o) (cond b (entrant d p ∷ greater es) (greater es))) (sym (le-ltb n d (omega arith)))
 
   module _ {X : Type 0} where
     none_above : (rows : List (ℕ × X)) → AllByRecursion (λ d. n < d) (keys_of rows) → has_row nat_cmp rows n ≡ false
     none_above [] up = refl
-    none_above (e ∷ rows) up = ap (λ o. is_some (cond (is_eq o) (Some e.1) (row_at nat_cmp rows n))) (below (nat_cmp n e.0) (ranked n e.0 (nat_cmp n e.0) refl)) ∙ none_above rows up.1
-      where
-        below : (o : Ordering) → MatchOrdering o (n < e.0) (n ≡ e.0) (e.0 < n) → o ≡ Less
-        below Less w = refl
-        below Equal w = absurd (let k : n < e.0 = up.0 in omega arith)
-        below Greater w = absurd (let k : n < e.0 = up.0 in omega arith)
+    none_above (e ∷ rows) up = ap (λ o. is_some (cond (is_eq o) (Some e.1) (row_at nat_cmp rows n))) (sym (nat_cmp_is n e.0 Less up.0)) ∙ none_above rows up.1
 
     pub relisted : (rows : List (ℕ × X)) → IsStrictlySortedBy nat_cmp (keys_of rows)
         → listed_with g (keys_of rows) ≡ placed n (cond (has_row nat_cmp rows n) (g n) None) (listed_with f (keys_of rows))
@@ -225,7 +199,7 @@ module _ (f g : ℕ → Option Code) (n : ℕ) (same : (d : ℕ) → nat_eq n d 
             ∙ ap (λ d. placed n (g n) (cons_option (option_map (entrant d) (f d)) (listed_with f (keys_of rows)))) w
             ∙ ap (λ o. placed n (cond (is_some (cond (is_eq o) (Some e.1) (row_at nat_cmp rows n))) (g n) None) (listed_with f (e.0 ∷ keys_of rows))) (sym is)
         inner Greater is w rest =
-            ap (λ o. cons_option (option_map (entrant e.0) o) (listed_with g (keys_of rows))) (same e.0 (more_not_same e.0 w))
+            ap (λ o. cons_option (option_map (entrant e.0) o) (listed_with g (keys_of rows))) (same e.0 (ne_eqb n e.0 (λ s. omega arith)))
             ∙ ap (cons_option (option_map (entrant e.0) (f e.0))) rest
             ∙ placed_behind (cond (has_row nat_cmp rows n) (g n) None) (f e.0) e.0 (listed_with f (keys_of rows)) w
             ∙ ap (λ o. placed n (cond (is_some (cond (is_eq o) (Some e.1) (row_at nat_cmp rows n))) (g n) None) (listed_with f (e.0 ∷ keys_of rows))) (sym is)

@@ -6,25 +6,21 @@ use Rattle.std.specs.Option.{option_map_or, option_or}
 use Rattle.std.proofs.lemmas.Map.Lookups.{exact_bytes, exact_pairs, exact_unsigned}
 use Rattle.std.proofs.lemmas.Map.Views.{tells_apart, exact_unsigned_eq, Contains-from_any, Contains-keys_from_lookup, IsSome-lookup_from_Contains}
 use Rattle.std.proofs.lemmas.List.Elements.{All-contains, All-contains_itself, All-filter, filter_passes}
-use Rattle.std.proofs.lemmas.List.Folds.{list_any_at}
-use Rattle.std.proofs.lemmas.Bool.{and_from}
+use Rattle.std.proofs.lemmas.Bool.{and_from, and_parts, or_right}
 use Rattle.std.proofs.lemmas.Cmp.{eq_by_cmp_equiv, nat_cmp_total}
 use Rattle.std.specs.Map.{keys_of}
 use Rattle.std.specs.Ordering.{nat_cmp}
 use Rattle.exam_rules.specs.declared.rows.Entry.{Entry}
 use Rattle.exam_rules.specs.Relations.{Code, Relations, code_cmp, entry_cmp, row_at, has_row}
 use Rattle.exam_rules.specs.Sessions.{is_paper_of, is_live_entry, is_live, is_live_paper, has_live_entry, is_member, members, granted_paper, least_live_paper, option_filter, sitting}
-use Rattle.exam_rules.proofs.Together.{any_is, and_left, and_right}
+use Rattle.exam_rules.proofs.Together.{any_is}
+use Rattle.exam_plan.proofs.Rising.{listed_in}
 
 same_key : (x y : ℕ × Code) → is_at (entry_cmp x) y ≡ true → x ≡ y
 same_key = tells_apart (exact_pairs nat_cmp code_cmp exact_unsigned exact_bytes)
 
 or_of : (a b c d : Bool) → a ≡ true → b ≡ true → c ≡ true → ((a && (b && c)) || d) ≡ true
 or_of a b c d h i j = rw (h, i, j) refl
-
-or_true : (a b : Bool) → b ≡ true → (a || b) ≡ true
-or_true true b e = refl
-or_true false b e = e
 
 module _ (r : Relations) (s : Code) (c : ℕ) where
   -- a live entry at a key is among the entries
@@ -39,7 +35,7 @@ module _ (r : Relations) (s : Code) (c : ℕ) where
       inner true at rest l =
           let k : (c, p) ≡ e.0 = same_key (c, p) e.0 at in
           subst (λ (x : ℕ × Code). (((x.0 == c) && (e.1.live && is_paper_of r s x.1)) || list_any (is_live_entry r s c) es) ≡ true) k (or_of (c == c) e.1.live (is_paper_of r s p) (list_any (is_live_entry r s c) es) (eq-eqb c c refl) l of)
-      inner false at rest l = or_true (is_live_entry r s c e) _ (rest l)
+      inner false at rest l = or_right (is_live_entry r s c e) _ (rest l)
 
   -- a live paper makes a member
   live_member : (p : Code) → is_live_paper r s c p ≡ true → has_live_entry r s c ≡ true
@@ -78,9 +74,9 @@ any_kept p x (y ∷ ys) t e = inner (nat_eq x y) refl e (p y) refl (any_kept p x
 module _ (r : Relations) (s : Code) (c : ℕ) where
   member_listed : is_member r s c ≡ true → Contains (members r s) c
   member_listed e =
-      let known : Contains (keys_of r.candidates) c = Contains-keys_from_lookup (tells_apart exact_unsigned) c r.candidates (and_left (has_row nat_cmp r.candidates c) (has_live_entry r s c) e) in
-      let live : has_live_entry r s c ≡ true = and_right (has_row nat_cmp r.candidates c) (has_live_entry r s c) e in
-      let any : list_any (nat_eq c) (keys_of r.candidates) ≡ true = list_any_at (nat_eq c) (keys_of r.candidates) known.0 c known.1 (eq-eqb c _ (sym known.2)) in
+      let known : Contains (keys_of r.candidates) c = Contains-keys_from_lookup (tells_apart exact_unsigned) c r.candidates (and_parts (has_row nat_cmp r.candidates c) (has_live_entry r s c) e).0 in
+      let live : has_live_entry r s c ≡ true = (and_parts (has_row nat_cmp r.candidates c) (has_live_entry r s c) e).1 in
+      let any : list_any (nat_eq c) (keys_of r.candidates) ≡ true = listed_in (keys_of r.candidates) c known in
       Contains-from_any exact_unsigned_eq c (members r s) (any_kept (has_live_entry r s) c (keys_of r.candidates) live any)
 
   listed_member : Contains (members r s) c → is_member r s c ≡ true

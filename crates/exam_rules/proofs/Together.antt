@@ -12,9 +12,9 @@ use Rattle.std.specs.Ordering.{nat_cmp, ordering_then, is_le, MatchOrdering}
 use Rattle.std.specs.BTreeMap.Range.{entries_between}
 use Rattle.std.proofs.lemmas.Cmp.{ranked}
 use Rattle.std.proofs.lemmas.Map.Keys.{sorted_head, sorted_tail}
-use Rattle.std.proofs.lemmas.Map.Views.{exact_unsigned_eq}
 use Rattle.std.proofs.lemmas.List.Kept.{IsStrictlySortedBy-filter}
 use Rattle.std.proofs.lemmas.Bool.Decides.{nat_tests}
+use Rattle.std.proofs.lemmas.Bool.{and_parts, eqb-false, ne_eqb}
 use Rattle.exam_types.specs.Codes.{is_code, is_dashed, is_capital_or_digit}
 use Rattle.exam_rules.specs.Relations.{pair_cmp, code_cmp, is_row_of, leading}
 use Rattle.exam_rules.specs.Sessions.{head_of}
@@ -28,26 +28,7 @@ then_le m n o h = inner (nat_cmp m n) (ranked m n (nat_cmp m n) refl) h
     inner Greater w h = absurd (let e : false ≡ true = h in cc)
 
 then_less : (m n : ℕ) (o : Ordering) → ordering_then (nat_cmp m n) o ≡ Less → m ≤ n
-then_less m n o h = inner (nat_cmp m n) (ranked m n (nat_cmp m n) refl) h
-  where
-    inner : (r : Ordering) → MatchOrdering r (m < n) (m ≡ n) (n < m) → ordering_then r o ≡ Less → m ≤ n
-    inner Less w h = omega arith
-    inner Equal w h = omega arith
-    inner Greater w h = absurd (let e : Greater ≡ Less = h in cc)
-
-apart : (m n : ℕ) → m < n → nat_eq m n ≡ false
-apart m n h = inner (nat_eq m n) refl
-  where
-    inner : (b : Bool) → nat_eq m n ≡ b → b ≡ false
-    inner true e = absurd (let k : m ≡ n = exact_unsigned_eq m n e in omega arith)
-    inner false e = refl
-
-apart_back : (m n : ℕ) → n < m → nat_eq m n ≡ false
-apart_back m n h = inner (nat_eq m n) refl
-  where
-    inner : (b : Bool) → nat_eq m n ≡ b → b ≡ false
-    inner true e = absurd (let k : m ≡ n = exact_unsigned_eq m n e in omega arith)
-    inner false e = refl
+then_less m n o h = then_le m n o (ap is_le h)
 
 pub filter_and : {A : Type 0} (q r : A → Bool) (es : List A) → filter (λ e. q e && r e) (filter q es) ≡ filter (λ e. q e && r e) es
 filter_and q r [] = refl
@@ -82,7 +63,7 @@ lesser_before cmp c k least h none = inner (nat_cmp k.0 c) (ranked k.0 c (nat_cm
 module _ {B X : Type 0} (cmp : B → B → Ordering) (c : ℕ) where
   later_none : (es : List ((ℕ × B) × X)) → AllByRecursion (λ e. c < e.0.0) es → filter (is_row_of c) es ≡ []
   later_none [] a = refl
-  later_none (e ∷ es) a = rw (apart_back e.0.0 c a.0) (later_none es a.1)
+  later_none (e ∷ es) a = rw (ne_eqb e.0.0 c (λ s. let l : c < e.0.0 = a.0 in omega arith)) (later_none es a.1)
 
   above : (k : ℕ × B) (es : List ((ℕ × B) × X)) → AllByRecursion (λ y. pair_cmp nat_cmp cmp k y ≡ Less) (keys_of es) → c < k.0 → AllByRecursion (λ e. c < e.0.0) es
   above k [] a lt = tt
@@ -95,14 +76,8 @@ module _ {B X : Type 0} (cmp : B → B → Ordering) (c : ℕ) where
       inner : (b : Bool) → nat_eq e.0.0 c ≡ b → leading (is_row_of c) es ≡ filter (is_row_of c) es
           → cond b (e ∷ leading (is_row_of c) es) [] ≡ cond b (e ∷ filter (is_row_of c) es) (filter (is_row_of c) es)
       inner true h rest = ap (λ t. e ∷ t) rest
-      inner false h rest = sym (later_none es (above e.0 es (sorted_head (pair_cmp nat_cmp cmp) e.0 (keys_of es) s) (strict (cases h))))
+      inner false h rest = sym (later_none es (above e.0 es (sorted_head (pair_cmp nat_cmp cmp) e.0 (keys_of es) s) (strict (eqb-false e.0.0 c h))))
         where
-          cases : nat_eq e.0.0 c ≡ false → e.0.0 ≡ c → ⊥
-          cases h k = let r : nat_eq c c ≡ false = rw k at h in let z : true ≡ false = sym (grind_refl c) ∙ r in cc
-            where
-              grind_refl : (n : ℕ) → nat_eq n n ≡ true
-              grind_refl n = grind arith
-
           strict : (e.0.0 ≡ c → ⊥) → c < e.0.0
           strict n = omega arith
 
@@ -151,11 +126,11 @@ module _ {B X : Type 0} (cmp : B → B → Ordering) (c : ℕ) where
 
   -- if the last row has a lesser number, so have all
   pub none_up_to : (t : List ((ℕ × B) × X)) (e : (ℕ × B) × X) → IsStrictlySortedBy (pair_cmp nat_cmp cmp) (keys_of (t ++ e ∷ [])) → e.0.0 < c → filter (is_row_of c) (t ++ e ∷ []) ≡ []
-  none_up_to [] e s lt = rw (apart e.0.0 c lt) refl
+  none_up_to [] e s lt = rw (ne_eqb e.0.0 c (λ s. omega arith)) refl
   none_up_to (x ∷ t) e s lt =
       let h : x.0.0 ≤ e.0.0 = then_less x.0.0 e.0.0 (cmp x.0.1 e.0.1) (last_of (λ y. pair_cmp nat_cmp cmp x.0 y ≡ Less) t e (sorted_head (pair_cmp nat_cmp cmp) x.0 (keys_of (t ++ e ∷ [])) s)) in
       let k : x.0.0 < c = omega arith in
-      rw (apart x.0.0 c k) (none_up_to t e (sorted_tail (pair_cmp nat_cmp cmp) x.0 (keys_of (t ++ e ∷ [])) s) lt)
+      rw (ne_eqb x.0.0 c (λ s. omega arith)) (none_up_to t e (sorted_tail (pair_cmp nat_cmp cmp) x.0 (keys_of (t ++ e ∷ [])) s) lt)
 
   -- no row of the number comes before its least key, if the last row before it is of another
   pub none_before : (least : B) (es lower t : List ((ℕ × B) × X)) (e : (ℕ × B) × X) → IsStrictlySortedBy (pair_cmp nat_cmp cmp) (keys_of es)
@@ -168,21 +143,13 @@ module _ {B X : Type 0} (cmp : B → B → Ordering) (c : ℕ) where
       ap (filter (is_row_of c)) (sym is ∙ split)
       ∙ none_up_to t e (subst Sorted (sym is ∙ split) whole) (lesser_before cmp c e.0 least less none)
 
-pub and_left : (x y : Bool) → (x && y) ≡ true → x ≡ true
-and_left true y h = refl
-and_left false y h = absurd (let e : false ≡ true = h in cc)
-
-pub and_right : (x y : Bool) → (x && y) ≡ true → y ≡ true
-and_right true y h = h
-and_right false y h = absurd (let e : false ≡ true = h in cc)
-
 -- no code of such bytes is less than the one of the least byte
 pub no_code_less : (allowed : ℕ → Bool) (high least : ℕ) → ((b : ℕ) → allowed b ≡ true → least ≤ b) → (text : List ℕ) → IsTrue (is_code allowed 1 high text) → code_cmp text (least ∷ []) ≡ Less → ⊥
 no_code_less allowed high least from [] form less = let e : false ≡ true = form in cc
 no_code_less allowed high least from (b ∷ text) form less = inner (nat_cmp b least) (ranked b least (nat_cmp b least) refl) less
   where
     head_allowed : allowed b ≡ true
-    head_allowed = and_left (allowed b) (list_all allowed text) (and_right (nat_le 1 (length (b ∷ text)) && nat_le (length (b ∷ text)) high) (list_all allowed (b ∷ text)) form)
+    head_allowed = (and_parts (allowed b) (list_all allowed text) (and_parts (nat_le 1 (length (b ∷ text)) && nat_le (length (b ∷ text)) high) (list_all allowed (b ∷ text)) form).1).0
 
     longer : (t : List ℕ) → code_cmp t [] ≡ Less → ⊥
     longer [] h = cc

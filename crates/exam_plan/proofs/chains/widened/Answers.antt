@@ -1,5 +1,6 @@
 use Rattle.std.proofs.Common.{◌∙◌, length}
-use Rattle.exam_plan.proofs.Steps.{same_within, united_none, united_more, united_all, less_within, one_fewer}
+use Rattle.std.proofs.lemmas.List.{get_or_default}
+use Rattle.exam_plan.proofs.Steps.{united_none, united_more, united_all, less_within, one_fewer}
 use Rattle.exam_plan.proofs.chains.widened.Goals as goal
 
 pub uniting-init : goal.uniting-init
@@ -17,7 +18,7 @@ uniting-preserved c =
     record {
       fresh = λ k t. c.uniting.invariant.fresh k (less_within c.uniting.rest c.in-Some.split.0 c.in-Some.split.1 c.in-Some.ensures.1 k t);
       united = united_more c.args.inward.now c.args.marked c.args.fresh c.uniting.rest c.uniting.next c.in-Some.split.0 c.index-inward-hall.result c.union-next.result c.in-Some.split.1 c.uniting.invariant.united among
-          (c.index-inward-hall.is ∙ same_within c.args.inward.now c.in-Some.split.0 c.index-inward-hall.result 0 (c.requires c.in-Some.split.0 among)) c.union-next.ensures c.in-Some.ensures.1;
+          (c.index-inward-hall.is ∙ get_or_default c.args.inward.now c.in-Some.split.0 c.index-inward-hall.result 0 (c.requires c.in-Some.split.0 among)) c.union-next.ensures c.in-Some.ensures.1;
     }
 
 pub uniting-smaller : goal.uniting-smaller

@@ -1,10 +1,10 @@
 use Rattle.std.proofs.Common.{rules, ◌≡◌, ℕ, ◌+◌, ◌<◌, ◌≤◌, List, Option, length, get_or, set, None, Some, IfSome, refl, arith}
 use Rattle.std.specs.Prelude.{All}
-use Rattle.std.proofs.lemmas.List.{length-set, get_or-set_same}
+use Rattle.std.proofs.lemmas.List.{length-set, get_or-set_same, get_or_default}
 use Rattle.exam_plan.specs.Problems.{Problem, plan_at, seating_of}
 use Rattle.exam_plan.specs.Repair.{where_room, lesser_occupants}
 use Rattle.exam_plan.specs.Searches.{count_at}
-use Rattle.exam_plan.proofs.Steps.{count_at-le, met_some, met_none, place_below, same_within}
+use Rattle.exam_plan.proofs.Steps.{count_at-le, met_some, met_none, place_below}
 use Rattle.exam_plan.proofs.KeptLemmas.{IsFilteredBelow, below_read, below_stays_at, below_out_at, below_all, counted_lesser, room_out, room_stays, places_none}
 use Rattle.exam_plan.proofs.keeping.put_out_crowded.Goals as goal
 use Rattle.exam_plan.proofs.keeping.put_out_crowded.Goals.{in-Some+then-desk_count-met, in-Some+else-desk_count-met, in_default}
@@ -27,7 +27,7 @@ taken p before plan met i h desks whole same within exist kept room counted here
     let lesser : get_or met h 0 ≡ lesser_occupants (seating_of p) (plan_at before) i h = counted_lesser p (plan_at before) i h (get_or met h 0) (omega (arith, within, whole)) (counted h below) in
     record {
       room = rw length-set room;
-      counted = met_some (plan_at before) (length p.desk_counts) i met counted h (get_or met h 0) room (below_read R before plan i (Some h) kept here) (same_within met h 0 (get_or met h 0) (omega (arith, below, room)));
+      counted = met_some (plan_at before) (length p.desk_counts) i met counted h (get_or met h 0) room (below_read R before plan i (Some h) kept here) (get_or_default met h 0 (get_or met h 0) (omega (arith, below, room)));
       out = λ more. below_out_at R before plan i (Some h) (omega (arith, within, same)) kept here
           (room_out (seating_of p) (plan_at before) i h desks (get_or met h 0) are lesser (omega (arith, more, new)));
       stays = λ few. below_stays_at R before plan i (Some h) kept here

@@ -1,7 +1,7 @@
 use Rattle.std.proofs.Common.{rules, ◌<◌, ◌∙◌, length, cond, nat_eq, ap, arith}
-use Rattle.std.proofs.lemmas.List.{length-set}
+use Rattle.std.proofs.lemmas.List.{length-set, get_or_default}
 use Rattle.exam_plan.specs.HallSets.{holds}
-use Rattle.exam_plan.proofs.Steps.{same_within, less_within, one_fewer}
+use Rattle.exam_plan.proofs.Steps.{less_within, one_fewer}
 use Rattle.exam_plan.proofs.Tables.{put_none, put_more, put_all}
 use Rattle.exam_plan.proofs.onward.put_each.Goals as goal
 
@@ -30,7 +30,7 @@ putting-preserved c =
       long = simp length-set c.putting.invariant.long;
       within = λ k t. c.putting.invariant.within k (less_within c.putting.rest c.in-Some.split.0 c.in-Some.split.1 c.in-Some.ensures.1 k t);
       put = put_more c.args.sets.now.items c.args.halls c.args.hall c.args.inside c.putting.rest c.putting.sets.items c.in-Some.split.0 c.put.result c.in-Some.split.1 c.putting.invariant.put below among c.in-Some.ensures.0.1
-          (λ h. c.put.ensures h ∙ ap (λ s. cond (nat_eq h c.args.hall) c.args.inside (holds s h)) (c.index.ensures ∙ same_within c.putting.sets.items c.in-Some.split.0 c.index.result.now 0 below)) c.in-Some.ensures.1;
+          (λ h. c.put.ensures h ∙ ap (λ s. cond (nat_eq h c.args.hall) c.args.inside (holds s h)) (c.index.ensures ∙ get_or_default c.putting.sets.items c.in-Some.split.0 c.index.result.now 0 below)) c.in-Some.ensures.1;
     }
 
 pub putting-smaller : goal.putting-smaller

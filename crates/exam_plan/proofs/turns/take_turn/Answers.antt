@@ -1,9 +1,9 @@
 use Rattle.std.proofs.Common.{◌≡◌, ◌+◌, ◌<◌, ◌≤◌, ◌++◌, ℕ, List, None, is_some, length, get_or, set, refl, sym, ap, ◌∙◌, inl, inr, subst, arith, rules}
-use Rattle.std.proofs.lemmas.List.{length-set}
+use Rattle.std.proofs.lemmas.List.{length-set, get_or_default}
 use Rattle.exam_plan.specs.HallSets.{holds, halls_below}
 use Rattle.exam_plan.specs.Problems.{plan_at}
 use Rattle.exam_plan.specs.Searches.{IsMarked, IsSettled, AreOnward, count_at}
-use Rattle.exam_plan.proofs.Steps.{count_at-le, same_within, within_other, leads_below}
+use Rattle.exam_plan.proofs.Steps.{count_at-le, within_other, leads_below}
 use Rattle.exam_plan.proofs.Tables.{onward_of}
 use Rattle.exam_plan.proofs.Listing.{room_left, after_lists, after_once, after_many}
 use Rattle.exam_plan.proofs.TurnLemmas.{IsTurned, turned, stays_put, counts_after, free_after, both_closed, both_within, both_traced, both_settled, seated_at, none_of}
@@ -28,7 +28,7 @@ returns-then-is_some c = record {
 pub overflow_add-index_mut : goal.overflow_add-index_mut
 overflow_add-index_mut c =
     let counted = c.requires.kept.counts c.advance-last.result c.advance-last.ensures.last in
-    let read : get_or c.args.sweep.now.counts.items c.advance-last.result c.index_mut.result.now ≡ get_or c.args.sweep.now.counts.items c.advance-last.result 0 = same_within c.args.sweep.now.counts.items c.advance-last.result c.index_mut.result.now 0 (omega (arith, c.advance-last.ensures.last, c.requires.kept.halls)) in
+    let read : get_or c.args.sweep.now.counts.items c.advance-last.result c.index_mut.result.now ≡ get_or c.args.sweep.now.counts.items c.advance-last.result 0 = get_or_default c.args.sweep.now.counts.items c.advance-last.result c.index_mut.result.now 0 (omega (arith, c.advance-last.ensures.last, c.requires.kept.halls)) in
     let le = count_at-le (plan_at c.args.sweep.now.plan.items) c.advance-last.result (length c.args.problem.now.fit) in
     let few : length c.args.problem.now.fit ≤ 4096 = c.fitting.ensures.problem.few in
     let l : c.index_mut.result.now ≤ 4096 = omega (arith, counted, read, le, few, c.index_mut.ensures.value) in
@@ -52,7 +52,7 @@ returns-in-Some c =
     let counts = counts_after c.args.problem.now (plan_at c.args.sweep.now.plan.items) (plan_at c.advance-last.new.plan.items) c.advance-last.result t.occupied c.args.sweep.now.counts.items c.index_mut.result.now c.requires.kept.halls c.advance-last.ensures.last c.requires.kept.counts c.index_mut.ensures.value in
     let long : length (set c.args.sweep.now.counts.items c.advance-last.result (c.index_mut.result.now + 1)) ≡ length c.args.problem.now.desk_counts = simp length-set c.requires.kept.halls in
     let now : c.index-in-Some.result.now ≡ count_at (plan_at c.advance-last.new.plan.items) c.advance-last.result (length c.args.problem.now.fit) =
-    c.index-in-Some.ensures ∙ same_within (set c.args.sweep.now.counts.items c.advance-last.result (c.index_mut.result.now + 1)) c.advance-last.result c.index-in-Some.result.now 0 (omega (arith, long, c.advance-last.ensures.last)) ∙ counts c.advance-last.result c.advance-last.ensures.last in
+    c.index-in-Some.ensures ∙ get_or_default (set c.args.sweep.now.counts.items c.advance-last.result (c.index_mut.result.now + 1)) c.advance-last.result c.index-in-Some.result.now 0 (omega (arith, long, c.advance-last.ensures.last)) ∙ counts c.advance-last.result c.advance-last.ensures.last in
     record {
       kept = record {
         plan = c.advance-last.ensures.plan;

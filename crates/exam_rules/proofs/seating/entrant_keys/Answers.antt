@@ -1,10 +1,11 @@
 use Rattle.std.proofs.Common.{◌≡◌, ◌++◌, ◌∷◌, [], All, Some, ap, sym, subst, ◌∙◌}
+use Rattle.std.proofs.lemmas.Simd.{map-map}
 use Rattle.exam_rules.specs.declared.lists.Entrant.{Entrant}
 use Rattle.exam_rules.specs.Relations.{relations_of}
 use Rattle.exam_rules.specs.Sessions.{least_live_paper}
 use Rattle.exam_rules.specs.Seatings.{desk_key}
 use Rattle.exam_rules.proofs.Listing.{entrants_sit}
-use Rattle.exam_rules.proofs.Ranking.{map-map, map_step, map_end}
+use Rattle.exam_rules.proofs.Ranking.{map_step, map_end}
 use Rattle.exam_rules.proofs.seating.entrant_keys.Goals as goal
 
 pub loop-entrant-preserved : goal.loop-entrant-preserved
@@ -23,4 +24,4 @@ loop-entrant-preserved c =
 pub returns-clause-ok : goal.returns-clause-ok
 returns-clause-ok c =
     map_end (λ (e : Entrant). desk_key (relations_of c.args.facts.now) c.args.session.now e.number) c.args.entrants.now c.loop-entrant.entrant-index c.loop-entrant.keys.items c.loop-entrant-test.false c.loop-entrant.invariant
-    ∙ sym (map-map (λ (e : Entrant). e.number) (desk_key (relations_of c.args.facts.now) c.args.session.now) c.args.entrants.now)
+    ∙ sym (map-map (desk_key (relations_of c.args.facts.now) c.args.session.now) (λ (e : Entrant). e.number) c.args.entrants.now)

@@ -2,12 +2,12 @@ use Rattle.std.proofs.Common.{◌≡◌, ◌≤◌, ◌<◌, ℕ, true, List, Op
 use Rattle.std.specs.Prelude.{All}
 use Rattle.std.proofs.lemmas.List.{length-map}
 use Rattle.std.proofs.lemmas.List.Elements.{All-map}
+use Rattle.std.proofs.lemmas.Simd.{map-map}
 use Rattle.exam_plan.specs.HallSets.{most_halls, holds, halls_below, sets_of}
 use Rattle.exam_rules.specs.Relations.{Code, relations_of}
 use Rattle.exam_rules.specs.Sessions.{members, sitting}
 use Rattle.exam_rules.specs.Seatings.{with_rooms, opened_room, fitting_places, desk_key}
 use Rattle.exam_rules.proofs.Places.{rooms_named}
-use Rattle.exam_rules.proofs.Ranking.{map-map}
 use Rattle.exam_rules.proofs.seating.fit_table.Goals as goal
 
 pub fit_rows-requires : goal.fit_rows-requires
@@ -27,7 +27,7 @@ returns-clause-ok c =
     subst (λ n. IfOk c.fit_rows.result (λ rows. map (halls_below n) (sets_of rows.items) ≡ map (λ m. fitting_places (relations_of c.args.facts.now) c.args.session.now m c.args.halls.now) (members (relations_of c.args.facts.now) c.args.session.now))) long
     (subst (λ (places : List (List ℕ)). IfOk c.fit_rows.result (λ rows. map (halls_below (length c.deref.result.now)) (sets_of rows.items) ≡ places))
     (ap (map (λ (key : Option Code × ℕ). fitting_places (relations_of c.args.facts.now) c.args.session.now key.1 (map (λ hall. hall.0) c.deref.result.now))) c.requires.keys
-    ∙ map-map (desk_key (relations_of c.args.facts.now) c.args.session.now) (λ (key : Option Code × ℕ). fitting_places (relations_of c.args.facts.now) c.args.session.now key.1 (map (λ hall. hall.0) c.deref.result.now)) (members (relations_of c.args.facts.now) c.args.session.now)
+    ∙ map-map (λ (key : Option Code × ℕ). fitting_places (relations_of c.args.facts.now) c.args.session.now key.1 (map (λ hall. hall.0) c.deref.result.now)) (desk_key (relations_of c.args.facts.now) c.args.session.now) (members (relations_of c.args.facts.now) c.args.session.now)
     ∙ ap (λ (halls : List Code). map (λ n. fitting_places (relations_of c.args.facts.now) c.args.session.now n halls) (members (relations_of c.args.facts.now) c.args.session.now)) (rooms_named (relations_of c.args.facts.now) c.args.session.now c.args.halls.now c.deref.result.now rooms))
     c.fit_rows.ensures.ok)
 

@@ -1,15 +1,16 @@
 use Rattle.std.proofs.Common.{◌≡◌, ◌+◌, ◌<◌, ◌≤◌, ◌||◌, ◌&&◌, not, true, ℕ, length, get_or, refl, sym, ap, subst, ◌∙◌, arith}
+use Rattle.std.proofs.lemmas.List.{get_or_default}
 use Rattle.exam_plan.specs.declared.tally.Tally.{Tally}
 use Rattle.exam_plan.specs.HallSets.{holds}
 use Rattle.exam_plan.specs.Tallies.{IsWhole, one_if, tally_of}
 use Rattle.exam_plan.specs.Searches.{no_digits, tally_at}
-use Rattle.exam_plan.proofs.Steps.{beyond, same_within}
-use Rattle.exam_plan.proofs.Tables.{read_within, entered, union_counted, changes_in}
+use Rattle.exam_plan.proofs.Steps.{beyond}
+use Rattle.exam_plan.proofs.Tables.{entered, union_counted, changes_in}
 use Rattle.exam_plan.proofs.onward.Onward.enter.Goals as goal
 
 pub count-requires : goal.count-requires
 count-requires c =
-    let same = c.index_mut.ensures.value ∙ read_within c.args.self.now.tallies.items c.args.hall c.index_mut.result.now no_digits (omega (arith, c.requires.hall, c.requires.shaped.tallies)) in
+    let same = c.index_mut.ensures.value ∙ get_or_default c.args.self.now.tallies.items c.args.hall c.index_mut.result.now no_digits (omega (arith, c.requires.hall, c.requires.shaped.tallies)) in
     record {
       whole = subst IsWhole (sym same) (c.requires.shaped.digits c.args.hall c.requires.hall);
       room = λ h. (
@@ -27,9 +28,9 @@ returns c =
     let in_firsts : c.args.hall < length c.args.self.now.firsts.items = omega (arith, c.requires.hall, shaped.firsts) in
     let more : (k : ℕ) → tally_of c.count.new.self k ≡ tally_at c.args.self.now.tallies.items c.args.hall k + one_if (holds c.fitting-fitting.result k) =
     λ k. c.count.ensures.more k ∙ ap (λ (t : Tally). tally_of t k + one_if (holds c.fitting-fitting.result k))
-    (c.index_mut.ensures.value ∙ read_within c.args.self.now.tallies.items c.args.hall c.index_mut.result.now no_digits in_tallies) in
-    let read : c.index-before.result.now ≡ get_or c.args.self.now.sets.items c.args.hall 0 = c.index-before.ensures ∙ same_within c.args.self.now.sets.items c.args.hall c.index-before.result.now 0 in_sets in
-    let first : c.index.result.now ≡ get_or c.args.self.now.firsts.items c.args.hall 0 = c.index.ensures ∙ same_within c.args.self.now.firsts.items c.args.hall c.index.result.now 0 in_firsts in
+    (c.index_mut.ensures.value ∙ get_or_default c.args.self.now.tallies.items c.args.hall c.index_mut.result.now no_digits in_tallies) in
+    let read : c.index-before.result.now ≡ get_or c.args.self.now.sets.items c.args.hall 0 = c.index-before.ensures ∙ get_or_default c.args.self.now.sets.items c.args.hall c.index-before.result.now 0 in_sets in
+    let first : c.index.result.now ≡ get_or c.args.self.now.firsts.items c.args.hall 0 = c.index.ensures ∙ get_or_default c.args.self.now.firsts.items c.args.hall c.index.result.now 0 in_firsts in
     let union : (k : ℕ) → holds c.union.result k ≡ holds (get_or c.args.self.now.sets.items c.args.hall 0) k || holds c.fitting-fitting.result k = λ k. c.union.ensures k ∙ ap (λ s. holds s k || holds c.fitting-fitting.result k) read in
     let gained : (k : ℕ) → holds c.minus.result k ≡ holds c.fitting-fitting.result k && not (holds (get_or c.args.self.now.sets.items c.args.hall 0) k) = λ k. c.minus.ensures k ∙ ap (λ s. holds c.fitting-fitting.result k && not (holds s k)) read in
     entered c.args.problem.now c.args.self.now _ c.args.hall c.count.new.self c.union.result shaped c.requires.hall refl refl c.count.ensures.whole
