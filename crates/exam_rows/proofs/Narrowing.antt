@@ -20,7 +20,8 @@ use Rattle.exam_types.specs.Days.{day_text}
 use Rattle.exam_types.specs.Features.{features_sum}
 use Rattle.exam_rows.specs.declared.writing.Changes.{Changes}
 use Rattle.exam_rows.specs.Inside.{Contains, Write, put_of, delete_of}
-use Rattle.exam_rows.specs.Writes.{sessions, papers, halls, candidates, openings, entries, arrangements, appeals, standing, seats, opening_key, seat_key, openings_deleted, seats_deleted, with_put, all_put, all_deleted, all_saved}
+use Rattle.exam_rows.specs.Forms.{sessions, papers, halls, candidates, openings, entries, arrangements, appeals, standing, seats, opening_key, seat_key, with_put}
+use Rattle.exam_rows.specs.Writes.{openings_deleted, seats_deleted, all_put, all_deleted, all_saved}
 use Rattle.exam_rows.specs.Stored.{kind_of, target_of, needs_of, extra_of, state_of, answer_of}
 
 -- where after the write each row has what it refers to, no foreign key refuses it

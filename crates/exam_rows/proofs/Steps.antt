@@ -1,6 +1,7 @@
 -- One step inside a transaction, and one after another.
-use Rattle.std.proofs.Common.{Option, Some, None, Bool, true, false, if◌then◌else◌, lit<, ◌≡◌, ◌<◌, ◌^◌, pos, to_z, of_z, w64, ℕ, List, [], ◌∷◌, ◌++◌, Ok, Err, Result, OnOk, IfErr, IsTrue, refl, sym, ap, subst, ◌∙◌, ◌≤◌, inl, inr, append_assoc, arith}
+use Rattle.std.proofs.Common.{Option, Some, None, Bool, true, false, if◌then◌else◌, lit<, ◌≡◌, ◌<◌, ◌^◌, pos, to_z, of_z, w64, ℕ, List, [], ◌∷◌, ◌++◌, Ok, Err, Result, OnOk, IfErr, IsTrue, refl, sym, ap, subst, ◌∙◌, ◌≤◌, inl, inr, append_assoc, arith, ◌+◌, drop, map, take}
 use Rattle.std.proofs.lemmas.Int.{to_z_pos}
+use Rattle.std.proofs.lemmas.List.{map-append, take-append-drop}
 use Rattle.sqlite_value.specs.declared.value.Value.TheVariants.{Text}
 use Rattle.sqlite_value.specs.Order.{Row}
 use Rattle.sqlite.specs.Values.{bound_value, or_null}
@@ -171,3 +172,16 @@ state_small (Superseded answer) = lit< tt
 pub bound_answer : (answer : Option (List ℕ)) → bound_value (or_null Text answer) ≡ or_null Text answer
 bound_answer None = refl
 bound_answer (Some text) = refl
+
+-- writes that are made one after another
+module _ {Y : Type 0} (f : Y → Write) (all : List Y) (at : ℕ) (y : Y) (more : take (at + 1) all ≡ take at all ++ y ∷ []) (old mid new : State) (so_far : Makes old mid (Ok tt) (map f (take at all))) where
+  pub one_more : Makes mid new (Ok tt) (f y ∷ []) → Makes old new (Ok tt) (map f (take (at + 1) all))
+  one_more next = subst (Makes old new (Ok tt)) (sym (ap (map f) more ∙ map-append f (take at all) (y ∷ []))) (makes_then old mid new (Ok tt) (map f (take at all)) (f y ∷ []) so_far next)
+
+  pub one_fails : (e : Refusal) → Makes mid new (Err e) (f y ∷ []) → Makes old new (Err e) (map f all)
+  one_fails e next = subst (Makes old new (Err e)) whole (makes_part old new e _ (map f (drop (at + 1) all)) (makes_then old mid new (Err e) (map f (take at all)) (f y ∷ []) so_far next))
+    where
+      whole : (map f (take at all) ++ f y ∷ []) ++ map f (drop (at + 1) all) ≡ map f all
+      whole =
+          ap (λ l. l ++ map f (drop (at + 1) all)) (sym (map-append f (take at all) (y ∷ []))) ∙ sym (map-append f (take at all ++ y ∷ []) (drop (at + 1) all))
+          ∙ ap (λ l. map f (l ++ drop (at + 1) all)) (sym more) ∙ ap (map f) (take-append-drop (at + 1) all)

@@ -1,7 +1,6 @@
 -- The table candidate: what its texts mean, and what they do.
-use Rattle.std.proofs.Common.{◌≡◌, ◌⊎◌, IsTrue, lit≤, ℕ, ℤ, List, [], ◌∷◌, ◌++◌, codes, map, length, true, false, Result, OnOk, Option, refl, Bool, Some, slice_get}
-use Rattle.std.specs.List.{AllByRecursion, list_all}
-use Rattle.std.specs.List.Sorted.{IsPermutation}
+use Rattle.std.proofs.Common.{◌≡◌, lit≤, ℕ, ℤ, List, [], ◌∷◌, ◌++◌, codes, true, false, Result, OnOk, Option, refl, Bool}
+use Rattle.std.specs.List.{list_all}
 use Rattle.sqlite_value.specs.declared.value.Value.TheVariants.{Null, Int, Text}
 use Rattle.sqlite_value.specs.declared.keys.Collation.TheVariants.{Binary}
 use Rattle.sqlite_value.specs.Order.{Row}
@@ -11,21 +10,20 @@ use Rattle.sqlite_sql.specs.Term.{Term, lit, col, op2, eval_all, holds}
 use Rattle.sqlite_sql.specs.declared.ops.BinaryOp.TheVariants.{Compare}
 use Rattle.sqlite_sql.specs.declared.ops.CompareOp.TheVariants.{Eq}
 use Rattle.sqlite_schema.specs.declared.command.Conflict.TheVariants.{Abort}
-use Rattle.sqlite_schema.specs.declared.command.Command.TheVariants.{InsertOr, Select}
+use Rattle.sqlite_schema.specs.declared.command.Command.TheVariants.{InsertOr}
 use Rattle.sqlite_schema.specs.declared.command.Source.TheVariants.{Values}
 use Rattle.sqlite_tied.specs.Compute.{everything}
 use Rattle.sqlite.specs.declared.error.Error.{Error}
-use Rattle.sqlite.specs.declared.error.Error.TheVariants.{SqliteFailure}
-use Rattle.sqlite.specs.declared.error.ErrorCode.TheVariants.{OutOfMemory}
 use Rattle.sqlite.specs.Rows.{shown}
 use Rattle.sqlite.specs.Effect.{Database}
-use Rattle.sqlite.specs.Listing.{understood, reads_listing}
-use Rattle.sqlite.specs.State.{State, Executes, FailsToQuery, Shown, IsUnchanged}
+use Rattle.sqlite.specs.Listing.{understood}
+use Rattle.sqlite.specs.State.{State, Executes}
 use Rattle.sqlite.proofs.Callers.{IsPlain, command_of}
 use Rattle.exam_tables.specs.Content.{ContainsIn, places, bare, put, same_key, same_rowid}
-use Rattle.exam_tables.specs.Made.{made_schema, ContainsMade}
-use Rattle.exam_tables.specs.Plain.{one_table, on_conflict}
-use Rattle.exam_tables.specs.Refusals.{Refuses, RefusesRows, is_failure}
+use Rattle.exam_tables.specs.Loads.{IsLoad}
+use Rattle.exam_tables.specs.Made.{made_schema}
+use Rattle.exam_tables.specs.Plain.{on_conflict}
+use Rattle.exam_tables.specs.Refusals.{Refuses, RefusesRows}
 use Rattle.exam_tables.specs.Tables.{store_schema, first_schema, stored_candidate}
 use Rattle.exam_tables.specs.Texts.{put_candidate, load_candidate}
 use Rattle.exam_tables.proofs.Failing.{Answers, IsWhole, answers}
@@ -34,8 +32,7 @@ use Rattle.exam_tables.proofs.KeysHold as keys
 use Rattle.exam_tables.proofs.References.{Stand, refers}
 use Rattle.exam_tables.proofs.Keys.{cast_null}
 use Rattle.exam_tables.proofs.Statements.{upsert_by, upsert_sets}
-use Rattle.exam_tables.proofs.QueryFails.{query_fails}
-use Rattle.exam_tables.proofs.Loads.{shown_by}
+use Rattle.exam_tables.proofs.Loads.{load_of}
 use Rattle.exam_tables.proofs.TableFacts.{candidate_keyed}
 
 abbrev pub row : ℤ → (List ℕ) → (List ℕ) → Row
@@ -101,30 +98,8 @@ load_text = load_candidate
 abbrev shown_terms : List Term
 shown_terms = col 1 0 ∷ col 1 2 ∷ col 1 3 ∷ []
 
-load_place : (has_marks : Bool) → slice_get (made_schema has_marks).tables 4 ≡ Some stored_candidate
-unfolding store_schema first_schema
-load_place true = refl
-load_place false = refl
-
-load_is : (has_marks : Bool) → command_of (understood (made_schema has_marks) load_text) ≡ Select (record { lets = []; body = one_table 7 [] shown_terms [] }) (codes "number" ∷ codes "name" ∷ codes "code" ∷ [])
+-- the text that loads shows each column, with the table of marks or without it
+pub loads : (has_marks : Bool) → IsLoad (made_schema has_marks) 7 load_text
 unfolding understood everything store_schema first_schema
-load_is true = refl
-load_is false = refl
-
-load_plain : (has_marks : Bool) → IsPlain (understood (made_schema has_marks) load_text)
-unfolding understood everything store_schema first_schema
-load_plain true = (refl, refl)
-load_plain false = (refl, refl)
-
-load_unlisted : (has_marks : Bool) → reads_listing (made_schema has_marks) load_text ≡ false
-unfolding understood everything store_schema first_schema
-load_unlisted true = refl
-load_unlisted false = refl
-
-pub shows : (old new : State) (rows : List Row) (all : Trees) → ContainsMade old.now all → Shown load_text [] old new rows
-    → IsPermutation (all 7) (map (λ r. Null ∷ r) rows) × AllByRecursion (λ r. length r ≡ 3) rows × IsUnchanged old new
-shows old new rows all was = shown_by (made_schema was.has_marks) 4 stored_candidate (load_place was.has_marks) load_text shown_terms [] _ (load_is was.has_marks) (load_plain was.has_marks) (load_unlisted was.has_marks) (λ db. refl) (λ r. refl) refl old new rows all was.contains
-
--- where it fails, the text was understood
-pub load_fails : (old new : State) (has_marks : Bool) → old.now.schema ≡ made_schema has_marks → (e : Error) → FailsToQuery load_text [] old new e → (e ≡ SqliteFailure OutOfMemory) ⊎ IsTrue (is_failure e)
-load_fails old new has_marks has e h = query_fails load_text [] old new (made_schema has_marks) has (load_plain has_marks) e h
+loads true = load_of (made_schema true) 4 stored_candidate load_text shown_terms (codes "number" ∷ codes "name" ∷ codes "code" ∷ []) refl refl (refl, refl) refl (λ db. refl) (λ r. refl)
+loads false = load_of (made_schema false) 4 stored_candidate load_text shown_terms (codes "number" ∷ codes "name" ∷ codes "code" ∷ []) refl refl (refl, refl) refl (λ db. refl) (λ r. refl)

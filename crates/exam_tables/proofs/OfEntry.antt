@@ -1,26 +1,22 @@
 -- The table entry: what its texts mean, and what they do.
-use Rattle.std.proofs.Common.{◌≡◌, ◌⊎◌, IsTrue, lit≤, ℕ, ℤ, List, [], ◌∷◌, codes, map, length, false, Result, OnOk, Option, refl, Bool, true, Some, slice_get}
-use Rattle.std.specs.List.{AllByRecursion}
-use Rattle.std.specs.List.Sorted.{IsPermutation}
+use Rattle.std.proofs.Common.{◌≡◌, lit≤, ℕ, ℤ, List, [], ◌∷◌, codes, false, Result, OnOk, Option, refl, Bool, true}
 use Rattle.sqlite_value.specs.declared.value.Value.TheVariants.{Null, Int, Text}
 use Rattle.sqlite_value.specs.Order.{Row}
 use Rattle.sqlite_trees.specs.Tree.{Trees, with_tree}
 use Rattle.sqlite_sql.specs.Term.{Term, lit, col}
 use Rattle.sqlite_schema.specs.declared.command.Conflict.TheVariants.{Replace}
-use Rattle.sqlite_schema.specs.declared.command.Command.TheVariants.{InsertOr, Select}
+use Rattle.sqlite_schema.specs.declared.command.Command.TheVariants.{InsertOr}
 use Rattle.sqlite_schema.specs.declared.command.Source.TheVariants.{Values}
 use Rattle.sqlite_tied.specs.Compute.{everything}
 use Rattle.sqlite.specs.declared.error.Error.{Error}
-use Rattle.sqlite.specs.declared.error.Error.TheVariants.{SqliteFailure}
-use Rattle.sqlite.specs.declared.error.ErrorCode.TheVariants.{OutOfMemory}
 use Rattle.sqlite.specs.Effect.{Database}
-use Rattle.sqlite.specs.Listing.{understood, reads_listing}
-use Rattle.sqlite.specs.State.{State, Executes, FailsToQuery, Shown, IsUnchanged}
+use Rattle.sqlite.specs.Listing.{understood}
+use Rattle.sqlite.specs.State.{State, Executes}
 use Rattle.sqlite.proofs.Callers.{IsPlain, command_of}
 use Rattle.exam_tables.specs.Content.{ContainsIn, put}
-use Rattle.exam_tables.specs.Made.{made_schema, ContainsMade}
-use Rattle.exam_tables.specs.Plain.{one_table}
-use Rattle.exam_tables.specs.Refusals.{Refuses, RefusesRows, is_failure}
+use Rattle.exam_tables.specs.Loads.{IsLoad}
+use Rattle.exam_tables.specs.Made.{made_schema}
+use Rattle.exam_tables.specs.Refusals.{Refuses, RefusesRows}
 use Rattle.exam_tables.specs.Tables.{store_schema, first_schema, stored_entry}
 use Rattle.exam_tables.specs.Texts.{put_entry, load_entry}
 use Rattle.exam_tables.proofs.Failing.{Answers, IsWhole, answers}
@@ -29,8 +25,7 @@ use Rattle.exam_tables.proofs.KeysHold as keys
 use Rattle.exam_tables.proofs.References.{Stand, refers}
 use Rattle.exam_tables.proofs.Keys.{cast_int}
 use Rattle.exam_tables.proofs.Statements.{put_by, put_sets}
-use Rattle.exam_tables.proofs.QueryFails.{query_fails}
-use Rattle.exam_tables.proofs.Loads.{shown_by}
+use Rattle.exam_tables.proofs.Loads.{load_of}
 use Rattle.exam_tables.proofs.TableFacts.{entry_keyed}
 
 abbrev pub row : ℤ → (List ℕ) → ℤ → Row
@@ -79,30 +74,8 @@ load_text = load_entry
 abbrev shown_terms : List Term
 shown_terms = col 1 1 ∷ col 1 2 ∷ col 1 3 ∷ []
 
-load_place : (has_marks : Bool) → slice_get (made_schema has_marks).tables 6 ≡ Some stored_entry
-unfolding store_schema first_schema
-load_place true = refl
-load_place false = refl
-
-load_is : (has_marks : Bool) → command_of (understood (made_schema has_marks) load_text) ≡ Select (record { lets = []; body = one_table 10 [] shown_terms [] }) (codes "number" ∷ codes "paper" ∷ codes "live" ∷ [])
+-- the text that loads shows each column, with the table of marks or without it
+pub loads : (has_marks : Bool) → IsLoad (made_schema has_marks) 10 load_text
 unfolding understood everything store_schema first_schema
-load_is true = refl
-load_is false = refl
-
-load_plain : (has_marks : Bool) → IsPlain (understood (made_schema has_marks) load_text)
-unfolding understood everything store_schema first_schema
-load_plain true = (refl, refl)
-load_plain false = (refl, refl)
-
-load_unlisted : (has_marks : Bool) → reads_listing (made_schema has_marks) load_text ≡ false
-unfolding understood everything store_schema first_schema
-load_unlisted true = refl
-load_unlisted false = refl
-
-pub shows : (old new : State) (rows : List Row) (all : Trees) → ContainsMade old.now all → Shown load_text [] old new rows
-    → IsPermutation (all 10) (map (λ r. Null ∷ r) rows) × AllByRecursion (λ r. length r ≡ 3) rows × IsUnchanged old new
-shows old new rows all was = shown_by (made_schema was.has_marks) 6 stored_entry (load_place was.has_marks) load_text shown_terms [] _ (load_is was.has_marks) (load_plain was.has_marks) (load_unlisted was.has_marks) (λ db. refl) (λ r. refl) refl old new rows all was.contains
-
--- where it fails, the text was understood
-pub load_fails : (old new : State) (has_marks : Bool) → old.now.schema ≡ made_schema has_marks → (e : Error) → FailsToQuery load_text [] old new e → (e ≡ SqliteFailure OutOfMemory) ⊎ IsTrue (is_failure e)
-load_fails old new has_marks has e h = query_fails load_text [] old new (made_schema has_marks) has (load_plain has_marks) e h
+loads true = load_of (made_schema true) 6 stored_entry load_text shown_terms (codes "number" ∷ codes "paper" ∷ codes "live" ∷ []) refl refl (refl, refl) refl (λ db. refl) (λ r. refl)
+loads false = load_of (made_schema false) 6 stored_entry load_text shown_terms (codes "number" ∷ codes "paper" ∷ codes "live" ∷ []) refl refl (refl, refl) refl (λ db. refl) (λ r. refl)

@@ -1,25 +1,21 @@
 -- The table standing: what its texts mean, and what they do.
-use Rattle.std.proofs.Common.{◌≡◌, ◌⊎◌, IsTrue, lit≤, ℕ, ℤ, List, [], ◌∷◌, codes, map, length, false, Result, OnOk, Option, refl}
-use Rattle.std.specs.List.{AllByRecursion}
-use Rattle.std.specs.List.Sorted.{IsPermutation}
+use Rattle.std.proofs.Common.{◌≡◌, lit≤, ℕ, ℤ, List, [], ◌∷◌, codes, Result, OnOk, Option, refl}
 use Rattle.sqlite_value.specs.declared.value.Value.TheVariants.{Null, Int, Text}
 use Rattle.sqlite_value.specs.Order.{Row}
 use Rattle.sqlite_trees.specs.Tree.{Trees, with_tree}
 use Rattle.sqlite_sql.specs.Term.{Term, lit, col}
 use Rattle.sqlite_schema.specs.declared.command.Conflict.TheVariants.{Replace}
-use Rattle.sqlite_schema.specs.declared.command.Command.TheVariants.{InsertOr, Select}
+use Rattle.sqlite_schema.specs.declared.command.Command.TheVariants.{InsertOr}
 use Rattle.sqlite_schema.specs.declared.command.Source.TheVariants.{Values}
 use Rattle.sqlite_tied.specs.Compute.{everything}
 use Rattle.sqlite.specs.declared.error.Error.{Error}
-use Rattle.sqlite.specs.declared.error.Error.TheVariants.{SqliteFailure}
-use Rattle.sqlite.specs.declared.error.ErrorCode.TheVariants.{OutOfMemory}
 use Rattle.sqlite.specs.Effect.{Database}
-use Rattle.sqlite.specs.Listing.{understood, reads_listing}
-use Rattle.sqlite.specs.State.{State, Executes, FailsToQuery, Shown, IsUnchanged}
+use Rattle.sqlite.specs.Listing.{understood}
+use Rattle.sqlite.specs.State.{State, Executes}
 use Rattle.sqlite.proofs.Callers.{IsPlain, command_of}
 use Rattle.exam_tables.specs.Content.{ContainsIn, put}
-use Rattle.exam_tables.specs.Plain.{one_table}
-use Rattle.exam_tables.specs.Refusals.{Refuses, RefusesRows, is_failure}
+use Rattle.exam_tables.specs.Loads.{IsLoad}
+use Rattle.exam_tables.specs.Refusals.{Refuses, RefusesRows}
 use Rattle.exam_tables.specs.Tables.{store_schema, stored_standing}
 use Rattle.exam_tables.specs.Texts.{put_standing, load_standing}
 use Rattle.exam_tables.proofs.Failing.{Answers, IsWhole, answers}
@@ -28,8 +24,7 @@ use Rattle.exam_tables.proofs.KeysHold as keys
 use Rattle.exam_tables.proofs.References.{Stand, refers}
 use Rattle.exam_tables.proofs.Keys.{cast_int}
 use Rattle.exam_tables.proofs.Statements.{put_by, put_sets}
-use Rattle.exam_tables.proofs.QueryFails.{query_fails}
-use Rattle.exam_tables.proofs.Loads.{shown_by}
+use Rattle.exam_tables.proofs.Loads.{load_of}
 use Rattle.exam_tables.proofs.TableFacts.{standing_keyed}
 
 abbrev pub row : ℤ → (List ℕ) → Row
@@ -78,22 +73,7 @@ load_text = load_standing
 abbrev shown_terms : List Term
 shown_terms = col 1 1 ∷ col 1 2 ∷ []
 
-load_is : command_of (understood store_schema load_text) ≡ Select (record { lets = []; body = one_table 17 [] shown_terms [] }) (codes "number" ∷ codes "ref" ∷ [])
+-- the text that loads shows each column
+pub loads : IsLoad store_schema 17 load_text
 unfolding understood everything store_schema
-load_is = refl
-
-load_plain : IsPlain (understood store_schema load_text)
-unfolding understood everything store_schema
-load_plain = (refl, refl)
-
-load_unlisted : reads_listing store_schema load_text ≡ false
-unfolding understood everything store_schema
-load_unlisted = refl
-
-pub shows : (old new : State) (rows : List Row) (all : Trees) → ContainsIn store_schema old.now all → Shown load_text [] old new rows
-    → IsPermutation (all 17) (map (λ r. Null ∷ r) rows) × AllByRecursion (λ r. length r ≡ 2) rows × IsUnchanged old new
-shows = shown_by store_schema 10 stored_standing standing_keyed.place load_text shown_terms [] _ load_is load_plain load_unlisted (λ db. refl) (λ r. refl) refl
-
--- where it fails, the text was understood
-pub load_fails : (old new : State) → old.now.schema ≡ store_schema → (e : Error) → FailsToQuery load_text [] old new e → (e ≡ SqliteFailure OutOfMemory) ⊎ IsTrue (is_failure e)
-load_fails old new has e h = query_fails load_text [] old new store_schema has load_plain e h
+loads = load_of store_schema 10 stored_standing load_text shown_terms (codes "number" ∷ codes "ref" ∷ []) refl refl (refl, refl) refl (λ db. refl) (λ r. refl)

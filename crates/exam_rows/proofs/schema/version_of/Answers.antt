@@ -1,6 +1,7 @@
 use Rattle.std.proofs.Common.{◌≡◌, Err, [], rules, inl, inr, refl, sym, ◌∙◌}
 use Rattle.std.proofs.lemmas.Result.{IfOk-weaker, IfErr-weaker}
 use Rattle.sqlite.specs.Held.{state}
+use Rattle.exam_tables.proofs.Loads.{load_fails, shown_by}
 use Rattle.exam_tables.proofs.OfOffice as office
 use Rattle.exam_tables.proofs.Quiet.{office_is_query, shown_unchanged, failed_unchanged}
 use Rattle.exam_rows.proofs.Leaving.{bad_unchanged, query_survives, reads_only, shown_understood, understood_still, fails_to_load}
@@ -11,8 +12,8 @@ pub returns-clause-ok : goal.returns-clause-ok
 returns-clause-ok g c = λ clean.
     IfOk-weaker c.version_in.result _ _ (λ version is all was.
     let rows = c.in_ok-rows.rows.items in
-    let shown = office.shows (state g.S.Store c.args.conn.now) (state g.S.Store c.all_rows.new.conn) rows all was (c.in_ok-rows.ensures.shown clean) in
-    (version_held version.number (all 0) rows shown.0 (sym c.as_slice.ensures.value ∙ is), shown.2)) c.version_in.ensures.ok
+    let shown = shown_by (office.loads was.has_marks) (state g.S.Store c.args.conn.now) (state g.S.Store c.all_rows.new.conn) rows all was.contains (c.in_ok-rows.ensures.shown clean) in
+    (version_held version.number (all 0) rows shown.0 (sym c.as_slice.ensures.value ∙ is), shown.1)) c.version_in.ensures.ok
 
 pub returns-clause-bad : goal.returns-clause-bad
 returns-clause-bad g c = λ clean.
@@ -20,7 +21,7 @@ returns-clause-bad g c = λ clean.
       why.0,
       λ all was version one held.
           let rows = c.in_ok-rows.rows.items in
-          let shown = office.shows (state g.S.Store c.args.conn.now) (state g.S.Store c.all_rows.new.conn) rows all was (c.in_ok-rows.ensures.shown clean) in
+          let shown = shown_by (office.loads was.has_marks) (state g.S.Store c.args.conn.now) (state g.S.Store c.all_rows.new.conn) rows all was.contains (c.in_ok-rows.ensures.shown clean) in
           why.1 version one (c.as_slice.ensures.value ∙ version_shown version (all 0) rows shown.0 held),
     ))) c.version_in.ensures.bad
 
@@ -48,7 +49,7 @@ returns-in_err-rows-clause-survives g c = query_survives office.load_text office
 pub returns-in_err-rows-clause-bad : goal.returns-in_err-rows-clause-bad
 returns-in_err-rows-clause-bad g c = λ clean.
     let is : c.from_residual.result ≡ Err c.in_err-rows.field-0.0 = search rules in
-    rw is (inr (inl (fails_to_load {V = Unit {0}} office.load_text office.load_fails (state g.S.Store c.args.conn.now) (state g.S.Store c.all_rows.new.conn) (Err c.in_err-rows.field-0.0) (c.in_err-rows.ensures.failed clean))))
+    rw is (inr (inl (fails_to_load {V = Unit {0}} office.load_text (λ old new has_marks. load_fails (office.loads has_marks) old new) (state g.S.Store c.args.conn.now) (state g.S.Store c.all_rows.new.conn) (Err c.in_err-rows.field-0.0) (c.in_err-rows.ensures.failed clean))))
 
 pub returns-clause-understood : goal.returns-clause-understood
 returns-clause-understood g c = λ clean.

@@ -1,0 +1,31 @@
+use Rattle.std.proofs.Common.{◌≡◌, ◌+◌, Ok, Err, refl, ◌∙◌, rules}
+use Rattle.sqlite.specs.Held.{state}
+use Rattle.exam_rows.specs.Versions.{HasNoRows}
+use Rattle.exam_rows.proofs.Creating.{each_leads, leads_itself, leads_refused, leads_then, made, table_leads}
+use Rattle.exam_rows.proofs.schema.create_first.Goals as goal
+
+pub texts-init : goal.texts-init
+texts-init g c = record { same = refl; made = leads_itself (HasNoRows (made 0)) (HasNoRows (made 0)) (state g.S.Store c.args.tx.now.conn.now) (λ has. has) }
+
+pub texts-preserved : goal.texts-preserved
+texts-preserved g c =
+    let at = c.texts.text-index in
+    let mid = state g.S.Store c.texts.tx.conn.now in
+    let new = state g.S.Store c.run.new.tx.conn.now in
+    let run = c.in_ok-run.ensures in
+    let step = table_leads (made at) (made (at + 1)) _ (each_leads at c.texts-test.true) mid new (Ok tt) run.failed run.ran run.kept run.survives run.told in
+    record {
+      same = run.same_reference ∙ c.texts.invariant.same;
+      made = leads_then (HasNoRows (made 0)) (HasNoRows (made at)) (HasNoRows (made (at + 1))) (state g.S.Store c.args.tx.now.conn.now) mid new (Ok tt) c.texts.invariant.made step;
+    }
+
+pub returns-in_err-run-clause-made : goal.returns-in_err-run-clause-made
+returns-in_err-run-clause-made g c =
+    let e = c.in_err-run.field-0.0 in
+    let is : c.from_residual.result ≡ Err e = search rules in
+    let at = c.texts.text-index in
+    let mid = state g.S.Store c.texts.tx.conn.now in
+    let new = state g.S.Store c.run.new.tx.conn.now in
+    let run = c.in_err-run.ensures in
+    let step = table_leads (made at) (made (at + 1)) _ (each_leads at c.texts-test.true) mid new (Err e) run.failed run.ran run.kept run.survives run.told in
+    rw is (leads_then (HasNoRows (made 0)) (HasNoRows (made at)) (HasNoRows (made 10)) (state g.S.Store c.args.tx.now.conn.now) mid new (Err e) c.texts.invariant.made (leads_refused (HasNoRows (made at)) (HasNoRows (made (at + 1))) (HasNoRows (made 10)) mid new e step))

@@ -1,0 +1,132 @@
+-- How each table is stored: one description of each of the ten tables.
+use Rattle.std.specs.Prelude.{ℕ, List, [], ◌∷◌, map}
+use Rattle.std.specs.Borrow.{Bor}
+use Rattle.std.specs.List.{Contains}
+use Rattle.std.specs.declared.cmp.Ordering.{Ordering}
+use Rattle.std.specs.Ordering.{nat_cmp}
+use Rattle.sqlite_value.specs.declared.value.Value.TheVariants.{Text}
+use Rattle.sqlite_value.specs.Order.{Row}
+use Rattle.sqlite_trees.specs.Tree.{Trees}
+use Rattle.sqlite_schema.specs.declared.schema.Schema.{Schema}
+use Rattle.sqlite.specs.Effect.{Database}
+use Rattle.exam_rules.specs.Relations.{Code, code_cmp, opening_cmp, entry_cmp, appeal_cmp, seat_cmp}
+use Rattle.exam_rules.specs.declared.rows.Session.{Session}
+use Rattle.exam_rules.specs.declared.rows.Paper.{Paper}
+use Rattle.exam_rules.specs.declared.rows.Hall.{Hall}
+use Rattle.exam_rules.specs.declared.rows.Opening.{Opening}
+use Rattle.exam_rules.specs.declared.rows.Candidate.{Candidate}
+use Rattle.exam_rules.specs.declared.rows.Entry.{Entry}
+use Rattle.exam_rules.specs.declared.rows.Arrangement.{Arrangement}
+use Rattle.exam_rules.specs.declared.rows.Appeal.{Appeal}
+use Rattle.exam_tables.specs.Content.{ContainsIn}
+use Rattle.exam_tables.specs.Loads.{IsLoad}
+use Rattle.exam_tables.specs.Made.{ContainsMade}
+use Rattle.exam_tables.specs.Tables.{stored_session, stored_paper, stored_hall, stored_candidate, stored_opening}
+use Rattle.exam_tables.specs.Tables.{stored_entry, stored_arrangement, stored_appeal, stored_seat, stored_standing}
+use Rattle.exam_tables.specs.Texts.{put_session, put_paper, put_hall, put_candidate, put_opening, put_entry}
+use Rattle.exam_tables.specs.Texts.{put_arrangement, put_appeal, put_seat, put_standing}
+use Rattle.exam_tables.specs.Texts.{load_session, load_paper, load_hall, load_candidate, load_opening, load_entry}
+use Rattle.exam_tables.specs.Texts.{load_arrangement, load_appeal, load_seat, load_standing, load_texts}
+use Rattle.exam_tables.proofs.Quiet.{IsQuery}
+use Rattle.exam_rows.specs.Inside as inside
+use Rattle.exam_rows.specs.Loaded.{KeysMatch}
+use Rattle.exam_rows.specs.Stored.{whole}
+use Rattle.exam_rows.specs.Rows.{session_row, paper_row, hall_row, opening_row, candidate_row, entry_row}
+use Rattle.exam_rows.specs.Rows.{arrangement_row, appeal_row, standing_row, seat_row}
+use Rattle.exam_rows.specs.Rows.{IsSession, IsPaper, IsHall, IsOpening, IsCandidate, IsEntry, IsArrangement}
+use Rattle.exam_rows.specs.Rows.{IsAppeal, IsStanding, IsSeat}
+
+-- how a table is stored
+pub record Form (K X : Type 0) : Type 1 where
+  -- the tree of its rows, and the places of its key among the columns, from 1
+  pub tree : ℕ
+  pub places : List ℕ
+  -- how its keys are ordered
+  pub cmp : K → K → Ordering
+  -- the columns of a row, and the keys and values that may be a row
+  pub row : K → X → Row
+  pub IsRow : K → X → Type 0
+  -- the statement that puts a row, and the one that shows all rows
+  pub put : List ℕ
+  pub load : List ℕ
+  -- the databases from which all rows can be shown, with the rows of their tables
+  pub Holds : Database → Trees → Type 0
+
+-- that of a table which every version has
+abbrev pub made_form : {K X : Type 0} → ℕ → List ℕ → (K → K → Ordering) → (K → X → Row) → (K → X → Type 0) → List ℕ
+    → List ℕ → Form K X
+made_form tree places cmp row IsRow put load = record {
+  tree = tree;
+  places = places;
+  cmp = cmp;
+  row = row;
+  IsRow = IsRow;
+  put = put;
+  load = load;
+  Holds = ContainsMade;
+}
+
+abbrev pub sessions : Form Code Session
+sessions = made_form stored_session.tree (1 ∷ []) code_cmp session_row IsSession put_session load_session
+
+abbrev pub papers : Form Code Paper
+papers = made_form stored_paper.tree (1 ∷ []) code_cmp paper_row IsPaper put_paper load_paper
+
+abbrev pub halls : Form Code Hall
+halls = made_form stored_hall.tree (1 ∷ []) code_cmp hall_row IsHall put_hall load_hall
+
+abbrev pub candidates : Form ℕ Candidate
+candidates = made_form stored_candidate.tree (1 ∷ []) nat_cmp candidate_row IsCandidate put_candidate load_candidate
+
+abbrev pub openings : Form (Code × Code) Opening
+openings = made_form stored_opening.tree (1 ∷ 2 ∷ []) opening_cmp opening_row IsOpening put_opening load_opening
+
+abbrev pub entries : Form (ℕ × Code) Entry
+entries = made_form stored_entry.tree (1 ∷ 2 ∷ []) entry_cmp entry_row IsEntry put_entry load_entry
+
+abbrev pub arrangements : Form ℕ Arrangement
+arrangements = made_form stored_arrangement.tree (1 ∷ []) nat_cmp arrangement_row IsArrangement put_arrangement load_arrangement
+
+abbrev pub appeals : Form (ℕ × Code) Appeal
+appeals = made_form stored_appeal.tree (1 ∷ 2 ∷ []) appeal_cmp appeal_row IsAppeal put_appeal load_appeal
+
+abbrev pub seats : Form (Code × ℕ) Code
+seats = made_form stored_seat.tree (1 ∷ 2 ∷ []) seat_cmp seat_row IsSeat put_seat load_seat
+
+-- version 1 has no table of marks
+abbrev pub standing : Form (ℕ × Code) (Unit {0})
+standing = record {
+  tree = stored_standing.tree;
+  places = 1 ∷ 2 ∷ [];
+  cmp = appeal_cmp;
+  row = standing_row;
+  IsRow = IsStanding;
+  put = put_standing;
+  load = load_standing;
+  Holds = inside.Contains;
+}
+
+-- the columns of the key of an opening and of a seat, by which rows are deleted
+abbrev pub opening_key : Code × Code → Row
+opening_key key = Text key.0 ∷ Text key.1 ∷ []
+
+abbrev pub seat_key : Code × ℕ → Row
+seat_key key = Text key.0 ∷ whole key.1 ∷ []
+
+-- the write that puts a row, and those that put rows
+abbrev pub row_put : {K X : Type 0} → Form K X → K → X → inside.Write
+row_put form k x = inside.put_of form.put form.tree form.places (form.row k x)
+
+abbrev pub with_put : {K X : Type 0} → Form K X → List (Bor K × Bor X) → List inside.Write
+with_put form rows = map (λ r. row_put form r.0.now r.1.now) rows
+
+-- What the texts of this product's tables have in common. Keys are told apart as in SQL. The one that loads is one of
+-- the eleven, and shows the rows also of the newest tables.
+pub record IsOurTable {K X : Type 0} (cmp : K → K → Ordering) (form : Form K X) : Type 0 where
+  pub keys : KeysMatch cmp form.places form.row
+  pub loads : Contains load_texts form.load
+  pub query : IsQuery form.load
+  -- the tables of a schema by which it loads the rows; also the newest ones
+  pub shows : (db : Database) (all : Trees) → form.Holds db all
+      → (schema : Schema) × ContainsIn schema db all × IsLoad schema form.tree form.load
+  pub newest : (db : Database) (all : Trees) → inside.Contains db all → form.Holds db all
