@@ -1,5 +1,5 @@
 -- The tables are made one after another.
-use Rattle.std.proofs.Common.{◌≡◌, ◌==◌, ◌≤◌, ◌<◌, ◌+◌, IsSome, false, inl, inr, ℕ, zero, suc, get_or, pos, List, [], ◌∷◌, Ok, Err, Result, OnOk, IfErr, IsTrue, refl, subst, sym, arith}
+use Rattle.std.proofs.Common.{◌≡◌, ◌==◌, ◌≤◌, IsSome, false, inl, inr, ℕ, pos, List, [], ◌∷◌, Ok, Err, Result, OnOk, IfErr, IsTrue, refl, subst, sym, arith}
 use Rattle.std.specs.List.Sorted.{IsPermutation}
 use Rattle.std.proofs.lemmas.Bool.{both_ways, cases_Bool, eqb-true}
 use Rattle.std.proofs.lemmas.List.Sorted.{IsPermutation-refl}
@@ -8,6 +8,7 @@ use Rattle.sqlite_value.specs.Order.{Row}
 use Rattle.sqlite_trees.specs.Tree.{Trees, with_tree}
 use Rattle.sqlite_trees.proofs.ListLemmas.{all_of}
 use Rattle.sqlite_schema.specs.declared.schema.Schema.{Schema}
+use Rattle.sqlite_schema.specs.declared.schema.Table.{Table}
 use Rattle.sqlite_trees.specs.declared.memory.MemStore.{MemStore}
 use Rattle.sqlite.specs.Held.{Held, IsNew, state}
 use Rattle.sqlite.specs.Steps.{over_memory, IsEmpty}
@@ -19,13 +20,12 @@ use Rattle.sqlite.proofs.InsideLemmas.{keeps_then}
 use Rattle.exam_types.specs.declared.refusal.Refusal.{Refusal}
 use Rattle.exam_types.specs.declared.refusal.Refusal.TheVariants.{NoMemory}
 use Rattle.exam_tables.specs.Content.{ContainsIn}
-use Rattle.exam_tables.specs.Grows.{made_0, made_1, made_2, made_3, made_4, made_5, made_6, made_7, made_8, made_9, made_10}
 use Rattle.exam_tables.specs.Refusals.{Fails}
-use Rattle.exam_tables.specs.Tables.{store_schema, office_text, session_text, paper_text, hall_text, candidate_text, opening_text, entry_text, arrangement_text, appeal_text, seat_text}
+use Rattle.exam_tables.specs.Tables.{made, store_schema}
 use Rattle.exam_tables.proofs.Changes.{contains_same}
-use Rattle.exam_tables.proofs.Making as making
+use Rattle.exam_tables.proofs.AllTables.{first_is}
+use Rattle.exam_tables.proofs.Making.{AddsTable, adding_fails, adds_table}
 use Rattle.exam_tables.proofs.OfOffice as office
-use Rattle.exam_tables.proofs.Unrefused as unrefused
 use Rattle.exam_tables.proofs.VersionFails.{version_fails}
 use Rattle.exam_rows.specs.Faults.{refusal_of, is_store_refusal}
 use Rattle.exam_rows.specs.Inside.{Ran}
@@ -94,36 +94,14 @@ limited old new error (inl lacks) = inl lacks
 limited old new error (inr (named, inl down)) = inr (named, inl down)
 limited old new error (inr (named, inr none)) = absurd none
 
--- the statement adds a table of this tree
-pub record Adds (before after : Schema) (text : List ℕ) : Type 0 where
-  pub tree : ℕ
-  pub does : (old new : State) (r : Result ℕ Error) → Executes text [] old new r → OnOk r ((all : Trees) → ContainsIn before old.now all → ContainsIn after new.now (with_tree all tree []))
-  pub fails : (old new : State) → old.now.schema ≡ before → (e : Error) → ExecutesInside 0 text [] old new (Err e) → Fails old new ⊥ e
+-- the statement adds a table
+abbrev pub Adds : Schema → Schema → List ℕ → Type 0
+Adds before after text = (tree : ℕ) × (table : Table) × AddsTable before after tree table text
 
 pub table_leads : (before after : Schema) (text : List ℕ) → Adds before after text → (old new : State) (result : Result (Unit {0}) Refusal) → Refused text [] old new result → (HasCleanDisk new → IsTrue old.in_transaction → OnOk result (Ran text [] old new × IsTrue new.in_transaction))
     → (HasCleanDisk new → KeepsCommit old new) → Survives old new (λ _. ⊥) → IfErr result (λ e. IsTrue (is_store_refusal e)) → Leads (HasNoRows before) (HasNoRows after) old new result
 table_leads before after text adds old new result failed ran kept survives told =
-    leads_by (HasNoRows before) (HasNoRows after) old new text [] result (λ count run was. still_empty after new.now adds.tree (adds.does old new (Ok count) run (λ tree. []) was)) (λ was error run. limited old new error (adds.fails old new was.schema_is error run)) failed ran kept survives told
-
--- the schema after the first tables were made, and the texts that make them
-abbrev pub made : ℕ → Schema
-made k = get_or (made_0 ∷ made_1 ∷ made_2 ∷ made_3 ∷ made_4 ∷ made_5 ∷ made_6 ∷ made_7 ∷ made_8 ∷ made_9 ∷ []) k made_10
-
-abbrev pub texts : List (List ℕ)
-texts = office_text ∷ session_text ∷ paper_text ∷ hall_text ∷ candidate_text ∷ opening_text ∷ entry_text ∷ arrangement_text ∷ appeal_text ∷ seat_text ∷ []
-
-pub each_leads : (k : ℕ) → k < 10 → Adds (made k) (made (k + 1)) (get_or texts k [])
-each_leads zero below = record { tree = 0; does = making.makes_office; fails = unrefused.office_fails }
-each_leads (suc zero) below = record { tree = 1; does = making.makes_session; fails = unrefused.session_fails }
-each_leads (suc (suc zero)) below = record { tree = 3; does = making.makes_paper; fails = unrefused.paper_fails }
-each_leads (suc (suc (suc zero))) below = record { tree = 5; does = making.makes_hall; fails = unrefused.hall_fails }
-each_leads (suc (suc (suc (suc zero)))) below = record { tree = 7; does = making.makes_candidate; fails = unrefused.candidate_fails }
-each_leads (suc (suc (suc (suc (suc zero))))) below = record { tree = 8; does = making.makes_opening; fails = unrefused.opening_fails }
-each_leads (suc (suc (suc (suc (suc (suc zero)))))) below = record { tree = 10; does = making.makes_entry; fails = unrefused.entry_fails }
-each_leads (suc (suc (suc (suc (suc (suc (suc zero))))))) below = record { tree = 12; does = making.makes_arrangement; fails = unrefused.arrangement_fails }
-each_leads (suc (suc (suc (suc (suc (suc (suc (suc zero)))))))) below = record { tree = 13; does = making.makes_appeal; fails = unrefused.appeal_fails }
-each_leads (suc (suc (suc (suc (suc (suc (suc (suc (suc zero))))))))) below = record { tree = 15; does = making.makes_seat; fails = unrefused.seat_fails }
-each_leads (suc (suc (suc (suc (suc (suc (suc (suc (suc (suc k)))))))))) below = absurd (omega arith)
+    leads_by (HasNoRows before) (HasNoRows after) old new text [] result (λ count run was. still_empty after new.now adds.0 (adds_table adds.2 old new (Ok count) run (λ tree. []) was)) (λ was error run. limited old new error (adding_fails adds.2 old new was.schema_is error run)) failed ran kept survives told
 
 -- if the connection is shut, that alone explains a failed statement
 shut_fails : {A B : Type 0} (old new : State) (error : Error) → old.is_open ≡ false → Fails old new A error → Fails old new B error
@@ -149,12 +127,12 @@ no_marks db all none was = contains_same store_schema db _ _ was (all_of _ (λ s
     same u = elim (cases_Bool (u == 17)) [ inl is ↦ rw is (subst (λ n. [] ≡ all n) (sym (eqb-true u 17 is)) (sym none)) | inr other ↦ rw other refl ]
 
 -- nothing is the schema with no tables, and the ten tables are those of version 1
-pub blank_is_empty : (db : Database) → IsBlank db → HasNoRows made_0 db
-unfolding made_0
+pub blank_is_empty : (db : Database) → IsBlank db → HasNoRows (made 0) db
+unfolding made
 blank_is_empty db is = record { schema_is = is; rows = tt }
 
-pub first_is_empty : (db : Database) → HasNoRows made_10 db → HasFirst (λ tree. []) db
-first_is_empty db was = (subst (λ s. HasNoRows s db) making.first_is was, refl)
+pub first_is_empty : (db : Database) → HasNoRows (made 10) db → HasFirst (λ tree. []) db
+first_is_empty db was = (subst (λ s. HasNoRows s db) first_is was, refl)
 
 -- the same of states
 pub leads_from : (before after earlier later : Database → Type 0) (old new : State) (result : Result (Unit {0}) Refusal) → (earlier old.now → before old.now) → (after new.now → later new.now) → Leads before after old new result → Leads earlier later old new result

@@ -19,7 +19,7 @@ use Rattle.exam_rows.specs.Faults.{refusal_of, is_store_refusal}
 use Rattle.exam_rows.specs.Inside.{AreRun, Contains, Ran, Becomes, Makes, Write, written, FailsFor, FailsToWrite}
 use Rattle.exam_tables.specs.Refusals.{Fails, Refuses, IsDown, is_failure}
 use Rattle.exam_tables.specs.Tables.{store_schema}
-use Rattle.exam_tables.proofs.Failing.{Answers}
+use Rattle.exam_tables.proofs.Edits.{Edits}
 use Rattle.sqlite.specs.Effect.{Database}
 use Rattle.sqlite_disk.specs.Disk.{MoreFaults}
 use Rattle.sqlite.specs.declared.error.Error.{Error}
@@ -57,33 +57,25 @@ fails_one sql params change old new e error told (inr (named, inl down)) = inr (
 fails_one sql params change old new e error told (inr (named, inr refused)) = inr (told ∙ failure error named, inr ([], record { sql = sql; params = params; change = change }, [], refl, old.now, refl, (λ all was. was), refused))
 
 -- what a statement that was run makes of the rows
-pub makes_by : (old new : State) (sql : List ℕ) (params : Row) (result : Result (Unit {0}) Refusal) (change : Trees → Trees) → ((count : ℕ) → Executes sql params old new (Ok count) → (all : Trees) → Contains old.now all → Contains new.now (change all))
-    → (old.now.schema ≡ store_schema → Answers sql params old new)
-    → (HasCleanDisk new → IsTrue old.in_transaction → OnOk result (Ran sql params old new × IsTrue new.in_transaction))
+pub makes_by : {change : Trees → Trees} {sql : List ℕ} {params : Row} → Edits change sql params → (old new : State) (result : Result (Unit {0}) Refusal) → (HasCleanDisk new → IsTrue old.in_transaction → OnOk result (Ran sql params old new × IsTrue new.in_transaction))
     → (HasCleanDisk new → IsTrue old.in_transaction → IfErr result (λ e. (error : Error) × (e ≡ refusal_of error) × ExecutesInside 0 sql params old new (Err error)))
     → (HasCleanDisk new → KeepsCommit old new) → Survives old new (λ _. ⊥) → IfErr result (λ e. IsTrue (is_store_refusal e)) → Makes old new result (record { sql = sql; params = params; change = change } ∷ [])
-makes_by old new sql params (Ok u) change does answers ran failed kept survives told = record {
-  made = λ clean going. let h = ran clean going in (does h.0.0 h.0.1, h.1);
-  ran = λ clean going ours. let h = ran clean going in (new.now, (answers ours.1.schema_is).done h.0.0 h.0.1, refl);
+makes_by edits old new (Ok u) ran failed kept survives told = record {
+  made = λ clean going. let h = ran clean going in (edits.does old new (Ok h.0.0) h.0.1, h.1);
+  ran = λ clean going ours. let h = ran clean going in (new.now, (edits.answers old new ours.1.schema_is).done h.0.0 h.0.1, refl);
   failed = λ clean going ours. tt;
   kept = kept;
   survives = survives;
   told = tt;
 }
-makes_by old new sql params (Err e) change does answers ran failed kept survives told = record {
+makes_by {change} {sql} {params} edits old new (Err e) ran failed kept survives told = record {
   made = λ clean going. tt;
   ran = λ clean going ours. tt;
-  failed = λ clean going ours. let it = failed clean going in fails_one sql params change old new e it.0 it.1 ((answers ours.1.schema_is).fails it.0 it.2);
+  failed = λ clean going ours. let it = failed clean going in fails_one sql params change old new e it.0 it.1 ((edits.answers old new ours.1.schema_is).fails it.0 it.2);
   kept = kept;
   survives = survives;
   told = told;
 }
-
-more_faults : (a b c : ℕ) → a ≤ b → MoreFaults b c → MoreFaults a c
-more_faults a b c up more = omega (arith, up, more)
-
-still_more : (a b c : ℕ) → MoreFaults a b → b ≤ c → MoreFaults a c
-still_more a b c more up = omega (arith, up, more)
 
 -- what went wrong in the second of two calls went wrong in both
 pub down_later : {P : Trees → Type 0} (old mid new : State) → Survives old mid P → HasCleanDisk mid → mid.faults ≤ new.faults → IsDown mid new → IsDown old new

@@ -18,6 +18,7 @@ use Rattle.exam_rules.specs.declared.rows.Candidate.{Candidate}
 use Rattle.exam_rules.specs.declared.rows.Entry.{Entry}
 use Rattle.exam_rules.specs.declared.rows.Arrangement.{Arrangement}
 use Rattle.exam_rules.specs.declared.rows.Appeal.{Appeal}
+use Rattle.exam_tables.specs.Changes.{with_row}
 use Rattle.exam_tables.specs.Content.{ContainsIn}
 use Rattle.exam_tables.specs.Loads.{IsLoad}
 use Rattle.exam_tables.specs.Made.{ContainsMade}
@@ -27,6 +28,7 @@ use Rattle.exam_tables.specs.Texts.{put_session, put_paper, put_hall, put_candid
 use Rattle.exam_tables.specs.Texts.{put_arrangement, put_appeal, put_seat, put_standing}
 use Rattle.exam_tables.specs.Texts.{load_session, load_paper, load_hall, load_candidate, load_opening, load_entry}
 use Rattle.exam_tables.specs.Texts.{load_arrangement, load_appeal, load_seat, load_standing, load_texts}
+use Rattle.exam_tables.proofs.Edits.{Edits}
 use Rattle.exam_tables.proofs.Quiet.{IsQuery}
 use Rattle.exam_rows.specs.Inside as inside
 use Rattle.exam_rows.specs.Loaded.{KeysMatch}
@@ -120,10 +122,11 @@ row_put form k x = inside.put_of form.put form.tree form.places (form.row k x)
 abbrev pub with_put : {K X : Type 0} → Form K X → List (Bor K × Bor X) → List inside.Write
 with_put form rows = map (λ r. row_put form r.0.now r.1.now) rows
 
--- What the texts of this product's tables have in common. Keys are told apart as in SQL. The one that loads is one of
--- the eleven, and shows the rows also of the newest tables.
+-- What the texts of this product's tables have in common. Keys are told apart as in SQL. The text that puts a row does
+-- that and no more. The one that loads is one of the eleven, and shows the rows also of the newest tables.
 pub record IsOurTable {K X : Type 0} (cmp : K → K → Ordering) (form : Form K X) : Type 0 where
   pub keys : KeysMatch cmp form.places form.row
+  pub puts : (k : K) (x : X) → Edits (with_row form.tree form.places (form.row k x)) form.put (form.row k x)
   pub loads : Contains load_texts form.load
   pub query : IsQuery form.load
   -- the tables of a schema by which it loads the rows; also the newest ones

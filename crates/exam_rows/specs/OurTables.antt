@@ -1,5 +1,5 @@
 -- What the texts of the ten tables have in common.
-use Rattle.std.proofs.Common.{◌≡◌, ◌&&◌, ℕ, pos, Bool, true, false, [], ◌∷◌, Ordering, Less, Equal, Greater, refl, ap, subst, ◌∙◌, lit<, true≢false}
+use Rattle.std.proofs.Common.{◌≡◌, ◌&&◌, ℕ, pos, Bool, true, false, [], ◌∷◌, Ordering, Less, Equal, Greater, refl, ap, subst, ◌∙◌, lit<, true≢false, if◌then◌else◌}
 use Rattle.std.specs.Bool.{Decides, one_answer}
 use Rattle.std.specs.Cmp.{Equal-is, tied_itself, nat_cmp_total}
 use Rattle.std.specs.Cmp.Lexicographic.{nat_list_cmp_total}
@@ -11,6 +11,8 @@ use Rattle.sqlite_value.specs.Keys.{plain, first_key}
 use Rattle.sqlite_schema.specs.Rules.{equal}
 use Rattle.sqlite_trees.specs.Tree.{Trees}
 use Rattle.sqlite.specs.Effect.{Database}
+use Rattle.exam_types.specs.Days.{day_text}
+use Rattle.exam_types.specs.Features.{features_sum}
 use Rattle.exam_tables.specs.Made.{ContainsMade, made_schema}
 use Rattle.exam_tables.specs.Tables.{store_schema}
 use Rattle.exam_tables.specs.Texts.{load_texts, load_office}
@@ -25,12 +27,11 @@ use Rattle.exam_tables.proofs.OfPaper as paper
 use Rattle.exam_tables.proofs.OfSeat as seat
 use Rattle.exam_tables.proofs.OfSession as session
 use Rattle.exam_tables.proofs.OfStanding as standing
-use Rattle.exam_tables.proofs.Quiet.{session_is_query, paper_is_query, hall_is_query, candidate_is_query, opening_is_query, entry_is_query, arrangement_is_query, appeal_is_query, seat_is_query, standing_is_query}
 use Rattle.exam_rules.specs.Relations.{Code, code_cmp}
 use Rattle.exam_rows.specs.Forms as forms
 use Rattle.exam_rows.specs.Forms.{IsOurTable}
 use Rattle.exam_rows.specs.Inside.{Contains}
-use Rattle.exam_rows.specs.Stored.{whole}
+use Rattle.exam_rows.specs.Stored.{kind_of, target_of, needs_of, extra_of, state_of, answer_of, whole}
 
 -- ---- keys
 
@@ -67,8 +68,9 @@ newest_made db all was = record { has_marks = true; contains = was; unmarked = �
 pub sessions_ours : IsOurTable forms.sessions.cmp forms.sessions
 sessions_ours = record {
   keys = record { rows = λ a b. one_part _ _ (text_key a.0 b.0) };
+  puts = λ k x. session.puts k (day_text x.day) (pos x.start);
   loads = (1, lit< tt, refl);
-  query = session_is_query;
+  query = session.is_query;
   newest = newest_made;
   shows = λ db all was. (made_schema was.has_marks, was.contains, session.loads was.has_marks);
 }
@@ -76,8 +78,9 @@ sessions_ours = record {
 pub papers_ours : IsOurTable forms.papers.cmp forms.papers
 papers_ours = record {
   keys = record { rows = λ a b. one_part _ _ (text_key a.0 b.0) };
+  puts = λ k x. paper.puts k x.title x.session (pos x.minutes) (pos (features_sum x.required));
   loads = (2, lit< tt, refl);
-  query = paper_is_query;
+  query = paper.is_query;
   newest = newest_made;
   shows = λ db all was. (made_schema was.has_marks, was.contains, paper.loads was.has_marks);
 }
@@ -85,8 +88,9 @@ papers_ours = record {
 pub halls_ours : IsOurTable forms.halls.cmp forms.halls
 halls_ours = record {
   keys = record { rows = λ a b. one_part _ _ (text_key a.0 b.0) };
+  puts = λ k x. hall.puts k x.title (pos (features_sum x.features));
   loads = (3, lit< tt, refl);
-  query = hall_is_query;
+  query = hall.is_query;
   newest = newest_made;
   shows = λ db all was. (made_schema was.has_marks, was.contains, hall.loads was.has_marks);
 }
@@ -94,8 +98,9 @@ halls_ours = record {
 pub candidates_ours : IsOurTable forms.candidates.cmp forms.candidates
 candidates_ours = record {
   keys = record { rows = λ a b. one_part _ _ (whole_key a.0 b.0) };
+  puts = λ k x. candidate.puts (pos k) x.name x.code;
   loads = (4, lit< tt, refl);
-  query = candidate_is_query;
+  query = candidate.is_query;
   newest = newest_made;
   shows = λ db all was. (made_schema was.has_marks, was.contains, candidate.loads was.has_marks);
 }
@@ -103,8 +108,9 @@ candidates_ours = record {
 pub openings_ours : IsOurTable forms.openings.cmp forms.openings
 openings_ours = record {
   keys = record { rows = λ a b. two_parts _ _ _ _ (text_key a.0.0 b.0.0) (text_key a.0.1 b.0.1) };
+  puts = λ k x. opening.puts k.0 k.1 (pos x.desks) (pos x.until) (pos (if x.reserved then 1 else 0));
   loads = (5, lit< tt, refl);
-  query = opening_is_query;
+  query = opening.is_query;
   newest = newest_made;
   shows = λ db all was. (made_schema was.has_marks, was.contains, opening.loads was.has_marks);
 }
@@ -112,8 +118,9 @@ openings_ours = record {
 pub entries_ours : IsOurTable forms.entries.cmp forms.entries
 entries_ours = record {
   keys = record { rows = λ a b. two_parts _ _ _ _ (whole_key a.0.0 b.0.0) (text_key a.0.1 b.0.1) };
+  puts = λ k x. entry.puts (pos k.0) k.1 (pos (if x.live then 1 else 0));
   loads = (6, lit< tt, refl);
-  query = entry_is_query;
+  query = entry.is_query;
   newest = newest_made;
   shows = λ db all was. (made_schema was.has_marks, was.contains, entry.loads was.has_marks);
 }
@@ -121,8 +128,9 @@ entries_ours = record {
 pub arrangements_ours : IsOurTable forms.arrangements.cmp forms.arrangements
 arrangements_ours = record {
   keys = record { rows = λ a b. one_part _ _ (whole_key a.0 b.0) };
+  puts = λ k x. arrangement.puts (pos k) (pos (features_sum x.needs)) (pos x.extra);
   loads = (7, lit< tt, refl);
-  query = arrangement_is_query;
+  query = arrangement.is_query;
   newest = newest_made;
   shows = λ db all was. (made_schema was.has_marks, was.contains, arrangement.loads was.has_marks);
 }
@@ -130,8 +138,9 @@ arrangements_ours = record {
 pub appeals_ours : IsOurTable forms.appeals.cmp forms.appeals
 appeals_ours = record {
   keys = record { rows = λ a b. two_parts _ _ _ _ (whole_key a.0.0 b.0.0) (text_key a.0.1 b.0.1) };
+  puts = λ k x. appeal.puts (pos k.0) k.1 x.session (pos (kind_of x.subject)) (target_of x.subject) (pos (needs_of x.subject)) (pos (extra_of x.subject)) x.reason (pos (state_of x.status)) (answer_of x.status) (day_text x.lodged);
   loads = (8, lit< tt, refl);
-  query = appeal_is_query;
+  query = appeal.is_query;
   newest = newest_made;
   shows = λ db all was. (made_schema was.has_marks, was.contains, appeal.loads was.has_marks);
 }
@@ -139,8 +148,9 @@ appeals_ours = record {
 pub seats_ours : IsOurTable forms.seats.cmp forms.seats
 seats_ours = record {
   keys = record { rows = λ a b. two_parts _ _ _ _ (text_key a.0.0 b.0.0) (whole_key a.0.1 b.0.1) };
+  puts = λ k x. seat.puts k.0 (pos k.1) x;
   loads = (9, lit< tt, refl);
-  query = seat_is_query;
+  query = seat.is_query;
   newest = newest_made;
   shows = λ db all was. (made_schema was.has_marks, was.contains, seat.loads was.has_marks);
 }
@@ -148,8 +158,9 @@ seats_ours = record {
 pub standing_ours : IsOurTable forms.standing.cmp forms.standing
 standing_ours = record {
   keys = record { rows = λ a b. two_parts _ _ _ _ (whole_key a.0.0 b.0.0) (text_key a.0.1 b.0.1) };
+  puts = λ k x. standing.puts (pos k.0) k.1;
   loads = (10, lit< tt, refl);
-  query = standing_is_query;
+  query = standing.is_query;
   newest = λ db all was. was;
   shows = λ db all was. (store_schema, was, standing.loads);
 }

@@ -1,39 +1,53 @@
--- The table candidate: what its texts mean, and what they do.
-use Rattle.std.proofs.Common.{◌≡◌, lit≤, ℕ, ℤ, List, [], ◌∷◌, ◌++◌, codes, true, false, Result, OnOk, Option, refl, Bool}
+-- The table candidate: how it is made, what its texts mean, and what they do.
+use Rattle.std.proofs.Common.{Bool, List, [], codes, false, lit<, lit≤, refl, true, ℕ, ℤ, ◌++◌, ◌∷◌, ◌≡◌}
 use Rattle.std.specs.List.{list_all}
-use Rattle.sqlite_value.specs.declared.value.Value.TheVariants.{Null, Int, Text}
-use Rattle.sqlite_value.specs.declared.keys.Collation.TheVariants.{Binary}
-use Rattle.sqlite_value.specs.Order.{Row}
-use Rattle.sqlite_value.specs.Keys.{first_key}
-use Rattle.sqlite_trees.specs.Tree.{Trees, rowid, with_tree}
-use Rattle.sqlite_sql.specs.Term.{Term, lit, col, op2, eval_all, holds}
-use Rattle.sqlite_sql.specs.declared.ops.BinaryOp.TheVariants.{Compare}
-use Rattle.sqlite_sql.specs.declared.ops.CompareOp.TheVariants.{Eq}
+use Rattle.sqlite_value.specs.declared.value.Value.TheVariants.{Int, Null, Text}
+use Rattle.sqlite_value.specs.Order.{Row, value_cmp}
+use Rattle.sqlite_trees.specs.Tree.{rowid}
+use Rattle.sqlite_sql.specs.Term.{Term, col, eval_all, holds, lit, op2}
 use Rattle.sqlite_schema.specs.declared.command.Conflict.TheVariants.{Abort}
 use Rattle.sqlite_schema.specs.declared.command.Command.TheVariants.{InsertOr}
 use Rattle.sqlite_schema.specs.declared.command.Source.TheVariants.{Values}
 use Rattle.sqlite_tied.specs.Compute.{everything}
-use Rattle.sqlite.specs.declared.error.Error.{Error}
-use Rattle.sqlite.specs.Rows.{shown}
-use Rattle.sqlite.specs.Effect.{Database}
 use Rattle.sqlite.specs.Listing.{understood}
-use Rattle.sqlite.specs.State.{State, Executes}
-use Rattle.sqlite.proofs.Callers.{IsPlain, command_of}
-use Rattle.exam_tables.specs.Content.{ContainsIn, places, bare, put, same_key, same_rowid}
+use Rattle.sqlite_value.specs.declared.keys.Collation.TheVariants.{Binary}
+use Rattle.sqlite_value.specs.Keys.{first_key}
+use Rattle.sqlite_sql.specs.declared.ops.BinaryOp.TheVariants.{Compare}
+use Rattle.sqlite_sql.specs.declared.ops.CompareOp.TheVariants.{Eq}
+use Rattle.sqlite.specs.Rows.{shown}
+use Rattle.sqlite_schema.specs.Names.{same_name}
+use lib.Utf8.{encode}
+use Rattle.sqlite_trees.specs.Sound.{begins, fits_kind, is_free_name}
+use Rattle.exam_tables.specs.Content.{bare, places, same_key, same_rowid}
 use Rattle.exam_tables.specs.Loads.{IsLoad}
 use Rattle.exam_tables.specs.Made.{made_schema}
-use Rattle.exam_tables.specs.Plain.{on_conflict}
-use Rattle.exam_tables.specs.Refusals.{Refuses, RefusesRows}
-use Rattle.exam_tables.specs.Tables.{store_schema, first_schema, stored_candidate}
-use Rattle.exam_tables.specs.Texts.{put_candidate, load_candidate}
-use Rattle.exam_tables.proofs.Failing.{Answers, IsWhole, answers}
+use Rattle.exam_tables.specs.Tables.{candidate, candidate_text, first_schema, made, store_schema, stored_candidate}
+use Rattle.exam_tables.specs.Texts.{load_candidate, put_candidate}
 use Rattle.exam_tables.proofs.Fits.{Fits, fits_given}
-use Rattle.exam_tables.proofs.KeysHold as keys
-use Rattle.exam_tables.proofs.References.{Stand, refers}
 use Rattle.exam_tables.proofs.Keys.{cast_null}
-use Rattle.exam_tables.proofs.Statements.{upsert_by, upsert_sets}
 use Rattle.exam_tables.proofs.Loads.{load_of}
-use Rattle.exam_tables.proofs.TableFacts.{candidate_keyed}
+use Rattle.exam_tables.specs.Plain.{on_conflict}
+use Rattle.exam_tables.specs.Keyed.{IsKeyed}
+use Rattle.exam_tables.specs.Changes.{with_row}
+use Rattle.exam_tables.proofs.Edits.{Edits, Means, upserts}
+use Rattle.exam_tables.proofs.Keying.{by_rowid, or_false, or_twice}
+use Rattle.exam_tables.proofs.Making.{AddsTable, IsCreate, adds_by, free_by}
+use Rattle.exam_tables.proofs.Quiet.{IsQuery}
+
+-- the text that makes it is understood, and nothing forbids the table
+create : IsCreate (made 4) candidate_text
+unfolding understood everything made
+create = (refl, refl, (refl, refl), (lit≤ tt, refl))
+
+pub adds : AddsTable (made 4) (made 5) 7 candidate candidate_text
+unfolding everything encode value_cmp fits_kind is_free_name same_name begins lib.Ieee.is_nan lib.Ieee.lt made
+adds = adds_by (made 4) (made 5) 7 candidate candidate_text create refl refl refl refl refl
+    (free_by (made 4) candidate candidate_text refl refl (candidate_text, (refl, refl)) (candidate.name, (refl, refl)) refl (lit< tt) (lit< tt) refl refl refl (lit< tt))
+
+-- it has one key, and no foreign key acts on its rows
+pub keyed : IsKeyed store_schema 4 stored_candidate (1 ∷ []) (0 ∷ [])
+unfolding store_schema
+keyed = by_rowid 4 stored_candidate (1 ∷ []) (0 ∷ []) refl refl refl refl (λ a b. or_twice _) (λ a b. or_false _) (λ a b. refl)
 
 abbrev pub row : ℤ → (List ℕ) → (List ℕ) → Row
 row number name code = Int number ∷ Text name ∷ Text code ∷ []
@@ -48,9 +62,6 @@ fits number name code = fits_given stored_candidate (1 ∷ []) number (columns n
 abbrev terms : List Term
 terms = col 0 0 ∷ lit Null ∷ col 0 1 ∷ col 0 2 ∷ []
 
-abbrev pub put_text : List ℕ
-put_text = put_candidate
-
 -- the row that is there
 abbrev there : List Term
 there = op2 (Compare Eq Binary) (col 1 0) (col 0 3) ∷ []
@@ -59,13 +70,9 @@ there = op2 (Compare Eq Binary) (col 1 0) (col 0 3) ∷ []
 abbrev project : List Term
 project = col 1 0 ∷ col 1 0 ∷ lit Null ∷ col 0 6 ∷ col 0 7 ∷ []
 
-put_is : command_of (understood store_schema put_text) ≡ InsertOr 4 Abort (Values terms 4) (on_conflict (0 ∷ []) 7 there project ∷ [])
+put_means : Means store_schema put_candidate (InsertOr 4 Abort (Values terms 4) (on_conflict (0 ∷ []) 7 there project ∷ [])) 3
 unfolding understood everything store_schema
-put_is = refl
-
-put_plain : IsPlain (understood store_schema put_text)
-unfolding understood everything store_schema
-put_plain = (refl, refl)
+put_means = (refl, (refl, refl), (lit≤ tt, refl))
 
 picked : (number : ℤ) (name : List ℕ) (code : List ℕ) (t r : Row) (id : ℤ) → list_all (holds ((row number name code ++ rowid t ∷ shown stored_candidate (Int id ∷ columns number name code)) ∷ r ∷ [])) there ≡ same_rowid r t
 unfolding first_key
@@ -75,31 +82,19 @@ written : (number : ℤ) (name : List ℕ) (code : List ℕ) (t : Row) (id : ℤ
     → eval_all project ((row number name code ++ rowid t ∷ shown stored_candidate (Int id ∷ columns number name code)) ∷ t ∷ []) ≡ rowid t ∷ rowid t ∷ columns number name code
 written number name code t id same = refl
 
-pub puts : (old new : State) (number : ℤ) (name : List ℕ) (code : List ℕ) (r : Result ℕ Error) → Executes put_text (row number name code) old new r
-    → OnOk r ((all : Trees) → ContainsIn store_schema old.now all → ContainsIn store_schema new.now (with_tree all 7 (put (1 ∷ []) (Null ∷ row number name code) (all 7))))
-puts old new number name code r h = upsert_by store_schema 4 stored_candidate (1 ∷ []) (0 ∷ []) candidate_keyed put_text terms 4 there project put_is put_plain (λ db. refl) old new (row number name code) r (Int number) (columns number name code) (row number name code) (fits number name code) refl
-    (picked number name code) (written number name code) h
-
-put_whole : IsWhole put_text 3 (understood store_schema put_text)
-unfolding understood everything store_schema
-put_whole = (lit≤ tt, refl)
-
-pub put_answers : (old new : State) (number : ℤ) (name : List ℕ) (code : List ℕ) → old.now.schema ≡ store_schema → Answers put_text (row number name code) old new
-put_answers old new number name code has = answers put_text (row number name code) old new store_schema has _ put_is tt put_plain put_whole
-
--- where each row then has what it refers to, no foreign key refuses the put
-pub put_refused : (limit : Option ℕ) (db : Database) (all : Trees) (number : ℤ) (name : List ℕ) (code : List ℕ) → ContainsIn store_schema db all → Stand (with_tree all 7 (put (1 ∷ []) (Null ∷ row number name code) (all 7))) → Refuses limit db put_text (row number name code) → RefusesRows limit db put_text (row number name code)
-put_refused limit db all number name code was stand = keys.put_refused store_schema 4 stored_candidate (1 ∷ []) (0 ∷ []) candidate_keyed limit db all was put_text Abort (on_conflict (0 ∷ []) 7 there project ∷ []) terms 4 put_is put_plain (row number name code) (row number name code)
-    (upsert_sets store_schema 4 stored_candidate (1 ∷ []) (0 ∷ []) candidate_keyed limit terms 4 there project (λ db. refl) (row number name code) (Int number) (columns number name code) (row number name code) (fits number name code) refl (picked number name code) (written number name code)) (λ next holds. refers next _ holds stand)
-
-abbrev pub load_text : List ℕ
-load_text = load_candidate
+-- the row replaces the one with its key
+pub puts : (number : ℤ) (name : List ℕ) (code : List ℕ) → Edits (with_row 7 (1 ∷ []) (row number name code)) put_candidate (row number name code)
+puts number name code = upserts keyed put_candidate terms 4 there project (Int number) (columns number name code) (row number name code) put_means (λ db. refl) (fits number name code) refl (picked number name code) (written number name code)
 
 abbrev shown_terms : List Term
 shown_terms = col 1 0 ∷ col 1 2 ∷ col 1 3 ∷ []
 
 -- the text that loads shows each column, with the table of marks or without it
-pub loads : (has_marks : Bool) → IsLoad (made_schema has_marks) 7 load_text
+pub loads : (has_marks : Bool) → IsLoad (made_schema has_marks) 7 load_candidate
 unfolding understood everything store_schema first_schema
-loads true = load_of (made_schema true) 4 stored_candidate load_text shown_terms (codes "number" ∷ codes "name" ∷ codes "code" ∷ []) refl refl (refl, refl) refl (λ db. refl) (λ r. refl)
-loads false = load_of (made_schema false) 4 stored_candidate load_text shown_terms (codes "number" ∷ codes "name" ∷ codes "code" ∷ []) refl refl (refl, refl) refl (λ db. refl) (λ r. refl)
+loads true = load_of (made_schema true) 4 stored_candidate load_candidate shown_terms (codes "number" ∷ codes "name" ∷ codes "code" ∷ []) refl refl (refl, refl) refl (λ db. refl) (λ r. refl)
+loads false = load_of (made_schema false) 4 stored_candidate load_candidate shown_terms (codes "number" ∷ codes "name" ∷ codes "code" ∷ []) refl refl (refl, refl) refl (λ db. refl) (λ r. refl)
+
+pub is_query : IsQuery load_candidate
+unfolding everything
+is_query schema base = refl

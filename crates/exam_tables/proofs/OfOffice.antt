@@ -1,28 +1,49 @@
--- The table office: what its texts mean, and what they do.
-use Rattle.std.proofs.Common.{lit≤, ◌≡◌, ℕ, ℤ, pos, List, [], ◌∷◌, codes, false, Result, OnOk, refl, Bool, true}
-use Rattle.sqlite_value.specs.declared.value.Value.TheVariants.{Null, Int}
-use Rattle.sqlite_value.specs.Order.{Row}
+-- The table office: how it is made, what its texts mean, and what they do.
+use Rattle.std.proofs.Common.{Bool, List, OnOk, Result, [], codes, false, lit<, lit≤, pos, refl, true, ℕ, ℤ, ◌∷◌, ◌≡◌}
+use Rattle.sqlite_value.specs.declared.value.Value.TheVariants.{Int, Null}
+use Rattle.sqlite_value.specs.Order.{Row, value_cmp}
 use Rattle.sqlite_trees.specs.Tree.{Trees, with_tree}
-use Rattle.sqlite_sql.specs.Term.{Term, lit, col}
+use Rattle.sqlite_sql.specs.Term.{Term, col, lit}
 use Rattle.sqlite_schema.specs.declared.command.Conflict.TheVariants.{Replace}
 use Rattle.sqlite_schema.specs.declared.command.Command.TheVariants.{InsertOr}
 use Rattle.sqlite_schema.specs.declared.command.Source.TheVariants.{Values}
 use Rattle.sqlite_tied.specs.Compute.{everything}
 use Rattle.sqlite.specs.declared.error.Error.{Error}
 use Rattle.sqlite.specs.Listing.{understood}
-use Rattle.sqlite.specs.State.{State, Executes}
+use Rattle.sqlite.specs.State.{Executes, State}
 use Rattle.sqlite.proofs.Callers.{IsPlain, command_of}
+use Rattle.sqlite_schema.specs.Names.{same_name}
+use lib.Utf8.{encode}
+use Rattle.sqlite_trees.specs.Sound.{begins, fits_kind, is_free_name}
 use Rattle.exam_tables.specs.Content.{ContainsIn, put}
 use Rattle.exam_tables.specs.Loads.{IsLoad}
 use Rattle.exam_tables.specs.Made.{made_schema}
-use Rattle.exam_tables.specs.Tables.{store_schema, first_schema, stored_office}
-use Rattle.exam_tables.specs.Texts.{put_version, load_office}
-use Rattle.exam_tables.proofs.Failing.{Answers, IsWhole, answers}
+use Rattle.exam_tables.specs.Tables.{first_schema, made, office, office_text, store_schema, stored_office}
+use Rattle.exam_tables.specs.Texts.{load_office, put_version}
 use Rattle.exam_tables.proofs.Fits.{Fits, fits_given}
 use Rattle.exam_tables.proofs.Keys.{cast_int, cast_null}
-use Rattle.exam_tables.proofs.Statements.{put_by}
 use Rattle.exam_tables.proofs.Loads.{load_of}
-use Rattle.exam_tables.proofs.TableFacts.{office_keyed}
+use Rattle.exam_tables.specs.Keyed.{IsKeyed}
+use Rattle.exam_tables.proofs.Keying.{by_rowid, or_false, or_twice}
+use Rattle.exam_tables.proofs.Making.{AddsTable, IsCreate, adds_by, free_by}
+use Rattle.exam_tables.proofs.Quiet.{IsQuery}
+use Rattle.exam_tables.proofs.Failing.{Answers, IsWhole, answers}
+use Rattle.exam_tables.proofs.Statements.{put_by}
+
+-- the text that makes it is understood, and nothing forbids the table
+create : IsCreate (made 0) office_text
+unfolding understood everything made
+create = (refl, refl, (refl, refl), (lit≤ tt, refl))
+
+pub adds : AddsTable (made 0) (made 1) 0 office office_text
+unfolding everything encode value_cmp fits_kind is_free_name same_name begins lib.Ieee.is_nan lib.Ieee.lt made
+adds = adds_by (made 0) (made 1) 0 office office_text create refl refl refl refl refl
+    (free_by (made 0) office office_text refl refl (office_text, (refl, refl)) (office.name, (refl, refl)) refl (lit< tt) (lit< tt) refl refl refl (lit< tt))
+
+-- it has one key, and no foreign key acts on its rows
+pub keyed : IsKeyed store_schema 0 stored_office (1 ∷ []) (0 ∷ [])
+unfolding store_schema
+keyed = by_rowid 0 stored_office (1 ∷ []) (0 ∷ []) refl refl refl refl (λ a b. or_twice _) (λ a b. or_false _) (λ a b. refl)
 
 abbrev pub row : ℤ → ℤ → Row
 row one version = Int one ∷ Int version ∷ []
@@ -51,7 +72,7 @@ put_plain = (refl, refl)
 pub puts : (old new : State) (version : ℤ) (r : Result ℕ Error) → Executes put_text (Int version ∷ []) old new r
     → OnOk r ((all : Trees) → ContainsIn store_schema old.now all → ContainsIn store_schema new.now (with_tree all 0 (put (1 ∷ []) (Null ∷ row (pos 1) version) (all 0))))
 puts old new version r h =
-    put_by store_schema 0 stored_office (1 ∷ []) (0 ∷ []) office_keyed put_text terms 3 put_is put_plain old new (Int version ∷ []) r (Int (pos 1)) (columns (pos 1) version) (row (pos 1) version) (fits (pos 1) version) refl h
+    put_by store_schema 0 stored_office (1 ∷ []) (0 ∷ []) keyed put_text terms 3 put_is put_plain old new (Int version ∷ []) r (Int (pos 1)) (columns (pos 1) version) (row (pos 1) version) (fits (pos 1) version) refl h
 
 put_whole : IsWhole put_text 1 (understood store_schema put_text)
 unfolding understood everything store_schema
@@ -60,14 +81,15 @@ put_whole = (lit≤ tt, refl)
 pub put_answers : (old new : State) (version : ℤ) → old.now.schema ≡ store_schema → Answers put_text (Int version ∷ []) old new
 put_answers old new version has = answers put_text (Int version ∷ []) old new store_schema has _ put_is tt put_plain put_whole
 
-abbrev pub load_text : List ℕ
-load_text = load_office
-
 abbrev shown_terms : List Term
 shown_terms = col 1 0 ∷ col 1 2 ∷ []
 
 -- the text that loads shows each column, with the table of marks or without it
-pub loads : (has_marks : Bool) → IsLoad (made_schema has_marks) 0 load_text
+pub loads : (has_marks : Bool) → IsLoad (made_schema has_marks) 0 load_office
 unfolding understood everything store_schema first_schema
-loads true = load_of (made_schema true) 0 stored_office load_text shown_terms (codes "one" ∷ codes "version" ∷ []) refl refl (refl, refl) refl (λ db. refl) (λ r. refl)
-loads false = load_of (made_schema false) 0 stored_office load_text shown_terms (codes "one" ∷ codes "version" ∷ []) refl refl (refl, refl) refl (λ db. refl) (λ r. refl)
+loads true = load_of (made_schema true) 0 stored_office load_office shown_terms (codes "one" ∷ codes "version" ∷ []) refl refl (refl, refl) refl (λ db. refl) (λ r. refl)
+loads false = load_of (made_schema false) 0 stored_office load_office shown_terms (codes "one" ∷ codes "version" ∷ []) refl refl (refl, refl) refl (λ db. refl) (λ r. refl)
+
+pub is_query : IsQuery load_office
+unfolding everything
+is_query schema base = refl

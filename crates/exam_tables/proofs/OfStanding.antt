@@ -1,79 +1,71 @@
--- The table standing: what its texts mean, and what they do.
-use Rattle.std.proofs.Common.{◌≡◌, lit≤, ℕ, ℤ, List, [], ◌∷◌, codes, Result, OnOk, Option, refl}
-use Rattle.sqlite_value.specs.declared.value.Value.TheVariants.{Null, Int, Text}
-use Rattle.sqlite_value.specs.Order.{Row}
-use Rattle.sqlite_trees.specs.Tree.{Trees, with_tree}
-use Rattle.sqlite_sql.specs.Term.{Term, lit, col}
+-- The table standing: how it is made, what its texts mean, and what they do.
+use Rattle.std.proofs.Common.{List, [], ap, codes, lit<, lit≤, refl, ℕ, ℤ, ◌||◌, ◌∷◌}
+use Rattle.std.proofs.lemmas.Bool.{and_parts, not-true}
+use Rattle.sqlite_value.specs.declared.value.Value.TheVariants.{Int, Null, Text}
+use Rattle.sqlite_value.specs.Order.{Row, value_cmp}
+use Rattle.sqlite_sql.specs.Term.{Term, col, lit}
 use Rattle.sqlite_schema.specs.declared.command.Conflict.TheVariants.{Replace}
 use Rattle.sqlite_schema.specs.declared.command.Command.TheVariants.{InsertOr}
 use Rattle.sqlite_schema.specs.declared.command.Source.TheVariants.{Values}
 use Rattle.sqlite_tied.specs.Compute.{everything}
-use Rattle.sqlite.specs.declared.error.Error.{Error}
-use Rattle.sqlite.specs.Effect.{Database}
 use Rattle.sqlite.specs.Listing.{understood}
-use Rattle.sqlite.specs.State.{State, Executes}
-use Rattle.sqlite.proofs.Callers.{IsPlain, command_of}
-use Rattle.exam_tables.specs.Content.{ContainsIn, put}
+use Rattle.sqlite_schema.specs.Names.{same_name}
+use lib.Utf8.{encode}
+use Rattle.sqlite_trees.specs.Sound.{begins, fits_kind, is_free_name}
+use Rattle.exam_tables.specs.Content.{same_rowid}
 use Rattle.exam_tables.specs.Loads.{IsLoad}
-use Rattle.exam_tables.specs.Refusals.{Refuses, RefusesRows}
-use Rattle.exam_tables.specs.Tables.{store_schema, stored_standing}
-use Rattle.exam_tables.specs.Texts.{put_standing, load_standing}
-use Rattle.exam_tables.proofs.Failing.{Answers, IsWhole, answers}
+use Rattle.exam_tables.specs.Tables.{made, standing, standing_text, store_schema, stored_standing}
+use Rattle.exam_tables.specs.Texts.{load_standing, put_standing}
 use Rattle.exam_tables.proofs.Fits.{Fits, fits_chosen}
-use Rattle.exam_tables.proofs.KeysHold as keys
-use Rattle.exam_tables.proofs.References.{Stand, refers}
 use Rattle.exam_tables.proofs.Keys.{cast_int}
-use Rattle.exam_tables.proofs.Statements.{put_by, put_sets}
 use Rattle.exam_tables.proofs.Loads.{load_of}
-use Rattle.exam_tables.proofs.TableFacts.{standing_keyed}
+use Rattle.exam_tables.specs.Keyed.{IsKeyed}
+use Rattle.exam_tables.specs.Changes.{with_row}
+use Rattle.exam_tables.proofs.Edits.{Edits, Means, replaces}
+use Rattle.exam_tables.proofs.Keying.{by_index, or_false}
+use Rattle.exam_tables.proofs.Making.{AddsTable, IsCreate, adds_by, free_by}
+use Rattle.exam_tables.proofs.Quiet.{IsQuery}
+
+-- the text that makes it is understood, and nothing forbids the table
+create : IsCreate (made 10) standing_text
+unfolding understood everything made
+create = (refl, refl, (refl, refl), (lit≤ tt, refl))
+
+pub adds : AddsTable (made 10) (made 11) 17 standing standing_text
+unfolding everything encode value_cmp fits_kind is_free_name same_name begins lib.Ieee.is_nan lib.Ieee.lt made
+adds = adds_by (made 10) (made 11) 17 standing standing_text create refl refl refl refl refl
+    (free_by (made 10) standing standing_text refl refl (standing_text, (refl, refl)) (standing.name, (refl, refl)) refl (lit< tt) (lit< tt) refl refl refl (lit< tt))
+
+-- it has one key, and no foreign key acts on its rows
+pub keyed : IsKeyed store_schema 10 stored_standing (1 ∷ 2 ∷ []) (1 ∷ 2 ∷ [])
+unfolding store_schema
+keyed = by_index 10 stored_standing (1 ∷ 2 ∷ []) (1 ∷ 2 ∷ []) refl refl refl refl (λ a b. ap (λ x. same_rowid a b || x) (or_false _)) (λ a b. or_false _) (λ db s h. not-true _ (and_parts _ _ h).0)
 
 abbrev pub row : ℤ → (List ℕ) → Row
 row number ref = Int number ∷ Text ref ∷ []
 
--- the row as it is kept, after its rowid
-abbrev columns : ℤ → (List ℕ) → Row
-columns number ref = Int number ∷ Text ref ∷ []
-
-fits : (number : ℤ) (ref : List ℕ) → Fits stored_standing (1 ∷ 2 ∷ []) (Null) (columns number ref) (row number ref)
+fits : (number : ℤ) (ref : List ℕ) → Fits stored_standing (1 ∷ 2 ∷ []) Null (row number ref) (row number ref)
 fits number ref = fits_chosen stored_standing (1 ∷ 2 ∷ []) (row number ref) refl (simp (cast_int)) (λ v. refl)
 
 abbrev terms : List Term
 terms = lit Null ∷ col 0 0 ∷ col 0 1 ∷ []
 
-abbrev pub put_text : List ℕ
-put_text = put_standing
-
-put_is : command_of (understood store_schema put_text) ≡ InsertOr 10 Replace (Values terms 3) []
+put_means : Means store_schema put_standing (InsertOr 10 Replace (Values terms 3) []) 2
 unfolding understood everything store_schema
-put_is = refl
+put_means = (refl, (refl, refl), (lit≤ tt, refl))
 
-put_plain : IsPlain (understood store_schema put_text)
-unfolding understood everything store_schema
-put_plain = (refl, refl)
-
-pub puts : (old new : State) (number : ℤ) (ref : List ℕ) (r : Result ℕ Error) → Executes put_text (row number ref) old new r
-    → OnOk r ((all : Trees) → ContainsIn store_schema old.now all → ContainsIn store_schema new.now (with_tree all 17 (put (1 ∷ 2 ∷ []) (Null ∷ row number ref) (all 17))))
-puts old new number ref r h = put_by store_schema 10 stored_standing (1 ∷ 2 ∷ []) (1 ∷ 2 ∷ []) standing_keyed put_text terms 3 put_is put_plain old new (row number ref) r (Null) (columns number ref) (row number ref) (fits number ref) refl h
-
-put_whole : IsWhole put_text 2 (understood store_schema put_text)
-unfolding understood everything store_schema
-put_whole = (lit≤ tt, refl)
-
-pub put_answers : (old new : State) (number : ℤ) (ref : List ℕ) → old.now.schema ≡ store_schema → Answers put_text (row number ref) old new
-put_answers old new number ref has = answers put_text (row number ref) old new store_schema has _ put_is tt put_plain put_whole
-
--- where each row then has what it refers to, no foreign key refuses the put
-pub put_refused : (limit : Option ℕ) (db : Database) (all : Trees) (number : ℤ) (ref : List ℕ) → ContainsIn store_schema db all → Stand (with_tree all 17 (put (1 ∷ 2 ∷ []) (Null ∷ row number ref) (all 17))) → Refuses limit db put_text (row number ref) → RefusesRows limit db put_text (row number ref)
-put_refused limit db all number ref was stand = keys.put_refused store_schema 10 stored_standing (1 ∷ 2 ∷ []) (1 ∷ 2 ∷ []) standing_keyed limit db all was put_text Replace [] terms 3 put_is put_plain (row number ref) (row number ref)
-    (put_sets store_schema 10 stored_standing (1 ∷ 2 ∷ []) (1 ∷ 2 ∷ []) standing_keyed limit terms 3 (row number ref) (Null) (columns number ref) (row number ref) (fits number ref) refl) (λ next holds. refers next _ holds stand)
-
-abbrev pub load_text : List ℕ
-load_text = load_standing
+-- the row replaces the one with its key
+pub puts : (number : ℤ) (ref : List ℕ) → Edits (with_row 17 (1 ∷ 2 ∷ []) (row number ref)) put_standing (row number ref)
+puts number ref = replaces keyed put_standing terms 3 Null (row number ref) (row number ref) put_means (fits number ref) refl
 
 abbrev shown_terms : List Term
 shown_terms = col 1 1 ∷ col 1 2 ∷ []
 
 -- the text that loads shows each column
-pub loads : IsLoad store_schema 17 load_text
+pub loads : IsLoad store_schema 17 load_standing
 unfolding understood everything store_schema
-loads = load_of store_schema 10 stored_standing load_text shown_terms (codes "number" ∷ codes "ref" ∷ []) refl refl (refl, refl) refl (λ db. refl) (λ r. refl)
+loads = load_of store_schema 10 stored_standing load_standing shown_terms (codes "number" ∷ codes "ref" ∷ []) refl refl (refl, refl) refl (λ db. refl) (λ r. refl)
+
+pub is_query : IsQuery load_standing
+unfolding everything
+is_query schema base = refl

@@ -41,7 +41,7 @@ use Rattle.exam_tables.proofs.InOrder.{answers_in_order}
 use Rattle.exam_tables.proofs.Queries.{map_same}
 use Rattle.exam_tables.proofs.QueryFails.{query_fails}
 use Rattle.exam_tables.proofs.Statements.{held_at}
-use Rattle.exam_tables.proofs.TableFacts.{appeal_keyed}
+use Rattle.exam_tables.proofs.OfAppeal as appeal
 
 abbrev session_terms : List Term
 session_terms = op2 (Compare Eq Binary) (col 1 3) (col 0 0) ∷ []
@@ -91,7 +91,7 @@ module _ (s : List ℕ) where
       → (meant : List Row) → IsPermutation (filter (is_of s) (all 13)) (map (λ row. Null ∷ row) meant) → IsStrictlySortedBy shown_cmp meant → rows ≡ meant
   shows_in_order old new rows all was shown meant same strict =
       let read = reads_as session_appeals (Text s ∷ []) old new store_schema was.schema_is _ query_is query_plain query_unlisted rows shown in
-      let held = held_at store_schema 8 stored_appeal (1 ∷ 2 ∷ []) (1 ∷ 2 ∷ []) appeal_keyed old.now.trees all was.rows in
+      let held = held_at store_schema 8 stored_appeal (1 ∷ 2 ∷ []) (1 ∷ 2 ∷ []) appeal.keyed old.now.trees all was.rows in
       let show = λ (r : Row). eval_all shown_terms ((Text s ∷ []) ∷ r ∷ []) in
       let test = λ (r : Row). list_all (holds ((Text s ∷ []) ∷ r ∷ [])) session_terms in
       let passed = filter test (old.now.trees 13) in

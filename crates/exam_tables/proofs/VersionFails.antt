@@ -54,7 +54,6 @@ use Rattle.exam_tables.proofs.Keys.{cast_int, cast_null, equal_is, equal_itself,
 use Rattle.exam_tables.proofs.KeysHold.{on_insert}
 use Rattle.exam_tables.proofs.OfOffice as office
 use Rattle.exam_tables.proofs.Statements.{finds, replaces, tries_one, without, held_at, database_is}
-use Rattle.exam_tables.proofs.TableFacts.{office_keyed}
 
 -- the first table has no index
 unguarded : list_all (λ (t : Table). not (t.tree == 0) || list_all (λ i. not (guards i t)) store_schema.indexes) store_schema.tables ≡ true
@@ -88,7 +87,7 @@ fit_references false true = refl
 fit_references false false = refl
 
 first_table : Has store_schema.tables stored_office
-first_table = has_got store_schema.tables 0 stored_office office_keyed.place
+first_table = has_got store_schema.tables 0 stored_office office.keyed.place
 
 -- where it is the table with this tree
 of_first : (test : Table → Bool) → list_all (λ (t : Table). not (t.tree == 0) || test t) store_schema.tables ≡ true → (t : Table) → Has store_schema.tables t → (t.tree == 0) ≡ true → test t ≡ true
@@ -177,7 +176,7 @@ module _ (db : Trees) (gone : List ℤ) (sources news : List Row) where
     not_stopped : (why : Option Refusal) → Writes store_schema Enforced db step (Err why) → ⊥
     not_stopped why (inl (for, refused, same)) = not_refused for refused
     not_stopped why (inr (inl (r, has, big, same))) = pass.small r (subst (λ l. Has l r) pass.is has) big
-    not_stopped why (inr (inr (next, applies, settles))) = settled next why settles.0 (rw (office_keyed.still (taken_by db step) step.news) at settles.1)
+    not_stopped why (inr (inr (next, applies, settles))) = settled next why settles.0 (rw (office.keyed.still (taken_by db step) step.news) at settles.1)
 
 -- rows that are only taken out
 takes_pass : (db : Trees) (gone : List ℤ) → Passes db gone [] []
@@ -219,7 +218,7 @@ module _ (version : ℤ) where
 
   -- the rows without the key
   abbrev left : List Row → List Row
-  left = without store_schema 0 stored_office (1 ∷ []) (0 ∷ []) office_keyed values
+  left = without store_schema 0 stored_office (1 ∷ []) (0 ∷ []) office.keyed values
 
   -- what the row becomes beside the rows that are there
   abbrev comes : (rows : List Row) → Comes stored_office (1 ∷ []) (Int (pos 1)) (office.columns (pos 1) version) values rows
@@ -270,7 +269,7 @@ module _ (version : ℤ) where
         edit_stops s it = not_stopped db (ids_of (x ∷ more)) [] [] (takes_pass db (ids_of (x ∷ more))) (rules Unique) it.0 it.1
     clears (x ∷ more) is stop (inr (mid, it, h)) =
         let edit = step db (ids_of (x ∷ more)) [] [] in
-        let applied = one_step store_schema Enforced db mid edit (office_keyed.still (taken_by db edit) edit.news) it in
+        let applied = one_step store_schema Enforced db mid edit (office.keyed.still (taken_by db edit) edit.news) it in
         puts mid (subst (λ l. is_taken l row ≡ false) (sym (applied.rows ∙ is)) (free (db 0) shaped)) (applied.fits.rules Unique (λ e. cc)) stop h
 
     tries : (stop : Option Error) → Tries office_task Replace [] row db (Err stop) → ⊥
@@ -289,7 +288,7 @@ module _ (version : ℤ) where
         misjudged (Violates Unique) bad = bad
         misjudged (Violates ForeignKey) bad = bad
     tries stop (inr (None, judged, (found, are, h))) =
-        clears found (finds store_schema 0 stored_office (1 ∷ []) (0 ∷ []) office_keyed limit given (Int (pos 1)) (office.columns (pos 1) version) values (office.fits (pos 1) version) db (comes (db 0)) found shaped are) stop h
+        clears found (finds store_schema 0 stored_office (1 ∷ []) (0 ∷ []) office.keyed limit given (Int (pos 1)) (office.columns (pos 1) version) values (office.fits (pos 1) version) db (comes (db 0)) found shaped are) stop h
 
     -- the source row is the row
     tried_is : with_rowid Chosen (db 0) (cast_row stored_office (mended Replace stored_office row)) ≡ row
@@ -309,8 +308,8 @@ module _ (version : ℤ) where
     -- each other table keeps its rows
     others : (w : Written) → InsertsOr office_task Replace [] (Values office.terms 3) db (Ok w) → KeepsOthers db w.trees
     others w wrote t has other =
-        let one = tries_one store_schema 0 stored_office (1 ∷ []) (0 ∷ []) office_keyed limit given Replace [] db row office.terms 3 w refl wrote in
-        let put = replaces store_schema 0 stored_office (1 ∷ []) (0 ∷ []) office_keyed limit given (Int (pos 1)) (office.columns (pos 1) version) values (office.fits (pos 1) version) db (comes (db 0)) one.0 shaped
+        let one = tries_one store_schema 0 stored_office (1 ∷ []) (0 ∷ []) office.keyed limit given Replace [] db row office.terms 3 w refl wrote in
+        let put = replaces store_schema 0 stored_office (1 ∷ []) (0 ∷ []) office.keyed limit given (Int (pos 1)) (office.columns (pos 1) version) values (office.fits (pos 1) version) db (comes (db 0)) one.0 shaped
         (subst (λ r. Tries office_task Replace [] r db (Ok one.0)) tried_is one.1) in
         ap (λ (d : Trees). d t.tree) one.2 ∙ all_has _ store_schema.tables t put.others has (eqb-false t.tree 0 other)
 
@@ -332,8 +331,8 @@ module _ (version : ℤ) where
         let command : c.command ≡ InsertOr 0 Replace (Values office.terms 3) [] = sym (ap command_of at) ∙ office.put_is in
         let ran : Does limit at_once given (record { schema = store_schema; trees = db.trees }) (text_of office.put_text c) None (InsertOr 0 Replace (Values office.terms 3) []) (Err stop) =
         subst (λ d. Does limit at_once given d (text_of office.put_text c) None (InsertOr 0 Replace (Values office.terms 3) []) (Err stop)) (database_is db was.schema_is refl) (rw (plain.0, command) at does) in
-        (on_rows limit db.trees (held_at store_schema 0 stored_office (1 ∷ []) (0 ∷ []) office_keyed db.trees all was.rows).shaped rules stop
-        (on_insert store_schema 0 stored_office (1 ∷ []) (0 ∷ []) office_keyed Replace [] office.terms 3 limit given (text_of office.put_text c) db.trees stop ran)).1
+        (on_rows limit db.trees (held_at store_schema 0 stored_office (1 ∷ []) (0 ∷ []) office.keyed db.trees all was.rows).shaped rules stop
+        (on_insert store_schema 0 stored_office (1 ∷ []) (0 ∷ []) office.keyed Replace [] office.terms 3 limit given (text_of office.put_text c) db.trees stop ran)).1
 
 -- It fails because memory runs out, because the disk or the connection fails, or because the steps are limited.
 pub version_fails : (old new : State) (all : Trees) (version : ℤ) → ContainsIn store_schema old.now all → ((rule : Constraint) → Keeps rule store_schema old.now.trees)

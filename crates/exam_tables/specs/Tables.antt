@@ -1,5 +1,5 @@
 -- The eleven tables, and the texts that make them.
-use Rattle.std.specs.Prelude.{codes, List, ℕ, [], ◌∷◌, Bool, true, false, Some, None}
+use Rattle.std.specs.Prelude.{codes, List, ℕ, [], ◌∷◌, Bool, true, false, Some, None, fold, take}
 use Rattle.sqlite.specs.Collation.TheVariants.{Binary}
 use Rattle.sqlite.specs.declared.types.Value.TheVariants.{Null}
 use Rattle.sqlite.specs.Kind.{Kind}
@@ -204,19 +204,28 @@ standing = strict_table (codes "standing")
     (1 ∷ 2 ∷ []) (1 ∷ 2 ∷ []) plain
     (refers (1 ∷ 2 ∷ []) (codes "appeal") (codes "number" ∷ codes "ref" ∷ []) ∷ [])
 
+-- the tables in the order in which they are made, each after those to which its rows refer
+abbrev pub all_tables : List Table
+all_tables =
+    office ∷ session ∷ paper ∷ hall ∷ candidate ∷ opening ∷ entry ∷ arrangement ∷ appeal ∷ seat ∷ standing ∷ []
+
+-- the texts that make them, in this order
+abbrev pub all_texts : List (List ℕ)
+all_texts =
+    office_text ∷ session_text ∷ paper_text ∷ hall_text ∷ candidate_text ∷ opening_text ∷ entry_text
+    ∷ arrangement_text ∷ appeal_text ∷ seat_text ∷ standing_text ∷ []
+
+-- the schema with the first tables
+unfoldable pub made : ℕ → Schema
+made count = fold created no_schema (take count all_tables)
+
 -- the tables of version 1
 unfoldable pub first_schema : Schema
-first_schema =
-    created (created (created (created (created (
-    created (created (created (created (created (no_schema) office) session) paper) hall) candidate
-    ) opening) entry) arrangement) appeal) seat
+first_schema = fold created no_schema (take 10 all_tables)
 
 -- the tables of this version
 unfoldable pub store_schema : Schema
-store_schema =
-    created (created (created (created (created (created (
-    created (created (created (created (created (no_schema) office) session) paper) hall) candidate
-    ) opening) entry) arrangement) appeal) seat) standing
+store_schema = fold created no_schema all_tables
 
 abbrev pub stored_office : Table
 stored_office = record office { tree = 0 }

@@ -1,7 +1,7 @@
 use Rattle.std.proofs.Common.{◌≡◌, Ok}
 use Rattle.sqlite.specs.Held.{state}
+use Rattle.exam_tables.specs.Tables.{made}
 use Rattle.exam_rows.specs.Versions.{HasNoRows, Leads}
-use Rattle.exam_rows.proofs.Creating.{made}
 use Rattle.exam_rows.proofs.schema.create_first.Given as goal
 
 abbrev pub invariant-texts : goal.invariant-texts
