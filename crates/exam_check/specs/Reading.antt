@@ -12,8 +12,7 @@ use Rattle.exam_types.specs.declared.refusal.Refusal.TheVariants.{BadStore}
 use Rattle.exam_rules.specs.Relations.{relations_of}
 use Rattle.exam_office.specs.State.{State as Office}
 use Rattle.exam_office.specs.declared.tables.Table.{Table as OfficeTable}
-use Rattle.exam_tables.specs.Texts.{load_session, load_paper, load_hall, load_opening, load_candidate, load_entry}
-use Rattle.exam_tables.specs.Texts.{load_arrangement, load_appeal, load_standing, load_seat}
+use Rattle.exam_rows.specs.Forms as forms
 use Rattle.exam_rows.specs.Forms.{Form}
 use Rattle.exam_rows.specs.Inside.{Contains}
 use Rattle.exam_rows.specs.Loaded.{HoldsTable, IsUnderstood, OnlyReads}
@@ -65,8 +64,8 @@ AreRead all o (t ∷ ts) before after =
 -- the texts that load the tables, in the order in which they are checked
 abbrev pub table_texts : List (List ℕ)
 table_texts =
-    load_session ∷ load_paper ∷ load_hall ∷ load_opening ∷ load_candidate ∷ load_entry ∷ load_arrangement ∷ load_appeal
-    ∷ load_standing ∷ load_seat ∷ []
+    forms.sessions.load ∷ forms.papers.load ∷ forms.halls.load ∷ forms.openings.load ∷ forms.candidates.load
+    ∷ forms.entries.load ∷ forms.arrangements.load ∷ forms.appeals.load ∷ forms.standing.load ∷ forms.seats.load ∷ []
 
 -- the office of what was read; a table that could not be read has no rows there
 abbrev pub office_in : Tables → Office

@@ -8,7 +8,6 @@ use Rattle.sqlite_value.specs.Order.{Row}
 use Rattle.sqlite_trees.specs.Tree.{Trees, with_tree}
 use Rattle.sqlite_trees.proofs.ListLemmas.{all_of}
 use Rattle.sqlite_schema.specs.declared.schema.Schema.{Schema}
-use Rattle.sqlite_schema.specs.declared.schema.Table.{Table}
 use Rattle.sqlite_trees.specs.declared.memory.MemStore.{MemStore}
 use Rattle.sqlite.specs.Held.{Held, IsNew, state}
 use Rattle.sqlite.specs.Steps.{over_memory, IsEmpty}
@@ -21,7 +20,7 @@ use Rattle.exam_types.specs.declared.refusal.Refusal.{Refusal}
 use Rattle.exam_types.specs.declared.refusal.Refusal.TheVariants.{NoMemory}
 use Rattle.exam_tables.specs.Content.{ContainsIn}
 use Rattle.exam_tables.specs.Refusals.{Fails}
-use Rattle.exam_tables.specs.Tables.{made, store_schema}
+use Rattle.exam_tables.specs.Tables.{Described, made, store_schema}
 use Rattle.exam_tables.proofs.Changes.{contains_same}
 use Rattle.exam_tables.proofs.AllTables.{first_is}
 use Rattle.exam_tables.proofs.Making.{AddsTable, adding_fails, adds_table}
@@ -94,14 +93,11 @@ limited old new error (inl lacks) = inl lacks
 limited old new error (inr (named, inl down)) = inr (named, inl down)
 limited old new error (inr (named, inr none)) = absurd none
 
--- the statement adds a table
-abbrev pub Adds : Schema → Schema → List ℕ → Type 0
-Adds before after text = (tree : ℕ) × (table : Table) × AddsTable before after tree table text
-
-pub table_leads : (before after : Schema) (text : List ℕ) → Adds before after text → (old new : State) (result : Result (Unit {0}) Refusal) → Refused text [] old new result → (HasCleanDisk new → IsTrue old.in_transaction → OnOk result (Ran text [] old new × IsTrue new.in_transaction))
+-- the text of a table
+pub table_leads : (before after : Schema) (d : Described) → AddsTable before after d → (old new : State) (result : Result (Unit {0}) Refusal) → Refused d.create [] old new result → (HasCleanDisk new → IsTrue old.in_transaction → OnOk result (Ran d.create [] old new × IsTrue new.in_transaction))
     → (HasCleanDisk new → KeepsCommit old new) → Survives old new (λ _. ⊥) → IfErr result (λ e. IsTrue (is_store_refusal e)) → Leads (HasNoRows before) (HasNoRows after) old new result
-table_leads before after text adds old new result failed ran kept survives told =
-    leads_by (HasNoRows before) (HasNoRows after) old new text [] result (λ count run was. still_empty after new.now adds.0 (adds_table adds.2 old new (Ok count) run (λ tree. []) was)) (λ was error run. limited old new error (adding_fails adds.2 old new was.schema_is error run)) failed ran kept survives told
+table_leads before after d adds old new result failed ran kept survives told =
+    leads_by (HasNoRows before) (HasNoRows after) old new d.create [] result (λ count run was. still_empty after new.now d.table.tree (adds_table adds old new (Ok count) run (λ tree. []) was)) (λ was error run. limited old new error (adding_fails adds old new was.schema_is error run)) failed ran kept survives told
 
 -- if the connection is shut, that alone explains a failed statement
 shut_fails : {A B : Type 0} (old new : State) (error : Error) → old.is_open ≡ false → Fails old new A error → Fails old new B error

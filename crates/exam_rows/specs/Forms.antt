@@ -22,12 +22,9 @@ use Rattle.exam_tables.specs.Changes.{with_row}
 use Rattle.exam_tables.specs.Content.{ContainsIn}
 use Rattle.exam_tables.specs.Loads.{IsLoad}
 use Rattle.exam_tables.specs.Made.{ContainsMade}
-use Rattle.exam_tables.specs.Tables.{stored_session, stored_paper, stored_hall, stored_candidate, stored_opening}
-use Rattle.exam_tables.specs.Tables.{stored_entry, stored_arrangement, stored_appeal, stored_seat, stored_standing}
-use Rattle.exam_tables.specs.Texts.{put_session, put_paper, put_hall, put_candidate, put_opening, put_entry}
-use Rattle.exam_tables.specs.Texts.{put_arrangement, put_appeal, put_seat, put_standing}
-use Rattle.exam_tables.specs.Texts.{load_session, load_paper, load_hall, load_candidate, load_opening, load_entry}
-use Rattle.exam_tables.specs.Texts.{load_arrangement, load_appeal, load_seat, load_standing, load_texts}
+use Rattle.exam_tables.specs.Tables as tables
+use Rattle.exam_tables.specs.Tables.{Described}
+use Rattle.exam_tables.specs.Texts.{load_texts}
 use Rattle.exam_tables.proofs.Edits.{Edits}
 use Rattle.exam_tables.proofs.Quiet.{IsQuery}
 use Rattle.exam_rows.specs.Inside as inside
@@ -55,58 +52,48 @@ pub record Form (K X : Type 0) : Type 1 where
   pub Holds : Database → Trees → Type 0
 
 -- that of a table which every version has
-abbrev pub made_form : {K X : Type 0} → ℕ → List ℕ → (K → K → Ordering) → (K → X → Row) → (K → X → Type 0) → List ℕ
-    → List ℕ → Form K X
-made_form tree places cmp row IsRow put load = record {
-  tree = tree;
-  places = places;
+abbrev pub made_form : {K X : Type 0} → Described → (K → K → Ordering) → (K → X → Row) → (K → X → Type 0) → Form K X
+made_form d cmp row IsRow = record {
+  tree = d.table.tree;
+  places = d.key;
   cmp = cmp;
   row = row;
   IsRow = IsRow;
-  put = put;
-  load = load;
+  put = d.put;
+  load = d.load;
   Holds = ContainsMade;
 }
 
 abbrev pub sessions : Form Code Session
-sessions = made_form stored_session.tree (1 ∷ []) code_cmp session_row IsSession put_session load_session
+sessions = made_form tables.session code_cmp session_row IsSession
 
 abbrev pub papers : Form Code Paper
-papers = made_form stored_paper.tree (1 ∷ []) code_cmp paper_row IsPaper put_paper load_paper
+papers = made_form tables.paper code_cmp paper_row IsPaper
 
 abbrev pub halls : Form Code Hall
-halls = made_form stored_hall.tree (1 ∷ []) code_cmp hall_row IsHall put_hall load_hall
+halls = made_form tables.hall code_cmp hall_row IsHall
 
 abbrev pub candidates : Form ℕ Candidate
-candidates = made_form stored_candidate.tree (1 ∷ []) nat_cmp candidate_row IsCandidate put_candidate load_candidate
+candidates = made_form tables.candidate nat_cmp candidate_row IsCandidate
 
 abbrev pub openings : Form (Code × Code) Opening
-openings = made_form stored_opening.tree (1 ∷ 2 ∷ []) opening_cmp opening_row IsOpening put_opening load_opening
+openings = made_form tables.opening opening_cmp opening_row IsOpening
 
 abbrev pub entries : Form (ℕ × Code) Entry
-entries = made_form stored_entry.tree (1 ∷ 2 ∷ []) entry_cmp entry_row IsEntry put_entry load_entry
+entries = made_form tables.entry entry_cmp entry_row IsEntry
 
 abbrev pub arrangements : Form ℕ Arrangement
-arrangements = made_form stored_arrangement.tree (1 ∷ []) nat_cmp arrangement_row IsArrangement put_arrangement load_arrangement
+arrangements = made_form tables.arrangement nat_cmp arrangement_row IsArrangement
 
 abbrev pub appeals : Form (ℕ × Code) Appeal
-appeals = made_form stored_appeal.tree (1 ∷ 2 ∷ []) appeal_cmp appeal_row IsAppeal put_appeal load_appeal
+appeals = made_form tables.appeal appeal_cmp appeal_row IsAppeal
 
 abbrev pub seats : Form (Code × ℕ) Code
-seats = made_form stored_seat.tree (1 ∷ 2 ∷ []) seat_cmp seat_row IsSeat put_seat load_seat
+seats = made_form tables.seat seat_cmp seat_row IsSeat
 
 -- version 1 has no table of marks
 abbrev pub standing : Form (ℕ × Code) (Unit {0})
-standing = record {
-  tree = stored_standing.tree;
-  places = 1 ∷ 2 ∷ [];
-  cmp = appeal_cmp;
-  row = standing_row;
-  IsRow = IsStanding;
-  put = put_standing;
-  load = load_standing;
-  Holds = inside.Contains;
-}
+standing = record (made_form tables.standing appeal_cmp standing_row IsStanding) { Holds = inside.Contains }
 
 -- the columns of the key of an opening and of a seat, by which rows are deleted
 abbrev pub opening_key : Code × Code → Row

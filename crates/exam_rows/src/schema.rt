@@ -5,7 +5,7 @@ ghost use Rattle.sqlite.specs.Held.{state};
 ghost use Rattle.sqlite.specs.State.{HasCleanDisk, IsLive, IsUnchanged, Survives};
 ghost use Rattle.sqlite_value.specs.Order.{column};
 ghost use Rattle.exam_tables.specs.Made.{ContainsMade, lists_marks};
-ghost use Rattle.exam_tables.specs.Tables.{made};
+ghost use Rattle.exam_tables.specs.Tables as tables;
 ghost use Rattle.exam_tables.specs.Texts.{load_office};
 ghost use Rattle.exam_types.specs.declared.refusal.Refusal.TheVariants.{BadStore};
 ghost use Rattle.exam_rows.specs.Faults.{is_store_refusal};
@@ -122,7 +122,7 @@ const FIRST_TABLES: [&str; 10] = [
 /// Makes the tables of version 1 in an empty database, with no rows.
 fn create_first<S: Alter>(tx: &mut Transaction<'_, S>) -> Result<(), Refusal>
     ensures same_reference { tx.new.conn.ghost_name ≡ tx.old.conn.ghost_name }
-    ensures made { Leads (HasNoRows (made 0)) (HasNoRows (made 10))
+    ensures made { Leads (HasNoRows (tables.made 0)) (HasNoRows (tables.made 10))
         (state S.Store tx.old.conn.now) (state S.Store tx.new.conn.now) result }
 {
     'texts: for text in FIRST_TABLES {

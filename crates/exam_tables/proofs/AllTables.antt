@@ -1,9 +1,8 @@
 -- The eleven tables are made one after the other; the table of marks over tables with rows too.
-use Rattle.std.proofs.Common.{◌≡◌, ◌+◌, ◌<◌, ℕ, zero, suc, get_or, [], true, false, refl, subst, arith}
+use Rattle.std.proofs.Common.{◌≡◌, ◌+◌, ◌<◌, ℕ, zero, suc, get_or, true, false, refl, subst, arith}
 use Rattle.sqlite_schema.specs.Names.{same_name}
-use Rattle.sqlite_schema.specs.declared.schema.Table.{Table}
 use Rattle.exam_tables.specs.Made.{lists_marks}
-use Rattle.exam_tables.specs.Tables.{all_texts, first_schema, made, store_schema}
+use Rattle.exam_tables.specs.Tables.{all_tables, first_schema, made, store_schema}
 use Rattle.exam_tables.specs.Tables as tables
 use Rattle.exam_tables.proofs.OfAppeal as appeal
 use Rattle.exam_tables.proofs.OfArrangement as arrangement
@@ -18,19 +17,19 @@ use Rattle.exam_tables.proofs.OfSession as session
 use Rattle.exam_tables.proofs.OfStanding as standing
 use Rattle.exam_tables.proofs.Making.{AddsTable}
 
--- each text adds a table to those before it
-pub each_added : (k : ℕ) → k < 11 → (tree : ℕ) × (table : Table) × AddsTable (made k) (made (k + 1)) tree table (get_or all_texts k [])
-each_added zero below = (0, tables.office, office.adds)
-each_added (suc zero) below = (1, tables.session, session.adds)
-each_added (suc (suc zero)) below = (3, tables.paper, paper.adds)
-each_added (suc (suc (suc zero))) below = (5, tables.hall, hall.adds)
-each_added (suc (suc (suc (suc zero)))) below = (7, tables.candidate, candidate.adds)
-each_added (suc (suc (suc (suc (suc zero))))) below = (8, tables.opening, opening.adds)
-each_added (suc (suc (suc (suc (suc (suc zero)))))) below = (10, tables.entry, entry.adds)
-each_added (suc (suc (suc (suc (suc (suc (suc zero))))))) below = (12, tables.arrangement, arrangement.adds)
-each_added (suc (suc (suc (suc (suc (suc (suc (suc zero)))))))) below = (13, tables.appeal, appeal.adds)
-each_added (suc (suc (suc (suc (suc (suc (suc (suc (suc zero))))))))) below = (15, tables.seat, seat.adds)
-each_added (suc (suc (suc (suc (suc (suc (suc (suc (suc (suc zero)))))))))) below = (17, tables.standing, standing.adds)
+-- the k-th table is added to those before it
+pub each_added : (k : ℕ) → k < 11 → AddsTable (made k) (made (k + 1)) (get_or all_tables k tables.office)
+each_added zero below = office.adds
+each_added (suc zero) below = session.adds
+each_added (suc (suc zero)) below = paper.adds
+each_added (suc (suc (suc zero))) below = hall.adds
+each_added (suc (suc (suc (suc zero)))) below = candidate.adds
+each_added (suc (suc (suc (suc (suc zero))))) below = opening.adds
+each_added (suc (suc (suc (suc (suc (suc zero)))))) below = entry.adds
+each_added (suc (suc (suc (suc (suc (suc (suc zero))))))) below = arrangement.adds
+each_added (suc (suc (suc (suc (suc (suc (suc (suc zero)))))))) below = appeal.adds
+each_added (suc (suc (suc (suc (suc (suc (suc (suc (suc zero))))))))) below = seat.adds
+each_added (suc (suc (suc (suc (suc (suc (suc (suc (suc (suc zero)))))))))) below = standing.adds
 each_added (suc (suc (suc (suc (suc (suc (suc (suc (suc (suc (suc k))))))))))) below = absurd (omega arith)
 
 pub first_is : made 10 ≡ first_schema
@@ -42,8 +41,8 @@ unfolding made store_schema
 last_is = refl
 
 -- The table of marks is added to the ten tables of version 1, whatever rows they have: they keep them, and it has none.
-pub standing_added : AddsTable first_schema store_schema 17 tables.standing tables.standing_text
-standing_added = subst (λ s. AddsTable s store_schema 17 tables.standing tables.standing_text) first_is (subst (λ s. AddsTable (made 10) s 17 tables.standing tables.standing_text) last_is standing.adds)
+pub standing_added : AddsTable first_schema store_schema tables.standing
+standing_added = subst (λ s. AddsTable s store_schema tables.standing) first_is (subst (λ s. AddsTable (made 10) s tables.standing) last_is standing.adds)
 
 pub marks_listed : (lists_marks store_schema ≡ true) × (lists_marks first_schema ≡ false)
 unfolding store_schema first_schema same_name

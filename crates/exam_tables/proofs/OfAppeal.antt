@@ -16,8 +16,7 @@ use Rattle.sqlite_trees.specs.Sound.{begins, fits_kind, is_free_name}
 use Rattle.exam_tables.specs.Content.{same_rowid}
 use Rattle.exam_tables.specs.Loads.{IsLoad}
 use Rattle.exam_tables.specs.Made.{made_schema}
-use Rattle.exam_tables.specs.Tables.{appeal, appeal_text, first_schema, made, store_schema, stored_appeal}
-use Rattle.exam_tables.specs.Texts.{load_appeal, put_appeal}
+use Rattle.exam_tables.specs.Tables.{appeal, first_schema, made, store_schema}
 use Rattle.exam_tables.proofs.Fits.{Fits, fits_chosen}
 use Rattle.exam_tables.proofs.Keys.{cast_int}
 use Rattle.exam_tables.proofs.Loads.{load_of}
@@ -25,50 +24,49 @@ use Rattle.exam_tables.specs.Keyed.{IsKeyed}
 use Rattle.exam_tables.specs.Changes.{with_row}
 use Rattle.exam_tables.proofs.Edits.{Edits, Means, replaces}
 use Rattle.exam_tables.proofs.Keying.{by_index, or_false}
-use Rattle.exam_tables.proofs.Making.{AddsTable, IsCreate, adds_by, free_by}
+use Rattle.exam_tables.proofs.Making.{Adds, IsCreate, adds_by}
 use Rattle.exam_tables.proofs.Quiet.{IsQuery}
 
 -- the text that makes it is understood, and nothing forbids the table
-create : IsCreate (made 8) appeal_text
+create : IsCreate (made appeal.at) appeal.create
 unfolding understood everything made
 create = (refl, refl, (refl, refl), (lit≤ tt, refl))
 
-pub adds : AddsTable (made 8) (made 9) 13 appeal appeal_text
+pub adds : Adds appeal
 unfolding everything encode value_cmp fits_kind is_free_name same_name begins lib.Ieee.is_nan lib.Ieee.lt made
-adds = adds_by (made 8) (made 9) 13 appeal appeal_text create refl refl refl refl refl
-    (free_by (made 8) appeal appeal_text refl refl (appeal_text, (refl, refl)) (appeal.name, (refl, refl)) refl (lit< tt) (lit< tt) refl refl refl (lit< tt))
+adds = adds_by appeal create refl refl refl refl refl refl refl (appeal.create, (refl, refl)) (appeal.table.name, (refl, refl)) refl (lit< tt) (lit< tt) refl refl refl (lit< tt)
 
 -- it has one key, and no foreign key acts on its rows
-pub keyed : IsKeyed store_schema 8 stored_appeal (1 ∷ 2 ∷ []) (1 ∷ 2 ∷ [])
+pub keyed : IsKeyed store_schema appeal.at appeal.table appeal.key appeal.key
 unfolding store_schema
-keyed = by_index 8 stored_appeal (1 ∷ 2 ∷ []) (1 ∷ 2 ∷ []) refl refl refl refl (λ a b. ap (λ x. same_rowid a b || x) (or_false _)) (λ a b. or_false _) (λ db s h. not-true _ (and_parts _ _ h).0)
+keyed = by_index appeal refl refl refl refl (λ a b. ap (λ x. same_rowid a b || x) (or_false _)) (λ a b. or_false _) (λ db s h. not-true _ (and_parts _ _ h).0)
 
 abbrev pub row : ℤ → (List ℕ) → (List ℕ) → ℤ → (List ℕ) → ℤ → ℤ → (List ℕ) → ℤ → (Option (List ℕ)) → (List ℕ) → Row
 row number reference session kind target needs extra reason state answer lodged = Int number ∷ Text reference ∷ Text session ∷ Int kind ∷ Text target ∷ Int needs ∷ Int extra ∷ Text reason ∷ Int state ∷ or_null Text answer ∷ Text lodged ∷ []
 
-fits : (number : ℤ) (reference : List ℕ) (session : List ℕ) (kind : ℤ) (target : List ℕ) (needs : ℤ) (extra : ℤ) (reason : List ℕ) (state : ℤ) (answer : Option (List ℕ)) (lodged : List ℕ) → Fits stored_appeal (1 ∷ 2 ∷ []) Null (row number reference session kind target needs extra reason state answer lodged) (row number reference session kind target needs extra reason state answer lodged)
-fits number reference session kind target needs extra reason state answer lodged = fits_chosen stored_appeal (1 ∷ 2 ∷ []) (row number reference session kind target needs extra reason state answer lodged) refl (simp (cast_int, cast_maybe)) (λ v. refl)
+fits : (number : ℤ) (reference : List ℕ) (session : List ℕ) (kind : ℤ) (target : List ℕ) (needs : ℤ) (extra : ℤ) (reason : List ℕ) (state : ℤ) (answer : Option (List ℕ)) (lodged : List ℕ) → Fits appeal.table appeal.key Null (row number reference session kind target needs extra reason state answer lodged) (row number reference session kind target needs extra reason state answer lodged)
+fits number reference session kind target needs extra reason state answer lodged = fits_chosen appeal.table appeal.key (row number reference session kind target needs extra reason state answer lodged) refl (simp (cast_int, cast_maybe)) (λ v. refl)
 
 abbrev terms : List Term
 terms = lit Null ∷ col 0 0 ∷ col 0 1 ∷ col 0 2 ∷ col 0 3 ∷ col 0 4 ∷ col 0 5 ∷ col 0 6 ∷ col 0 7 ∷ col 0 8 ∷ col 0 9 ∷ col 0 10 ∷ []
 
-put_means : Means store_schema put_appeal (InsertOr 8 Replace (Values terms 12) []) 11
+put_means : Means store_schema appeal.put (InsertOr appeal.at Replace (Values terms 12) []) 11
 unfolding understood everything store_schema
 put_means = (refl, (refl, refl), (lit≤ tt, refl))
 
 -- the row replaces the one with its key
-pub puts : (number : ℤ) (reference : List ℕ) (session : List ℕ) (kind : ℤ) (target : List ℕ) (needs : ℤ) (extra : ℤ) (reason : List ℕ) (state : ℤ) (answer : Option (List ℕ)) (lodged : List ℕ) → Edits (with_row 13 (1 ∷ 2 ∷ []) (row number reference session kind target needs extra reason state answer lodged)) put_appeal (row number reference session kind target needs extra reason state answer lodged)
-puts number reference session kind target needs extra reason state answer lodged = replaces keyed put_appeal terms 12 Null (row number reference session kind target needs extra reason state answer lodged) (row number reference session kind target needs extra reason state answer lodged) put_means (fits number reference session kind target needs extra reason state answer lodged) refl
+pub puts : (number : ℤ) (reference : List ℕ) (session : List ℕ) (kind : ℤ) (target : List ℕ) (needs : ℤ) (extra : ℤ) (reason : List ℕ) (state : ℤ) (answer : Option (List ℕ)) (lodged : List ℕ) → Edits (with_row appeal.table.tree appeal.key (row number reference session kind target needs extra reason state answer lodged)) appeal.put (row number reference session kind target needs extra reason state answer lodged)
+puts number reference session kind target needs extra reason state answer lodged = replaces keyed appeal.put terms 12 Null (row number reference session kind target needs extra reason state answer lodged) (row number reference session kind target needs extra reason state answer lodged) put_means (fits number reference session kind target needs extra reason state answer lodged) refl
 
 abbrev shown_terms : List Term
 shown_terms = col 1 1 ∷ col 1 2 ∷ col 1 3 ∷ col 1 4 ∷ col 1 5 ∷ col 1 6 ∷ col 1 7 ∷ col 1 8 ∷ col 1 9 ∷ col 1 10 ∷ col 1 11 ∷ []
 
 -- the text that loads shows each column, with the table of marks or without it
-pub loads : (has_marks : Bool) → IsLoad (made_schema has_marks) 13 load_appeal
+pub loads : (has_marks : Bool) → IsLoad (made_schema has_marks) appeal.table.tree appeal.load
 unfolding understood everything store_schema first_schema
-loads true = load_of (made_schema true) 8 stored_appeal load_appeal shown_terms (codes "number" ∷ codes "ref" ∷ codes "session" ∷ codes "kind" ∷ codes "target" ∷ codes "needs" ∷ codes "extra" ∷ codes "reason" ∷ codes "state" ∷ codes "answer" ∷ codes "lodged" ∷ []) refl refl (refl, refl) refl (λ db. refl) (λ r. refl)
-loads false = load_of (made_schema false) 8 stored_appeal load_appeal shown_terms (codes "number" ∷ codes "ref" ∷ codes "session" ∷ codes "kind" ∷ codes "target" ∷ codes "needs" ∷ codes "extra" ∷ codes "reason" ∷ codes "state" ∷ codes "answer" ∷ codes "lodged" ∷ []) refl refl (refl, refl) refl (λ db. refl) (λ r. refl)
+loads true = load_of (made_schema true) appeal.at appeal.table appeal.load shown_terms (codes "number" ∷ codes "ref" ∷ codes "session" ∷ codes "kind" ∷ codes "target" ∷ codes "needs" ∷ codes "extra" ∷ codes "reason" ∷ codes "state" ∷ codes "answer" ∷ codes "lodged" ∷ []) refl refl (refl, refl) refl (λ db. refl) (λ r. refl)
+loads false = load_of (made_schema false) appeal.at appeal.table appeal.load shown_terms (codes "number" ∷ codes "ref" ∷ codes "session" ∷ codes "kind" ∷ codes "target" ∷ codes "needs" ∷ codes "extra" ∷ codes "reason" ∷ codes "state" ∷ codes "answer" ∷ codes "lodged" ∷ []) refl refl (refl, refl) refl (λ db. refl) (λ r. refl)
 
-pub is_query : IsQuery load_appeal
+pub is_query : IsQuery appeal.load
 unfolding everything
 is_query schema base = refl

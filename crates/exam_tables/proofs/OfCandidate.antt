@@ -21,8 +21,7 @@ use Rattle.sqlite_trees.specs.Sound.{begins, fits_kind, is_free_name}
 use Rattle.exam_tables.specs.Content.{bare, places, same_key, same_rowid}
 use Rattle.exam_tables.specs.Loads.{IsLoad}
 use Rattle.exam_tables.specs.Made.{made_schema}
-use Rattle.exam_tables.specs.Tables.{candidate, candidate_text, first_schema, made, store_schema, stored_candidate}
-use Rattle.exam_tables.specs.Texts.{load_candidate, put_candidate}
+use Rattle.exam_tables.specs.Tables.{candidate, first_schema, made, store_schema}
 use Rattle.exam_tables.proofs.Fits.{Fits, fits_given}
 use Rattle.exam_tables.proofs.Keys.{cast_null}
 use Rattle.exam_tables.proofs.Loads.{load_of}
@@ -31,23 +30,22 @@ use Rattle.exam_tables.specs.Keyed.{IsKeyed}
 use Rattle.exam_tables.specs.Changes.{with_row}
 use Rattle.exam_tables.proofs.Edits.{Edits, Means, upserts}
 use Rattle.exam_tables.proofs.Keying.{by_rowid, or_false, or_twice}
-use Rattle.exam_tables.proofs.Making.{AddsTable, IsCreate, adds_by, free_by}
+use Rattle.exam_tables.proofs.Making.{Adds, IsCreate, adds_by}
 use Rattle.exam_tables.proofs.Quiet.{IsQuery}
 
 -- the text that makes it is understood, and nothing forbids the table
-create : IsCreate (made 4) candidate_text
+create : IsCreate (made candidate.at) candidate.create
 unfolding understood everything made
 create = (refl, refl, (refl, refl), (lit≤ tt, refl))
 
-pub adds : AddsTable (made 4) (made 5) 7 candidate candidate_text
+pub adds : Adds candidate
 unfolding everything encode value_cmp fits_kind is_free_name same_name begins lib.Ieee.is_nan lib.Ieee.lt made
-adds = adds_by (made 4) (made 5) 7 candidate candidate_text create refl refl refl refl refl
-    (free_by (made 4) candidate candidate_text refl refl (candidate_text, (refl, refl)) (candidate.name, (refl, refl)) refl (lit< tt) (lit< tt) refl refl refl (lit< tt))
+adds = adds_by candidate create refl refl refl refl refl refl refl (candidate.create, (refl, refl)) (candidate.table.name, (refl, refl)) refl (lit< tt) (lit< tt) refl refl refl (lit< tt)
 
 -- it has one key, and no foreign key acts on its rows
-pub keyed : IsKeyed store_schema 4 stored_candidate (1 ∷ []) (0 ∷ [])
+pub keyed : IsKeyed store_schema candidate.at candidate.table candidate.key (0 ∷ [])
 unfolding store_schema
-keyed = by_rowid 4 stored_candidate (1 ∷ []) (0 ∷ []) refl refl refl refl (λ a b. or_twice _) (λ a b. or_false _) (λ a b. refl)
+keyed = by_rowid candidate refl refl refl refl (λ a b. or_twice _) (λ a b. or_false _) (λ a b. refl)
 
 abbrev pub row : ℤ → (List ℕ) → (List ℕ) → Row
 row number name code = Int number ∷ Text name ∷ Text code ∷ []
@@ -56,8 +54,8 @@ row number name code = Int number ∷ Text name ∷ Text code ∷ []
 abbrev columns : ℤ → (List ℕ) → (List ℕ) → Row
 columns number name code = Null ∷ Text name ∷ Text code ∷ []
 
-fits : (number : ℤ) (name : List ℕ) (code : List ℕ) → Fits stored_candidate (1 ∷ []) (Int number) (columns number name code) (row number name code)
-fits number name code = fits_given stored_candidate (1 ∷ []) number (columns number name code) (row number name code) refl (simp (cast_null)) refl (λ r. refl)
+fits : (number : ℤ) (name : List ℕ) (code : List ℕ) → Fits candidate.table candidate.key (Int number) (columns number name code) (row number name code)
+fits number name code = fits_given candidate.table candidate.key number (columns number name code) (row number name code) refl (simp (cast_null)) refl (λ r. refl)
 
 abbrev terms : List Term
 terms = col 0 0 ∷ lit Null ∷ col 0 1 ∷ col 0 2 ∷ []
@@ -70,31 +68,31 @@ there = op2 (Compare Eq Binary) (col 1 0) (col 0 3) ∷ []
 abbrev project : List Term
 project = col 1 0 ∷ col 1 0 ∷ lit Null ∷ col 0 6 ∷ col 0 7 ∷ []
 
-put_means : Means store_schema put_candidate (InsertOr 4 Abort (Values terms 4) (on_conflict (0 ∷ []) 7 there project ∷ [])) 3
+put_means : Means store_schema candidate.put (InsertOr candidate.at Abort (Values terms 4) (on_conflict (0 ∷ []) candidate.table.tree there project ∷ [])) 3
 unfolding understood everything store_schema
 put_means = (refl, (refl, refl), (lit≤ tt, refl))
 
-picked : (number : ℤ) (name : List ℕ) (code : List ℕ) (t r : Row) (id : ℤ) → list_all (holds ((row number name code ++ rowid t ∷ shown stored_candidate (Int id ∷ columns number name code)) ∷ r ∷ [])) there ≡ same_rowid r t
+picked : (number : ℤ) (name : List ℕ) (code : List ℕ) (t r : Row) (id : ℤ) → list_all (holds ((row number name code ++ rowid t ∷ shown candidate.table (Int id ∷ columns number name code)) ∷ r ∷ [])) there ≡ same_rowid r t
 unfolding first_key
 picked number name code t r id = refl
 
-written : (number : ℤ) (name : List ℕ) (code : List ℕ) (t : Row) (id : ℤ) → same_key (1 ∷ []) (bare (places stored_candidate) t) (Null ∷ row number name code) ≡ true
-    → eval_all project ((row number name code ++ rowid t ∷ shown stored_candidate (Int id ∷ columns number name code)) ∷ t ∷ []) ≡ rowid t ∷ rowid t ∷ columns number name code
+written : (number : ℤ) (name : List ℕ) (code : List ℕ) (t : Row) (id : ℤ) → same_key candidate.key (bare (places candidate.table) t) (Null ∷ row number name code) ≡ true
+    → eval_all project ((row number name code ++ rowid t ∷ shown candidate.table (Int id ∷ columns number name code)) ∷ t ∷ []) ≡ rowid t ∷ rowid t ∷ columns number name code
 written number name code t id same = refl
 
 -- the row replaces the one with its key
-pub puts : (number : ℤ) (name : List ℕ) (code : List ℕ) → Edits (with_row 7 (1 ∷ []) (row number name code)) put_candidate (row number name code)
-puts number name code = upserts keyed put_candidate terms 4 there project (Int number) (columns number name code) (row number name code) put_means (λ db. refl) (fits number name code) refl (picked number name code) (written number name code)
+pub puts : (number : ℤ) (name : List ℕ) (code : List ℕ) → Edits (with_row candidate.table.tree candidate.key (row number name code)) candidate.put (row number name code)
+puts number name code = upserts keyed candidate.put terms 4 there project (Int number) (columns number name code) (row number name code) put_means (λ db. refl) (fits number name code) refl (picked number name code) (written number name code)
 
 abbrev shown_terms : List Term
 shown_terms = col 1 0 ∷ col 1 2 ∷ col 1 3 ∷ []
 
 -- the text that loads shows each column, with the table of marks or without it
-pub loads : (has_marks : Bool) → IsLoad (made_schema has_marks) 7 load_candidate
+pub loads : (has_marks : Bool) → IsLoad (made_schema has_marks) candidate.table.tree candidate.load
 unfolding understood everything store_schema first_schema
-loads true = load_of (made_schema true) 4 stored_candidate load_candidate shown_terms (codes "number" ∷ codes "name" ∷ codes "code" ∷ []) refl refl (refl, refl) refl (λ db. refl) (λ r. refl)
-loads false = load_of (made_schema false) 4 stored_candidate load_candidate shown_terms (codes "number" ∷ codes "name" ∷ codes "code" ∷ []) refl refl (refl, refl) refl (λ db. refl) (λ r. refl)
+loads true = load_of (made_schema true) candidate.at candidate.table candidate.load shown_terms (codes "number" ∷ codes "name" ∷ codes "code" ∷ []) refl refl (refl, refl) refl (λ db. refl) (λ r. refl)
+loads false = load_of (made_schema false) candidate.at candidate.table candidate.load shown_terms (codes "number" ∷ codes "name" ∷ codes "code" ∷ []) refl refl (refl, refl) refl (λ db. refl) (λ r. refl)
 
-pub is_query : IsQuery load_candidate
+pub is_query : IsQuery candidate.load
 unfolding everything
 is_query schema base = refl

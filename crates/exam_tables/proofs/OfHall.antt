@@ -22,8 +22,7 @@ use Rattle.sqlite_trees.specs.Sound.{begins, fits_kind, is_free_name}
 use Rattle.exam_tables.specs.Content.{bare, places, same_key, same_rowid}
 use Rattle.exam_tables.specs.Loads.{IsLoad}
 use Rattle.exam_tables.specs.Made.{made_schema}
-use Rattle.exam_tables.specs.Tables.{first_schema, hall, hall_text, made, store_schema, stored_hall}
-use Rattle.exam_tables.specs.Texts.{load_hall, put_hall}
+use Rattle.exam_tables.specs.Tables.{hall, first_schema, made, store_schema}
 use Rattle.exam_tables.proofs.Fits.{Fits, fits_chosen}
 use Rattle.exam_tables.proofs.Keys.{cast_int, text_same}
 use Rattle.exam_tables.proofs.Loads.{load_of}
@@ -32,29 +31,28 @@ use Rattle.exam_tables.specs.Keyed.{IsKeyed}
 use Rattle.exam_tables.specs.Changes.{with_row}
 use Rattle.exam_tables.proofs.Edits.{Edits, Means, upserts}
 use Rattle.exam_tables.proofs.Keying.{by_index, or_false}
-use Rattle.exam_tables.proofs.Making.{AddsTable, IsCreate, adds_by, free_by}
+use Rattle.exam_tables.proofs.Making.{Adds, IsCreate, adds_by}
 use Rattle.exam_tables.proofs.Quiet.{IsQuery}
 
 -- the text that makes it is understood, and nothing forbids the table
-create : IsCreate (made 3) hall_text
+create : IsCreate (made hall.at) hall.create
 unfolding understood everything made
 create = (refl, refl, (refl, refl), (lit≤ tt, refl))
 
-pub adds : AddsTable (made 3) (made 4) 5 hall hall_text
+pub adds : Adds hall
 unfolding everything encode value_cmp fits_kind is_free_name same_name begins lib.Ieee.is_nan lib.Ieee.lt made
-adds = adds_by (made 3) (made 4) 5 hall hall_text create refl refl refl refl refl
-    (free_by (made 3) hall hall_text refl refl (hall_text, (refl, refl)) (hall.name, (refl, refl)) refl (lit< tt) (lit< tt) refl refl refl (lit< tt))
+adds = adds_by hall create refl refl refl refl refl refl refl (hall.create, (refl, refl)) (hall.table.name, (refl, refl)) refl (lit< tt) (lit< tt) refl refl refl (lit< tt)
 
 -- it has one key, and no foreign key acts on its rows
-pub keyed : IsKeyed store_schema 3 stored_hall (1 ∷ []) (1 ∷ [])
+pub keyed : IsKeyed store_schema hall.at hall.table hall.key hall.key
 unfolding store_schema
-keyed = by_index 3 stored_hall (1 ∷ []) (1 ∷ []) refl refl refl refl (λ a b. ap (λ x. same_rowid a b || x) (or_false _)) (λ a b. or_false _) (λ db s h. not-true _ (and_parts _ _ h).0)
+keyed = by_index hall refl refl refl refl (λ a b. ap (λ x. same_rowid a b || x) (or_false _)) (λ a b. or_false _) (λ db s h. not-true _ (and_parts _ _ h).0)
 
 abbrev pub row : (List ℕ) → (List ℕ) → ℤ → Row
 row code title features = Text code ∷ Text title ∷ Int features ∷ []
 
-fits : (code : List ℕ) (title : List ℕ) (features : ℤ) → Fits stored_hall (1 ∷ []) Null (row code title features) (row code title features)
-fits code title features = fits_chosen stored_hall (1 ∷ []) (row code title features) refl (simp (cast_int)) (λ v. refl)
+fits : (code : List ℕ) (title : List ℕ) (features : ℤ) → Fits hall.table hall.key Null (row code title features) (row code title features)
+fits code title features = fits_chosen hall.table hall.key (row code title features) refl (simp (cast_int)) (λ v. refl)
 
 abbrev terms : List Term
 terms = lit Null ∷ col 0 0 ∷ col 0 1 ∷ col 0 2 ∷ []
@@ -67,31 +65,31 @@ there = op2 (Compare Eq Binary) (col 1 0) (col 0 3) ∷ []
 abbrev project : List Term
 project = col 1 0 ∷ col 1 0 ∷ col 1 1 ∷ col 0 6 ∷ col 0 7 ∷ []
 
-put_means : Means store_schema put_hall (InsertOr 3 Abort (Values terms 4) (on_conflict (1 ∷ []) 5 there project ∷ [])) 3
+put_means : Means store_schema hall.put (InsertOr hall.at Abort (Values terms 4) (on_conflict hall.key hall.table.tree there project ∷ [])) 3
 unfolding understood everything store_schema
 put_means = (refl, (refl, refl), (lit≤ tt, refl))
 
-picked : (code : List ℕ) (title : List ℕ) (features : ℤ) (t r : Row) (id : ℤ) → list_all (holds ((row code title features ++ rowid t ∷ shown stored_hall (Int id ∷ row code title features)) ∷ r ∷ [])) there ≡ same_rowid r t
+picked : (code : List ℕ) (title : List ℕ) (features : ℤ) (t r : Row) (id : ℤ) → list_all (holds ((row code title features ++ rowid t ∷ shown hall.table (Int id ∷ row code title features)) ∷ r ∷ [])) there ≡ same_rowid r t
 unfolding first_key
 picked code title features t r id = refl
 
-written : (code : List ℕ) (title : List ℕ) (features : ℤ) (t : Row) (id : ℤ) → same_key (1 ∷ []) (bare (places stored_hall) t) (Null ∷ row code title features) ≡ true
-    → eval_all project ((row code title features ++ rowid t ∷ shown stored_hall (Int id ∷ row code title features)) ∷ t ∷ []) ≡ rowid t ∷ rowid t ∷ row code title features
+written : (code : List ℕ) (title : List ℕ) (features : ℤ) (t : Row) (id : ℤ) → same_key hall.key (bare (places hall.table) t) (Null ∷ row code title features) ≡ true
+    → eval_all project ((row code title features ++ rowid t ∷ shown hall.table (Int id ∷ row code title features)) ∷ t ∷ []) ≡ rowid t ∷ rowid t ∷ row code title features
 written code title features t id same = ap (λ v. rowid t ∷ rowid t ∷ v ∷ Text title ∷ Int features ∷ []) (text_same _ _ (and_parts _ _ same).0)
 
 -- the row replaces the one with its key
-pub puts : (code : List ℕ) (title : List ℕ) (features : ℤ) → Edits (with_row 5 (1 ∷ []) (row code title features)) put_hall (row code title features)
-puts code title features = upserts keyed put_hall terms 4 there project Null (row code title features) (row code title features) put_means (λ db. refl) (fits code title features) refl (picked code title features) (written code title features)
+pub puts : (code : List ℕ) (title : List ℕ) (features : ℤ) → Edits (with_row hall.table.tree hall.key (row code title features)) hall.put (row code title features)
+puts code title features = upserts keyed hall.put terms 4 there project Null (row code title features) (row code title features) put_means (λ db. refl) (fits code title features) refl (picked code title features) (written code title features)
 
 abbrev shown_terms : List Term
 shown_terms = col 1 1 ∷ col 1 2 ∷ col 1 3 ∷ []
 
 -- the text that loads shows each column, with the table of marks or without it
-pub loads : (has_marks : Bool) → IsLoad (made_schema has_marks) 5 load_hall
+pub loads : (has_marks : Bool) → IsLoad (made_schema has_marks) hall.table.tree hall.load
 unfolding understood everything store_schema first_schema
-loads true = load_of (made_schema true) 3 stored_hall load_hall shown_terms (codes "code" ∷ codes "title" ∷ codes "features" ∷ []) refl refl (refl, refl) refl (λ db. refl) (λ r. refl)
-loads false = load_of (made_schema false) 3 stored_hall load_hall shown_terms (codes "code" ∷ codes "title" ∷ codes "features" ∷ []) refl refl (refl, refl) refl (λ db. refl) (λ r. refl)
+loads true = load_of (made_schema true) hall.at hall.table hall.load shown_terms (codes "code" ∷ codes "title" ∷ codes "features" ∷ []) refl refl (refl, refl) refl (λ db. refl) (λ r. refl)
+loads false = load_of (made_schema false) hall.at hall.table hall.load shown_terms (codes "code" ∷ codes "title" ∷ codes "features" ∷ []) refl refl (refl, refl) refl (λ db. refl) (λ r. refl)
 
-pub is_query : IsQuery load_hall
+pub is_query : IsQuery hall.load
 unfolding everything
 is_query schema base = refl

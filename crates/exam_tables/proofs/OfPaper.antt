@@ -22,8 +22,7 @@ use Rattle.sqlite_trees.specs.Sound.{begins, fits_kind, is_free_name}
 use Rattle.exam_tables.specs.Content.{bare, places, same_key, same_rowid}
 use Rattle.exam_tables.specs.Loads.{IsLoad}
 use Rattle.exam_tables.specs.Made.{made_schema}
-use Rattle.exam_tables.specs.Tables.{first_schema, made, paper, paper_text, store_schema, stored_paper}
-use Rattle.exam_tables.specs.Texts.{load_paper, put_paper}
+use Rattle.exam_tables.specs.Tables.{paper, first_schema, made, store_schema}
 use Rattle.exam_tables.proofs.Fits.{Fits, fits_chosen}
 use Rattle.exam_tables.proofs.Keys.{cast_int, text_same}
 use Rattle.exam_tables.proofs.Loads.{load_of}
@@ -32,29 +31,28 @@ use Rattle.exam_tables.specs.Keyed.{IsKeyed}
 use Rattle.exam_tables.specs.Changes.{with_row}
 use Rattle.exam_tables.proofs.Edits.{Edits, Means, upserts}
 use Rattle.exam_tables.proofs.Keying.{by_index, or_false}
-use Rattle.exam_tables.proofs.Making.{AddsTable, IsCreate, adds_by, free_by}
+use Rattle.exam_tables.proofs.Making.{Adds, IsCreate, adds_by}
 use Rattle.exam_tables.proofs.Quiet.{IsQuery}
 
 -- the text that makes it is understood, and nothing forbids the table
-create : IsCreate (made 2) paper_text
+create : IsCreate (made paper.at) paper.create
 unfolding understood everything made
 create = (refl, refl, (refl, refl), (lit≤ tt, refl))
 
-pub adds : AddsTable (made 2) (made 3) 3 paper paper_text
+pub adds : Adds paper
 unfolding everything encode value_cmp fits_kind is_free_name same_name begins lib.Ieee.is_nan lib.Ieee.lt made
-adds = adds_by (made 2) (made 3) 3 paper paper_text create refl refl refl refl refl
-    (free_by (made 2) paper paper_text refl refl (paper_text, (refl, refl)) (paper.name, (refl, refl)) refl (lit< tt) (lit< tt) refl refl refl (lit< tt))
+adds = adds_by paper create refl refl refl refl refl refl refl (paper.create, (refl, refl)) (paper.table.name, (refl, refl)) refl (lit< tt) (lit< tt) refl refl refl (lit< tt)
 
 -- it has one key, and no foreign key acts on its rows
-pub keyed : IsKeyed store_schema 2 stored_paper (1 ∷ []) (1 ∷ [])
+pub keyed : IsKeyed store_schema paper.at paper.table paper.key paper.key
 unfolding store_schema
-keyed = by_index 2 stored_paper (1 ∷ []) (1 ∷ []) refl refl refl refl (λ a b. ap (λ x. same_rowid a b || x) (or_false _)) (λ a b. or_false _) (λ db s h. not-true _ (and_parts _ _ h).0)
+keyed = by_index paper refl refl refl refl (λ a b. ap (λ x. same_rowid a b || x) (or_false _)) (λ a b. or_false _) (λ db s h. not-true _ (and_parts _ _ h).0)
 
 abbrev pub row : (List ℕ) → (List ℕ) → (List ℕ) → ℤ → ℤ → Row
 row code title session minutes requires = Text code ∷ Text title ∷ Text session ∷ Int minutes ∷ Int requires ∷ []
 
-fits : (code : List ℕ) (title : List ℕ) (session : List ℕ) (minutes : ℤ) (requires : ℤ) → Fits stored_paper (1 ∷ []) Null (row code title session minutes requires) (row code title session minutes requires)
-fits code title session minutes requires = fits_chosen stored_paper (1 ∷ []) (row code title session minutes requires) refl (simp (cast_int)) (λ v. refl)
+fits : (code : List ℕ) (title : List ℕ) (session : List ℕ) (minutes : ℤ) (requires : ℤ) → Fits paper.table paper.key Null (row code title session minutes requires) (row code title session minutes requires)
+fits code title session minutes requires = fits_chosen paper.table paper.key (row code title session minutes requires) refl (simp (cast_int)) (λ v. refl)
 
 abbrev terms : List Term
 terms = lit Null ∷ col 0 0 ∷ col 0 1 ∷ col 0 2 ∷ col 0 3 ∷ col 0 4 ∷ []
@@ -67,31 +65,31 @@ there = op2 (Compare Eq Binary) (col 1 0) (col 0 5) ∷ []
 abbrev project : List Term
 project = col 1 0 ∷ col 1 0 ∷ col 1 1 ∷ col 0 8 ∷ col 0 9 ∷ col 0 10 ∷ col 0 11 ∷ []
 
-put_means : Means store_schema put_paper (InsertOr 2 Abort (Values terms 6) (on_conflict (1 ∷ []) 3 there project ∷ [])) 5
+put_means : Means store_schema paper.put (InsertOr paper.at Abort (Values terms 6) (on_conflict paper.key paper.table.tree there project ∷ [])) 5
 unfolding understood everything store_schema
 put_means = (refl, (refl, refl), (lit≤ tt, refl))
 
-picked : (code : List ℕ) (title : List ℕ) (session : List ℕ) (minutes : ℤ) (requires : ℤ) (t r : Row) (id : ℤ) → list_all (holds ((row code title session minutes requires ++ rowid t ∷ shown stored_paper (Int id ∷ row code title session minutes requires)) ∷ r ∷ [])) there ≡ same_rowid r t
+picked : (code : List ℕ) (title : List ℕ) (session : List ℕ) (minutes : ℤ) (requires : ℤ) (t r : Row) (id : ℤ) → list_all (holds ((row code title session minutes requires ++ rowid t ∷ shown paper.table (Int id ∷ row code title session minutes requires)) ∷ r ∷ [])) there ≡ same_rowid r t
 unfolding first_key
 picked code title session minutes requires t r id = refl
 
-written : (code : List ℕ) (title : List ℕ) (session : List ℕ) (minutes : ℤ) (requires : ℤ) (t : Row) (id : ℤ) → same_key (1 ∷ []) (bare (places stored_paper) t) (Null ∷ row code title session minutes requires) ≡ true
-    → eval_all project ((row code title session minutes requires ++ rowid t ∷ shown stored_paper (Int id ∷ row code title session minutes requires)) ∷ t ∷ []) ≡ rowid t ∷ rowid t ∷ row code title session minutes requires
+written : (code : List ℕ) (title : List ℕ) (session : List ℕ) (minutes : ℤ) (requires : ℤ) (t : Row) (id : ℤ) → same_key paper.key (bare (places paper.table) t) (Null ∷ row code title session minutes requires) ≡ true
+    → eval_all project ((row code title session minutes requires ++ rowid t ∷ shown paper.table (Int id ∷ row code title session minutes requires)) ∷ t ∷ []) ≡ rowid t ∷ rowid t ∷ row code title session minutes requires
 written code title session minutes requires t id same = ap (λ v. rowid t ∷ rowid t ∷ v ∷ Text title ∷ Text session ∷ Int minutes ∷ Int requires ∷ []) (text_same _ _ (and_parts _ _ same).0)
 
 -- the row replaces the one with its key
-pub puts : (code : List ℕ) (title : List ℕ) (session : List ℕ) (minutes : ℤ) (requires : ℤ) → Edits (with_row 3 (1 ∷ []) (row code title session minutes requires)) put_paper (row code title session minutes requires)
-puts code title session minutes requires = upserts keyed put_paper terms 6 there project Null (row code title session minutes requires) (row code title session minutes requires) put_means (λ db. refl) (fits code title session minutes requires) refl (picked code title session minutes requires) (written code title session minutes requires)
+pub puts : (code : List ℕ) (title : List ℕ) (session : List ℕ) (minutes : ℤ) (requires : ℤ) → Edits (with_row paper.table.tree paper.key (row code title session minutes requires)) paper.put (row code title session minutes requires)
+puts code title session minutes requires = upserts keyed paper.put terms 6 there project Null (row code title session minutes requires) (row code title session minutes requires) put_means (λ db. refl) (fits code title session minutes requires) refl (picked code title session minutes requires) (written code title session minutes requires)
 
 abbrev shown_terms : List Term
 shown_terms = col 1 1 ∷ col 1 2 ∷ col 1 3 ∷ col 1 4 ∷ col 1 5 ∷ []
 
 -- the text that loads shows each column, with the table of marks or without it
-pub loads : (has_marks : Bool) → IsLoad (made_schema has_marks) 3 load_paper
+pub loads : (has_marks : Bool) → IsLoad (made_schema has_marks) paper.table.tree paper.load
 unfolding understood everything store_schema first_schema
-loads true = load_of (made_schema true) 2 stored_paper load_paper shown_terms (codes "code" ∷ codes "title" ∷ codes "session" ∷ codes "minutes" ∷ codes "requires" ∷ []) refl refl (refl, refl) refl (λ db. refl) (λ r. refl)
-loads false = load_of (made_schema false) 2 stored_paper load_paper shown_terms (codes "code" ∷ codes "title" ∷ codes "session" ∷ codes "minutes" ∷ codes "requires" ∷ []) refl refl (refl, refl) refl (λ db. refl) (λ r. refl)
+loads true = load_of (made_schema true) paper.at paper.table paper.load shown_terms (codes "code" ∷ codes "title" ∷ codes "session" ∷ codes "minutes" ∷ codes "requires" ∷ []) refl refl (refl, refl) refl (λ db. refl) (λ r. refl)
+loads false = load_of (made_schema false) paper.at paper.table paper.load shown_terms (codes "code" ∷ codes "title" ∷ codes "session" ∷ codes "minutes" ∷ codes "requires" ∷ []) refl refl (refl, refl) refl (λ db. refl) (λ r. refl)
 
-pub is_query : IsQuery load_paper
+pub is_query : IsQuery paper.load
 unfolding everything
 is_query schema base = refl

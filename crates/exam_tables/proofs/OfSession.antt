@@ -22,8 +22,7 @@ use Rattle.sqlite_trees.specs.Sound.{begins, fits_kind, is_free_name}
 use Rattle.exam_tables.specs.Content.{bare, places, same_key, same_rowid}
 use Rattle.exam_tables.specs.Loads.{IsLoad}
 use Rattle.exam_tables.specs.Made.{made_schema}
-use Rattle.exam_tables.specs.Tables.{first_schema, made, session, session_text, store_schema, stored_session}
-use Rattle.exam_tables.specs.Texts.{load_session, put_session}
+use Rattle.exam_tables.specs.Tables.{session, first_schema, made, store_schema}
 use Rattle.exam_tables.proofs.Fits.{Fits, fits_chosen}
 use Rattle.exam_tables.proofs.Keys.{cast_int, text_same}
 use Rattle.exam_tables.proofs.Loads.{load_of}
@@ -32,29 +31,28 @@ use Rattle.exam_tables.specs.Keyed.{IsKeyed}
 use Rattle.exam_tables.specs.Changes.{with_row}
 use Rattle.exam_tables.proofs.Edits.{Edits, Means, upserts}
 use Rattle.exam_tables.proofs.Keying.{by_index, or_false}
-use Rattle.exam_tables.proofs.Making.{AddsTable, IsCreate, adds_by, free_by}
+use Rattle.exam_tables.proofs.Making.{Adds, IsCreate, adds_by}
 use Rattle.exam_tables.proofs.Quiet.{IsQuery}
 
 -- the text that makes it is understood, and nothing forbids the table
-create : IsCreate (made 1) session_text
+create : IsCreate (made session.at) session.create
 unfolding understood everything made
 create = (refl, refl, (refl, refl), (lit≤ tt, refl))
 
-pub adds : AddsTable (made 1) (made 2) 1 session session_text
+pub adds : Adds session
 unfolding everything encode value_cmp fits_kind is_free_name same_name begins lib.Ieee.is_nan lib.Ieee.lt made
-adds = adds_by (made 1) (made 2) 1 session session_text create refl refl refl refl refl
-    (free_by (made 1) session session_text refl refl (session_text, (refl, refl)) (session.name, (refl, refl)) refl (lit< tt) (lit< tt) refl refl refl (lit< tt))
+adds = adds_by session create refl refl refl refl refl refl refl (session.create, (refl, refl)) (session.table.name, (refl, refl)) refl (lit< tt) (lit< tt) refl refl refl (lit< tt)
 
 -- it has one key, and no foreign key acts on its rows
-pub keyed : IsKeyed store_schema 1 stored_session (1 ∷ []) (1 ∷ [])
+pub keyed : IsKeyed store_schema session.at session.table session.key session.key
 unfolding store_schema
-keyed = by_index 1 stored_session (1 ∷ []) (1 ∷ []) refl refl refl refl (λ a b. ap (λ x. same_rowid a b || x) (or_false _)) (λ a b. or_false _) (λ db s h. not-true _ (and_parts _ _ h).0)
+keyed = by_index session refl refl refl refl (λ a b. ap (λ x. same_rowid a b || x) (or_false _)) (λ a b. or_false _) (λ db s h. not-true _ (and_parts _ _ h).0)
 
 abbrev pub row : (List ℕ) → (List ℕ) → ℤ → Row
 row code day start = Text code ∷ Text day ∷ Int start ∷ []
 
-fits : (code : List ℕ) (day : List ℕ) (start : ℤ) → Fits stored_session (1 ∷ []) Null (row code day start) (row code day start)
-fits code day start = fits_chosen stored_session (1 ∷ []) (row code day start) refl (simp (cast_int)) (λ v. refl)
+fits : (code : List ℕ) (day : List ℕ) (start : ℤ) → Fits session.table session.key Null (row code day start) (row code day start)
+fits code day start = fits_chosen session.table session.key (row code day start) refl (simp (cast_int)) (λ v. refl)
 
 abbrev terms : List Term
 terms = lit Null ∷ col 0 0 ∷ col 0 1 ∷ col 0 2 ∷ []
@@ -67,31 +65,31 @@ there = op2 (Compare Eq Binary) (col 1 0) (col 0 3) ∷ []
 abbrev project : List Term
 project = col 1 0 ∷ col 1 0 ∷ col 1 1 ∷ col 0 6 ∷ col 0 7 ∷ []
 
-put_means : Means store_schema put_session (InsertOr 1 Abort (Values terms 4) (on_conflict (1 ∷ []) 1 there project ∷ [])) 3
+put_means : Means store_schema session.put (InsertOr session.at Abort (Values terms 4) (on_conflict session.key session.table.tree there project ∷ [])) 3
 unfolding understood everything store_schema
 put_means = (refl, (refl, refl), (lit≤ tt, refl))
 
-picked : (code : List ℕ) (day : List ℕ) (start : ℤ) (t r : Row) (id : ℤ) → list_all (holds ((row code day start ++ rowid t ∷ shown stored_session (Int id ∷ row code day start)) ∷ r ∷ [])) there ≡ same_rowid r t
+picked : (code : List ℕ) (day : List ℕ) (start : ℤ) (t r : Row) (id : ℤ) → list_all (holds ((row code day start ++ rowid t ∷ shown session.table (Int id ∷ row code day start)) ∷ r ∷ [])) there ≡ same_rowid r t
 unfolding first_key
 picked code day start t r id = refl
 
-written : (code : List ℕ) (day : List ℕ) (start : ℤ) (t : Row) (id : ℤ) → same_key (1 ∷ []) (bare (places stored_session) t) (Null ∷ row code day start) ≡ true
-    → eval_all project ((row code day start ++ rowid t ∷ shown stored_session (Int id ∷ row code day start)) ∷ t ∷ []) ≡ rowid t ∷ rowid t ∷ row code day start
+written : (code : List ℕ) (day : List ℕ) (start : ℤ) (t : Row) (id : ℤ) → same_key session.key (bare (places session.table) t) (Null ∷ row code day start) ≡ true
+    → eval_all project ((row code day start ++ rowid t ∷ shown session.table (Int id ∷ row code day start)) ∷ t ∷ []) ≡ rowid t ∷ rowid t ∷ row code day start
 written code day start t id same = ap (λ v. rowid t ∷ rowid t ∷ v ∷ Text day ∷ Int start ∷ []) (text_same _ _ (and_parts _ _ same).0)
 
 -- the row replaces the one with its key
-pub puts : (code : List ℕ) (day : List ℕ) (start : ℤ) → Edits (with_row 1 (1 ∷ []) (row code day start)) put_session (row code day start)
-puts code day start = upserts keyed put_session terms 4 there project Null (row code day start) (row code day start) put_means (λ db. refl) (fits code day start) refl (picked code day start) (written code day start)
+pub puts : (code : List ℕ) (day : List ℕ) (start : ℤ) → Edits (with_row session.table.tree session.key (row code day start)) session.put (row code day start)
+puts code day start = upserts keyed session.put terms 4 there project Null (row code day start) (row code day start) put_means (λ db. refl) (fits code day start) refl (picked code day start) (written code day start)
 
 abbrev shown_terms : List Term
 shown_terms = col 1 1 ∷ col 1 2 ∷ col 1 3 ∷ []
 
 -- the text that loads shows each column, with the table of marks or without it
-pub loads : (has_marks : Bool) → IsLoad (made_schema has_marks) 1 load_session
+pub loads : (has_marks : Bool) → IsLoad (made_schema has_marks) session.table.tree session.load
 unfolding understood everything store_schema first_schema
-loads true = load_of (made_schema true) 1 stored_session load_session shown_terms (codes "code" ∷ codes "day" ∷ codes "start" ∷ []) refl refl (refl, refl) refl (λ db. refl) (λ r. refl)
-loads false = load_of (made_schema false) 1 stored_session load_session shown_terms (codes "code" ∷ codes "day" ∷ codes "start" ∷ []) refl refl (refl, refl) refl (λ db. refl) (λ r. refl)
+loads true = load_of (made_schema true) session.at session.table session.load shown_terms (codes "code" ∷ codes "day" ∷ codes "start" ∷ []) refl refl (refl, refl) refl (λ db. refl) (λ r. refl)
+loads false = load_of (made_schema false) session.at session.table session.load shown_terms (codes "code" ∷ codes "day" ∷ codes "start" ∷ []) refl refl (refl, refl) refl (λ db. refl) (λ r. refl)
 
-pub is_query : IsQuery load_session
+pub is_query : IsQuery session.load
 unfolding everything
 is_query schema base = refl

@@ -14,8 +14,7 @@ use lib.Utf8.{encode}
 use Rattle.sqlite_trees.specs.Sound.{begins, fits_kind, is_free_name}
 use Rattle.exam_tables.specs.Content.{same_rowid}
 use Rattle.exam_tables.specs.Loads.{IsLoad}
-use Rattle.exam_tables.specs.Tables.{made, standing, standing_text, store_schema, stored_standing}
-use Rattle.exam_tables.specs.Texts.{load_standing, put_standing}
+use Rattle.exam_tables.specs.Tables.{standing, made, store_schema}
 use Rattle.exam_tables.proofs.Fits.{Fits, fits_chosen}
 use Rattle.exam_tables.proofs.Keys.{cast_int}
 use Rattle.exam_tables.proofs.Loads.{load_of}
@@ -23,49 +22,48 @@ use Rattle.exam_tables.specs.Keyed.{IsKeyed}
 use Rattle.exam_tables.specs.Changes.{with_row}
 use Rattle.exam_tables.proofs.Edits.{Edits, Means, replaces}
 use Rattle.exam_tables.proofs.Keying.{by_index, or_false}
-use Rattle.exam_tables.proofs.Making.{AddsTable, IsCreate, adds_by, free_by}
+use Rattle.exam_tables.proofs.Making.{Adds, IsCreate, adds_by}
 use Rattle.exam_tables.proofs.Quiet.{IsQuery}
 
 -- the text that makes it is understood, and nothing forbids the table
-create : IsCreate (made 10) standing_text
+create : IsCreate (made standing.at) standing.create
 unfolding understood everything made
 create = (refl, refl, (refl, refl), (lit≤ tt, refl))
 
-pub adds : AddsTable (made 10) (made 11) 17 standing standing_text
+pub adds : Adds standing
 unfolding everything encode value_cmp fits_kind is_free_name same_name begins lib.Ieee.is_nan lib.Ieee.lt made
-adds = adds_by (made 10) (made 11) 17 standing standing_text create refl refl refl refl refl
-    (free_by (made 10) standing standing_text refl refl (standing_text, (refl, refl)) (standing.name, (refl, refl)) refl (lit< tt) (lit< tt) refl refl refl (lit< tt))
+adds = adds_by standing create refl refl refl refl refl refl refl (standing.create, (refl, refl)) (standing.table.name, (refl, refl)) refl (lit< tt) (lit< tt) refl refl refl (lit< tt)
 
 -- it has one key, and no foreign key acts on its rows
-pub keyed : IsKeyed store_schema 10 stored_standing (1 ∷ 2 ∷ []) (1 ∷ 2 ∷ [])
+pub keyed : IsKeyed store_schema standing.at standing.table standing.key standing.key
 unfolding store_schema
-keyed = by_index 10 stored_standing (1 ∷ 2 ∷ []) (1 ∷ 2 ∷ []) refl refl refl refl (λ a b. ap (λ x. same_rowid a b || x) (or_false _)) (λ a b. or_false _) (λ db s h. not-true _ (and_parts _ _ h).0)
+keyed = by_index standing refl refl refl refl (λ a b. ap (λ x. same_rowid a b || x) (or_false _)) (λ a b. or_false _) (λ db s h. not-true _ (and_parts _ _ h).0)
 
 abbrev pub row : ℤ → (List ℕ) → Row
 row number ref = Int number ∷ Text ref ∷ []
 
-fits : (number : ℤ) (ref : List ℕ) → Fits stored_standing (1 ∷ 2 ∷ []) Null (row number ref) (row number ref)
-fits number ref = fits_chosen stored_standing (1 ∷ 2 ∷ []) (row number ref) refl (simp (cast_int)) (λ v. refl)
+fits : (number : ℤ) (ref : List ℕ) → Fits standing.table standing.key Null (row number ref) (row number ref)
+fits number ref = fits_chosen standing.table standing.key (row number ref) refl (simp (cast_int)) (λ v. refl)
 
 abbrev terms : List Term
 terms = lit Null ∷ col 0 0 ∷ col 0 1 ∷ []
 
-put_means : Means store_schema put_standing (InsertOr 10 Replace (Values terms 3) []) 2
+put_means : Means store_schema standing.put (InsertOr standing.at Replace (Values terms 3) []) 2
 unfolding understood everything store_schema
 put_means = (refl, (refl, refl), (lit≤ tt, refl))
 
 -- the row replaces the one with its key
-pub puts : (number : ℤ) (ref : List ℕ) → Edits (with_row 17 (1 ∷ 2 ∷ []) (row number ref)) put_standing (row number ref)
-puts number ref = replaces keyed put_standing terms 3 Null (row number ref) (row number ref) put_means (fits number ref) refl
+pub puts : (number : ℤ) (ref : List ℕ) → Edits (with_row standing.table.tree standing.key (row number ref)) standing.put (row number ref)
+puts number ref = replaces keyed standing.put terms 3 Null (row number ref) (row number ref) put_means (fits number ref) refl
 
 abbrev shown_terms : List Term
 shown_terms = col 1 1 ∷ col 1 2 ∷ []
 
 -- the text that loads shows each column
-pub loads : IsLoad store_schema 17 load_standing
+pub loads : IsLoad store_schema standing.table.tree standing.load
 unfolding understood everything store_schema
-loads = load_of store_schema 10 stored_standing load_standing shown_terms (codes "number" ∷ codes "ref" ∷ []) refl refl (refl, refl) refl (λ db. refl) (λ r. refl)
+loads = load_of store_schema standing.at standing.table standing.load shown_terms (codes "number" ∷ codes "ref" ∷ []) refl refl (refl, refl) refl (λ db. refl) (λ r. refl)
 
-pub is_query : IsQuery load_standing
+pub is_query : IsQuery standing.load
 unfolding everything
 is_query schema base = refl

@@ -1,6 +1,7 @@
-use Rattle.std.proofs.Common.{◌≡◌, ◌+◌, Ok, Err, arith, refl, ◌∙◌, rules}
+use Rattle.std.proofs.Common.{◌≡◌, ◌+◌, Ok, Err, arith, get_or, refl, ◌∙◌, rules}
 use Rattle.sqlite.specs.Held.{state}
-use Rattle.exam_tables.specs.Tables.{made}
+use Rattle.exam_tables.specs.Tables.{all_tables, made}
+use Rattle.exam_tables.specs.Tables as tables
 use Rattle.exam_tables.proofs.AllTables.{each_added}
 use Rattle.exam_rows.specs.Versions.{HasNoRows}
 use Rattle.exam_rows.proofs.Creating.{leads_itself, leads_refused, leads_then, table_leads}
@@ -15,7 +16,7 @@ texts-preserved g c =
     let mid = state g.S.Store c.texts.tx.conn.now in
     let new = state g.S.Store c.run.new.tx.conn.now in
     let run = c.in_ok-run.ensures in
-    let step = table_leads (made at) (made (at + 1)) _ (each_added at (omega (arith, c.texts-test.true))) mid new (Ok tt) run.failed run.ran run.kept run.survives run.told in
+    let step = table_leads (made at) (made (at + 1)) (get_or all_tables at tables.office) (each_added at (omega (arith, c.texts-test.true))) mid new (Ok tt) run.failed run.ran run.kept run.survives run.told in
     record {
       same = run.same_reference ∙ c.texts.invariant.same;
       made = leads_then (HasNoRows (made 0)) (HasNoRows (made at)) (HasNoRows (made (at + 1))) (state g.S.Store c.args.tx.now.conn.now) mid new (Ok tt) c.texts.invariant.made step;
@@ -29,5 +30,5 @@ returns-in_err-run-clause-made g c =
     let mid = state g.S.Store c.texts.tx.conn.now in
     let new = state g.S.Store c.run.new.tx.conn.now in
     let run = c.in_err-run.ensures in
-    let step = table_leads (made at) (made (at + 1)) _ (each_added at (omega (arith, c.texts-test.true))) mid new (Err e) run.failed run.ran run.kept run.survives run.told in
+    let step = table_leads (made at) (made (at + 1)) (get_or all_tables at tables.office) (each_added at (omega (arith, c.texts-test.true))) mid new (Err e) run.failed run.ran run.kept run.survives run.told in
     rw is (leads_then (HasNoRows (made 0)) (HasNoRows (made at)) (HasNoRows (made 10)) (state g.S.Store c.args.tx.now.conn.now) mid new (Err e) c.texts.invariant.made (leads_refused (HasNoRows (made at)) (HasNoRows (made (at + 1))) (HasNoRows (made 10)) mid new e step))
