@@ -37,7 +37,7 @@ still tree olds news = never tree olds news (length news == 0)
 module _ (d : Described) (place : slice_get store_schema.tables d.at ≡ Some d.table) (uncounted : d.table.is_counted ≡ false) (unstamped : d.table.stamps.terms ≡ [])
     (apart : list_all (λ t. not (t.tree == d.table.tree) || bytes_eq (places t) (places d.table)) store_schema.tables ≡ true)
     (barred : (a b : Row) → conflicts None store_schema.indexes d.table b a ≡ (same_rowid a b || same_key d.key (bare (places d.table) a) (bare (places d.table) b))) where
-  abbrev Aims : List ℕ → Type 0
+  abbrev pub Aims : List ℕ → Type 0
   Aims target = (a b : Row) → conflicts (Some target) store_schema.indexes d.table b a ≡ same_key d.key (bare (places d.table) a) (bare (places d.table) b)
 
   -- a unique index has each key once

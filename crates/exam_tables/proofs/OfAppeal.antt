@@ -10,9 +10,8 @@ use Rattle.sqlite_schema.specs.declared.command.Source.TheVariants.{Values}
 use Rattle.sqlite_tied.specs.Compute.{everything}
 use Rattle.sqlite.specs.Listing.{understood}
 use Rattle.sqlite.specs.Values.{or_null}
-use Rattle.sqlite_schema.specs.Names.{same_name}
 use lib.Utf8.{encode}
-use Rattle.sqlite_trees.specs.Sound.{begins, fits_kind, is_free_name}
+use Rattle.sqlite_trees.specs.Sound.{begins, fits_kind, is_free_name, same_name}
 use Rattle.exam_tables.specs.Content.{same_rowid}
 use Rattle.exam_tables.specs.Loads.{IsLoad}
 use Rattle.exam_tables.specs.Made.{made_schema}
