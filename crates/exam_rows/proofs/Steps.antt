@@ -6,7 +6,7 @@ use Rattle.sqlite_value.specs.declared.value.Value.TheVariants.{Text}
 use Rattle.sqlite_value.specs.Order.{Row}
 use Rattle.sqlite.specs.Values.{bound_value, or_null}
 use Rattle.sqlite_trees.specs.Tree.{Trees}
-use Rattle.sqlite.specs.State.{State, HasCleanDisk, KeepsCommit, Survives, Executes, ExecutesInside}
+use Rattle.sqlite.specs.State.{State, HasCleanDisk, KeepsCommit, Survives, ExecutesInside}
 use Rattle.sqlite.proofs.StateLemmas.{survives_then}
 use Rattle.sqlite.proofs.InsideLemmas.{keeps_then}
 use Rattle.exam_types.specs.declared.refusal.Refusal.{Refusal}
@@ -18,7 +18,6 @@ use Rattle.exam_rows.specs.Stored.{kind_of, state_of}
 use Rattle.exam_rows.specs.Faults.{refusal_of, is_store_refusal}
 use Rattle.exam_rows.specs.Inside.{AreRun, Contains, Ran, Becomes, Makes, Write, written, FailsFor, FailsToWrite}
 use Rattle.exam_tables.specs.Refusals.{Fails, Refuses, IsDown, is_failure}
-use Rattle.exam_tables.specs.Tables.{store_schema}
 use Rattle.exam_tables.proofs.Edits.{Edits}
 use Rattle.sqlite.specs.Effect.{Database}
 use Rattle.sqlite_disk.specs.Disk.{MoreFaults}

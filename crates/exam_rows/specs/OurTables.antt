@@ -1,5 +1,5 @@
 -- What the texts of the ten tables have in common.
-use Rattle.std.proofs.Common.{◌≡◌, ◌&&◌, ℕ, pos, Bool, true, false, [], ◌∷◌, Ordering, Less, Equal, Greater, refl, ap, subst, ◌∙◌, lit<, true≢false, if◌then◌else◌}
+use Rattle.std.proofs.Common.{◌≡◌, ◌&&◌, ℕ, pos, Bool, true, false, Ordering, Less, Equal, Greater, refl, ap, subst, ◌∙◌, lit<, true≢false, if◌then◌else◌}
 use Rattle.std.specs.Bool.{Decides, one_answer}
 use Rattle.std.specs.Cmp.{Equal-is, tied_itself, nat_cmp_total}
 use Rattle.std.specs.Cmp.Lexicographic.{nat_list_cmp_total}

@@ -1,6 +1,8 @@
 -- The table appeal: how it is made, what its texts mean, and what they do.
-use Rattle.std.proofs.Common.{Bool, List, Option, [], ap, codes, false, lit<, lit≤, refl, true, ℕ, ℤ, ◌||◌, ◌∷◌}
+use Rattle.std.proofs.Common.{Bool, List, None, Some, Option, [], ap, codes, false, lit<, lit≤, refl, true, ℕ, ℤ, ◌||◌, ◌∷◌}
 use Rattle.std.proofs.lemmas.Bool.{and_parts, not-true}
+use Rattle.sqlite.specs.Kind.TheVariants.{Text as KindText}
+use Rattle.sqlite_rules.specs.Cast.{cast}
 use Rattle.sqlite_value.specs.declared.value.Value.TheVariants.{Int, Null, Text}
 use Rattle.sqlite_value.specs.Order.{Row, value_cmp}
 use Rattle.sqlite_sql.specs.Term.{Term, col, lit}
@@ -42,6 +44,10 @@ keyed = by_index appeal refl refl refl refl (λ a b. ap (λ x. same_rowid a b ||
 
 abbrev pub row : ℤ → (List ℕ) → (List ℕ) → ℤ → (List ℕ) → ℤ → ℤ → (List ℕ) → ℤ → (Option (List ℕ)) → (List ℕ) → Row
 row number reference session kind target needs extra reason state answer lodged = Int number ∷ Text reference ∷ Text session ∷ Int kind ∷ Text target ∷ Int needs ∷ Int extra ∷ Text reason ∷ Int state ∷ or_null Text answer ∷ Text lodged ∷ []
+
+cast_maybe : (o : Option (List ℕ)) → cast KindText (or_null Text o) ≡ or_null Text o
+cast_maybe None = refl
+cast_maybe (Some t) = refl
 
 fits : (number : ℤ) (reference : List ℕ) (session : List ℕ) (kind : ℤ) (target : List ℕ) (needs : ℤ) (extra : ℤ) (reason : List ℕ) (state : ℤ) (answer : Option (List ℕ)) (lodged : List ℕ) → Fits appeal.table appeal.key Null (row number reference session kind target needs extra reason state answer lodged) (row number reference session kind target needs extra reason state answer lodged)
 fits number reference session kind target needs extra reason state answer lodged = fits_chosen appeal.table appeal.key (row number reference session kind target needs extra reason state answer lodged) refl (simp (cast_int, cast_maybe)) (λ v. refl)
