@@ -1,5 +1,5 @@
 -- The table appeal: how it is made, what its texts mean, and what they do.
-use Rattle.std.proofs.Common.{Bool, List, None, Some, Option, [], ap, codes, false, lit<, lit≤, refl, true, ℕ, ℤ, ◌||◌, ◌∷◌}
+use Rattle.std.proofs.Common.{Bool, List, None, Some, Option, [], ap, codes, false, lit<, lit≤, refl, true, ℕ, ℤ, ◌||◌, ◌∷◌, ◌≡◌}
 use Rattle.std.proofs.lemmas.Bool.{and_parts, not-true}
 use Rattle.sqlite.specs.Kind.TheVariants.{Text as KindText}
 use Rattle.sqlite_rules.specs.Cast.{cast}
