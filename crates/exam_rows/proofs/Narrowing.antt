@@ -6,6 +6,7 @@ use Rattle.sqlite_trees.specs.Tree.{Trees}
 use Rattle.sqlite.specs.Effect.{Database}
 use Rattle.exam_tables.specs.Refusals.{Refuses, RefusesRows}
 use Rattle.exam_tables.specs.Texts.{delete_opening, delete_seat}
+use Rattle.exam_tables.proofs.Edits.{put_edits}
 use Rattle.exam_tables.proofs.OfOpening as opening
 use Rattle.exam_tables.proofs.OfSeat as seat
 use Rattle.exam_tables.proofs.References.{Stand}
@@ -28,7 +29,7 @@ together [] ys one two = two
 together (x ∷ xs) ys one two = (one.0, together xs ys one.1 two)
 
 puts_narrow : {K X : Type 0} {cmp : K → K → Ordering} {form : Form K X} → IsOurTable cmp form → (rows : List (Bor K × Bor X)) → AllByRecursion Narrows (with_put form rows)
-puts_narrow {form = form} ours rows = every (λ r. row_put form r.0.now r.1.now) (λ y. (ours.puts y.0.now y.1.now).narrows) rows
+puts_narrow {form = form} ours rows = every (λ r. row_put form r.0.now r.1.now) (λ y. (put_edits (ours.puts y.0.now y.1.now)).narrows) rows
 
 openings_delete_narrow : (c : Changes) → AllByRecursion Narrows (openings_deleted c)
 openings_delete_narrow c = every (λ k. delete_of delete_opening openings.tree openings.places (opening_key k.now)) (λ y. (opening.deletes y.now.0 y.now.1).narrows) c.openings.delete.items

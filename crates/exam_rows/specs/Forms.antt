@@ -18,14 +18,13 @@ use Rattle.exam_rules.specs.declared.rows.Candidate.{Candidate}
 use Rattle.exam_rules.specs.declared.rows.Entry.{Entry}
 use Rattle.exam_rules.specs.declared.rows.Arrangement.{Arrangement}
 use Rattle.exam_rules.specs.declared.rows.Appeal.{Appeal}
-use Rattle.exam_tables.specs.Changes.{with_row}
 use Rattle.exam_tables.specs.Content.{ContainsIn}
 use Rattle.exam_tables.specs.Loads.{IsLoad}
 use Rattle.exam_tables.specs.Made.{ContainsMade}
 use Rattle.exam_tables.specs.Tables as tables
 use Rattle.exam_tables.specs.Tables.{Described}
 use Rattle.exam_tables.specs.Texts.{load_texts}
-use Rattle.exam_tables.proofs.Edits.{Edits}
+use Rattle.exam_tables.proofs.Edits.{PutsRow}
 use Rattle.exam_tables.proofs.Quiet.{IsQuery}
 use Rattle.exam_rows.specs.Inside as inside
 use Rattle.exam_rows.specs.Loaded.{KeysMatch}
@@ -113,7 +112,7 @@ with_put form rows = map (λ r. row_put form r.0.now r.1.now) rows
 -- that and no more. The one that loads is one of the eleven, and shows the rows also of the newest tables.
 pub record IsOurTable {K X : Type 0} (cmp : K → K → Ordering) (form : Form K X) : Type 0 where
   pub keys : KeysMatch cmp form.places form.row
-  pub puts : (k : K) (x : X) → Edits (with_row form.tree form.places (form.row k x)) form.put (form.row k x)
+  pub puts : (k : K) (x : X) → PutsRow form.tree form.places form.put (form.row k x)
   pub loads : Contains load_texts form.load
   pub query : IsQuery form.load
   -- the tables of a schema by which it loads the rows; also the newest ones

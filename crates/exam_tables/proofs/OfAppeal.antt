@@ -22,8 +22,7 @@ use Rattle.exam_tables.proofs.Fits.{Fits, fits_chosen}
 use Rattle.exam_tables.proofs.Keys.{cast_int}
 use Rattle.exam_tables.proofs.Loads.{load_of}
 use Rattle.exam_tables.specs.Keyed.{IsKeyed}
-use Rattle.exam_tables.specs.Changes.{with_row}
-use Rattle.exam_tables.proofs.Edits.{Edits, Means, replaces}
+use Rattle.exam_tables.proofs.Edits.{Means, PutsRow, replaces}
 use Rattle.exam_tables.proofs.Keying.{by_index, or_false}
 use Rattle.exam_tables.proofs.Making.{Adds, IsCreate, adds_by}
 use Rattle.exam_tables.proofs.Quiet.{IsQuery}
@@ -60,8 +59,8 @@ unfolding understood everything store_schema
 put_means = (refl, (refl, refl), (lit≤ tt, refl))
 
 -- the row replaces the one with its key
-pub puts : (number : ℤ) (reference : List ℕ) (session : List ℕ) (kind : ℤ) (target : List ℕ) (needs : ℤ) (extra : ℤ) (reason : List ℕ) (state : ℤ) (answer : Option (List ℕ)) (lodged : List ℕ) → Edits (with_row appeal.table.tree appeal.key (row number reference session kind target needs extra reason state answer lodged)) appeal.put (row number reference session kind target needs extra reason state answer lodged)
-puts number reference session kind target needs extra reason state answer lodged = replaces keyed appeal.put terms 12 Null (row number reference session kind target needs extra reason state answer lodged) (row number reference session kind target needs extra reason state answer lodged) put_means (fits number reference session kind target needs extra reason state answer lodged) refl
+pub puts : (number : ℤ) (reference : List ℕ) (session : List ℕ) (kind : ℤ) (target : List ℕ) (needs : ℤ) (extra : ℤ) (reason : List ℕ) (state : ℤ) (answer : Option (List ℕ)) (lodged : List ℕ) → PutsRow appeal.table.tree appeal.key appeal.put (row number reference session kind target needs extra reason state answer lodged)
+puts number reference session kind target needs extra reason state answer lodged = replaces keyed appeal.put terms 12 Null (row number reference session kind target needs extra reason state answer lodged) (row number reference session kind target needs extra reason state answer lodged) (fits number reference session kind target needs extra reason state answer lodged) refl put_means
 
 abbrev shown_terms : List Term
 shown_terms = col 1 1 ∷ col 1 2 ∷ col 1 3 ∷ col 1 4 ∷ col 1 5 ∷ col 1 6 ∷ col 1 7 ∷ col 1 8 ∷ col 1 9 ∷ col 1 10 ∷ col 1 11 ∷ []

@@ -17,8 +17,7 @@ use Rattle.exam_tables.proofs.Fits.{Fits, fits_given}
 use Rattle.exam_tables.proofs.Keys.{cast_int, cast_null}
 use Rattle.exam_tables.proofs.Loads.{load_of}
 use Rattle.exam_tables.specs.Keyed.{IsKeyed}
-use Rattle.exam_tables.specs.Changes.{with_row}
-use Rattle.exam_tables.proofs.Edits.{Edits, Means, replaces}
+use Rattle.exam_tables.proofs.Edits.{Means, PutsRow, replaces}
 use Rattle.exam_tables.proofs.Keying.{by_rowid, or_false, or_twice}
 use Rattle.exam_tables.proofs.Making.{Adds, IsCreate, adds_by}
 use Rattle.exam_tables.proofs.Quiet.{IsQuery}
@@ -55,8 +54,8 @@ unfolding understood everything store_schema
 put_means = (refl, (refl, refl), (lit≤ tt, refl))
 
 -- the row replaces the one with its key
-pub puts : (number : ℤ) (needs : ℤ) (extra : ℤ) → Edits (with_row arrangement.table.tree arrangement.key (row number needs extra)) arrangement.put (row number needs extra)
-puts number needs extra = replaces keyed arrangement.put terms 4 (Int number) (columns number needs extra) (row number needs extra) put_means (fits number needs extra) refl
+pub puts : (number : ℤ) (needs : ℤ) (extra : ℤ) → PutsRow arrangement.table.tree arrangement.key arrangement.put (row number needs extra)
+puts number needs extra = replaces keyed arrangement.put terms 4 (Int number) (columns number needs extra) (row number needs extra) (fits number needs extra) refl put_means
 
 abbrev shown_terms : List Term
 shown_terms = col 1 0 ∷ col 1 2 ∷ col 1 3 ∷ []

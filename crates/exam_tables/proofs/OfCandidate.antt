@@ -26,8 +26,7 @@ use Rattle.exam_tables.proofs.Keys.{cast_null}
 use Rattle.exam_tables.proofs.Loads.{load_of}
 use Rattle.exam_tables.specs.Plain.{on_conflict}
 use Rattle.exam_tables.specs.Keyed.{IsKeyed}
-use Rattle.exam_tables.specs.Changes.{with_row}
-use Rattle.exam_tables.proofs.Edits.{Edits, Means, upserts}
+use Rattle.exam_tables.proofs.Edits.{Means, PutsRow, upserts}
 use Rattle.exam_tables.proofs.Keying.{by_rowid, or_false, or_twice}
 use Rattle.exam_tables.proofs.Making.{Adds, IsCreate, adds_by}
 use Rattle.exam_tables.proofs.Quiet.{IsQuery}
@@ -80,8 +79,8 @@ written : (number : ℤ) (name : List ℕ) (code : List ℕ) (t : Row) (id : ℤ
 written number name code t id same = refl
 
 -- the row replaces the one with its key
-pub puts : (number : ℤ) (name : List ℕ) (code : List ℕ) → Edits (with_row candidate.table.tree candidate.key (row number name code)) candidate.put (row number name code)
-puts number name code = upserts keyed candidate.put terms 4 there project (Int number) (columns number name code) (row number name code) put_means (λ db. refl) (fits number name code) refl (picked number name code) (written number name code)
+pub puts : (number : ℤ) (name : List ℕ) (code : List ℕ) → PutsRow candidate.table.tree candidate.key candidate.put (row number name code)
+puts number name code = upserts keyed candidate.put terms 4 (Int number) (columns number name code) (row number name code) (fits number name code) refl there project put_means (λ db. refl) (picked number name code) (written number name code)
 
 abbrev shown_terms : List Term
 shown_terms = col 1 0 ∷ col 1 2 ∷ col 1 3 ∷ []

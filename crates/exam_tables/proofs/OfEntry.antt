@@ -19,8 +19,7 @@ use Rattle.exam_tables.proofs.Fits.{Fits, fits_chosen}
 use Rattle.exam_tables.proofs.Keys.{cast_int}
 use Rattle.exam_tables.proofs.Loads.{load_of}
 use Rattle.exam_tables.specs.Keyed.{IsKeyed}
-use Rattle.exam_tables.specs.Changes.{with_row}
-use Rattle.exam_tables.proofs.Edits.{Edits, Means, replaces}
+use Rattle.exam_tables.proofs.Edits.{Means, PutsRow, replaces}
 use Rattle.exam_tables.proofs.Keying.{by_index, or_false}
 use Rattle.exam_tables.proofs.Making.{Adds, IsCreate, adds_by}
 use Rattle.exam_tables.proofs.Quiet.{IsQuery}
@@ -53,8 +52,8 @@ unfolding understood everything store_schema
 put_means = (refl, (refl, refl), (lit≤ tt, refl))
 
 -- the row replaces the one with its key
-pub puts : (number : ℤ) (paper : List ℕ) (live : ℤ) → Edits (with_row entry.table.tree entry.key (row number paper live)) entry.put (row number paper live)
-puts number paper live = replaces keyed entry.put terms 4 Null (row number paper live) (row number paper live) put_means (fits number paper live) refl
+pub puts : (number : ℤ) (paper : List ℕ) (live : ℤ) → PutsRow entry.table.tree entry.key entry.put (row number paper live)
+puts number paper live = replaces keyed entry.put terms 4 Null (row number paper live) (row number paper live) (fits number paper live) refl put_means
 
 abbrev shown_terms : List Term
 shown_terms = col 1 1 ∷ col 1 2 ∷ col 1 3 ∷ []

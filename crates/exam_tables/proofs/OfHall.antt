@@ -27,8 +27,7 @@ use Rattle.exam_tables.proofs.Keys.{cast_int, text_same}
 use Rattle.exam_tables.proofs.Loads.{load_of}
 use Rattle.exam_tables.specs.Plain.{on_conflict}
 use Rattle.exam_tables.specs.Keyed.{IsKeyed}
-use Rattle.exam_tables.specs.Changes.{with_row}
-use Rattle.exam_tables.proofs.Edits.{Edits, Means, upserts}
+use Rattle.exam_tables.proofs.Edits.{Means, PutsRow, upserts}
 use Rattle.exam_tables.proofs.Keying.{by_index, or_false}
 use Rattle.exam_tables.proofs.Making.{Adds, IsCreate, adds_by}
 use Rattle.exam_tables.proofs.Quiet.{IsQuery}
@@ -77,8 +76,8 @@ written : (code : List ℕ) (title : List ℕ) (features : ℤ) (t : Row) (id : 
 written code title features t id same = ap (λ v. rowid t ∷ rowid t ∷ v ∷ Text title ∷ Int features ∷ []) (text_same _ _ (and_parts _ _ same).0)
 
 -- the row replaces the one with its key
-pub puts : (code : List ℕ) (title : List ℕ) (features : ℤ) → Edits (with_row hall.table.tree hall.key (row code title features)) hall.put (row code title features)
-puts code title features = upserts keyed hall.put terms 4 there project Null (row code title features) (row code title features) put_means (λ db. refl) (fits code title features) refl (picked code title features) (written code title features)
+pub puts : (code : List ℕ) (title : List ℕ) (features : ℤ) → PutsRow hall.table.tree hall.key hall.put (row code title features)
+puts code title features = upserts keyed hall.put terms 4 Null (row code title features) (row code title features) (fits code title features) refl there project put_means (λ db. refl) (picked code title features) (written code title features)
 
 abbrev shown_terms : List Term
 shown_terms = col 1 1 ∷ col 1 2 ∷ col 1 3 ∷ []

@@ -27,7 +27,7 @@ use Rattle.exam_tables.proofs.Keying.{by_rowid, or_false, or_twice}
 use Rattle.exam_tables.proofs.Making.{Adds, IsCreate, adds_by}
 use Rattle.exam_tables.proofs.Quiet.{IsQuery}
 use Rattle.exam_tables.proofs.Failing.{Answers, IsWhole, answers}
-use Rattle.exam_tables.proofs.Statements.{put_by}
+use Rattle.exam_tables.proofs.Statements.{put_sets, sets_by}
 
 -- the text that makes it is understood, and nothing forbids the table
 create : IsCreate (made office.at) office.create
@@ -70,7 +70,8 @@ put_plain = (refl, refl)
 pub puts : (old new : State) (version : ℤ) (r : Result ℕ Error) → Executes put_text (Int version ∷ []) old new r
     → OnOk r ((all : Trees) → ContainsIn store_schema old.now all → ContainsIn store_schema new.now (with_row office.table.tree office.key (row (pos 1) version) all))
 puts old new version r h =
-    put_by store_schema office.at office.table office.key (0 ∷ []) keyed put_text terms 3 put_is put_plain old new (Int version ∷ []) r (Int (pos 1)) (columns (pos 1) version) (row (pos 1) version) (fits (pos 1) version) refl h
+    sets_by store_schema office.at office.table office.key (0 ∷ []) keyed Replace [] put_text terms 3 put_is put_plain old new (Int version ∷ []) (row (pos 1) version) r
+    (λ limit. put_sets store_schema office.at office.table office.key (0 ∷ []) keyed limit terms 3 (Int version ∷ []) (Int (pos 1)) (columns (pos 1) version) (row (pos 1) version) (fits (pos 1) version) refl) h
 
 put_whole : IsWhole put_text 1 (understood store_schema put_text)
 unfolding understood everything store_schema

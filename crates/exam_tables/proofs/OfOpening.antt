@@ -28,8 +28,8 @@ use Rattle.exam_tables.proofs.Keys.{cast_int, text_same}
 use Rattle.exam_tables.proofs.Loads.{load_of}
 use Rattle.exam_tables.specs.Plain.{on_conflict, one_table}
 use Rattle.exam_tables.specs.Keyed.{IsKeyed}
-use Rattle.exam_tables.specs.Changes.{with_row, without_row}
-use Rattle.exam_tables.proofs.Edits.{Edits, Means, removes, upserts}
+use Rattle.exam_tables.specs.Changes.{without_row}
+use Rattle.exam_tables.proofs.Edits.{Edits, Means, PutsRow, removes, upserts}
 use Rattle.exam_tables.proofs.Keying.{by_index, or_false}
 use Rattle.exam_tables.proofs.Making.{Adds, IsCreate, adds_by}
 use Rattle.exam_tables.proofs.Quiet.{IsQuery}
@@ -80,8 +80,8 @@ written session hall desks until reserved t id same =
     let both = and_parts _ _ same in ap₂ (λ v w. rowid t ∷ rowid t ∷ v ∷ w ∷ Int desks ∷ Int until ∷ Int reserved ∷ []) (text_same _ _ both.0) (text_same _ _ (and_parts _ _ both.1).0)
 
 -- the row replaces the one with its key
-pub puts : (session : List ℕ) (hall : List ℕ) (desks : ℤ) (until : ℤ) (reserved : ℤ) → Edits (with_row opening.table.tree opening.key (row session hall desks until reserved)) opening.put (row session hall desks until reserved)
-puts session hall desks until reserved = upserts keyed opening.put terms 6 there project Null (row session hall desks until reserved) (row session hall desks until reserved) put_means (λ db. refl) (fits session hall desks until reserved) refl (picked session hall desks until reserved) (written session hall desks until reserved)
+pub puts : (session : List ℕ) (hall : List ℕ) (desks : ℤ) (until : ℤ) (reserved : ℤ) → PutsRow opening.table.tree opening.key opening.put (row session hall desks until reserved)
+puts session hall desks until reserved = upserts keyed opening.put terms 6 Null (row session hall desks until reserved) (row session hall desks until reserved) (fits session hall desks until reserved) refl there project put_means (λ db. refl) (picked session hall desks until reserved) (written session hall desks until reserved)
 
 abbrev key_terms : List Term
 key_terms = op2 (Compare Eq Binary) (col 1 1) (col 0 0) ∷ op2 (Compare Eq Binary) (col 1 2) (col 0 1) ∷ []

@@ -27,8 +27,7 @@ use Rattle.exam_tables.proofs.Keys.{cast_int, text_same}
 use Rattle.exam_tables.proofs.Loads.{load_of}
 use Rattle.exam_tables.specs.Plain.{on_conflict}
 use Rattle.exam_tables.specs.Keyed.{IsKeyed}
-use Rattle.exam_tables.specs.Changes.{with_row}
-use Rattle.exam_tables.proofs.Edits.{Edits, Means, upserts}
+use Rattle.exam_tables.proofs.Edits.{Means, PutsRow, upserts}
 use Rattle.exam_tables.proofs.Keying.{by_index, or_false}
 use Rattle.exam_tables.proofs.Making.{Adds, IsCreate, adds_by}
 use Rattle.exam_tables.proofs.Quiet.{IsQuery}
@@ -77,8 +76,8 @@ written : (code : List ℕ) (title : List ℕ) (session : List ℕ) (minutes : �
 written code title session minutes requires t id same = ap (λ v. rowid t ∷ rowid t ∷ v ∷ Text title ∷ Text session ∷ Int minutes ∷ Int requires ∷ []) (text_same _ _ (and_parts _ _ same).0)
 
 -- the row replaces the one with its key
-pub puts : (code : List ℕ) (title : List ℕ) (session : List ℕ) (minutes : ℤ) (requires : ℤ) → Edits (with_row paper.table.tree paper.key (row code title session minutes requires)) paper.put (row code title session minutes requires)
-puts code title session minutes requires = upserts keyed paper.put terms 6 there project Null (row code title session minutes requires) (row code title session minutes requires) put_means (λ db. refl) (fits code title session minutes requires) refl (picked code title session minutes requires) (written code title session minutes requires)
+pub puts : (code : List ℕ) (title : List ℕ) (session : List ℕ) (minutes : ℤ) (requires : ℤ) → PutsRow paper.table.tree paper.key paper.put (row code title session minutes requires)
+puts code title session minutes requires = upserts keyed paper.put terms 6 Null (row code title session minutes requires) (row code title session minutes requires) (fits code title session minutes requires) refl there project put_means (λ db. refl) (picked code title session minutes requires) (written code title session minutes requires)
 
 abbrev shown_terms : List Term
 shown_terms = col 1 1 ∷ col 1 2 ∷ col 1 3 ∷ col 1 4 ∷ col 1 5 ∷ []

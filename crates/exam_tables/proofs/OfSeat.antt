@@ -26,8 +26,8 @@ use Rattle.exam_tables.proofs.Keys.{cast_int}
 use Rattle.exam_tables.proofs.Loads.{load_of}
 use Rattle.exam_tables.specs.Plain.{one_table}
 use Rattle.exam_tables.specs.Keyed.{IsKeyed}
-use Rattle.exam_tables.specs.Changes.{with_row, without_row}
-use Rattle.exam_tables.proofs.Edits.{Edits, Means, removes, replaces}
+use Rattle.exam_tables.specs.Changes.{without_row}
+use Rattle.exam_tables.proofs.Edits.{Edits, Means, PutsRow, removes, replaces}
 use Rattle.exam_tables.proofs.Keying.{by_index, or_false}
 use Rattle.exam_tables.proofs.Making.{Adds, IsCreate, adds_by}
 use Rattle.exam_tables.proofs.Quiet.{IsQuery}
@@ -60,8 +60,8 @@ unfolding understood everything store_schema
 put_means = (refl, (refl, refl), (lit≤ tt, refl))
 
 -- the row replaces the one with its key
-pub puts : (session : List ℕ) (number : ℤ) (hall : List ℕ) → Edits (with_row seat.table.tree seat.key (row session number hall)) seat.put (row session number hall)
-puts session number hall = replaces keyed seat.put terms 4 Null (row session number hall) (row session number hall) put_means (fits session number hall) refl
+pub puts : (session : List ℕ) (number : ℤ) (hall : List ℕ) → PutsRow seat.table.tree seat.key seat.put (row session number hall)
+puts session number hall = replaces keyed seat.put terms 4 Null (row session number hall) (row session number hall) (fits session number hall) refl put_means
 
 abbrev key_terms : List Term
 key_terms = op2 (Compare Eq Binary) (col 1 1) (col 0 0) ∷ op2 (Compare Eq Binary) (col 1 2) (col 0 1) ∷ []

@@ -27,8 +27,7 @@ use Rattle.exam_tables.proofs.Keys.{cast_int, text_same}
 use Rattle.exam_tables.proofs.Loads.{load_of}
 use Rattle.exam_tables.specs.Plain.{on_conflict}
 use Rattle.exam_tables.specs.Keyed.{IsKeyed}
-use Rattle.exam_tables.specs.Changes.{with_row}
-use Rattle.exam_tables.proofs.Edits.{Edits, Means, upserts}
+use Rattle.exam_tables.proofs.Edits.{Means, PutsRow, upserts}
 use Rattle.exam_tables.proofs.Keying.{by_index, or_false}
 use Rattle.exam_tables.proofs.Making.{Adds, IsCreate, adds_by}
 use Rattle.exam_tables.proofs.Quiet.{IsQuery}
@@ -77,8 +76,8 @@ written : (code : List ℕ) (day : List ℕ) (start : ℤ) (t : Row) (id : ℤ) 
 written code day start t id same = ap (λ v. rowid t ∷ rowid t ∷ v ∷ Text day ∷ Int start ∷ []) (text_same _ _ (and_parts _ _ same).0)
 
 -- the row replaces the one with its key
-pub puts : (code : List ℕ) (day : List ℕ) (start : ℤ) → Edits (with_row session.table.tree session.key (row code day start)) session.put (row code day start)
-puts code day start = upserts keyed session.put terms 4 there project Null (row code day start) (row code day start) put_means (λ db. refl) (fits code day start) refl (picked code day start) (written code day start)
+pub puts : (code : List ℕ) (day : List ℕ) (start : ℤ) → PutsRow session.table.tree session.key session.put (row code day start)
+puts code day start = upserts keyed session.put terms 4 Null (row code day start) (row code day start) (fits code day start) refl there project put_means (λ db. refl) (picked code day start) (written code day start)
 
 abbrev shown_terms : List Term
 shown_terms = col 1 1 ∷ col 1 2 ∷ col 1 3 ∷ []

@@ -18,8 +18,7 @@ use Rattle.exam_tables.proofs.Fits.{Fits, fits_chosen}
 use Rattle.exam_tables.proofs.Keys.{cast_int}
 use Rattle.exam_tables.proofs.Loads.{load_of}
 use Rattle.exam_tables.specs.Keyed.{IsKeyed}
-use Rattle.exam_tables.specs.Changes.{with_row}
-use Rattle.exam_tables.proofs.Edits.{Edits, Means, replaces}
+use Rattle.exam_tables.proofs.Edits.{Means, PutsRow, replaces}
 use Rattle.exam_tables.proofs.Keying.{by_index, or_false}
 use Rattle.exam_tables.proofs.Making.{Adds, IsCreate, adds_by}
 use Rattle.exam_tables.proofs.Quiet.{IsQuery}
@@ -52,8 +51,8 @@ unfolding understood everything store_schema
 put_means = (refl, (refl, refl), (lit≤ tt, refl))
 
 -- the row replaces the one with its key
-pub puts : (number : ℤ) (ref : List ℕ) → Edits (with_row standing.table.tree standing.key (row number ref)) standing.put (row number ref)
-puts number ref = replaces keyed standing.put terms 3 Null (row number ref) (row number ref) put_means (fits number ref) refl
+pub puts : (number : ℤ) (ref : List ℕ) → PutsRow standing.table.tree standing.key standing.put (row number ref)
+puts number ref = replaces keyed standing.put terms 3 Null (row number ref) (row number ref) (fits number ref) refl put_means
 
 abbrev shown_terms : List Term
 shown_terms = col 1 1 ∷ col 1 2 ∷ []

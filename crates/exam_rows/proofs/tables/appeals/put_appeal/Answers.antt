@@ -2,6 +2,7 @@ use Rattle.std.proofs.Common.{arith}
 use Rattle.sqlite.specs.Held.{state}
 use Rattle.exam_rows.specs.Stored.{kind_of, target_of, needs_of, extra_of, state_of, answer_of}
 use Rattle.exam_rows.specs.OurTables.{appeals_ours}
+use Rattle.exam_tables.proofs.Edits.{put_edits}
 use Rattle.exam_rows.proofs.Steps.{makes_by, passed, bound_answer, kind_small, state_small}
 use Rattle.exam_rows.proofs.tables.appeals.put_appeal.Goals as goal
 
@@ -11,7 +12,7 @@ returns-clause-made g c = λ text.
     let new = state g.S.Store c.run.new.tx.conn.now in
     let key = c.args.key.now in
     let it = c.args.appeal.now in
-    makes_by (appeals_ours.puts key it) old new c.run.result
+    makes_by (put_edits (appeals_ours.puts key it)) old new c.run.result
     (rw (
       c.from.ensures,
       c.get.ensures.value,
