@@ -76,6 +76,12 @@ makes_by {change} {sql} {params} edits old new (Err e) ran failed kept survives 
   told = told;
 }
 
+more_faults : (a b c : ℕ) → a ≤ b → MoreFaults b c → MoreFaults a c
+more_faults a b c up more = omega (arith, up, more)
+
+still_more : (a b c : ℕ) → MoreFaults a b → b ≤ c → MoreFaults a c
+still_more a b c more up = omega (arith, up, more)
+
 -- what went wrong in the second of two calls went wrong in both
 pub down_later : {P : Trees → Type 0} (old mid new : State) → Survives old mid P → HasCleanDisk mid → mid.faults ≤ new.faults → IsDown mid new → IsDown old new
 down_later old mid new s clean up (inl more) = inl (more_faults old.faults mid.faults new.faults s.counts more)

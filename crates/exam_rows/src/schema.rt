@@ -1,5 +1,5 @@
 //! The tables of each version of the schema, and how an older version becomes the newest.
-ghost use Rattle.std.specs.Prelude.{◌≡◌, [], ◌∷◌, IsTrue, IfOk, IfErr, OnOk};
+ghost use Rattle.std.specs.Prelude.{◌≡◌, [], ◌∷◌, map, IsTrue, IfOk, IfErr, OnOk};
 ghost use Rattle.std.specs.Bool.{Decides};
 ghost use Rattle.sqlite.specs.Held.{state};
 ghost use Rattle.sqlite.specs.State.{HasCleanDisk, IsLive, IsUnchanged, Survives};
@@ -49,7 +49,7 @@ pub fn create_tables<S: Alter>(tx: &mut Transaction<'_, S>) -> Result<(), Refusa
     ensures made { Leads IsBlank IsMade
         (state S.Store tx.old.conn.now) (state S.Store tx.new.conn.now) result }
 {
-    create_first(tx)?;
+    create_first(tx, &FIRST_TABLES)?;
     widen_tables(tx, false)
 }
 
@@ -119,13 +119,14 @@ const FIRST_TABLES: [&str; 10] = [
     "CREATE TABLE seat (session TEXT NOT NULL, number INTEGER NOT NULL, hall TEXT NOT NULL, PRIMARY KEY (session, number), FOREIGN KEY (number) REFERENCES candidate (number), FOREIGN KEY (session, hall) REFERENCES opening (session, hall)) STRICT",
 ];
 
-/// Makes the tables of version 1 in an empty database, with no rows.
-fn create_first<S: Alter>(tx: &mut Transaction<'_, S>) -> Result<(), Refusal>
+/// Makes the tables of version 1 in an empty database, with no rows, by these statements.
+fn create_first<S: Alter>(tx: &mut Transaction<'_, S>, statements: &[&str]) -> Result<(), Refusal>
+    requires { map (λ s. s.now) statements.now ≡ map (λ d. d.create) tables.first_tables }
     ensures same_reference { tx.new.conn.ghost_name ≡ tx.old.conn.ghost_name }
     ensures made { Leads (HasNoRows (tables.made 0)) (HasNoRows (tables.made 10))
         (state S.Store tx.old.conn.now) (state S.Store tx.new.conn.now) result }
 {
-    'texts: for text in FIRST_TABLES {
+    'texts: for text in statements {
         run(tx, text, &[])?;
     }
     Ok(())

@@ -2,7 +2,7 @@
 use Rattle.std.proofs.Common.{◌≡◌, ◌+◌, ◌<◌, ℕ, zero, suc, get_or, true, false, refl, subst, arith}
 use Rattle.sqlite_schema.specs.Names.{same_name}
 use Rattle.exam_tables.specs.Made.{lists_marks}
-use Rattle.exam_tables.specs.Tables.{all_tables, first_schema, made, store_schema}
+use Rattle.exam_tables.specs.Tables.{first_schema, first_tables, made, store_schema}
 use Rattle.exam_tables.specs.Tables as tables
 use Rattle.exam_tables.proofs.OfAppeal as appeal
 use Rattle.exam_tables.proofs.OfArrangement as arrangement
@@ -17,8 +17,8 @@ use Rattle.exam_tables.proofs.OfSession as session
 use Rattle.exam_tables.proofs.OfStanding as standing
 use Rattle.exam_tables.proofs.Making.{AddsTable}
 
--- the k-th table is added to those before it
-pub each_added : (k : ℕ) → k < 11 → AddsTable (made k) (made (k + 1)) (get_or all_tables k tables.office)
+-- each of the first tables is added to those before it
+pub each_added : (k : ℕ) → k < 10 → AddsTable (made k) (made (k + 1)) (get_or first_tables k tables.office)
 each_added zero below = office.adds
 each_added (suc zero) below = session.adds
 each_added (suc (suc zero)) below = paper.adds
@@ -29,8 +29,7 @@ each_added (suc (suc (suc (suc (suc (suc zero)))))) below = entry.adds
 each_added (suc (suc (suc (suc (suc (suc (suc zero))))))) below = arrangement.adds
 each_added (suc (suc (suc (suc (suc (suc (suc (suc zero)))))))) below = appeal.adds
 each_added (suc (suc (suc (suc (suc (suc (suc (suc (suc zero))))))))) below = seat.adds
-each_added (suc (suc (suc (suc (suc (suc (suc (suc (suc (suc zero)))))))))) below = standing.adds
-each_added (suc (suc (suc (suc (suc (suc (suc (suc (suc (suc (suc k))))))))))) below = absurd (omega arith)
+each_added (suc (suc (suc (suc (suc (suc (suc (suc (suc (suc k)))))))))) below = absurd (omega arith)
 
 pub first_is : made 10 ≡ first_schema
 unfolding made first_schema

@@ -260,6 +260,10 @@ abbrev pub all_tables : List Described
 all_tables =
     office ∷ session ∷ paper ∷ hall ∷ candidate ∷ opening ∷ entry ∷ arrangement ∷ appeal ∷ seat ∷ standing ∷ []
 
+-- those of version 1
+abbrev pub first_tables : List Described
+first_tables = take 10 all_tables
+
 -- the schema with these tables
 abbrev pub schema_of : List Described → Schema
 schema_of = fold (λ schema d. created schema d.table) no_schema
@@ -270,7 +274,7 @@ made count = schema_of (take count all_tables)
 
 -- the tables of version 1
 unfoldable pub first_schema : Schema
-first_schema = schema_of (take 10 all_tables)
+first_schema = schema_of first_tables
 
 -- the tables of this version
 unfoldable pub store_schema : Schema

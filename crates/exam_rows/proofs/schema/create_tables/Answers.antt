@@ -1,9 +1,12 @@
-use Rattle.std.proofs.Common.{◌≡◌, [], Ok, Err, rules}
+use Rattle.std.proofs.Common.{◌≡◌, [], Ok, Err, refl, rules}
 use Rattle.sqlite.specs.Held.{state}
 use Rattle.exam_tables.specs.Tables.{made}
 use Rattle.exam_rows.specs.Versions.{HasFirst, HasNoRows, IsBlank, IsMade}
 use Rattle.exam_rows.proofs.Creating.{blank_is_empty, first_is_empty, leads_from, leads_then, leads_refused}
 use Rattle.exam_rows.proofs.schema.create_tables.Goals as goal
+
+pub create_first-requires : goal.create_first-requires
+create_first-requires g c = refl
 
 pub returns-clause-made : goal.returns-clause-made
 returns-clause-made g c =
