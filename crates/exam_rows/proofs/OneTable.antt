@@ -18,21 +18,13 @@ use Rattle.exam_types.proofs.DayTexts.{day_text-is, parts_small, parts_of_text, 
 use Rattle.exam_types.proofs.FeatureFacts.{set_of_sum}
 use Rattle.exam_rules.specs.Orders.{KeysRise}
 use Rattle.exam_rules.specs.Relations.{Code, Relations, code_cmp, pair_cmp}
-use Rattle.exam_rules.specs.declared.rows.Session.{Session}
-use Rattle.exam_rules.specs.declared.rows.Paper.{Paper}
-use Rattle.exam_rules.specs.declared.rows.Hall.{Hall}
-use Rattle.exam_rules.specs.declared.rows.Opening.{Opening}
-use Rattle.exam_rules.specs.declared.rows.Candidate.{Candidate}
-use Rattle.exam_rules.specs.declared.rows.Entry.{Entry}
-use Rattle.exam_rules.specs.declared.rows.Arrangement.{Arrangement}
-use Rattle.exam_rules.specs.declared.rows.Appeal.{Appeal}
 use Rattle.exam_rules.specs.declared.rows.Subject.{Subject}
 use Rattle.exam_rules.specs.declared.rows.Subject.TheVariants as subject
 use Rattle.exam_rules.specs.declared.rows.Status.{Status}
 use Rattle.exam_rules.specs.declared.rows.Status.TheVariants as status
 use Rattle.exam_rows.specs.Held.{HoldsRelations, HoldsSeats}
 use Rattle.exam_rows.specs.Loaded.{HoldsTable}
-use Rattle.exam_rows.specs.Rows.{session_row, paper_row, hall_row, candidate_row, opening_row, entry_row, arrangement_row, appeal_row, standing_row, seat_row, IsSession, IsPaper, IsHall, IsCandidate, IsOpening, IsEntry, IsArrangement, IsAppeal, IsStanding, IsSeat}
+use Rattle.exam_rows.specs.Rows.{session_row, paper_row, hall_row, candidate_row, opening_row, entry_row, arrangement_row, appeal_row, standing_row, seat_row}
 use Rattle.exam_rows.specs.Stored.{kind_of, target_of, needs_of, extra_of, state_of, answer_of, text_or_null}
 
 -- ---- tables with the same rows

@@ -1,5 +1,5 @@
 -- What changes write: the rows that are put, table by table, and the openings and the seats that are deleted.
-use Rattle.std.specs.Prelude.{ℕ, List, [], ◌∷◌, ◌++◌, map}
+use Rattle.std.specs.Prelude.{ℕ, List, ◌++◌, map}
 use Rattle.std.specs.Borrow.{Bor}
 use Rattle.sqlite_value.specs.Order.{Row}
 use Rattle.exam_tables.specs.Texts.{delete_opening, delete_seat}

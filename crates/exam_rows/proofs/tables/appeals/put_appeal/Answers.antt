@@ -1,6 +1,6 @@
 use Rattle.std.proofs.Common.{arith}
 use Rattle.sqlite.specs.Held.{state}
-use Rattle.exam_rows.specs.Stored.{kind_of, target_of, needs_of, extra_of, state_of, answer_of}
+use Rattle.exam_rows.specs.Stored.{kind_of, needs_of, extra_of, state_of, answer_of}
 use Rattle.exam_rows.specs.OurTables.{appeals_ours}
 use Rattle.exam_tables.proofs.Edits.{put_edits}
 use Rattle.exam_rows.proofs.Steps.{makes_by, passed, bound_answer, kind_small, state_small}
