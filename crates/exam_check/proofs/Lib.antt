@@ -2,4 +2,3 @@ pub mod First
 pub mod Found
 pub mod Judging
 pub mod Looking
-pub mod OurTables

@@ -17,7 +17,7 @@ use Rattle.exam_rows.specs.Inside.{Contains}
 use Rattle.exam_rows.specs.Loaded.{FailsToLoad, FailsToLoadFrom, IsLoadRefusal, OnlyReads, Told}
 use Rattle.exam_rows.specs.Versions.{HasVersion, IsOlder, IsVersion, version}
 use Rattle.exam_rows.proofs.Leaving.{bad_unchanged, both_survive, reads_only, still_itself, still_then, then_reads}
-use Rattle.exam_rows.proofs.LoadTexts.{office_loads}
+use Rattle.exam_rows.specs.OurTables.{office_loads}
 use Rattle.exam_store.proofs.Marking.{made_of, opens_as}
 use Rattle.exam_check.specs.FirstBad.{HasGoodVersion}
 use Rattle.exam_check.specs.Reading.{Looks}
@@ -32,6 +32,10 @@ fails_later g old mid new same e (inr (inr (inl ((at, still, text, loads, fails)
     inr (inr (inl ((at, still_then (state g old) (state g mid) (state g at) same still, text, loads, fails), store)))
 fails_later g old mid new same e (inr (inr (inr (is, old_one)))) =
     inr (inr (inr (is, λ all was. old_one all (subst (λ (db : Database). ContainsMade db all) (sym same.0.now_is) was))))
+
+-- a refusal, whatever the value would have been
+pub fails_still : {S A B : Type 0} (g : Ghosts S) (old new : Held S) (e : Refusal) → Looks {A = A} g old new (Err e) → Looks {A = B} g old new (Err e)
+fails_still g old new e fails = record { early = fails.early; survives = fails.survives; left = fails.left; bad = fails.bad; refused = fails.refused; told = fails.told }
 
 module _ {S : Type 0} (g : Ghosts S) (old mid new : Held S) where
   pub looks_then : {A B : Type 0} (x : A) (result : Result B Refusal) → Looks {A = A} g old mid (Ok x) → Looks g mid new result → Looks g old new result
@@ -49,7 +53,7 @@ module _ {S : Type 0} (g : Ghosts S) (old mid new : Held S) where
   }
 
   pub fails_then : {A B C : Type 0} (x : A) (e : Refusal) → Looks {A = A} g old mid (Ok x) → Looks {A = B} g mid new (Err e) → Looks {A = C} g old new (Err e)
-  fails_then x e first next = looks_then x (Err e) first (record { early = next.early; survives = next.survives; left = next.left; bad = next.bad; refused = next.refused; told = next.told })
+  fails_then x e first next = looks_then x (Err e) first (fails_still g mid new e next)
 
 -- what is made of what was read, which may want memory
 pub looks_on : {S A B : Type 0} (g : Ghosts S) (old new : Held S) (x : A) (result : Result B Refusal) → Looks {A = A} g old new (Ok x) → IfErr result (λ e. e ≡ NoMemory) → Looks g old new result

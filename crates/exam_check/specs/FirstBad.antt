@@ -1,18 +1,13 @@
 -- The first bad table of a database.
 use Rattle.std.specs.Prelude.{◌≡◌, ◌⊎◌, ◌<◌, ℕ, List, [], ◌∷◌, Option, None, Some, option_map}
-use Rattle.std.specs.Ordering.{nat_cmp}
 use Rattle.sqlite_trees.specs.Tree.{Trees}
 use Rattle.sqlite.specs.Effect.{Database}
-use Rattle.exam_rules.specs.Relations.{code_cmp, opening_cmp, entry_cmp, appeal_cmp, seat_cmp}
 use Rattle.exam_office.specs.Good.{IsTableGood, tables}
 use Rattle.exam_office.specs.State.{State}
 use Rattle.exam_office.specs.declared.tables.Table.{Table as OfficeTable}
 use Rattle.exam_office.specs.declared.tables.Table.TheVariants as office
-use Rattle.exam_rows.specs.Loaded.{HoldsTable}
-use Rattle.exam_rows.specs.Rows.{session_row, paper_row, hall_row, candidate_row, opening_row, entry_row}
-use Rattle.exam_rows.specs.Rows.{arrangement_row, appeal_row, standing_row, seat_row}
-use Rattle.exam_rows.specs.Rows.{IsSession, IsPaper, IsHall, IsCandidate, IsOpening, IsEntry, IsArrangement}
-use Rattle.exam_rows.specs.Rows.{IsAppeal, IsStanding, IsSeat}
+use Rattle.exam_rows.specs.Forms as forms
+use Rattle.exam_rows.specs.Held.{HasTable}
 use Rattle.exam_rows.specs.Versions.{ContainsOf, HasVersion, version}
 use Rattle.exam_check.specs.declared.tables.Table.{Table}
 use Rattle.exam_check.specs.declared.tables.Table.TheVariants as table
@@ -32,18 +27,16 @@ table_of office.Seats = table.Seat
 
 -- the rows of this table, in any order, are those of the office, each in its stored form
 abbrev pub HoldsTableOf : Trees → State → OfficeTable → Type 0
-HoldsTableOf all o office.Sessions = HoldsTable code_cmp IsSession session_row o.relations.sessions (all 1)
-HoldsTableOf all o office.Papers = HoldsTable code_cmp IsPaper paper_row o.relations.papers (all 3)
-HoldsTableOf all o office.Halls = HoldsTable code_cmp IsHall hall_row o.relations.halls (all 5)
-HoldsTableOf all o office.Openings = HoldsTable opening_cmp IsOpening opening_row o.relations.openings (all 8)
-HoldsTableOf all o office.Candidates =
-    HoldsTable nat_cmp IsCandidate candidate_row o.relations.candidates (all 7)
-HoldsTableOf all o office.Entries = HoldsTable entry_cmp IsEntry entry_row o.relations.entries (all 10)
-HoldsTableOf all o office.Arrangements =
-    HoldsTable nat_cmp IsArrangement arrangement_row o.relations.arrangements (all 12)
-HoldsTableOf all o office.Appeals = HoldsTable appeal_cmp IsAppeal appeal_row o.relations.appeals (all 13)
-HoldsTableOf all o office.Standing = HoldsTable appeal_cmp IsStanding standing_row o.relations.standing (all 17)
-HoldsTableOf all o office.Seats = HoldsTable seat_cmp IsSeat seat_row o.seats (all 15)
+HoldsTableOf all o office.Sessions = HasTable forms.sessions o.relations.sessions all
+HoldsTableOf all o office.Papers = HasTable forms.papers o.relations.papers all
+HoldsTableOf all o office.Halls = HasTable forms.halls o.relations.halls all
+HoldsTableOf all o office.Openings = HasTable forms.openings o.relations.openings all
+HoldsTableOf all o office.Candidates = HasTable forms.candidates o.relations.candidates all
+HoldsTableOf all o office.Entries = HasTable forms.entries o.relations.entries all
+HoldsTableOf all o office.Arrangements = HasTable forms.arrangements o.relations.arrangements all
+HoldsTableOf all o office.Appeals = HasTable forms.appeals o.relations.appeals all
+HoldsTableOf all o office.Standing = HasTable forms.standing o.relations.standing all
+HoldsTableOf all o office.Seats = HasTable forms.seats o.seats all
 
 -- no office has these rows in this table: one has no stored form, or two have the same key
 abbrev pub HoldsNoTable : Trees → OfficeTable → Type 0

@@ -1,10 +1,13 @@
 //! Reading the tables one after the other.
-ghost use Rattle.std.specs.Prelude.{◌≡◌, IfOk, OnOk};
+ghost use Rattle.std.specs.Prelude.{◌≡◌, IfOk, OnOk, MatchOption};
 ghost use Rattle.sqlite.specs.Held.{state};
 ghost use Rattle.sqlite.specs.State.{HasCleanDisk};
 ghost use Rattle.exam_office.specs.Good.{tables};
+ghost use Rattle.exam_rows.specs.Forms as forms;
 ghost use Rattle.exam_rows.specs.Inside.{Contains};
-ghost use Rattle.exam_rows.specs.Loaded.{AreUnderstood, HoldsTable};
+ghost use Rattle.exam_rows.specs.Loaded.{AreUnderstood};
+ghost use Rattle.exam_rows.specs.Parts.{Part, then_part};
+ghost use Rattle.exam_check.specs.FirstBad.{first_unread};
 ghost use Rattle.exam_check.specs.Reading as spec;
 
 use crate::tables::first_unread;
@@ -13,8 +16,8 @@ use exam_rows::{
     Appeals, Arrangements, Candidates, Entries, Halls, Openings, Papers, Seats, Sessions, Standing,
     StoredRows, read_rows,
 };
-use exam_rules::{Appeal, Arrangement, Candidate, Entry, Facts, Hall, Opening, Paper, Session};
-use exam_types::{HallCode, Number, PaperCode, Reference, Refusal, SessionCode};
+use exam_rules::Facts;
+use exam_types::{HallCode, Number, Refusal, SessionCode};
 use sqlite::{Alter, Connection};
 use std::alloc::Global;
 use std::collections::BTreeMap;
@@ -27,25 +30,6 @@ pub struct Tables {
     pub unread: Option<OfficeTable>,
 }
 
-/// The tables that say when and where a paper is sat.
-#[derive(Drop)]
-struct Timetable {
-    sessions: BTreeMap<SessionCode, Session>,
-    papers: BTreeMap<PaperCode, Paper>,
-    halls: BTreeMap<HallCode, Hall>,
-    openings: BTreeMap<(SessionCode, HallCode), Opening>,
-}
-
-/// The tables that say who sits what, and what they ask for.
-#[derive(Drop)]
-struct Register {
-    candidates: BTreeMap<Number, Candidate>,
-    entries: BTreeMap<(Number, PaperCode), Entry>,
-    arrangements: BTreeMap<Number, Arrangement>,
-    appeals: BTreeMap<(Number, Reference), Appeal>,
-    standing: BTreeMap<(Number, Reference), ()>,
-}
-
 /// Reads every table. Refused with `BadStore` if a table or a column is missing.
 pub fn read_tables<S: Alter>(alloc: Global, conn: &mut Connection<S>) -> Result<Tables, Refusal>
     ensures looks { spec.Looks S.Store conn.old conn.new result }
@@ -55,35 +39,20 @@ pub fn read_tables<S: Alter>(alloc: Global, conn: &mut Connection<S>) -> Result<
         → Contains (state S.Store conn.old).now all
         → spec.AreRead all (spec.office_in read) tables None read.unread) }
 {
+    let rows = <OfficeTables as Reads>::read(alloc, conn)?;
+    let (sessions, (papers, (halls, (openings, more)))) = rows;
+    let (candidates, (entries, (arrangements, (appeals, (standing, seats))))) = more;
     let mut unread = None;
-    let timetable = read_timetable(alloc, conn, &mut unread)?;
-    let register = read_register(alloc, conn, &mut unread)?;
-    let seats = read_table::<Seats, S>(alloc, conn, OfficeTable::Seats, &mut unread)?;
-    Ok(tables_of(timetable, register, seats, unread))
-}
-
-fn tables_of(
-    timetable: Timetable,
-    register: Register,
-    seats: Plans,
-    unread: Option<OfficeTable>,
-) -> Tables
-    ensures office { spec.office_in result ≡ spec.office_of timetable register seats.entries }
-    ensures unread { result.unread ≡ unread }
-{
-    let Timetable {
-        sessions,
-        papers,
-        halls,
-        openings,
-    } = timetable;
-    let Register {
-        candidates,
-        entries,
-        arrangements,
-        appeals,
-        standing,
-    } = register;
+    let sessions = noted(alloc, sessions, OfficeTable::Sessions, &mut unread);
+    let papers = noted(alloc, papers, OfficeTable::Papers, &mut unread);
+    let halls = noted(alloc, halls, OfficeTable::Halls, &mut unread);
+    let openings = noted(alloc, openings, OfficeTable::Openings, &mut unread);
+    let candidates = noted(alloc, candidates, OfficeTable::Candidates, &mut unread);
+    let entries = noted(alloc, entries, OfficeTable::Entries, &mut unread);
+    let arrangements = noted(alloc, arrangements, OfficeTable::Arrangements, &mut unread);
+    let appeals = noted(alloc, appeals, OfficeTable::Appeals, &mut unread);
+    let standing = noted(alloc, standing, OfficeTable::Standing, &mut unread);
+    let seats = noted(alloc, seats, OfficeTable::Seats, &mut unread);
     let facts = Facts {
         sessions,
         papers,
@@ -95,90 +64,107 @@ fn tables_of(
         appeals,
         standing,
     };
-    Tables {
+    Ok(Tables {
         facts,
         seats,
         unread,
+    })
+}
+
+/// The tables of an office.
+type OfficeTables = (
+    Sessions,
+    (
+        Papers,
+        (
+            Halls,
+            (
+                Openings,
+                (
+                    Candidates,
+                    (Entries, (Arrangements, (Appeals, (Standing, Seats)))),
+                ),
+            ),
+        ),
+    ),
+);
+
+/// The rows of a table, or no rows if no office has those that were read. Then the table is noted unless one is noted
+/// already.
+fn noted<K: Ord + Drop, V: Drop>(
+    alloc: Global,
+    rows: Option<BTreeMap<K, V>>,
+    table: OfficeTable,
+    unread: &mut Option<OfficeTable>,
+) -> BTreeMap<K, V>
+    ensures { MatchOption rows (unread.new ≡ Some (first_unread unread.old table))
+        (λ rows. (result ≡ rows) × (unread.new ≡ unread.old)) }
+{
+    match rows {
+        Some(rows) => rows,
+        None => {
+            *unread = first_unread(*unread, table);
+            BTreeMap::new(alloc)
+        }
     }
 }
 
-fn read_timetable<S: Alter>(
-    alloc: Global,
-    conn: &mut Connection<S>,
-    unread: &mut Option<OfficeTable>,
-) -> Result<Timetable, Refusal>
-    ensures looks { spec.Looks S.Store conn.old conn.new result }
-    ensures understood { HasCleanDisk (state S.Store conn.new)
-        → OnOk result (AreUnderstood (state S.Store conn.old).now spec.timetable_texts) }
-    ensures read { HasCleanDisk (state S.Store conn.new) → IfOk result (λ t. (all : _)
-        → Contains (state S.Store conn.old).now all
-        → spec.AreRead all (spec.timetable_in t) spec.timetable unread.old unread.new) }
-{
-    let sessions = read_table::<Sessions, S>(alloc, conn, OfficeTable::Sessions, unread)?;
-    let papers = read_table::<Papers, S>(alloc, conn, OfficeTable::Papers, unread)?;
-    let halls = read_table::<Halls, S>(alloc, conn, OfficeTable::Halls, unread)?;
-    let openings = read_table::<Openings, S>(alloc, conn, OfficeTable::Openings, unread)?;
-    Ok(Timetable {
-        sessions,
-        papers,
-        halls,
-        openings,
-    })
+/// Tables that are read one after the other.
+trait Reads {
+    /// The rows of each, or none if no office has its rows.
+    type Rows: Drop;
+
+    ghost part: { Part Self.Rows };
+
+    /// Reads them. Refused with `BadStore` if a table or a column is missing.
+    fn read<S: Alter>(alloc: Global, conn: &mut Connection<S>) -> Result<Self::Rows, Refusal>
+        ensures looks { spec.Looks S.Store conn.old conn.new result }
+        ensures read { HasCleanDisk (state S.Store conn.new)
+            → IfOk result (spec.IsRead part (state S.Store conn.old).now) };
 }
 
-fn read_register<S: Alter>(
-    alloc: Global,
-    conn: &mut Connection<S>,
-    unread: &mut Option<OfficeTable>,
-) -> Result<Register, Refusal>
-    ensures looks { spec.Looks S.Store conn.old conn.new result }
-    ensures understood { HasCleanDisk (state S.Store conn.new)
-        → OnOk result (AreUnderstood (state S.Store conn.old).now spec.register_texts) }
-    ensures read { HasCleanDisk (state S.Store conn.new) → IfOk result (λ r. (all : _)
-        → Contains (state S.Store conn.old).now all
-        → spec.AreRead all (spec.register_in r) spec.register unread.old unread.new) }
-{
-    let candidates = read_table::<Candidates, S>(alloc, conn, OfficeTable::Candidates, unread)?;
-    let entries = read_table::<Entries, S>(alloc, conn, OfficeTable::Entries, unread)?;
-    let arrangements = read_table::<Arrangements, S>(
-        alloc,
-        conn,
-        OfficeTable::Arrangements,
-        unread,
-    )?;
-    let appeals = read_table::<Appeals, S>(alloc, conn, OfficeTable::Appeals, unread)?;
-    let standing = read_table::<Standing, S>(alloc, conn, OfficeTable::Standing, unread)?;
-    Ok(Register {
-        candidates,
-        entries,
-        arrangements,
-        appeals,
-        standing,
-    })
+impl<T: StoredRows, M: Reads> Reads for (T, M) {
+    type Rows = (Option<BTreeMap<T::Key, T::Value>>, M::Rows);
+
+    ghost part = { then_part (spec.read_part T.Key.cmp T.form) M.part };
+
+    fn read<S: Alter>(
+        alloc: Global,
+        conn: &mut Connection<S>,
+    ) -> Result<(Option<BTreeMap<T::Key, T::Value>>, M::Rows), Refusal> {
+        let rows = read_table::<T, S>(alloc, conn)?;
+        let more = M::read(alloc, conn)?;
+        Ok((rows, more))
+    }
 }
 
-/// The whole table. If no office has its rows, it has no rows here, and it is noted unless one is noted already.
-/// Refused with `BadStore` if the table or a column is missing.
+/// The last table.
+impl Reads for Seats {
+    type Rows = Option<BTreeMap<(SessionCode, Number), HallCode>>;
+
+    ghost part = { spec.read_part forms.seats.cmp forms.seats };
+
+    fn read<S: Alter>(
+        alloc: Global,
+        conn: &mut Connection<S>,
+    ) -> Result<Option<BTreeMap<(SessionCode, Number), HallCode>>, Refusal> {
+        read_table::<Seats, S>(alloc, conn)
+    }
+}
+
+/// The whole table, or none if no office has its rows. Refused with `BadStore` if the table or a column is missing.
 fn read_table<T: StoredRows, S: Alter>(
     alloc: Global,
     conn: &mut Connection<S>,
-    table: OfficeTable,
-    unread: &mut Option<OfficeTable>,
-) -> Result<BTreeMap<T::Key, T::Value>, Refusal>
-    requires { spec.IsOurTable T.Key.cmp T.key_places T.row_of T.load_text T.Holds }
+) -> Result<Option<BTreeMap<T::Key, T::Value>>, Refusal>
     ensures looks { spec.Looks S.Store conn.old conn.new result }
-    ensures seen { HasCleanDisk (state S.Store conn.new) → IfOk result (λ rows.
-        spec.Sees T.load_text (state S.Store conn.old).now table unread.old unread.new
-        (λ all. HoldsTable T.Key.cmp T.IsRow T.row_of rows.entries (all T.tree))
-        (λ all. (entries : _) → HoldsTable T.Key.cmp T.IsRow T.row_of entries (all T.tree) → ⊥)) }
+    ensures read { HasCleanDisk (state S.Store conn.new)
+        → IfOk result (spec.IsRead (spec.read_part T.Key.cmp T.form) (state S.Store conn.old).now) }
 {
     let rows = T::shown(conn)?;
     match read_rows::<T>(alloc, rows.as_slice()) {
-        Ok(rows) => Ok(rows),
-        Err(Refusal::BadStore) => {
-            *unread = first_unread(*unread, table);
-            Ok(BTreeMap::new(alloc))
-        }
+        Ok(rows) => Ok(Some(rows)),
+        Err(Refusal::BadStore) => Ok(None),
         Err(refusal) => Err(refusal),
     }
 }

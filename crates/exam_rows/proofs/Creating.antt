@@ -1,7 +1,9 @@
 -- The tables are made one after another.
-use Rattle.std.proofs.Common.{◌≡◌, ◌==◌, ◌≤◌, IsSome, false, inl, inr, ℕ, pos, List, [], ◌∷◌, Ok, Err, Result, OnOk, IfErr, IsTrue, refl, subst, sym, arith}
+use Rattle.std.proofs.Common.{◌≡◌, ◌==◌, ◌≤◌, ◌<◌, IsSome, false, inl, inr, ℕ, get_or, length, map, pos, List, [], ◌∷◌, Ok, Err, Result, OnOk, IfErr, IsTrue, refl, subst, sym, ap, arith, ◌∙◌}
+use Rattle.std.specs.Borrow.{Bor}
 use Rattle.std.specs.List.Sorted.{IsPermutation}
 use Rattle.std.proofs.lemmas.Bool.{both_ways, cases_Bool, eqb-true}
+use Rattle.std.proofs.lemmas.List.{get_or-map, length-map}
 use Rattle.std.proofs.lemmas.List.Sorted.{IsPermutation-refl}
 use Rattle.sqlite_value.specs.declared.value.Value.TheVariants.{Int}
 use Rattle.sqlite_value.specs.Order.{Row}
@@ -19,11 +21,12 @@ use Rattle.sqlite.proofs.InsideLemmas.{keeps_then}
 use Rattle.exam_types.specs.declared.refusal.Refusal.{Refusal}
 use Rattle.exam_types.specs.declared.refusal.Refusal.TheVariants.{NoMemory}
 use Rattle.exam_tables.specs.Content.{ContainsIn}
-use Rattle.exam_tables.specs.Grows.{made_0, made_10}
 use Rattle.exam_tables.specs.Refusals.{Fails}
-use Rattle.exam_tables.specs.Tables.{store_schema}
+use Rattle.exam_tables.specs.Tables as tables
+use Rattle.exam_tables.specs.Tables.{Described, first_tables, made, store_schema}
 use Rattle.exam_tables.proofs.Changes.{contains_same}
-use Rattle.exam_tables.proofs.Making as making
+use Rattle.exam_tables.proofs.AllTables.{first_is}
+use Rattle.exam_tables.proofs.Making.{AddsTable, adding_fails, adds_table}
 use Rattle.exam_tables.proofs.OfOffice as office
 use Rattle.exam_tables.proofs.VersionFails.{version_fails}
 use Rattle.exam_rows.specs.Faults.{refusal_of, is_store_refusal}
@@ -93,14 +96,22 @@ limited old new error (inl lacks) = inl lacks
 limited old new error (inr (named, inl down)) = inr (named, inl down)
 limited old new error (inr (named, inr none)) = absurd none
 
--- the statement of a table adds it
-pub table_leads : (before after : Schema) (t : ℕ) (text : List ℕ)
-    → ((old new : State) (r : Result ℕ Error) → Executes text [] old new r → OnOk r ((all : Trees) → ContainsIn before old.now all → ContainsIn after new.now (with_tree all t [])))
-    → ((old new : State) → old.now.schema ≡ before → (e : Error) → ExecutesInside 0 text [] old new (Err e) → Fails old new ⊥ e)
-    → (old new : State) (result : Result (Unit {0}) Refusal) → Refused text [] old new result → (HasCleanDisk new → IsTrue old.in_transaction → OnOk result (Ran text [] old new × IsTrue new.in_transaction)) → (HasCleanDisk new → KeepsCommit old new)
-    → Survives old new (λ _. ⊥) → IfErr result (λ e. IsTrue (is_store_refusal e)) → Leads (HasNoRows before) (HasNoRows after) old new result
-table_leads before after t text does fails old new result failed ran kept survives told =
-    leads_by (HasNoRows before) (HasNoRows after) old new text [] result (λ count run was. still_empty after new.now t (does old new (Ok count) run (λ tree. []) was)) (λ was error run. limited old new error (fails old new was.schema_is error run)) failed ran kept survives told
+-- texts that make the first tables
+abbrev pub AreFirst : List (Bor (List ℕ)) → Type 0
+AreFirst texts = map (λ s. s.now) texts ≡ map (λ d. d.create) first_tables
+
+pub are_ten : (texts : List (Bor (List ℕ))) → AreFirst texts → length texts ≡ 10
+are_ten texts are = sym (length-map texts (λ s. s.now)) ∙ ap length are
+
+pub each_text : (texts : List (Bor (List ℕ))) → AreFirst texts → (k : ℕ) (d : Bor (List ℕ)) → k < length texts → (get_or texts k d).now ≡ (get_or first_tables k tables.office).create
+each_text texts are k d below =
+    sym (get_or-map (λ s. s.now) texts k d [] below) ∙ ap (λ l. get_or l k []) are ∙ get_or-map (λ d. d.create) first_tables k tables.office [] (omega (arith, below, are_ten texts are))
+
+-- the text of a table
+pub table_leads : (before after : Schema) (d : Described) (text : List ℕ) → text ≡ d.create → AddsTable before after d → (old new : State) (result : Result (Unit {0}) Refusal) → Refused text [] old new result → (HasCleanDisk new → IsTrue old.in_transaction → OnOk result (Ran text [] old new × IsTrue new.in_transaction))
+    → (HasCleanDisk new → KeepsCommit old new) → Survives old new (λ _. ⊥) → IfErr result (λ e. IsTrue (is_store_refusal e)) → Leads (HasNoRows before) (HasNoRows after) old new result
+table_leads before after d text is adds old new result failed ran kept survives told =
+    leads_by (HasNoRows before) (HasNoRows after) old new text [] result (λ count run was. still_empty after new.now d.table.tree (adds_table adds old new (Ok count) (rw is at run) (λ tree. []) was)) (λ was error run. limited old new error (adding_fails adds old new was.schema_is error (rw is at run))) failed ran kept survives told
 
 -- if the connection is shut, that alone explains a failed statement
 shut_fails : {A B : Type 0} (old new : State) (error : Error) → old.is_open ≡ false → Fails old new A error → Fails old new B error
@@ -126,12 +137,12 @@ no_marks db all none was = contains_same store_schema db _ _ was (all_of _ (λ s
     same u = elim (cases_Bool (u == 17)) [ inl is ↦ rw is (subst (λ n. [] ≡ all n) (sym (eqb-true u 17 is)) (sym none)) | inr other ↦ rw other refl ]
 
 -- nothing is the schema with no tables, and the ten tables are those of version 1
-pub blank_is_empty : (db : Database) → IsBlank db → HasNoRows made_0 db
-unfolding made_0
+pub blank_is_empty : (db : Database) → IsBlank db → HasNoRows (made 0) db
+unfolding made
 blank_is_empty db is = record { schema_is = is; rows = tt }
 
-pub first_is_empty : (db : Database) → HasNoRows made_10 db → HasFirst (λ tree. []) db
-first_is_empty db was = (subst (λ s. HasNoRows s db) making.first_is was, refl)
+pub first_is_empty : (db : Database) → HasNoRows (made 10) db → HasFirst (λ tree. []) db
+first_is_empty db was = (subst (λ s. HasNoRows s db) first_is was, refl)
 
 -- the same of states
 pub leads_from : (before after earlier later : Database → Type 0) (old new : State) (result : Result (Unit {0}) Refusal) → (earlier old.now → before old.now) → (after new.now → later new.now) → Leads before after old new result → Leads earlier later old new result

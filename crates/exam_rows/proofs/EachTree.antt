@@ -10,7 +10,8 @@ use Rattle.exam_tables.proofs.Changes.{with_puts_is, with_deletes_is}
 use Rattle.exam_tables.specs.Texts.{delete_opening, delete_seat}
 use Rattle.exam_rows.specs.declared.writing.Changes.{Changes}
 use Rattle.exam_rows.specs.Inside.{Write, put_of, delete_of, written}
-use Rattle.exam_rows.specs.Writes.{Form, sessions, papers, halls, candidates, openings, entries, arrangements, appeals, standing, seats, opening_key, seat_key, with_put, with_deleted, all_put, all_deleted, all_saved}
+use Rattle.exam_rows.specs.Forms.{Form, sessions, papers, halls, candidates, openings, entries, arrangements, appeals, standing, seats, opening_key, seat_key, with_put}
+use Rattle.exam_rows.specs.Writes.{with_deleted, all_put, all_deleted, all_saved}
 use Rattle.exam_rows.proofs.Steps.{written_append}
 
 -- the rows that are put, and the keys that are deleted, as rows read by columns
@@ -44,22 +45,28 @@ deletes_are : {X : Type 0} (sql : List ℕ) (tree : ℕ) (key : List ℕ) (row :
 deletes_are sql tree key row [] all = refl
 deletes_are sql tree key row (x ∷ xs) all = deletes_are sql tree key row xs _
 
-put : {K V : Type 0} (form : Form K V) (rows : List (Bor K × Bor V)) → EditsEach (with_put form rows) (only_at form.tree (put_all form.places (rows_put form rows)))
+-- the rows are put into the tree of their table
+abbrev pub put_into : {K V : Type 0} → Form K V → List (Bor K × Bor V) → ℕ → List Row → List Row
+put_into form rows = only_at form.tree (put_all form.places (rows_put form rows))
+
+put : {K V : Type 0} (form : Form K V) (rows : List (Bor K × Bor V)) → EditsEach (with_put form rows) (put_into form rows)
 put form rows = record { each = λ all u. ap (λ (t : Trees). t u) (puts_are form.put form.tree form.places (λ r. form.row r.0.now r.1.now) rows all) ∙ with_puts_is form.tree form.places (rows_put form rows) all u ∙ settles (put_all form.places (rows_put form rows)) form.tree u all }
 
-deleted : {K V : Type 0} (form : Form K V) (sql : List ℕ) (key : K → Row) (keys : List (Bor K)) → EditsEach (with_deleted form sql key keys) (only_at form.tree (delete_all form.places (keys_deleted key keys)))
+-- and deleted from it
+abbrev pub delete_from : {K V : Type 0} → Form K V → (K → Row) → List (Bor K) → ℕ → List Row → List Row
+delete_from form key keys = only_at form.tree (delete_all form.places (keys_deleted key keys))
+
+deleted : {K V : Type 0} (form : Form K V) (sql : List ℕ) (key : K → Row) (keys : List (Bor K)) → EditsEach (with_deleted form sql key keys) (delete_from form key keys)
 deleted form sql key keys = record { each = λ all u. ap (λ (t : Trees). t u) (deletes_are sql form.tree form.places (λ k. key k.now) keys all) ∙ with_deletes_is form.tree form.places (keys_deleted key keys) all u ∙ settles (delete_all form.places (keys_deleted key keys)) form.tree u all }
 
 module _ (c : Changes) where
   abbrev puts : ℕ → List Row → List Row
   puts u rows =
-      only_at 15 (put_all seats.places (rows_put seats c.seats.put.items)) u (only_at 17 (put_all standing.places (rows_put standing c.standing.items)) u (only_at 13 (put_all appeals.places (rows_put appeals c.appeals.items)) u
-      (only_at 12 (put_all arrangements.places (rows_put arrangements c.arrangements.items)) u (only_at 10 (put_all entries.places (rows_put entries c.entries.items)) u (only_at 7 (put_all candidates.places (rows_put candidates c.candidates.items)) u
-      (only_at 8 (put_all openings.places (rows_put openings c.openings.put.items)) u (only_at 5 (put_all halls.places (rows_put halls c.halls.items)) u (only_at 3 (put_all papers.places (rows_put papers c.papers.items)) u
-      (only_at 1 (put_all sessions.places (rows_put sessions c.sessions.items)) u rows)))))))))
+      put_into seats c.seats.put.items u (put_into standing c.standing.items u (put_into appeals c.appeals.items u (put_into arrangements c.arrangements.items u (put_into entries c.entries.items u
+      (put_into candidates c.candidates.items u (put_into openings c.openings.put.items u (put_into halls c.halls.items u (put_into papers c.papers.items u (put_into sessions c.sessions.items u rows)))))))))
 
   abbrev deletes : ℕ → List Row → List Row
-  deletes u rows = only_at 8 (delete_all openings.places (keys_deleted opening_key c.openings.delete.items)) u (only_at 15 (delete_all seats.places (keys_deleted seat_key c.seats.delete.items)) u rows)
+  deletes u rows = delete_from openings opening_key c.openings.delete.items u (delete_from seats seat_key c.seats.delete.items u rows)
 
   all_puts : EditsEach (all_put c) puts
   all_puts =

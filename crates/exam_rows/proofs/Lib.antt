@@ -7,11 +7,11 @@ pub mod Exact
 pub mod Holding
 pub mod Inserting
 pub mod Leaving
-pub mod LoadTexts
 pub mod Marked
 pub mod Narrowing
 pub mod OneByOne
 pub mod OneTable
+pub mod PartByPart
 pub mod Reading
 pub mod Refusing
 pub mod RowTurning

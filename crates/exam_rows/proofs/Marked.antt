@@ -8,7 +8,7 @@ use Rattle.sqlite_trees.specs.Tree.{Trees}
 use Rattle.sqlite.specs.Effect.{Database}
 use Rattle.exam_tables.specs.Content.{ContainsIn}
 use Rattle.exam_tables.specs.Made.{ContainsMade, lists_marks, made_schema}
-use Rattle.exam_tables.proofs.Making.{marks_listed}
+use Rattle.exam_tables.proofs.AllTables.{marks_listed}
 use Rattle.exam_rules.specs.Orders.{KeysRise}
 use Rattle.exam_rules.specs.Relations.{appeal_cmp}
 use Rattle.exam_rows.specs.Inside.{Contains}

@@ -45,7 +45,7 @@ use Rattle.exam_rows.specs.Rows.{IsAppeal, appeal_row}
 use Rattle.exam_rows.specs.Streamed.{HasAppeals, KeyedAppeal, LacksNext, Sends, appeals_in, text_of}
 use Rattle.exam_rows.proofs.Counted.{HaveForms}
 use Rattle.exam_rows.proofs.Leaving.{left_then, not_bad_store}
-use Rattle.exam_rows.proofs.OneTable.{appeal_one}
+use Rattle.exam_rows.proofs.OneTable.{appeal_tells}
 
 -- ---- the order
 
@@ -114,7 +114,7 @@ module _ {S : Type 0} (g : Ghosts S) (s : Code) (all : Trees) (appeals : List Ke
   split (a ∷ given) (b ∷ rest) tail formed forms is =
       let first : stored a ≡ stored b = cc in
       let after : map stored given ++ tail ≡ map stored rest = cc in
-      let same : a ≡ b = appeal_one a b formed.0 forms.0 first in
+      let same : a ≡ b = appeal_tells a b formed.0.6 forms.0.6 first in
       let more = split given rest tail formed.1 forms.1 after in
       (more.0, λ i. sym same i ∷ more.1 i)
 

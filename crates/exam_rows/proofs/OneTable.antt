@@ -18,21 +18,13 @@ use Rattle.exam_types.proofs.DayTexts.{day_text-is, parts_small, parts_of_text, 
 use Rattle.exam_types.proofs.FeatureFacts.{set_of_sum}
 use Rattle.exam_rules.specs.Orders.{KeysRise}
 use Rattle.exam_rules.specs.Relations.{Code, Relations, code_cmp, pair_cmp}
-use Rattle.exam_rules.specs.declared.rows.Session.{Session}
-use Rattle.exam_rules.specs.declared.rows.Paper.{Paper}
-use Rattle.exam_rules.specs.declared.rows.Hall.{Hall}
-use Rattle.exam_rules.specs.declared.rows.Opening.{Opening}
-use Rattle.exam_rules.specs.declared.rows.Candidate.{Candidate}
-use Rattle.exam_rules.specs.declared.rows.Entry.{Entry}
-use Rattle.exam_rules.specs.declared.rows.Arrangement.{Arrangement}
-use Rattle.exam_rules.specs.declared.rows.Appeal.{Appeal}
 use Rattle.exam_rules.specs.declared.rows.Subject.{Subject}
 use Rattle.exam_rules.specs.declared.rows.Subject.TheVariants as subject
 use Rattle.exam_rules.specs.declared.rows.Status.{Status}
 use Rattle.exam_rules.specs.declared.rows.Status.TheVariants as status
 use Rattle.exam_rows.specs.Held.{HoldsRelations, HoldsSeats}
 use Rattle.exam_rows.specs.Loaded.{HoldsTable}
-use Rattle.exam_rows.specs.Rows.{session_row, paper_row, hall_row, candidate_row, opening_row, entry_row, arrangement_row, appeal_row, standing_row, seat_row, IsSession, IsPaper, IsHall, IsCandidate, IsOpening, IsEntry, IsArrangement, IsAppeal, IsStanding, IsSeat}
+use Rattle.exam_rows.specs.Rows.{session_row, paper_row, hall_row, candidate_row, opening_row, entry_row, arrangement_row, appeal_row, standing_row, seat_row}
 use Rattle.exam_rows.specs.Stored.{kind_of, target_of, needs_of, extra_of, state_of, answer_of, text_or_null}
 
 -- ---- tables with the same rows
@@ -105,7 +97,7 @@ same_features f g is = sym (set_of_sum f (features_sum g) is) ∙ set_of_sum g (
 some_same : {V : Type 0} {x y : V} → ◌≡◌ {A = Option V} (Some x) (Some y) → x ≡ y
 some_same is = cc
 
-same_day : (a b : ℕ) → IsDay a → IsDay b → day_text a ≡ day_text b → a ≡ b
+pub same_day : (a b : ℕ) → IsDay a → IsDay b → day_text a ≡ day_text b → a ≡ b
 same_day a b is_a is_b texts =
     let small = parts_small a is_a in
     let parts = only_parts (day_text a) (year_of a) (month_of a) (month_day_of a) small.0 small.1 small.2 (sym (day_text-is a)) in
@@ -159,19 +151,26 @@ same_status s t state answer = sym (status_is s) ∙ (λ i. status_from (state i
 
 -- ---- the rows of the ten tables
 
-session_one : (a b : Code × Session) → IsSession a.0 a.1 → IsSession b.0 b.1 → session_row a.0 a.1 ≡ session_row b.0 b.1 → a ≡ b
-session_one a b form_a form_b is =
+-- the rows tell the entries apart, if these have days with texts of their own
+abbrev pub Tells : {K X : Type 0} → (K → X → Row) → (K × X → Type 0) → Type 0
+Tells {K} {X} row Dated = (a b : K × X) → Dated a → Dated b → row a.0 a.1 ≡ row b.0 b.1 → a ≡ b
+
+abbrev pub any : {K X : Type 0} → K × X → Type 0
+any e = Unit {0}
+
+pub session_day : (n : ℕ) → IsSessionDay n → IsDay n
+session_day n is = (omega (arith, is.0), is.1)
+
+pub session_tells : Tells session_row (λ e. IsDay e.1.day)
+session_tells a b day_a day_b is =
     let code : a.0 ≡ b.0 = cc in
     let text : day_text a.1.day ≡ day_text b.1.day = cc in
     let start : a.1.start ≡ b.1.start = cc in
-    let day : a.1.day ≡ b.1.day = same_day a.1.day b.1.day (in_range a.1.day form_a.1) (in_range b.1.day form_b.1) text in
+    let day : a.1.day ≡ b.1.day = same_day a.1.day b.1.day day_a day_b text in
     λ i. (code i, record { day = day i; start = start i })
-  where
-    in_range : (n : ℕ) → IsSessionDay n → IsDay n
-    in_range n is = (omega (arith, is.0), is.1)
 
-paper_one : (a b : Code × Paper) → IsPaper a.0 a.1 → IsPaper b.0 b.1 → paper_row a.0 a.1 ≡ paper_row b.0 b.1 → a ≡ b
-paper_one a b form_a form_b is =
+pub paper_tells : Tells paper_row any
+paper_tells a b day_a day_b is =
     let code : a.0 ≡ b.0 = cc in
     let title : a.1.title ≡ b.1.title = cc in
     let session : a.1.session ≡ b.1.session = cc in
@@ -180,16 +179,16 @@ paper_one a b form_a form_b is =
     let required : a.1.required ≡ b.1.required = same_features _ _ sum in
     λ i. (code i, record { title = title i; session = session i; minutes = minutes i; required = required i })
 
-hall_one : (a b : Code × Hall) → IsHall a.0 a.1 → IsHall b.0 b.1 → hall_row a.0 a.1 ≡ hall_row b.0 b.1 → a ≡ b
-hall_one a b form_a form_b is =
+pub hall_tells : Tells hall_row any
+hall_tells a b day_a day_b is =
     let code : a.0 ≡ b.0 = cc in
     let title : a.1.title ≡ b.1.title = cc in
     let sum : features_sum a.1.features ≡ features_sum b.1.features = cc in
     let has : a.1.features ≡ b.1.features = same_features _ _ sum in
     λ i. (code i, record { title = title i; features = has i })
 
-opening_one : (a b : (Code × Code) × Opening) → IsOpening a.0 a.1 → IsOpening b.0 b.1 → opening_row a.0 a.1 ≡ opening_row b.0 b.1 → a ≡ b
-opening_one a b form_a form_b is =
+pub opening_tells : Tells opening_row any
+opening_tells a b day_a day_b is =
     let session : a.0.0 ≡ b.0.0 = cc in
     let hall : a.0.1 ≡ b.0.1 = cc in
     let desks : a.1.desks ≡ b.1.desks = cc in
@@ -198,31 +197,31 @@ opening_one a b form_a form_b is =
     let reserved : a.1.reserved ≡ b.1.reserved = same_flag _ _ kept in
     λ i. ((session i, hall i), record { desks = desks i; until = until i; reserved = reserved i })
 
-candidate_one : (a b : ℕ × Candidate) → IsCandidate a.0 a.1 → IsCandidate b.0 b.1 → candidate_row a.0 a.1 ≡ candidate_row b.0 b.1 → a ≡ b
-candidate_one a b form_a form_b is =
+pub candidate_tells : Tells candidate_row any
+candidate_tells a b day_a day_b is =
     let number : a.0 ≡ b.0 = cc in
     let name : a.1.name ≡ b.1.name = cc in
     let code : a.1.code ≡ b.1.code = cc in
     λ i. (number i, record { name = name i; code = code i })
 
-entry_one : (a b : (ℕ × Code) × Entry) → IsEntry a.0 a.1 → IsEntry b.0 b.1 → entry_row a.0 a.1 ≡ entry_row b.0 b.1 → a ≡ b
-entry_one a b form_a form_b is =
+pub entry_tells : Tells entry_row any
+entry_tells a b day_a day_b is =
     let number : a.0.0 ≡ b.0.0 = cc in
     let paper : a.0.1 ≡ b.0.1 = cc in
     let kept : ◌≡◌ {A = ℕ} (if a.1.live then 1 else 0) (if b.1.live then 1 else 0) = cc in
     let live : a.1.live ≡ b.1.live = same_flag _ _ kept in
     λ i. ((number i, paper i), record { live = live i })
 
-arrangement_one : (a b : ℕ × Arrangement) → IsArrangement a.0 a.1 → IsArrangement b.0 b.1 → arrangement_row a.0 a.1 ≡ arrangement_row b.0 b.1 → a ≡ b
-arrangement_one a b form_a form_b is =
+pub arrangement_tells : Tells arrangement_row any
+arrangement_tells a b day_a day_b is =
     let number : a.0 ≡ b.0 = cc in
     let sum : features_sum a.1.needs ≡ features_sum b.1.needs = cc in
     let extra : a.1.extra ≡ b.1.extra = cc in
     let needs : a.1.needs ≡ b.1.needs = same_features _ _ sum in
     λ i. (number i, record { needs = needs i; extra = extra i })
 
-pub appeal_one : (a b : (ℕ × Code) × Appeal) → IsAppeal a.0 a.1 → IsAppeal b.0 b.1 → appeal_row a.0 a.1 ≡ appeal_row b.0 b.1 → a ≡ b
-appeal_one a b form_a form_b is =
+pub appeal_tells : Tells appeal_row (λ e. IsDay e.1.lodged)
+appeal_tells a b day_a day_b is =
     let number : a.0.0 ≡ b.0.0 = cc in
     let reference : a.0.1 ≡ b.0.1 = cc in
     let session : a.1.session ≡ b.1.session = cc in
@@ -236,17 +235,17 @@ appeal_one a b form_a form_b is =
     let text : day_text a.1.lodged ≡ day_text b.1.lodged = cc in
     let asked : a.1.subject ≡ b.1.subject = same_subject _ _ kind target needs extra in
     let stands : a.1.status ≡ b.1.status = same_status _ _ state answer in
-    let lodged : a.1.lodged ≡ b.1.lodged = same_day _ _ form_a.6 form_b.6 text in
+    let lodged : a.1.lodged ≡ b.1.lodged = same_day _ _ day_a day_b text in
     λ i. ((number i, reference i), record { session = session i; subject = asked i; reason = reason i; status = stands i; lodged = lodged i })
 
-standing_one : (a b : (ℕ × Code) × Unit {0}) → IsStanding a.0 a.1 → IsStanding b.0 b.1 → standing_row a.0 a.1 ≡ standing_row b.0 b.1 → a ≡ b
-standing_one a b form_a form_b is =
+pub standing_tells : Tells standing_row any
+standing_tells a b day_a day_b is =
     let number : a.0.0 ≡ b.0.0 = cc in
     let reference : a.0.1 ≡ b.0.1 = cc in
     λ i. ((number i, reference i), tt)
 
-seat_one : (a b : (Code × ℕ) × Code) → IsSeat a.0 a.1 → IsSeat b.0 b.1 → seat_row a.0 a.1 ≡ seat_row b.0 b.1 → a ≡ b
-seat_one a b form_a form_b is =
+pub seat_tells : Tells seat_row any
+seat_tells a b day_a day_b is =
     let session : a.0.0 ≡ b.0.0 = cc in
     let number : a.0.1 ≡ b.0.1 = cc in
     let hall : a.1 ≡ b.1 = cc in
@@ -264,16 +263,16 @@ numbers_mirrored = nat_cmp_total.antisymm
 
 pub one_facts : (all : Trees) (r s : Relations) → HoldsRelations all r → HoldsRelations all s → r ≡ s
 one_facts all r s x y =
-    let sessions = one_table codes_mirrored session_one (all 1) _ _ x.sessions y.sessions in
-    let papers = one_table codes_mirrored paper_one (all 3) _ _ x.papers y.papers in
-    let halls = one_table codes_mirrored hall_one (all 5) _ _ x.halls y.halls in
-    let openings = one_table (pairs_mirrored codes_mirrored codes_mirrored) opening_one (all 8) _ _ x.openings y.openings in
-    let candidates = one_table numbers_mirrored candidate_one (all 7) _ _ x.candidates y.candidates in
-    let entries = one_table (pairs_mirrored numbers_mirrored codes_mirrored) entry_one (all 10) _ _ x.entries y.entries in
-    let arrangements = one_table numbers_mirrored arrangement_one (all 12) _ _ x.arrangements y.arrangements in
-    let appeals = one_table (pairs_mirrored numbers_mirrored codes_mirrored) appeal_one (all 13) _ _ x.appeals y.appeals in
-    let standing = one_table (pairs_mirrored numbers_mirrored codes_mirrored) standing_one (all 17) _ _ x.standing y.standing in
+    let sessions = one_table codes_mirrored (λ a b x y. session_tells a b (session_day _ x.1) (session_day _ y.1)) (all 1) _ _ x.sessions y.sessions in
+    let papers = one_table codes_mirrored (λ a b x y. paper_tells a b tt tt) (all 3) _ _ x.papers y.papers in
+    let halls = one_table codes_mirrored (λ a b x y. hall_tells a b tt tt) (all 5) _ _ x.halls y.halls in
+    let openings = one_table (pairs_mirrored codes_mirrored codes_mirrored) (λ a b x y. opening_tells a b tt tt) (all 8) _ _ x.openings y.openings in
+    let candidates = one_table numbers_mirrored (λ a b x y. candidate_tells a b tt tt) (all 7) _ _ x.candidates y.candidates in
+    let entries = one_table (pairs_mirrored numbers_mirrored codes_mirrored) (λ a b x y. entry_tells a b tt tt) (all 10) _ _ x.entries y.entries in
+    let arrangements = one_table numbers_mirrored (λ a b x y. arrangement_tells a b tt tt) (all 12) _ _ x.arrangements y.arrangements in
+    let appeals = one_table (pairs_mirrored numbers_mirrored codes_mirrored) (λ a b x y. appeal_tells a b x.6 y.6) (all 13) _ _ x.appeals y.appeals in
+    let standing = one_table (pairs_mirrored numbers_mirrored codes_mirrored) (λ a b x y. standing_tells a b tt tt) (all 17) _ _ x.standing y.standing in
     λ i. record { sessions = sessions i; papers = papers i; halls = halls i; openings = openings i; candidates = candidates i; entries = entries i; arrangements = arrangements i; appeals = appeals i; standing = standing i }
 
 pub one_seats : (all : Trees) (p q : List ((Code × ℕ) × Code)) → HoldsSeats all p → HoldsSeats all q → p ≡ q
-one_seats all p q = one_table (pairs_mirrored codes_mirrored numbers_mirrored) seat_one (all 15) p q
+one_seats all p q = one_table (pairs_mirrored codes_mirrored numbers_mirrored) (λ a b x y. seat_tells a b tt tt) (all 15) p q

@@ -1,33 +1,26 @@
 -- The rows of a table after what differs was put and deleted.
-use Rattle.std.proofs.Common.{◌≡◌, ◌&&◌, ◌||◌, ℕ, pos, Bool, true, false, not, cond, List, [], ◌∷◌, ◌++◌, map, filter, Bor, Ordering, Less, Equal, Greater, refl, ap, ap₂, subst, subst₂, ◌∙◌}
-use Rattle.std.specs.Bool.{Decides, one_answer}
-use Rattle.std.specs.Cmp.{Equal-is, tied_itself, nat_cmp_total}
-use Rattle.std.specs.Cmp.Lexicographic.{nat_list_cmp_total}
+use Rattle.std.proofs.Common.{◌≡◌, ◌||◌, ℕ, Bool, true, false, not, cond, List, [], ◌∷◌, ◌++◌, map, filter, Bor, Ordering, refl, ap, ap₂, subst, subst₂, ◌∙◌}
 use Rattle.std.specs.List.{AllByRecursion}
 use Rattle.std.specs.List.Sorted.{IsPermutation, IsStrictlySortedBy}
 use Rattle.std.specs.Map.Iter.{deref_pair}
-use Rattle.std.specs.Ordering.{is_eq, ordering_then, nat_cmp}
+use Rattle.std.specs.Ordering.{is_eq}
 use Rattle.std.proofs.lemmas.List.{map-append}
 use Rattle.std.proofs.lemmas.List.Sorted.{IsPermutation-map, IsPermutation-trans, IsPermutation-append_right}
-use Rattle.std.proofs.lemmas.Map.Lookups.{exact_unsigned, exact_bytes}
-use Rattle.sqlite_value.specs.declared.value.Value.TheVariants.{Null, Text}
+use Rattle.sqlite_value.specs.declared.value.Value.TheVariants.{Null}
 use Rattle.sqlite_value.specs.Order.{Row}
-use Rattle.sqlite_value.specs.Keys.{plain, first_key}
-use Rattle.sqlite_schema.specs.Rules.{equal}
 use Rattle.sqlite_trees.proofs.ListLemmas.{IsPermutation-filter, map-map}
 use Rattle.exam_tables.specs.Content.{same_key}
 use Rattle.exam_tables.specs.Changes.{put_all, delete_all, is_among, AreApart}
 use Rattle.exam_tables.proofs.Changes.{differs_by}
-use Rattle.exam_tables.proofs.Keys.{equal_itself, int_same, text_itself, text_same}
 use Rattle.exam_rules.specs.Orders.{KeysRise}
-use Rattle.exam_rules.specs.Relations.{Code, code_cmp, opening_cmp, entry_cmp, appeal_cmp, seat_cmp}
+use Rattle.exam_rules.specs.Relations.{opening_cmp, seat_cmp}
 use Rattle.exam_rows.specs.Differences.{has_key, is_one_of, Turns}
 use Rattle.exam_rows.specs.Held.{HoldsRows}
 use Rattle.exam_rows.specs.Loaded.{KeysMatch}
-use Rattle.exam_rows.specs.Writes.{opening_key, seat_key}
-use Rattle.exam_rows.specs.Rows.{session_row, paper_row, hall_row, candidate_row, opening_row, entry_row, arrangement_row, appeal_row, standing_row, seat_row}
-use Rattle.exam_rows.specs.Stored.{whole}
+use Rattle.exam_rows.specs.Forms.{opening_key, seat_key}
+use Rattle.exam_rows.specs.Rows.{opening_row, seat_row}
 use Rattle.exam_rows.proofs.Differing.{absent_key}
+use Rattle.exam_rows.specs.OurTables.{text_key, two_parts, whole_key}
 
 -- the columns of a key name the row that has it
 pub record AreNamed {K X : Type 0} (cmp : K → K → Ordering) (key : List ℕ) (row : K → X → Row) (key_of : K → Row) : Type 0 where
@@ -96,61 +89,7 @@ module _ {K X : Type 0} {cmp : K → K → Ordering} {key : List ℕ} {row : K �
       among e [] = refl
       among e (k ∷ keys) = ap₂ ◌||◌ (named.keys e k) (among e keys)
 
--- ---- the keys of the ten tables
-
-text_key : (a b : Code) → equal (first_key plain).collation (Text a) (Text b) ≡ is_eq (code_cmp a b)
-text_key a b = one_answer _ _ (λ h. let e = text_same (Text a) b h in cc, λ (e : a ≡ b). subst (λ t. equal (first_key plain).collation (Text a) (Text t) ≡ true) e (text_itself a)) (same_codes a b)
-  where
-    same_codes : (a b : Code) → Decides (is_eq (code_cmp a b)) (a ≡ b)
-    same_codes a b = (λ h. exact_bytes a b ((Equal-is (code_cmp a b)).0 h), λ e. subst (λ t. is_eq (code_cmp a t) ≡ true) e (ap is_eq (tied_itself nat_list_cmp_total a)))
-
-whole_key : (m n : ℕ) → equal (first_key plain).collation (whole m) (whole n) ≡ is_eq (nat_cmp m n)
-whole_key m n = one_answer _ _ (λ h. let e = int_same (pos m) (pos n) h in cc, λ (e : m ≡ n). subst (λ k. equal (first_key plain).collation (whole m) (whole k) ≡ true) e (equal_itself (pos m))) (same_numbers m n)
-  where
-    same_numbers : (m n : ℕ) → Decides (is_eq (nat_cmp m n)) (m ≡ n)
-    same_numbers m n = (λ h. exact_unsigned m n ((Equal-is (nat_cmp m n)).0 h), λ e. subst (λ k. is_eq (nat_cmp m k) ≡ true) e (ap is_eq (tied_itself nat_cmp_total m)))
-
-one_part : (a b : Bool) → a ≡ b → (a && true) ≡ b
-one_part a b is = and_true a ∙ is
-  where
-    and_true : (b : Bool) → (b && true) ≡ b
-    and_true true = refl
-    and_true false = refl
-
-two_parts : (a b : Bool) (o p : Ordering) → a ≡ is_eq o → b ≡ is_eq p → (a && (b && true)) ≡ is_eq (ordering_then o p)
-two_parts a b Less p first second = ap (λ c. c && (b && true)) first
-two_parts a b Equal p first second = ap (λ c. c && (b && true)) first ∙ one_part b (is_eq p) second
-two_parts a b Greater p first second = ap (λ c. c && (b && true)) first
-
-pub sessions_match : KeysMatch code_cmp (1 ∷ []) session_row
-sessions_match = record { rows = λ a b. one_part _ _ (text_key a.0 b.0) }
-
-pub papers_match : KeysMatch code_cmp (1 ∷ []) paper_row
-papers_match = record { rows = λ a b. one_part _ _ (text_key a.0 b.0) }
-
-pub halls_match : KeysMatch code_cmp (1 ∷ []) hall_row
-halls_match = record { rows = λ a b. one_part _ _ (text_key a.0 b.0) }
-
-pub candidates_match : KeysMatch nat_cmp (1 ∷ []) candidate_row
-candidates_match = record { rows = λ a b. one_part _ _ (whole_key a.0 b.0) }
-
-pub arrangements_match : KeysMatch nat_cmp (1 ∷ []) arrangement_row
-arrangements_match = record { rows = λ a b. one_part _ _ (whole_key a.0 b.0) }
-
-pub openings_match : KeysMatch opening_cmp (1 ∷ 2 ∷ []) opening_row
-openings_match = record { rows = λ a b. two_parts _ _ _ _ (text_key a.0.0 b.0.0) (text_key a.0.1 b.0.1) }
-
-pub entries_match : KeysMatch entry_cmp (1 ∷ 2 ∷ []) entry_row
-entries_match = record { rows = λ a b. two_parts _ _ _ _ (whole_key a.0.0 b.0.0) (text_key a.0.1 b.0.1) }
-
-pub appeals_match : KeysMatch appeal_cmp (1 ∷ 2 ∷ []) appeal_row
-appeals_match = record { rows = λ a b. two_parts _ _ _ _ (whole_key a.0.0 b.0.0) (text_key a.0.1 b.0.1) }
-
-pub standing_match : KeysMatch appeal_cmp (1 ∷ 2 ∷ []) standing_row
-standing_match = record { rows = λ a b. two_parts _ _ _ _ (whole_key a.0.0 b.0.0) (text_key a.0.1 b.0.1) }
-
-pub seats_match : KeysMatch seat_cmp (1 ∷ 2 ∷ []) seat_row
-seats_match = record { rows = λ a b. two_parts _ _ _ _ (text_key a.0.0 b.0.0) (whole_key a.0.1 b.0.1) }
+-- ---- the keys of the rows that are deleted
 
 pub openings_named : AreNamed opening_cmp (1 ∷ 2 ∷ []) opening_row opening_key
 openings_named = record { keys = λ a k. two_parts _ _ _ _ (text_key a.0.0 k.0) (text_key a.0.1 k.1) }

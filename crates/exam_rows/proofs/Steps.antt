@@ -1,11 +1,12 @@
 -- One step inside a transaction, and one after another.
-use Rattle.std.proofs.Common.{Option, Some, None, Bool, true, false, if◌then◌else◌, lit<, ◌≡◌, ◌<◌, ◌^◌, pos, to_z, of_z, w64, ℕ, List, [], ◌∷◌, ◌++◌, Ok, Err, Result, OnOk, IfErr, IsTrue, refl, sym, ap, subst, ◌∙◌, ◌≤◌, inl, inr, append_assoc, arith}
+use Rattle.std.proofs.Common.{Option, Some, None, Bool, true, false, if◌then◌else◌, lit<, ◌≡◌, ◌<◌, ◌^◌, pos, to_z, of_z, w64, ℕ, List, [], ◌∷◌, ◌++◌, Ok, Err, Result, OnOk, IfErr, IsTrue, refl, sym, ap, subst, ◌∙◌, ◌≤◌, inl, inr, append_assoc, arith, ◌+◌, drop, map, take}
 use Rattle.std.proofs.lemmas.Int.{to_z_pos}
+use Rattle.std.proofs.lemmas.List.{map-append, take-append-drop}
 use Rattle.sqlite_value.specs.declared.value.Value.TheVariants.{Text}
 use Rattle.sqlite_value.specs.Order.{Row}
 use Rattle.sqlite.specs.Values.{bound_value, or_null}
 use Rattle.sqlite_trees.specs.Tree.{Trees}
-use Rattle.sqlite.specs.State.{State, HasCleanDisk, KeepsCommit, Survives, Executes, ExecutesInside}
+use Rattle.sqlite.specs.State.{State, HasCleanDisk, KeepsCommit, Survives, ExecutesInside}
 use Rattle.sqlite.proofs.StateLemmas.{survives_then}
 use Rattle.sqlite.proofs.InsideLemmas.{keeps_then}
 use Rattle.exam_types.specs.declared.refusal.Refusal.{Refusal}
@@ -17,8 +18,7 @@ use Rattle.exam_rows.specs.Stored.{kind_of, state_of}
 use Rattle.exam_rows.specs.Faults.{refusal_of, is_store_refusal}
 use Rattle.exam_rows.specs.Inside.{AreRun, Contains, Ran, Becomes, Makes, Write, written, FailsFor, FailsToWrite}
 use Rattle.exam_tables.specs.Refusals.{Fails, Refuses, IsDown, is_failure}
-use Rattle.exam_tables.specs.Tables.{store_schema}
-use Rattle.exam_tables.proofs.Failing.{Answers}
+use Rattle.exam_tables.proofs.Edits.{Edits}
 use Rattle.sqlite.specs.Effect.{Database}
 use Rattle.sqlite_disk.specs.Disk.{MoreFaults}
 use Rattle.sqlite.specs.declared.error.Error.{Error}
@@ -56,23 +56,21 @@ fails_one sql params change old new e error told (inr (named, inl down)) = inr (
 fails_one sql params change old new e error told (inr (named, inr refused)) = inr (told ∙ failure error named, inr ([], record { sql = sql; params = params; change = change }, [], refl, old.now, refl, (λ all was. was), refused))
 
 -- what a statement that was run makes of the rows
-pub makes_by : (old new : State) (sql : List ℕ) (params : Row) (result : Result (Unit {0}) Refusal) (change : Trees → Trees) → ((count : ℕ) → Executes sql params old new (Ok count) → (all : Trees) → Contains old.now all → Contains new.now (change all))
-    → (old.now.schema ≡ store_schema → Answers sql params old new)
-    → (HasCleanDisk new → IsTrue old.in_transaction → OnOk result (Ran sql params old new × IsTrue new.in_transaction))
+pub makes_by : {change : Trees → Trees} {sql : List ℕ} {params : Row} → Edits change sql params → (old new : State) (result : Result (Unit {0}) Refusal) → (HasCleanDisk new → IsTrue old.in_transaction → OnOk result (Ran sql params old new × IsTrue new.in_transaction))
     → (HasCleanDisk new → IsTrue old.in_transaction → IfErr result (λ e. (error : Error) × (e ≡ refusal_of error) × ExecutesInside 0 sql params old new (Err error)))
     → (HasCleanDisk new → KeepsCommit old new) → Survives old new (λ _. ⊥) → IfErr result (λ e. IsTrue (is_store_refusal e)) → Makes old new result (record { sql = sql; params = params; change = change } ∷ [])
-makes_by old new sql params (Ok u) change does answers ran failed kept survives told = record {
-  made = λ clean going. let h = ran clean going in (does h.0.0 h.0.1, h.1);
-  ran = λ clean going ours. let h = ran clean going in (new.now, (answers ours.1.schema_is).done h.0.0 h.0.1, refl);
+makes_by edits old new (Ok u) ran failed kept survives told = record {
+  made = λ clean going. let h = ran clean going in (edits.does old new (Ok h.0.0) h.0.1, h.1);
+  ran = λ clean going ours. let h = ran clean going in (new.now, (edits.answers old new ours.1.schema_is).done h.0.0 h.0.1, refl);
   failed = λ clean going ours. tt;
   kept = kept;
   survives = survives;
   told = tt;
 }
-makes_by old new sql params (Err e) change does answers ran failed kept survives told = record {
+makes_by {change} {sql} {params} edits old new (Err e) ran failed kept survives told = record {
   made = λ clean going. tt;
   ran = λ clean going ours. tt;
-  failed = λ clean going ours. let it = failed clean going in fails_one sql params change old new e it.0 it.1 ((answers ours.1.schema_is).fails it.0 it.2);
+  failed = λ clean going ours. let it = failed clean going in fails_one sql params change old new e it.0 it.1 ((edits.answers old new ours.1.schema_is).fails it.0 it.2);
   kept = kept;
   survives = survives;
   told = told;
@@ -171,3 +169,16 @@ state_small (Superseded answer) = lit< tt
 pub bound_answer : (answer : Option (List ℕ)) → bound_value (or_null Text answer) ≡ or_null Text answer
 bound_answer None = refl
 bound_answer (Some text) = refl
+
+-- writes that are made one after another
+module _ {Y : Type 0} (f : Y → Write) (all : List Y) (at : ℕ) (y : Y) (more : take (at + 1) all ≡ take at all ++ y ∷ []) (old mid new : State) (so_far : Makes old mid (Ok tt) (map f (take at all))) where
+  pub one_more : Makes mid new (Ok tt) (f y ∷ []) → Makes old new (Ok tt) (map f (take (at + 1) all))
+  one_more next = subst (Makes old new (Ok tt)) (sym (ap (map f) more ∙ map-append f (take at all) (y ∷ []))) (makes_then old mid new (Ok tt) (map f (take at all)) (f y ∷ []) so_far next)
+
+  pub one_fails : (e : Refusal) → Makes mid new (Err e) (f y ∷ []) → Makes old new (Err e) (map f all)
+  one_fails e next = subst (Makes old new (Err e)) whole (makes_part old new e _ (map f (drop (at + 1) all)) (makes_then old mid new (Err e) (map f (take at all)) (f y ∷ []) so_far next))
+    where
+      whole : (map f (take at all) ++ f y ∷ []) ++ map f (drop (at + 1) all) ≡ map f all
+      whole =
+          ap (λ l. l ++ map f (drop (at + 1) all)) (sym (map-append f (take at all) (y ∷ []))) ∙ sym (map-append f (take at all ++ y ∷ []) (drop (at + 1) all))
+          ∙ ap (λ l. map f (l ++ drop (at + 1) all)) (sym more) ∙ ap (map f) (take-append-drop (at + 1) all)

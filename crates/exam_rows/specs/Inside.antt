@@ -1,15 +1,15 @@
 -- What a call does inside a transaction.
 use Rattle.std.specs.Prelude.{◌≡◌, ◌⊎◌, ℕ, List, [], ◌∷◌, ◌++◌, IsTrue, Option, Result, Ok, OnOk, IfErr}
-use Rattle.sqlite_value.specs.declared.value.Value.TheVariants.{Null}
 use Rattle.sqlite_value.specs.Order.{Row}
-use Rattle.sqlite_trees.specs.Tree.{Trees, with_tree}
+use Rattle.sqlite_trees.specs.Tree.{Trees}
 use Rattle.sqlite.specs.Effect.{Database}
 use Rattle.sqlite.specs.State.{State, HasCleanDisk, KeepsCommit, Survives, Executes}
 use Rattle.exam_types.specs.declared.refusal.Refusal.{Refusal}
 use Rattle.exam_types.specs.declared.refusal.Refusal.TheVariants.{NoMemory, Store}
 use Rattle.exam_tables.specs.Refusals.{IsDown, Refuses, RefusesRows, RunsTo}
 use Rattle.exam_tables.specs.Tables.{store_schema}
-use Rattle.exam_tables.specs.Content.{ContainsIn, put, delete}
+use Rattle.exam_tables.specs.Changes.{with_row, without_row}
+use Rattle.exam_tables.specs.Content.{ContainsIn}
 use Rattle.exam_rows.specs.Faults.{is_store_refusal}
 
 -- the eleven tables have these rows
@@ -19,14 +19,6 @@ Contains = ContainsIn store_schema
 -- the eleven tables exist, with any rows
 abbrev pub IsOurs : Database → Type 0
 IsOurs db = (all : Trees) × Contains db all
-
--- the row, as a query shows it, replaces the row with its key in the table of this tree
-abbrev pub with_row : ℕ → List ℕ → Row → Trees → Trees
-with_row tree key row all = with_tree all tree (put key (Null ∷ row) (all tree))
-
--- the rows without those that have this key
-abbrev pub without_row : ℕ → List ℕ → Row → Trees → Trees
-without_row tree key row all = with_tree all tree (delete key (Null ∷ row) (all tree))
 
 -- a statement with its parameters, and what it makes of the rows
 pub record Write : Type 0 where

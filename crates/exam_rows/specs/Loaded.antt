@@ -77,10 +77,14 @@ pub record IsStill (old new : State) : Type 0 where
   pub is_open : new.is_open ≡ old.is_open
 
 -- while the database was still as it was, the query that loads one of the tables failed
-abbrev pub FailsThen : {S : Type 0} → Ghosts S → Held S → Held S → Refusal → Type 0
-FailsThen {S} g old new e =
+abbrev pub FailsThenFrom : {S : Type 0} → (Database → Trees → Type 0) → Ghosts S → Held S → Held S → Refusal → Type 0
+FailsThenFrom {S} Holds g old new e =
     (mid : Held S) × IsStill (state g old) (state g mid)
-    × (text : List ℕ) × Contains load_texts text × FailsToLoad text (state g mid) (state g new) e
+    × (text : List ℕ) × Contains load_texts text × FailsToLoadFrom Holds text (state g mid) (state g new) e
+
+-- the same for the tables of some version
+abbrev pub FailsThen : {S : Type 0} → Ghosts S → Held S → Held S → Refusal → Type 0
+FailsThen = FailsThenFrom ContainsMade
 
 -- why nothing is loaded: memory ran out, a query failed, or there is nothing to load
 abbrev pub IsLoadRefusal : (Refusal → Type 0) → Type 0 → Refusal → Type 0

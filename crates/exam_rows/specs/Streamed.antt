@@ -15,12 +15,13 @@ use Rattle.exam_send.specs.Sending.{AppendsBeginning}
 use Rattle.exam_tables.specs.Texts.{session_appeals}
 use Rattle.exam_types.specs.declared.refusal.Refusal.TheVariants.{BadStore}
 use Rattle.exam_rules.specs.declared.rows.Appeal.{Appeal}
-use Rattle.exam_rules.specs.Relations.{Code, appeal_cmp, same_code}
+use Rattle.exam_rules.specs.Relations.{Code, same_code}
 use Rattle.exam_rows.specs.declared.send_fault.SendFault.{SendFault}
 use Rattle.exam_rows.specs.declared.send_fault.SendFault.TheVariants as faults
 use Rattle.exam_rows.specs.Faults.{is_store_refusal, refusal_of}
 use Rattle.exam_rows.specs.Inside.{Contains}
-use Rattle.exam_rows.specs.Loaded.{HoldsTable}
+use Rattle.exam_rows.specs.Forms as forms
+use Rattle.exam_rows.specs.Held.{HasTable}
 use Rattle.exam_rows.specs.Rows.{IsAppeal, appeal_row}
 
 -- an appeal with its key
@@ -35,7 +36,7 @@ appeals_in appeals s = filter (λ (a : KeyedAppeal). same_code a.1.session s) ap
 pub record HasAppeals (db : Database) (appeals : List KeyedAppeal) : Type 0 where
   pub all : Trees
   pub contains : Contains db all
-  pub held : HoldsTable appeal_cmp IsAppeal appeal_row appeals (all 13)
+  pub held : HasTable forms.appeals appeals all
 
 -- Why no appeal is read after those that the query gave: the text of the query is not understood, its answer ends
 -- there, or the next row is not the stored form of an appeal.

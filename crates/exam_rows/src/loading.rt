@@ -2,17 +2,16 @@
 ghost use Rattle.std.specs.Prelude.{IsTrue, IfOk, IfErr, OnOk};
 ghost use Rattle.sqlite.specs.Held.{state};
 ghost use Rattle.sqlite.specs.State.{HasCleanDisk, IsUnchanged, Survives};
-ghost use Rattle.exam_rules.specs.Relations.{appeal_cmp, relations_of};
+ghost use Rattle.exam_rules.specs.Relations.{relations_of};
 ghost use Rattle.exam_rows.specs.Faults.{is_store_refusal};
 ghost use Rattle.exam_rows.specs.Held.{HoldsRelations};
 ghost use Rattle.exam_tables.specs.Made.{ContainsMade, lists_marks};
-ghost use Rattle.exam_rows.specs.Loaded.{AreUnderstood, FailsThen, FailsToLoad, HoldsTable, IsLoadRefusal, IsUnderstood};
-ghost use Rattle.exam_rows.specs.Loaded.{OnlyReads};
-ghost use Rattle.exam_rows.specs.Rows.{IsStanding, standing_row};
+ghost use Rattle.exam_rows.specs.Loaded.{AreUnderstood, FailsThen, IsLoadRefusal, IsUnderstood, OnlyReads};
+ghost use Rattle.exam_rows.specs.Parts.{Loading, Part, marks_part, table_part, then_part};
 ghost use Rattle.exam_tables.specs.Texts.{fact_texts, load_standing};
 
 use crate::schema::has_marks;
-use crate::table::load_rows;
+use crate::table::{StoredRows, load_rows};
 use crate::tables::appeals::Appeals;
 use crate::tables::arrangements::Arrangements;
 use crate::tables::candidates::Candidates;
@@ -48,15 +47,9 @@ pub fn load_facts<S: Alter>(alloc: Global, conn: &mut Connection<S>) -> Result<F
     ensures early { HasCleanDisk (state S.Store conn.new) → HasCleanDisk (state S.Store conn.old) }
     ensures told { IfErr result (λ e. IsTrue (is_store_refusal e)) }
 {
-    let sessions = load_rows::<Sessions, S>(alloc, conn)?;
-    let papers = load_rows::<Papers, S>(alloc, conn)?;
-    let halls = load_rows::<Halls, S>(alloc, conn)?;
-    let openings = load_rows::<Openings, S>(alloc, conn)?;
-    let candidates = load_rows::<Candidates, S>(alloc, conn)?;
-    let entries = load_rows::<Entries, S>(alloc, conn)?;
-    let arrangements = load_rows::<Arrangements, S>(alloc, conn)?;
-    let appeals = load_rows::<Appeals, S>(alloc, conn)?;
-    let standing = load_marks(alloc, conn)?;
+    let tables = <FactTables as Loads>::load(alloc, conn)?;
+    let (sessions, (papers, (halls, (openings, more)))) = tables;
+    let (candidates, (entries, (arrangements, (appeals, standing)))) = more;
     Ok(Facts {
         sessions,
         papers,
@@ -70,30 +63,72 @@ pub fn load_facts<S: Alter>(alloc: Global, conn: &mut Connection<S>) -> Result<F
     })
 }
 
-/// The marks, or no marks if there is no table of them, as in version 1.
-fn load_marks<S: Alter>(
+/// The tables of facts.
+type FactTables = (
+    Sessions,
+    (
+        Papers,
+        (
+            Halls,
+            (
+                Openings,
+                (Candidates, (Entries, (Arrangements, (Appeals, Marks)))),
+            ),
+        ),
+    ),
+);
+
+/// Tables that are loaded one after the other.
+trait Loads {
+    type Rows: Drop;
+
+    ghost part: { Part Self.Rows };
+
+    /// Their rows. Refused with `BadStore` if the tables or columns are missing, or hold something else.
+    fn load<S: Alter>(alloc: Global, conn: &mut Connection<S>) -> Result<Self::Rows, Refusal>
+        ensures { Loading S.Store conn.old conn.new result part };
+}
+
+impl<T: StoredRows, M: Loads> Loads for (T, M) {
+    type Rows = (BTreeMap<T::Key, T::Value>, M::Rows);
+
+    ghost part = { then_part (table_part T.Key.cmp T.form) M.part };
+
+    fn load<S: Alter>(
+        alloc: Global,
+        conn: &mut Connection<S>,
+    ) -> Result<(BTreeMap<T::Key, T::Value>, M::Rows), Refusal> {
+        let table = load_table::<T, S>(alloc, conn)?;
+        let more = M::load(alloc, conn)?;
+        Ok((table, more))
+    }
+}
+
+/// The marks. Version 1 has no table of them, and so no marks.
+struct Marks;
+
+impl Loads for Marks {
+    type Rows = BTreeMap<(Number, Reference), ()>;
+
+    ghost part = { marks_part };
+
+    fn load<S: Alter>(
+        alloc: Global,
+        conn: &mut Connection<S>,
+    ) -> Result<BTreeMap<(Number, Reference), ()>, Refusal> {
+        if !has_marks(conn) {
+            return Ok(BTreeMap::new(alloc));
+        }
+        load_table::<Standing, S>(alloc, conn)
+    }
+}
+
+/// The whole table, as one of those that are loaded one after the other.
+fn load_table<T: StoredRows, S: Alter>(
     alloc: Global,
     conn: &mut Connection<S>,
-) -> Result<BTreeMap<(Number, Reference), ()>, Refusal>
-    ensures rows { HasCleanDisk (state S.Store conn.new) → IsTrue (state S.Store conn.old).is_open
-        → IfOk result (λ marks. (all : _) → ContainsMade (state S.Store conn.old).now all
-        → HoldsTable appeal_cmp IsStanding standing_row marks.entries (all 17)
-        × IsUnchanged (state S.Store conn.old) (state S.Store conn.new)) }
-    ensures bad { HasCleanDisk (state S.Store conn.new) → IfErr result (IsLoadRefusal
-        (FailsToLoad load_standing (state S.Store conn.old) (state S.Store conn.new))
-        ((all : _) → ContainsMade (state S.Store conn.old).now all
-        → (entries : _) → HoldsTable appeal_cmp IsStanding standing_row entries (all 17) → ⊥)) }
-    ensures left { HasCleanDisk (state S.Store conn.new) → IsTrue (state S.Store conn.old).is_open
-        → OnlyReads (state S.Store conn.old) (state S.Store conn.new) result }
-    ensures survives { Survives (state S.Store conn.old) (state S.Store conn.new) (λ _. ⊥) }
-    ensures understood { HasCleanDisk (state S.Store conn.new)
-        → OnOk result (IsTrue (lists_marks (state S.Store conn.old).now.schema)
-        → IsUnderstood (state S.Store conn.old).now load_standing) }
-    ensures early { HasCleanDisk (state S.Store conn.new) → HasCleanDisk (state S.Store conn.old) }
-    ensures told { IfErr result (λ e. IsTrue (is_store_refusal e)) }
+) -> Result<BTreeMap<T::Key, T::Value>, Refusal>
+    ensures { Loading S.Store conn.old conn.new result (table_part T.Key.cmp T.form) }
 {
-    if !has_marks(conn) {
-        return Ok(BTreeMap::new(alloc));
-    }
-    load_rows::<Standing, S>(alloc, conn)
+    load_rows::<T, S>(alloc, conn)
 }

@@ -1,11 +1,11 @@
 //! The tables of each version of the schema, and how an older version becomes the newest.
-ghost use Rattle.std.specs.Prelude.{◌≡◌, [], ◌∷◌, IsTrue, IfOk, IfErr, OnOk};
+ghost use Rattle.std.specs.Prelude.{◌≡◌, [], ◌∷◌, map, IsTrue, IfOk, IfErr, OnOk};
 ghost use Rattle.std.specs.Bool.{Decides};
 ghost use Rattle.sqlite.specs.Held.{state};
 ghost use Rattle.sqlite.specs.State.{HasCleanDisk, IsLive, IsUnchanged, Survives};
 ghost use Rattle.sqlite_value.specs.Order.{column};
-ghost use Rattle.exam_tables.specs.Grows.{made_0, made_5, made_10};
 ghost use Rattle.exam_tables.specs.Made.{ContainsMade, lists_marks};
+ghost use Rattle.exam_tables.specs.Tables as tables;
 ghost use Rattle.exam_tables.specs.Texts.{load_office};
 ghost use Rattle.exam_types.specs.declared.refusal.Refusal.TheVariants.{BadStore};
 ghost use Rattle.exam_rows.specs.Faults.{is_store_refusal};
@@ -49,8 +49,7 @@ pub fn create_tables<S: Alter>(tx: &mut Transaction<'_, S>) -> Result<(), Refusa
     ensures made { Leads IsBlank IsMade
         (state S.Store tx.old.conn.now) (state S.Store tx.new.conn.now) result }
 {
-    create_parents(tx)?;
-    create_children(tx)?;
+    create_first(tx, &FIRST_TABLES)?;
     widen_tables(tx, false)
 }
 
@@ -106,70 +105,31 @@ fn put_version<S: Alter>(tx: &mut Transaction<'_, S>) -> Result<(), Refusal>
     )
 }
 
-/// Makes the tables that refer to none, or only to sessions.
-fn create_parents<S: Alter>(tx: &mut Transaction<'_, S>) -> Result<(), Refusal>
-    ensures same_reference { tx.new.conn.ghost_name ≡ tx.old.conn.ghost_name }
-    ensures made { Leads (HasNoRows made_0) (HasNoRows made_5)
-        (state S.Store tx.old.conn.now) (state S.Store tx.new.conn.now) result }
-{
-    run(
-        tx,
-        "CREATE TABLE office (one INTEGER NOT NULL, version INTEGER NOT NULL, PRIMARY KEY (one)) STRICT",
-        &[],
-    )?;
-    run(
-        tx,
-        "CREATE TABLE session (code TEXT NOT NULL, day TEXT NOT NULL, start INTEGER NOT NULL, PRIMARY KEY (code)) STRICT",
-        &[],
-    )?;
-    run(
-        tx,
-        "CREATE TABLE paper (code TEXT NOT NULL, title TEXT NOT NULL, session TEXT NOT NULL, minutes INTEGER NOT NULL, requires INTEGER NOT NULL, PRIMARY KEY (code), FOREIGN KEY (session) REFERENCES session (code)) STRICT",
-        &[],
-    )?;
-    run(
-        tx,
-        "CREATE TABLE hall (code TEXT NOT NULL, title TEXT NOT NULL, features INTEGER NOT NULL, PRIMARY KEY (code)) STRICT",
-        &[],
-    )?;
-    run(
-        tx,
-        "CREATE TABLE candidate (number INTEGER NOT NULL, name TEXT NOT NULL, code TEXT NOT NULL, PRIMARY KEY (number)) STRICT",
-        &[],
-    )
-}
+/// The statements that make the tables of version 1, each after those to which its rows refer.
+const FIRST_TABLES: [&str; 10] = [
+    "CREATE TABLE office (one INTEGER NOT NULL, version INTEGER NOT NULL, PRIMARY KEY (one)) STRICT",
+    "CREATE TABLE session (code TEXT NOT NULL, day TEXT NOT NULL, start INTEGER NOT NULL, PRIMARY KEY (code)) STRICT",
+    "CREATE TABLE paper (code TEXT NOT NULL, title TEXT NOT NULL, session TEXT NOT NULL, minutes INTEGER NOT NULL, requires INTEGER NOT NULL, PRIMARY KEY (code), FOREIGN KEY (session) REFERENCES session (code)) STRICT",
+    "CREATE TABLE hall (code TEXT NOT NULL, title TEXT NOT NULL, features INTEGER NOT NULL, PRIMARY KEY (code)) STRICT",
+    "CREATE TABLE candidate (number INTEGER NOT NULL, name TEXT NOT NULL, code TEXT NOT NULL, PRIMARY KEY (number)) STRICT",
+    "CREATE TABLE opening (session TEXT NOT NULL, hall TEXT NOT NULL, desks INTEGER NOT NULL, until INTEGER NOT NULL, reserved INTEGER NOT NULL, PRIMARY KEY (session, hall), FOREIGN KEY (session) REFERENCES session (code), FOREIGN KEY (hall) REFERENCES hall (code)) STRICT",
+    "CREATE TABLE entry (number INTEGER NOT NULL, paper TEXT NOT NULL, live INTEGER NOT NULL, PRIMARY KEY (number, paper), FOREIGN KEY (number) REFERENCES candidate (number), FOREIGN KEY (paper) REFERENCES paper (code)) STRICT",
+    "CREATE TABLE arrangement (number INTEGER NOT NULL, needs INTEGER NOT NULL, extra INTEGER NOT NULL, PRIMARY KEY (number), FOREIGN KEY (number) REFERENCES candidate (number)) STRICT",
+    "CREATE TABLE appeal (number INTEGER NOT NULL, ref TEXT NOT NULL, session TEXT NOT NULL, kind INTEGER NOT NULL, target TEXT NOT NULL, needs INTEGER NOT NULL, extra INTEGER NOT NULL, reason TEXT NOT NULL, state INTEGER NOT NULL, answer TEXT, lodged TEXT NOT NULL, PRIMARY KEY (number, ref), FOREIGN KEY (number) REFERENCES candidate (number), FOREIGN KEY (session) REFERENCES session (code)) STRICT",
+    "CREATE TABLE seat (session TEXT NOT NULL, number INTEGER NOT NULL, hall TEXT NOT NULL, PRIMARY KEY (session, number), FOREIGN KEY (number) REFERENCES candidate (number), FOREIGN KEY (session, hall) REFERENCES opening (session, hall)) STRICT",
+];
 
-/// Makes the tables that refer to those.
-fn create_children<S: Alter>(tx: &mut Transaction<'_, S>) -> Result<(), Refusal>
+/// Makes the tables of version 1 in an empty database, with no rows, by these statements.
+fn create_first<S: Alter>(tx: &mut Transaction<'_, S>, statements: &[&str]) -> Result<(), Refusal>
+    requires { map (λ s. s.now) statements.now ≡ map (λ d. d.create) tables.first_tables }
     ensures same_reference { tx.new.conn.ghost_name ≡ tx.old.conn.ghost_name }
-    ensures made { Leads (HasNoRows made_5) (HasNoRows made_10)
+    ensures made { Leads (HasNoRows (tables.made 0)) (HasNoRows (tables.made 10))
         (state S.Store tx.old.conn.now) (state S.Store tx.new.conn.now) result }
 {
-    run(
-        tx,
-        "CREATE TABLE opening (session TEXT NOT NULL, hall TEXT NOT NULL, desks INTEGER NOT NULL, until INTEGER NOT NULL, reserved INTEGER NOT NULL, PRIMARY KEY (session, hall), FOREIGN KEY (session) REFERENCES session (code), FOREIGN KEY (hall) REFERENCES hall (code)) STRICT",
-        &[],
-    )?;
-    run(
-        tx,
-        "CREATE TABLE entry (number INTEGER NOT NULL, paper TEXT NOT NULL, live INTEGER NOT NULL, PRIMARY KEY (number, paper), FOREIGN KEY (number) REFERENCES candidate (number), FOREIGN KEY (paper) REFERENCES paper (code)) STRICT",
-        &[],
-    )?;
-    run(
-        tx,
-        "CREATE TABLE arrangement (number INTEGER NOT NULL, needs INTEGER NOT NULL, extra INTEGER NOT NULL, PRIMARY KEY (number), FOREIGN KEY (number) REFERENCES candidate (number)) STRICT",
-        &[],
-    )?;
-    run(
-        tx,
-        "CREATE TABLE appeal (number INTEGER NOT NULL, ref TEXT NOT NULL, session TEXT NOT NULL, kind INTEGER NOT NULL, target TEXT NOT NULL, needs INTEGER NOT NULL, extra INTEGER NOT NULL, reason TEXT NOT NULL, state INTEGER NOT NULL, answer TEXT, lodged TEXT NOT NULL, PRIMARY KEY (number, ref), FOREIGN KEY (number) REFERENCES candidate (number), FOREIGN KEY (session) REFERENCES session (code)) STRICT",
-        &[],
-    )?;
-    run(
-        tx,
-        "CREATE TABLE seat (session TEXT NOT NULL, number INTEGER NOT NULL, hall TEXT NOT NULL, PRIMARY KEY (session, number), FOREIGN KEY (number) REFERENCES candidate (number), FOREIGN KEY (session, hall) REFERENCES opening (session, hall)) STRICT",
-        &[],
-    )
+    'texts: for text in statements {
+        run(tx, text, &[])?;
+    }
+    Ok(())
 }
 
 /// The version of the office. Refused with `BadStore` if the table `office` holds none.

@@ -7,13 +7,14 @@ ghost use Rattle.sqlite_trees.specs.Tree.{Trees};
 ghost use Rattle.sqlite_value.specs.declared.value.Value.TheVariants.{Null};
 ghost use Rattle.sqlite_value.specs.Order.{Row as Columns};
 ghost use Rattle.exam_rows.specs.Faults.{is_store_refusal};
-ghost use Rattle.exam_rows.specs.Inside.{Makes, put_of, delete_of};
+ghost use Rattle.exam_rows.specs.Forms.{Form, IsOurTable, row_put, with_put};
+ghost use Rattle.exam_rows.specs.Inside.{Makes, delete_of};
 ghost use Rattle.exam_types.specs.declared.refusal.Refusal.TheVariants.{NoMemory, BadStore};
-ghost use Rattle.exam_rows.specs.Loaded.{AreRowsOf, FailsToLoadFrom, HoldsTable, IsLoadRefusal, IsUnderstood, KeysMatch, OnlyReads};
+ghost use Rattle.exam_rows.specs.Loaded.{AreRowsOf, FailsToLoadFrom, HoldsTable, IsLoadRefusal, IsUnderstood, OnlyReads};
 ghost use Rattle.exam_rows.specs.Reading.{MayRead, WantsMemoryOfRow};
 
 use crate::differences::Keyed;
-use crate::statements::add_row;
+use crate::statements::{add_row, all_rows};
 use exam_types::Refusal;
 use sqlite::{Alter, Connection, Row, Transaction};
 use std::alloc::Global;
@@ -29,24 +30,12 @@ pub trait StoredRows {
 
     type Value: PartialEq + Drop;
 
-    /// The tree of its rows, and the places of its key among the columns, from 1.
-    ghost tree: { ℕ };
+    /// How its rows are stored.
+    ghost form: { Form Self.Key Self.Value };
 
-    ghost key_places: { List ℕ };
-
-    /// The statement that puts a row, and the one that shows all rows.
-    ghost put_text: { List ℕ };
-
-    ghost load_text: { List ℕ };
-
-    /// The columns of a row.
-    ghost row_of: { Self.Key → Self.Value → Columns };
-
-    /// The keys and values that may be a row.
-    ghost IsRow: { Self.Key → Self.Value → Type 0 };
-
-    /// The databases from which all rows can be shown, with the rows of their tables.
-    ghost Holds: { Database → Trees → Type 0 };
+    /// The statement that shows all rows.
+    fn load_text() -> &'static str
+        ensures { result.now ≡ form.load };
 
     /// Sets the row with this key.
     fn put<'a, S: Alter>(
@@ -57,29 +46,35 @@ pub trait StoredRows {
     ) -> Result<(), Refusal>
         ensures same_reference { tx.new.conn.ghost_name ≡ tx.old.conn.ghost_name }
         ensures made { Makes (state S.Store tx.old.conn.now) (state S.Store tx.new.conn.now) result
-            (put_of Self.put_text Self.tree Self.key_places (Self.row_of key.now value.now) ∷ []) };
+            (row_put form key.now value.now ∷ []) };
+
+    /// The key and the value that this row shows. Refused with `BadStore` if it is not the stored form of any.
+    fn read(alloc: Global, row: &Row) -> Result<(Self::Key, Self::Value), Refusal>
+        ensures read { MayRead (λ p. form.IsRow p.0 p.1) (λ p. form.row p.0 p.1) row.now result }
+        ensures memory { WantsMemoryOfRow row.now result };
 
     /// All rows, as the query shows them.
-    fn shown<S: Alter>(conn: &mut Connection<S>) -> Result<Vec<Row>, Refusal>
+    final fn shown<S: Alter>(conn: &mut Connection<S>) -> Result<Vec<Row>, Refusal>
         ensures rows { HasCleanDisk (state S.Store conn.new) → IfOk result (λ rows. (all : _)
-            → Self.Holds (state S.Store conn.old).now all
-            → IsPermutation (all Self.tree) (map (λ row. Null ∷ row) rows.items)
+            → form.Holds (state S.Store conn.old).now all
+            → IsPermutation (all form.tree) (map (λ row. Null ∷ row) rows.items)
             × IsUnchanged (state S.Store conn.old) (state S.Store conn.new)) }
         ensures failed { HasCleanDisk (state S.Store conn.new)
-            → IfErr result (FailsToLoadFrom Self.Holds Self.load_text
+            → IfErr result (FailsToLoadFrom form.Holds form.load
             (state S.Store conn.old) (state S.Store conn.new)) }
         ensures left { HasCleanDisk (state S.Store conn.new)
             → OnlyReads (state S.Store conn.old) (state S.Store conn.new) result }
         ensures survives { Survives (state S.Store conn.old) (state S.Store conn.new) (λ _. ⊥) }
         ensures understood { HasCleanDisk (state S.Store conn.new)
-            → OnOk result (IsUnderstood (state S.Store conn.old).now Self.load_text) }
+            → OnOk result (IsUnderstood (state S.Store conn.old).now form.load) }
         ensures early { HasCleanDisk (state S.Store conn.new) → HasCleanDisk (state S.Store conn.old) }
-        ensures told { IfErr result (λ e. IsTrue (is_store_refusal e)) };
+        ensures told { IfErr result (λ e. IsTrue (is_store_refusal e)) }
+    {
+        all_rows(conn, Self::load_text())
+    }
 
-    /// The key and the value that this row shows. Refused with `BadStore` if it is not the stored form of any.
-    fn read(alloc: Global, row: &Row) -> Result<(Self::Key, Self::Value), Refusal>
-        ensures read { MayRead (λ p. Self.IsRow p.0 p.1) (λ p. Self.row_of p.0 p.1) row.now result }
-        ensures memory { WantsMemoryOfRow row.now result };
+    /// What the texts of all tables have in common.
+    ghost ours: { IsOurTable Self.Key.cmp form };
 }
 
 /// A table that can lose rows. No command deletes a row of any other table.
@@ -93,7 +88,7 @@ pub trait Shrinks: StoredRows {
     fn delete<S: Alter>(tx: &mut Transaction<'_, S>, key: &Self::Key) -> Result<(), Refusal>
         ensures same_reference { tx.new.conn.ghost_name ≡ tx.old.conn.ghost_name }
         ensures made { Makes (state S.Store tx.old.conn.now) (state S.Store tx.new.conn.now) result
-            (delete_of Self.delete_text Self.tree Self.key_places (Self.key_of key.now) ∷ []) };
+            (delete_of Self.delete_text Self.form.tree Self.form.places (Self.key_of key.now) ∷ []) };
 }
 
 /// Sets these rows.
@@ -104,7 +99,7 @@ pub fn put_rows<T: StoredRows, S: Alter>(
 ) -> Result<(), Refusal>
     ensures same_reference { tx.new.conn.ghost_name ≡ tx.old.conn.ghost_name }
     ensures made { Makes (state S.Store tx.old.conn.now) (state S.Store tx.new.conn.now) result
-        (map (λ r. put_of T.put_text T.tree T.key_places (T.row_of r.0.now r.1.now)) rows.now) }
+        (with_put T.form rows.now) }
 {
     'rows: for row in rows {
         T::put(alloc, tx, row.0, row.1)?;
@@ -119,7 +114,7 @@ pub fn delete_rows<T: Shrinks, S: Alter>(
 ) -> Result<(), Refusal>
     ensures same_reference { tx.new.conn.ghost_name ≡ tx.old.conn.ghost_name }
     ensures made { Makes (state S.Store tx.old.conn.now) (state S.Store tx.new.conn.now) result
-        (map (λ key. delete_of T.delete_text T.tree T.key_places (T.key_of key.now)) keys.now) }
+        (map (λ key. delete_of T.delete_text T.form.tree T.form.places (T.key_of key.now)) keys.now) }
 {
     'keys: for key in keys {
         T::delete(tx, key)?;
@@ -133,20 +128,19 @@ pub fn load_rows<T: StoredRows, S: Alter>(
     conn: &mut Connection<S>,
 ) -> Result<BTreeMap<T::Key, T::Value>, Refusal>
     ensures rows { HasCleanDisk (state S.Store conn.new) → IfOk result (λ table. (all : _)
-        → T.Holds (state S.Store conn.old).now all
-        → HoldsTable T.Key.cmp T.IsRow T.row_of table.entries (all T.tree)
+        → T.form.Holds (state S.Store conn.old).now all
+        → HoldsTable T.Key.cmp T.form.IsRow T.form.row table.entries (all T.form.tree)
         × IsUnchanged (state S.Store conn.old) (state S.Store conn.new)) }
     ensures bad { HasCleanDisk (state S.Store conn.new)
-        → KeysMatch T.Key.cmp T.key_places T.row_of
-        → IfErr result (IsLoadRefusal (FailsToLoadFrom T.Holds T.load_text
+        → IfErr result (IsLoadRefusal (FailsToLoadFrom T.form.Holds T.form.load
         (state S.Store conn.old) (state S.Store conn.new))
-        ((all : _) → T.Holds (state S.Store conn.old).now all
-        → (entries : _) → HoldsTable T.Key.cmp T.IsRow T.row_of entries (all T.tree) → ⊥)) }
+        ((all : _) → T.form.Holds (state S.Store conn.old).now all
+        → (entries : _) → HoldsTable T.Key.cmp T.form.IsRow T.form.row entries (all T.form.tree) → ⊥)) }
     ensures left { HasCleanDisk (state S.Store conn.new)
         → OnlyReads (state S.Store conn.old) (state S.Store conn.new) result }
     ensures survives { Survives (state S.Store conn.old) (state S.Store conn.new) (λ _. ⊥) }
     ensures understood { HasCleanDisk (state S.Store conn.new)
-        → OnOk result (IsUnderstood (state S.Store conn.old).now T.load_text) }
+        → OnOk result (IsUnderstood (state S.Store conn.old).now T.form.load) }
     ensures early { HasCleanDisk (state S.Store conn.new) → HasCleanDisk (state S.Store conn.old) }
     ensures told { IfErr result (λ e. IsTrue (is_store_refusal e)) }
 {
@@ -159,10 +153,9 @@ pub fn read_rows<T: StoredRows>(
     alloc: Global,
     rows: &[Row],
 ) -> Result<BTreeMap<T::Key, T::Value>, Refusal>
-    ensures rows { IfOk result (λ table. AreRowsOf T.Key.cmp T.IsRow T.row_of rows.now table.entries) }
+    ensures rows { IfOk result (λ table. AreRowsOf T.Key.cmp T.form.IsRow T.form.row rows.now table.entries) }
     ensures bad { IfErr result (λ e. (e ≡ NoMemory) ⊎ ((e ≡ BadStore)
-        × (KeysMatch T.Key.cmp T.key_places T.row_of
-        → (entries : _) → AreRowsOf T.Key.cmp T.IsRow T.row_of rows.now entries → ⊥))) }
+        × ((entries : _) → AreRowsOf T.Key.cmp T.form.IsRow T.form.row rows.now entries → ⊥))) }
     ensures told { IfErr result (λ e. IsTrue (is_store_refusal e)) }
 {
     let mut table = BTreeMap::new(alloc);

@@ -31,7 +31,7 @@ use Rattle.exam_office.proofs.Lasting.{made, new_facts}
 use Rattle.exam_rows.specs.Rows.{IsAppeal, IsSession}
 use Rattle.exam_store.specs.Refused.{HoldsFormed}
 use Rattle.exam_store.specs.Stops.{HasDays, HasRowDay, HasRowDays}
-use Rattle.exam_store.proofs.FormedRows.{session_day}
+use Rattle.exam_rows.proofs.OneTable.{session_day}
 
 abbrev OfSession : Session → Type 0
 OfSession x = IsDay x.day

@@ -23,7 +23,8 @@ use Rattle.exam_rows.specs.declared.writing.Changes.{Changes}
 use Rattle.exam_rows.specs.Held.{HoldsRows}
 use Rattle.exam_rows.specs.Inside.{Write, put_of, delete_of, written, RefusesOne, RefusesOneRow}
 use Rattle.exam_store.specs.Kept.{HoldsOffice, Keeps}
-use Rattle.exam_rows.specs.Writes.{Form, sessions, papers, halls, candidates, openings, entries, arrangements, appeals, standing, seats, opening_key, seat_key, with_put, with_deleted, openings_deleted, seats_deleted, all_put, all_saved}
+use Rattle.exam_rows.specs.Forms.{Form, sessions, papers, halls, candidates, openings, entries, arrangements, appeals, standing, seats, opening_key, seat_key, with_put}
+use Rattle.exam_rows.specs.Writes.{with_deleted, openings_deleted, seats_deleted, all_put, all_saved}
 use Rattle.exam_store.specs.Saves.{TurnsTables}
 use Rattle.exam_rows.specs.Differences.{Turns}
 use Rattle.exam_tables.specs.Texts.{delete_opening, delete_seat}
@@ -33,7 +34,7 @@ use Rattle.exam_store.proofs.Referring.{stand}
 use Rattle.exam_store.proofs.Rekeeping.{holds_after}
 
 abbrev keys : ℕ → List ℕ
-keys tree = if (tree == 8) || ((tree == 10) || ((tree == 13) || ((tree == 15) || (tree == 17)))) then 1 ∷ 2 ∷ [] else 1 ∷ []
+keys tree = if (tree == openings.tree) || ((tree == entries.tree) || ((tree == appeals.tree) || ((tree == seats.tree) || (tree == standing.tree)))) then 1 ∷ 2 ∷ [] else 1 ∷ []
 
 fit : AllByRecursion (λ l. keys l.parent ≡ l.key) links
 fit = (refl, (refl, (refl, (refl, (refl, (refl, (refl, (refl, (refl, (refl, (refl, tt)))))))))))
@@ -104,76 +105,76 @@ module _ (before after : State) (c : Changes) (all : Trees) (turns : TurnsTables
   w0 tree = at_rest
 
   abbrev w1 : ℕ → Way
-  w1 = after_put w0 1
+  w1 = after_put w0 sessions.tree
 
   abbrev w2 : ℕ → Way
-  w2 = after_put w1 3
+  w2 = after_put w1 papers.tree
 
   abbrev w3 : ℕ → Way
-  w3 = after_put w2 5
+  w3 = after_put w2 halls.tree
 
   abbrev w4 : ℕ → Way
-  w4 = after_put w3 8
+  w4 = after_put w3 openings.tree
 
   abbrev w5 : ℕ → Way
-  w5 = after_put w4 7
+  w5 = after_put w4 candidates.tree
 
   abbrev w6 : ℕ → Way
-  w6 = after_put w5 10
+  w6 = after_put w5 entries.tree
 
   abbrev w7 : ℕ → Way
-  w7 = after_put w6 12
+  w7 = after_put w6 arrangements.tree
 
   abbrev w8 : ℕ → Way
-  w8 = after_put w7 13
+  w8 = after_put w7 appeals.tree
 
   abbrev w9 : ℕ → Way
-  w9 = after_put w8 17
+  w9 = after_put w8 standing.tree
 
   abbrev w10 : ℕ → Way
-  w10 = after_put w9 15
+  w10 = after_put w9 seats.tree
 
   abbrev w11 : ℕ → Way
-  w11 = after_delete w10 15
+  w11 = after_delete w10 seats.tree
 
   abbrev w12 : ℕ → Way
-  w12 = after_delete w11 8
+  w12 = after_delete w11 openings.tree
 
-  openings_end : end 8 ≡ delete_all openings.places (keys_deleted opening_key c.openings.delete.items) (mid 8)
-  openings_end = whole c all 8 ∙ ap (delete_all openings.places (keys_deleted opening_key c.openings.delete.items)) (sym (put_whole c all 8))
+  openings_end : end openings.tree ≡ delete_all openings.places (keys_deleted opening_key c.openings.delete.items) (mid openings.tree)
+  openings_end = whole c all openings.tree ∙ ap (delete_all openings.places (keys_deleted opening_key c.openings.delete.items)) (sym (put_whole c all openings.tree))
 
-  seats_end : end 15 ≡ delete_all seats.places (keys_deleted seat_key c.seats.delete.items) (mid 15)
-  seats_end = whole c all 15 ∙ ap (delete_all seats.places (keys_deleted seat_key c.seats.delete.items)) (sym (put_whole c all 15))
+  seats_end : end seats.tree ≡ delete_all seats.places (keys_deleted seat_key c.seats.delete.items) (mid seats.tree)
+  seats_end = whole c all seats.tree ∙ ap (delete_all seats.places (keys_deleted seat_key c.seats.delete.items)) (sym (put_whole c all seats.tree))
 
   sessions_put : Passes w0 (with_put sessions c.sessions.items) w1
-  sessions_put = only_puts sessions c.sessions.items w0 refl refl refl (put_whole c all 1) (whole c all 1) turns.sessions will.facts.sessions
+  sessions_put = only_puts sessions c.sessions.items w0 refl refl refl (put_whole c all sessions.tree) (whole c all sessions.tree) turns.sessions will.facts.sessions
 
   papers_put : Passes w1 (with_put papers c.papers.items) w2
-  papers_put = only_puts papers c.papers.items w1 refl refl refl (put_whole c all 3) (whole c all 3) turns.papers will.facts.papers
+  papers_put = only_puts papers c.papers.items w1 refl refl refl (put_whole c all papers.tree) (whole c all papers.tree) turns.papers will.facts.papers
 
   halls_put : Passes w2 (with_put halls c.halls.items) w3
-  halls_put = only_puts halls c.halls.items w2 refl refl refl (put_whole c all 5) (whole c all 5) turns.halls will.facts.halls
+  halls_put = only_puts halls c.halls.items w2 refl refl refl (put_whole c all halls.tree) (whole c all halls.tree) turns.halls will.facts.halls
 
   openings_put : Passes w3 (with_put openings c.openings.put.items) w4
-  openings_put = puts openings c.openings.put.items w3 refl refl refl (put_whole c all 8) (λ r h. left_was openings.places (keys_deleted opening_key c.openings.delete.items) (mid 8) r (subst (λ l. Has l r) openings_end h)) turns.openings will.facts.openings
+  openings_put = puts openings c.openings.put.items w3 refl refl refl (put_whole c all openings.tree) (λ r h. left_was openings.places (keys_deleted opening_key c.openings.delete.items) (mid openings.tree) r (subst (λ l. Has l r) openings_end h)) turns.openings will.facts.openings
 
   candidates_put : Passes w4 (with_put candidates c.candidates.items) w5
-  candidates_put = only_puts candidates c.candidates.items w4 refl refl refl (put_whole c all 7) (whole c all 7) turns.candidates will.facts.candidates
+  candidates_put = only_puts candidates c.candidates.items w4 refl refl refl (put_whole c all candidates.tree) (whole c all candidates.tree) turns.candidates will.facts.candidates
 
   entries_put : Passes w5 (with_put entries c.entries.items) w6
-  entries_put = only_puts entries c.entries.items w5 refl refl refl (put_whole c all 10) (whole c all 10) turns.entries will.facts.entries
+  entries_put = only_puts entries c.entries.items w5 refl refl refl (put_whole c all entries.tree) (whole c all entries.tree) turns.entries will.facts.entries
 
   arrangements_put : Passes w6 (with_put arrangements c.arrangements.items) w7
-  arrangements_put = only_puts arrangements c.arrangements.items w6 refl refl refl (put_whole c all 12) (whole c all 12) turns.arrangements will.facts.arrangements
+  arrangements_put = only_puts arrangements c.arrangements.items w6 refl refl refl (put_whole c all arrangements.tree) (whole c all arrangements.tree) turns.arrangements will.facts.arrangements
 
   appeals_put : Passes w7 (with_put appeals c.appeals.items) w8
-  appeals_put = only_puts appeals c.appeals.items w7 refl refl refl (put_whole c all 13) (whole c all 13) turns.appeals will.facts.appeals
+  appeals_put = only_puts appeals c.appeals.items w7 refl refl refl (put_whole c all appeals.tree) (whole c all appeals.tree) turns.appeals will.facts.appeals
 
   standing_put : Passes w8 (with_put standing c.standing.items) w9
-  standing_put = only_puts standing c.standing.items w8 refl refl refl (put_whole c all 17) (whole c all 17) turns.standing will.facts.standing
+  standing_put = only_puts standing c.standing.items w8 refl refl refl (put_whole c all standing.tree) (whole c all standing.tree) turns.standing will.facts.standing
 
   seats_put : Passes w9 (with_put seats c.seats.put.items) w10
-  seats_put = puts seats c.seats.put.items w9 refl refl refl (put_whole c all 15) (λ r h. left_was seats.places (keys_deleted seat_key c.seats.delete.items) (mid 15) r (subst (λ l. Has l r) seats_end h)) turns.seats will.seats
+  seats_put = puts seats c.seats.put.items w9 refl refl refl (put_whole c all seats.tree) (λ r h. left_was seats.places (keys_deleted seat_key c.seats.delete.items) (mid seats.tree) r (subst (λ l. Has l r) seats_end h)) turns.seats will.seats
 
   gone_seats : Passes w10 (seats_deleted c) w11
   gone_seats = deletes seats delete_seat seat_key c.seats.delete.items w10 refl refl refl seats_end

@@ -9,7 +9,7 @@ use Rattle.exam_types.specs.declared.refusal.Refusal.{Refusal}
 use Rattle.exam_types.specs.declared.refusal.Refusal.TheVariants.{OldSchema}
 use Rattle.exam_tables.specs.Content.{ContainsIn}
 use Rattle.exam_tables.specs.Made.{ContainsMade, lists_marks, made_schema}
-use Rattle.exam_tables.proofs.Making.{marks_listed}
+use Rattle.exam_tables.proofs.AllTables.{marks_listed}
 use Rattle.exam_tables.specs.Texts.{held_texts, load_standing}
 use Rattle.exam_rows.specs.Faults.{is_store_refusal}
 use Rattle.exam_rows.specs.Inside.{Contains}

@@ -22,28 +22,29 @@ use Rattle.exam_tables.specs.Made.{ContainsMade}
 use Rattle.sqlite.proofs.Callers.{unchanged_then}
 use Rattle.exam_tables.specs.Texts.{load_office}
 use Rattle.exam_rows.proofs.Holding.{held_facts}
-use Rattle.exam_rows.specs.Rows.{session_row, paper_row, hall_row, candidate_row, opening_row, entry_row, arrangement_row, appeal_row, standing_row, seat_row}
+use Rattle.exam_rows.specs.Forms as forms
 use Rattle.exam_rows.specs.Writes.{all_saved}
 use Rattle.exam_store.specs.Saves.{TurnsTables}
 use Rattle.exam_rows.specs.Versions.{HasVersion, new_tables, IsMade, version}
 use Rattle.exam_rows.proofs.EachTree.{whole}
-use Rattle.exam_rows.proofs.SavedRows.{openings_named, seats_named, table_put, table_saved, sessions_match, papers_match, halls_match, openings_match, candidates_match, entries_match, arrangements_match, appeals_match, standing_match, seats_match}
+use Rattle.exam_rows.specs.OurTables.{sessions_ours, papers_ours, halls_ours, openings_ours, candidates_ours, entries_ours, arrangements_ours, appeals_ours, standing_ours, seats_ours}
+use Rattle.exam_rows.proofs.SavedRows.{openings_named, seats_named, table_put, table_saved}
 
 -- the rows of each table are those of the new office
 pub holds_after : (before after : State) (c : Changes) (all : Trees) → TurnsTables before after c → HoldsOffice all before → HoldsOffice (written (all_saved c) all) after
 holds_after before after c all turns was = record {
   facts = record {
-    sessions = subst (HoldsRows session_row after.relations.sessions) (sym (whole c all 1)) (table_put sessions_match _ _ _ _ turns.sessions was.facts.sessions);
-    papers = subst (HoldsRows paper_row after.relations.papers) (sym (whole c all 3)) (table_put papers_match _ _ _ _ turns.papers was.facts.papers);
-    halls = subst (HoldsRows hall_row after.relations.halls) (sym (whole c all 5)) (table_put halls_match _ _ _ _ turns.halls was.facts.halls);
-    openings = subst (HoldsRows opening_row after.relations.openings) (sym (whole c all 8)) (table_saved openings_match openings_named _ _ _ _ _ turns.openings was.facts.openings);
-    candidates = subst (HoldsRows candidate_row after.relations.candidates) (sym (whole c all 7)) (table_put candidates_match _ _ _ _ turns.candidates was.facts.candidates);
-    entries = subst (HoldsRows entry_row after.relations.entries) (sym (whole c all 10)) (table_put entries_match _ _ _ _ turns.entries was.facts.entries);
-    arrangements = subst (HoldsRows arrangement_row after.relations.arrangements) (sym (whole c all 12)) (table_put arrangements_match _ _ _ _ turns.arrangements was.facts.arrangements);
-    appeals = subst (HoldsRows appeal_row after.relations.appeals) (sym (whole c all 13)) (table_put appeals_match _ _ _ _ turns.appeals was.facts.appeals);
-    standing = subst (HoldsRows standing_row after.relations.standing) (sym (whole c all 17)) (table_put standing_match _ _ _ _ turns.standing was.facts.standing);
+    sessions = subst (HoldsRows forms.sessions.row after.relations.sessions) (sym (whole c all forms.sessions.tree)) (table_put sessions_ours.keys _ _ _ _ turns.sessions was.facts.sessions);
+    papers = subst (HoldsRows forms.papers.row after.relations.papers) (sym (whole c all forms.papers.tree)) (table_put papers_ours.keys _ _ _ _ turns.papers was.facts.papers);
+    halls = subst (HoldsRows forms.halls.row after.relations.halls) (sym (whole c all forms.halls.tree)) (table_put halls_ours.keys _ _ _ _ turns.halls was.facts.halls);
+    openings = subst (HoldsRows forms.openings.row after.relations.openings) (sym (whole c all forms.openings.tree)) (table_saved openings_ours.keys openings_named _ _ _ _ _ turns.openings was.facts.openings);
+    candidates = subst (HoldsRows forms.candidates.row after.relations.candidates) (sym (whole c all forms.candidates.tree)) (table_put candidates_ours.keys _ _ _ _ turns.candidates was.facts.candidates);
+    entries = subst (HoldsRows forms.entries.row after.relations.entries) (sym (whole c all forms.entries.tree)) (table_put entries_ours.keys _ _ _ _ turns.entries was.facts.entries);
+    arrangements = subst (HoldsRows forms.arrangements.row after.relations.arrangements) (sym (whole c all forms.arrangements.tree)) (table_put arrangements_ours.keys _ _ _ _ turns.arrangements was.facts.arrangements);
+    appeals = subst (HoldsRows forms.appeals.row after.relations.appeals) (sym (whole c all forms.appeals.tree)) (table_put appeals_ours.keys _ _ _ _ turns.appeals was.facts.appeals);
+    standing = subst (HoldsRows forms.standing.row after.relations.standing) (sym (whole c all forms.standing.tree)) (table_put standing_ours.keys _ _ _ _ turns.standing was.facts.standing);
   };
-  seats = subst (HoldsRows seat_row after.seats) (sym (whole c all 15)) (table_saved seats_match seats_named _ _ _ _ _ turns.seats was.seats);
+  seats = subst (HoldsRows forms.seats.row after.seats) (sym (whole c all forms.seats.tree)) (table_saved seats_ours.keys seats_named _ _ _ _ _ turns.seats was.seats);
 }
 
 pub rekeeps : (before after : State) (c : Changes) (old new : Database) → TurnsTables before after c → Becomes (all_saved c) old new → Rekeeps before after old new

@@ -8,7 +8,8 @@ use Rattle.sqlite_trees.specs.Tree.{Trees}
 use Rattle.sqlite_schema.specs.declared.schema.Table.{Table}
 use Rattle.sqlite.specs.Effect.{Database}
 use Rattle.exam_tables.specs.Content.{Holds, places}
-use Rattle.exam_tables.specs.Tables.{store_schema, stored_office, stored_session, stored_paper, stored_hall, stored_candidate, stored_opening, stored_entry, stored_arrangement, stored_appeal, stored_seat, stored_standing}
+use Rattle.exam_tables.specs.Tables as tables
+use Rattle.exam_tables.specs.Tables.{store_schema}
 use Rattle.exam_office.specs.State.{State}
 use Rattle.exam_rows.specs.Inside.{Contains}
 use Rattle.exam_store.specs.Kept.{HaveSameTables, Keeps}
@@ -27,7 +28,7 @@ carried (t ∷ tables) here there one other all same of_here of_there meant = (
 )
 
 -- what holds of each of the eleven tables
-each_table : (P : Table → Type 0) → P stored_office → P stored_session → P stored_paper → P stored_hall → P stored_candidate → P stored_opening → P stored_entry → P stored_arrangement → P stored_appeal → P stored_seat → P stored_standing → AllByRecursion P store_schema.tables
+each_table : (P : Table → Type 0) → P tables.office.table → P tables.session.table → P tables.paper.table → P tables.hall.table → P tables.candidate.table → P tables.opening.table → P tables.entry.table → P tables.arrangement.table → P tables.appeal.table → P tables.seat.table → P tables.standing.table → AllByRecursion P store_schema.tables
 unfolding store_schema
 each_table P office session paper hall candidate opening entry arrangement appeal seat standing = (office, (session, (paper, (hall, (candidate, (opening, (entry, (arrangement, (appeal, (seat, (standing, tt)))))))))))
 

@@ -4,15 +4,15 @@ use Rattle.sqlite_trees.specs.Tree.{Trees}
 use Rattle.sqlite.specs.Effect.{Database}
 use Rattle.sqlite.specs.State.{State, HasCleanDisk}
 use Rattle.exam_office.specs.State.{State as Office}
-use Rattle.exam_rows.specs.Held.{HoldsFacts, HoldsRows}
+use Rattle.exam_rows.specs.Forms as forms
+use Rattle.exam_rows.specs.Held.{HasRows, HoldsFacts}
 use Rattle.exam_rows.specs.Inside.{Contains, IsOurs}
-use Rattle.exam_rows.specs.Rows.{seat_row}
 use Rattle.exam_rows.specs.Versions.{ContainsOf, HasVersion, IsOlder, version}
 
 -- each table of facts has the rows of its relation, and the table of seats those of the plans
 pub record HoldsOffice (all : Trees) (office : Office) : Type 0 where
   pub facts : HoldsFacts all office.relations
-  pub seats : HoldsRows seat_row office.seats (all 15)
+  pub seats : HasRows forms.seats office.seats all
 
 -- the tables have the rows of the office, in any order, and the newest version
 pub record Keeps (db : Database) (office : Office) : Type 0 where

@@ -1,10 +1,13 @@
+pub mod AllTables
 pub mod Changes
 pub mod CreateFails
 pub mod Creates
 pub mod Deletes
+pub mod Edits
 pub mod Failing
 pub mod Fits
 pub mod InOrder
+pub mod Keying
 pub mod Keys
 pub mod KeysHold
 pub mod Loads
@@ -26,9 +29,7 @@ pub mod Quiet
 pub mod References
 pub mod RowLemmas
 pub mod SessionAppeals
-pub mod StatementFails
 pub mod Standing
+pub mod StatementFails
 pub mod Statements
-pub mod TableFacts
-pub mod Unrefused
 pub mod VersionFails

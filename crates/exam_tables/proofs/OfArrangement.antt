@@ -1,37 +1,40 @@
--- The table arrangement: what its texts mean, and what they do.
-use Rattle.std.proofs.Common.{◌≡◌, ◌⊎◌, IsTrue, lit≤, ℕ, ℤ, List, [], ◌∷◌, codes, map, length, false, Result, OnOk, Option, refl, Bool, true, Some, slice_get}
-use Rattle.std.specs.List.{AllByRecursion}
-use Rattle.std.specs.List.Sorted.{IsPermutation}
-use Rattle.sqlite_value.specs.declared.value.Value.TheVariants.{Null, Int}
-use Rattle.sqlite_value.specs.Order.{Row}
-use Rattle.sqlite_trees.specs.Tree.{Trees, with_tree}
-use Rattle.sqlite_sql.specs.Term.{Term, lit, col}
+-- The table arrangement: how it is made, what its texts mean, and what they do.
+use Rattle.std.proofs.Common.{Bool, List, [], codes, false, lit<, lit≤, refl, true, ℤ, ◌∷◌}
+use Rattle.sqlite_value.specs.declared.value.Value.TheVariants.{Int, Null}
+use Rattle.sqlite_value.specs.Order.{Row, value_cmp}
+use Rattle.sqlite_sql.specs.Term.{Term, col, lit}
 use Rattle.sqlite_schema.specs.declared.command.Conflict.TheVariants.{Replace}
-use Rattle.sqlite_schema.specs.declared.command.Command.TheVariants.{InsertOr, Select}
+use Rattle.sqlite_schema.specs.declared.command.Command.TheVariants.{InsertOr}
 use Rattle.sqlite_schema.specs.declared.command.Source.TheVariants.{Values}
 use Rattle.sqlite_tied.specs.Compute.{everything}
-use Rattle.sqlite.specs.declared.error.Error.{Error}
-use Rattle.sqlite.specs.declared.error.Error.TheVariants.{SqliteFailure}
-use Rattle.sqlite.specs.declared.error.ErrorCode.TheVariants.{OutOfMemory}
-use Rattle.sqlite.specs.Effect.{Database}
-use Rattle.sqlite.specs.Listing.{understood, reads_listing}
-use Rattle.sqlite.specs.State.{State, Executes, FailsToQuery, Shown, IsUnchanged}
-use Rattle.sqlite.proofs.Callers.{IsPlain, command_of}
-use Rattle.exam_tables.specs.Content.{ContainsIn, put}
-use Rattle.exam_tables.specs.Made.{made_schema, ContainsMade}
-use Rattle.exam_tables.specs.Plain.{one_table}
-use Rattle.exam_tables.specs.Refusals.{Refuses, RefusesRows, is_failure}
-use Rattle.exam_tables.specs.Tables.{store_schema, first_schema, stored_arrangement}
-use Rattle.exam_tables.specs.Texts.{put_arrangement, load_arrangement}
-use Rattle.exam_tables.proofs.Failing.{Answers, IsWhole, answers}
+use Rattle.sqlite.specs.Listing.{understood}
+use lib.Utf8.{encode}
+use Rattle.sqlite_trees.specs.Sound.{begins, fits_kind, is_free_name, same_name}
+use Rattle.exam_tables.specs.Loads.{IsLoad}
+use Rattle.exam_tables.specs.Made.{made_schema}
+use Rattle.exam_tables.specs.Tables.{arrangement, first_schema, made, store_schema}
 use Rattle.exam_tables.proofs.Fits.{Fits, fits_given}
-use Rattle.exam_tables.proofs.KeysHold as keys
-use Rattle.exam_tables.proofs.References.{Stand, refers}
 use Rattle.exam_tables.proofs.Keys.{cast_int, cast_null}
-use Rattle.exam_tables.proofs.Statements.{put_by, put_sets}
-use Rattle.exam_tables.proofs.QueryFails.{query_fails}
-use Rattle.exam_tables.proofs.Loads.{shown_by}
-use Rattle.exam_tables.proofs.TableFacts.{arrangement_keyed}
+use Rattle.exam_tables.proofs.Loads.{load_of}
+use Rattle.exam_tables.specs.Keyed.{IsKeyed}
+use Rattle.exam_tables.proofs.Edits.{Means, PutsRow, replaces}
+use Rattle.exam_tables.proofs.Keying.{by_rowid, or_false, or_twice}
+use Rattle.exam_tables.proofs.Making.{Adds, IsCreate, adds_by}
+use Rattle.exam_tables.proofs.Quiet.{IsQuery}
+
+-- the text that makes it is understood, and nothing forbids the table
+create : IsCreate (made arrangement.at) arrangement.create
+unfolding understood everything made
+create = (refl, refl, (refl, refl), (lit≤ tt, refl))
+
+pub adds : Adds arrangement
+unfolding everything encode value_cmp fits_kind is_free_name same_name begins lib.Ieee.is_nan lib.Ieee.lt made
+adds = adds_by arrangement create refl refl refl refl refl refl refl (arrangement.create, (refl, refl)) (arrangement.table.name, (refl, refl)) refl (lit< tt) (lit< tt) refl refl refl (lit< tt)
+
+-- it has one key, and no foreign key acts on its rows
+pub keyed : IsKeyed store_schema arrangement.at arrangement.table arrangement.key (0 ∷ [])
+unfolding store_schema
+keyed = by_rowid arrangement refl refl refl refl (λ a b. or_twice _) (λ a b. or_false _) (λ a b. refl)
 
 abbrev pub row : ℤ → ℤ → ℤ → Row
 row number needs extra = Int number ∷ Int needs ∷ Int extra ∷ []
@@ -40,69 +43,29 @@ row number needs extra = Int number ∷ Int needs ∷ Int extra ∷ []
 abbrev columns : ℤ → ℤ → ℤ → Row
 columns number needs extra = Null ∷ Int needs ∷ Int extra ∷ []
 
-fits : (number : ℤ) (needs : ℤ) (extra : ℤ) → Fits stored_arrangement (1 ∷ []) (Int number) (columns number needs extra) (row number needs extra)
-fits number needs extra = fits_given stored_arrangement (1 ∷ []) number (columns number needs extra) (row number needs extra) refl (simp (cast_null, cast_int)) refl (λ r. refl)
+fits : (number : ℤ) (needs : ℤ) (extra : ℤ) → Fits arrangement.table arrangement.key (Int number) (columns number needs extra) (row number needs extra)
+fits number needs extra = fits_given arrangement.table arrangement.key number (columns number needs extra) (row number needs extra) refl (simp (cast_null, cast_int)) refl (λ r. refl)
 
 abbrev terms : List Term
 terms = col 0 0 ∷ lit Null ∷ col 0 1 ∷ col 0 2 ∷ []
 
-abbrev pub put_text : List ℕ
-put_text = put_arrangement
-
-put_is : command_of (understood store_schema put_text) ≡ InsertOr 7 Replace (Values terms 4) []
+put_means : Means store_schema arrangement.put (InsertOr arrangement.at Replace (Values terms 4) []) 3
 unfolding understood everything store_schema
-put_is = refl
+put_means = (refl, (refl, refl), (lit≤ tt, refl))
 
-put_plain : IsPlain (understood store_schema put_text)
-unfolding understood everything store_schema
-put_plain = (refl, refl)
-
-pub puts : (old new : State) (number : ℤ) (needs : ℤ) (extra : ℤ) (r : Result ℕ Error) → Executes put_text (row number needs extra) old new r
-    → OnOk r ((all : Trees) → ContainsIn store_schema old.now all → ContainsIn store_schema new.now (with_tree all 12 (put (1 ∷ []) (Null ∷ row number needs extra) (all 12))))
-puts old new number needs extra r h = put_by store_schema 7 stored_arrangement (1 ∷ []) (0 ∷ []) arrangement_keyed put_text terms 4 put_is put_plain old new (row number needs extra) r (Int number) (columns number needs extra) (row number needs extra) (fits number needs extra) refl h
-
-put_whole : IsWhole put_text 3 (understood store_schema put_text)
-unfolding understood everything store_schema
-put_whole = (lit≤ tt, refl)
-
-pub put_answers : (old new : State) (number : ℤ) (needs : ℤ) (extra : ℤ) → old.now.schema ≡ store_schema → Answers put_text (row number needs extra) old new
-put_answers old new number needs extra has = answers put_text (row number needs extra) old new store_schema has _ put_is tt put_plain put_whole
-
--- where each row then has what it refers to, no foreign key refuses the put
-pub put_refused : (limit : Option ℕ) (db : Database) (all : Trees) (number : ℤ) (needs : ℤ) (extra : ℤ) → ContainsIn store_schema db all → Stand (with_tree all 12 (put (1 ∷ []) (Null ∷ row number needs extra) (all 12))) → Refuses limit db put_text (row number needs extra) → RefusesRows limit db put_text (row number needs extra)
-put_refused limit db all number needs extra was stand = keys.put_refused store_schema 7 stored_arrangement (1 ∷ []) (0 ∷ []) arrangement_keyed limit db all was put_text Replace [] terms 4 put_is put_plain (row number needs extra) (row number needs extra)
-    (put_sets store_schema 7 stored_arrangement (1 ∷ []) (0 ∷ []) arrangement_keyed limit terms 4 (row number needs extra) (Int number) (columns number needs extra) (row number needs extra) (fits number needs extra) refl) (λ next holds. refers next _ holds stand)
-
-abbrev pub load_text : List ℕ
-load_text = load_arrangement
+-- the row replaces the one with its key
+pub puts : (number : ℤ) (needs : ℤ) (extra : ℤ) → PutsRow arrangement.table.tree arrangement.key arrangement.put (row number needs extra)
+puts number needs extra = replaces keyed arrangement.put terms 4 (Int number) (columns number needs extra) (row number needs extra) (fits number needs extra) refl put_means
 
 abbrev shown_terms : List Term
 shown_terms = col 1 0 ∷ col 1 2 ∷ col 1 3 ∷ []
 
-load_place : (has_marks : Bool) → slice_get (made_schema has_marks).tables 7 ≡ Some stored_arrangement
-unfolding store_schema first_schema
-load_place true = refl
-load_place false = refl
-
-load_is : (has_marks : Bool) → command_of (understood (made_schema has_marks) load_text) ≡ Select (record { lets = []; body = one_table 12 [] shown_terms [] }) (codes "number" ∷ codes "needs" ∷ codes "extra" ∷ [])
+-- the text that loads shows each column, with the table of marks or without it
+pub loads : (has_marks : Bool) → IsLoad (made_schema has_marks) arrangement.table.tree arrangement.load
 unfolding understood everything store_schema first_schema
-load_is true = refl
-load_is false = refl
+loads true = load_of (made_schema true) arrangement.at arrangement.table arrangement.load shown_terms (codes "number" ∷ codes "needs" ∷ codes "extra" ∷ []) refl refl (refl, refl) refl (λ db. refl) (λ r. refl)
+loads false = load_of (made_schema false) arrangement.at arrangement.table arrangement.load shown_terms (codes "number" ∷ codes "needs" ∷ codes "extra" ∷ []) refl refl (refl, refl) refl (λ db. refl) (λ r. refl)
 
-load_plain : (has_marks : Bool) → IsPlain (understood (made_schema has_marks) load_text)
-unfolding understood everything store_schema first_schema
-load_plain true = (refl, refl)
-load_plain false = (refl, refl)
-
-load_unlisted : (has_marks : Bool) → reads_listing (made_schema has_marks) load_text ≡ false
-unfolding understood everything store_schema first_schema
-load_unlisted true = refl
-load_unlisted false = refl
-
-pub shows : (old new : State) (rows : List Row) (all : Trees) → ContainsMade old.now all → Shown load_text [] old new rows
-    → IsPermutation (all 12) (map (λ r. Null ∷ r) rows) × AllByRecursion (λ r. length r ≡ 3) rows × IsUnchanged old new
-shows old new rows all was = shown_by (made_schema was.has_marks) 7 stored_arrangement (load_place was.has_marks) load_text shown_terms [] _ (load_is was.has_marks) (load_plain was.has_marks) (load_unlisted was.has_marks) (λ db. refl) (λ r. refl) refl old new rows all was.contains
-
--- where it fails, the text was understood
-pub load_fails : (old new : State) (has_marks : Bool) → old.now.schema ≡ made_schema has_marks → (e : Error) → FailsToQuery load_text [] old new e → (e ≡ SqliteFailure OutOfMemory) ⊎ IsTrue (is_failure e)
-load_fails old new has_marks has e h = query_fails load_text [] old new (made_schema has_marks) has (load_plain has_marks) e h
+pub is_query : IsQuery arrangement.load
+unfolding everything
+is_query schema base = refl

@@ -1,42 +1,49 @@
--- The table candidate: what its texts mean, and what they do.
-use Rattle.std.proofs.Common.{◌≡◌, ◌⊎◌, IsTrue, lit≤, ℕ, ℤ, List, [], ◌∷◌, ◌++◌, codes, map, length, true, false, Result, OnOk, Option, refl, Bool, Some, slice_get}
-use Rattle.std.specs.List.{AllByRecursion, list_all}
-use Rattle.std.specs.List.Sorted.{IsPermutation}
-use Rattle.sqlite_value.specs.declared.value.Value.TheVariants.{Null, Int, Text}
-use Rattle.sqlite_value.specs.declared.keys.Collation.TheVariants.{Binary}
-use Rattle.sqlite_value.specs.Order.{Row}
-use Rattle.sqlite_value.specs.Keys.{first_key}
-use Rattle.sqlite_trees.specs.Tree.{Trees, rowid, with_tree}
-use Rattle.sqlite_sql.specs.Term.{Term, lit, col, op2, eval_all, holds}
-use Rattle.sqlite_sql.specs.declared.ops.BinaryOp.TheVariants.{Compare}
-use Rattle.sqlite_sql.specs.declared.ops.CompareOp.TheVariants.{Eq}
+-- The table candidate: how it is made, what its texts mean, and what they do.
+use Rattle.std.proofs.Common.{Bool, List, [], codes, false, lit<, lit≤, refl, true, ℕ, ℤ, ◌++◌, ◌∷◌, ◌≡◌}
+use Rattle.std.specs.List.{list_all}
+use Rattle.sqlite_value.specs.declared.value.Value.TheVariants.{Int, Null, Text}
+use Rattle.sqlite_value.specs.Order.{Row, value_cmp}
+use Rattle.sqlite_trees.specs.Tree.{rowid}
+use Rattle.sqlite_sql.specs.Term.{Term, col, eval_all, holds, lit, op2}
 use Rattle.sqlite_schema.specs.declared.command.Conflict.TheVariants.{Abort}
-use Rattle.sqlite_schema.specs.declared.command.Command.TheVariants.{InsertOr, Select}
+use Rattle.sqlite_schema.specs.declared.command.Command.TheVariants.{InsertOr}
 use Rattle.sqlite_schema.specs.declared.command.Source.TheVariants.{Values}
 use Rattle.sqlite_tied.specs.Compute.{everything}
-use Rattle.sqlite.specs.declared.error.Error.{Error}
-use Rattle.sqlite.specs.declared.error.Error.TheVariants.{SqliteFailure}
-use Rattle.sqlite.specs.declared.error.ErrorCode.TheVariants.{OutOfMemory}
+use Rattle.sqlite.specs.Listing.{understood}
+use Rattle.sqlite_value.specs.declared.keys.Collation.TheVariants.{Binary}
+use Rattle.sqlite_value.specs.Keys.{first_key}
+use Rattle.sqlite_sql.specs.declared.ops.BinaryOp.TheVariants.{Compare}
+use Rattle.sqlite_sql.specs.declared.ops.CompareOp.TheVariants.{Eq}
 use Rattle.sqlite.specs.Rows.{shown}
-use Rattle.sqlite.specs.Effect.{Database}
-use Rattle.sqlite.specs.Listing.{understood, reads_listing}
-use Rattle.sqlite.specs.State.{State, Executes, FailsToQuery, Shown, IsUnchanged}
-use Rattle.sqlite.proofs.Callers.{IsPlain, command_of}
-use Rattle.exam_tables.specs.Content.{ContainsIn, places, bare, put, same_key, same_rowid}
-use Rattle.exam_tables.specs.Made.{made_schema, ContainsMade}
-use Rattle.exam_tables.specs.Plain.{one_table, on_conflict}
-use Rattle.exam_tables.specs.Refusals.{Refuses, RefusesRows, is_failure}
-use Rattle.exam_tables.specs.Tables.{store_schema, first_schema, stored_candidate}
-use Rattle.exam_tables.specs.Texts.{put_candidate, load_candidate}
-use Rattle.exam_tables.proofs.Failing.{Answers, IsWhole, answers}
+use lib.Utf8.{encode}
+use Rattle.sqlite_trees.specs.Sound.{begins, fits_kind, is_free_name, same_name}
+use Rattle.exam_tables.specs.Content.{bare, places, same_key, same_rowid}
+use Rattle.exam_tables.specs.Loads.{IsLoad}
+use Rattle.exam_tables.specs.Made.{made_schema}
+use Rattle.exam_tables.specs.Tables.{candidate, first_schema, made, store_schema}
 use Rattle.exam_tables.proofs.Fits.{Fits, fits_given}
-use Rattle.exam_tables.proofs.KeysHold as keys
-use Rattle.exam_tables.proofs.References.{Stand, refers}
 use Rattle.exam_tables.proofs.Keys.{cast_null}
-use Rattle.exam_tables.proofs.Statements.{upsert_by, upsert_sets}
-use Rattle.exam_tables.proofs.QueryFails.{query_fails}
-use Rattle.exam_tables.proofs.Loads.{shown_by}
-use Rattle.exam_tables.proofs.TableFacts.{candidate_keyed}
+use Rattle.exam_tables.proofs.Loads.{load_of}
+use Rattle.exam_tables.specs.Plain.{on_conflict}
+use Rattle.exam_tables.specs.Keyed.{IsKeyed}
+use Rattle.exam_tables.proofs.Edits.{Means, PutsRow, upserts}
+use Rattle.exam_tables.proofs.Keying.{by_rowid, or_false, or_twice}
+use Rattle.exam_tables.proofs.Making.{Adds, IsCreate, adds_by}
+use Rattle.exam_tables.proofs.Quiet.{IsQuery}
+
+-- the text that makes it is understood, and nothing forbids the table
+create : IsCreate (made candidate.at) candidate.create
+unfolding understood everything made
+create = (refl, refl, (refl, refl), (lit≤ tt, refl))
+
+pub adds : Adds candidate
+unfolding everything encode value_cmp fits_kind is_free_name same_name begins lib.Ieee.is_nan lib.Ieee.lt made
+adds = adds_by candidate create refl refl refl refl refl refl refl (candidate.create, (refl, refl)) (candidate.table.name, (refl, refl)) refl (lit< tt) (lit< tt) refl refl refl (lit< tt)
+
+-- it has one key, and no foreign key acts on its rows
+pub keyed : IsKeyed store_schema candidate.at candidate.table candidate.key (0 ∷ [])
+unfolding store_schema
+keyed = by_rowid candidate refl refl refl refl (λ a b. or_twice _) (λ a b. or_false _) (λ a b. refl)
 
 abbrev pub row : ℤ → (List ℕ) → (List ℕ) → Row
 row number name code = Int number ∷ Text name ∷ Text code ∷ []
@@ -45,14 +52,11 @@ row number name code = Int number ∷ Text name ∷ Text code ∷ []
 abbrev columns : ℤ → (List ℕ) → (List ℕ) → Row
 columns number name code = Null ∷ Text name ∷ Text code ∷ []
 
-fits : (number : ℤ) (name : List ℕ) (code : List ℕ) → Fits stored_candidate (1 ∷ []) (Int number) (columns number name code) (row number name code)
-fits number name code = fits_given stored_candidate (1 ∷ []) number (columns number name code) (row number name code) refl (simp (cast_null)) refl (λ r. refl)
+fits : (number : ℤ) (name : List ℕ) (code : List ℕ) → Fits candidate.table candidate.key (Int number) (columns number name code) (row number name code)
+fits number name code = fits_given candidate.table candidate.key number (columns number name code) (row number name code) refl (simp (cast_null)) refl (λ r. refl)
 
 abbrev terms : List Term
 terms = col 0 0 ∷ lit Null ∷ col 0 1 ∷ col 0 2 ∷ []
-
-abbrev pub put_text : List ℕ
-put_text = put_candidate
 
 -- the row that is there
 abbrev there : List Term
@@ -62,69 +66,31 @@ there = op2 (Compare Eq Binary) (col 1 0) (col 0 3) ∷ []
 abbrev project : List Term
 project = col 1 0 ∷ col 1 0 ∷ lit Null ∷ col 0 6 ∷ col 0 7 ∷ []
 
-put_is : command_of (understood store_schema put_text) ≡ InsertOr 4 Abort (Values terms 4) (on_conflict (0 ∷ []) 7 there project ∷ [])
+put_means : Means store_schema candidate.put (InsertOr candidate.at Abort (Values terms 4) (on_conflict (0 ∷ []) candidate.table.tree there project ∷ [])) 3
 unfolding understood everything store_schema
-put_is = refl
+put_means = (refl, (refl, refl), (lit≤ tt, refl))
 
-put_plain : IsPlain (understood store_schema put_text)
-unfolding understood everything store_schema
-put_plain = (refl, refl)
-
-picked : (number : ℤ) (name : List ℕ) (code : List ℕ) (t r : Row) (id : ℤ) → list_all (holds ((row number name code ++ rowid t ∷ shown stored_candidate (Int id ∷ columns number name code)) ∷ r ∷ [])) there ≡ same_rowid r t
+picked : (number : ℤ) (name : List ℕ) (code : List ℕ) (t r : Row) (id : ℤ) → list_all (holds ((row number name code ++ rowid t ∷ shown candidate.table (Int id ∷ columns number name code)) ∷ r ∷ [])) there ≡ same_rowid r t
 unfolding first_key
 picked number name code t r id = refl
 
-written : (number : ℤ) (name : List ℕ) (code : List ℕ) (t : Row) (id : ℤ) → same_key (1 ∷ []) (bare (places stored_candidate) t) (Null ∷ row number name code) ≡ true
-    → eval_all project ((row number name code ++ rowid t ∷ shown stored_candidate (Int id ∷ columns number name code)) ∷ t ∷ []) ≡ rowid t ∷ rowid t ∷ columns number name code
+written : (number : ℤ) (name : List ℕ) (code : List ℕ) (t : Row) (id : ℤ) → same_key candidate.key (bare (places candidate.table) t) (Null ∷ row number name code) ≡ true
+    → eval_all project ((row number name code ++ rowid t ∷ shown candidate.table (Int id ∷ columns number name code)) ∷ t ∷ []) ≡ rowid t ∷ rowid t ∷ columns number name code
 written number name code t id same = refl
 
-pub puts : (old new : State) (number : ℤ) (name : List ℕ) (code : List ℕ) (r : Result ℕ Error) → Executes put_text (row number name code) old new r
-    → OnOk r ((all : Trees) → ContainsIn store_schema old.now all → ContainsIn store_schema new.now (with_tree all 7 (put (1 ∷ []) (Null ∷ row number name code) (all 7))))
-puts old new number name code r h = upsert_by store_schema 4 stored_candidate (1 ∷ []) (0 ∷ []) candidate_keyed put_text terms 4 there project put_is put_plain (λ db. refl) old new (row number name code) r (Int number) (columns number name code) (row number name code) (fits number name code) refl
-    (picked number name code) (written number name code) h
-
-put_whole : IsWhole put_text 3 (understood store_schema put_text)
-unfolding understood everything store_schema
-put_whole = (lit≤ tt, refl)
-
-pub put_answers : (old new : State) (number : ℤ) (name : List ℕ) (code : List ℕ) → old.now.schema ≡ store_schema → Answers put_text (row number name code) old new
-put_answers old new number name code has = answers put_text (row number name code) old new store_schema has _ put_is tt put_plain put_whole
-
--- where each row then has what it refers to, no foreign key refuses the put
-pub put_refused : (limit : Option ℕ) (db : Database) (all : Trees) (number : ℤ) (name : List ℕ) (code : List ℕ) → ContainsIn store_schema db all → Stand (with_tree all 7 (put (1 ∷ []) (Null ∷ row number name code) (all 7))) → Refuses limit db put_text (row number name code) → RefusesRows limit db put_text (row number name code)
-put_refused limit db all number name code was stand = keys.put_refused store_schema 4 stored_candidate (1 ∷ []) (0 ∷ []) candidate_keyed limit db all was put_text Abort (on_conflict (0 ∷ []) 7 there project ∷ []) terms 4 put_is put_plain (row number name code) (row number name code)
-    (upsert_sets store_schema 4 stored_candidate (1 ∷ []) (0 ∷ []) candidate_keyed limit terms 4 there project (λ db. refl) (row number name code) (Int number) (columns number name code) (row number name code) (fits number name code) refl (picked number name code) (written number name code)) (λ next holds. refers next _ holds stand)
-
-abbrev pub load_text : List ℕ
-load_text = load_candidate
+-- the row replaces the one with its key
+pub puts : (number : ℤ) (name : List ℕ) (code : List ℕ) → PutsRow candidate.table.tree candidate.key candidate.put (row number name code)
+puts number name code = upserts keyed candidate.put terms 4 (Int number) (columns number name code) (row number name code) (fits number name code) refl there project put_means (λ db. refl) (picked number name code) (written number name code)
 
 abbrev shown_terms : List Term
 shown_terms = col 1 0 ∷ col 1 2 ∷ col 1 3 ∷ []
 
-load_place : (has_marks : Bool) → slice_get (made_schema has_marks).tables 4 ≡ Some stored_candidate
-unfolding store_schema first_schema
-load_place true = refl
-load_place false = refl
-
-load_is : (has_marks : Bool) → command_of (understood (made_schema has_marks) load_text) ≡ Select (record { lets = []; body = one_table 7 [] shown_terms [] }) (codes "number" ∷ codes "name" ∷ codes "code" ∷ [])
+-- the text that loads shows each column, with the table of marks or without it
+pub loads : (has_marks : Bool) → IsLoad (made_schema has_marks) candidate.table.tree candidate.load
 unfolding understood everything store_schema first_schema
-load_is true = refl
-load_is false = refl
+loads true = load_of (made_schema true) candidate.at candidate.table candidate.load shown_terms (codes "number" ∷ codes "name" ∷ codes "code" ∷ []) refl refl (refl, refl) refl (λ db. refl) (λ r. refl)
+loads false = load_of (made_schema false) candidate.at candidate.table candidate.load shown_terms (codes "number" ∷ codes "name" ∷ codes "code" ∷ []) refl refl (refl, refl) refl (λ db. refl) (λ r. refl)
 
-load_plain : (has_marks : Bool) → IsPlain (understood (made_schema has_marks) load_text)
-unfolding understood everything store_schema first_schema
-load_plain true = (refl, refl)
-load_plain false = (refl, refl)
-
-load_unlisted : (has_marks : Bool) → reads_listing (made_schema has_marks) load_text ≡ false
-unfolding understood everything store_schema first_schema
-load_unlisted true = refl
-load_unlisted false = refl
-
-pub shows : (old new : State) (rows : List Row) (all : Trees) → ContainsMade old.now all → Shown load_text [] old new rows
-    → IsPermutation (all 7) (map (λ r. Null ∷ r) rows) × AllByRecursion (λ r. length r ≡ 3) rows × IsUnchanged old new
-shows old new rows all was = shown_by (made_schema was.has_marks) 4 stored_candidate (load_place was.has_marks) load_text shown_terms [] _ (load_is was.has_marks) (load_plain was.has_marks) (load_unlisted was.has_marks) (λ db. refl) (λ r. refl) refl old new rows all was.contains
-
--- where it fails, the text was understood
-pub load_fails : (old new : State) (has_marks : Bool) → old.now.schema ≡ made_schema has_marks → (e : Error) → FailsToQuery load_text [] old new e → (e ≡ SqliteFailure OutOfMemory) ⊎ IsTrue (is_failure e)
-load_fails old new has_marks has e h = query_fails load_text [] old new (made_schema has_marks) has (load_plain has_marks) e h
+pub is_query : IsQuery candidate.load
+unfolding everything
+is_query schema base = refl

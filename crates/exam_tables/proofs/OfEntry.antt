@@ -1,108 +1,69 @@
--- The table entry: what its texts mean, and what they do.
-use Rattle.std.proofs.Common.{◌≡◌, ◌⊎◌, IsTrue, lit≤, ℕ, ℤ, List, [], ◌∷◌, codes, map, length, false, Result, OnOk, Option, refl, Bool, true, Some, slice_get}
-use Rattle.std.specs.List.{AllByRecursion}
-use Rattle.std.specs.List.Sorted.{IsPermutation}
-use Rattle.sqlite_value.specs.declared.value.Value.TheVariants.{Null, Int, Text}
-use Rattle.sqlite_value.specs.Order.{Row}
-use Rattle.sqlite_trees.specs.Tree.{Trees, with_tree}
-use Rattle.sqlite_sql.specs.Term.{Term, lit, col}
+-- The table entry: how it is made, what its texts mean, and what they do.
+use Rattle.std.proofs.Common.{Bool, List, [], ap, codes, false, lit<, lit≤, refl, true, ℕ, ℤ, ◌||◌, ◌∷◌}
+use Rattle.std.proofs.lemmas.Bool.{and_parts, not-true}
+use Rattle.sqlite_value.specs.declared.value.Value.TheVariants.{Int, Null, Text}
+use Rattle.sqlite_value.specs.Order.{Row, value_cmp}
+use Rattle.sqlite_sql.specs.Term.{Term, col, lit}
 use Rattle.sqlite_schema.specs.declared.command.Conflict.TheVariants.{Replace}
-use Rattle.sqlite_schema.specs.declared.command.Command.TheVariants.{InsertOr, Select}
+use Rattle.sqlite_schema.specs.declared.command.Command.TheVariants.{InsertOr}
 use Rattle.sqlite_schema.specs.declared.command.Source.TheVariants.{Values}
 use Rattle.sqlite_tied.specs.Compute.{everything}
-use Rattle.sqlite.specs.declared.error.Error.{Error}
-use Rattle.sqlite.specs.declared.error.Error.TheVariants.{SqliteFailure}
-use Rattle.sqlite.specs.declared.error.ErrorCode.TheVariants.{OutOfMemory}
-use Rattle.sqlite.specs.Effect.{Database}
-use Rattle.sqlite.specs.Listing.{understood, reads_listing}
-use Rattle.sqlite.specs.State.{State, Executes, FailsToQuery, Shown, IsUnchanged}
-use Rattle.sqlite.proofs.Callers.{IsPlain, command_of}
-use Rattle.exam_tables.specs.Content.{ContainsIn, put}
-use Rattle.exam_tables.specs.Made.{made_schema, ContainsMade}
-use Rattle.exam_tables.specs.Plain.{one_table}
-use Rattle.exam_tables.specs.Refusals.{Refuses, RefusesRows, is_failure}
-use Rattle.exam_tables.specs.Tables.{store_schema, first_schema, stored_entry}
-use Rattle.exam_tables.specs.Texts.{put_entry, load_entry}
-use Rattle.exam_tables.proofs.Failing.{Answers, IsWhole, answers}
+use Rattle.sqlite.specs.Listing.{understood}
+use lib.Utf8.{encode}
+use Rattle.sqlite_trees.specs.Sound.{begins, fits_kind, is_free_name, same_name}
+use Rattle.exam_tables.specs.Content.{same_rowid}
+use Rattle.exam_tables.specs.Loads.{IsLoad}
+use Rattle.exam_tables.specs.Made.{made_schema}
+use Rattle.exam_tables.specs.Tables.{entry, first_schema, made, store_schema}
 use Rattle.exam_tables.proofs.Fits.{Fits, fits_chosen}
-use Rattle.exam_tables.proofs.KeysHold as keys
-use Rattle.exam_tables.proofs.References.{Stand, refers}
 use Rattle.exam_tables.proofs.Keys.{cast_int}
-use Rattle.exam_tables.proofs.Statements.{put_by, put_sets}
-use Rattle.exam_tables.proofs.QueryFails.{query_fails}
-use Rattle.exam_tables.proofs.Loads.{shown_by}
-use Rattle.exam_tables.proofs.TableFacts.{entry_keyed}
+use Rattle.exam_tables.proofs.Loads.{load_of}
+use Rattle.exam_tables.specs.Keyed.{IsKeyed}
+use Rattle.exam_tables.proofs.Edits.{Means, PutsRow, replaces}
+use Rattle.exam_tables.proofs.Keying.{by_index, or_false}
+use Rattle.exam_tables.proofs.Making.{Adds, IsCreate, adds_by}
+use Rattle.exam_tables.proofs.Quiet.{IsQuery}
+
+-- the text that makes it is understood, and nothing forbids the table
+create : IsCreate (made entry.at) entry.create
+unfolding understood everything made
+create = (refl, refl, (refl, refl), (lit≤ tt, refl))
+
+pub adds : Adds entry
+unfolding everything encode value_cmp fits_kind is_free_name same_name begins lib.Ieee.is_nan lib.Ieee.lt made
+adds = adds_by entry create refl refl refl refl refl refl refl (entry.create, (refl, refl)) (entry.table.name, (refl, refl)) refl (lit< tt) (lit< tt) refl refl refl (lit< tt)
+
+-- it has one key, and no foreign key acts on its rows
+pub keyed : IsKeyed store_schema entry.at entry.table entry.key entry.key
+unfolding store_schema
+keyed = by_index entry refl refl refl refl (λ a b. ap (λ x. same_rowid a b || x) (or_false _)) (λ a b. or_false _) (λ db s h. not-true _ (and_parts _ _ h).0)
 
 abbrev pub row : ℤ → (List ℕ) → ℤ → Row
 row number paper live = Int number ∷ Text paper ∷ Int live ∷ []
 
--- the row as it is kept, after its rowid
-abbrev columns : ℤ → (List ℕ) → ℤ → Row
-columns number paper live = Int number ∷ Text paper ∷ Int live ∷ []
-
-fits : (number : ℤ) (paper : List ℕ) (live : ℤ) → Fits stored_entry (1 ∷ 2 ∷ []) (Null) (columns number paper live) (row number paper live)
-fits number paper live = fits_chosen stored_entry (1 ∷ 2 ∷ []) (row number paper live) refl (simp (cast_int)) (λ v. refl)
+fits : (number : ℤ) (paper : List ℕ) (live : ℤ) → Fits entry.table entry.key Null (row number paper live) (row number paper live)
+fits number paper live = fits_chosen entry.table entry.key (row number paper live) refl (simp (cast_int)) (λ v. refl)
 
 abbrev terms : List Term
 terms = lit Null ∷ col 0 0 ∷ col 0 1 ∷ col 0 2 ∷ []
 
-abbrev pub put_text : List ℕ
-put_text = put_entry
-
-put_is : command_of (understood store_schema put_text) ≡ InsertOr 6 Replace (Values terms 4) []
+put_means : Means store_schema entry.put (InsertOr entry.at Replace (Values terms 4) []) 3
 unfolding understood everything store_schema
-put_is = refl
+put_means = (refl, (refl, refl), (lit≤ tt, refl))
 
-put_plain : IsPlain (understood store_schema put_text)
-unfolding understood everything store_schema
-put_plain = (refl, refl)
-
-pub puts : (old new : State) (number : ℤ) (paper : List ℕ) (live : ℤ) (r : Result ℕ Error) → Executes put_text (row number paper live) old new r
-    → OnOk r ((all : Trees) → ContainsIn store_schema old.now all → ContainsIn store_schema new.now (with_tree all 10 (put (1 ∷ 2 ∷ []) (Null ∷ row number paper live) (all 10))))
-puts old new number paper live r h = put_by store_schema 6 stored_entry (1 ∷ 2 ∷ []) (1 ∷ 2 ∷ []) entry_keyed put_text terms 4 put_is put_plain old new (row number paper live) r (Null) (columns number paper live) (row number paper live) (fits number paper live) refl h
-
-put_whole : IsWhole put_text 3 (understood store_schema put_text)
-unfolding understood everything store_schema
-put_whole = (lit≤ tt, refl)
-
-pub put_answers : (old new : State) (number : ℤ) (paper : List ℕ) (live : ℤ) → old.now.schema ≡ store_schema → Answers put_text (row number paper live) old new
-put_answers old new number paper live has = answers put_text (row number paper live) old new store_schema has _ put_is tt put_plain put_whole
-
--- where each row then has what it refers to, no foreign key refuses the put
-pub put_refused : (limit : Option ℕ) (db : Database) (all : Trees) (number : ℤ) (paper : List ℕ) (live : ℤ) → ContainsIn store_schema db all → Stand (with_tree all 10 (put (1 ∷ 2 ∷ []) (Null ∷ row number paper live) (all 10))) → Refuses limit db put_text (row number paper live) → RefusesRows limit db put_text (row number paper live)
-put_refused limit db all number paper live was stand = keys.put_refused store_schema 6 stored_entry (1 ∷ 2 ∷ []) (1 ∷ 2 ∷ []) entry_keyed limit db all was put_text Replace [] terms 4 put_is put_plain (row number paper live) (row number paper live)
-    (put_sets store_schema 6 stored_entry (1 ∷ 2 ∷ []) (1 ∷ 2 ∷ []) entry_keyed limit terms 4 (row number paper live) (Null) (columns number paper live) (row number paper live) (fits number paper live) refl) (λ next holds. refers next _ holds stand)
-
-abbrev pub load_text : List ℕ
-load_text = load_entry
+-- the row replaces the one with its key
+pub puts : (number : ℤ) (paper : List ℕ) (live : ℤ) → PutsRow entry.table.tree entry.key entry.put (row number paper live)
+puts number paper live = replaces keyed entry.put terms 4 Null (row number paper live) (row number paper live) (fits number paper live) refl put_means
 
 abbrev shown_terms : List Term
 shown_terms = col 1 1 ∷ col 1 2 ∷ col 1 3 ∷ []
 
-load_place : (has_marks : Bool) → slice_get (made_schema has_marks).tables 6 ≡ Some stored_entry
-unfolding store_schema first_schema
-load_place true = refl
-load_place false = refl
-
-load_is : (has_marks : Bool) → command_of (understood (made_schema has_marks) load_text) ≡ Select (record { lets = []; body = one_table 10 [] shown_terms [] }) (codes "number" ∷ codes "paper" ∷ codes "live" ∷ [])
+-- the text that loads shows each column, with the table of marks or without it
+pub loads : (has_marks : Bool) → IsLoad (made_schema has_marks) entry.table.tree entry.load
 unfolding understood everything store_schema first_schema
-load_is true = refl
-load_is false = refl
+loads true = load_of (made_schema true) entry.at entry.table entry.load shown_terms (codes "number" ∷ codes "paper" ∷ codes "live" ∷ []) refl refl (refl, refl) refl (λ db. refl) (λ r. refl)
+loads false = load_of (made_schema false) entry.at entry.table entry.load shown_terms (codes "number" ∷ codes "paper" ∷ codes "live" ∷ []) refl refl (refl, refl) refl (λ db. refl) (λ r. refl)
 
-load_plain : (has_marks : Bool) → IsPlain (understood (made_schema has_marks) load_text)
-unfolding understood everything store_schema first_schema
-load_plain true = (refl, refl)
-load_plain false = (refl, refl)
-
-load_unlisted : (has_marks : Bool) → reads_listing (made_schema has_marks) load_text ≡ false
-unfolding understood everything store_schema first_schema
-load_unlisted true = refl
-load_unlisted false = refl
-
-pub shows : (old new : State) (rows : List Row) (all : Trees) → ContainsMade old.now all → Shown load_text [] old new rows
-    → IsPermutation (all 10) (map (λ r. Null ∷ r) rows) × AllByRecursion (λ r. length r ≡ 3) rows × IsUnchanged old new
-shows old new rows all was = shown_by (made_schema was.has_marks) 6 stored_entry (load_place was.has_marks) load_text shown_terms [] _ (load_is was.has_marks) (load_plain was.has_marks) (load_unlisted was.has_marks) (λ db. refl) (λ r. refl) refl old new rows all was.contains
-
--- where it fails, the text was understood
-pub load_fails : (old new : State) (has_marks : Bool) → old.now.schema ≡ made_schema has_marks → (e : Error) → FailsToQuery load_text [] old new e → (e ≡ SqliteFailure OutOfMemory) ⊎ IsTrue (is_failure e)
-load_fails old new has_marks has e h = query_fails load_text [] old new (made_schema has_marks) has (load_plain has_marks) e h
+pub is_query : IsQuery entry.load
+unfolding everything
+is_query schema base = refl

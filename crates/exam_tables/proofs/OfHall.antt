@@ -1,59 +1,59 @@
--- The table hall: what its texts mean, and what they do.
-use Rattle.std.proofs.Common.{◌≡◌, ◌⊎◌, IsTrue, lit≤, ℕ, ℤ, List, [], ◌∷◌, ◌++◌, codes, map, length, true, false, Result, OnOk, Option, refl, ap, Bool, Some, slice_get}
-use Rattle.std.specs.List.{AllByRecursion, list_all}
-use Rattle.std.specs.List.Sorted.{IsPermutation}
-use Rattle.std.proofs.lemmas.Bool.{and_parts}
-use Rattle.sqlite_value.specs.declared.value.Value.TheVariants.{Null, Int, Text}
-use Rattle.sqlite_value.specs.declared.keys.Collation.TheVariants.{Binary}
-use Rattle.sqlite_value.specs.Order.{Row}
-use Rattle.sqlite_value.specs.Keys.{first_key}
-use Rattle.sqlite_trees.specs.Tree.{Trees, rowid, with_tree}
-use Rattle.sqlite_sql.specs.Term.{Term, lit, col, op2, eval_all, holds}
-use Rattle.sqlite_sql.specs.declared.ops.BinaryOp.TheVariants.{Compare}
-use Rattle.sqlite_sql.specs.declared.ops.CompareOp.TheVariants.{Eq}
+-- The table hall: how it is made, what its texts mean, and what they do.
+use Rattle.std.proofs.Common.{Bool, List, [], ap, codes, false, lit<, lit≤, refl, true, ℕ, ℤ, ◌++◌, ◌||◌, ◌∷◌, ◌≡◌}
+use Rattle.std.specs.List.{list_all}
+use Rattle.std.proofs.lemmas.Bool.{and_parts, not-true}
+use Rattle.sqlite_value.specs.declared.value.Value.TheVariants.{Int, Null, Text}
+use Rattle.sqlite_value.specs.Order.{Row, value_cmp}
+use Rattle.sqlite_trees.specs.Tree.{rowid}
+use Rattle.sqlite_sql.specs.Term.{Term, col, eval_all, holds, lit, op2}
 use Rattle.sqlite_schema.specs.declared.command.Conflict.TheVariants.{Abort}
-use Rattle.sqlite_schema.specs.declared.command.Command.TheVariants.{InsertOr, Select}
+use Rattle.sqlite_schema.specs.declared.command.Command.TheVariants.{InsertOr}
 use Rattle.sqlite_schema.specs.declared.command.Source.TheVariants.{Values}
 use Rattle.sqlite_tied.specs.Compute.{everything}
-use Rattle.sqlite.specs.declared.error.Error.{Error}
-use Rattle.sqlite.specs.declared.error.Error.TheVariants.{SqliteFailure}
-use Rattle.sqlite.specs.declared.error.ErrorCode.TheVariants.{OutOfMemory}
+use Rattle.sqlite.specs.Listing.{understood}
+use Rattle.sqlite_value.specs.declared.keys.Collation.TheVariants.{Binary}
+use Rattle.sqlite_value.specs.Keys.{first_key}
+use Rattle.sqlite_sql.specs.declared.ops.BinaryOp.TheVariants.{Compare}
+use Rattle.sqlite_sql.specs.declared.ops.CompareOp.TheVariants.{Eq}
 use Rattle.sqlite.specs.Rows.{shown}
-use Rattle.sqlite.specs.Effect.{Database}
-use Rattle.sqlite.specs.Listing.{understood, reads_listing}
-use Rattle.sqlite.specs.State.{State, Executes, FailsToQuery, Shown, IsUnchanged}
-use Rattle.sqlite.proofs.Callers.{IsPlain, command_of}
-use Rattle.exam_tables.specs.Content.{ContainsIn, places, bare, put, same_key, same_rowid}
-use Rattle.exam_tables.specs.Made.{made_schema, ContainsMade}
-use Rattle.exam_tables.specs.Plain.{one_table, on_conflict}
-use Rattle.exam_tables.specs.Refusals.{Refuses, RefusesRows, is_failure}
-use Rattle.exam_tables.specs.Tables.{store_schema, first_schema, stored_hall}
-use Rattle.exam_tables.specs.Texts.{put_hall, load_hall}
-use Rattle.exam_tables.proofs.Failing.{Answers, IsWhole, answers}
+use lib.Utf8.{encode}
+use Rattle.sqlite_trees.specs.Sound.{begins, fits_kind, is_free_name, same_name}
+use Rattle.exam_tables.specs.Content.{bare, places, same_key, same_rowid}
+use Rattle.exam_tables.specs.Loads.{IsLoad}
+use Rattle.exam_tables.specs.Made.{made_schema}
+use Rattle.exam_tables.specs.Tables.{hall, first_schema, made, store_schema}
 use Rattle.exam_tables.proofs.Fits.{Fits, fits_chosen}
-use Rattle.exam_tables.proofs.KeysHold as keys
-use Rattle.exam_tables.proofs.References.{Stand, refers}
 use Rattle.exam_tables.proofs.Keys.{cast_int, text_same}
-use Rattle.exam_tables.proofs.Statements.{upsert_by, upsert_sets}
-use Rattle.exam_tables.proofs.QueryFails.{query_fails}
-use Rattle.exam_tables.proofs.Loads.{shown_by}
-use Rattle.exam_tables.proofs.TableFacts.{hall_keyed}
+use Rattle.exam_tables.proofs.Loads.{load_of}
+use Rattle.exam_tables.specs.Plain.{on_conflict}
+use Rattle.exam_tables.specs.Keyed.{IsKeyed}
+use Rattle.exam_tables.proofs.Edits.{Means, PutsRow, upserts}
+use Rattle.exam_tables.proofs.Keying.{by_index, or_false}
+use Rattle.exam_tables.proofs.Making.{Adds, IsCreate, adds_by}
+use Rattle.exam_tables.proofs.Quiet.{IsQuery}
+
+-- the text that makes it is understood, and nothing forbids the table
+create : IsCreate (made hall.at) hall.create
+unfolding understood everything made
+create = (refl, refl, (refl, refl), (lit≤ tt, refl))
+
+pub adds : Adds hall
+unfolding everything encode value_cmp fits_kind is_free_name same_name begins lib.Ieee.is_nan lib.Ieee.lt made
+adds = adds_by hall create refl refl refl refl refl refl refl (hall.create, (refl, refl)) (hall.table.name, (refl, refl)) refl (lit< tt) (lit< tt) refl refl refl (lit< tt)
+
+-- it has one key, and no foreign key acts on its rows
+pub keyed : IsKeyed store_schema hall.at hall.table hall.key hall.key
+unfolding store_schema
+keyed = by_index hall refl refl refl refl (λ a b. ap (λ x. same_rowid a b || x) (or_false _)) (λ a b. or_false _) (λ db s h. not-true _ (and_parts _ _ h).0)
 
 abbrev pub row : (List ℕ) → (List ℕ) → ℤ → Row
 row code title features = Text code ∷ Text title ∷ Int features ∷ []
 
--- the row as it is kept, after its rowid
-abbrev columns : (List ℕ) → (List ℕ) → ℤ → Row
-columns code title features = Text code ∷ Text title ∷ Int features ∷ []
-
-fits : (code : List ℕ) (title : List ℕ) (features : ℤ) → Fits stored_hall (1 ∷ []) (Null) (columns code title features) (row code title features)
-fits code title features = fits_chosen stored_hall (1 ∷ []) (row code title features) refl (simp (cast_int)) (λ v. refl)
+fits : (code : List ℕ) (title : List ℕ) (features : ℤ) → Fits hall.table hall.key Null (row code title features) (row code title features)
+fits code title features = fits_chosen hall.table hall.key (row code title features) refl (simp (cast_int)) (λ v. refl)
 
 abbrev terms : List Term
 terms = lit Null ∷ col 0 0 ∷ col 0 1 ∷ col 0 2 ∷ []
-
-abbrev pub put_text : List ℕ
-put_text = put_hall
 
 -- the row that is there
 abbrev there : List Term
@@ -63,69 +63,31 @@ there = op2 (Compare Eq Binary) (col 1 0) (col 0 3) ∷ []
 abbrev project : List Term
 project = col 1 0 ∷ col 1 0 ∷ col 1 1 ∷ col 0 6 ∷ col 0 7 ∷ []
 
-put_is : command_of (understood store_schema put_text) ≡ InsertOr 3 Abort (Values terms 4) (on_conflict (1 ∷ []) 5 there project ∷ [])
+put_means : Means store_schema hall.put (InsertOr hall.at Abort (Values terms 4) (on_conflict hall.key hall.table.tree there project ∷ [])) 3
 unfolding understood everything store_schema
-put_is = refl
+put_means = (refl, (refl, refl), (lit≤ tt, refl))
 
-put_plain : IsPlain (understood store_schema put_text)
-unfolding understood everything store_schema
-put_plain = (refl, refl)
-
-picked : (code : List ℕ) (title : List ℕ) (features : ℤ) (t r : Row) (id : ℤ) → list_all (holds ((row code title features ++ rowid t ∷ shown stored_hall (Int id ∷ columns code title features)) ∷ r ∷ [])) there ≡ same_rowid r t
+picked : (code : List ℕ) (title : List ℕ) (features : ℤ) (t r : Row) (id : ℤ) → list_all (holds ((row code title features ++ rowid t ∷ shown hall.table (Int id ∷ row code title features)) ∷ r ∷ [])) there ≡ same_rowid r t
 unfolding first_key
 picked code title features t r id = refl
 
-written : (code : List ℕ) (title : List ℕ) (features : ℤ) (t : Row) (id : ℤ) → same_key (1 ∷ []) (bare (places stored_hall) t) (Null ∷ row code title features) ≡ true
-    → eval_all project ((row code title features ++ rowid t ∷ shown stored_hall (Int id ∷ columns code title features)) ∷ t ∷ []) ≡ rowid t ∷ rowid t ∷ columns code title features
+written : (code : List ℕ) (title : List ℕ) (features : ℤ) (t : Row) (id : ℤ) → same_key hall.key (bare (places hall.table) t) (Null ∷ row code title features) ≡ true
+    → eval_all project ((row code title features ++ rowid t ∷ shown hall.table (Int id ∷ row code title features)) ∷ t ∷ []) ≡ rowid t ∷ rowid t ∷ row code title features
 written code title features t id same = ap (λ v. rowid t ∷ rowid t ∷ v ∷ Text title ∷ Int features ∷ []) (text_same _ _ (and_parts _ _ same).0)
 
-pub puts : (old new : State) (code : List ℕ) (title : List ℕ) (features : ℤ) (r : Result ℕ Error) → Executes put_text (row code title features) old new r
-    → OnOk r ((all : Trees) → ContainsIn store_schema old.now all → ContainsIn store_schema new.now (with_tree all 5 (put (1 ∷ []) (Null ∷ row code title features) (all 5))))
-puts old new code title features r h = upsert_by store_schema 3 stored_hall (1 ∷ []) (1 ∷ []) hall_keyed put_text terms 4 there project put_is put_plain (λ db. refl) old new (row code title features) r (Null) (columns code title features) (row code title features) (fits code title features) refl
-    (picked code title features) (written code title features) h
-
-put_whole : IsWhole put_text 3 (understood store_schema put_text)
-unfolding understood everything store_schema
-put_whole = (lit≤ tt, refl)
-
-pub put_answers : (old new : State) (code : List ℕ) (title : List ℕ) (features : ℤ) → old.now.schema ≡ store_schema → Answers put_text (row code title features) old new
-put_answers old new code title features has = answers put_text (row code title features) old new store_schema has _ put_is tt put_plain put_whole
-
--- where each row then has what it refers to, no foreign key refuses the put
-pub put_refused : (limit : Option ℕ) (db : Database) (all : Trees) (code : List ℕ) (title : List ℕ) (features : ℤ) → ContainsIn store_schema db all → Stand (with_tree all 5 (put (1 ∷ []) (Null ∷ row code title features) (all 5))) → Refuses limit db put_text (row code title features) → RefusesRows limit db put_text (row code title features)
-put_refused limit db all code title features was stand = keys.put_refused store_schema 3 stored_hall (1 ∷ []) (1 ∷ []) hall_keyed limit db all was put_text Abort (on_conflict (1 ∷ []) 5 there project ∷ []) terms 4 put_is put_plain (row code title features) (row code title features)
-    (upsert_sets store_schema 3 stored_hall (1 ∷ []) (1 ∷ []) hall_keyed limit terms 4 there project (λ db. refl) (row code title features) (Null) (columns code title features) (row code title features) (fits code title features) refl (picked code title features) (written code title features)) (λ next holds. refers next _ holds stand)
-
-abbrev pub load_text : List ℕ
-load_text = load_hall
+-- the row replaces the one with its key
+pub puts : (code : List ℕ) (title : List ℕ) (features : ℤ) → PutsRow hall.table.tree hall.key hall.put (row code title features)
+puts code title features = upserts keyed hall.put terms 4 Null (row code title features) (row code title features) (fits code title features) refl there project put_means (λ db. refl) (picked code title features) (written code title features)
 
 abbrev shown_terms : List Term
 shown_terms = col 1 1 ∷ col 1 2 ∷ col 1 3 ∷ []
 
-load_place : (has_marks : Bool) → slice_get (made_schema has_marks).tables 3 ≡ Some stored_hall
-unfolding store_schema first_schema
-load_place true = refl
-load_place false = refl
-
-load_is : (has_marks : Bool) → command_of (understood (made_schema has_marks) load_text) ≡ Select (record { lets = []; body = one_table 5 [] shown_terms [] }) (codes "code" ∷ codes "title" ∷ codes "features" ∷ [])
+-- the text that loads shows each column, with the table of marks or without it
+pub loads : (has_marks : Bool) → IsLoad (made_schema has_marks) hall.table.tree hall.load
 unfolding understood everything store_schema first_schema
-load_is true = refl
-load_is false = refl
+loads true = load_of (made_schema true) hall.at hall.table hall.load shown_terms (codes "code" ∷ codes "title" ∷ codes "features" ∷ []) refl refl (refl, refl) refl (λ db. refl) (λ r. refl)
+loads false = load_of (made_schema false) hall.at hall.table hall.load shown_terms (codes "code" ∷ codes "title" ∷ codes "features" ∷ []) refl refl (refl, refl) refl (λ db. refl) (λ r. refl)
 
-load_plain : (has_marks : Bool) → IsPlain (understood (made_schema has_marks) load_text)
-unfolding understood everything store_schema first_schema
-load_plain true = (refl, refl)
-load_plain false = (refl, refl)
-
-load_unlisted : (has_marks : Bool) → reads_listing (made_schema has_marks) load_text ≡ false
-unfolding understood everything store_schema first_schema
-load_unlisted true = refl
-load_unlisted false = refl
-
-pub shows : (old new : State) (rows : List Row) (all : Trees) → ContainsMade old.now all → Shown load_text [] old new rows
-    → IsPermutation (all 5) (map (λ r. Null ∷ r) rows) × AllByRecursion (λ r. length r ≡ 3) rows × IsUnchanged old new
-shows old new rows all was = shown_by (made_schema was.has_marks) 3 stored_hall (load_place was.has_marks) load_text shown_terms [] _ (load_is was.has_marks) (load_plain was.has_marks) (load_unlisted was.has_marks) (λ db. refl) (λ r. refl) refl old new rows all was.contains
-
--- where it fails, the text was understood
-pub load_fails : (old new : State) (has_marks : Bool) → old.now.schema ≡ made_schema has_marks → (e : Error) → FailsToQuery load_text [] old new e → (e ≡ SqliteFailure OutOfMemory) ⊎ IsTrue (is_failure e)
-load_fails old new has_marks has e h = query_fails load_text [] old new (made_schema has_marks) has (load_plain has_marks) e h
+pub is_query : IsQuery hall.load
+unfolding everything
+is_query schema base = refl

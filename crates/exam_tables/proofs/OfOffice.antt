@@ -1,34 +1,47 @@
--- The table office: what its texts mean, and what they do.
-use Rattle.std.proofs.Common.{lit≤, ◌≡◌, ◌⊎◌, IsTrue, ℕ, ℤ, pos, List, [], ◌∷◌, codes, map, length, false, Result, OnOk, refl, Bool, true, Some, slice_get}
-use Rattle.std.specs.List.{AllByRecursion}
-use Rattle.std.specs.List.Sorted.{IsPermutation}
-use Rattle.sqlite_value.specs.declared.value.Value.TheVariants.{Null, Int}
-use Rattle.sqlite_value.specs.Order.{Row}
-use Rattle.sqlite_trees.specs.Tree.{Trees, with_tree}
-use Rattle.sqlite_sql.specs.Term.{Term, lit, col}
+-- The table office: how it is made, what its texts mean, and what they do.
+use Rattle.std.proofs.Common.{Bool, List, OnOk, Result, [], codes, false, lit<, lit≤, pos, refl, true, ℕ, ℤ, ◌∷◌, ◌≡◌}
+use Rattle.sqlite_value.specs.declared.value.Value.TheVariants.{Int, Null}
+use Rattle.sqlite_value.specs.Order.{Row, value_cmp}
+use Rattle.sqlite_trees.specs.Tree.{Trees}
+use Rattle.sqlite_sql.specs.Term.{Term, col, lit}
 use Rattle.sqlite_schema.specs.declared.command.Conflict.TheVariants.{Replace}
-use Rattle.sqlite_schema.specs.declared.command.Command.TheVariants.{InsertOr, Select}
+use Rattle.sqlite_schema.specs.declared.command.Command.TheVariants.{InsertOr}
 use Rattle.sqlite_schema.specs.declared.command.Source.TheVariants.{Values}
 use Rattle.sqlite_tied.specs.Compute.{everything}
 use Rattle.sqlite.specs.declared.error.Error.{Error}
-use Rattle.sqlite.specs.declared.error.Error.TheVariants.{SqliteFailure}
-use Rattle.sqlite.specs.declared.error.ErrorCode.TheVariants.{OutOfMemory}
-use Rattle.sqlite.specs.Listing.{understood, reads_listing}
-use Rattle.sqlite.specs.State.{State, Executes, FailsToQuery, Shown, IsUnchanged}
+use Rattle.sqlite.specs.Listing.{understood}
+use Rattle.sqlite.specs.State.{Executes, State}
 use Rattle.sqlite.proofs.Callers.{IsPlain, command_of}
-use Rattle.exam_tables.specs.Content.{ContainsIn, put}
-use Rattle.exam_tables.specs.Made.{made_schema, ContainsMade}
-use Rattle.exam_tables.specs.Plain.{one_table}
-use Rattle.exam_tables.specs.Refusals.{is_failure}
-use Rattle.exam_tables.specs.Tables.{store_schema, first_schema, stored_office}
-use Rattle.exam_tables.specs.Texts.{put_version, load_office}
-use Rattle.exam_tables.proofs.QueryFails.{query_fails}
-use Rattle.exam_tables.proofs.Failing.{Answers, IsWhole, answers}
+use lib.Utf8.{encode}
+use Rattle.sqlite_trees.specs.Sound.{begins, fits_kind, is_free_name, same_name}
+use Rattle.exam_tables.specs.Changes.{with_row}
+use Rattle.exam_tables.specs.Content.{ContainsIn}
+use Rattle.exam_tables.specs.Loads.{IsLoad}
+use Rattle.exam_tables.specs.Made.{made_schema}
+use Rattle.exam_tables.specs.Tables.{office, first_schema, made, store_schema}
 use Rattle.exam_tables.proofs.Fits.{Fits, fits_given}
 use Rattle.exam_tables.proofs.Keys.{cast_int, cast_null}
-use Rattle.exam_tables.proofs.Statements.{put_by}
-use Rattle.exam_tables.proofs.Loads.{shown_by}
-use Rattle.exam_tables.proofs.TableFacts.{office_keyed}
+use Rattle.exam_tables.proofs.Loads.{load_of}
+use Rattle.exam_tables.specs.Keyed.{IsKeyed}
+use Rattle.exam_tables.proofs.Keying.{by_rowid, or_false, or_twice}
+use Rattle.exam_tables.proofs.Making.{Adds, IsCreate, adds_by}
+use Rattle.exam_tables.proofs.Quiet.{IsQuery}
+use Rattle.exam_tables.proofs.Failing.{Answers, IsWhole, answers}
+use Rattle.exam_tables.proofs.Statements.{put_sets, sets_by}
+
+-- the text that makes it is understood, and nothing forbids the table
+create : IsCreate (made office.at) office.create
+unfolding understood everything made
+create = (refl, refl, (refl, refl), (lit≤ tt, refl))
+
+pub adds : Adds office
+unfolding everything encode value_cmp fits_kind is_free_name same_name begins lib.Ieee.is_nan lib.Ieee.lt made
+adds = adds_by office create refl refl refl refl refl refl refl (office.create, (refl, refl)) (office.table.name, (refl, refl)) refl (lit< tt) (lit< tt) refl refl refl (lit< tt)
+
+-- it has one key, and no foreign key acts on its rows
+pub keyed : IsKeyed store_schema office.at office.table office.key (0 ∷ [])
+unfolding store_schema
+keyed = by_rowid office refl refl refl refl (λ a b. or_twice _) (λ a b. or_false _) (λ a b. refl)
 
 abbrev pub row : ℤ → ℤ → Row
 row one version = Int one ∷ Int version ∷ []
@@ -37,16 +50,16 @@ row one version = Int one ∷ Int version ∷ []
 abbrev pub columns : ℤ → ℤ → Row
 columns one version = Null ∷ Int version ∷ []
 
-pub fits : (one : ℤ) (version : ℤ) → Fits stored_office (1 ∷ []) (Int one) (columns one version) (row one version)
-fits one version = fits_given stored_office (1 ∷ []) one (columns one version) (row one version) refl (simp (cast_null, cast_int)) refl (λ r. refl)
+pub fits : (one : ℤ) (version : ℤ) → Fits office.table office.key (Int one) (columns one version) (row one version)
+fits one version = fits_given office.table office.key one (columns one version) (row one version) refl (simp (cast_null, cast_int)) refl (λ r. refl)
 
 abbrev pub terms : List Term
 terms = lit (Int (pos 1)) ∷ lit Null ∷ col 0 0 ∷ []
 
 abbrev pub put_text : List ℕ
-put_text = put_version
+put_text = office.put
 
-pub put_is : command_of (understood store_schema put_text) ≡ InsertOr 0 Replace (Values terms 3) []
+pub put_is : command_of (understood store_schema put_text) ≡ InsertOr office.at Replace (Values terms 3) []
 unfolding understood everything store_schema
 put_is = refl
 
@@ -55,9 +68,10 @@ unfolding understood everything store_schema
 put_plain = (refl, refl)
 
 pub puts : (old new : State) (version : ℤ) (r : Result ℕ Error) → Executes put_text (Int version ∷ []) old new r
-    → OnOk r ((all : Trees) → ContainsIn store_schema old.now all → ContainsIn store_schema new.now (with_tree all 0 (put (1 ∷ []) (Null ∷ row (pos 1) version) (all 0))))
+    → OnOk r ((all : Trees) → ContainsIn store_schema old.now all → ContainsIn store_schema new.now (with_row office.table.tree office.key (row (pos 1) version) all))
 puts old new version r h =
-    put_by store_schema 0 stored_office (1 ∷ []) (0 ∷ []) office_keyed put_text terms 3 put_is put_plain old new (Int version ∷ []) r (Int (pos 1)) (columns (pos 1) version) (row (pos 1) version) (fits (pos 1) version) refl h
+    sets_by store_schema office.at office.table office.key (0 ∷ []) keyed Replace [] put_text terms 3 put_is put_plain old new (Int version ∷ []) (row (pos 1) version) r
+    (λ limit. put_sets store_schema office.at office.table office.key (0 ∷ []) keyed limit terms 3 (Int version ∷ []) (Int (pos 1)) (columns (pos 1) version) (row (pos 1) version) (fits (pos 1) version) refl) h
 
 put_whole : IsWhole put_text 1 (understood store_schema put_text)
 unfolding understood everything store_schema
@@ -66,36 +80,15 @@ put_whole = (lit≤ tt, refl)
 pub put_answers : (old new : State) (version : ℤ) → old.now.schema ≡ store_schema → Answers put_text (Int version ∷ []) old new
 put_answers old new version has = answers put_text (Int version ∷ []) old new store_schema has _ put_is tt put_plain put_whole
 
-abbrev pub load_text : List ℕ
-load_text = load_office
-
 abbrev shown_terms : List Term
 shown_terms = col 1 0 ∷ col 1 2 ∷ []
 
-load_place : (has_marks : Bool) → slice_get (made_schema has_marks).tables 0 ≡ Some stored_office
-unfolding store_schema first_schema
-load_place true = refl
-load_place false = refl
-
-load_is : (has_marks : Bool) → command_of (understood (made_schema has_marks) load_text) ≡ Select (record { lets = []; body = one_table 0 [] shown_terms [] }) (codes "one" ∷ codes "version" ∷ [])
+-- the text that loads shows each column, with the table of marks or without it
+pub loads : (has_marks : Bool) → IsLoad (made_schema has_marks) office.table.tree office.load
 unfolding understood everything store_schema first_schema
-load_is true = refl
-load_is false = refl
+loads true = load_of (made_schema true) office.at office.table office.load shown_terms (codes "one" ∷ codes "version" ∷ []) refl refl (refl, refl) refl (λ db. refl) (λ r. refl)
+loads false = load_of (made_schema false) office.at office.table office.load shown_terms (codes "one" ∷ codes "version" ∷ []) refl refl (refl, refl) refl (λ db. refl) (λ r. refl)
 
-load_plain : (has_marks : Bool) → IsPlain (understood (made_schema has_marks) load_text)
-unfolding understood everything store_schema first_schema
-load_plain true = (refl, refl)
-load_plain false = (refl, refl)
-
-load_unlisted : (has_marks : Bool) → reads_listing (made_schema has_marks) load_text ≡ false
-unfolding understood everything store_schema first_schema
-load_unlisted true = refl
-load_unlisted false = refl
-
-pub shows : (old new : State) (rows : List Row) (all : Trees) → ContainsMade old.now all → Shown load_text [] old new rows
-    → IsPermutation (all 0) (map (λ r. Null ∷ r) rows) × AllByRecursion (λ r. length r ≡ 2) rows × IsUnchanged old new
-shows old new rows all was = shown_by (made_schema was.has_marks) 0 stored_office (load_place was.has_marks) load_text shown_terms [] _ (load_is was.has_marks) (load_plain was.has_marks) (load_unlisted was.has_marks) (λ db. refl) (λ r. refl) refl old new rows all was.contains
-
--- where it fails, the text was understood
-pub load_fails : (old new : State) (has_marks : Bool) → old.now.schema ≡ made_schema has_marks → (e : Error) → FailsToQuery load_text [] old new e → (e ≡ SqliteFailure OutOfMemory) ⊎ IsTrue (is_failure e)
-load_fails old new has_marks has e h = query_fails load_text [] old new (made_schema has_marks) has (load_plain has_marks) e h
+pub is_query : IsQuery office.load
+unfolding everything
+is_query schema base = refl

@@ -1,59 +1,59 @@
--- The table paper: what its texts mean, and what they do.
-use Rattle.std.proofs.Common.{◌≡◌, ◌⊎◌, IsTrue, lit≤, ℕ, ℤ, List, [], ◌∷◌, ◌++◌, codes, map, length, true, false, Result, OnOk, Option, refl, ap, Bool, Some, slice_get}
-use Rattle.std.specs.List.{AllByRecursion, list_all}
-use Rattle.std.specs.List.Sorted.{IsPermutation}
-use Rattle.std.proofs.lemmas.Bool.{and_parts}
-use Rattle.sqlite_value.specs.declared.value.Value.TheVariants.{Null, Int, Text}
-use Rattle.sqlite_value.specs.declared.keys.Collation.TheVariants.{Binary}
-use Rattle.sqlite_value.specs.Order.{Row}
-use Rattle.sqlite_value.specs.Keys.{first_key}
-use Rattle.sqlite_trees.specs.Tree.{Trees, rowid, with_tree}
-use Rattle.sqlite_sql.specs.Term.{Term, lit, col, op2, eval_all, holds}
-use Rattle.sqlite_sql.specs.declared.ops.BinaryOp.TheVariants.{Compare}
-use Rattle.sqlite_sql.specs.declared.ops.CompareOp.TheVariants.{Eq}
+-- The table paper: how it is made, what its texts mean, and what they do.
+use Rattle.std.proofs.Common.{Bool, List, [], ap, codes, false, lit<, lit≤, refl, true, ℕ, ℤ, ◌++◌, ◌||◌, ◌∷◌, ◌≡◌}
+use Rattle.std.specs.List.{list_all}
+use Rattle.std.proofs.lemmas.Bool.{and_parts, not-true}
+use Rattle.sqlite_value.specs.declared.value.Value.TheVariants.{Int, Null, Text}
+use Rattle.sqlite_value.specs.Order.{Row, value_cmp}
+use Rattle.sqlite_trees.specs.Tree.{rowid}
+use Rattle.sqlite_sql.specs.Term.{Term, col, eval_all, holds, lit, op2}
 use Rattle.sqlite_schema.specs.declared.command.Conflict.TheVariants.{Abort}
-use Rattle.sqlite_schema.specs.declared.command.Command.TheVariants.{InsertOr, Select}
+use Rattle.sqlite_schema.specs.declared.command.Command.TheVariants.{InsertOr}
 use Rattle.sqlite_schema.specs.declared.command.Source.TheVariants.{Values}
 use Rattle.sqlite_tied.specs.Compute.{everything}
-use Rattle.sqlite.specs.declared.error.Error.{Error}
-use Rattle.sqlite.specs.declared.error.Error.TheVariants.{SqliteFailure}
-use Rattle.sqlite.specs.declared.error.ErrorCode.TheVariants.{OutOfMemory}
+use Rattle.sqlite.specs.Listing.{understood}
+use Rattle.sqlite_value.specs.declared.keys.Collation.TheVariants.{Binary}
+use Rattle.sqlite_value.specs.Keys.{first_key}
+use Rattle.sqlite_sql.specs.declared.ops.BinaryOp.TheVariants.{Compare}
+use Rattle.sqlite_sql.specs.declared.ops.CompareOp.TheVariants.{Eq}
 use Rattle.sqlite.specs.Rows.{shown}
-use Rattle.sqlite.specs.Effect.{Database}
-use Rattle.sqlite.specs.Listing.{understood, reads_listing}
-use Rattle.sqlite.specs.State.{State, Executes, FailsToQuery, Shown, IsUnchanged}
-use Rattle.sqlite.proofs.Callers.{IsPlain, command_of}
-use Rattle.exam_tables.specs.Content.{ContainsIn, places, bare, put, same_key, same_rowid}
-use Rattle.exam_tables.specs.Made.{made_schema, ContainsMade}
-use Rattle.exam_tables.specs.Plain.{one_table, on_conflict}
-use Rattle.exam_tables.specs.Refusals.{Refuses, RefusesRows, is_failure}
-use Rattle.exam_tables.specs.Tables.{store_schema, first_schema, stored_paper}
-use Rattle.exam_tables.specs.Texts.{put_paper, load_paper}
-use Rattle.exam_tables.proofs.Failing.{Answers, IsWhole, answers}
+use lib.Utf8.{encode}
+use Rattle.sqlite_trees.specs.Sound.{begins, fits_kind, is_free_name, same_name}
+use Rattle.exam_tables.specs.Content.{bare, places, same_key, same_rowid}
+use Rattle.exam_tables.specs.Loads.{IsLoad}
+use Rattle.exam_tables.specs.Made.{made_schema}
+use Rattle.exam_tables.specs.Tables.{paper, first_schema, made, store_schema}
 use Rattle.exam_tables.proofs.Fits.{Fits, fits_chosen}
-use Rattle.exam_tables.proofs.KeysHold as keys
-use Rattle.exam_tables.proofs.References.{Stand, refers}
 use Rattle.exam_tables.proofs.Keys.{cast_int, text_same}
-use Rattle.exam_tables.proofs.Statements.{upsert_by, upsert_sets}
-use Rattle.exam_tables.proofs.QueryFails.{query_fails}
-use Rattle.exam_tables.proofs.Loads.{shown_by}
-use Rattle.exam_tables.proofs.TableFacts.{paper_keyed}
+use Rattle.exam_tables.proofs.Loads.{load_of}
+use Rattle.exam_tables.specs.Plain.{on_conflict}
+use Rattle.exam_tables.specs.Keyed.{IsKeyed}
+use Rattle.exam_tables.proofs.Edits.{Means, PutsRow, upserts}
+use Rattle.exam_tables.proofs.Keying.{by_index, or_false}
+use Rattle.exam_tables.proofs.Making.{Adds, IsCreate, adds_by}
+use Rattle.exam_tables.proofs.Quiet.{IsQuery}
+
+-- the text that makes it is understood, and nothing forbids the table
+create : IsCreate (made paper.at) paper.create
+unfolding understood everything made
+create = (refl, refl, (refl, refl), (lit≤ tt, refl))
+
+pub adds : Adds paper
+unfolding everything encode value_cmp fits_kind is_free_name same_name begins lib.Ieee.is_nan lib.Ieee.lt made
+adds = adds_by paper create refl refl refl refl refl refl refl (paper.create, (refl, refl)) (paper.table.name, (refl, refl)) refl (lit< tt) (lit< tt) refl refl refl (lit< tt)
+
+-- it has one key, and no foreign key acts on its rows
+pub keyed : IsKeyed store_schema paper.at paper.table paper.key paper.key
+unfolding store_schema
+keyed = by_index paper refl refl refl refl (λ a b. ap (λ x. same_rowid a b || x) (or_false _)) (λ a b. or_false _) (λ db s h. not-true _ (and_parts _ _ h).0)
 
 abbrev pub row : (List ℕ) → (List ℕ) → (List ℕ) → ℤ → ℤ → Row
 row code title session minutes requires = Text code ∷ Text title ∷ Text session ∷ Int minutes ∷ Int requires ∷ []
 
--- the row as it is kept, after its rowid
-abbrev columns : (List ℕ) → (List ℕ) → (List ℕ) → ℤ → ℤ → Row
-columns code title session minutes requires = Text code ∷ Text title ∷ Text session ∷ Int minutes ∷ Int requires ∷ []
-
-fits : (code : List ℕ) (title : List ℕ) (session : List ℕ) (minutes : ℤ) (requires : ℤ) → Fits stored_paper (1 ∷ []) (Null) (columns code title session minutes requires) (row code title session minutes requires)
-fits code title session minutes requires = fits_chosen stored_paper (1 ∷ []) (row code title session minutes requires) refl (simp (cast_int)) (λ v. refl)
+fits : (code : List ℕ) (title : List ℕ) (session : List ℕ) (minutes : ℤ) (requires : ℤ) → Fits paper.table paper.key Null (row code title session minutes requires) (row code title session minutes requires)
+fits code title session minutes requires = fits_chosen paper.table paper.key (row code title session minutes requires) refl (simp (cast_int)) (λ v. refl)
 
 abbrev terms : List Term
 terms = lit Null ∷ col 0 0 ∷ col 0 1 ∷ col 0 2 ∷ col 0 3 ∷ col 0 4 ∷ []
-
-abbrev pub put_text : List ℕ
-put_text = put_paper
 
 -- the row that is there
 abbrev there : List Term
@@ -63,69 +63,31 @@ there = op2 (Compare Eq Binary) (col 1 0) (col 0 5) ∷ []
 abbrev project : List Term
 project = col 1 0 ∷ col 1 0 ∷ col 1 1 ∷ col 0 8 ∷ col 0 9 ∷ col 0 10 ∷ col 0 11 ∷ []
 
-put_is : command_of (understood store_schema put_text) ≡ InsertOr 2 Abort (Values terms 6) (on_conflict (1 ∷ []) 3 there project ∷ [])
+put_means : Means store_schema paper.put (InsertOr paper.at Abort (Values terms 6) (on_conflict paper.key paper.table.tree there project ∷ [])) 5
 unfolding understood everything store_schema
-put_is = refl
+put_means = (refl, (refl, refl), (lit≤ tt, refl))
 
-put_plain : IsPlain (understood store_schema put_text)
-unfolding understood everything store_schema
-put_plain = (refl, refl)
-
-picked : (code : List ℕ) (title : List ℕ) (session : List ℕ) (minutes : ℤ) (requires : ℤ) (t r : Row) (id : ℤ) → list_all (holds ((row code title session minutes requires ++ rowid t ∷ shown stored_paper (Int id ∷ columns code title session minutes requires)) ∷ r ∷ [])) there ≡ same_rowid r t
+picked : (code : List ℕ) (title : List ℕ) (session : List ℕ) (minutes : ℤ) (requires : ℤ) (t r : Row) (id : ℤ) → list_all (holds ((row code title session minutes requires ++ rowid t ∷ shown paper.table (Int id ∷ row code title session minutes requires)) ∷ r ∷ [])) there ≡ same_rowid r t
 unfolding first_key
 picked code title session minutes requires t r id = refl
 
-written : (code : List ℕ) (title : List ℕ) (session : List ℕ) (minutes : ℤ) (requires : ℤ) (t : Row) (id : ℤ) → same_key (1 ∷ []) (bare (places stored_paper) t) (Null ∷ row code title session minutes requires) ≡ true
-    → eval_all project ((row code title session minutes requires ++ rowid t ∷ shown stored_paper (Int id ∷ columns code title session minutes requires)) ∷ t ∷ []) ≡ rowid t ∷ rowid t ∷ columns code title session minutes requires
+written : (code : List ℕ) (title : List ℕ) (session : List ℕ) (minutes : ℤ) (requires : ℤ) (t : Row) (id : ℤ) → same_key paper.key (bare (places paper.table) t) (Null ∷ row code title session minutes requires) ≡ true
+    → eval_all project ((row code title session minutes requires ++ rowid t ∷ shown paper.table (Int id ∷ row code title session minutes requires)) ∷ t ∷ []) ≡ rowid t ∷ rowid t ∷ row code title session minutes requires
 written code title session minutes requires t id same = ap (λ v. rowid t ∷ rowid t ∷ v ∷ Text title ∷ Text session ∷ Int minutes ∷ Int requires ∷ []) (text_same _ _ (and_parts _ _ same).0)
 
-pub puts : (old new : State) (code : List ℕ) (title : List ℕ) (session : List ℕ) (minutes : ℤ) (requires : ℤ) (r : Result ℕ Error) → Executes put_text (row code title session minutes requires) old new r
-    → OnOk r ((all : Trees) → ContainsIn store_schema old.now all → ContainsIn store_schema new.now (with_tree all 3 (put (1 ∷ []) (Null ∷ row code title session minutes requires) (all 3))))
-puts old new code title session minutes requires r h = upsert_by store_schema 2 stored_paper (1 ∷ []) (1 ∷ []) paper_keyed put_text terms 6 there project put_is put_plain (λ db. refl) old new (row code title session minutes requires) r (Null) (columns code title session minutes requires) (row code title session minutes requires) (fits code title session minutes requires) refl
-    (picked code title session minutes requires) (written code title session minutes requires) h
-
-put_whole : IsWhole put_text 5 (understood store_schema put_text)
-unfolding understood everything store_schema
-put_whole = (lit≤ tt, refl)
-
-pub put_answers : (old new : State) (code : List ℕ) (title : List ℕ) (session : List ℕ) (minutes : ℤ) (requires : ℤ) → old.now.schema ≡ store_schema → Answers put_text (row code title session minutes requires) old new
-put_answers old new code title session minutes requires has = answers put_text (row code title session minutes requires) old new store_schema has _ put_is tt put_plain put_whole
-
--- where each row then has what it refers to, no foreign key refuses the put
-pub put_refused : (limit : Option ℕ) (db : Database) (all : Trees) (code : List ℕ) (title : List ℕ) (session : List ℕ) (minutes : ℤ) (requires : ℤ) → ContainsIn store_schema db all → Stand (with_tree all 3 (put (1 ∷ []) (Null ∷ row code title session minutes requires) (all 3))) → Refuses limit db put_text (row code title session minutes requires) → RefusesRows limit db put_text (row code title session minutes requires)
-put_refused limit db all code title session minutes requires was stand = keys.put_refused store_schema 2 stored_paper (1 ∷ []) (1 ∷ []) paper_keyed limit db all was put_text Abort (on_conflict (1 ∷ []) 3 there project ∷ []) terms 6 put_is put_plain (row code title session minutes requires) (row code title session minutes requires)
-    (upsert_sets store_schema 2 stored_paper (1 ∷ []) (1 ∷ []) paper_keyed limit terms 6 there project (λ db. refl) (row code title session minutes requires) (Null) (columns code title session minutes requires) (row code title session minutes requires) (fits code title session minutes requires) refl (picked code title session minutes requires) (written code title session minutes requires)) (λ next holds. refers next _ holds stand)
-
-abbrev pub load_text : List ℕ
-load_text = load_paper
+-- the row replaces the one with its key
+pub puts : (code : List ℕ) (title : List ℕ) (session : List ℕ) (minutes : ℤ) (requires : ℤ) → PutsRow paper.table.tree paper.key paper.put (row code title session minutes requires)
+puts code title session minutes requires = upserts keyed paper.put terms 6 Null (row code title session minutes requires) (row code title session minutes requires) (fits code title session minutes requires) refl there project put_means (λ db. refl) (picked code title session minutes requires) (written code title session minutes requires)
 
 abbrev shown_terms : List Term
 shown_terms = col 1 1 ∷ col 1 2 ∷ col 1 3 ∷ col 1 4 ∷ col 1 5 ∷ []
 
-load_place : (has_marks : Bool) → slice_get (made_schema has_marks).tables 2 ≡ Some stored_paper
-unfolding store_schema first_schema
-load_place true = refl
-load_place false = refl
-
-load_is : (has_marks : Bool) → command_of (understood (made_schema has_marks) load_text) ≡ Select (record { lets = []; body = one_table 3 [] shown_terms [] }) (codes "code" ∷ codes "title" ∷ codes "session" ∷ codes "minutes" ∷ codes "requires" ∷ [])
+-- the text that loads shows each column, with the table of marks or without it
+pub loads : (has_marks : Bool) → IsLoad (made_schema has_marks) paper.table.tree paper.load
 unfolding understood everything store_schema first_schema
-load_is true = refl
-load_is false = refl
+loads true = load_of (made_schema true) paper.at paper.table paper.load shown_terms (codes "code" ∷ codes "title" ∷ codes "session" ∷ codes "minutes" ∷ codes "requires" ∷ []) refl refl (refl, refl) refl (λ db. refl) (λ r. refl)
+loads false = load_of (made_schema false) paper.at paper.table paper.load shown_terms (codes "code" ∷ codes "title" ∷ codes "session" ∷ codes "minutes" ∷ codes "requires" ∷ []) refl refl (refl, refl) refl (λ db. refl) (λ r. refl)
 
-load_plain : (has_marks : Bool) → IsPlain (understood (made_schema has_marks) load_text)
-unfolding understood everything store_schema first_schema
-load_plain true = (refl, refl)
-load_plain false = (refl, refl)
-
-load_unlisted : (has_marks : Bool) → reads_listing (made_schema has_marks) load_text ≡ false
-unfolding understood everything store_schema first_schema
-load_unlisted true = refl
-load_unlisted false = refl
-
-pub shows : (old new : State) (rows : List Row) (all : Trees) → ContainsMade old.now all → Shown load_text [] old new rows
-    → IsPermutation (all 3) (map (λ r. Null ∷ r) rows) × AllByRecursion (λ r. length r ≡ 5) rows × IsUnchanged old new
-shows old new rows all was = shown_by (made_schema was.has_marks) 2 stored_paper (load_place was.has_marks) load_text shown_terms [] _ (load_is was.has_marks) (load_plain was.has_marks) (load_unlisted was.has_marks) (λ db. refl) (λ r. refl) refl old new rows all was.contains
-
--- where it fails, the text was understood
-pub load_fails : (old new : State) (has_marks : Bool) → old.now.schema ≡ made_schema has_marks → (e : Error) → FailsToQuery load_text [] old new e → (e ≡ SqliteFailure OutOfMemory) ⊎ IsTrue (is_failure e)
-load_fails old new has_marks has e h = query_fails load_text [] old new (made_schema has_marks) has (load_plain has_marks) e h
+pub is_query : IsQuery paper.load
+unfolding everything
+is_query schema base = refl

@@ -1,147 +1,92 @@
--- The table seat: what its texts mean, and what they do.
-use Rattle.std.proofs.Common.{◌≡◌, ◌⊎◌, IsTrue, lit≤, ℕ, ℤ, List, [], ◌∷◌, codes, map, length, false, Result, OnOk, Option, refl, Bool, true, Some, slice_get}
-use Rattle.std.specs.List.{AllByRecursion, list_all}
-use Rattle.std.specs.List.Sorted.{IsPermutation}
-use Rattle.sqlite_value.specs.declared.value.Value.TheVariants.{Null, Int, Text}
-use Rattle.sqlite_value.specs.declared.keys.Collation.TheVariants.{Binary}
-use Rattle.sqlite_value.specs.Order.{Row}
-use Rattle.sqlite_value.specs.Keys.{first_key}
-use Rattle.sqlite_trees.specs.Tree.{Trees, with_tree}
-use Rattle.sqlite_sql.specs.Term.{Term, lit, col, op2, holds}
-use Rattle.sqlite_sql.specs.declared.ops.BinaryOp.TheVariants.{Compare}
-use Rattle.sqlite_sql.specs.declared.ops.CompareOp.TheVariants.{Eq}
+-- The table seat: how it is made, what its texts mean, and what they do.
+use Rattle.std.proofs.Common.{Bool, List, [], ap, codes, false, lit<, lit≤, refl, true, ℕ, ℤ, ◌||◌, ◌∷◌, ◌≡◌}
+use Rattle.std.specs.List.{list_all}
+use Rattle.std.proofs.lemmas.Bool.{and_parts, not-true}
+use Rattle.sqlite_value.specs.declared.value.Value.TheVariants.{Int, Null, Text}
+use Rattle.sqlite_value.specs.Order.{Row, value_cmp}
+use Rattle.sqlite_sql.specs.Term.{Term, col, holds, lit, op2}
 use Rattle.sqlite_schema.specs.declared.command.Conflict.TheVariants.{Replace}
-use Rattle.sqlite_schema.specs.declared.command.Command.TheVariants.{InsertOr, Delete, Select}
+use Rattle.sqlite_schema.specs.declared.command.Command.TheVariants.{Delete, InsertOr}
 use Rattle.sqlite_schema.specs.declared.command.Source.TheVariants.{Values}
 use Rattle.sqlite_tied.specs.Compute.{everything}
-use Rattle.sqlite.specs.declared.error.Error.{Error}
-use Rattle.sqlite.specs.declared.error.Error.TheVariants.{SqliteFailure}
-use Rattle.sqlite.specs.declared.error.ErrorCode.TheVariants.{OutOfMemory}
-use Rattle.sqlite.specs.Effect.{Database}
-use Rattle.sqlite.specs.Listing.{understood, reads_listing}
-use Rattle.sqlite.specs.State.{State, Executes, FailsToQuery, Shown, IsUnchanged}
-use Rattle.sqlite.proofs.Callers.{IsPlain, command_of}
-use Rattle.exam_tables.specs.Content.{ContainsIn, places, bare, put, delete, same_key}
-use Rattle.exam_tables.specs.Made.{made_schema, ContainsMade}
-use Rattle.exam_tables.specs.Plain.{one_table}
-use Rattle.exam_tables.specs.Refusals.{Refuses, RefusesRows, is_failure}
-use Rattle.exam_tables.specs.Tables.{store_schema, first_schema, stored_seat}
-use Rattle.exam_tables.specs.Texts.{put_seat, delete_seat, load_seat}
-use Rattle.exam_tables.proofs.Failing.{Answers, IsWhole, answers}
+use Rattle.sqlite.specs.Listing.{understood}
+use Rattle.sqlite_value.specs.declared.keys.Collation.TheVariants.{Binary}
+use Rattle.sqlite_value.specs.Keys.{first_key}
+use Rattle.sqlite_sql.specs.declared.ops.BinaryOp.TheVariants.{Compare}
+use Rattle.sqlite_sql.specs.declared.ops.CompareOp.TheVariants.{Eq}
+use lib.Utf8.{encode}
+use Rattle.sqlite_trees.specs.Sound.{begins, fits_kind, is_free_name, same_name}
+use Rattle.exam_tables.specs.Content.{bare, places, same_key, same_rowid}
+use Rattle.exam_tables.specs.Loads.{IsLoad}
+use Rattle.exam_tables.specs.Made.{made_schema}
+use Rattle.exam_tables.specs.Tables.{seat, first_schema, made, store_schema}
+use Rattle.exam_tables.specs.Texts.{delete_seat}
 use Rattle.exam_tables.proofs.Fits.{Fits, fits_chosen}
-use Rattle.exam_tables.proofs.KeysHold as keys
-use Rattle.exam_tables.proofs.References.{Stand, refers}
 use Rattle.exam_tables.proofs.Keys.{cast_int}
-use Rattle.exam_tables.proofs.Statements.{put_by, put_sets}
-use Rattle.exam_tables.proofs.Deletes.{delete_by, delete_takes}
-use Rattle.exam_tables.proofs.QueryFails.{query_fails}
-use Rattle.exam_tables.proofs.Loads.{shown_by}
-use Rattle.exam_tables.proofs.TableFacts.{seat_keyed}
+use Rattle.exam_tables.proofs.Loads.{load_of}
+use Rattle.exam_tables.specs.Plain.{one_table}
+use Rattle.exam_tables.specs.Keyed.{IsKeyed}
+use Rattle.exam_tables.specs.Changes.{without_row}
+use Rattle.exam_tables.proofs.Edits.{Edits, Means, PutsRow, removes, replaces}
+use Rattle.exam_tables.proofs.Keying.{by_index, or_false}
+use Rattle.exam_tables.proofs.Making.{Adds, IsCreate, adds_by}
+use Rattle.exam_tables.proofs.Quiet.{IsQuery}
+
+-- the text that makes it is understood, and nothing forbids the table
+create : IsCreate (made seat.at) seat.create
+unfolding understood everything made
+create = (refl, refl, (refl, refl), (lit≤ tt, refl))
+
+pub adds : Adds seat
+unfolding everything encode value_cmp fits_kind is_free_name same_name begins lib.Ieee.is_nan lib.Ieee.lt made
+adds = adds_by seat create refl refl refl refl refl refl refl (seat.create, (refl, refl)) (seat.table.name, (refl, refl)) refl (lit< tt) (lit< tt) refl refl refl (lit< tt)
+
+-- it has one key, and no foreign key acts on its rows
+pub keyed : IsKeyed store_schema seat.at seat.table seat.key seat.key
+unfolding store_schema
+keyed = by_index seat refl refl refl refl (λ a b. ap (λ x. same_rowid a b || x) (or_false _)) (λ a b. or_false _) (λ db s h. not-true _ (and_parts _ _ h).0)
 
 abbrev pub row : (List ℕ) → ℤ → (List ℕ) → Row
 row session number hall = Text session ∷ Int number ∷ Text hall ∷ []
 
--- the row as it is kept, after its rowid
-abbrev columns : (List ℕ) → ℤ → (List ℕ) → Row
-columns session number hall = Text session ∷ Int number ∷ Text hall ∷ []
-
-fits : (session : List ℕ) (number : ℤ) (hall : List ℕ) → Fits stored_seat (1 ∷ 2 ∷ []) (Null) (columns session number hall) (row session number hall)
-fits session number hall = fits_chosen stored_seat (1 ∷ 2 ∷ []) (row session number hall) refl (simp (cast_int)) (λ v. refl)
+fits : (session : List ℕ) (number : ℤ) (hall : List ℕ) → Fits seat.table seat.key Null (row session number hall) (row session number hall)
+fits session number hall = fits_chosen seat.table seat.key (row session number hall) refl (simp (cast_int)) (λ v. refl)
 
 abbrev terms : List Term
 terms = lit Null ∷ col 0 0 ∷ col 0 1 ∷ col 0 2 ∷ []
 
-abbrev pub put_text : List ℕ
-put_text = put_seat
-
-put_is : command_of (understood store_schema put_text) ≡ InsertOr 9 Replace (Values terms 4) []
+put_means : Means store_schema seat.put (InsertOr seat.at Replace (Values terms 4) []) 3
 unfolding understood everything store_schema
-put_is = refl
+put_means = (refl, (refl, refl), (lit≤ tt, refl))
 
-put_plain : IsPlain (understood store_schema put_text)
-unfolding understood everything store_schema
-put_plain = (refl, refl)
-
-pub puts : (old new : State) (session : List ℕ) (number : ℤ) (hall : List ℕ) (r : Result ℕ Error) → Executes put_text (row session number hall) old new r
-    → OnOk r ((all : Trees) → ContainsIn store_schema old.now all → ContainsIn store_schema new.now (with_tree all 15 (put (1 ∷ 2 ∷ []) (Null ∷ row session number hall) (all 15))))
-puts old new session number hall r h = put_by store_schema 9 stored_seat (1 ∷ 2 ∷ []) (1 ∷ 2 ∷ []) seat_keyed put_text terms 4 put_is put_plain old new (row session number hall) r (Null) (columns session number hall) (row session number hall) (fits session number hall) refl h
-
-put_whole : IsWhole put_text 3 (understood store_schema put_text)
-unfolding understood everything store_schema
-put_whole = (lit≤ tt, refl)
-
-pub put_answers : (old new : State) (session : List ℕ) (number : ℤ) (hall : List ℕ) → old.now.schema ≡ store_schema → Answers put_text (row session number hall) old new
-put_answers old new session number hall has = answers put_text (row session number hall) old new store_schema has _ put_is tt put_plain put_whole
-
--- where each row then has what it refers to, no foreign key refuses the put
-pub put_refused : (limit : Option ℕ) (db : Database) (all : Trees) (session : List ℕ) (number : ℤ) (hall : List ℕ) → ContainsIn store_schema db all → Stand (with_tree all 15 (put (1 ∷ 2 ∷ []) (Null ∷ row session number hall) (all 15))) → Refuses limit db put_text (row session number hall) → RefusesRows limit db put_text (row session number hall)
-put_refused limit db all session number hall was stand = keys.put_refused store_schema 9 stored_seat (1 ∷ 2 ∷ []) (1 ∷ 2 ∷ []) seat_keyed limit db all was put_text Replace [] terms 4 put_is put_plain (row session number hall) (row session number hall)
-    (put_sets store_schema 9 stored_seat (1 ∷ 2 ∷ []) (1 ∷ 2 ∷ []) seat_keyed limit terms 4 (row session number hall) (Null) (columns session number hall) (row session number hall) (fits session number hall) refl) (λ next holds. refers next _ holds stand)
-
-abbrev pub delete_text : List ℕ
-delete_text = delete_seat
+-- the row replaces the one with its key
+pub puts : (session : List ℕ) (number : ℤ) (hall : List ℕ) → PutsRow seat.table.tree seat.key seat.put (row session number hall)
+puts session number hall = replaces keyed seat.put terms 4 Null (row session number hall) (row session number hall) (fits session number hall) refl put_means
 
 abbrev key_terms : List Term
 key_terms = op2 (Compare Eq Binary) (col 1 1) (col 0 0) ∷ op2 (Compare Eq Binary) (col 1 2) (col 0 1) ∷ []
 
-delete_is : command_of (understood store_schema delete_text) ≡ Delete 9 (record { lets = []; body = one_table 15 key_terms (col 1 0 ∷ []) [] })
+delete_means : Means store_schema delete_seat (Delete seat.at (record { lets = []; body = one_table seat.table.tree key_terms (col 1 0 ∷ []) [] })) 2
 unfolding understood everything store_schema
-delete_is = refl
+delete_means = (refl, (refl, refl), (lit≤ tt, refl))
 
-delete_plain : IsPlain (understood store_schema delete_text)
-unfolding understood everything store_schema
-delete_plain = (refl, refl)
-
-key_means : (params r : Row) → list_all (holds (params ∷ r ∷ [])) key_terms ≡ same_key (1 ∷ 2 ∷ []) (bare (places stored_seat) r) (Null ∷ params)
+key_means : (params r : Row) → list_all (holds (params ∷ r ∷ [])) key_terms ≡ same_key seat.key (bare (places seat.table) r) (Null ∷ params)
 unfolding first_key
 key_means params r = refl
 
-pub deletes : (old new : State) (session : List ℕ) (number : ℤ) (r : Result ℕ Error) → Executes delete_text (Text session ∷ Int number ∷ []) old new r
-    → OnOk r ((all : Trees) → ContainsIn store_schema old.now all → ContainsIn store_schema new.now (with_tree all 15 (delete (1 ∷ 2 ∷ []) (Null ∷ Text session ∷ Int number ∷ []) (all 15))))
-deletes old new session number r h = delete_by store_schema 9 stored_seat (1 ∷ 2 ∷ []) (1 ∷ 2 ∷ []) seat_keyed key_terms delete_text delete_is delete_plain (λ db. refl) old new (Text session ∷ Int number ∷ []) r (key_means (Text session ∷ Int number ∷ [])) h
-
-delete_whole : IsWhole delete_text 2 (understood store_schema delete_text)
-unfolding understood everything store_schema
-delete_whole = (lit≤ tt, refl)
-
-pub delete_answers : (old new : State) (session : List ℕ) (number : ℤ) → old.now.schema ≡ store_schema → Answers delete_text (Text session ∷ Int number ∷ []) old new
-delete_answers old new session number has = answers delete_text (Text session ∷ Int number ∷ []) old new store_schema has _ delete_is tt delete_plain delete_whole
-
--- where each row that is left has what it refers to, no foreign key refuses the delete
-pub delete_refused : (limit : Option ℕ) (db : Database) (all : Trees) (session : List ℕ) (number : ℤ) → ContainsIn store_schema db all → Stand (with_tree all 15 (delete (1 ∷ 2 ∷ []) (Null ∷ Text session ∷ Int number ∷ []) (all 15))) → Refuses limit db delete_text (Text session ∷ Int number ∷ []) → RefusesRows limit db delete_text (Text session ∷ Int number ∷ [])
-delete_refused limit db all session number was stand = keys.delete_refused store_schema 9 stored_seat (1 ∷ 2 ∷ []) (1 ∷ 2 ∷ []) seat_keyed limit db all was delete_text key_terms delete_is delete_plain (Text session ∷ Int number ∷ [])
-    (delete_takes store_schema 9 stored_seat (1 ∷ 2 ∷ []) (1 ∷ 2 ∷ []) seat_keyed key_terms limit (λ db. refl) (Text session ∷ Int number ∷ []) (key_means (Text session ∷ Int number ∷ []))) (λ next holds. refers next _ holds stand)
-
-abbrev pub load_text : List ℕ
-load_text = load_seat
+-- the row with the key is taken away
+pub deletes : (session : List ℕ) (number : ℤ) → Edits (without_row seat.table.tree seat.key (Text session ∷ Int number ∷ [])) delete_seat (Text session ∷ Int number ∷ [])
+deletes session number = removes keyed delete_seat key_terms (Text session ∷ Int number ∷ []) delete_means (λ db. refl) (key_means (Text session ∷ Int number ∷ []))
 
 abbrev shown_terms : List Term
 shown_terms = col 1 1 ∷ col 1 2 ∷ col 1 3 ∷ []
 
-load_place : (has_marks : Bool) → slice_get (made_schema has_marks).tables 9 ≡ Some stored_seat
-unfolding store_schema first_schema
-load_place true = refl
-load_place false = refl
-
-load_is : (has_marks : Bool) → command_of (understood (made_schema has_marks) load_text) ≡ Select (record { lets = []; body = one_table 15 [] shown_terms [] }) (codes "session" ∷ codes "number" ∷ codes "hall" ∷ [])
+-- the text that loads shows each column, with the table of marks or without it
+pub loads : (has_marks : Bool) → IsLoad (made_schema has_marks) seat.table.tree seat.load
 unfolding understood everything store_schema first_schema
-load_is true = refl
-load_is false = refl
+loads true = load_of (made_schema true) seat.at seat.table seat.load shown_terms (codes "session" ∷ codes "number" ∷ codes "hall" ∷ []) refl refl (refl, refl) refl (λ db. refl) (λ r. refl)
+loads false = load_of (made_schema false) seat.at seat.table seat.load shown_terms (codes "session" ∷ codes "number" ∷ codes "hall" ∷ []) refl refl (refl, refl) refl (λ db. refl) (λ r. refl)
 
-load_plain : (has_marks : Bool) → IsPlain (understood (made_schema has_marks) load_text)
-unfolding understood everything store_schema first_schema
-load_plain true = (refl, refl)
-load_plain false = (refl, refl)
-
-load_unlisted : (has_marks : Bool) → reads_listing (made_schema has_marks) load_text ≡ false
-unfolding understood everything store_schema first_schema
-load_unlisted true = refl
-load_unlisted false = refl
-
-pub shows : (old new : State) (rows : List Row) (all : Trees) → ContainsMade old.now all → Shown load_text [] old new rows
-    → IsPermutation (all 15) (map (λ r. Null ∷ r) rows) × AllByRecursion (λ r. length r ≡ 3) rows × IsUnchanged old new
-shows old new rows all was = shown_by (made_schema was.has_marks) 9 stored_seat (load_place was.has_marks) load_text shown_terms [] _ (load_is was.has_marks) (load_plain was.has_marks) (load_unlisted was.has_marks) (λ db. refl) (λ r. refl) refl old new rows all was.contains
-
--- where it fails, the text was understood
-pub load_fails : (old new : State) (has_marks : Bool) → old.now.schema ≡ made_schema has_marks → (e : Error) → FailsToQuery load_text [] old new e → (e ≡ SqliteFailure OutOfMemory) ⊎ IsTrue (is_failure e)
-load_fails old new has_marks has e h = query_fails load_text [] old new (made_schema has_marks) has (load_plain has_marks) e h
+pub is_query : IsQuery seat.load
+unfolding everything
+is_query schema base = refl

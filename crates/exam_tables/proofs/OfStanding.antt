@@ -1,99 +1,67 @@
--- The table standing: what its texts mean, and what they do.
-use Rattle.std.proofs.Common.{◌≡◌, ◌⊎◌, IsTrue, lit≤, ℕ, ℤ, List, [], ◌∷◌, codes, map, length, false, Result, OnOk, Option, refl}
-use Rattle.std.specs.List.{AllByRecursion}
-use Rattle.std.specs.List.Sorted.{IsPermutation}
-use Rattle.sqlite_value.specs.declared.value.Value.TheVariants.{Null, Int, Text}
-use Rattle.sqlite_value.specs.Order.{Row}
-use Rattle.sqlite_trees.specs.Tree.{Trees, with_tree}
-use Rattle.sqlite_sql.specs.Term.{Term, lit, col}
+-- The table standing: how it is made, what its texts mean, and what they do.
+use Rattle.std.proofs.Common.{List, [], ap, codes, lit<, lit≤, refl, ℕ, ℤ, ◌||◌, ◌∷◌}
+use Rattle.std.proofs.lemmas.Bool.{and_parts, not-true}
+use Rattle.sqlite_value.specs.declared.value.Value.TheVariants.{Int, Null, Text}
+use Rattle.sqlite_value.specs.Order.{Row, value_cmp}
+use Rattle.sqlite_sql.specs.Term.{Term, col, lit}
 use Rattle.sqlite_schema.specs.declared.command.Conflict.TheVariants.{Replace}
-use Rattle.sqlite_schema.specs.declared.command.Command.TheVariants.{InsertOr, Select}
+use Rattle.sqlite_schema.specs.declared.command.Command.TheVariants.{InsertOr}
 use Rattle.sqlite_schema.specs.declared.command.Source.TheVariants.{Values}
 use Rattle.sqlite_tied.specs.Compute.{everything}
-use Rattle.sqlite.specs.declared.error.Error.{Error}
-use Rattle.sqlite.specs.declared.error.Error.TheVariants.{SqliteFailure}
-use Rattle.sqlite.specs.declared.error.ErrorCode.TheVariants.{OutOfMemory}
-use Rattle.sqlite.specs.Effect.{Database}
-use Rattle.sqlite.specs.Listing.{understood, reads_listing}
-use Rattle.sqlite.specs.State.{State, Executes, FailsToQuery, Shown, IsUnchanged}
-use Rattle.sqlite.proofs.Callers.{IsPlain, command_of}
-use Rattle.exam_tables.specs.Content.{ContainsIn, put}
-use Rattle.exam_tables.specs.Plain.{one_table}
-use Rattle.exam_tables.specs.Refusals.{Refuses, RefusesRows, is_failure}
-use Rattle.exam_tables.specs.Tables.{store_schema, stored_standing}
-use Rattle.exam_tables.specs.Texts.{put_standing, load_standing}
-use Rattle.exam_tables.proofs.Failing.{Answers, IsWhole, answers}
+use Rattle.sqlite.specs.Listing.{understood}
+use lib.Utf8.{encode}
+use Rattle.sqlite_trees.specs.Sound.{begins, fits_kind, is_free_name, same_name}
+use Rattle.exam_tables.specs.Content.{same_rowid}
+use Rattle.exam_tables.specs.Loads.{IsLoad}
+use Rattle.exam_tables.specs.Tables.{standing, made, store_schema}
 use Rattle.exam_tables.proofs.Fits.{Fits, fits_chosen}
-use Rattle.exam_tables.proofs.KeysHold as keys
-use Rattle.exam_tables.proofs.References.{Stand, refers}
 use Rattle.exam_tables.proofs.Keys.{cast_int}
-use Rattle.exam_tables.proofs.Statements.{put_by, put_sets}
-use Rattle.exam_tables.proofs.QueryFails.{query_fails}
-use Rattle.exam_tables.proofs.Loads.{shown_by}
-use Rattle.exam_tables.proofs.TableFacts.{standing_keyed}
+use Rattle.exam_tables.proofs.Loads.{load_of}
+use Rattle.exam_tables.specs.Keyed.{IsKeyed}
+use Rattle.exam_tables.proofs.Edits.{Means, PutsRow, replaces}
+use Rattle.exam_tables.proofs.Keying.{by_index, or_false}
+use Rattle.exam_tables.proofs.Making.{Adds, IsCreate, adds_by}
+use Rattle.exam_tables.proofs.Quiet.{IsQuery}
+
+-- the text that makes it is understood, and nothing forbids the table
+create : IsCreate (made standing.at) standing.create
+unfolding understood everything made
+create = (refl, refl, (refl, refl), (lit≤ tt, refl))
+
+pub adds : Adds standing
+unfolding everything encode value_cmp fits_kind is_free_name same_name begins lib.Ieee.is_nan lib.Ieee.lt made
+adds = adds_by standing create refl refl refl refl refl refl refl (standing.create, (refl, refl)) (standing.table.name, (refl, refl)) refl (lit< tt) (lit< tt) refl refl refl (lit< tt)
+
+-- it has one key, and no foreign key acts on its rows
+pub keyed : IsKeyed store_schema standing.at standing.table standing.key standing.key
+unfolding store_schema
+keyed = by_index standing refl refl refl refl (λ a b. ap (λ x. same_rowid a b || x) (or_false _)) (λ a b. or_false _) (λ db s h. not-true _ (and_parts _ _ h).0)
 
 abbrev pub row : ℤ → (List ℕ) → Row
 row number ref = Int number ∷ Text ref ∷ []
 
--- the row as it is kept, after its rowid
-abbrev columns : ℤ → (List ℕ) → Row
-columns number ref = Int number ∷ Text ref ∷ []
-
-fits : (number : ℤ) (ref : List ℕ) → Fits stored_standing (1 ∷ 2 ∷ []) (Null) (columns number ref) (row number ref)
-fits number ref = fits_chosen stored_standing (1 ∷ 2 ∷ []) (row number ref) refl (simp (cast_int)) (λ v. refl)
+fits : (number : ℤ) (ref : List ℕ) → Fits standing.table standing.key Null (row number ref) (row number ref)
+fits number ref = fits_chosen standing.table standing.key (row number ref) refl (simp (cast_int)) (λ v. refl)
 
 abbrev terms : List Term
 terms = lit Null ∷ col 0 0 ∷ col 0 1 ∷ []
 
-abbrev pub put_text : List ℕ
-put_text = put_standing
-
-put_is : command_of (understood store_schema put_text) ≡ InsertOr 10 Replace (Values terms 3) []
+put_means : Means store_schema standing.put (InsertOr standing.at Replace (Values terms 3) []) 2
 unfolding understood everything store_schema
-put_is = refl
+put_means = (refl, (refl, refl), (lit≤ tt, refl))
 
-put_plain : IsPlain (understood store_schema put_text)
-unfolding understood everything store_schema
-put_plain = (refl, refl)
-
-pub puts : (old new : State) (number : ℤ) (ref : List ℕ) (r : Result ℕ Error) → Executes put_text (row number ref) old new r
-    → OnOk r ((all : Trees) → ContainsIn store_schema old.now all → ContainsIn store_schema new.now (with_tree all 17 (put (1 ∷ 2 ∷ []) (Null ∷ row number ref) (all 17))))
-puts old new number ref r h = put_by store_schema 10 stored_standing (1 ∷ 2 ∷ []) (1 ∷ 2 ∷ []) standing_keyed put_text terms 3 put_is put_plain old new (row number ref) r (Null) (columns number ref) (row number ref) (fits number ref) refl h
-
-put_whole : IsWhole put_text 2 (understood store_schema put_text)
-unfolding understood everything store_schema
-put_whole = (lit≤ tt, refl)
-
-pub put_answers : (old new : State) (number : ℤ) (ref : List ℕ) → old.now.schema ≡ store_schema → Answers put_text (row number ref) old new
-put_answers old new number ref has = answers put_text (row number ref) old new store_schema has _ put_is tt put_plain put_whole
-
--- where each row then has what it refers to, no foreign key refuses the put
-pub put_refused : (limit : Option ℕ) (db : Database) (all : Trees) (number : ℤ) (ref : List ℕ) → ContainsIn store_schema db all → Stand (with_tree all 17 (put (1 ∷ 2 ∷ []) (Null ∷ row number ref) (all 17))) → Refuses limit db put_text (row number ref) → RefusesRows limit db put_text (row number ref)
-put_refused limit db all number ref was stand = keys.put_refused store_schema 10 stored_standing (1 ∷ 2 ∷ []) (1 ∷ 2 ∷ []) standing_keyed limit db all was put_text Replace [] terms 3 put_is put_plain (row number ref) (row number ref)
-    (put_sets store_schema 10 stored_standing (1 ∷ 2 ∷ []) (1 ∷ 2 ∷ []) standing_keyed limit terms 3 (row number ref) (Null) (columns number ref) (row number ref) (fits number ref) refl) (λ next holds. refers next _ holds stand)
-
-abbrev pub load_text : List ℕ
-load_text = load_standing
+-- the row replaces the one with its key
+pub puts : (number : ℤ) (ref : List ℕ) → PutsRow standing.table.tree standing.key standing.put (row number ref)
+puts number ref = replaces keyed standing.put terms 3 Null (row number ref) (row number ref) (fits number ref) refl put_means
 
 abbrev shown_terms : List Term
 shown_terms = col 1 1 ∷ col 1 2 ∷ []
 
-load_is : command_of (understood store_schema load_text) ≡ Select (record { lets = []; body = one_table 17 [] shown_terms [] }) (codes "number" ∷ codes "ref" ∷ [])
+-- the text that loads shows each column
+pub loads : IsLoad store_schema standing.table.tree standing.load
 unfolding understood everything store_schema
-load_is = refl
+loads = load_of store_schema standing.at standing.table standing.load shown_terms (codes "number" ∷ codes "ref" ∷ []) refl refl (refl, refl) refl (λ db. refl) (λ r. refl)
 
-load_plain : IsPlain (understood store_schema load_text)
-unfolding understood everything store_schema
-load_plain = (refl, refl)
-
-load_unlisted : reads_listing store_schema load_text ≡ false
-unfolding understood everything store_schema
-load_unlisted = refl
-
-pub shows : (old new : State) (rows : List Row) (all : Trees) → ContainsIn store_schema old.now all → Shown load_text [] old new rows
-    → IsPermutation (all 17) (map (λ r. Null ∷ r) rows) × AllByRecursion (λ r. length r ≡ 2) rows × IsUnchanged old new
-shows = shown_by store_schema 10 stored_standing standing_keyed.place load_text shown_terms [] _ load_is load_plain load_unlisted (λ db. refl) (λ r. refl) refl
-
--- where it fails, the text was understood
-pub load_fails : (old new : State) → old.now.schema ≡ store_schema → (e : Error) → FailsToQuery load_text [] old new e → (e ≡ SqliteFailure OutOfMemory) ⊎ IsTrue (is_failure e)
-load_fails old new has e h = query_fails load_text [] old new store_schema has load_plain e h
+pub is_query : IsQuery standing.load
+unfolding everything
+is_query schema base = refl

@@ -19,17 +19,6 @@ use Rattle.sqlite.specs.Held.{Held, state}
 use Rattle.sqlite.specs.Listing.{understood, if_select, is_select, reads_listing, listing_schema}
 use Rattle.sqlite.specs.State.{State, CommitsShowing, Shown, FailsToQuery, FailsToShow, IsNotRun, IsUnchanged, IsRolledBack}
 use Rattle.exam_tables.specs.Texts.{session_appeals}
-use Rattle.exam_tables.proofs.OfOffice as office
-use Rattle.exam_tables.proofs.OfSession as session
-use Rattle.exam_tables.proofs.OfPaper as paper
-use Rattle.exam_tables.proofs.OfHall as hall
-use Rattle.exam_tables.proofs.OfCandidate as candidate
-use Rattle.exam_tables.proofs.OfOpening as opening
-use Rattle.exam_tables.proofs.OfEntry as entry
-use Rattle.exam_tables.proofs.OfArrangement as arrangement
-use Rattle.exam_tables.proofs.OfAppeal as appeal
-use Rattle.exam_tables.proofs.OfSeat as seat
-use Rattle.exam_tables.proofs.OfStanding as standing
 
 -- the text has no RETURNING
 abbrev pub IsQuery : List ℕ → Type 0
@@ -95,50 +84,6 @@ failed_unchanged text params old new e (inr (c, it, fails)) = of_rows c.returnin
     of_rows (Some what) (inl h) = inl h.1
     of_rows (Some what) (inr (cause, told, has, back, tells)) = inr back
 
-pub office_is_query : IsQuery office.load_text
-unfolding everything
-office_is_query schema base = refl
-
-pub session_is_query : IsQuery session.load_text
-unfolding everything
-session_is_query schema base = refl
-
-pub paper_is_query : IsQuery paper.load_text
-unfolding everything
-paper_is_query schema base = refl
-
-pub hall_is_query : IsQuery hall.load_text
-unfolding everything
-hall_is_query schema base = refl
-
-pub candidate_is_query : IsQuery candidate.load_text
-unfolding everything
-candidate_is_query schema base = refl
-
-pub opening_is_query : IsQuery opening.load_text
-unfolding everything
-opening_is_query schema base = refl
-
-pub entry_is_query : IsQuery entry.load_text
-unfolding everything
-entry_is_query schema base = refl
-
-pub arrangement_is_query : IsQuery arrangement.load_text
-unfolding everything
-arrangement_is_query schema base = refl
-
-pub appeal_is_query : IsQuery appeal.load_text
-unfolding everything
-appeal_is_query schema base = refl
-
-pub seat_is_query : IsQuery seat.load_text
-unfolding everything
-seat_is_query schema base = refl
-
 pub session_appeals_is_query : IsQuery session_appeals
 unfolding everything
 session_appeals_is_query schema base = refl
-
-pub standing_is_query : IsQuery standing.load_text
-unfolding everything
-standing_is_query schema base = refl

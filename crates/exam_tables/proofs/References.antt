@@ -15,7 +15,8 @@ use Rattle.sqlite_rules.proofs.ListLemmas.{all_has, all_from, some_from, some_ha
 use Rattle.sqlite_rules.proofs.ProbeLemmas.{has_mapped, mapped_has}
 use Rattle.sqlite.specs.Effect.{Database}
 use Rattle.exam_tables.specs.Content.{ContainsIn, Holds, places, bare}
-use Rattle.exam_tables.specs.Tables.{store_schema, stored_session, stored_paper, stored_hall, stored_candidate, stored_opening, stored_entry, stored_arrangement, stored_appeal, stored_seat, stored_standing}
+use Rattle.exam_tables.specs.Tables as tables
+use Rattle.exam_tables.specs.Tables.{Described, store_schema}
 use Rattle.exam_tables.proofs.Queries.{has_permuted}
 
 -- a foreign key: the tree of the rows that refer to others, the places of their columns, and the tree and the key of
@@ -29,14 +30,18 @@ pub record Link : Type 0 where
 abbrev pub link : ℕ → List ℕ → ℕ → List ℕ → Link
 link child columns parent key = record { child = child; columns = columns; parent = parent; key = key }
 
+-- from these columns of the one table to the key of the other
+abbrev pub link_to : Described → List ℕ → Described → Link
+link_to child columns parent = link child.table.tree columns parent.table.tree parent.key
+
 -- the foreign keys of the eleven tables, by their rows read by columns
 abbrev pub links : List Link
 links =
-    link 3 (3 ∷ []) 1 (1 ∷ []) ∷ link 8 (1 ∷ []) 1 (1 ∷ []) ∷ link 8 (2 ∷ []) 5 (1 ∷ [])
-    ∷ link 10 (1 ∷ []) 7 (1 ∷ []) ∷ link 10 (2 ∷ []) 3 (1 ∷ []) ∷ link 12 (1 ∷ []) 7 (1 ∷ [])
-    ∷ link 13 (1 ∷ []) 7 (1 ∷ []) ∷ link 13 (3 ∷ []) 1 (1 ∷ [])
-    ∷ link 15 (2 ∷ []) 7 (1 ∷ []) ∷ link 15 (1 ∷ 3 ∷ []) 8 (1 ∷ 2 ∷ [])
-    ∷ link 17 (1 ∷ 2 ∷ []) 13 (1 ∷ 2 ∷ []) ∷ []
+    link_to tables.paper (3 ∷ []) tables.session ∷ link_to tables.opening (1 ∷ []) tables.session ∷ link_to tables.opening (2 ∷ []) tables.hall
+    ∷ link_to tables.entry (1 ∷ []) tables.candidate ∷ link_to tables.entry (2 ∷ []) tables.paper ∷ link_to tables.arrangement (1 ∷ []) tables.candidate
+    ∷ link_to tables.appeal (1 ∷ []) tables.candidate ∷ link_to tables.appeal (3 ∷ []) tables.session
+    ∷ link_to tables.seat (2 ∷ []) tables.candidate ∷ link_to tables.seat (1 ∷ 3 ∷ []) tables.opening
+    ∷ link_to tables.standing (1 ∷ 2 ∷ []) tables.appeal ∷ []
 
 -- one of these rows is the one that the row refers to
 abbrev pub has_parent : Link → List Row → Row → Bool
@@ -68,27 +73,27 @@ module _ (db all : Trees) where
     (
       all_from _ (db 1) (λ r h. refl),
       (
-        all_from _ (db 3) (λ r h. both_true (or_right _ _ (kept (places stored_paper) (places stored_session) _ _ _ _ (rows.1.1.0) (rows.1.0) _ _ (λ p r. refl) (stand.0) r h)) refl),
+        all_from _ (db 3) (λ r h. both_true (or_right _ _ (kept (places tables.paper.table) (places tables.session.table) _ _ _ _ (rows.1.1.0) (rows.1.0) _ _ (λ p r. refl) (stand.0) r h)) refl),
         (
           all_from _ (db 5) (λ r h. refl),
           (
             all_from _ (db 7) (λ r h. refl),
             (
-              all_from _ (db 8) (λ r h. both_true (or_right _ _ (kept (places stored_opening) (places stored_session) _ _ _ _ (rows.1.1.1.1.1.0) (rows.1.0) _ _ (λ p r. refl) (stand.1.0) r h))
-                  (both_true (or_right _ _ (kept (places stored_opening) (places stored_hall) _ _ _ _ (rows.1.1.1.1.1.0) (rows.1.1.1.0) _ _ (λ p r. refl) (stand.1.1.0) r h)) refl)),
+              all_from _ (db 8) (λ r h. both_true (or_right _ _ (kept (places tables.opening.table) (places tables.session.table) _ _ _ _ (rows.1.1.1.1.1.0) (rows.1.0) _ _ (λ p r. refl) (stand.1.0) r h))
+                  (both_true (or_right _ _ (kept (places tables.opening.table) (places tables.hall.table) _ _ _ _ (rows.1.1.1.1.1.0) (rows.1.1.1.0) _ _ (λ p r. refl) (stand.1.1.0) r h)) refl)),
               (
-                all_from _ (db 10) (λ r h. both_true (or_right _ _ (kept (places stored_entry) (places stored_candidate) _ _ _ _ (rows.1.1.1.1.1.1.0) (rows.1.1.1.1.0) _ _ (λ p r. refl) (stand.1.1.1.0) r h))
-                    (both_true (or_right _ _ (kept (places stored_entry) (places stored_paper) _ _ _ _ (rows.1.1.1.1.1.1.0) (rows.1.1.0) _ _ (λ p r. refl) (stand.1.1.1.1.0) r h)) refl)),
+                all_from _ (db 10) (λ r h. both_true (or_right _ _ (kept (places tables.entry.table) (places tables.candidate.table) _ _ _ _ (rows.1.1.1.1.1.1.0) (rows.1.1.1.1.0) _ _ (λ p r. refl) (stand.1.1.1.0) r h))
+                    (both_true (or_right _ _ (kept (places tables.entry.table) (places tables.paper.table) _ _ _ _ (rows.1.1.1.1.1.1.0) (rows.1.1.0) _ _ (λ p r. refl) (stand.1.1.1.1.0) r h)) refl)),
                 (
-                  all_from _ (db 12) (λ r h. both_true (or_right _ _ (kept (places stored_arrangement) (places stored_candidate) _ _ _ _ (rows.1.1.1.1.1.1.1.0) (rows.1.1.1.1.0) _ _ (λ p r. refl) (stand.1.1.1.1.1.0) r h)) refl),
+                  all_from _ (db 12) (λ r h. both_true (or_right _ _ (kept (places tables.arrangement.table) (places tables.candidate.table) _ _ _ _ (rows.1.1.1.1.1.1.1.0) (rows.1.1.1.1.0) _ _ (λ p r. refl) (stand.1.1.1.1.1.0) r h)) refl),
                   (
-                    all_from _ (db 13) (λ r h. both_true (or_right _ _ (kept (places stored_appeal) (places stored_candidate) _ _ _ _ (rows.1.1.1.1.1.1.1.1.0) (rows.1.1.1.1.0) _ _ (λ p r. refl) (stand.1.1.1.1.1.1.0) r h))
-                        (both_true (or_right _ _ (kept (places stored_appeal) (places stored_session) _ _ _ _ (rows.1.1.1.1.1.1.1.1.0) (rows.1.0) _ _ (λ p r. refl) (stand.1.1.1.1.1.1.1.0) r h)) refl)),
+                    all_from _ (db 13) (λ r h. both_true (or_right _ _ (kept (places tables.appeal.table) (places tables.candidate.table) _ _ _ _ (rows.1.1.1.1.1.1.1.1.0) (rows.1.1.1.1.0) _ _ (λ p r. refl) (stand.1.1.1.1.1.1.0) r h))
+                        (both_true (or_right _ _ (kept (places tables.appeal.table) (places tables.session.table) _ _ _ _ (rows.1.1.1.1.1.1.1.1.0) (rows.1.0) _ _ (λ p r. refl) (stand.1.1.1.1.1.1.1.0) r h)) refl)),
                     (
-                      all_from _ (db 15) (λ r h. both_true (or_right _ _ (kept (places stored_seat) (places stored_candidate) _ _ _ _ (rows.1.1.1.1.1.1.1.1.1.0) (rows.1.1.1.1.0) _ _ (λ p r. refl) (stand.1.1.1.1.1.1.1.1.0) r h))
-                          (both_true (or_right _ _ (kept (places stored_seat) (places stored_opening) _ _ _ _ (rows.1.1.1.1.1.1.1.1.1.0) (rows.1.1.1.1.1.0) _ _ (λ p r. refl) (stand.1.1.1.1.1.1.1.1.1.0) r h)) refl)),
+                      all_from _ (db 15) (λ r h. both_true (or_right _ _ (kept (places tables.seat.table) (places tables.candidate.table) _ _ _ _ (rows.1.1.1.1.1.1.1.1.1.0) (rows.1.1.1.1.0) _ _ (λ p r. refl) (stand.1.1.1.1.1.1.1.1.0) r h))
+                          (both_true (or_right _ _ (kept (places tables.seat.table) (places tables.opening.table) _ _ _ _ (rows.1.1.1.1.1.1.1.1.1.0) (rows.1.1.1.1.1.0) _ _ (λ p r. refl) (stand.1.1.1.1.1.1.1.1.1.0) r h)) refl)),
                       (
-                        all_from _ (db 17) (λ r h. both_true (or_right _ _ (kept (places stored_standing) (places stored_appeal) _ _ _ _ (rows.1.1.1.1.1.1.1.1.1.1.0) (rows.1.1.1.1.1.1.1.1.0) _ _ (λ p r. refl) (stand.1.1.1.1.1.1.1.1.1.1.0) r h)) refl),
+                        all_from _ (db 17) (λ r h. both_true (or_right _ _ (kept (places tables.standing.table) (places tables.appeal.table) _ _ _ _ (rows.1.1.1.1.1.1.1.1.1.1.0) (rows.1.1.1.1.1.1.1.1.0) _ _ (λ p r. refl) (stand.1.1.1.1.1.1.1.1.1.1.0) r h)) refl),
                         tt,
                       ),
                     ),

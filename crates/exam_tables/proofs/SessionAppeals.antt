@@ -35,13 +35,14 @@ use Rattle.sqlite.proofs.Callers.{IsPlain, EndsIn, begins_shown, command_of, giv
 use Rattle.exam_tables.specs.Content.{ContainsIn, bare, places}
 use Rattle.exam_tables.specs.Plain.{one_table}
 use Rattle.exam_tables.specs.Refusals.{is_failure}
-use Rattle.exam_tables.specs.Tables.{stored_appeal, store_schema}
+use Rattle.exam_tables.specs.Tables as tables
+use Rattle.exam_tables.specs.Tables.{store_schema}
 use Rattle.exam_tables.specs.Texts.{session_appeals}
 use Rattle.exam_tables.proofs.InOrder.{answers_in_order}
 use Rattle.exam_tables.proofs.Queries.{map_same}
 use Rattle.exam_tables.proofs.QueryFails.{query_fails}
 use Rattle.exam_tables.proofs.Statements.{held_at}
-use Rattle.exam_tables.proofs.TableFacts.{appeal_keyed}
+use Rattle.exam_tables.proofs.OfAppeal as appeal
 
 abbrev session_terms : List Term
 session_terms = op2 (Compare Eq Binary) (col 1 3) (col 0 0) ∷ []
@@ -68,7 +69,7 @@ query_unlisted = refl
 abbrev pub is_of : List ℕ → Row → Bool
 is_of s row = agree plain (3 ∷ []) row (1 ∷ []) (Null ∷ Text s ∷ [])
 
-session_means : (s : List ℕ) (r : Row) → list_all (holds ((Text s ∷ []) ∷ r ∷ [])) session_terms ≡ is_of s (bare (places stored_appeal) r)
+session_means : (s : List ℕ) (r : Row) → list_all (holds ((Text s ∷ []) ∷ r ∷ [])) session_terms ≡ is_of s (bare (places tables.appeal.table) r)
 unfolding first_key
 session_means s r = refl
 
@@ -91,14 +92,14 @@ module _ (s : List ℕ) where
       → (meant : List Row) → IsPermutation (filter (is_of s) (all 13)) (map (λ row. Null ∷ row) meant) → IsStrictlySortedBy shown_cmp meant → rows ≡ meant
   shows_in_order old new rows all was shown meant same strict =
       let read = reads_as session_appeals (Text s ∷ []) old new store_schema was.schema_is _ query_is query_plain query_unlisted rows shown in
-      let held = held_at store_schema 8 stored_appeal (1 ∷ 2 ∷ []) (1 ∷ 2 ∷ []) appeal_keyed old.now.trees all was.rows in
+      let held = held_at store_schema 8 tables.appeal.table (1 ∷ 2 ∷ []) (1 ∷ 2 ∷ []) appeal.keyed old.now.trees all was.rows in
       let show = λ (r : Row). eval_all shown_terms ((Text s ∷ []) ∷ r ∷ []) in
       let test = λ (r : Row). list_all (holds ((Text s ∷ []) ∷ r ∷ [])) session_terms in
       let passed = filter test (old.now.trees 13) in
-      let bared : map (λ (row : Row). Null ∷ row) (map show passed) ≡ map (bare (places stored_appeal)) passed = map-map (λ (row : Row). Null ∷ row) show passed ∙ map_same (λ r. Null ∷ show r) (bare (places stored_appeal)) (λ r. refl) passed in
-      let tested : passed ≡ filter (λ (r : Row). is_of s (bare (places stored_appeal) r)) (old.now.trees 13) = ap (λ (p : Row → Bool). filter p (old.now.trees 13)) (λ i r. session_means s r i) in
-      let chosen : map (λ (row : Row). Null ∷ row) (map show passed) ≡ filter (is_of s) (map (bare (places stored_appeal)) (old.now.trees 13)) =
-      bared ∙ ap (map (bare (places stored_appeal))) tested ∙ sym (filter-map (is_of s) (bare (places stored_appeal)) (old.now.trees 13)) in
+      let bared : map (λ (row : Row). Null ∷ row) (map show passed) ≡ map (bare (places tables.appeal.table)) passed = map-map (λ (row : Row). Null ∷ row) show passed ∙ map_same (λ r. Null ∷ show r) (bare (places tables.appeal.table)) (λ r. refl) passed in
+      let tested : passed ≡ filter (λ (r : Row). is_of s (bare (places tables.appeal.table) r)) (old.now.trees 13) = ap (λ (p : Row → Bool). filter p (old.now.trees 13)) (λ i r. session_means s r i) in
+      let chosen : map (λ (row : Row). Null ∷ row) (map show passed) ≡ filter (is_of s) (map (bare (places tables.appeal.table)) (old.now.trees 13)) =
+      bared ∙ ap (map (bare (places tables.appeal.table))) tested ∙ sym (filter-map (is_of s) (bare (places tables.appeal.table)) (old.now.trees 13)) in
       let rows_same : IsPermutation (map (λ (row : Row). Null ∷ row) (map show passed)) (map (λ (row : Row). Null ∷ row) meant) =
       subst (λ l. IsPermutation l (map (λ (row : Row). Null ∷ row) meant)) (sym chosen) (IsPermutation-trans _ _ _ (IsPermutation-filter (is_of s) _ _ held.same) same) in
       answers_in_order 13 session_terms shown_terms order (overlay old.now.trees []) (Text s ∷ []) rows (read.answer Null) shown_key (λ r. refl) ordered_total meant (unheaded (map show passed) meant rows_same) strict

@@ -367,19 +367,18 @@ module _ (schema : Schema) (at : ℕ) (table : Table) (key target : List ℕ) (k
       subst (λ (d : Database). ContainsIn schema d (with_tree all table.tree (put key (Null ∷ values) (all table.tree)))) (sym now)
       (does old.now.trees wrote.1 wrote.2 all (subst (λ (d : Database). ContainsIn schema d all) (database_is old.now was.schema_is refl) was))
 
+  -- The text of such a statement, run, sets the key to the row.
+  pub sets_by : (way : Conflict) (clauses : List Upsert) (text : List ℕ) (terms : List Term) (width : ℕ) → command_of (understood schema text) ≡ InsertOr at way (Values terms width) clauses → IsPlain (understood schema text)
+      → (old new : State) (params values : Row) (r : Result ℕ Error) → ((limit : Option ℕ) → SetsRow limit way clauses terms width params values) → Executes text params old new r
+      → OnOk r ((all : Trees) → ContainsIn schema old.now all → ContainsIn schema new.now (with_tree all table.tree (put key (Null ∷ values) (all table.tree))))
+  sets_by way clauses text terms width is simple old new params values (Err e) sets h = tt
+  sets_by way clauses text terms width is simple old new params values (Ok count) sets h = runs way clauses text terms width is simple old new params values count (sets old.step_limit) h
+
   -- INSERT OR REPLACE sets the key to the row.
   pub put_sets : (limit : Option ℕ) (terms : List Term) (width : ℕ) (params : Row) (first : Value) (columns values : Row) → Fits table key first columns values → value_rows params width (length terms / width) terms ≡ (first ∷ columns) ∷ []
       → SetsRow limit Replace [] terms width params values
   put_sets limit terms width params first columns values fits source =
       sets limit Replace [] terms width params first columns values fits (ap (λ vs. first ∷ vs) fits.whole) source (λ db comes one. replaces limit params first columns values fits db comes one)
-
-  -- The text of INSERT OR REPLACE, run, sets the key to the row.
-  pub put_by : (text : List ℕ) (terms : List Term) (width : ℕ) → command_of (understood schema text) ≡ InsertOr at Replace (Values terms width) [] → IsPlain (understood schema text)
-      → (old new : State) (params : Row) (r : Result ℕ Error) (first : Value) (columns values : Row) → Fits table key first columns values → value_rows params width (length terms / width) terms ≡ (first ∷ columns) ∷ []
-      → Executes text params old new r → OnOk r ((all : Trees) → ContainsIn schema old.now all → ContainsIn schema new.now (with_tree all table.tree (put key (Null ∷ values) (all table.tree))))
-  put_by text terms width is simple old new params (Err e) first columns values fits source h = tt
-  put_by text terms width is simple old new params (Ok count) first columns values fits source h =
-      runs Replace [] text terms width is simple old new params values count (put_sets old.step_limit terms width params first columns values fits source) h
 
   -- INSERT .. ON CONFLICT .. DO UPDATE sets the key to the row.
   pub upsert_sets : (limit : Option ℕ) (terms : List Term) (width : ℕ) (filter project : List Term) → ((db : Trees) → overlay db [] table.tree ≡ db table.tree) → (params : Row) (first : Value) (columns values : Row) → Fits table key first columns values
@@ -389,15 +388,3 @@ module _ (schema : Schema) (at : ℕ) (table : Table) (key target : List ℕ) (k
       → SetsRow limit Abort (on_conflict target table.tree filter project ∷ []) terms width params values
   upsert_sets limit terms width filter project own params first columns values fits source picked written =
       sets limit Abort (on_conflict target table.tree filter project ∷ []) terms width params first columns values fits refl source (λ db comes one shaped tried. upserts limit params first columns values fits filter project picked written db comes one shaped (own db) tried)
-
-  -- The text of INSERT .. ON CONFLICT .. DO UPDATE, run, sets the key to the row.
-  pub upsert_by : (text : List ℕ) (terms : List Term) (width : ℕ) (filter project : List Term)
-      → command_of (understood schema text) ≡ InsertOr at Abort (Values terms width) (on_conflict target table.tree filter project ∷ []) → IsPlain (understood schema text)
-      → ((db : Trees) → overlay db [] table.tree ≡ db table.tree) → (old new : State) (params : Row) (r : Result ℕ Error) (first : Value) (columns values : Row) → Fits table key first columns values
-      → value_rows params width (length terms / width) terms ≡ (first ∷ columns) ∷ []
-      → ((t r : Row) (id : ℤ) → list_all (holds ((params ++ rowid t ∷ shown table (Int id ∷ columns)) ∷ r ∷ [])) filter ≡ same_rowid r t)
-      → ((t : Row) (id : ℤ) → same_key key (bare (places table) t) (Null ∷ values) ≡ true → eval_all project ((params ++ rowid t ∷ shown table (Int id ∷ columns)) ∷ t ∷ []) ≡ rowid t ∷ rowid t ∷ columns)
-      → Executes text params old new r → OnOk r ((all : Trees) → ContainsIn schema old.now all → ContainsIn schema new.now (with_tree all table.tree (put key (Null ∷ values) (all table.tree))))
-  upsert_by text terms width filter project is simple own old new params (Err e) first columns values fits source picked written h = tt
-  upsert_by text terms width filter project is simple own old new params (Ok count) first columns values fits source picked written h =
-      runs Abort (on_conflict target table.tree filter project ∷ []) text terms width is simple old new params values count (upsert_sets old.step_limit terms width filter project own params first columns values fits source picked written) h

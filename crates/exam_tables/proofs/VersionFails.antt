@@ -48,13 +48,13 @@ use Rattle.sqlite.specs.State.{State, ExecutesInside, text_of}
 use Rattle.sqlite.proofs.Callers.{IsPlain, command_of, one_step}
 use Rattle.exam_tables.specs.Content.{ContainsIn, Holds, bare, places, same_key, same_rowid}
 use Rattle.exam_tables.specs.Refusals.{Fails, Refuses, at_once}
-use Rattle.exam_tables.specs.Tables.{store_schema, stored_office}
+use Rattle.exam_tables.specs.Tables as tables
+use Rattle.exam_tables.specs.Tables.{store_schema}
 use Rattle.exam_tables.proofs.Fits.{Comes}
 use Rattle.exam_tables.proofs.Keys.{cast_int, cast_null, equal_is, equal_itself, same_ints}
 use Rattle.exam_tables.proofs.KeysHold.{on_insert}
 use Rattle.exam_tables.proofs.OfOffice as office
 use Rattle.exam_tables.proofs.Statements.{finds, replaces, tries_one, without, held_at, database_is}
-use Rattle.exam_tables.proofs.TableFacts.{office_keyed}
 
 -- the first table has no index
 unguarded : list_all (λ (t : Table). not (t.tree == 0) || list_all (λ i. not (guards i t)) store_schema.indexes) store_schema.tables ≡ true
@@ -80,15 +80,15 @@ childless : list_all (λ (t : Table). list_all (λ (ref : Reference). is_elsewhe
 unfolding store_schema same_name joined
 childless = refl
 
-fit_references : (adds removes : Bool) → references_fit store_schema stored_office adds removes ≡ true
+fit_references : (adds removes : Bool) → references_fit store_schema tables.office.table adds removes ≡ true
 unfolding store_schema same_name
 fit_references true true = refl
 fit_references true false = refl
 fit_references false true = refl
 fit_references false false = refl
 
-first_table : Has store_schema.tables stored_office
-first_table = has_got store_schema.tables 0 stored_office office_keyed.place
+first_table : Has store_schema.tables tables.office.table
+first_table = has_got store_schema.tables 0 tables.office.table office.keyed.place
 
 -- where it is the table with this tree
 of_first : (test : Table → Bool) → list_all (λ (t : Table). not (t.tree == 0) || test t) store_schema.tables ≡ true → (t : Table) → Has store_schema.tables t → (t.tree == 0) ≡ true → test t ≡ true
@@ -143,24 +143,24 @@ module _ (db next : Trees) (others : KeepsOthers db next) where
 
 module _ (db : Trees) (gone : List ℤ) (sources news : List Row) where
   abbrev step : Edit
-  step = edit_of db stored_office gone Given 0 sources
+  step = edit_of db tables.office.table gone Given 0 sources
 
   -- its rows pass the rules that look at a row alone, and have free rowids
   record Passes : Type 0 where
     is : step.news ≡ news
-    datatype : list_all (passes Datatype store_schema db stored_office) news ≡ true
-    not_null : list_all (passes NotNull store_schema db stored_office) news ≡ true
-    check : list_all (passes Check store_schema db stored_office) news ≡ true
+    datatype : list_all (passes Datatype store_schema db tables.office.table) news ≡ true
+    not_null : list_all (passes NotNull store_schema db tables.office.table) news ≡ true
+    check : list_all (passes Check store_schema db tables.office.table) news ≡ true
     fresh : are_fresh (left_by db step) news ≡ true
     rowids : have_rowids news ≡ true
     fit : list_all (λ r. fits_i64 (id_in (rowid r))) news ≡ true
-    small : (r : Row) → Has news r → IsOversized store_schema stored_office r → ⊥
+    small : (r : Row) → Has news r → IsOversized store_schema tables.office.table r → ⊥
 
   module _ (pass : Passes) (unique : Keeps Unique store_schema db) where
     not_refused : (why : Refusal) → IsRefused store_schema Enforced db step why → ⊥
-    not_refused (Violates Datatype) bad = absurd (true≢false (sym pass.datatype ∙ subst (λ l. list_all (passes Datatype store_schema db stored_office) l ≡ false) pass.is bad))
-    not_refused (Violates NotNull) bad = absurd (true≢false (sym pass.not_null ∙ subst (λ l. list_all (passes NotNull store_schema db stored_office) l ≡ false) pass.is bad))
-    not_refused (Violates Check) bad = absurd (true≢false (sym pass.check ∙ subst (λ l. list_all (passes Check store_schema db stored_office) l ≡ false) pass.is bad))
+    not_refused (Violates Datatype) bad = absurd (true≢false (sym pass.datatype ∙ subst (λ l. list_all (passes Datatype store_schema db tables.office.table) l ≡ false) pass.is bad))
+    not_refused (Violates NotNull) bad = absurd (true≢false (sym pass.not_null ∙ subst (λ l. list_all (passes NotNull store_schema db tables.office.table) l ≡ false) pass.is bad))
+    not_refused (Violates Check) bad = absurd (true≢false (sym pass.check ∙ subst (λ l. list_all (passes Check store_schema db tables.office.table) l ≡ false) pass.is bad))
     not_refused (Violates PrimaryKey) bad = absurd (true≢false (sym pass.fresh ∙ subst (λ l. are_fresh (left_by db step) l ≡ false) pass.is bad))
     not_refused (Violates Unique) bad = bad (keeps_unique db _ (λ t has other. rw other refl) unique)
     not_refused (Violates ForeignKey) bad = bad
@@ -177,7 +177,7 @@ module _ (db : Trees) (gone : List ℤ) (sources news : List Row) where
     not_stopped : (why : Option Refusal) → Writes store_schema Enforced db step (Err why) → ⊥
     not_stopped why (inl (for, refused, same)) = not_refused for refused
     not_stopped why (inr (inl (r, has, big, same))) = pass.small r (subst (λ l. Has l r) pass.is has) big
-    not_stopped why (inr (inr (next, applies, settles))) = settled next why settles.0 (rw (office_keyed.still (taken_by db step) step.news) at settles.1)
+    not_stopped why (inr (inr (next, applies, settles))) = settled next why settles.0 (rw (office.keyed.still (taken_by db step) step.news) at settles.1)
 
 -- rows that are only taken out
 takes_pass : (db : Trees) (gone : List ℤ) → Passes db gone [] []
@@ -195,7 +195,7 @@ module _ (version : ℤ) where
   whole (pos n) = tt
   whole (negsuc n) = tt
 
-  storable : IsStorableRow (table_reals stored_office) row
+  storable : IsStorableRow (table_reals tables.office.table) row
   unfolding lib.Ieee.is_nan
   storable = (record { typed = λ c set. absurd (let zero : 0 ≡ 1 = sym (bit_at-zero c) ∙ set in cc); columns = (lit< tt, lit≤ tt); numbers = numbered; short = lit≤ tt }, lit< tt)
     where
@@ -205,12 +205,12 @@ module _ (version : ℤ) where
       numbered (suc (suc zero)) d below = whole version
       numbered (suc (suc (suc k))) d below = absurd (omega arith)
 
-  small : (r : Row) → Has (row ∷ []) r → IsOversized store_schema stored_office r → ⊥
-  small r (inl is) (inl long) = long (subst (IsStorableRow (table_reals stored_office)) (sym is) storable)
+  small : (r : Row) → Has (row ∷ []) r → IsOversized store_schema tables.office.table r → ⊥
+  small r (inl is) (inl long) = long (subst (IsStorableRow (table_reals tables.office.table)) (sym is) storable)
   small r (inr off) (inl long) = absurd off
   small r has (inr (i, hi, at, long)) = true≢false (sym (ap (λ n. n == 0) at) ∙ not-true _ (test_has (λ (i : Index). not (i.table == 0)) store_schema.indexes i unindexed hi))
 
-  cast_is : cast_row stored_office row ≡ row
+  cast_is : cast_row tables.office.table row ≡ row
   cast_is = ap₂ (λ v vs. v ∷ vs) (cast_int (pos 1)) (simp (cast_null, cast_int))
 
   -- the row, where its rowid is free
@@ -219,10 +219,10 @@ module _ (version : ℤ) where
 
   -- the rows without the key
   abbrev left : List Row → List Row
-  left = without store_schema 0 stored_office (1 ∷ []) (0 ∷ []) office_keyed values
+  left = without store_schema 0 tables.office.table (1 ∷ []) (0 ∷ []) office.keyed values
 
   -- what the row becomes beside the rows that are there
-  abbrev comes : (rows : List Row) → Comes stored_office (1 ∷ []) (Int (pos 1)) (office.columns (pos 1) version) values rows
+  abbrev comes : (rows : List Row) → Comes tables.office.table (1 ∷ []) (Int (pos 1)) (office.columns (pos 1) version) values rows
   comes rows = record { id = pos 1; numbered = refl; full = refl; tied = λ r h same. same }
 
   -- none has its rowid
@@ -230,7 +230,7 @@ module _ (version : ℤ) where
   free rows shaped =
       false_from_ne_true _ (λ taken.
       let r = some_has (λ r. is_eq (value_cmp (rowid r) (Int (pos 1)))) (left rows) taken in
-      let inside = has_filtered (λ r. not (same_key (1 ∷ []) (bare (places stored_office) r) (Null ∷ values))) rows r.0 r.1 in
+      let inside = has_filtered (λ r. not (same_key (1 ∷ []) (bare (places tables.office.table) r) (Null ∷ values))) rows r.0 r.1 in
       let lies = int_is (rowid r.0) (all_has _ rows r.0 shaped.1 inside.0) in
       let one : id_in (rowid r.0) ≡ pos 1 = same_ints _ _ (subst (λ v. value_cmp v (Int (pos 1)) ≡ Equal) lies (equal_is _ r.2)) in
       let same : same_rowid r.0 row ≡ true = subst (λ v. (equal (first_key plain).collation v (Int (pos 1)) && true) ≡ true) (sym (lies ∙ ap Int one)) (both_true (equal_itself (pos 1)) refl) in
@@ -241,7 +241,7 @@ module _ (version : ℤ) where
 
   module _ (limit : Option ℕ) (db : Trees) (shaped : IsShaped TableShape (db 0)) (rules : (rule : Constraint) → Keeps rule store_schema db) where
     abbrev office_task : Task
-    office_task = record { limit = limit; keys = Enforced; schema = store_schema; table = stored_office; params = given }
+    office_task = record { limit = limit; keys = Enforced; schema = store_schema; table = tables.office.table; params = given }
 
     abbrev TooFew : Option Error → Type 0
     TooFew stop = (stop ≡ Some (SqliteFailure OperationInterrupted)) × IsSome limit
@@ -250,7 +250,7 @@ module _ (version : ℤ) where
     first_of : {B : Type 0} {First : Option Error → Type 0} (stop : Option Error) → ((s : Option Error) × First s × ◌≡◌ {A = Result B (Option Error)} (Err stop) (Err s)) → First stop
     first_of {B} {First} stop it = let same : it.0 ≡ stop = cc in subst First same it.1
 
-    sourced : (stop : Option Error) → Sourced limit (record { schema = store_schema; trees = db }) (stamped stored_office given) (Values office.terms 3) (Err stop) → TooFew stop
+    sourced : (stop : Option Error) → Sourced limit (record { schema = store_schema; trees = db }) (stamped tables.office.table given) (Values office.terms 3) (Err stop) → TooFew stop
     sourced None h = absurd h
     sourced (Some e) (inl typed) = absurd (true≢false typed.1)
     sourced (Some e) (inr few) = (ap Some few.0, few.1)
@@ -270,14 +270,14 @@ module _ (version : ℤ) where
         edit_stops s it = not_stopped db (ids_of (x ∷ more)) [] [] (takes_pass db (ids_of (x ∷ more))) (rules Unique) it.0 it.1
     clears (x ∷ more) is stop (inr (mid, it, h)) =
         let edit = step db (ids_of (x ∷ more)) [] [] in
-        let applied = one_step store_schema Enforced db mid edit (office_keyed.still (taken_by db edit) edit.news) it in
+        let applied = one_step store_schema Enforced db mid edit (office.keyed.still (taken_by db edit) edit.news) it in
         puts mid (subst (λ l. is_taken l row ≡ false) (sym (applied.rows ∙ is)) (free (db 0) shaped)) (applied.fits.rules Unique (λ e. cc)) stop h
 
     tries : (stop : Option Error) → Tries office_task Replace [] row db (Err stop) → ⊥
     tries stop (inl (off, same)) = absurd cc
     tries stop (inr (Some why, judged, h)) = misjudged why judged
       where
-        misjudged : (why : Refusal) → IsJudged stored_office row (Some why) → ⊥
+        misjudged : (why : Refusal) → IsJudged tables.office.table row (Some why) → ⊥
         misjudged Mismatch bad = absurd (true≢false bad)
         misjudged NoRowid bad = bad
         misjudged BadReference bad = bad
@@ -289,14 +289,14 @@ module _ (version : ℤ) where
         misjudged (Violates Unique) bad = bad
         misjudged (Violates ForeignKey) bad = bad
     tries stop (inr (None, judged, (found, are, h))) =
-        clears found (finds store_schema 0 stored_office (1 ∷ []) (0 ∷ []) office_keyed limit given (Int (pos 1)) (office.columns (pos 1) version) values (office.fits (pos 1) version) db (comes (db 0)) found shaped are) stop h
+        clears found (finds store_schema 0 tables.office.table (1 ∷ []) (0 ∷ []) office.keyed limit given (Int (pos 1)) (office.columns (pos 1) version) values (office.fits (pos 1) version) db (comes (db 0)) found shaped are) stop h
 
     -- the source row is the row
-    tried_is : with_rowid Chosen (db 0) (cast_row stored_office (mended Replace stored_office row)) ≡ row
+    tried_is : with_rowid Chosen (db 0) (cast_row tables.office.table (mended Replace tables.office.table row)) ≡ row
     tried_is = ap (with_rowid Chosen (db 0)) cast_is
 
     inserts : (stop : Option Error) → InsertsOr office_task Replace [] (Values office.terms 3) db (Err stop) → TooFew stop
-    inserts stop (inl it) = sourced stop (first_of {First = λ s. Sourced limit (record { schema = store_schema; trees = db }) (stamped stored_office given) (Values office.terms 3) (Err s)} stop it)
+    inserts stop (inl it) = sourced stop (first_of {First = λ s. Sourced limit (record { schema = store_schema; trees = db }) (stamped tables.office.table given) (Values office.terms 3) (Err s)} stop it)
     inserts stop (inr (rows, is, inl counter)) = absurd (let e = counter.1 in cc)
     inserts stop (inr (rows, is, inr (counter, counted, inl each))) = absurd (of_each each.0 (subst (λ l. TriesEach office_task Replace [] l (count_of counter) (nothing db) (Err each.0)) is.1 each.1))
       where
@@ -309,8 +309,8 @@ module _ (version : ℤ) where
     -- each other table keeps its rows
     others : (w : Written) → InsertsOr office_task Replace [] (Values office.terms 3) db (Ok w) → KeepsOthers db w.trees
     others w wrote t has other =
-        let one = tries_one store_schema 0 stored_office (1 ∷ []) (0 ∷ []) office_keyed limit given Replace [] db row office.terms 3 w refl wrote in
-        let put = replaces store_schema 0 stored_office (1 ∷ []) (0 ∷ []) office_keyed limit given (Int (pos 1)) (office.columns (pos 1) version) values (office.fits (pos 1) version) db (comes (db 0)) one.0 shaped
+        let one = tries_one store_schema 0 tables.office.table (1 ∷ []) (0 ∷ []) office.keyed limit given Replace [] db row office.terms 3 w refl wrote in
+        let put = replaces store_schema 0 tables.office.table (1 ∷ []) (0 ∷ []) office.keyed limit given (Int (pos 1)) (office.columns (pos 1) version) values (office.fits (pos 1) version) db (comes (db 0)) one.0 shaped
         (subst (λ r. Tries office_task Replace [] r db (Ok one.0)) tried_is one.1) in
         ap (λ (d : Trees). d t.tree) one.2 ∙ all_has _ store_schema.tables t put.others has (eqb-false t.tree 0 other)
 
@@ -332,8 +332,8 @@ module _ (version : ℤ) where
         let command : c.command ≡ InsertOr 0 Replace (Values office.terms 3) [] = sym (ap command_of at) ∙ office.put_is in
         let ran : Does limit at_once given (record { schema = store_schema; trees = db.trees }) (text_of office.put_text c) None (InsertOr 0 Replace (Values office.terms 3) []) (Err stop) =
         subst (λ d. Does limit at_once given d (text_of office.put_text c) None (InsertOr 0 Replace (Values office.terms 3) []) (Err stop)) (database_is db was.schema_is refl) (rw (plain.0, command) at does) in
-        (on_rows limit db.trees (held_at store_schema 0 stored_office (1 ∷ []) (0 ∷ []) office_keyed db.trees all was.rows).shaped rules stop
-        (on_insert store_schema 0 stored_office (1 ∷ []) (0 ∷ []) office_keyed Replace [] office.terms 3 limit given (text_of office.put_text c) db.trees stop ran)).1
+        (on_rows limit db.trees (held_at store_schema 0 tables.office.table (1 ∷ []) (0 ∷ []) office.keyed db.trees all was.rows).shaped rules stop
+        (on_insert store_schema 0 tables.office.table (1 ∷ []) (0 ∷ []) office.keyed Replace [] office.terms 3 limit given (text_of office.put_text c) db.trees stop ran)).1
 
 -- It fails because memory runs out, because the disk or the connection fails, or because the steps are limited.
 pub version_fails : (old new : State) (all : Trees) (version : ℤ) → ContainsIn store_schema old.now all → ((rule : Constraint) → Keeps rule store_schema old.now.trees)

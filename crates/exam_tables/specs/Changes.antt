@@ -1,9 +1,18 @@
--- Many puts and deletes of one table.
+-- A put and a delete of one table, and many of them.
 use Rattle.std.specs.Prelude.{◌≡◌, ℕ, Bool, false, List, [], ◌∷◌}
 use Rattle.std.specs.List.{list_any}
+use Rattle.sqlite_value.specs.declared.value.Value.TheVariants.{Null}
 use Rattle.sqlite_value.specs.Order.{Row}
 use Rattle.sqlite_trees.specs.Tree.{Trees, with_tree}
 use Rattle.exam_tables.specs.Content.{put, delete, same_key}
+
+-- the row, as a query shows it, replaces the row with its key in the table of this tree
+abbrev pub with_row : ℕ → List ℕ → Row → Trees → Trees
+with_row tree key row all = with_tree all tree (put key (Null ∷ row) (all tree))
+
+-- the rows without those that have this key
+abbrev pub without_row : ℕ → List ℕ → Row → Trees → Trees
+without_row tree key row all = with_tree all tree (delete key (Null ∷ row) (all tree))
 
 abbrev pub put_all : List ℕ → List Row → List Row → List Row
 put_all key [] rows = rows

@@ -1,17 +1,13 @@
 //! The table of appeals.
-ghost use Rattle.std.specs.Prelude.{ℕ, List, [], ◌∷◌};
-ghost use Rattle.sqlite_value.specs.declared.value.Value.TheVariants.{Text};
-ghost use Rattle.exam_tables.specs.Made.{ContainsMade};
-ghost use Rattle.exam_tables.specs.Texts.{put_appeal, load_appeal};
-ghost use Rattle.exam_rows.specs.Rows.{appeal_row, IsAppeal};
-ghost use Rattle.exam_rows.specs.Stored as stored;
+ghost use Rattle.std.specs.Prelude.{◌≡◌, [], ◌∷◌};
 ghost use Rattle.sqlite.specs.Held.{state};
-ghost use Rattle.std.specs.Prelude.{◌≡◌};
-ghost use Rattle.exam_rows.specs.Inside.{Makes, put_of};
 ghost use Rattle.exam_types.specs.Days.{day_text};
+ghost use Rattle.exam_rows.specs.Forms as forms;
+ghost use Rattle.exam_rows.specs.Inside.{Makes};
+ghost use Rattle.exam_rows.specs.OurTables.{appeals_ours};
 
 use crate::columns::{day_at, day_text, number_at, reason_at, reference_at, session_code_at};
-use crate::statements::{all_rows, run};
+use crate::statements::run;
 use crate::subjects::{
     answer_of, extra_of, kind_of, needs_of, state_of, status_at, subject_at, target_of,
 };
@@ -19,7 +15,7 @@ use crate::table::StoredRows;
 use exam_rules::Appeal;
 use exam_types::{Number, Reference, Refusal};
 use sqlite::types::ValueRef;
-use sqlite::{Alter, Connection, Row, Transaction};
+use sqlite::{Alter, Row, Transaction};
 use std::alloc::Global;
 
 /// The appeals, by candidate and reference.
@@ -30,19 +26,11 @@ impl StoredRows for Appeals {
 
     type Value = Appeal;
 
-    ghost tree = { 13 };
+    ghost form = { forms.appeals };
 
-    ghost key_places = { 1 ∷ 2 ∷ [] };
-
-    ghost put_text = { put_appeal };
-
-    ghost load_text = { load_appeal };
-
-    ghost row_of = { appeal_row };
-
-    ghost IsRow = { IsAppeal };
-
-    ghost Holds = { ContainsMade };
+    fn load_text() -> &'static str {
+        "SELECT number, ref, session, kind, target, needs, extra, reason, state, answer, lodged FROM appeal"
+    }
 
     fn put<'a, S: Alter>(
         alloc: Global,
@@ -52,13 +40,6 @@ impl StoredRows for Appeals {
     ) -> Result<(), Refusal> {
         let lodged = day_text(alloc, appeal.lodged)?;
         put_appeal(tx, key, appeal, lodged.as_slice())
-    }
-
-    fn shown<S: Alter>(conn: &mut Connection<S>) -> Result<Vec<Row>, Refusal> {
-        all_rows(
-            conn,
-            "SELECT number, ref, session, kind, target, needs, extra, reason, state, answer, lodged FROM appeal",
-        )
     }
 
     fn read(alloc: Global, row: &Row) -> Result<((Number, Reference), Appeal), Refusal> {
@@ -83,6 +64,8 @@ impl StoredRows for Appeals {
             },
         ))
     }
+
+    ghost ours = { appeals_ours };
 }
 
 fn put_appeal<'a, S: Alter>(
@@ -94,7 +77,7 @@ fn put_appeal<'a, S: Alter>(
     ensures same_reference { tx.new.conn.ghost_name ≡ tx.old.conn.ghost_name }
     ensures made { lodged.now ≡ day_text appeal.now.lodged
         → Makes (state S.Store tx.old.conn.now) (state S.Store tx.new.conn.now) result
-        (put_of put_appeal 13 (1 ∷ 2 ∷ []) (appeal_row key.now appeal.now) ∷ []) }
+        (forms.row_put forms.appeals key.now appeal.now ∷ []) }
 {
     run(
         tx,

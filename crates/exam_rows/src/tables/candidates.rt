@@ -1,18 +1,14 @@
 //! The table of candidates.
-ghost use Rattle.std.specs.Prelude.{ℕ, List, [], ◌∷◌};
-ghost use Rattle.sqlite_value.specs.declared.value.Value.TheVariants.{Text};
-ghost use Rattle.exam_tables.specs.Made.{ContainsMade};
-ghost use Rattle.exam_tables.specs.Texts.{put_candidate, load_candidate};
-ghost use Rattle.exam_rows.specs.Rows.{candidate_row, IsCandidate};
-ghost use Rattle.exam_rows.specs.Stored as stored;
+ghost use Rattle.exam_rows.specs.Forms as forms;
+ghost use Rattle.exam_rows.specs.OurTables.{candidates_ours};
 
 use crate::columns::{access_code_at, name_at, number_at};
-use crate::statements::{all_rows, run};
+use crate::statements::run;
 use crate::table::StoredRows;
 use exam_rules::Candidate;
 use exam_types::{Number, Refusal};
 use sqlite::types::ValueRef;
-use sqlite::{Alter, Connection, Row, Transaction};
+use sqlite::{Alter, Row, Transaction};
 use std::alloc::Global;
 
 /// The candidates, by their numbers.
@@ -23,19 +19,11 @@ impl StoredRows for Candidates {
 
     type Value = Candidate;
 
-    ghost tree = { 7 };
+    ghost form = { forms.candidates };
 
-    ghost key_places = { 1 ∷ [] };
-
-    ghost put_text = { put_candidate };
-
-    ghost load_text = { load_candidate };
-
-    ghost row_of = { candidate_row };
-
-    ghost IsRow = { IsCandidate };
-
-    ghost Holds = { ContainsMade };
+    fn load_text() -> &'static str {
+        "SELECT number, name, code FROM candidate"
+    }
 
     fn put<'a, S: Alter>(
         _alloc: Global,
@@ -54,10 +42,6 @@ impl StoredRows for Candidates {
         )
     }
 
-    fn shown<S: Alter>(conn: &mut Connection<S>) -> Result<Vec<Row>, Refusal> {
-        all_rows(conn, "SELECT number, name, code FROM candidate")
-    }
-
     fn read(alloc: Global, row: &Row) -> Result<(Number, Candidate), Refusal> {
         if row.column_count() != 3 {
             return Err(Refusal::BadStore);
@@ -67,4 +51,6 @@ impl StoredRows for Candidates {
         let code = access_code_at(row, 2)?;
         Ok((number, Candidate { name, code }))
     }
+
+    ghost ours = { candidates_ours };
 }

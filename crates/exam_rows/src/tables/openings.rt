@@ -1,20 +1,17 @@
 //! The table of halls opened for sessions.
-ghost use Rattle.std.specs.Prelude.{ℕ, List, [], ◌∷◌};
-ghost use Rattle.sqlite_value.specs.declared.value.Value.TheVariants.{Text};
-ghost use Rattle.exam_tables.specs.Made.{ContainsMade};
-ghost use Rattle.exam_tables.specs.Texts.{put_opening, delete_opening, load_opening};
-ghost use Rattle.exam_rows.specs.Rows.{opening_row, IsOpening};
-ghost use Rattle.exam_rows.specs.Stored as stored;
+ghost use Rattle.exam_tables.specs.Texts.{delete_opening};
+ghost use Rattle.exam_rows.specs.Forms as forms;
+ghost use Rattle.exam_rows.specs.OurTables.{openings_ours};
 
 use crate::columns::{
     closing_time_at, desk_count_at, flag, flag_at, hall_code_at, session_code_at,
 };
-use crate::statements::{all_rows, run};
+use crate::statements::run;
 use crate::table::{Shrinks, StoredRows};
 use exam_rules::Opening;
 use exam_types::{HallCode, Refusal, SessionCode};
 use sqlite::types::ValueRef;
-use sqlite::{Alter, Connection, Row, Transaction};
+use sqlite::{Alter, Row, Transaction};
 use std::alloc::Global;
 
 /// The halls opened for sessions, by session and hall.
@@ -25,19 +22,11 @@ impl StoredRows for Openings {
 
     type Value = Opening;
 
-    ghost tree = { 8 };
+    ghost form = { forms.openings };
 
-    ghost key_places = { 1 ∷ 2 ∷ [] };
-
-    ghost put_text = { put_opening };
-
-    ghost load_text = { load_opening };
-
-    ghost row_of = { opening_row };
-
-    ghost IsRow = { IsOpening };
-
-    ghost Holds = { ContainsMade };
+    fn load_text() -> &'static str {
+        "SELECT session, hall, desks, until, reserved FROM opening"
+    }
 
     fn put<'a, S: Alter>(
         _alloc: Global,
@@ -55,13 +44,6 @@ impl StoredRows for Openings {
                 ValueRef::Int(i64::from(opening.until.get())),
                 ValueRef::Int(flag(opening.reserved)),
             ],
-        )
-    }
-
-    fn shown<S: Alter>(conn: &mut Connection<S>) -> Result<Vec<Row>, Refusal> {
-        all_rows(
-            conn,
-            "SELECT session, hall, desks, until, reserved FROM opening",
         )
     }
 
@@ -83,12 +65,14 @@ impl StoredRows for Openings {
             },
         ))
     }
+
+    ghost ours = { openings_ours };
 }
 
 impl Shrinks for Openings {
     ghost delete_text = { delete_opening };
 
-    ghost key_of = { λ key. Text key.0 ∷ Text key.1 ∷ [] };
+    ghost key_of = { forms.opening_key };
 
     fn delete<S: Alter>(
         tx: &mut Transaction<'_, S>,

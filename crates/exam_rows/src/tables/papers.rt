@@ -1,18 +1,14 @@
 //! The table of papers.
-ghost use Rattle.std.specs.Prelude.{ℕ, List, [], ◌∷◌};
-ghost use Rattle.sqlite_value.specs.declared.value.Value.TheVariants.{Text};
-ghost use Rattle.exam_tables.specs.Made.{ContainsMade};
-ghost use Rattle.exam_tables.specs.Texts.{put_paper, load_paper};
-ghost use Rattle.exam_rows.specs.Rows.{paper_row, IsPaper};
-ghost use Rattle.exam_rows.specs.Stored as stored;
+ghost use Rattle.exam_rows.specs.Forms as forms;
+ghost use Rattle.exam_rows.specs.OurTables.{papers_ours};
 
 use crate::columns::{exam_minutes_at, features_at, name_at, paper_code_at, session_code_at};
-use crate::statements::{all_rows, run};
+use crate::statements::run;
 use crate::table::StoredRows;
 use exam_rules::Paper;
 use exam_types::{PaperCode, Refusal};
 use sqlite::types::ValueRef;
-use sqlite::{Alter, Connection, Row, Transaction};
+use sqlite::{Alter, Row, Transaction};
 use std::alloc::Global;
 
 /// The papers, by their codes.
@@ -23,19 +19,11 @@ impl StoredRows for Papers {
 
     type Value = Paper;
 
-    ghost tree = { 3 };
+    ghost form = { forms.papers };
 
-    ghost key_places = { 1 ∷ [] };
-
-    ghost put_text = { put_paper };
-
-    ghost load_text = { load_paper };
-
-    ghost row_of = { paper_row };
-
-    ghost IsRow = { IsPaper };
-
-    ghost Holds = { ContainsMade };
+    fn load_text() -> &'static str {
+        "SELECT code, title, session, minutes, requires FROM paper"
+    }
 
     fn put<'a, S: Alter>(
         _alloc: Global,
@@ -53,13 +41,6 @@ impl StoredRows for Papers {
                 ValueRef::Int(i64::from(paper.minutes.get())),
                 ValueRef::Int(i64::from(paper.required.sum())),
             ],
-        )
-    }
-
-    fn shown<S: Alter>(conn: &mut Connection<S>) -> Result<Vec<Row>, Refusal> {
-        all_rows(
-            conn,
-            "SELECT code, title, session, minutes, requires FROM paper",
         )
     }
 
@@ -82,4 +63,6 @@ impl StoredRows for Papers {
             },
         ))
     }
+
+    ghost ours = { papers_ours };
 }

@@ -1,17 +1,14 @@
 //! The table of seats.
-ghost use Rattle.std.specs.Prelude.{ℕ, List, [], ◌∷◌};
-ghost use Rattle.sqlite_value.specs.declared.value.Value.TheVariants.{Text};
-ghost use Rattle.exam_tables.specs.Made.{ContainsMade};
-ghost use Rattle.exam_tables.specs.Texts.{put_seat, delete_seat, load_seat};
-ghost use Rattle.exam_rows.specs.Rows.{seat_row, IsSeat};
-ghost use Rattle.exam_rows.specs.Stored as stored;
+ghost use Rattle.exam_tables.specs.Texts.{delete_seat};
+ghost use Rattle.exam_rows.specs.Forms as forms;
+ghost use Rattle.exam_rows.specs.OurTables.{seats_ours};
 
 use crate::columns::{hall_code_at, number_at, session_code_at};
-use crate::statements::{all_rows, run};
+use crate::statements::run;
 use crate::table::{Shrinks, StoredRows};
 use exam_types::{HallCode, Number, Refusal, SessionCode};
 use sqlite::types::ValueRef;
-use sqlite::{Alter, Connection, Row, Transaction};
+use sqlite::{Alter, Row, Transaction};
 use std::alloc::Global;
 
 /// The hall in which each seated candidate sits, by session and candidate.
@@ -22,19 +19,11 @@ impl StoredRows for Seats {
 
     type Value = HallCode;
 
-    ghost tree = { 15 };
+    ghost form = { forms.seats };
 
-    ghost key_places = { 1 ∷ 2 ∷ [] };
-
-    ghost put_text = { put_seat };
-
-    ghost load_text = { load_seat };
-
-    ghost row_of = { seat_row };
-
-    ghost IsRow = { IsSeat };
-
-    ghost Holds = { ContainsMade };
+    fn load_text() -> &'static str {
+        "SELECT session, number, hall FROM seat"
+    }
 
     fn put<'a, S: Alter>(
         _alloc: Global,
@@ -53,10 +42,6 @@ impl StoredRows for Seats {
         )
     }
 
-    fn shown<S: Alter>(conn: &mut Connection<S>) -> Result<Vec<Row>, Refusal> {
-        all_rows(conn, "SELECT session, number, hall FROM seat")
-    }
-
     fn read(_alloc: Global, row: &Row) -> Result<((SessionCode, Number), HallCode), Refusal> {
         if row.column_count() != 3 {
             return Err(Refusal::BadStore);
@@ -66,12 +51,14 @@ impl StoredRows for Seats {
         let hall = hall_code_at(row, 2)?;
         Ok(((session, number), hall))
     }
+
+    ghost ours = { seats_ours };
 }
 
 impl Shrinks for Seats {
     ghost delete_text = { delete_seat };
 
-    ghost key_of = { λ key. Text key.0 ∷ stored.whole key.1 ∷ [] };
+    ghost key_of = { forms.seat_key };
 
     fn delete<S: Alter>(
         tx: &mut Transaction<'_, S>,

@@ -1,21 +1,19 @@
 //! The table of sessions.
-ghost use Rattle.std.specs.Prelude.{◌≡◌, ℕ, pos, List, [], ◌∷◌, IsTrue, IfOk, IfErr};
+ghost use Rattle.std.specs.Prelude.{◌≡◌, [], ◌∷◌};
+ghost use Rattle.sqlite_value.specs.declared.value.Value.TheVariants.{Text};
 ghost use Rattle.sqlite.specs.Held.{state};
 ghost use Rattle.exam_rows.specs.Inside.{Makes, put_of};
-ghost use Rattle.exam_tables.specs.Made.{ContainsMade};
-ghost use Rattle.exam_tables.specs.Texts.{put_session, load_session};
-ghost use Rattle.exam_rows.specs.Rows.{session_row, IsSession};
-ghost use Rattle.exam_rows.specs.Reading.{MayRead};
 ghost use Rattle.exam_rows.specs.Stored as stored;
-ghost use Rattle.sqlite_value.specs.declared.value.Value.TheVariants.{Text};
+ghost use Rattle.exam_rows.specs.Forms as forms;
+ghost use Rattle.exam_rows.specs.OurTables.{sessions_ours};
 
 use crate::columns::{day_text, session_code_at, session_day_at, start_at};
-use crate::statements::{all_rows, run};
+use crate::statements::run;
 use crate::table::StoredRows;
 use exam_rules::Session;
 use exam_types::{Refusal, SessionCode, StartTime};
 use sqlite::types::ValueRef;
-use sqlite::{Alter, Connection, Row, Transaction};
+use sqlite::{Alter, Row, Transaction};
 use std::alloc::Global;
 
 /// The sessions, by their codes.
@@ -26,19 +24,11 @@ impl StoredRows for Sessions {
 
     type Value = Session;
 
-    ghost tree = { 1 };
+    ghost form = { forms.sessions };
 
-    ghost key_places = { 1 ∷ [] };
-
-    ghost put_text = { put_session };
-
-    ghost load_text = { load_session };
-
-    ghost row_of = { session_row };
-
-    ghost IsRow = { IsSession };
-
-    ghost Holds = { ContainsMade };
+    fn load_text() -> &'static str {
+        "SELECT code, day, start FROM session"
+    }
 
     fn put<'a, S: Alter>(
         alloc: Global,
@@ -50,10 +40,6 @@ impl StoredRows for Sessions {
         put_session(tx, code, day.as_slice(), session.start)
     }
 
-    fn shown<S: Alter>(conn: &mut Connection<S>) -> Result<Vec<Row>, Refusal> {
-        all_rows(conn, "SELECT code, day, start FROM session")
-    }
-
     fn read(_alloc: Global, row: &Row) -> Result<(SessionCode, Session), Refusal> {
         if row.column_count() != 3 {
             return Err(Refusal::BadStore);
@@ -63,6 +49,8 @@ impl StoredRows for Sessions {
         let start = start_at(row, 2)?;
         Ok((code, Session { day, start }))
     }
+
+    ghost ours = { sessions_ours };
 }
 
 fn put_session<'a, S: Alter>(
@@ -73,7 +61,8 @@ fn put_session<'a, S: Alter>(
 ) -> Result<(), Refusal>
     ensures same_reference { tx.new.conn.ghost_name ≡ tx.old.conn.ghost_name }
     ensures made { Makes (state S.Store tx.old.conn.now) (state S.Store tx.new.conn.now) result
-        (put_of put_session 1 (1 ∷ []) (Text code.now ∷ Text day.now ∷ stored.whole start ∷ []) ∷ []) }
+        (put_of forms.sessions.put forms.sessions.tree forms.sessions.places
+        (Text code.now ∷ Text day.now ∷ stored.whole start ∷ []) ∷ []) }
 {
     run(
         tx,

@@ -10,18 +10,18 @@ pub returns-clause-rows : goal.returns-clause-rows
 returns-clause-rows g c = λ clean.
     IfOk-weaker c.read_rows.result _ _ (λ table read all was.
     let it = c.in_ok-rows.ensures.rows clean all was in
-    (rows_held c.in_ok-rows.rows.items (all g.T.StoredRows.tree) table.entries it.0 (subst (λ rows. AreRowsOf g.T.Key.Ord.cmp g.T.StoredRows.IsRow g.T.StoredRows.row_of rows table.entries) c.as_slice.ensures.value read), it.1)) c.read_rows.ensures.rows
+    (rows_held c.in_ok-rows.rows.items (all g.T.StoredRows.form.tree) table.entries it.0 (subst (λ rows. AreRowsOf g.T.Key.Ord.cmp g.T.StoredRows.form.IsRow g.T.StoredRows.form.row rows table.entries) c.as_slice.ensures.value read), it.1)) c.read_rows.ensures.rows
 
 pub returns-clause-bad : goal.returns-clause-bad
-returns-clause-bad g c = λ clean match.
+returns-clause-bad g c = λ clean.
     IfErr-weaker c.read_rows.result _ _ (λ e why.
     elim why [
       | inl lacks ↦ inl lacks
       | inr bad ↦ inr (inr (
         bad.0,
         λ all was entries table.
-            bad.1 match entries (subst (λ rows. AreRowsOf g.T.Key.Ord.cmp g.T.StoredRows.IsRow g.T.StoredRows.row_of rows entries) (sym c.as_slice.ensures.value)
-            (rows_shown c.in_ok-rows.rows.items (all g.T.StoredRows.tree) entries (c.in_ok-rows.ensures.rows clean all was).0 table)),
+            bad.1 entries (subst (λ rows. AreRowsOf g.T.Key.Ord.cmp g.T.StoredRows.form.IsRow g.T.StoredRows.form.row rows entries) (sym c.as_slice.ensures.value)
+            (rows_shown c.in_ok-rows.rows.items (all g.T.StoredRows.form.tree) entries (c.in_ok-rows.ensures.rows clean all was).0 table)),
       ))
     ]) c.read_rows.ensures.bad
 

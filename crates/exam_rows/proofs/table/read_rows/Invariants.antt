@@ -3,4 +3,4 @@ use Rattle.exam_rows.specs.Loaded.{AreRowsOf}
 use Rattle.exam_rows.proofs.table.read_rows.Given as goal
 
 abbrev pub invariant-rows : goal.invariant-rows
-invariant-rows g l = AreRowsOf g.T.Key.Ord.cmp g.T.StoredRows.IsRow g.T.StoredRows.row_of (take l.row-index l.rows) l.table.entries
+invariant-rows g l = AreRowsOf g.T.Key.Ord.cmp g.T.StoredRows.form.IsRow g.T.StoredRows.form.row (take l.row-index l.rows) l.table.entries

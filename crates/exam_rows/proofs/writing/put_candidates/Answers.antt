@@ -1,6 +1,6 @@
 use Rattle.std.proofs.Common.{◌≡◌, ◌++◌, Err, rules}
 use Rattle.sqlite.specs.Held.{state}
-use Rattle.exam_rows.specs.Writes.{with_put, candidates, entries, arrangements}
+use Rattle.exam_rows.specs.Forms.{with_put, candidates, entries, arrangements}
 use Rattle.exam_rows.proofs.Steps.{makes_then, makes_part}
 use Rattle.exam_rows.proofs.writing.put_candidates.Goals as goal
 

@@ -3,13 +3,12 @@ use Rattle.std.proofs.lemmas.Result.{IfOk-weaker, IfErr-weaker}
 use Rattle.sqlite.specs.Held.{state}
 use Rattle.sqlite.specs.Effect.{Database}
 use Rattle.exam_tables.specs.Texts.{fact_texts, load_seat}
-use Rattle.exam_rows.proofs.LoadTexts.{seat_loads}
+use Rattle.exam_rows.specs.OurTables.{seats_ours}
 use Rattle.sqlite.proofs.Callers.{unchanged_then}
 use Rattle.exam_store.specs.Refused.{HoldsFormed}
 use Rattle.exam_rows.specs.Loaded.{AreUnderstood, IsUnderstood}
 use Rattle.exam_rows.proofs.Leaving.{both_survive, left_then, reads_only, still, understood_before, understood_still}
 use Rattle.exam_rows.proofs.Refusing.{part_failed, still_there}
-use Rattle.exam_rows.proofs.SavedRows.{seats_match}
 use Rattle.exam_store.proofs.loading.load_office.Goals as goal
 
 pub returns-clause-rows : goal.returns-clause-rows
@@ -38,8 +37,8 @@ returns-in_err-seats-clause-bad g c = λ clean.
     let clean_1 = c.load_rows.ensures.early clean in
     let at_0 = state g.S.Store c.args.conn.now in
     let at_1 = state g.S.Store c.load_facts.new.conn in
-    rw is (part_failed c.in_err-seats.field-0.0 (λ told. (c.load_facts.new.conn, still at_0 at_1 (c.in_ok-facts.ensures.left clean_1), load_seat, seat_loads, told)) (λ none all was.
-    inr (inl (none all (still_there at_0 at_1 all was (c.in_ok-facts.ensures.rows clean_1 all was))))) (c.in_err-seats.ensures.bad clean seats_match))
+    rw is (part_failed c.in_err-seats.field-0.0 (λ told. (c.load_facts.new.conn, still at_0 at_1 (c.in_ok-facts.ensures.left clean_1), load_seat, seats_ours.loads, told)) (λ none all was.
+    inr (inl (none all (still_there at_0 at_1 all was (c.in_ok-facts.ensures.rows clean_1 all was))))) (c.in_err-seats.ensures.bad clean))
 
 pub returns-clause-bad : goal.returns-clause-bad
 returns-clause-bad g c = λ clean.

@@ -5,7 +5,7 @@ use Rattle.sqlite.proofs.Callers.{unchanged_then}
 use Rattle.exam_tables.specs.Made.{lists_marks}
 use Rattle.exam_tables.specs.Texts.{load_office}
 use Rattle.exam_rows.specs.Loaded.{AreUnderstood}
-use Rattle.exam_rows.proofs.LoadTexts.{office_loads}
+use Rattle.exam_rows.specs.OurTables.{office_loads}
 use Rattle.exam_rows.proofs.Leaving.{both_survive, left_then, still_itself, still_then}
 use Rattle.exam_rows.proofs.Refusing.{part_failed}
 use Rattle.exam_store.specs.Found.{version_texts}

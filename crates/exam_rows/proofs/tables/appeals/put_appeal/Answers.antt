@@ -1,8 +1,8 @@
-use Rattle.std.proofs.Common.{Ok, pos, arith}
+use Rattle.std.proofs.Common.{arith}
 use Rattle.sqlite.specs.Held.{state}
-use Rattle.exam_types.specs.Days.{day_text}
-use Rattle.exam_tables.proofs.OfAppeal as appeal
-use Rattle.exam_rows.specs.Stored.{kind_of, target_of, needs_of, extra_of, state_of, answer_of}
+use Rattle.exam_rows.specs.Stored.{kind_of, needs_of, extra_of, state_of, answer_of}
+use Rattle.exam_rows.specs.OurTables.{appeals_ours}
+use Rattle.exam_tables.proofs.Edits.{put_edits}
 use Rattle.exam_rows.proofs.Steps.{makes_by, passed, bound_answer, kind_small, state_small}
 use Rattle.exam_rows.proofs.tables.appeals.put_appeal.Goals as goal
 
@@ -12,8 +12,7 @@ returns-clause-made g c = λ text.
     let new = state g.S.Store c.run.new.tx.conn.now in
     let key = c.args.key.now in
     let it = c.args.appeal.now in
-    makes_by old new appeal.put_text (appeal.row (pos key.0) key.1 it.session (pos (kind_of it.subject)) (target_of it.subject) (pos (needs_of it.subject)) (pos (extra_of it.subject)) it.reason (pos (state_of it.status)) (answer_of it.status) (day_text it.lodged)) c.run.result _
-    (λ count. appeal.puts old new (pos key.0) key.1 it.session (pos (kind_of it.subject)) (target_of it.subject) (pos (needs_of it.subject)) (pos (extra_of it.subject)) it.reason (pos (state_of it.status)) (answer_of it.status) (day_text it.lodged) (Ok count)) (appeal.put_answers old new (pos key.0) key.1 it.session (pos (kind_of it.subject)) (target_of it.subject) (pos (needs_of it.subject)) (pos (extra_of it.subject)) it.reason (pos (state_of it.status)) (answer_of it.status) (day_text it.lodged))
+    makes_by (put_edits (appeals_ours.puts key it)) old new c.run.result
     (rw (
       c.from.ensures,
       c.get.ensures.value,

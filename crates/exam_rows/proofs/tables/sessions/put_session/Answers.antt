@@ -1,6 +1,7 @@
-use Rattle.std.proofs.Common.{pos, Ok, arith}
+use Rattle.std.proofs.Common.{pos, arith}
 use Rattle.sqlite.specs.Held.{state}
 use Rattle.exam_tables.proofs.OfSession as session
+use Rattle.exam_tables.proofs.Edits.{put_edits}
 use Rattle.exam_rows.proofs.Steps.{makes_by, passed}
 use Rattle.exam_rows.proofs.tables.sessions.put_session.Goals as goal
 
@@ -8,6 +9,5 @@ pub returns-clause-made : goal.returns-clause-made
 returns-clause-made g c =
     let old = state g.S.Store c.args.tx.now.conn.now in
     let new = state g.S.Store c.run.new.tx.conn.now in
-    makes_by old new session.put_text (session.row c.args.code.now c.args.day.now (pos c.args.start)) c.run.result _
-    (λ count. session.puts old new c.args.code.now c.args.day.now (pos c.args.start) (Ok count)) (session.put_answers old new c.args.code.now c.args.day.now (pos c.args.start))
+    makes_by (put_edits (session.puts c.args.code.now c.args.day.now (pos c.args.start))) old new c.run.result
     (rw (c.as_bytes.ensures.value, c.from.ensures, c.get.ensures.value, passed c.args.start (omega (arith, c.get.ensures.range))) at c.run.ensures.ran) (rw (c.as_bytes.ensures.value, c.from.ensures, c.get.ensures.value, passed c.args.start (omega (arith, c.get.ensures.range))) at c.run.ensures.failed) c.run.ensures.kept c.run.ensures.survives c.run.ensures.told

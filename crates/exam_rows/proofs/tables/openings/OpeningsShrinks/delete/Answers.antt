@@ -1,5 +1,3 @@
-use Rattle.std.proofs.Common.{Ok, [], ◌∷◌}
-use Rattle.sqlite_value.specs.declared.value.Value.TheVariants.{Text}
 use Rattle.sqlite.specs.Held.{state}
 use Rattle.exam_tables.proofs.OfOpening as opening
 use Rattle.exam_rows.proofs.Steps.{makes_by}
@@ -9,6 +7,5 @@ pub returns-clause-made : goal.returns-clause-made
 returns-clause-made g c =
     let old = state g.S.Store c.args.tx.now.conn.now in
     let new = state g.S.Store c.run.new.tx.conn.now in
-    makes_by old new opening.delete_text (Text c.args.key.now.0 ∷ Text c.args.key.now.1 ∷ []) c.run.result _
-    (λ count. opening.deletes old new c.args.key.now.0 c.args.key.now.1 (Ok count)) (opening.delete_answers old new c.args.key.now.0 c.args.key.now.1)
+    makes_by (opening.deletes c.args.key.now.0 c.args.key.now.1) old new c.run.result
     (rw (c.as_bytes.ensures.value, c.as_bytes-2.ensures.value) at c.run.ensures.ran) (rw (c.as_bytes.ensures.value, c.as_bytes-2.ensures.value) at c.run.ensures.failed) c.run.ensures.kept c.run.ensures.survives c.run.ensures.told

@@ -1,7 +1,8 @@
-use Rattle.std.proofs.Common.{Ok, pos, arith}
+use Rattle.std.proofs.Common.{arith}
 use Rattle.sqlite.specs.Held.{state}
-use Rattle.exam_tables.proofs.OfPaper as paper
 use Rattle.exam_types.specs.Features.{features_sum}
+use Rattle.exam_rows.specs.OurTables.{papers_ours}
+use Rattle.exam_tables.proofs.Edits.{put_edits}
 use Rattle.exam_rows.proofs.Steps.{makes_by, passed}
 use Rattle.exam_rows.proofs.tables.papers.PapersStoredRows.put.Goals as goal
 
@@ -9,6 +10,5 @@ pub returns-clause-made : goal.returns-clause-made
 returns-clause-made g c =
     let old = state g.S.Store c.args.tx.now.conn.now in
     let new = state g.S.Store c.run.new.tx.conn.now in
-    makes_by old new paper.put_text (paper.row c.args.code.now c.args.paper.now.title c.args.paper.now.session (pos c.args.paper.now.minutes) (pos (features_sum c.args.paper.now.required))) c.run.result _
-    (λ count. paper.puts old new c.args.code.now c.args.paper.now.title c.args.paper.now.session (pos c.args.paper.now.minutes) (pos (features_sum c.args.paper.now.required)) (Ok count)) (paper.put_answers old new c.args.code.now c.args.paper.now.title c.args.paper.now.session (pos c.args.paper.now.minutes) (pos (features_sum c.args.paper.now.required)))
+    makes_by (put_edits (papers_ours.puts c.args.code.now c.args.paper.now)) old new c.run.result
     (rw (c.as_bytes.ensures.value, c.as_bytes-2.ensures.value, c.as_str.ensures.value, c.as_bytes-3.ensures.value, c.from.ensures, c.get.ensures.value, passed c.args.paper.now.minutes (omega (arith, c.get.ensures.range)), c.from-2.ensures, c.sum.ensures.value, passed (features_sum c.args.paper.now.required) (omega (arith, c.sum.ensures.range, c.sum.ensures.value))) at c.run.ensures.ran) (rw (c.as_bytes.ensures.value, c.as_bytes-2.ensures.value, c.as_str.ensures.value, c.as_bytes-3.ensures.value, c.from.ensures, c.get.ensures.value, passed c.args.paper.now.minutes (omega (arith, c.get.ensures.range)), c.from-2.ensures, c.sum.ensures.value, passed (features_sum c.args.paper.now.required) (omega (arith, c.sum.ensures.range, c.sum.ensures.value))) at c.run.ensures.failed) c.run.ensures.kept c.run.ensures.survives c.run.ensures.told

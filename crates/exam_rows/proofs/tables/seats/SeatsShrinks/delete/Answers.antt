@@ -1,5 +1,4 @@
-use Rattle.std.proofs.Common.{Ok, pos, arith, [], ◌∷◌}
-use Rattle.sqlite_value.specs.declared.value.Value.TheVariants.{Int, Text}
+use Rattle.std.proofs.Common.{pos, arith}
 use Rattle.sqlite.specs.Held.{state}
 use Rattle.exam_tables.proofs.OfSeat as seat
 use Rattle.exam_rows.proofs.Steps.{makes_by, passed}
@@ -9,6 +8,5 @@ pub returns-clause-made : goal.returns-clause-made
 returns-clause-made g c =
     let old = state g.S.Store c.args.tx.now.conn.now in
     let new = state g.S.Store c.run.new.tx.conn.now in
-    makes_by old new seat.delete_text (Text c.args.key.now.0 ∷ Int (pos c.args.key.now.1) ∷ []) c.run.result _
-    (λ count. seat.deletes old new c.args.key.now.0 (pos c.args.key.now.1) (Ok count)) (seat.delete_answers old new c.args.key.now.0 (pos c.args.key.now.1))
+    makes_by (seat.deletes c.args.key.now.0 (pos c.args.key.now.1)) old new c.run.result
     (rw (c.as_bytes.ensures.value, c.from.ensures, c.get.ensures.value, passed c.args.key.now.1 (omega (arith, c.get.ensures.range))) at c.run.ensures.ran) (rw (c.as_bytes.ensures.value, c.from.ensures, c.get.ensures.value, passed c.args.key.now.1 (omega (arith, c.get.ensures.range))) at c.run.ensures.failed) c.run.ensures.kept c.run.ensures.survives c.run.ensures.told

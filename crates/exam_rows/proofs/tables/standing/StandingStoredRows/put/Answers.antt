@@ -1,6 +1,7 @@
-use Rattle.std.proofs.Common.{Ok, pos, arith}
+use Rattle.std.proofs.Common.{arith}
 use Rattle.sqlite.specs.Held.{state}
-use Rattle.exam_tables.proofs.OfStanding as standing
+use Rattle.exam_rows.specs.OurTables.{standing_ours}
+use Rattle.exam_tables.proofs.Edits.{put_edits}
 use Rattle.exam_rows.proofs.Steps.{makes_by, passed}
 use Rattle.exam_rows.proofs.tables.standing.StandingStoredRows.put.Goals as goal
 
@@ -8,6 +9,5 @@ pub returns-clause-made : goal.returns-clause-made
 returns-clause-made g c =
     let old = state g.S.Store c.args.tx.now.conn.now in
     let new = state g.S.Store c.run.new.tx.conn.now in
-    makes_by old new standing.put_text (standing.row (pos c.args.key.now.0) c.args.key.now.1) c.run.result _
-    (λ count. standing.puts old new (pos c.args.key.now.0) c.args.key.now.1 (Ok count)) (standing.put_answers old new (pos c.args.key.now.0) c.args.key.now.1)
+    makes_by (put_edits (standing_ours.puts c.args.key.now tt)) old new c.run.result
     (rw (c.from.ensures, c.get.ensures.value, passed c.args.key.now.0 (omega (arith, c.get.ensures.range)), c.as_bytes.ensures.value) at c.run.ensures.ran) (rw (c.from.ensures, c.get.ensures.value, passed c.args.key.now.0 (omega (arith, c.get.ensures.range)), c.as_bytes.ensures.value) at c.run.ensures.failed) c.run.ensures.kept c.run.ensures.survives c.run.ensures.told
