@@ -1,9 +1,9 @@
 -- The first bad table, of those that could be read and those that could not.
 use Rattle.std.proofs.Common.{◌≡◌, ◌<◌, ◌≤◌, ℕ, suc, List, [], ◌∷◌, Option, None, Some, inl, inr, refl, ap, subst, ◌∙◌, arith}
 use Rattle.sqlite_trees.specs.Tree.{Trees}
-use Rattle.exam_office.specs.Good.{IsFirstBadOf}
-use Rattle.exam_office.specs.State.{State}
-use Rattle.exam_office.specs.declared.tables.Table.{Table}
+use Rattle.exam_commands.specs.Good.{IsFirstBadOf}
+use Rattle.exam_commands.specs.State.{State}
+use Rattle.exam_commands.specs.declared.table.Table.{Table}
 use Rattle.exam_check.specs.FirstBad.{IsFirstBadIn, IsFirstOf, place}
 use Rattle.exam_check.specs.Reading.{AreRead}
 

@@ -6,7 +6,7 @@ use Rattle.sqlite.specs.Effect.{Database}
 use Rattle.sqlite.specs.State.{State, IsUnchanged}
 use Rattle.exam_types.specs.declared.refusal.Refusal.{Refusal}
 use Rattle.exam_types.specs.declared.refusal.Refusal.TheVariants.{NoMemory, BadStore}
-use Rattle.exam_office.specs.declared.tables.Table.{Table as OfficeTable}
+use Rattle.exam_commands.specs.declared.table.Table.{Table as OfficeTable}
 use Rattle.exam_rows.specs.Forms.{Form}
 use Rattle.exam_rows.specs.Held.{HasTable}
 use Rattle.exam_rows.specs.Inside.{Contains}

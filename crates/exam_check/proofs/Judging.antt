@@ -21,9 +21,9 @@ use Rattle.sqlite.specs.Listing.{understood, listing_schema}
 use Rattle.sqlite.specs.State.{HasCleanDisk}
 use Rattle.exam_types.specs.declared.refusal.Refusal.{Refusal}
 use Rattle.exam_types.specs.declared.refusal.Refusal.TheVariants.{NoMemory, Store, BadStore}
-use Rattle.exam_office.specs.Good.{IsGood, IsTableGood, tables}
-use Rattle.exam_office.specs.State.{State}
-use Rattle.exam_office.specs.declared.tables.Table.{Table as OfficeTable}
+use Rattle.exam_commands.specs.Good.{IsGood, IsTableGood, tables}
+use Rattle.exam_commands.specs.State.{State}
+use Rattle.exam_commands.specs.declared.table.Table.{Table as OfficeTable}
 use Rattle.exam_tables.specs.Content.{ContainsIn}
 use Rattle.exam_tables.specs.Made.{ContainsMade, made_schema}
 use Rattle.exam_tables.specs.Tables.{first_schema, store_schema}

@@ -2,10 +2,10 @@
 use Rattle.std.specs.Prelude.{◌≡◌, ◌⊎◌, ◌<◌, ℕ, List, [], ◌∷◌, Option, None, Some, option_map}
 use Rattle.sqlite_trees.specs.Tree.{Trees}
 use Rattle.sqlite.specs.Effect.{Database}
-use Rattle.exam_office.specs.Good.{IsTableGood, tables}
-use Rattle.exam_office.specs.State.{State}
-use Rattle.exam_office.specs.declared.tables.Table.{Table as OfficeTable}
-use Rattle.exam_office.specs.declared.tables.Table.TheVariants as office
+use Rattle.exam_commands.specs.Good.{IsTableGood, tables}
+use Rattle.exam_commands.specs.State.{State}
+use Rattle.exam_commands.specs.declared.table.Table.{Table as OfficeTable}
+use Rattle.exam_commands.specs.declared.table.Table.TheVariants as office
 use Rattle.exam_rows.specs.Forms as forms
 use Rattle.exam_rows.specs.Held.{HasTable}
 use Rattle.exam_rows.specs.Versions.{ContainsOf, HasVersion, version}

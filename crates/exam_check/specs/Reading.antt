@@ -10,8 +10,8 @@ use Rattle.sqlite.specs.State.{HasCleanDisk, IsUnchanged, Survives}
 use Rattle.exam_types.specs.declared.refusal.Refusal.{Refusal}
 use Rattle.exam_types.specs.declared.refusal.Refusal.TheVariants.{BadStore}
 use Rattle.exam_rules.specs.Relations.{relations_of}
-use Rattle.exam_office.specs.State.{State as Office}
-use Rattle.exam_office.specs.declared.tables.Table.{Table as OfficeTable}
+use Rattle.exam_commands.specs.State.{State as Office}
+use Rattle.exam_commands.specs.declared.table.Table.{Table as OfficeTable}
 use Rattle.exam_rows.specs.Forms as forms
 use Rattle.exam_rows.specs.Forms.{Form}
 use Rattle.exam_rows.specs.Inside.{Contains}

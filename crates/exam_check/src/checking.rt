@@ -2,8 +2,8 @@
 ghost use Rattle.std.specs.Prelude.{◌≡◌, ◌⊎◌, IsTrue, IfOk, IfErr, OnOk};
 ghost use Rattle.sqlite.specs.Held.{state};
 ghost use Rattle.sqlite.specs.State.{HasCleanDisk, Survives};
-ghost use Rattle.exam_office.specs.Good.{tables};
-ghost use Rattle.exam_office.specs.State.{State};
+ghost use Rattle.exam_commands.specs.Good.{tables};
+ghost use Rattle.exam_commands.specs.State.{State};
 ghost use Rattle.exam_tables.specs.Made.{ContainsMade};
 ghost use Rattle.exam_tables.specs.Texts.{load_texts};
 ghost use Rattle.exam_rows.specs.Loaded.{AreUnderstood, OnlyReads};

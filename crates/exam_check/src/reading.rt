@@ -2,7 +2,7 @@
 ghost use Rattle.std.specs.Prelude.{◌≡◌, IfOk, OnOk, MatchOption};
 ghost use Rattle.sqlite.specs.Held.{state};
 ghost use Rattle.sqlite.specs.State.{HasCleanDisk};
-ghost use Rattle.exam_office.specs.Good.{tables};
+ghost use Rattle.exam_commands.specs.Good.{tables};
 ghost use Rattle.exam_rows.specs.Forms as forms;
 ghost use Rattle.exam_rows.specs.Inside.{Contains};
 ghost use Rattle.exam_rows.specs.Loaded.{AreUnderstood};

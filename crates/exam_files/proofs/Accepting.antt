@@ -6,11 +6,11 @@ use Rattle.std.proofs.lemmas.List.Elements.{All-from_get_or}
 use Rattle.std.proofs.lemmas.List.Folds.{list_any_at, list_any_none}
 use Rattle.std.proofs.lemmas.List.Quantifiers.{all_pairs_push}
 use Rattle.csv.specs.Reading.{default_config, records, strip_bom}
-use Rattle.exam_office.specs.Imports.{ImportRows, conflicts, has_key, key_of, same_row}
-use Rattle.exam_office.specs.declared.import_row.Kind.{Kind}
-use Rattle.exam_office.specs.declared.import_row.Row.{Row}
-use Rattle.exam_office.proofs.ImportKeys.{key_exact, key_itself}
-use Rattle.exam_office.proofs.ImportRowsEqual.{row_exact, row_refl}
+use Rattle.exam_commands.specs.Imports.{ImportRows, conflicts, has_key, key_of, same_row}
+use Rattle.exam_commands.specs.declared.import_row.Kind.{Kind}
+use Rattle.exam_commands.specs.declared.import_row.Row.{Row}
+use Rattle.exam_commands.proofs.ImportKeys.{key_exact, key_itself}
+use Rattle.exam_commands.proofs.ImportRowsEqual.{row_exact, row_refl}
 use Rattle.exam_types.specs.declared.refusal.Refusal.{Refusal}
 use Rattle.exam_types.specs.declared.refusal.Refusal.TheVariants.{BadHeader, RowConflict, TooMany}
 use Rattle.exam_files.specs.Accepted.{Accepts, AgreeOnKey, denoted_from}

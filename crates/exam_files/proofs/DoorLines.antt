@@ -21,13 +21,13 @@ use Rattle.exam_rules.specs.Sessions.{members}
 use Rattle.exam_rules.proofs.InOrder.{lists_rise}
 use Rattle.exam_rules.proofs.Naming.{same_code_exact, same_code_itself}
 use Rattle.exam_rules.proofs.Ranking.{order_is_rank}
-use Rattle.exam_office.specs.declared.view.Member.{Member}
-use Rattle.exam_office.specs.declared.view.Seat.{Seat}
-use Rattle.exam_office.specs.Good.{IsGood}
-use Rattle.exam_office.specs.Headline.{IsSeated, desk_of}
-use Rattle.exam_office.specs.State.{State}
-use Rattle.exam_office.specs.Views.{View, IsViewOf, has_hall, member_of, opening_of, seat_in, seat_of, seats_of}
-use Rattle.exam_office.proofs.Seated.{is_seated}
+use Rattle.exam_views.specs.declared.view.Member.{Member}
+use Rattle.exam_views.specs.declared.view.Seat.{Seat}
+use Rattle.exam_commands.specs.Good.{IsGood}
+use Rattle.exam_commands.specs.Headline.{IsSeated, desk_of}
+use Rattle.exam_commands.specs.State.{State}
+use Rattle.exam_views.specs.Views.{View, IsViewOf, has_hall, member_of, opening_of, seat_in, seat_of, seats_of}
+use Rattle.exam_commands.proofs.Seated.{is_seated}
 use Rattle.exam_files.specs.DoorLines.{HasLines, own_line}
 use Rattle.exam_files.specs.Doors.{door_heading, door_line, door_list, door_text, is_in, line_at, sits_in}
 use Rattle.exam_files.specs.Writing.{sheet_if}

@@ -22,12 +22,12 @@ use Rattle.exam_rules.specs.Relations.{Code, Relations, code_cmp, has_row, openi
 use Rattle.exam_rules.specs.Seatings.{desks}
 use Rattle.exam_rules.specs.Sessions.{clashes, members}
 use Rattle.exam_rules.proofs.Naming.{same_code_exact, same_code_itself}
-use Rattle.exam_office.specs.declared.view.AppealRow.{AppealRow}
-use Rattle.exam_office.specs.declared.view.Clash.{Clash}
-use Rattle.exam_office.specs.declared.view.Seat.{Seat}
-use Rattle.exam_office.specs.State.{State, Seats}
-use Rattle.exam_office.specs.Views.{View, Report, IsShortageOf, IsViewOf, ShowsShortage, appeals_of, clash_of, has_hall, opening_of, seat_of, seats_of}
-use Rattle.exam_office.proofs.AllSessions.{known_among}
+use Rattle.exam_views.specs.declared.view.AppealRow.{AppealRow}
+use Rattle.exam_views.specs.declared.view.Clash.{Clash}
+use Rattle.exam_views.specs.declared.view.Seat.{Seat}
+use Rattle.exam_commands.specs.State.{State, Seats}
+use Rattle.exam_views.specs.Views.{View, Report, IsShortageOf, IsViewOf, ShowsShortage, appeals_of, clash_of, has_hall, opening_of, seat_of, seats_of}
+use Rattle.exam_commands.proofs.AllSessions.{known_among}
 use Rattle.exam_files.specs.Attendances.{attendance, attendance_text, paper_in}
 use Rattle.exam_files.specs.Clashes.{clash_list, clash_text}
 use Rattle.exam_files.specs.Doors.{door_list, door_text, opening_in}

@@ -2,9 +2,9 @@
 use Rattle.std.proofs.Common.{◌≡◌, ◌∙◌, ◌+◌, ℕ, List, [], ◌∷◌, ◌++◌, true, false, refl, sym, ap, inl, inr}
 use Rattle.std.specs.Prelude.{Ok, Err, Result, ◌⊎◌}
 use Rattle.std.specs.Result.{IsErrAnd}
-use Rattle.exam_office.specs.Imports.{ImportRows, conflicts}
-use Rattle.exam_office.specs.declared.import_row.Kind.{Kind}
-use Rattle.exam_office.specs.declared.import_row.Row.{Row}
+use Rattle.exam_commands.specs.Imports.{ImportRows, conflicts}
+use Rattle.exam_commands.specs.declared.import_row.Kind.{Kind}
+use Rattle.exam_commands.specs.declared.import_row.Row.{Row}
 use Rattle.exam_types.specs.declared.refusal.Refusal.{Refusal}
 use Rattle.exam_types.specs.declared.refusal.Refusal.TheVariants.{BadHeader, NoMemory, RowConflict}
 use Rattle.exam_files.specs.ImportFiles.{GivesUnlessMemory, is_header, row_of, rows_from, rows_of}

@@ -6,7 +6,7 @@ use Rattle.std.proofs.lemmas.List.{length-append}
 use Rattle.std.specs.Io.KnownBytes.{Appends}
 use Rattle.std.proofs.KnownBytes.{Appends-nil, Appends-trans}
 use Rattle.exam_send.specs.Sending.{AppendsBeginning, AppendsPart}
-use Rattle.exam_office.specs.declared.view.AppealRow.{AppealRow}
+use Rattle.exam_views.specs.declared.view.AppealRow.{AppealRow}
 use Rattle.exam_files.specs.declared.sheet_fault.SheetFault.{SheetFault}
 use Rattle.exam_files.specs.Registers.{Streams, appeal_line, register_heading, register_text}
 

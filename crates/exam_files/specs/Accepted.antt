@@ -2,9 +2,9 @@
 use Rattle.std.specs.Prelude.{◌≡◌, ℕ, List, ◌∷◌, length, map, zip, true, false, AllPairs, Result, Ok}
 use Rattle.std.specs.List.{range_with_len}
 use Rattle.csv.specs.Reading.{default_config, records, strip_bom}
-use Rattle.exam_office.specs.Imports.{key_of}
-use Rattle.exam_office.specs.declared.import_row.Kind.{Kind}
-use Rattle.exam_office.specs.declared.import_row.Row.{Row}
+use Rattle.exam_commands.specs.Imports.{key_of}
+use Rattle.exam_commands.specs.declared.import_row.Kind.{Kind}
+use Rattle.exam_commands.specs.declared.import_row.Row.{Row}
 use Rattle.exam_types.specs.declared.refusal.Refusal.{Refusal}
 use Rattle.exam_files.specs.ImportFiles.{is_header, is_too_long, row_of}
 

@@ -2,8 +2,8 @@
 use Rattle.std.specs.Prelude.{ℕ, Bool, List, [], ◌++◌, Result, Ok, Err, codes, count_by, if◌then◌else◌}
 use Rattle.std.specs.Fmt.{decimal}
 use Rattle.std.specs.List.{flat_map}
-use Rattle.exam_office.specs.declared.view.Seat.{Seat}
-use Rattle.exam_office.specs.Views.{View, has_paper, seats_of}
+use Rattle.exam_views.specs.declared.view.Seat.{Seat}
+use Rattle.exam_views.specs.Views.{View, has_paper, seats_of}
 use Rattle.exam_rules.specs.declared.rows.Session.{Session}
 use Rattle.exam_rules.specs.Relations.{same_code}
 use Rattle.exam_types.specs.Days.{day_text}

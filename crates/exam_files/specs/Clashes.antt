@@ -2,8 +2,8 @@
 use Rattle.std.specs.Prelude.{ℕ, List, ◌++◌, length, codes}
 use Rattle.std.specs.Fmt.{decimal}
 use Rattle.std.specs.List.{flat_map}
-use Rattle.exam_office.specs.declared.view.Clash.{Clash}
-use Rattle.exam_office.specs.Views.{View}
+use Rattle.exam_views.specs.declared.view.Clash.{Clash}
+use Rattle.exam_views.specs.Views.{View}
 use Rattle.exam_rules.specs.declared.rows.Session.{Session}
 use Rattle.exam_types.specs.Days.{day_text}
 use Rattle.exam_types.specs.Numbers.{number_text}

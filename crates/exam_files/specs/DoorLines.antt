@@ -3,8 +3,8 @@ use Rattle.std.specs.Prelude.{◌≡◌, ℕ, List, [], ◌++◌, length, map, f
 use Rattle.std.specs.Prelude.{IsPermutation}
 use Rattle.std.specs.List.{flat_map, range_with_len}
 use Rattle.std.specs.Option.{option_map_or}
-use Rattle.exam_office.specs.declared.view.Seat.{Seat}
-use Rattle.exam_office.specs.Views.{View, opening_of, seats_of}
+use Rattle.exam_views.specs.declared.view.Seat.{Seat}
+use Rattle.exam_views.specs.Views.{View, opening_of, seats_of}
 use Rattle.exam_rules.specs.declared.rows.Opening.{Opening}
 use Rattle.exam_files.specs.Doors.{door_heading, door_line, sits_in}
 

@@ -4,8 +4,8 @@ use Rattle.std.specs.Cmp.Lexicographic.{pointwise}
 use Rattle.std.specs.Fmt.{decimal}
 use Rattle.std.specs.Option.{ok_or}
 use Rattle.std.specs.List.{flat_map, range_with_len}
-use Rattle.exam_office.specs.declared.view.Seat.{Seat}
-use Rattle.exam_office.specs.Views.{View, has_hall, opening_of, seats_of}
+use Rattle.exam_views.specs.declared.view.Seat.{Seat}
+use Rattle.exam_views.specs.Views.{View, has_hall, opening_of, seats_of}
 use Rattle.exam_rules.specs.declared.rows.Opening.{Opening}
 use Rattle.exam_rules.specs.declared.rows.Session.{Session}
 use Rattle.exam_types.specs.Days.{day_text}

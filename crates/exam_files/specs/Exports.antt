@@ -1,8 +1,8 @@
 -- The text of a seat export.
 use Rattle.std.specs.Prelude.{ℕ, List, ◌++◌, codes}
 use Rattle.std.specs.List.{flat_map}
-use Rattle.exam_office.specs.declared.view.Seat.{Seat}
-use Rattle.exam_office.specs.Views.{View, seats_of}
+use Rattle.exam_views.specs.declared.view.Seat.{Seat}
+use Rattle.exam_views.specs.Views.{View, seats_of}
 use Rattle.exam_types.specs.Numbers.{number_text}
 use Rattle.exam_files.specs.Places.{hall_word, desk_word}
 

@@ -4,14 +4,14 @@ use Rattle.std.specs.Prelude.{None, Result, Ok, Err, nat_lt, codes, unwrap_or, b
 use Rattle.std.specs.Prelude.{if◌then◌else◌}
 use Rattle.csv.specs.Reading.{default_config, records, strip_bom}
 use Rattle.csv.specs.Records.{field_at}
-use Rattle.exam_office.specs.Imports.{ImportRows, conflicts}
+use Rattle.exam_commands.specs.Imports.{ImportRows, conflicts}
 use Rattle.exam_rules.specs.declared.rows.Paper.{Paper}
-use Rattle.exam_office.specs.declared.import_row.Kind.{Kind}
-use Rattle.exam_office.specs.declared.import_row.Kind.TheVariants.{Sessions, Papers, Halls, Openings}
-use Rattle.exam_office.specs.declared.import_row.Kind.TheVariants.{Candidates, Entries, Arrangements}
-use Rattle.exam_office.specs.declared.import_row.Row.{Row}
-use Rattle.exam_office.specs.declared.import_row.Row.TheVariants.{OfSession, OfPaper, OfHall, OfOpening}
-use Rattle.exam_office.specs.declared.import_row.Row.TheVariants.{OfCandidate, OfEntry, OfArrangement}
+use Rattle.exam_commands.specs.declared.import_row.Kind.{Kind}
+use Rattle.exam_commands.specs.declared.import_row.Kind.TheVariants.{Sessions, Papers, Halls, Openings}
+use Rattle.exam_commands.specs.declared.import_row.Kind.TheVariants.{Candidates, Entries, Arrangements}
+use Rattle.exam_commands.specs.declared.import_row.Row.{Row}
+use Rattle.exam_commands.specs.declared.import_row.Row.TheVariants.{OfSession, OfPaper, OfHall, OfOpening}
+use Rattle.exam_commands.specs.declared.import_row.Row.TheVariants.{OfCandidate, OfEntry, OfArrangement}
 use Rattle.exam_types.specs.Codes.{is_access_code, is_hall_code, is_paper_code, is_session_code}
 use Rattle.exam_types.specs.Days.{session_day_in}
 use Rattle.exam_types.specs.Features.{features_in}

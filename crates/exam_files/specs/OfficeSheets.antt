@@ -8,10 +8,10 @@ use Rattle.exam_rules.specs.declared.rows.Opening.{Opening}
 use Rattle.exam_rules.specs.declared.rows.Session.{Session}
 use Rattle.exam_rules.specs.Relations.{Code, Relations, code_cmp, has_row, opening_cmp, row_at, same_code}
 use Rattle.exam_rules.specs.Sessions.{clashes, members}
-use Rattle.exam_office.specs.declared.view.Clash.{Clash}
-use Rattle.exam_office.specs.declared.view.Seat.{Seat}
-use Rattle.exam_office.specs.State.{State}
-use Rattle.exam_office.specs.Views.{appeals_of, clash_of, papers_of, seat_of}
+use Rattle.exam_views.specs.declared.view.Clash.{Clash}
+use Rattle.exam_views.specs.declared.view.Seat.{Seat}
+use Rattle.exam_commands.specs.State.{State}
+use Rattle.exam_views.specs.Views.{appeals_of, clash_of, papers_of, seat_of}
 use Rattle.exam_files.specs.Attendances.{attendance_text}
 use Rattle.exam_files.specs.Clashes.{clash_text}
 use Rattle.exam_files.specs.Doors.{door_text}

@@ -2,12 +2,12 @@
 use Rattle.std.specs.Prelude.{ℕ, Bool, true, List, ◌++◌, length, codes, Option, Result, Ok, Err}
 use Rattle.std.specs.Fmt.{decimal}
 use Rattle.std.specs.List.{flat_map}
-use Rattle.exam_office.specs.declared.view.AppealRow.{AppealRow}
-use Rattle.exam_office.specs.Views.{View}
-use Rattle.exam_office.specs.Words.{kind_word, state_word, subject_text}
+use Rattle.exam_views.specs.declared.view.AppealRow.{AppealRow}
+use Rattle.exam_views.specs.Views.{View}
+use Rattle.exam_commands.specs.Words.{kind_word, state_word, subject_text}
 use Rattle.std.specs.Io.KnownBytes.{Appends}
 use Rattle.exam_send.specs.Sending.{AppendsBeginning}
-use Rattle.exam_office.specs.Sources.{is_source_refusal}
+use Rattle.exam_views.specs.Sources.{is_source_refusal}
 use Rattle.exam_types.specs.Days.{day_text}
 use Rattle.exam_types.specs.Numbers.{number_text}
 use Rattle.exam_files.specs.Padding.{left_in}

@@ -2,7 +2,7 @@
 use Rattle.std.specs.Prelude.{ℕ, List, ◌++◌, length, codes, sum_by}
 use Rattle.std.specs.Fmt.{decimal}
 use Rattle.std.specs.List.{flat_map}
-use Rattle.exam_office.specs.Views.{Report}
+use Rattle.exam_views.specs.Views.{Report}
 use Rattle.exam_types.specs.Numbers.{number_text}
 
 abbrev pub hall_line : List ℕ × ℕ → List ℕ

@@ -8,9 +8,9 @@ ghost use Rattle.exam_types.specs.declared.refusal.Refusal.TheVariants.{NoMemory
 use crate::sending::send;
 use crate::sheet_fault::SheetFault;
 use crate::sheet_text::{push_bytes, push_decimal, push_left};
-use exam_office::{Clash, SessionView};
 use exam_rules::Session;
 use exam_types::{Refusal, SessionCode};
+use exam_views::{Clash, SessionView};
 use std::alloc::Global;
 use std::io::Write;
 

@@ -8,9 +8,9 @@ ghost use Rattle.exam_types.specs.declared.refusal.Refusal.TheVariants.{NoMemory
 use crate::sending::send;
 use crate::sheet_fault::SheetFault;
 use crate::sheet_text::{push_bytes, push_decimal, push_left, push_right};
-use exam_office::{Seat, SessionView};
 use exam_rules::{Opening, Session};
 use exam_types::{HallCode, Refusal, SessionCode};
+use exam_views::{Seat, SessionView};
 use std::alloc::Global;
 use std::io::Write;
 

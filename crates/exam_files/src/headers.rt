@@ -5,7 +5,7 @@ ghost use Rattle.exam_files.specs.ImportFiles as spec;
 
 use crate::records::field;
 use csv::ByteRecord;
-use exam_office::Kind;
+use exam_commands::Kind;
 
 /// The names of the columns of a file of the kind, from the left.
 pub fn header(kind: Kind) -> &'static [&'static [u8]]

@@ -7,7 +7,7 @@ use crate::headers::is_header;
 use crate::records::{reader_of, take_record};
 use crate::row_of_record::row_of_record;
 use csv::ByteRecord;
-use exam_office::{Import, Kind};
+use exam_commands::{Import, Kind};
 use exam_types::Refusal;
 use std::alloc::Global;
 

@@ -2,11 +2,11 @@
 ghost use Rattle.std.specs.Prelude.{◌≡◌, ◌↔◌, ℕ, List, Ok};
 ghost use Rattle.exam_rules.specs.Orders.{AreInOrder};
 ghost use Rattle.exam_rules.specs.Relations.{Code, Relations};
-ghost use Rattle.exam_office.specs.Good.{IsGood};
-ghost use Rattle.exam_office.specs.declared.import_row.Kind.{Kind};
-ghost use Rattle.exam_office.specs.declared.import_row.Row.{Row};
-ghost use Rattle.exam_office.specs.State.{State, Seats};
-ghost use Rattle.exam_office.specs.Views.{View, Report, IsViewOf, ShowsShortage};
+ghost use Rattle.exam_commands.specs.Good.{IsGood};
+ghost use Rattle.exam_commands.specs.declared.import_row.Kind.{Kind};
+ghost use Rattle.exam_commands.specs.declared.import_row.Row.{Row};
+ghost use Rattle.exam_commands.specs.State.{State, Seats};
+ghost use Rattle.exam_views.specs.Views.{View, Report, IsViewOf, ShowsShortage};
 ghost use Rattle.exam_files.specs.Accepted.{Accepts};
 ghost use Rattle.exam_files.specs.Attendances.{attendance};
 ghost use Rattle.exam_files.specs.Clashes.{clash_list};

@@ -4,8 +4,8 @@ ghost use Rattle.exam_files.specs.Registers as spec;
 ghost use Rattle.exam_types.specs.declared.refusal.Refusal.TheVariants.{NoMemory};
 
 use crate::registers::{push_heading, push_line};
-use exam_office::AppealRow;
 use exam_types::{Refusal, SessionCode};
+use exam_views::AppealRow;
 use std::alloc::Global;
 
 /// The heading of the register of a session with this count of appeals.

@@ -8,8 +8,9 @@ ghost use Rattle.exam_types.specs.declared.refusal.Refusal.TheVariants.{NoMemory
 use crate::sending::send;
 use crate::sheet_fault::SheetFault;
 use crate::sheet_text::{push_bytes, push_decimal, push_left};
-use exam_office::{AppealRow, SessionView, kind_word, state_word, write_subject};
+use exam_commands::{kind_word, state_word, write_subject};
 use exam_types::{Refusal, SessionCode};
+use exam_views::{AppealRow, SessionView};
 use std::alloc::Global;
 use std::io::Write;
 

@@ -1,15 +1,15 @@
 //! The row that a record denotes.
 ghost use Rattle.std.specs.Prelude.{◌≡◌, IfOk};
 ghost use Rattle.csv.specs.Records.{fields_of};
-ghost use Rattle.exam_office.specs.Imports.{kind_of};
-ghost use Rattle.exam_office.specs.declared.import_row.Kind.TheVariants.{Sessions, Papers, Halls, Openings};
-ghost use Rattle.exam_office.specs.declared.import_row.Kind.TheVariants.{Candidates, Entries, Arrangements};
+ghost use Rattle.exam_commands.specs.Imports.{kind_of};
+ghost use Rattle.exam_commands.specs.declared.import_row.Kind.TheVariants.{Sessions, Papers, Halls, Openings};
+ghost use Rattle.exam_commands.specs.declared.import_row.Kind.TheVariants.{Candidates, Entries, Arrangements};
 ghost use Rattle.exam_files.specs.ImportFiles as spec;
 
 use crate::headers::header;
 use crate::records::field;
 use csv::ByteRecord;
-use exam_office::{Kind, Row};
+use exam_commands::{Kind, Row};
 use exam_rules::{Arrangement, Candidate, Hall, Opening, Paper, Session};
 use exam_types::{
     AccessCode, ClosingTime, DeskCount, ExamMinutes, Extra, Features, HallCode, Name, Number,

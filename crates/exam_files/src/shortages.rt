@@ -1,7 +1,7 @@
 //! The shortage sheet.
 ghost use Rattle.std.specs.Prelude.{◌≡◌, ◌++◌, Ok, OnOk, IfOk, IfErr, sum_by};
 ghost use Rattle.std.specs.List.{flat_map};
-ghost use Rattle.exam_office.specs.Views.{Report, ShowsShortage, report_of};
+ghost use Rattle.exam_views.specs.Views.{Report, ShowsShortage, report_of};
 ghost use Rattle.exam_files.specs.Shortages as spec;
 ghost use Rattle.exam_files.specs.Writing.{Writes};
 ghost use Rattle.exam_types.specs.declared.refusal.Refusal.TheVariants.{NoMemory};
@@ -9,8 +9,8 @@ ghost use Rattle.exam_types.specs.declared.refusal.Refusal.TheVariants.{NoMemory
 use crate::sending::send;
 use crate::sheet_fault::SheetFault;
 use crate::sheet_text::{push_bytes, push_decimal};
-use exam_office::{SessionShortage, SessionView};
 use exam_types::{HallCode, Number, Refusal, SessionCode};
+use exam_views::{SessionShortage, SessionView};
 use std::alloc::Global;
 use std::io::Write;
 

@@ -2,14 +2,14 @@
 ghost use Rattle.std.specs.Prelude.{◌≡◌, ◌⊎◌, ◌∷◌, ◌++◌, [], length, drop, IsTrue, OnOk, OnErr, IfErr};
 ghost use Rattle.std.specs.Io.KnownBytes.{Appends};
 ghost use Rattle.exam_send.specs.Sending.{AppendsBeginning};
-ghost use Rattle.exam_office.specs.declared.view.AppealRow.{AppealRow as Row};
+ghost use Rattle.exam_views.specs.declared.view.AppealRow.{AppealRow as Row};
 ghost use Rattle.exam_files.specs.Registers as spec;
 
 use crate::registers::{push_heading, push_line};
 use crate::sending::send;
 use crate::sheet_fault::SheetFault;
-use exam_office::{AppealRow, AppealSource};
 use exam_types::{Refusal, SessionCode};
+use exam_views::{AppealRow, AppealSource};
 use std::alloc::Global;
 use std::io::Write;
 

@@ -5,16 +5,16 @@ use Rattle.std.specs.Option.{option_map}
 use Rattle.sqlite_trees.specs.declared.store.Store.{Ghosts}
 use Rattle.exam_types.specs.declared.refusal.Refusal.{Refusal}
 use Rattle.exam_types.specs.declared.refusal.Refusal.TheVariants as refusal
-use Rattle.exam_office.specs.declared.command.Command.{Command}
-use Rattle.exam_office.specs.declared.command.Command.TheVariants as command
-use Rattle.exam_office.specs.declared.command.Reply.{Reply}
-use Rattle.exam_office.specs.Good.{IsGood}
-use Rattle.exam_office.specs.Orders.{IsInOrder}
-use Rattle.exam_office.specs.Own.{OwnRows, own_of}
-use Rattle.exam_office.specs.State.{State}
-use Rattle.exam_office.specs.Steps.{Step}
-use Rattle.exam_office.proofs.OwnLodging.{same_lodging_answer}
-use Rattle.exam_office.proofs.OwnRetracting.{same_retraction_answer}
+use Rattle.exam_commands.specs.declared.command.Command.{Command}
+use Rattle.exam_commands.specs.declared.command.Command.TheVariants as command
+use Rattle.exam_commands.specs.declared.command.Reply.{Reply}
+use Rattle.exam_commands.specs.Good.{IsGood}
+use Rattle.exam_commands.specs.Orders.{IsInOrder}
+use Rattle.exam_commands.specs.Own.{OwnRows, own_of}
+use Rattle.exam_commands.specs.State.{State}
+use Rattle.exam_commands.specs.Steps.{Step}
+use Rattle.exam_laws.proofs.OwnLodging.{same_lodging_answer}
+use Rattle.exam_laws.proofs.OwnRetracting.{same_retraction_answer}
 use Rattle.exam_store.specs.Applied.{MayApply}
 use Rattle.exam_rows.specs.Faults.{is_store_refusal}
 use Rattle.exam_store.specs.Stores.{OfficeIn}

@@ -5,8 +5,8 @@ use Rattle.std.specs.Option.{option_map}
 use Rattle.sqlite_trees.specs.declared.store.Store.{Ghosts}
 use Rattle.exam_types.specs.declared.refusal.Refusal.{Refusal}
 use Rattle.exam_types.specs.declared.refusal.Refusal.TheVariants.{NoMemory}
-use Rattle.exam_office.specs.Own.{OwnRows, own_of, own_rows}
-use Rattle.exam_office.specs.State.{State}
+use Rattle.exam_commands.specs.Own.{OwnRows, own_of, own_rows}
+use Rattle.exam_commands.specs.State.{State}
 use Rattle.exam_store.specs.Stores.{OfficeIn}
 use Rattle.exam_request.specs.Answer.{Told, refusal_told}
 use Rattle.exam_request.specs.Asked.{Request}

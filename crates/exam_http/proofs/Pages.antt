@@ -6,9 +6,9 @@ use Rattle.std.specs.Ordering.{nat_cmp}
 use Rattle.sqlite_trees.specs.declared.store.Store.{Ghosts}
 use Rattle.exam_rules.specs.declared.rows.Candidate.{Candidate}
 use Rattle.exam_rules.specs.Relations.{Code, row_at}
-use Rattle.exam_office.specs.Own.{OwnRows, own_of, own_rows, shown}
-use Rattle.exam_office.specs.declared.own.Own.{Own}
-use Rattle.exam_office.specs.State.{State}
+use Rattle.exam_commands.specs.Own.{OwnRows, own_of, own_rows, shown}
+use Rattle.exam_commands.specs.declared.own.Own.{Own}
+use Rattle.exam_commands.specs.State.{State}
 use Rattle.exam_store.specs.Stores.{OfficeIn}
 use Rattle.exam_request.specs.Answer.{Told, ok_told}
 use Rattle.exam_request.specs.Asked.{Request}

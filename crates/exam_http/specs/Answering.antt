@@ -3,14 +3,14 @@ use Rattle.std.specs.Prelude.{◌≡◌, ◌⊎◌, ⊤, ℕ, Option, IsSome, Is
 use Rattle.sqlite_trees.specs.declared.store.Store.{Ghosts}
 use Rattle.exam_types.specs.declared.refusal.Refusal.{Refusal}
 use Rattle.exam_types.specs.declared.refusal.Refusal.TheVariants.{NoMemory}
-use Rattle.exam_office.specs.declared.command.AppealState.{AppealState}
-use Rattle.exam_office.specs.declared.command.AppealState.TheVariants as state
-use Rattle.exam_office.specs.declared.command.Command.{Command}
-use Rattle.exam_office.specs.declared.command.Command.TheVariants as command
-use Rattle.exam_office.specs.declared.command.Reply.{Reply}
-use Rattle.exam_office.specs.declared.command.Reply.TheVariants as reply
-use Rattle.exam_office.specs.Own.{OwnRows, own_of}
-use Rattle.exam_office.specs.State.{State}
+use Rattle.exam_commands.specs.declared.command.AppealState.{AppealState}
+use Rattle.exam_commands.specs.declared.command.AppealState.TheVariants as state
+use Rattle.exam_commands.specs.declared.command.Command.{Command}
+use Rattle.exam_commands.specs.declared.command.Command.TheVariants as command
+use Rattle.exam_commands.specs.declared.command.Reply.{Reply}
+use Rattle.exam_commands.specs.declared.command.Reply.TheVariants as reply
+use Rattle.exam_commands.specs.Own.{OwnRows, own_of}
+use Rattle.exam_commands.specs.State.{State}
 use Rattle.exam_store.specs.Applied.{IsApplied}
 use Rattle.exam_store.specs.Stores.{OfficeIn}
 use Rattle.exam_request.specs.Answer.{Told, error_told, method_told, ok_told, refusal_told, state_told}

@@ -2,8 +2,8 @@
 ghost use Rattle.std.specs.Prelude.{◌≡◌, ◌⊎◌, option_and_then, option_map, IsSome, IsSomeAnd, IfOk, IfErr};
 ghost use Rattle.exam_types.specs.declared.refusal.Refusal.TheVariants.{NoMemory};
 ghost use Rattle.exam_rules.specs.Relations.{Code};
-ghost use Rattle.exam_office.specs.Headline.{IsSeated};
-ghost use Rattle.exam_office.specs.Own.{own_of};
+ghost use Rattle.exam_commands.specs.Headline.{IsSeated};
+ghost use Rattle.exam_commands.specs.Own.{own_of};
 ghost use Rattle.exam_request.specs.Answer.{ok_told, refusal_told};
 ghost use Rattle.exam_request.specs.Asked.{asked_of, request_of};
 ghost use Rattle.exam_request.specs.Bodies as bodies;

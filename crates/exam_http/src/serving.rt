@@ -1,7 +1,7 @@
 //! One request, read and answered.
 ghost use Rattle.std.specs.Prelude.{◌≡◌};
 ghost use Rattle.exam_rules.specs.Relations.{Code};
-ghost use Rattle.exam_office.specs.Headline.{IsSeated};
+ghost use Rattle.exam_commands.specs.Headline.{IsSeated};
 ghost use Rattle.exam_request.specs.Asked.{asked_of};
 ghost use Rattle.exam_http.specs.Serving as spec;
 

@@ -6,8 +6,8 @@ use Rattle.std.proofs.lemmas.Bool.{lt-ltb, ltb-true}
 use Rattle.std.proofs.lemmas.List.{length-append}
 use Rattle.exam_types.specs.declared.refusal.Refusal.{Refusal}
 use Rattle.exam_types.specs.declared.refusal.Refusal.TheVariants.{NoMemory, TooMany}
-use Rattle.exam_office.specs.declared.import_row.Kind.{Kind}
-use Rattle.exam_office.specs.Imports.{ImportRows}
+use Rattle.exam_commands.specs.declared.import_row.Kind.{Kind}
+use Rattle.exam_commands.specs.Imports.{ImportRows}
 use Rattle.exam_files.specs.ImportFiles.{import_of, most_bytes}
 use Rattle.exam_send.specs.Given.{Gave}
 use Rattle.exam_job.specs.Reading.{Reads, ReadsAll, ReadsImport, most_read}

@@ -2,9 +2,9 @@
 use Rattle.std.proofs.Common.{◌≡◌, ◌∙◌, ℕ, List, Option, Result, Ok, Err, refl, ap, inl, inr}
 use Rattle.std.specs.Prelude.{IsErrAnd}
 use Rattle.sqlite_trees.specs.declared.store.Store.{Ghosts}
-use Rattle.exam_office.specs.declared.command.Command.TheVariants as command
-use Rattle.exam_office.specs.declared.import_row.Kind.{Kind}
-use Rattle.exam_office.specs.Imports.{ImportRows}
+use Rattle.exam_commands.specs.declared.command.Command.TheVariants as command
+use Rattle.exam_commands.specs.declared.import_row.Kind.{Kind}
+use Rattle.exam_commands.specs.Imports.{ImportRows}
 use Rattle.exam_store.specs.Stores.{OfficeIn}
 use Rattle.exam_job.specs.Jobs.{Commands, ImportsFile, denoted, short, unread}
 use Rattle.exam_job.specs.Reading.{ReadsImport}

@@ -4,8 +4,8 @@ use Rattle.std.specs.Prelude.{option_to_list}
 use Rattle.sqlite.specs.Held.{state}
 use Rattle.sqlite_trees.specs.declared.store.Store.{Ghosts}
 use Rattle.exam_types.specs.declared.refusal.Refusal.{Refusal}
-use Rattle.exam_office.specs.declared.command.Command.{Command}
-use Rattle.exam_office.specs.declared.command.Reply.{Reply}
+use Rattle.exam_commands.specs.declared.command.Command.{Command}
+use Rattle.exam_commands.specs.declared.command.Reply.{Reply}
 use Rattle.exam_rows.specs.Transactions.{IsSound}
 use Rattle.exam_store.specs.Applied.{AreApplied, IsApplied}
 use Rattle.exam_store.specs.Kept.{Rekeeps}

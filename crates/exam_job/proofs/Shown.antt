@@ -8,8 +8,8 @@ use Rattle.exam_types.specs.declared.refusal.Refusal.TheVariants.{UnknownSession
 use Rattle.exam_rules.specs.declared.rows.Session.{Session}
 use Rattle.exam_rules.specs.Relations.{Code, code_cmp, row_at}
 use Rattle.exam_rules.specs.Sessions.{IsSessionRefusal}
-use Rattle.exam_office.specs.State.{State}
-use Rattle.exam_office.specs.Views.{IsViewOf, View}
+use Rattle.exam_commands.specs.State.{State}
+use Rattle.exam_views.specs.Views.{IsViewOf, View}
 use Rattle.exam_files.specs.Shortages.{shortage_text}
 use Rattle.exam_files.proofs.OfficeSheets.{attendance_is, clash_list_is, door_list_is, export_is, register_is}
 use Rattle.exam_line.specs.declared.line.Sheet.{Sheet}

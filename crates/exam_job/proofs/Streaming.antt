@@ -10,8 +10,8 @@ use Rattle.exam_send.specs.Sending.{AppendsBeginning}
 use Rattle.exam_types.specs.declared.refusal.Refusal.TheVariants.{BadStore, NoMemory, Store, UnknownSession}
 use Rattle.exam_rules.specs.declared.rows.Session.{Session}
 use Rattle.exam_rules.specs.Relations.{Code, code_cmp, has_row, row_at}
-use Rattle.exam_office.specs.State.{State}
-use Rattle.exam_office.specs.Views.{appeal_row, appeals_of}
+use Rattle.exam_commands.specs.State.{State}
+use Rattle.exam_views.specs.Views.{appeal_row, appeals_of}
 use Rattle.exam_files.specs.OfficeSheets.{of_known, register_of}
 use Rattle.exam_files.specs.Registers.{appeal_line, register_heading, register_text}
 use Rattle.exam_rows.specs.declared.send_fault.SendFault.{SendFault}

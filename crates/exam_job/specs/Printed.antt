@@ -6,10 +6,10 @@ use Rattle.exam_types.specs.Days.{day_text}
 use Rattle.exam_types.specs.Refusals.{refusal_number}
 use Rattle.exam_types.specs.declared.refusal.Refusal.{Refusal}
 use Rattle.exam_types.specs.declared.refusal.Refusal.TheVariants.{BadRow, NoMemory, PastClosing, RowConflict}
-use Rattle.exam_office.specs.Words.{state_word}
-use Rattle.exam_office.specs.declared.command.AppealState.{AppealState}
-use Rattle.exam_office.specs.declared.command.Reply.{Reply}
-use Rattle.exam_office.specs.declared.command.Reply.TheVariants as reply
+use Rattle.exam_commands.specs.Words.{state_word}
+use Rattle.exam_commands.specs.declared.command.AppealState.{AppealState}
+use Rattle.exam_commands.specs.declared.command.Reply.{Reply}
+use Rattle.exam_commands.specs.declared.command.Reply.TheVariants as reply
 use Rattle.exam_files.specs.Places as places
 use Rattle.exam_files.specs.declared.sheet_fault.SheetFault.{SheetFault}
 use Rattle.exam_files.specs.declared.sheet_fault.SheetFault.TheVariants as sheet

@@ -8,8 +8,8 @@ use Rattle.exam_types.specs.declared.refusal.Refusal.{Refusal}
 use Rattle.exam_types.specs.declared.refusal.Refusal.TheVariants.{BadStore, NoMemory, Store, UnknownSession}
 use Rattle.exam_rules.specs.declared.rows.Session.{Session}
 use Rattle.exam_rules.specs.Relations.{Code, code_cmp, has_row, row_at}
-use Rattle.exam_office.specs.State.{State}
-use Rattle.exam_office.specs.Views.{IsShortageOf, Report, ShowsShortage, View}
+use Rattle.exam_commands.specs.State.{State}
+use Rattle.exam_views.specs.Views.{IsShortageOf, Report, ShowsShortage, View}
 use Rattle.exam_files.specs.Attendances.{attendance}
 use Rattle.exam_files.specs.Clashes.{clash_list}
 use Rattle.exam_files.specs.Doors.{door_list}

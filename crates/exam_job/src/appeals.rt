@@ -20,7 +20,7 @@ struct Register {
 
 impl AppealText for Register {
     ghost use Rattle.exam_files.specs.Registers as registers;
-    ghost use Rattle.exam_office.specs.Views as views;
+    ghost use Rattle.exam_views.specs.Views as views;
 
     ghost heading_text = { λ form count. registers.register_heading form.session count };
 

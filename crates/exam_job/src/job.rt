@@ -1,6 +1,6 @@
 //! The jobs of command lines, over any store, reader and writers.
 ghost use Rattle.exam_rules.specs.Relations.{Code};
-ghost use Rattle.exam_office.specs.Headline.{IsSeated};
+ghost use Rattle.exam_commands.specs.Headline.{IsSeated};
 ghost use Rattle.exam_line.specs.Lines.{job_shown, shown};
 ghost use Rattle.exam_job.specs.Jobs as spec;
 

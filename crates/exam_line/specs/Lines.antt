@@ -11,14 +11,14 @@ use Rattle.exam_types.specs.Codes.{is_hall_code, is_paper_code, is_reference, is
 use Rattle.exam_types.specs.Days.{day_of}
 use Rattle.exam_types.specs.Numbers.{number_in, value_in}
 use Rattle.exam_types.specs.Texts.{is_reason}
-use Rattle.exam_office.specs.declared.command.Command.{Command}
-use Rattle.exam_office.specs.declared.command.Command.TheVariants.{Withdraw, Reinstate, CloseHall, Decide}
-use Rattle.exam_office.specs.declared.command.Decision.{Decision}
-use Rattle.exam_office.specs.declared.command.Outcome.{Outcome}
-use Rattle.exam_office.specs.declared.command.Outcome.TheVariants.{Grant, Refuse, Standing}
-use Rattle.exam_office.specs.declared.import_row.Kind.{Kind}
-use Rattle.exam_office.specs.declared.import_row.Kind.TheVariants.{Sessions, Papers, Halls, Openings}
-use Rattle.exam_office.specs.declared.import_row.Kind.TheVariants.{Candidates, Entries, Arrangements}
+use Rattle.exam_commands.specs.declared.command.Command.{Command}
+use Rattle.exam_commands.specs.declared.command.Command.TheVariants.{Withdraw, Reinstate, CloseHall, Decide}
+use Rattle.exam_commands.specs.declared.command.Decision.{Decision}
+use Rattle.exam_commands.specs.declared.command.Outcome.{Outcome}
+use Rattle.exam_commands.specs.declared.command.Outcome.TheVariants.{Grant, Refuse, Standing}
+use Rattle.exam_commands.specs.declared.import_row.Kind.{Kind}
+use Rattle.exam_commands.specs.declared.import_row.Kind.TheVariants.{Sessions, Papers, Halls, Openings}
+use Rattle.exam_commands.specs.declared.import_row.Kind.TheVariants.{Candidates, Entries, Arrangements}
 use Rattle.exam_line.specs.Grammar.{grammar}
 use Rattle.exam_line.specs.declared.line.Job as coded
 use Rattle.exam_line.specs.declared.line.Job.TheVariants as job

@@ -10,7 +10,7 @@ use crate::values::{
 };
 use clap::ArgMatches;
 use clap::error::ErrorKind;
-use exam_office::{Command, Kind};
+use exam_commands::{Command, Kind};
 use exam_types::{Day, HallCode, PaperCode, Refusal, SessionCode};
 use std::alloc::Global;
 

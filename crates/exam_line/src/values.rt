@@ -8,7 +8,7 @@ ghost use Rattle.exam_types.specs.declared.refusal.Refusal.TheVariants.{NoMemory
 ghost use Rattle.exam_line.specs.Lines as spec;
 
 use clap::ArgMatches;
-use exam_office::{Decision, Kind, Outcome};
+use exam_commands::{Decision, Kind, Outcome};
 use exam_types::{Day, HallCode, Number, PaperCode, Reason, Reference, Refusal, SessionCode};
 use itoa::Buffer;
 use std::alloc::Global;

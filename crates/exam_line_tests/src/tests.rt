@@ -1,6 +1,6 @@
 //! Lines that are understood, words that are not, and the text of a request for help.
+use exam_commands::Command;
 use exam_line::{Job, LineFault, Sheet, parse_line};
-use exam_office::Command;
 use std::alloc::{AllocError, Global};
 use std::test::Fail;
 

@@ -6,29 +6,29 @@ use Rattle.exam_rules.specs.Lists.{AreListsOf}
 use Rattle.exam_rules.specs.Orders.{AreInOrder, KeysRise}
 use Rattle.exam_rules.specs.Relations.{Code, Relations, has_row, relations_of, row_at, seat_cmp}
 use Rattle.exam_rules.specs.Seatings.{plan_of}
-use Rattle.exam_office.specs.declared.command.Command.{Command}
-use Rattle.exam_office.specs.declared.command.Reply.{Reply}
-use Rattle.exam_office.specs.declared.part.Part.{Part}
+use Rattle.exam_commands.specs.declared.command.Command.{Command}
+use Rattle.exam_commands.specs.declared.command.Reply.{Reply}
+use Rattle.exam_commands.specs.declared.part.Part.{Part}
 use Rattle.exam_office.specs.declared.part_steps.Made.{Made}
 use Rattle.exam_office.specs.Drafts.{AreMixed, HasOld, IsDraftOf, seats_after, seats_before, state_after, state_before}
-use Rattle.exam_office.specs.Exchanges.{all_put, taken_back, without_old}
-use Rattle.exam_office.specs.FactsMade.{WasMade}
-use Rattle.exam_office.specs.Good.{IsGood, marks_stand, refers}
-use Rattle.exam_office.specs.Limits.{within_limits}
-use Rattle.exam_office.specs.NextPlans.{Plans, PlansBack}
-use Rattle.exam_office.specs.Orders.{IsInOrder}
-use Rattle.exam_office.specs.Parts.{Agrees, IsMadeIn, IsPutBack, reads, state_of}
+use Rattle.exam_commands.specs.Exchanges.{all_put, taken_back, without_old}
+use Rattle.exam_commands.specs.FactsMade.{WasMade}
+use Rattle.exam_commands.specs.Good.{IsGood, marks_stand, refers}
+use Rattle.exam_commands.specs.Limits.{within_limits}
+use Rattle.exam_commands.specs.NextPlans.{Plans, PlansBack}
+use Rattle.exam_commands.specs.Orders.{IsInOrder}
+use Rattle.exam_commands.specs.Parts.{Agrees, IsMadeIn, IsPutBack, reads, state_of}
 use Rattle.exam_office.specs.Relisting.{ListsBack}
-use Rattle.exam_office.specs.Undoing.{TakesBack}
-use Rattle.exam_office.specs.Singles.{AreSingle}
-use Rattle.exam_office.specs.State.{Seats, State}
-use Rattle.exam_office.specs.Steps.{Step, StepTo}
-use Rattle.exam_office.specs.Touched.{touches}
-use Rattle.exam_office.proofs.Exchanges.{all_put_at, all_put_rises, back_again, without_old_at, without_old_rises}
-use Rattle.exam_office.proofs.FactsMade.{made_marks, made_refers, made_single}
-use Rattle.exam_office.proofs.Lasting.{new_facts}
-use Rattle.exam_office.proofs.Parting.{made_back, touched_read}
-use Rattle.exam_office.proofs.SameSeats.{seats_exact, seats_total}
+use Rattle.exam_changes.specs.Undoing.{TakesBack}
+use Rattle.exam_commands.specs.Singles.{AreSingle}
+use Rattle.exam_commands.specs.State.{Seats, State}
+use Rattle.exam_commands.specs.Steps.{Step, StepTo}
+use Rattle.exam_commands.specs.Touched.{touches}
+use Rattle.exam_changes.proofs.Exchanges.{all_put_at, all_put_rises, back_again, without_old_at, without_old_rises}
+use Rattle.exam_laws.proofs.FactsMade.{made_marks, made_refers, made_single}
+use Rattle.exam_laws.proofs.Lasting.{new_facts}
+use Rattle.exam_laws.proofs.Parting.{made_back, touched_read}
+use Rattle.exam_commands.proofs.SameSeats.{seats_exact, seats_total}
 
 -- the seats once the new plans are put: those of the office if there are no new plans
 abbrev pub seats_put : Option Plans → Seats → Seats → Seats

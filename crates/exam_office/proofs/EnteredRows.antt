@@ -12,17 +12,17 @@ use Rattle.exam_rules.specs.Lists.{MakesLive, entered_session}
 use Rattle.exam_rules.specs.Relations.{Code, Relations, code_cmp, entry_cmp, has_row, put_row, row_at, same_code}
 use Rattle.exam_rules.specs.Sessions.{is_paper_of}
 use Rattle.exam_rules.proofs.Naming.{same_code_itself}
-use Rattle.exam_office.specs.declared.import_row.Kind.TheVariants as kind
-use Rattle.exam_office.specs.declared.import_row.Row.{Row}
-use Rattle.exam_office.specs.declared.import_row.Row.TheVariants as row
-use Rattle.exam_office.specs.Changes.{first_refusal, no_paper, row_checks, rows_refusal, with_row, with_rows}
-use Rattle.exam_office.specs.Imports.{kind_of}
+use Rattle.exam_commands.specs.declared.import_row.Kind.TheVariants as kind
+use Rattle.exam_commands.specs.declared.import_row.Row.{Row}
+use Rattle.exam_commands.specs.declared.import_row.Row.TheVariants as row
+use Rattle.exam_commands.specs.Changes.{first_refusal, no_paper, row_checks, rows_refusal, with_row, with_rows}
+use Rattle.exam_commands.specs.Imports.{kind_of}
 use Rattle.exam_office.specs.Relisting.{EntersRows, live_session}
-use Rattle.exam_office.proofs.LiveMarks.{entries_exact}
-use Rattle.exam_office.proofs.Referring.{grows_row, neither, passed, rows_refer_still, there}
-use Rattle.exam_office.proofs.Repeating.{put_found, put_same, put_stays}
-use Rattle.exam_office.proofs.Stored.{entry_total, rows_in_order}
-use Rattle.exam_office.proofs.Undoing.{import_only}
+use Rattle.exam_commands.proofs.LiveMarks.{entries_exact}
+use Rattle.exam_commands.proofs.Referring.{grows_row, neither, passed, rows_refer_still, there}
+use Rattle.exam_commands.proofs.Repeating.{put_found, put_same, put_stays}
+use Rattle.exam_commands.proofs.Stored.{entry_total, rows_in_order}
+use Rattle.exam_changes.proofs.Undoing.{import_only}
 
 -- an entry that is there stays as it is
 entry_stays_by : (r : Relations) (x : Row) (k : ℕ × Code) (e : Entry) → row_at entry_cmp r.entries k ≡ Some e → row_at entry_cmp (with_row r x).entries k ≡ Some e

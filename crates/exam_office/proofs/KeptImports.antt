@@ -19,20 +19,20 @@ use Rattle.exam_rules.specs.Relations.{Code, Relations}
 use Rattle.exam_rules.specs.Sessions.{has_live_entry, is_live_entry, least_live_paper}
 use Rattle.exam_rules.proofs.Listing.{entrants_are_members}
 use Rattle.exam_rules.proofs.Together.{any_is}
-use Rattle.exam_office.specs.declared.command.Command.TheVariants as command
-use Rattle.exam_office.specs.declared.import_row.Kind.{Kind}
-use Rattle.exam_office.specs.declared.import_row.Kind.TheVariants as kind
-use Rattle.exam_office.specs.declared.import_row.Row.{Row}
-use Rattle.exam_office.specs.declared.import_row.Row.TheVariants as row
-use Rattle.exam_office.specs.Changes.{rows_refusal, with_rows}
-use Rattle.exam_office.specs.FactsMade.{WasMade}
-use Rattle.exam_office.specs.Good.{refers}
-use Rattle.exam_office.specs.Imports.{AreOfKind, ImportRows, kind_of}
+use Rattle.exam_commands.specs.declared.command.Command.TheVariants as command
+use Rattle.exam_commands.specs.declared.import_row.Kind.{Kind}
+use Rattle.exam_commands.specs.declared.import_row.Kind.TheVariants as kind
+use Rattle.exam_commands.specs.declared.import_row.Row.{Row}
+use Rattle.exam_commands.specs.declared.import_row.Row.TheVariants as row
+use Rattle.exam_commands.specs.Changes.{rows_refusal, with_rows}
+use Rattle.exam_commands.specs.FactsMade.{WasMade}
+use Rattle.exam_commands.specs.Good.{refers}
+use Rattle.exam_commands.specs.Imports.{AreOfKind, ImportRows, kind_of}
 use Rattle.exam_office.specs.Relisting.{EntersRows, is_unlisted}
-use Rattle.exam_office.specs.Touched.{row_touches}
-use Rattle.exam_office.specs.Undoing.{ChangesOnly}
-use Rattle.exam_office.proofs.Undoing.{import_only}
-use Rattle.exam_office.proofs.Untouched.{import_spares}
+use Rattle.exam_commands.specs.Touched.{row_touches}
+use Rattle.exam_changes.specs.Undoing.{ChangesOnly}
+use Rattle.exam_changes.proofs.Undoing.{import_only}
+use Rattle.exam_laws.proofs.Untouched.{import_spares}
 
 -- elements of which nothing is made may be left out before
 parted : (h : ℕ → Option Entrant) (p : ℕ → Bool) → ((c : ℕ) → p c ≡ false → h c ≡ None) → (cs : List ℕ) → filter_map h cs ≡ filter_map h (filter p cs)

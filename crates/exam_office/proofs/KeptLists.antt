@@ -8,16 +8,16 @@ use Rattle.exam_rules.specs.declared.rows.Appeal.{Appeal}
 use Rattle.exam_rules.specs.declared.rows.Paper.{Paper}
 use Rattle.exam_rules.specs.Lists.{AreListsOf, SetsEntry, closed}
 use Rattle.exam_rules.specs.Relations.{Code, Relations, code_cmp, row_at, same_code}
-use Rattle.exam_office.specs.declared.command.Command.{Command}
-use Rattle.exam_office.specs.declared.command.Command.TheVariants as command
+use Rattle.exam_commands.specs.declared.command.Command.{Command}
+use Rattle.exam_commands.specs.declared.command.Command.TheVariants as command
 use Rattle.exam_rules.proofs.Naming.{same_code_itself}
-use Rattle.exam_office.specs.Appeals.{appeal_at, is_retracted}
-use Rattle.exam_office.specs.Changes.{with_live}
-use Rattle.exam_office.specs.Decisions.{is_made, with_decided, with_outcome}
-use Rattle.exam_office.specs.FactsMade.{WasMade, facts_made}
-use Rattle.exam_office.specs.Lodgings as lodgings
+use Rattle.exam_commands.specs.Appeals.{appeal_at, is_retracted}
+use Rattle.exam_commands.specs.Changes.{with_live}
+use Rattle.exam_commands.specs.Decisions.{is_made, with_decided, with_outcome}
+use Rattle.exam_commands.specs.FactsMade.{WasMade, facts_made}
+use Rattle.exam_commands.specs.Lodgings as lodgings
 use Rattle.exam_office.specs.Relisting.{SetsLive, keeps_lists}
-use Rattle.exam_office.specs.State.{State}
+use Rattle.exam_commands.specs.State.{State}
 
 abbrev Rows : Type 0
 Rows = List ((ℕ × Code) × Appeal)

@@ -15,17 +15,17 @@ use Rattle.exam_rules.specs.Relations.{Code, Relations, same_code}
 use Rattle.exam_rules.specs.Seatings.{plan_of}
 use Rattle.exam_rules.specs.Sessions.{is_member, members}
 use Rattle.exam_rules.proofs.Naming.{same_code_exact}
-use Rattle.exam_office.specs.declared.command.Command.{Command}
-use Rattle.exam_office.specs.declared.command.Command.TheVariants as command
-use Rattle.exam_office.specs.declared.command.Decision.{Decision}
-use Rattle.exam_office.specs.declared.command.Lodging.{Lodging}
-use Rattle.exam_office.specs.Good.{IsGood}
-use Rattle.exam_office.specs.Appeals.{appeal_at, bears_mark, is_grant}
-use Rattle.exam_office.specs.Touched.{ends_standing, grant_touches, is_appeal_for, touches}
-use Rattle.exam_office.specs.Parts.{Agrees, is_listed, reads}
-use Rattle.exam_office.specs.State.{Seats, State}
-use Rattle.exam_office.proofs.Appealing.{number_flips}
-use Rattle.exam_office.proofs.SameSeats.{codes_decide}
+use Rattle.exam_commands.specs.declared.command.Command.{Command}
+use Rattle.exam_commands.specs.declared.command.Command.TheVariants as command
+use Rattle.exam_commands.specs.declared.command.Decision.{Decision}
+use Rattle.exam_commands.specs.declared.command.Lodging.{Lodging}
+use Rattle.exam_commands.specs.Good.{IsGood}
+use Rattle.exam_commands.specs.Appeals.{appeal_at, bears_mark, is_grant}
+use Rattle.exam_commands.specs.Touched.{ends_standing, grant_touches, is_appeal_for, touches}
+use Rattle.exam_commands.specs.Parts.{Agrees, is_listed, reads}
+use Rattle.exam_commands.specs.State.{Seats, State}
+use Rattle.exam_commands.proofs.ImportKeys.{number_flips}
+use Rattle.exam_commands.proofs.SameSeats.{codes_decide}
 
 or_false : (b : Bool) → (b || false) ≡ b
 or_false true = refl

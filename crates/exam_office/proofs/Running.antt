@@ -1,10 +1,10 @@
 -- One more command of a run.
 use Rattle.std.proofs.Common.{ℕ, List, [], ◌∷◌, ◌++◌, Result, refl, subst}
 use Rattle.exam_types.specs.declared.refusal.Refusal.{Refusal}
-use Rattle.exam_office.specs.declared.command.Command.{Command}
-use Rattle.exam_office.specs.declared.command.Reply.{Reply}
-use Rattle.exam_office.specs.State.{State}
-use Rattle.exam_office.specs.Steps.{MayStep, Run}
+use Rattle.exam_commands.specs.declared.command.Command.{Command}
+use Rattle.exam_commands.specs.declared.command.Reply.{Reply}
+use Rattle.exam_commands.specs.State.{State}
+use Rattle.exam_commands.specs.Steps.{MayStep, Run}
 
 pub run_more : (done : List (Command × ℕ)) (x : Command × ℕ) (replies : List (Result Reply Refusal)) (reply : Result Reply Refusal) (before mid after : State)
     → Run done before replies mid → MayStep x.0 x.1 mid reply after → Run (done ++ x ∷ []) before (replies ++ reply ∷ []) after

@@ -3,19 +3,19 @@ use Rattle.std.specs.Prelude.{◌≡◌, ⊤, ℕ, true, false, IsTrue, Option, 
 use Rattle.exam_rules.specs.declared.lists.SessionLists.{SessionLists}
 use Rattle.exam_rules.specs.Lists.{AreListsOf, listed}
 use Rattle.exam_rules.specs.Relations.{Code, has_row, relations_of, row_at, seat_cmp}
-use Rattle.exam_office.specs.declared.command.Command.{Command}
-use Rattle.exam_office.specs.declared.command.Reply.{Reply}
-use Rattle.exam_office.specs.declared.part.Part.{Part}
+use Rattle.exam_commands.specs.declared.command.Command.{Command}
+use Rattle.exam_commands.specs.declared.command.Reply.{Reply}
+use Rattle.exam_commands.specs.declared.part.Part.{Part}
 use Rattle.exam_office.specs.declared.part_steps.Made.{Made}
-use Rattle.exam_office.specs.Exchanges.{taken_back, without_old}
-use Rattle.exam_office.specs.Good.{IsGood}
-use Rattle.exam_office.specs.NextPlans.{Plans}
-use Rattle.exam_office.specs.Orders.{IsInOrder}
-use Rattle.exam_office.specs.Parts.{Agrees}
+use Rattle.exam_commands.specs.Exchanges.{taken_back, without_old}
+use Rattle.exam_commands.specs.Good.{IsGood}
+use Rattle.exam_commands.specs.NextPlans.{Plans}
+use Rattle.exam_commands.specs.Orders.{IsInOrder}
+use Rattle.exam_commands.specs.Parts.{Agrees}
 use Rattle.exam_office.specs.Relisting.{HasList, halls_before, members_before}
-use Rattle.exam_office.specs.State.{Seats, State}
-use Rattle.exam_office.specs.Steps.{Step}
-use Rattle.exam_office.specs.Undoing.{IsThere, restored}
+use Rattle.exam_commands.specs.State.{Seats, State}
+use Rattle.exam_commands.specs.Steps.{Step}
+use Rattle.exam_changes.specs.Undoing.{IsThere, restored}
 
 -- the office before the command and after it, and what the command answers
 pub record DraftIn : Type 0 where

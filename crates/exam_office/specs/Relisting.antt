@@ -7,13 +7,13 @@ use Rattle.exam_rules.specs.declared.lists.SessionLists.{SessionLists}
 use Rattle.exam_rules.specs.Lists.{entered_session, listed}
 use Rattle.exam_rules.specs.Orders.{AreInOrder}
 use Rattle.exam_rules.specs.Relations.{Code, Relations, code_cmp, entry_cmp, has_row, row_at, same_code}
-use Rattle.exam_office.specs.declared.command.Command.{Command}
-use Rattle.exam_office.specs.declared.command.Command.TheVariants as command
-use Rattle.exam_office.specs.declared.import_row.Kind.{Kind}
-use Rattle.exam_office.specs.declared.import_row.Kind.TheVariants as kind
-use Rattle.exam_office.specs.declared.import_row.Row.{Row}
-use Rattle.exam_office.specs.Changes.{rows_refusal, with_live, with_rows}
-use Rattle.exam_office.specs.Imports.{AreOfKind}
+use Rattle.exam_commands.specs.declared.command.Command.{Command}
+use Rattle.exam_commands.specs.declared.command.Command.TheVariants as command
+use Rattle.exam_commands.specs.declared.import_row.Kind.{Kind}
+use Rattle.exam_commands.specs.declared.import_row.Kind.TheVariants as kind
+use Rattle.exam_commands.specs.declared.import_row.Row.{Row}
+use Rattle.exam_commands.specs.Changes.{rows_refusal, with_live, with_rows}
+use Rattle.exam_commands.specs.Imports.{AreOfKind}
 use Rattle.exam_office.specs.declared.relisting.ListUndo.{ListUndo}
 use Rattle.exam_office.specs.declared.relisting.ListUndo.TheVariants as undo
 

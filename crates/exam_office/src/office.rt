@@ -6,28 +6,24 @@ ghost use Rattle.exam_types.specs.declared.refusal.Refusal.TheVariants.{NoMemory
 ghost use Rattle.exam_plan.specs.Matching.{IsBest};
 ghost use Rattle.exam_rules.specs.Lists.{AreListsOf};
 ghost use Rattle.exam_rules.specs.Seatings.{seating, plan_of};
-ghost use Rattle.exam_office.specs.Good.{IsGood};
-ghost use Rattle.exam_office.specs.Headline.{IsSeated};
-ghost use Rattle.exam_office.specs.Limits.{holds_at_most};
+ghost use Rattle.exam_commands.specs.Good.{IsGood};
+ghost use Rattle.exam_commands.specs.Headline.{IsSeated};
+ghost use Rattle.exam_commands.specs.Limits.{holds_at_most};
 ghost use Rattle.exam_rules.specs.Relations.{Code, relations_of};
-ghost use Rattle.exam_office.specs.Orders.{IsInOrder};
-ghost use Rattle.exam_office.specs.Own.{own_of, shown};
+ghost use Rattle.exam_commands.specs.Orders.{IsInOrder};
+ghost use Rattle.exam_commands.specs.Own.{own_of, shown};
 ghost use Rattle.exam_rules.specs.Sessions.{IsSessionRefusal};
-ghost use Rattle.exam_office.specs.State.{empty_state};
-ghost use Rattle.exam_office.specs.Views.{IsViewOf};
+ghost use Rattle.exam_commands.specs.State.{empty_state};
+ghost use Rattle.exam_views.specs.Views.{IsViewOf};
 
-use crate::own::Own;
-use crate::tables::first_bad_listed;
-use crate::view::SessionView;
-use crate::{limits, own_source, view_source};
+use exam_commands::{Own, Seats};
+use exam_judging::{first_bad_listed, limits};
 use exam_rules::{Facts, SessionLists, session_lists};
-use exam_types::{HallCode, Number, Refusal, SessionCode};
+use exam_types::{Number, Refusal, SessionCode};
+use exam_views::{SessionView, own_source, view_source};
 use std::alloc::Global;
 use std::collections::BTreeMap;
 use std::marker::Model;
-
-/// The hall in which each seated candidate sits, in each session.
-pub type Seats = BTreeMap<(SessionCode, Number), HallCode>;
 
 /// The facts of an office, and the plan of each session. Contracts see the relations, and who sits where.
 #[derive(Drop)]
@@ -42,8 +38,8 @@ pub struct Office {
 impl Model for Office {
     ghost use Rattle.exam_rules.specs.Relations.{relations_of};
     ghost use Rattle.exam_rules.specs.Lists.{AreListsOf};
-    ghost use Rattle.exam_office.specs.State.{State};
-    ghost use Rattle.exam_office.specs.Good.{IsGood};
+    ghost use Rattle.exam_commands.specs.State.{State};
+    ghost use Rattle.exam_commands.specs.Good.{IsGood};
 
     ghost Value = { State };
 

@@ -3,33 +3,26 @@ ghost use Rattle.std.specs.Prelude.{◌≡◌, ◌⊎◌, false, true, Contains,
 ghost use Rattle.exam_types.specs.declared.refusal.Refusal.TheVariants.{NoMemory, TooMany};
 ghost use Rattle.exam_rules.specs.Lists.{AreListsOf};
 ghost use Rattle.exam_rules.specs.Relations.{Code, Relations, relations_of};
-ghost use Rattle.exam_office.specs.FactsMade.{WasMade, early_refusal, facts_made, may_pass_limit};
-ghost use Rattle.exam_office.specs.Good.{IsGood};
-ghost use Rattle.exam_office.specs.Limits.{within_limits};
-ghost use Rattle.exam_office.specs.NextPlans as planning;
-ghost use Rattle.exam_office.specs.Orders.{IsInOrder};
-ghost use Rattle.exam_office.specs.Parts as spec;
+ghost use Rattle.exam_commands.specs.FactsMade.{WasMade, early_refusal, facts_made, may_pass_limit};
+ghost use Rattle.exam_commands.specs.Good.{IsGood};
+ghost use Rattle.exam_commands.specs.Limits.{within_limits};
+ghost use Rattle.exam_commands.specs.NextPlans as planning;
+ghost use Rattle.exam_commands.specs.Orders.{IsInOrder};
+ghost use Rattle.exam_commands.specs.Parts as spec;
 ghost use Rattle.exam_office.specs.Relisting as listing;
-ghost use Rattle.exam_office.specs.Singles.{AreSingle};
-ghost use Rattle.exam_office.specs.State.{State};
-ghost use Rattle.exam_office.specs.Steps as steps;
-ghost use Rattle.exam_office.specs.Undoing as undoing;
+ghost use Rattle.exam_commands.specs.Singles.{AreSingle};
+ghost use Rattle.exam_commands.specs.State.{State};
+ghost use Rattle.exam_commands.specs.Steps as steps;
+ghost use Rattle.exam_changes.specs.Undoing as undoing;
 
-use crate::appeals::stored_state;
-use crate::changes::import_rows;
-use crate::closing::close;
-use crate::command::{Command, Decision, Outcome, Reply};
-use crate::deciding::{decide, decided_reply, newly_decided};
-use crate::entries::{reinstate, withdraw};
-use crate::limits::stays_within;
-use crate::lodging::lodge;
-use crate::office::Seats;
-use crate::part::Part;
 use crate::relisting::{ListUndo, relist};
-use crate::repair::repaired_among;
-use crate::retracting::retract;
-use crate::touching::touched;
-use crate::undo::Undo;
+use crate::staying::stays_within;
+use exam_changes::{
+    Undo, close, decide, decided_reply, import_rows, lodge, newly_decided, reinstate, retract,
+    withdraw,
+};
+use exam_commands::{Command, Decision, Outcome, Part, Reply, Seats, stored_state};
+use exam_judging::{repaired_among, touched};
 use exam_rules::{Facts, SessionLists, session_lists};
 use exam_types::{Day, Refusal, SessionCode};
 use std::alloc::Global;

@@ -5,16 +5,14 @@ ghost use Rattle.exam_rules.specs.declared.lists.SessionLists.{SessionLists as L
 ghost use Rattle.exam_rules.specs.Lists.{AreListsOf, closed, listed};
 ghost use Rattle.exam_rules.specs.Orders.{AreInOrder};
 ghost use Rattle.exam_rules.specs.Relations.{Code, Relations, code_cmp, has_row, relations_of};
-ghost use Rattle.exam_office.specs.declared.command.Command.TheVariants as command;
-ghost use Rattle.exam_office.specs.declared.import_row.Row.{Row as ImportRow};
+ghost use Rattle.exam_commands.specs.declared.command.Command.TheVariants as command;
+ghost use Rattle.exam_commands.specs.declared.import_row.Row.{Row as ImportRow};
 ghost use Rattle.exam_office.specs.declared.relisting.ListUndo.TheVariants as undo;
-ghost use Rattle.exam_office.specs.Changes.{with_row};
-ghost use Rattle.exam_office.specs.FactsMade.{WasMade};
+ghost use Rattle.exam_commands.specs.Changes.{with_row};
+ghost use Rattle.exam_commands.specs.FactsMade.{WasMade};
 ghost use Rattle.exam_office.specs.Relisting as spec;
 
-use crate::command::Command;
-use crate::import::Import;
-use crate::import_row::{Kind, Row};
+use exam_commands::{Command, Import, Kind, Row};
 use exam_rules::{BySession, Entrant, Facts, SessionLists, entered_session, session_lists};
 use exam_types::{HallCode, Number, PaperCode, Refusal, SessionCode};
 use std::alloc::Global;

@@ -3,10 +3,10 @@ ghost use Rattle.std.specs.Prelude.{◌≡◌, ℕ, false, IsTrue, OnOk, IfErr};
 ghost use Rattle.exam_types.specs.declared.refusal.Refusal.TheVariants.{NoMemory};
 ghost use Rattle.exam_rules.specs.Orders.{KeysRise};
 ghost use Rattle.exam_rules.specs.Relations.{Code, has_row, row_at, seat_cmp};
-ghost use Rattle.exam_office.specs.Exchanges as spec;
+ghost use Rattle.exam_commands.specs.Exchanges as spec;
 
-use crate::office::Seats;
-use crate::rows::set;
+use exam_changes::rows::set;
+use exam_commands::Seats;
 use exam_types::Refusal;
 
 /// Seats everybody as in the new plans. After a refusal some of them may already be seated so, and all others are as

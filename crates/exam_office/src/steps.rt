@@ -2,12 +2,12 @@
 ghost use Rattle.std.specs.Prelude.{◌≡◌, IfOk, IfErr, OnErr};
 ghost use Rattle.exam_types.specs.declared.refusal.Refusal.TheVariants.{NoMemory};
 ghost use Rattle.exam_rules.specs.Relations.{Code};
-ghost use Rattle.exam_office.specs.Headline.{IsSeated};
-ghost use Rattle.exam_office.specs.Steps as steps;
+ghost use Rattle.exam_commands.specs.Headline.{IsSeated};
+ghost use Rattle.exam_commands.specs.Steps as steps;
 
-use crate::command::{Command, Reply};
 use crate::draft::Draft;
 use crate::office::Office;
+use exam_commands::{Command, Reply};
 use exam_types::{Day, Refusal};
 use std::alloc::Global;
 use std::mem;

@@ -8,7 +8,7 @@ use Rattle.std.proofs.lemmas.Bool.Decides.{nat_tests}
 use Rattle.std.proofs.lemmas.Fmt.{IsAscii-decimal}
 use Rattle.std.proofs.lemmas.Str.{IsAscii-append}
 use Rattle.std.proofs.lemmas.Str.Ascii.{IsAscii-cons, IsAscii-nil}
-use Rattle.exam_office.specs.Words.{arrangement_text}
+use Rattle.exam_commands.specs.Words.{arrangement_text}
 use Rattle.exam_rules.specs.declared.rows.Arrangement.{Arrangement}
 use Rattle.exam_types.specs.Days.{date_text, day_text, month_day_of, month_of, year_of}
 use Rattle.exam_types.specs.Digits.{digits}

@@ -2,14 +2,14 @@
 use Rattle.std.specs.Prelude.{ℕ, List, [], ◌∷◌, ◌++◌, ◌==◌, ◌||◌, ◌&&◌, Option, Some, None, codes}
 use Rattle.std.specs.Prelude.{decimal, length, nat_le, if◌then◌else◌}
 use Rattle.http.specs.StatusCode.{code_digits}
-use Rattle.exam_office.specs.declared.command.AppealState.{AppealState}
+use Rattle.exam_commands.specs.declared.command.AppealState.{AppealState}
 use Rattle.exam_types.specs.Days.{day_text}
 use Rattle.exam_types.specs.Refusals.{refusal_number}
 use Rattle.exam_types.specs.declared.refusal.Refusal.{Refusal}
 use Rattle.exam_types.specs.declared.refusal.Refusal.TheVariants.{PastClosing}
 use Rattle.exam_request.specs.Json.{number, object_text, text}
 use Rattle.exam_request.specs.Methods.{allow_text}
-use Rattle.exam_office.specs.Words.{state_word}
+use Rattle.exam_commands.specs.Words.{state_word}
 use Rattle.exam_request.specs.declared.routes.Route.{Route}
 
 -- the status of the answer to a refusal or a fault

@@ -1,20 +1,20 @@
 -- The bodies that show a candidate their own rows: members come in rising byte order of their names.
 use Rattle.std.specs.Prelude.{ℕ, List, [], ◌∷◌, Option, Some, None, codes, map}
 use Rattle.std.specs.List.{flat_map}
-use Rattle.exam_office.specs.Appeals.{state_of}
+use Rattle.exam_commands.specs.Appeals.{state_of}
 use Rattle.exam_rules.specs.Relations.{Code}
 use Rattle.exam_rules.specs.declared.rows.Status.{Status}
 use Rattle.exam_rules.specs.declared.rows.Status.TheVariants as status
 use Rattle.exam_types.specs.Days.{day_text}
 use Rattle.exam_types.specs.Features.{features_text}
 use Rattle.exam_types.specs.Numbers.{minute_text}
-use Rattle.exam_office.specs.declared.own.OwnAppeal.{OwnAppeal}
+use Rattle.exam_commands.specs.declared.own.OwnAppeal.{OwnAppeal}
 use Rattle.exam_request.specs.Json.{Object, flag, list_body, number, or_null, text}
-use Rattle.exam_office.specs.Own.{OwnRows, OwnSessionRow}
+use Rattle.exam_commands.specs.Own.{OwnRows, OwnSessionRow}
 use Rattle.exam_request.specs.declared.own_bodies.MissedPaper.{MissedPaper}
 use Rattle.exam_request.specs.declared.own_bodies.Page.{Page}
 use Rattle.exam_request.specs.declared.own_bodies.Page.TheVariants as page
-use Rattle.exam_office.specs.Words.{kind_word, state_word, subject_text}
+use Rattle.exam_commands.specs.Words.{kind_word, state_word, subject_text}
 
 -- ---- seats
 

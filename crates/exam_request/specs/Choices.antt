@@ -1,7 +1,7 @@
 -- What is done for a request: the first of these that applies.
 use Rattle.std.specs.Prelude.{◌≡◌, ◌⊎◌, ⊤, ℕ, List, Bool, true, false, Option, Some, None, IsSomeAnd, option_and_then}
 use Rattle.std.specs.Prelude.{bytes_eq, codes, if◌then◌else◌}
-use Rattle.exam_office.specs.declared.command.Lodging.{Lodging}
+use Rattle.exam_commands.specs.declared.command.Lodging.{Lodging}
 use Rattle.exam_types.specs.Codes.{is_reference}
 use Rattle.exam_types.specs.Numbers.{number_in}
 use Rattle.exam_types.specs.declared.refusal.Refusal.TheVariants.{UnknownAppeal, UnknownCandidate}

@@ -3,7 +3,7 @@ use Rattle.std.specs.Prelude.{◌≡◌}
 use Rattle.exam_types.specs.Days.{day_text}
 use Rattle.exam_types.specs.Features.{features_text}
 use Rattle.exam_types.specs.Numbers.{minute_text}
-use Rattle.exam_office.specs.Own.{OwnSessionRow}
+use Rattle.exam_commands.specs.Own.{OwnSessionRow}
 use Rattle.exam_request.specs.declared.own_bodies.SeatTexts.{SeatTexts}
 
 -- these are the date, the finish, the needs and the start of the seat

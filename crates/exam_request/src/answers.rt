@@ -10,7 +10,7 @@ use crate::methods::allowed;
 use crate::routes::Route;
 use crate::status::{phrase_of, status_of};
 use arrayvec::ArrayVec;
-use exam_office::{AppealState, state_word};
+use exam_commands::{AppealState, state_word};
 use exam_send::{WriteFailed, send_both};
 use exam_types::{Day, Refusal};
 use http::StatusCode;

@@ -13,7 +13,7 @@ use crate::posted::{Posted, posted_in};
 use crate::reading::Request;
 use crate::routes::{Found, Route};
 use crate::secret::is_secret;
-use exam_office::Lodging;
+use exam_commands::Lodging;
 use exam_types::{AccessCode, Number, Reference, Refusal};
 use std::alloc::Global;
 

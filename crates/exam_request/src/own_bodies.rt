@@ -3,8 +3,8 @@ ghost use Rattle.std.specs.Prelude.{◌≡◌, ◌++◌, IfOk, IfErr, OnOk, flat
 ghost use Rattle.std.specs.Str.{IsAscii};
 ghost use Rattle.exam_types.specs.declared.refusal.Refusal.TheVariants.{NoMemory};
 ghost use Rattle.exam_types.specs.Days.{day_text};
-ghost use Rattle.exam_office.specs.Own.{shown, shown_session};
-ghost use Rattle.exam_office.specs.Words.{subject_text};
+ghost use Rattle.exam_commands.specs.Own.{shown, shown_session};
+ghost use Rattle.exam_commands.specs.Words.{subject_text};
 ghost use Rattle.exam_request.specs.Bodies as spec;
 ghost use Rattle.exam_request.specs.SeatRows.{HasSeatTexts};
 ghost use Rattle.exam_request.specs.Values.{object_data};
@@ -13,7 +13,7 @@ ghost use Rattle.serde_json.specs.View.{view};
 use crate::objects::{
     ascii_text, list_body, put_flag, put_number, put_number_or_null, put_text, put_text_or_null,
 };
-use exam_office::{Own, OwnAppeal, OwnSession, kind_word, status_word, write_subject};
+use exam_commands::{Own, OwnAppeal, OwnSession, kind_word, status_word, write_subject};
 use exam_rules::{Status, Subject};
 use exam_types::{HallCode, PaperCode, Refusal, SessionCode};
 use serde_json::{Map, Value};

@@ -3,11 +3,11 @@ use Rattle.std.proofs.Common.{◌≡◌, ℕ, List, [], ◌∷◌, ◌++◌, Res
 use Rattle.sqlite.specs.Effect.{Database}
 use Rattle.sqlite.specs.State.{State as Shown}
 use Rattle.exam_types.specs.declared.refusal.Refusal.{Refusal}
-use Rattle.exam_office.specs.declared.command.Command.{Command}
-use Rattle.exam_office.specs.declared.command.Reply.{Reply}
+use Rattle.exam_commands.specs.declared.command.Command.{Command}
+use Rattle.exam_commands.specs.declared.command.Reply.{Reply}
 use Rattle.exam_office.specs.Drafts.{DraftIn}
-use Rattle.exam_office.specs.State.{State}
-use Rattle.exam_office.specs.Steps.{Step}
+use Rattle.exam_commands.specs.State.{State}
+use Rattle.exam_commands.specs.Steps.{Step}
 use Rattle.sqlite_trees.specs.declared.store.Store.{Ghosts}
 use Rattle.exam_store.specs.Applied.{MayApply, FailsToApply, TurnsBy, Applies, IsApplied, AreApplied}
 use Rattle.exam_store.specs.Kept.{Rekeeps}

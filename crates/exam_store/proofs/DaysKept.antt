@@ -13,21 +13,21 @@ use Rattle.exam_rules.specs.declared.rows.Appeal.{Appeal}
 use Rattle.exam_rules.specs.declared.rows.Session.{Session}
 use Rattle.exam_rules.specs.declared.rows.Subject.{Subject}
 use Rattle.exam_rules.specs.Relations.{Code, Relations, appeal_cmp, code_cmp, entry_cmp, has_row, put_row}
-use Rattle.exam_office.specs.declared.command.Command.{Command}
-use Rattle.exam_office.specs.declared.command.Command.TheVariants as command
-use Rattle.exam_office.specs.declared.command.Decision.{Decision}
-use Rattle.exam_office.specs.declared.command.Lodging.{Lodging}
-use Rattle.exam_office.specs.declared.command.Outcome.{Outcome}
-use Rattle.exam_office.specs.declared.command.Reply.{Reply}
-use Rattle.exam_office.specs.declared.import_row.Row.{Row}
-use Rattle.exam_office.specs.declared.import_row.Row.TheVariants as row
-use Rattle.exam_office.specs.Appeals.{appeal_at, is_grant, is_retracted, superseded}
-use Rattle.exam_office.specs.Changes.{with_row, with_rows}
-use Rattle.exam_office.specs.Decisions.{gives_way, giving_way, is_made, with_decided, with_outcome, with_superseded}
-use Rattle.exam_office.specs.Lodgings.{with_appeal, with_lodging, with_retracted, with_retracted_appeal}
-use Rattle.exam_office.specs.State.{State, empty_state}
-use Rattle.exam_office.specs.Steps.{Step, change}
-use Rattle.exam_office.proofs.Lasting.{made, new_facts}
+use Rattle.exam_commands.specs.declared.command.Command.{Command}
+use Rattle.exam_commands.specs.declared.command.Command.TheVariants as command
+use Rattle.exam_commands.specs.declared.command.Decision.{Decision}
+use Rattle.exam_commands.specs.declared.command.Lodging.{Lodging}
+use Rattle.exam_commands.specs.declared.command.Outcome.{Outcome}
+use Rattle.exam_commands.specs.declared.command.Reply.{Reply}
+use Rattle.exam_commands.specs.declared.import_row.Row.{Row}
+use Rattle.exam_commands.specs.declared.import_row.Row.TheVariants as row
+use Rattle.exam_commands.specs.Appeals.{appeal_at, is_grant, is_retracted, superseded}
+use Rattle.exam_commands.specs.Changes.{with_row, with_rows}
+use Rattle.exam_commands.specs.Decisions.{gives_way, giving_way, is_made, with_decided, with_outcome, with_superseded}
+use Rattle.exam_commands.specs.Lodgings.{with_appeal, with_lodging, with_retracted, with_retracted_appeal}
+use Rattle.exam_commands.specs.State.{State, empty_state}
+use Rattle.exam_commands.specs.Steps.{Step, change}
+use Rattle.exam_laws.proofs.Lasting.{made, new_facts}
 use Rattle.exam_rows.specs.Rows.{IsAppeal, IsSession}
 use Rattle.exam_store.specs.Refused.{HoldsFormed}
 use Rattle.exam_store.specs.Stops.{HasDays, HasRowDay, HasRowDays}

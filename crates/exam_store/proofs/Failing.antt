@@ -4,8 +4,8 @@ use Rattle.sqlite.specs.State.{State}
 use Rattle.exam_types.specs.declared.refusal.Refusal.{Refusal}
 use Rattle.exam_rules.specs.Orders.{KeysRise}
 use Rattle.exam_rules.specs.Relations.{seat_cmp}
-use Rattle.exam_office.specs.Good.{IsGood}
-use Rattle.exam_office.specs.State.{State as Office}
+use Rattle.exam_commands.specs.Good.{IsGood}
+use Rattle.exam_commands.specs.State.{State as Office}
 use Rattle.exam_rows.specs.declared.writing.Changes.{Changes}
 use Rattle.exam_rows.specs.Inside.{FailsToWrite}
 use Rattle.exam_rows.specs.Writes.{all_saved}

@@ -17,8 +17,8 @@ use Rattle.exam_tables.proofs.References.{Stand, links}
 use Rattle.exam_tables.proofs.Standing.{Way, at_rest, putting, all_there, deleting, arrived, now, is_sound, made, Along, Goes, goes_both, puts_part, deletes_part, known_at_start, stands_at, left_was}
 use Rattle.exam_rules.specs.Orders.{KeysRise}
 use Rattle.exam_rules.specs.Relations.{seat_cmp}
-use Rattle.exam_office.specs.Good.{IsGood}
-use Rattle.exam_office.specs.State.{State}
+use Rattle.exam_commands.specs.Good.{IsGood}
+use Rattle.exam_commands.specs.State.{State}
 use Rattle.exam_rows.specs.declared.writing.Changes.{Changes}
 use Rattle.exam_rows.specs.Held.{HoldsRows}
 use Rattle.exam_rows.specs.Inside.{Write, put_of, delete_of, written, RefusesOne, RefusesOneRow}

@@ -9,11 +9,11 @@ use Rattle.exam_types.specs.declared.refusal.Refusal.{Refusal}
 use Rattle.exam_tables.specs.Made.{ContainsMade}
 use Rattle.exam_tables.proofs.Keys.{equal_itself}
 use Rattle.exam_store.proofs.Marking.{made_of, no_older, one_version}
-use Rattle.exam_office.specs.State.{State as Office}
+use Rattle.exam_commands.specs.State.{State as Office}
 use Rattle.exam_rows.specs.Versions.{FailsToCreate, FailsToMake, HasVersion, IsKnown, Widens, version, version_at, with_version}
 use Rattle.exam_rows.proofs.Creating.{made_later}
 use Rattle.exam_store.specs.Kept.{HoldsOffice, Migrates}
-use Rattle.exam_office.specs.Good.{IsGood}
+use Rattle.exam_commands.specs.Good.{IsGood}
 use Rattle.exam_store.specs.Refused.{HoldsNone, HoldsNoOffice, IsGoodIn, is_within}
 use Rattle.exam_rows.specs.declared.version.Version.{Version}
 

@@ -17,10 +17,10 @@ use Rattle.std.proofs.lemmas.Map.Lookups.{CmpEqualImpliesEq}
 use Rattle.sqlite_trees.proofs.ListLemmas.{IsPermutation-filter}
 use Rattle.exam_rules.specs.Orders.{KeysRise}
 use Rattle.exam_rules.specs.Relations.{Code, has_row, row_at, seat_cmp}
-use Rattle.exam_office.specs.State.{Seats}
-use Rattle.exam_office.specs.TablesBefore.{AreOf}
-use Rattle.exam_office.proofs.Repeating.{same_rows}
-use Rattle.exam_office.proofs.SameSeats.{seats_exact, seats_total}
+use Rattle.exam_commands.specs.State.{Seats}
+use Rattle.exam_changes.specs.TablesBefore.{AreOf}
+use Rattle.exam_commands.proofs.Repeating.{same_rows}
+use Rattle.exam_commands.proofs.SameSeats.{seats_exact, seats_total}
 use Rattle.exam_rows.specs.declared.differences.Difference.{Difference}
 use Rattle.exam_rows.specs.Differences.{has_key, is_one_of, Differs, Turns}
 use Rattle.exam_rows.proofs.RowTurning.{stays}

@@ -2,7 +2,7 @@
 use Rattle.sqlite.specs.Effect.{Database}
 use Rattle.exam_rules.specs.Orders.{KeysRise}
 use Rattle.exam_rules.specs.Relations.{appeal_cmp}
-use Rattle.exam_office.specs.State.{State}
+use Rattle.exam_commands.specs.State.{State}
 use Rattle.exam_rows.specs.Streamed.{HasAppeals}
 use Rattle.exam_rows.proofs.Counted.{HaveForms}
 use Rattle.exam_store.specs.Kept.{Keeps}

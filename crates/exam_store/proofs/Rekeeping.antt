@@ -7,7 +7,7 @@ use Rattle.sqlite_schema.specs.declared.schema.Schema.{Schema}
 use Rattle.exam_tables.specs.Tables.{no_schema, store_schema}
 use Rattle.sqlite.specs.State.{State as Shown, HasCleanDisk, IsUnchanged, Survives}
 use Rattle.exam_types.specs.declared.refusal.Refusal.{Refusal}
-use Rattle.exam_office.specs.State.{State, empty_state}
+use Rattle.exam_commands.specs.State.{State, empty_state}
 use Rattle.exam_rows.specs.declared.writing.Changes.{Changes}
 use Rattle.exam_rows.specs.Held.{HoldsRows}
 use Rattle.exam_store.specs.Kept.{HoldsOffice}

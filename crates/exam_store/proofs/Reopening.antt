@@ -7,13 +7,13 @@ use Rattle.sqlite.specs.State.{State as Shown, HasCleanDisk}
 use Rattle.exam_types.specs.declared.refusal.Refusal.{Refusal}
 use Rattle.exam_tables.specs.Content.{Holds, places}
 use Rattle.exam_tables.specs.Tables.{store_schema}
-use Rattle.exam_office.specs.declared.command.Command.{Command}
-use Rattle.exam_office.specs.declared.command.Reply.{Reply}
-use Rattle.exam_office.specs.Orders.{IsInOrder}
-use Rattle.exam_office.specs.State.{State}
-use Rattle.exam_office.specs.Steps.{Step, StepTo}
-use Rattle.exam_office.proofs.Lasting.{new_facts}
-use Rattle.exam_office.proofs.OneResult.{one_result}
+use Rattle.exam_commands.specs.declared.command.Command.{Command}
+use Rattle.exam_commands.specs.declared.command.Reply.{Reply}
+use Rattle.exam_commands.specs.Orders.{IsInOrder}
+use Rattle.exam_commands.specs.State.{State}
+use Rattle.exam_commands.specs.Steps.{Step, StepTo}
+use Rattle.exam_laws.proofs.Lasting.{new_facts}
+use Rattle.exam_laws.proofs.OneResult.{one_result}
 use Rattle.exam_rows.specs.Inside.{IsOurs}
 use Rattle.exam_rows.specs.Transactions.{Commits}
 use Rattle.exam_store.specs.Applied.{MayApply, TurnsBy}

@@ -4,19 +4,19 @@ use Rattle.std.proofs.lemmas.List.Elements.{All-head, All-tail, All-weaker}
 use Rattle.exam_types.specs.declared.refusal.Refusal.{Refusal}
 use Rattle.exam_types.specs.declared.refusal.Refusal.TheVariants.{NoMemory, NotOpenAppeal}
 use Rattle.exam_rules.specs.Relations.{Code}
-use Rattle.exam_office.specs.declared.command.Command.{Command}
-use Rattle.exam_office.specs.declared.command.Command.TheVariants as command
-use Rattle.exam_office.specs.declared.command.AppealState.TheVariants as state
-use Rattle.exam_office.specs.declared.command.Decision.{Decision}
-use Rattle.exam_office.specs.declared.command.Lodging.{Lodging}
-use Rattle.exam_office.specs.declared.command.Reply.{Reply}
-use Rattle.exam_office.specs.declared.command.Reply.TheVariants as reply
-use Rattle.exam_office.specs.Appeals.{stored_state}
-use Rattle.exam_office.specs.Orders.{IsInOrder}
-use Rattle.exam_office.specs.State.{State}
-use Rattle.exam_office.specs.Steps.{MayStep, NoneLacksMemory, Run, Step}
-use Rattle.exam_office.proofs.Lasting.{repeated_decision, repeated_lodging, repeated_retraction}
-use Rattle.exam_office.proofs.OneResult.{one_run}
+use Rattle.exam_commands.specs.declared.command.Command.{Command}
+use Rattle.exam_commands.specs.declared.command.Command.TheVariants as command
+use Rattle.exam_commands.specs.declared.command.AppealState.TheVariants as state
+use Rattle.exam_commands.specs.declared.command.Decision.{Decision}
+use Rattle.exam_commands.specs.declared.command.Lodging.{Lodging}
+use Rattle.exam_commands.specs.declared.command.Reply.{Reply}
+use Rattle.exam_commands.specs.declared.command.Reply.TheVariants as reply
+use Rattle.exam_commands.specs.Appeals.{stored_state}
+use Rattle.exam_commands.specs.Orders.{IsInOrder}
+use Rattle.exam_commands.specs.State.{State}
+use Rattle.exam_commands.specs.Steps.{MayStep, NoneLacksMemory, Run, Step}
+use Rattle.exam_laws.proofs.Lasting.{repeated_decision, repeated_lodging, repeated_retraction}
+use Rattle.exam_laws.proofs.OneResult.{one_run}
 use Rattle.exam_rows.specs.Faults.{is_store_refusal}
 use Rattle.exam_store.specs.Applied.{Applies, FailsInStore, MayApply, NoneFails, in_memory}
 

@@ -10,7 +10,7 @@ use Rattle.sqlite.specs.Effect.{Database}
 use Rattle.exam_tables.specs.Content.{Holds, places}
 use Rattle.exam_tables.specs.Tables as tables
 use Rattle.exam_tables.specs.Tables.{store_schema}
-use Rattle.exam_office.specs.State.{State}
+use Rattle.exam_commands.specs.State.{State}
 use Rattle.exam_rows.specs.Inside.{Contains}
 use Rattle.exam_store.specs.Kept.{HaveSameTables, Keeps}
 

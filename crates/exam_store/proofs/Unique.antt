@@ -1,7 +1,7 @@
 -- Tables hold one office.
 use Rattle.std.proofs.Common.{◌≡◌}
 use Rattle.sqlite_trees.specs.Tree.{Trees}
-use Rattle.exam_office.specs.State.{State}
+use Rattle.exam_commands.specs.State.{State}
 use Rattle.exam_rows.proofs.OneTable.{one_facts, one_seats}
 use Rattle.exam_store.specs.Refused.{HoldsFormed}
 

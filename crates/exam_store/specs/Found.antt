@@ -7,7 +7,7 @@ use Rattle.sqlite.specs.State.{State, HasCleanDisk, IsUnchanged, Survives}
 use Rattle.sqlite.specs.Held.{Held, state}
 use Rattle.exam_types.specs.declared.refusal.Refusal.{Refusal}
 use Rattle.exam_types.specs.declared.refusal.Refusal.TheVariants.{Store, OldSchema}
-use Rattle.exam_office.specs.State.{State as Office, empty_state}
+use Rattle.exam_commands.specs.State.{State as Office, empty_state}
 use Rattle.exam_tables.specs.Made.{ContainsMade}
 use Rattle.exam_tables.specs.Texts.{held_texts, load_office, load_standing, load_texts}
 use Rattle.exam_rows.specs.Inside.{Contains, IsOurs}

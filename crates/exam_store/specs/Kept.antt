@@ -3,7 +3,7 @@ use Rattle.std.specs.Prelude.{◌≡◌, ◌↔◌, ℕ}
 use Rattle.sqlite_trees.specs.Tree.{Trees}
 use Rattle.sqlite.specs.Effect.{Database}
 use Rattle.sqlite.specs.State.{State, HasCleanDisk}
-use Rattle.exam_office.specs.State.{State as Office}
+use Rattle.exam_commands.specs.State.{State as Office}
 use Rattle.exam_rows.specs.Forms as forms
 use Rattle.exam_rows.specs.Held.{HasRows, HoldsFacts}
 use Rattle.exam_rows.specs.Inside.{Contains, IsOurs}

@@ -3,9 +3,9 @@ use Rattle.std.specs.Prelude.{◌⊎◌, ℕ, Bool, true, IsTrue, List}
 use Rattle.std.specs.Option.{option_map_or}
 use Rattle.sqlite_trees.specs.Tree.{Trees}
 use Rattle.exam_rules.specs.Relations.{Code, Relations}
-use Rattle.exam_office.specs.Good.{IsGood}
-use Rattle.exam_office.specs.Limits.{holds_at_most}
-use Rattle.exam_office.specs.State.{State}
+use Rattle.exam_commands.specs.Good.{IsGood}
+use Rattle.exam_commands.specs.Limits.{holds_at_most}
+use Rattle.exam_commands.specs.State.{State}
 use Rattle.exam_rows.specs.Held.{HoldsRelations, HoldsSeats}
 use Rattle.exam_rows.specs.Versions.{HasVersion, version_at}
 use Rattle.exam_rows.specs.declared.version.Version.{Version}

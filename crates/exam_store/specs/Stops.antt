@@ -7,13 +7,13 @@ use Rattle.exam_types.specs.Days.{IsDay}
 use Rattle.exam_rules.specs.declared.rows.Appeal.{Appeal}
 use Rattle.exam_rules.specs.declared.rows.Session.{Session}
 use Rattle.exam_rules.specs.Relations.{Relations}
-use Rattle.exam_office.specs.declared.command.Command.{Command}
-use Rattle.exam_office.specs.declared.command.Command.TheVariants as command
-use Rattle.exam_office.specs.declared.command.Reply.{Reply}
-use Rattle.exam_office.specs.declared.import_row.Row.{Row}
-use Rattle.exam_office.specs.declared.import_row.Row.TheVariants as row
-use Rattle.exam_office.specs.State.{State}
-use Rattle.exam_office.specs.Steps.{Step}
+use Rattle.exam_commands.specs.declared.command.Command.{Command}
+use Rattle.exam_commands.specs.declared.command.Command.TheVariants as command
+use Rattle.exam_commands.specs.declared.command.Reply.{Reply}
+use Rattle.exam_commands.specs.declared.import_row.Row.{Row}
+use Rattle.exam_commands.specs.declared.import_row.Row.TheVariants as row
+use Rattle.exam_commands.specs.State.{State}
+use Rattle.exam_commands.specs.Steps.{Step}
 use Rattle.exam_rows.specs.Inside.{IsOurs}
 use Rattle.exam_store.specs.Found.{Finds}
 use Rattle.exam_store.specs.Kept.{Keeps}

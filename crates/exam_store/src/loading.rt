@@ -8,7 +8,7 @@ ghost use Rattle.exam_rows.specs.Faults.{is_store_refusal};
 ghost use Rattle.exam_rows.specs.Loaded.{AreUnderstood, FailsThen, IsLoadRefusal, IsUnderstood, OnlyReads};
 ghost use Rattle.exam_rows.specs.Versions.{ContainsOf, IsKnown};
 ghost use Rattle.exam_store.specs.Found.{version_texts};
-ghost use Rattle.exam_office.specs.Good.{IsGood};
+ghost use Rattle.exam_commands.specs.Good.{IsGood};
 ghost use Rattle.exam_store.specs.Refused.{HoldsFormed, HoldsNoOffice, HoldsNone, is_within};
 
 use exam_office::Office;

@@ -1,7 +1,7 @@
 -- One more order after others.
 use Rattle.std.proofs.Common.{◌≡◌, ◌∙◌, List, [], ◌∷◌, ◌++◌, refl, sym, ap, subst}
 use Rattle.std.specs.Prelude.{map}
-use Rattle.exam_office.specs.State.{State}
+use Rattle.exam_commands.specs.State.{State}
 use Rattle.exam_theorem.specs.Following.{AreEach}
 use Rattle.exam_theorem.specs.Orders.{Given, shown}
 use Rattle.exam_theorem.specs.declared.orders.Order.{Order}

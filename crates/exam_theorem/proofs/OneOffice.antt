@@ -5,11 +5,11 @@ use Rattle.std.proofs.lemmas.List.Elements.{All-head, All-tail}
 use Rattle.clap.specs.Words.{Text}
 use Rattle.exam_types.specs.declared.refusal.Refusal.{Refusal}
 use Rattle.exam_types.specs.declared.refusal.Refusal.TheVariants as refusal
-use Rattle.exam_office.specs.declared.command.Command.{Command}
-use Rattle.exam_office.specs.declared.command.Command.TheVariants as command
-use Rattle.exam_office.specs.declared.command.Reply.{Reply}
-use Rattle.exam_office.specs.State.{State}
-use Rattle.exam_office.specs.Steps.{Step}
+use Rattle.exam_commands.specs.declared.command.Command.{Command}
+use Rattle.exam_commands.specs.declared.command.Command.TheVariants as command
+use Rattle.exam_commands.specs.declared.command.Reply.{Reply}
+use Rattle.exam_commands.specs.State.{State}
+use Rattle.exam_commands.specs.Steps.{Step}
 use Rattle.exam_line.specs.Lines.{Said}
 use Rattle.exam_request.specs.Answer.{Told, refusal_told}
 use Rattle.exam_request.specs.Asked.{Asks, Request}

@@ -3,7 +3,7 @@ use Rattle.std.proofs.Common.{◌≡◌, ℕ, List, Option, None, Some, sym, sub
 use Rattle.sqlite.specs.Held.{state}
 use Rattle.sqlite_trees.specs.declared.store.Store.{Ghosts}
 use Rattle.exam_rules.specs.Relations.{Code}
-use Rattle.exam_office.specs.State.{State}
+use Rattle.exam_commands.specs.State.{State}
 use Rattle.exam_line.specs.declared.line.Sheet.{Sheet}
 use Rattle.exam_line.specs.declared.line.Sheet.TheVariants as sheet
 use Rattle.exam_rows.specs.Transactions.{IsSound}

@@ -4,8 +4,8 @@ use Rattle.std.specs.Prelude.{Result, Ok, Err}
 use Rattle.clap.specs.Words.{IsAmong, Text, fault_of}
 use Rattle.clap.specs.declared.error.kind.ErrorKind.{ErrorKind}
 use Rattle.exam_types.specs.declared.refusal.Refusal.{Refusal}
-use Rattle.exam_office.specs.declared.command.Command.{Command}
-use Rattle.exam_office.specs.State.{State}
+use Rattle.exam_commands.specs.declared.command.Command.{Command}
+use Rattle.exam_commands.specs.State.{State}
 use Rattle.exam_line.specs.Grammar.{grammar}
 use Rattle.exam_line.specs.Lines as lines
 use Rattle.exam_line.specs.Lines.{Answers, Said, said}

@@ -6,14 +6,14 @@ use Rattle.exam_types.specs.declared.refusal.Refusal.{Refusal}
 use Rattle.exam_plan.specs.Matching.{Keeps, Plan, Seating}
 use Rattle.exam_rules.specs.Relations.{Code, Relations}
 use Rattle.exam_rules.specs.Seatings.{plan_of, seating}
-use Rattle.exam_office.specs.declared.command.Command.{Command}
-use Rattle.exam_office.specs.declared.command.Command.TheVariants as command
-use Rattle.exam_office.specs.declared.command.Lodging.{Lodging}
-use Rattle.exam_office.specs.declared.command.Reply.{Reply}
-use Rattle.exam_office.specs.Good.{IsGood}
-use Rattle.exam_office.specs.Orders.{IsInOrder}
-use Rattle.exam_office.specs.State.{State}
-use Rattle.exam_office.specs.Steps.{SeatsOn, Step, StepTo, change}
+use Rattle.exam_commands.specs.declared.command.Command.{Command}
+use Rattle.exam_commands.specs.declared.command.Command.TheVariants as command
+use Rattle.exam_commands.specs.declared.command.Lodging.{Lodging}
+use Rattle.exam_commands.specs.declared.command.Reply.{Reply}
+use Rattle.exam_commands.specs.Good.{IsGood}
+use Rattle.exam_commands.specs.Orders.{IsInOrder}
+use Rattle.exam_commands.specs.State.{State}
+use Rattle.exam_commands.specs.Steps.{SeatsOn, Step, StepTo, change}
 use Rattle.exam_line.specs.Lines.{Said}
 use Rattle.exam_request.specs.Answer.{Told}
 use Rattle.exam_request.specs.Asked.{Request}

@@ -6,10 +6,10 @@ use Rattle.exam_types.specs.declared.refusal.Refusal.{Refusal}
 use Rattle.exam_plan.specs.Matching.{Keeps}
 use Rattle.exam_rules.specs.Relations.{Code}
 use Rattle.exam_rules.specs.Seatings.{plan_of, seating}
-use Rattle.exam_office.specs.declared.command.Command.{Command}
-use Rattle.exam_office.specs.declared.command.Reply.{Reply}
-use Rattle.exam_office.specs.Headline.{IsSeated}
-use Rattle.exam_office.specs.State.{State}
+use Rattle.exam_commands.specs.declared.command.Command.{Command}
+use Rattle.exam_commands.specs.declared.command.Reply.{Reply}
+use Rattle.exam_commands.specs.Headline.{IsSeated}
+use Rattle.exam_commands.specs.State.{State}
 use Rattle.exam_line.specs.Lines.{Answers, Said}
 use Rattle.exam_line.specs.declared.line.LineFault.{LineFault}
 use Rattle.exam_line.specs.declared.line.LineFault.TheVariants.{NoMemory}

@@ -1,7 +1,7 @@
 -- The sheet that words ask for.
 use Rattle.std.specs.Prelude.{◌≡◌, ◌⊎◌, ⊤, ℕ, List, Option, Some, None, Result, Err}
 use Rattle.exam_rules.specs.Relations.{Code}
-use Rattle.exam_office.specs.State.{State}
+use Rattle.exam_commands.specs.State.{State}
 use Rattle.exam_line.specs.declared.line.LineFault.{LineFault}
 use Rattle.exam_line.specs.declared.line.LineFault.TheVariants.{NoMemory}
 use Rattle.exam_line.specs.declared.line.Sheet.{Sheet}

@@ -1,7 +1,7 @@
 -- What becomes of a request, and its answer.
 use Rattle.std.specs.Prelude.{◌≡◌, ◌<◌, ◌++◌, ℕ, List, [], length, Result, Ok, Err}
-use Rattle.exam_office.specs.declared.command.Command.{Command}
-use Rattle.exam_office.specs.State.{State}
+use Rattle.exam_commands.specs.declared.command.Command.{Command}
+use Rattle.exam_commands.specs.State.{State}
 use Rattle.exam_request.specs.Answer.{Told, answer_text}
 use Rattle.exam_request.specs.Asked.{Asks, Request}
 use Rattle.exam_request.specs.declared.choice.Choice.{Choice}

@@ -3,7 +3,7 @@ ghost use Rattle.std.specs.Prelude.{◌≡◌, map, is_some, IfOk, IfErr, OnErr,
 ghost use Rattle.sqlite.specs.Held.{state};
 ghost use Rattle.exam_types.specs.declared.refusal.Refusal.TheVariants.{NoMemory};
 ghost use Rattle.exam_rules.specs.Relations.{Code};
-ghost use Rattle.exam_office.specs.Headline.{IsSeated};
+ghost use Rattle.exam_commands.specs.Headline.{IsSeated};
 ghost use Rattle.exam_line.specs.Lines as lines;
 ghost use Rattle.exam_rows.specs.Transactions.{IsSound};
 ghost use Rattle.exam_theorem.specs.Following as spec;

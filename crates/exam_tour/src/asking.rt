@@ -1,6 +1,6 @@
 //! A candidate's request, written as a line for `curl`.
 ghost use Rattle.exam_rules.specs.Relations.{Code};
-ghost use Rattle.exam_office.specs.Headline.{IsSeated};
+ghost use Rattle.exam_commands.specs.Headline.{IsSeated};
 
 use anyhow::{Context, Result};
 use exam_http::serve_one;

@@ -10,7 +10,7 @@ use Rattle.sqlite_trees.specs.declared.store.Store.{Ghosts}
 use Rattle.sqlite_wal.specs.Recovery.{Image}
 use Rattle.exam_types.specs.declared.refusal.Refusal.{Refusal}
 use Rattle.exam_types.specs.declared.refusal.Refusal.TheVariants.{NoMemory, Store, BadStore}
-use Rattle.exam_office.specs.State.{State as Office, empty_state}
+use Rattle.exam_commands.specs.State.{State as Office, empty_state}
 use Rattle.exam_rows.specs.Versions.{IsBlank}
 use Rattle.exam_store.specs.Found.{Finds}
 

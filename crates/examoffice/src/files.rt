@@ -6,7 +6,7 @@ ghost use Rattle.sqlite_store.specs.FileStore.{view};
 ghost use Rattle.sqlite_wal.specs.Files.{image_at};
 ghost use Rattle.exam_rows.specs.Faults.{is_store_refusal};
 ghost use Rattle.exam_rows.specs.Versions.{IsBlank};
-ghost use Rattle.exam_office.specs.State.{empty_state};
+ghost use Rattle.exam_commands.specs.State.{empty_state};
 ghost use Rattle.exam_store.specs.Found.{Finds, is_open_refusal};
 ghost use Rattle.exam_store.specs.Kept.{KeepsOurs};
 ghost use Rattle.exam_check.specs.Refused.{is_check_refusal};

@@ -2,7 +2,7 @@
 //! `close-hall S1 A`, `lodge 1 HA1 S1 hall B draught`, `retract 1 HA1`, and `decide 1 HA1 granted`, `refused` or
 //! `standing`. Behind a command `on` names its day.
 ghost use Rattle.std.specs.Prelude.{◌≡◌, IfOk};
-ghost use Rattle.exam_office.specs.Imports.{kind_of as spec_kind_of};
+ghost use Rattle.exam_commands.specs.Imports.{kind_of as spec_kind_of};
 
 use exam_office::{Command, Decision, Import, Kind, Lodging, Outcome, Row};
 use exam_school::{

@@ -1,5 +1,5 @@
 //! The own rows of a candidate.
-use exam_office::{Own, OwnAppeal, OwnSession};
+use exam_commands::{Own, OwnAppeal, OwnSession};
 use exam_rules::{Appeal, Arrangement, Status, Subject};
 use exam_types::{
     AccessCode, Day, Extra, Features, HallCode, Minute, Name, Number, PaperCode, Reason, Reference,

@@ -4,7 +4,7 @@ use Rattle.sqlite.specs.Held.{state}
 use Rattle.exam_rows.specs.Inside.{Contains}
 use Rattle.exam_rows.specs.Versions.{HasVersion, version}
 use Rattle.exam_store.proofs.Marking.{of_newest, older, still_made}
-use Rattle.exam_office.specs.Good.{tables}
+use Rattle.exam_commands.specs.Good.{tables}
 use Rattle.exam_check.specs.Reading.{office_in, table_texts}
 use Rattle.exam_check.proofs.First.{first_in}
 use Rattle.exam_check.proofs.Found.{all_before, in_load_order}

@@ -1,7 +1,7 @@
 use Rattle.std.proofs.Common.{◌≡◌, ◌∙◌, List, ℕ, ap, sym, refl}
 use Rattle.std.specs.Prelude.{Ok}
 use Rattle.exam_rules.specs.declared.rows.Session.{Session}
-use Rattle.exam_office.specs.declared.view.Clash.{Clash}
+use Rattle.exam_views.specs.declared.view.Clash.{Clash}
 use Rattle.exam_files.specs.Clashes.{clash_list, clash_text}
 use Rattle.exam_files.proofs.Written.{written, unsent}
 use Rattle.exam_files.proofs.clashes.clash_list.Goals as goal

@@ -2,7 +2,7 @@ use Rattle.std.proofs.Common.{◌≡◌, ◌∙◌, List, ℕ, ap, sym}
 use Rattle.std.specs.Prelude.{Ok}
 use Rattle.exam_rules.specs.declared.rows.Opening.{Opening}
 use Rattle.exam_rules.specs.declared.rows.Session.{Session}
-use Rattle.exam_office.specs.Views.{seats_of}
+use Rattle.exam_views.specs.Views.{seats_of}
 use Rattle.exam_files.specs.Doors.{door_text}
 use Rattle.exam_files.specs.Writing.{sheet_if}
 use Rattle.exam_files.proofs.Written.{written, unsent}

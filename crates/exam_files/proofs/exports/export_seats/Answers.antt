@@ -1,6 +1,6 @@
 use Rattle.std.proofs.Common.{◌≡◌, ◌∙◌, List, ℕ, ap, sym, refl}
 use Rattle.std.specs.Prelude.{Ok}
-use Rattle.exam_office.specs.Views.{seats_of}
+use Rattle.exam_views.specs.Views.{seats_of}
 use Rattle.exam_files.specs.Exports.{seat_export, export_text}
 use Rattle.exam_files.proofs.Written.{written, unsent}
 use Rattle.exam_files.proofs.exports.export_seats.Goals as goal

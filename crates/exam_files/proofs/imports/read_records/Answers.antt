@@ -1,7 +1,7 @@
 use Rattle.std.proofs.Common.{◌≡◌, ◌∙◌, ◌+◌, ◌⊎◌, ℕ, [], ◌∷◌, ◌++◌, length, sym, ap, arith, inl, inr, length-append}
 use Rattle.std.specs.Prelude.{Ok, Err}
-use Rattle.exam_office.specs.Imports.{ImportRows}
-use Rattle.exam_office.specs.declared.import_row.Kind.{Kind}
+use Rattle.exam_commands.specs.Imports.{ImportRows}
+use Rattle.exam_commands.specs.declared.import_row.Kind.{Kind}
 use Rattle.exam_types.specs.declared.refusal.Refusal.TheVariants.{NoMemory, RowConflict}
 use Rattle.exam_files.specs.ImportFiles.{rows_from, rows_in, rows_of}
 use Rattle.exam_files.proofs.Counts.{records_few}

@@ -1,6 +1,6 @@
 use Rattle.std.proofs.Common.{◌≡◌, ◌∙◌, List, ℕ, ap, sym, refl}
 use Rattle.std.specs.Prelude.{Ok}
-use Rattle.exam_office.specs.declared.view.AppealRow.{AppealRow}
+use Rattle.exam_views.specs.declared.view.AppealRow.{AppealRow}
 use Rattle.exam_files.specs.Registers.{appeal_register, register_text}
 use Rattle.exam_files.proofs.Written.{written, unsent}
 use Rattle.exam_files.proofs.registers.appeal_register.Goals as goal

@@ -1,6 +1,6 @@
 use Rattle.std.proofs.Common.{◌≡◌, ◌∙◌, List, ℕ, ap, sym}
 use Rattle.std.specs.Prelude.{Ok, refl}
-use Rattle.exam_office.specs.Views.{Report, report_of}
+use Rattle.exam_views.specs.Views.{Report, report_of}
 use Rattle.exam_files.specs.Shortages.{shortage_text}
 use Rattle.exam_files.proofs.Written.{written, unsent}
 use Rattle.exam_files.proofs.shortages.shortage_sheet.Goals as goal

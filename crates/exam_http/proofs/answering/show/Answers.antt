@@ -1,5 +1,5 @@
 use Rattle.std.proofs.Common.{◌∙◌, ap, inl, inr}
-use Rattle.exam_office.specs.Own.{own_of}
+use Rattle.exam_commands.specs.Own.{own_of}
 use Rattle.exam_request.specs.Answer.{refusal_told}
 use Rattle.exam_http.proofs.Pages.{page_told}
 use Rattle.exam_http.proofs.answering.show.Goals as goal

@@ -1,10 +1,10 @@
 use Rattle.std.proofs.Common.{◌≡◌, true, Option, ap, sym, subst, ◌∙◌}
 use Rattle.exam_rules.specs.Relations.{has_row, relations_of, row_at, seat_cmp}
-use Rattle.exam_office.specs.declared.part.Part.{Part}
-use Rattle.exam_office.specs.Exchanges.{all_put}
-use Rattle.exam_office.specs.NextPlans.{Plans}
-use Rattle.exam_office.specs.Parts.{state_of}
-use Rattle.exam_office.specs.State.{Seats}
+use Rattle.exam_commands.specs.declared.part.Part.{Part}
+use Rattle.exam_commands.specs.Exchanges.{all_put}
+use Rattle.exam_commands.specs.NextPlans.{Plans}
+use Rattle.exam_commands.specs.Parts.{state_of}
+use Rattle.exam_commands.specs.State.{Seats}
 use Rattle.exam_office.proofs.Drafting.{drafted, old_in_office, old_stay, seats_back, seats_put}
 use Rattle.exam_office.proofs.draft.made.Goals as goal
 

@@ -1,6 +1,6 @@
 use Rattle.std.proofs.Common.{sym, subst, ◌∙◌}
 use Rattle.exam_rules.specs.Relations.{Relations}
-use Rattle.exam_office.specs.Parts.{Agrees}
+use Rattle.exam_commands.specs.Parts.{Agrees}
 use Rattle.exam_office.proofs.lending.part_for.Goals as goal
 
 pub returns-clause-agrees : goal.returns-clause-agrees

@@ -5,8 +5,8 @@ use Rattle.std.proofs.lemmas.List.{take_more}
 use Rattle.std.specs.Option.{option_or}
 use Rattle.exam_rules.specs.Relations.{Code, Relations, same_code}
 use Rattle.exam_rules.specs.Seatings.{plan_of}
-use Rattle.exam_office.specs.Parts.{is_listed, reads}
-use Rattle.exam_office.specs.State.{Seats}
+use Rattle.exam_commands.specs.Parts.{is_listed, reads}
+use Rattle.exam_commands.specs.State.{Seats}
 use Rattle.exam_office.proofs.LentPlans.{any_more, plans_agree, plans_step, take_whole, unlisted}
 use Rattle.exam_office.proofs.lending.read_plans.Goals as goal
 

@@ -2,10 +2,10 @@ use Rattle.std.proofs.Common.{◌≡◌, Contains, IsTrue, Bool, true, sym, subs
 use Rattle.std.specs.Prelude.{◌↔◌}
 use Rattle.std.proofs.lemmas.Result.{IfOk-weaker}
 use Rattle.exam_rules.specs.Relations.{Code, Relations, relations_of}
-use Rattle.exam_office.specs.declared.command.Decision.{Decision}
-use Rattle.exam_office.specs.Appeals.{is_grant}
-use Rattle.exam_office.specs.Parts.{reads}
-use Rattle.exam_office.specs.Touched.{touches}
+use Rattle.exam_commands.specs.declared.command.Decision.{Decision}
+use Rattle.exam_commands.specs.Appeals.{is_grant}
+use Rattle.exam_commands.specs.Parts.{reads}
+use Rattle.exam_commands.specs.Touched.{touches}
 use Rattle.exam_office.proofs.LentPlans.{grant_reads, reads_touched}
 use Rattle.exam_office.proofs.lending.read_sessions.Goals as goal
 

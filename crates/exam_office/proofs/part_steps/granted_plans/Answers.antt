@@ -1,5 +1,5 @@
 use Rattle.exam_rules.specs.Relations.{relations_of}
-use Rattle.exam_office.proofs.SameSeats.{few_halls, few_members}
+use Rattle.exam_commands.proofs.SameSeats.{few_halls, few_members}
 use Rattle.exam_office.proofs.part_steps.granted_plans.Goals as goal
 
 pub repaired_among-requires-clause-few : goal.repaired_among-requires-clause-few

@@ -1,6 +1,6 @@
 use Rattle.std.proofs.Common.{rules, ◌≡◌, ap, ◌∙◌}
 use Rattle.exam_rules.specs.Relations.{relations_of}
-use Rattle.exam_office.specs.NextPlans.{after_plans, decided_reply}
+use Rattle.exam_commands.specs.NextPlans.{after_plans, decided_reply}
 use Rattle.exam_office.proofs.part_steps.last_reply.Goals as goal
 use Rattle.exam_office.proofs.part_steps.last_reply.Goals.{in-Some, in-None}
 

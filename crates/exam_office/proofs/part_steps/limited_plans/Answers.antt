@@ -1,6 +1,6 @@
 use Rattle.std.proofs.Common.{refl, inr, sym, ◌∙◌}
 use Rattle.exam_rules.specs.Relations.{relations_of}
-use Rattle.exam_office.proofs.MadeWithin.{past_may}
+use Rattle.exam_laws.proofs.MadeWithin.{past_may}
 use Rattle.exam_office.proofs.part_steps.limited_plans.Goals as goal
 
 pub returns-then-not-stays_within-clause-refusal : goal.returns-then-not-stays_within-clause-refusal

@@ -1,11 +1,11 @@
 use Rattle.std.proofs.Common.{◌≡◌, ◌↔◌, Contains, IsTrue, List, ap, sym, subst, ◌∙◌}
 use Rattle.exam_rules.specs.Relations.{Code, relations_of}
-use Rattle.exam_office.specs.declared.command.Reply.{Reply}
-use Rattle.exam_office.specs.NextPlans.{after_plans, first_reply, last_reply, newly_decided}
-use Rattle.exam_office.specs.Parts.{IsMadeIn, state_of}
-use Rattle.exam_office.specs.State.{Seats, State}
-use Rattle.exam_office.specs.Touched.{touches}
-use Rattle.exam_office.proofs.Making.{is_made, plans_back, put_after, refused_late, was_made}
+use Rattle.exam_commands.specs.declared.command.Reply.{Reply}
+use Rattle.exam_commands.specs.NextPlans.{after_plans, first_reply, last_reply, newly_decided}
+use Rattle.exam_commands.specs.Parts.{IsMadeIn, state_of}
+use Rattle.exam_commands.specs.State.{Seats, State}
+use Rattle.exam_commands.specs.Touched.{touches}
+use Rattle.exam_laws.proofs.Making.{is_made, plans_back, put_after, refused_late, was_made}
 use Rattle.exam_office.proofs.part_steps.make.Goals as goal
 
 pub settled-requires : goal.settled-requires

@@ -1,8 +1,8 @@
 use Rattle.std.proofs.Common.{rules, ◌≡◌, Err, inl, inr, sym, subst}
-use Rattle.exam_office.specs.Parts.{IsPutBack, state_of}
-use Rattle.exam_office.specs.State.{State}
-use Rattle.exam_office.specs.Steps.{MayStep}
-use Rattle.exam_office.proofs.Parting.{made_back, refused_back}
+use Rattle.exam_commands.specs.Parts.{IsPutBack, state_of}
+use Rattle.exam_commands.specs.State.{State}
+use Rattle.exam_commands.specs.Steps.{MayStep}
+use Rattle.exam_laws.proofs.Parting.{made_back, refused_back}
 use Rattle.exam_office.proofs.part_steps.step_part.Goals as goal
 
 pub returns-in_err-lists-clause-step : goal.returns-in_err-lists-clause-step

@@ -2,9 +2,9 @@ use Rattle.std.proofs.Common.{◌∷◌, ap, sym, subst, ◌∙◌}
 use Rattle.std.proofs.lemmas.Result.{on_ok_weaker}
 use Rattle.exam_rules.specs.Lists.{AreListsOf}
 use Rattle.exam_rules.specs.Relations.{Relations, relations_of}
-use Rattle.exam_office.specs.declared.import_row.Row.{Row}
-use Rattle.exam_office.specs.declared.import_row.Row.TheVariants as row
-use Rattle.exam_office.specs.Changes.{with_row}
+use Rattle.exam_commands.specs.declared.import_row.Row.{Row}
+use Rattle.exam_commands.specs.declared.import_row.Row.TheVariants as row
+use Rattle.exam_commands.specs.Changes.{with_row}
 use Rattle.exam_office.specs.Relisting.{EntersRows}
 use Rattle.exam_office.proofs.EnteredRows.{changes_nothing, makes_live}
 use Rattle.exam_office.proofs.ListsPutBack.{changed_back, same_are}

@@ -1,8 +1,8 @@
 use Rattle.std.proofs.Common.{◌+◌, ◌∷◌, List, drop, sym, subst}
 use Rattle.std.proofs.lemmas.List.{at_drop_more}
 use Rattle.exam_rules.specs.Relations.{Relations, relations_of}
-use Rattle.exam_office.specs.declared.import_row.Row.{Row}
-use Rattle.exam_office.specs.Changes.{with_row}
+use Rattle.exam_commands.specs.declared.import_row.Row.{Row}
+use Rattle.exam_commands.specs.Changes.{with_row}
 use Rattle.exam_office.specs.Relisting.{EntersRows}
 use Rattle.exam_office.proofs.EnteredRows.{rest_enters}
 use Rattle.exam_office.proofs.relisting.enter_rows.Goals as goal

@@ -8,7 +8,7 @@ use Rattle.exam_rules.specs.declared.lists.Entrant.{Entrant}
 use Rattle.exam_rules.specs.Orders.{KeysRise}
 use Rattle.exam_rules.specs.Relations.{Code, code_cmp, has_row}
 use Rattle.exam_office.specs.Relisting.{list_before}
-use Rattle.exam_office.proofs.Exchanges.{has_first, has_later}
+use Rattle.exam_changes.proofs.Exchanges.{has_first, has_later}
 use Rattle.exam_office.proofs.ListsPutBack.{back_more}
 use Rattle.exam_office.proofs.relisting.put_back.Goals as goal
 

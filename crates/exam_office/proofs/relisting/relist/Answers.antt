@@ -2,9 +2,9 @@ use Rattle.std.proofs.Common.{◌≡◌, true, ap, sym, subst, inl, inr}
 use Rattle.std.proofs.lemmas.Result.{on_ok_weaker}
 use Rattle.exam_rules.specs.Lists.{AreListsOf}
 use Rattle.exam_rules.specs.Relations.{Relations, relations_of}
-use Rattle.exam_office.specs.declared.command.Command.{Command}
-use Rattle.exam_office.specs.declared.command.Command.TheVariants as command
-use Rattle.exam_office.specs.FactsMade.{WasMade}
+use Rattle.exam_commands.specs.declared.command.Command.{Command}
+use Rattle.exam_commands.specs.declared.command.Command.TheVariants as command
+use Rattle.exam_commands.specs.FactsMade.{WasMade}
 use Rattle.exam_office.specs.Relisting.{keeps_lists}
 use Rattle.exam_office.proofs.KeptLists.{closing_made, kept_lists}
 use Rattle.exam_office.proofs.relisting.relist.Goals as goal

@@ -1,7 +1,7 @@
 use Rattle.std.proofs.Common.{◌≡◌, true, List, ap, sym, subst, ◌∙◌, inl, inr}
 use Rattle.exam_rules.specs.Relations.{relations_of}
-use Rattle.exam_office.specs.declared.import_row.Row.{Row}
-use Rattle.exam_office.specs.Imports.{AreOfKind}
+use Rattle.exam_commands.specs.declared.import_row.Row.{Row}
+use Rattle.exam_commands.specs.Imports.{AreOfKind}
 use Rattle.exam_office.specs.Relisting.{is_unlisted}
 use Rattle.exam_office.proofs.KeptImports.{import_opens, kept_import}
 use Rattle.exam_office.proofs.relisting.relist_import.Goals as goal

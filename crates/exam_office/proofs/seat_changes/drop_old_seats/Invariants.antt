@@ -1,6 +1,6 @@
 use Rattle.std.proofs.Common.{◌≡◌}
 use Rattle.exam_rules.specs.Relations.{seat_cmp}
-use Rattle.exam_office.specs.Exchanges.{without_old}
+use Rattle.exam_commands.specs.Exchanges.{without_old}
 use Rattle.exam_office.proofs.seat_changes.drop_old_seats.Given as goal
 
 abbrev pub invariant-loop-key : goal.invariant-loop-key

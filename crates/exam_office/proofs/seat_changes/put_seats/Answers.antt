@@ -1,9 +1,9 @@
 use Rattle.std.proofs.Common.{◌≡◌, ℕ, true, List, ◌∷◌, ap, subst, ◌∙◌}
 use Rattle.exam_rules.specs.Relations.{Code, has_row, row_at, seat_cmp}
-use Rattle.exam_office.specs.Exchanges.{all_put}
-use Rattle.exam_office.proofs.Exchanges.{others_put, has_first, has_later}
-use Rattle.exam_office.proofs.Referring.{has_put}
-use Rattle.exam_office.proofs.SameSeats.{seats_exact, seats_total}
+use Rattle.exam_commands.specs.Exchanges.{all_put}
+use Rattle.exam_changes.proofs.Exchanges.{others_put, has_first, has_later}
+use Rattle.exam_commands.proofs.Referring.{has_put}
+use Rattle.exam_commands.proofs.SameSeats.{seats_exact, seats_total}
 use Rattle.exam_office.proofs.seat_changes.put_seats.Goals as goal
 
 pub loop-key-preserved : goal.loop-key-preserved

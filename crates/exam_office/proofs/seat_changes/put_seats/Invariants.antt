@@ -1,7 +1,7 @@
 use Rattle.std.proofs.Common.{◌≡◌, ℕ, true, false, IsTrue}
 use Rattle.exam_rules.specs.Orders.{KeysRise}
 use Rattle.exam_rules.specs.Relations.{Code, has_row, row_at, seat_cmp}
-use Rattle.exam_office.specs.Exchanges.{all_put}
+use Rattle.exam_commands.specs.Exchanges.{all_put}
 use Rattle.exam_office.proofs.seat_changes.put_seats.Given as goal
 
 -- the seats with those that are left put are the seats with all put

@@ -1,7 +1,7 @@
 use Rattle.std.proofs.Common.{◌≡◌, ℕ, IsTrue}
 use Rattle.exam_rules.specs.Orders.{KeysRise}
 use Rattle.exam_rules.specs.Relations.{Code, has_row, seat_cmp}
-use Rattle.exam_office.specs.Exchanges.{taken_back}
+use Rattle.exam_commands.specs.Exchanges.{taken_back}
 use Rattle.exam_office.proofs.seat_changes.take_back_seats.Given as goal
 
 abbrev pub invariant-loop-key : goal.invariant-loop-key

@@ -1,6 +1,6 @@
 use Rattle.std.proofs.Common.{◌≡◌, ◌+◌, ◌∷◌, ◌++◌, [], take, ap, sym, subst, ◌∙◌, arith}
 use Rattle.std.proofs.lemmas.List.{take_more}
-use Rattle.exam_office.specs.Steps.{Run}
+use Rattle.exam_commands.specs.Steps.{Run}
 use Rattle.exam_office.proofs.Running.{run_more}
 use Rattle.exam_office.proofs.steps.run.Goals as goal
 

@@ -1,7 +1,7 @@
 use Rattle.std.proofs.Common.{◌≡◌, ◌≤◌, length, take}
 use Rattle.std.specs.Prelude.{vec_len}
 use Rattle.std.specs.Vec.{vec_capacity}
-use Rattle.exam_office.specs.Steps.{Run}
+use Rattle.exam_commands.specs.Steps.{Run}
 use Rattle.exam_office.proofs.steps.run.Given as goal
 
 -- the commands so far, and what they answered; and there is room for the other replies

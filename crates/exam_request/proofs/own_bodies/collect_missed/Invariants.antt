@@ -1,7 +1,7 @@
 use Rattle.std.proofs.Common.{◌≡◌, ◌++◌, drop, map}
 use Rattle.std.specs.Prelude.{flat_map}
 use Rattle.exam_request.specs.Bodies.{missed_in}
-use Rattle.exam_office.specs.Own.{shown_session}
+use Rattle.exam_commands.specs.Own.{shown_session}
 use Rattle.exam_request.proofs.own_bodies.collect_missed.Given as goal
 
 abbrev pub invariant-loop-session : goal.invariant-loop-session

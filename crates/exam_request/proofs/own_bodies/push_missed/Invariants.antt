@@ -1,6 +1,6 @@
 use Rattle.std.proofs.Common.{◌≡◌, ◌++◌, drop, map}
 use Rattle.exam_request.specs.Bodies.{missed_paper}
-use Rattle.exam_office.specs.Own.{shown_session}
+use Rattle.exam_commands.specs.Own.{shown_session}
 use Rattle.exam_request.proofs.own_bodies.push_missed.Given as goal
 
 abbrev pub invariant-loop-paper : goal.invariant-loop-paper

@@ -1,6 +1,6 @@
 use Rattle.std.proofs.Common.{◌∙◌, subst, sym}
 use Rattle.std.specs.Str.{IsAscii}
-use Rattle.exam_office.specs.Own.{shown_session}
+use Rattle.exam_commands.specs.Own.{shown_session}
 use Rattle.exam_request.proofs.Ascii.{ascii_day, ascii_features, ascii_minute}
 use Rattle.exam_request.proofs.own_bodies.seat_value.Goals as goal
 

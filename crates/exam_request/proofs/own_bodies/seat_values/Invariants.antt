@@ -1,6 +1,6 @@
 use Rattle.std.proofs.Common.{◌≡◌, ◌++◌, drop, map}
 use Rattle.serde_json.specs.View.{view}
-use Rattle.exam_office.specs.Own.{shown_session}
+use Rattle.exam_commands.specs.Own.{shown_session}
 use Rattle.exam_request.specs.Bodies.{seat_object}
 use Rattle.exam_request.specs.Values.{object_data}
 use Rattle.exam_request.proofs.own_bodies.seat_values.Given as goal

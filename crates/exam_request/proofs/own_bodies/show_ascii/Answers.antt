@@ -1,6 +1,6 @@
 use Rattle.std.proofs.Common.{◌^◌, ◌<◌, sym, subst, arith}
 use Rattle.std.specs.Str.{IsAscii}
-use Rattle.exam_office.specs.Words.{subject_text}
+use Rattle.exam_commands.specs.Words.{subject_text}
 use Rattle.exam_request.proofs.Ascii.{ascii_arrangement}
 use Rattle.exam_request.proofs.own_bodies.show_ascii.Goals as goal
 

@@ -4,10 +4,10 @@ use Rattle.std.specs.Cmp.Lexicographic.{nat_list_cmp_total}
 use Rattle.std.specs.Map.Iter.{deref_pair}
 use Rattle.std.proofs.lemmas.Map.Lookups.{CmpEqualImpliesEq}
 use Rattle.exam_rules.specs.Relations.{Relations}
-use Rattle.exam_office.specs.KeptRows.{KeepsKeys}
-use Rattle.exam_office.proofs.AppealKeys.{appeals_total}
-use Rattle.exam_office.specs.declared.before.Before.{Before}
-use Rattle.exam_office.specs.TablesBefore.{WasTable}
+use Rattle.exam_commands.specs.KeptRows.{KeepsKeys}
+use Rattle.exam_commands.proofs.AppealKeys.{appeals_total}
+use Rattle.exam_changes.specs.declared.before.Before.{Before}
+use Rattle.exam_changes.specs.TablesBefore.{WasTable}
 use Rattle.exam_rows.specs.declared.differences.Difference.{Difference}
 use Rattle.exam_rows.proofs.Exact.{sessions_exact, papers_exact, halls_exact, openings_exact, candidates_exact, entries_exact, arrangements_exact, appeals_exact, standing_exact}
 use Rattle.exam_store.specs.Saves.{TurnsRows, TurnsTable}

@@ -1,6 +1,6 @@
 use Rattle.std.proofs.Common.{subst}
 use Rattle.exam_store.specs.Saves.{TurnsTable}
-use Rattle.exam_office.specs.TablesBefore.{WasTable}
+use Rattle.exam_changes.specs.TablesBefore.{WasTable}
 use Rattle.exam_store.proofs.saving.difference_since.Goals as goal
 
 pub returns-in-Same : goal.returns-in-Same

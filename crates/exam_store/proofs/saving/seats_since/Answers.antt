@@ -3,7 +3,7 @@ use Rattle.std.specs.Cmp.Lexicographic.{pointwise}
 use Rattle.std.specs.Prelude.{nat_eq}
 use Rattle.exam_rows.proofs.Exact.{seats_exact}
 use Rattle.exam_rules.specs.Relations.{seat_cmp}
-use Rattle.exam_office.specs.TablesBefore.{WerePlans}
+use Rattle.exam_changes.specs.TablesBefore.{WerePlans}
 use Rattle.exam_store.specs.Saves.{TurnsTable}
 use Rattle.exam_store.proofs.PlansTurning.{seats_turn}
 use Rattle.exam_store.proofs.saving.seats_since.Goals as goal

@@ -1,6 +1,6 @@
 use Rattle.std.proofs.Common.{subst, sym}
 use Rattle.std.specs.Prelude.{map, string_bytes}
-use Rattle.exam_office.specs.State.{State}
+use Rattle.exam_commands.specs.State.{State}
 use Rattle.exam_theorem.specs.Following.{EndsInOne}
 use Rattle.exam_theorem.specs.Orders.{sheet_asked, shown}
 use Rattle.exam_theorem.proofs.KeptOffice.{then_on}

@@ -1,8 +1,8 @@
 use Rattle.std.proofs.Common.{subst}
 use Rattle.exam_rules.specs.Relations.{Relations}
-use Rattle.exam_office.specs.Parts.{IsRefusedIn}
-use Rattle.exam_office.specs.State.{State}
-use Rattle.exam_office.proofs.Making.{refused_office}
+use Rattle.exam_commands.specs.Parts.{IsRefusedIn}
+use Rattle.exam_commands.specs.State.{State}
+use Rattle.exam_laws.proofs.Making.{refused_office}
 use Rattle.exam_office.proofs.draft.Draft.of.Goals as goal
 
 pub returns-in-Err-made-clause-refusal : goal.returns-in-Err-made-clause-refusal

@@ -1,8 +1,8 @@
 use Rattle.std.proofs.Common.{Option, sym, subst}
 use Rattle.exam_office.specs.Drafts.{AreMixed, DraftIn, MixesPlans, seats_after, seats_before}
-use Rattle.exam_office.specs.NextPlans.{Plans}
-use Rattle.exam_office.specs.State.{Seats}
-use Rattle.exam_office.specs.TablesBefore.{AreOf}
+use Rattle.exam_commands.specs.NextPlans.{Plans}
+use Rattle.exam_commands.specs.State.{Seats}
+use Rattle.exam_changes.specs.TablesBefore.{AreOf}
 use Rattle.exam_office.proofs.WasBefore.{were_of}
 use Rattle.exam_office.proofs.draft.Draft.plans_before.Goals as goal
 

@@ -1,11 +1,11 @@
 use Rattle.std.proofs.Common.{refl, None, [], sym, subst}
 use Rattle.exam_rules.specs.Lists.{AreListsOf}
 use Rattle.exam_rules.specs.Relations.{Relations, no_relations}
-use Rattle.exam_office.specs.Good.{IsGood}
-use Rattle.exam_office.specs.Singles.{same_single_key}
-use Rattle.exam_office.specs.State.{Seats, empty_state}
-use Rattle.exam_office.proofs.Distinct.{distinct_none}
-use Rattle.exam_office.proofs.AllSessions.{unknown_repaired}
+use Rattle.exam_commands.specs.Good.{IsGood}
+use Rattle.exam_commands.specs.Singles.{same_single_key}
+use Rattle.exam_commands.specs.State.{Seats, empty_state}
+use Rattle.exam_commands.proofs.Distinct.{distinct_none}
+use Rattle.exam_commands.proofs.AllSessions.{unknown_repaired}
 use Rattle.exam_office.proofs.office.Office.empty.Goals as goal
 
 good : IsGood empty_state

@@ -1,8 +1,8 @@
 use Rattle.std.proofs.Common.{ap, is_some, inl, inr, refl, sym, ◌∙◌}
 use Rattle.std.specs.Option.{option_copied}
 use Rattle.exam_rules.specs.Relations.{code_cmp, has_row}
-use Rattle.exam_office.specs.State.{State}
-use Rattle.exam_office.proofs.Showing.{on_err}
+use Rattle.exam_commands.specs.State.{State}
+use Rattle.exam_views.proofs.Showing.{on_err}
 use Rattle.exam_office.proofs.office.Office.session_view.Goals as goal
 
 pub returns-in_default-clause-refusal : goal.returns-in_default-clause-refusal

@@ -1,4 +1,4 @@
-use Rattle.exam_office.proofs.Seated.{is_seated}
+use Rattle.exam_commands.proofs.Seated.{is_seated}
 use Rattle.exam_office.proofs.office.Office.show_seated.Goals as goal
 
 pub returns : goal.returns

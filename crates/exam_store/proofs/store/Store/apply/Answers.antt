@@ -1,8 +1,8 @@
 use Rattle.std.proofs.Common.{◌≡◌, Ok, false, rules, subst, sym}
 use Rattle.sqlite.specs.Held.{state}
-use Rattle.exam_office.specs.State.{State}
-use Rattle.exam_office.specs.Steps.{Step}
-use Rattle.exam_office.proofs.KeptRows.{step_keeps}
+use Rattle.exam_commands.specs.State.{State}
+use Rattle.exam_commands.specs.Steps.{Step}
+use Rattle.exam_laws.proofs.KeptRows.{step_keeps}
 use Rattle.exam_rows.proofs.Committing.{commits_weaker, commits_ok, commits_err}
 use Rattle.exam_store.proofs.Applying.{draft_turns, draft_fails}
 use Rattle.exam_store.proofs.store.Store.apply.Goals as goal

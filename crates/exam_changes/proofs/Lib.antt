@@ -1,0 +1,4 @@
+pub mod Counting
+pub mod Exchanges
+pub mod GoingBack
+pub mod Undoing

@@ -1,0 +1,169 @@
+-- The sessions that a command touches, gathered row by row.
+use Rattle.std.proofs.Common.{◌≡◌, ℕ, ◌&&◌, ◌||◌, Bool, true, false, cond, List, [], ◌∷◌, filter, nat_eq, Some, is_some, refl, ap, sym, ◌∙◌}
+use Rattle.std.specs.List.{list_any}
+use Rattle.std.specs.BTreeMap.{is_at}
+use Rattle.std.specs.Cmp.Lexicographic.{texts_ties}
+use Rattle.exam_rules.specs.declared.rows.Entry.{Entry}
+use Rattle.exam_rules.specs.declared.rows.Hall.{Hall}
+use Rattle.exam_rules.specs.declared.rows.Opening.{Opening}
+use Rattle.exam_rules.specs.Relations.{Code, Relations, code_cmp, opening_cmp, has_row, is_row_of, leading, row_at, same_code}
+use Rattle.exam_rules.specs.Sessions.{has_live_entry, is_live_entry, is_member, is_paper_of}
+use Rattle.exam_commands.specs.declared.import_row.Row.{Row}
+use Rattle.exam_commands.specs.declared.import_row.Row.TheVariants as row
+use Rattle.exam_commands.specs.Touched.{has_standing_member, is_session_row, names, names_hall, names_session, row_touches}
+use Rattle.exam_commands.proofs.ImportKeys.{code_flips}
+use Rattle.exam_judging.proofs.Writing.{then_eq}
+
+pub taken : (b x : Bool) → cond b true x ≡ (b || x)
+taken true x = refl
+taken false x = refl
+
+pub or_same : (a b c : Bool) → (a || (b || c)) ≡ ((a || b) || c)
+or_same true b c = refl
+or_same false b c = refl
+
+pub or_none : (b : Bool) → (b || false) ≡ b
+or_none true = refl
+or_none false = refl
+
+-- ---- the openings of a hall
+
+-- the hall is opened for the session
+abbrev pub opens : Code → Code → (Code × Code) × Opening → Bool
+opens s h o = same_code o.0.0 s && same_code o.0.1 h
+
+at_opening : (s h : Code) (k : Code × Code) → is_at (opening_cmp (s, h)) k ≡ (same_code k.0 s && same_code k.1 h)
+at_opening s h k =
+    then_eq (code_cmp s k.0) (code_cmp h k.1)
+    ∙ ap (λ b. b && is_at (code_cmp h) k.1) (sym (texts_ties s k.0) ∙ code_flips s k.0)
+    ∙ ap (λ b. same_code k.0 s && b) (sym (texts_ties h k.1) ∙ code_flips h k.1)
+
+pub opened_any : (s h : Code) (rows : List ((Code × Code) × Opening)) → list_any (opens s h) rows ≡ has_row opening_cmp rows (s, h)
+opened_any s h [] = refl
+opened_any s h (row ∷ rows) = inner (opens s h row) (is_at (opening_cmp (s, h)) row.0) (sym (at_opening s h row.0)) (opened_any s h rows)
+  where
+    inner : (b a : Bool) → b ≡ a → list_any (opens s h) rows ≡ has_row opening_cmp rows (s, h) → (b || list_any (opens s h) rows) ≡ is_some (cond a (Some row.1) (row_at opening_cmp rows (s, h)))
+    inner true true e rest = refl
+    inner false false e rest = rest
+    inner true false e rest = cc
+    inner false true e rest = cc
+
+-- ---- the openings of the halls that rows name
+
+-- the session opens a hall that the rows name
+abbrev pub opens_named : List Row → Code → (Code × Code) × Opening → Bool
+opens_named rows s o = same_code o.0.0 s && list_any (λ (x : Row). names_hall x o.0.1) rows
+
+none_opens : (s : Code) (os : List ((Code × Code) × Opening)) → list_any (opens_named [] s) os ≡ false
+none_opens s [] = refl
+none_opens s (o ∷ os) = inner (same_code o.0.0 s) (none_opens s os)
+  where
+    inner : (b : Bool) → list_any (opens_named [] s) os ≡ false → ((b && false) || list_any (opens_named [] s) os) ≡ false
+    inner true rest = rest
+    inner false rest = rest
+
+-- the halls that rows name, by any other test
+pub opens_found : (s : Code) (rows : List Row) (named : Code → Bool) → ((h : Code) → named h ≡ list_any (λ (x : Row). names_hall x h) rows) → (os : List ((Code × Code) × Opening))
+    → list_any (λ (o : (Code × Code) × Opening). same_code o.0.0 s && named o.0.1) os ≡ list_any (opens_named rows s) os
+opens_found s rows named same [] = refl
+opens_found s rows named same (o ∷ os) =
+    ap (λ b. (same_code o.0.0 s && b) || list_any (λ (p : (Code × Code) × Opening). same_code p.0.0 s && named p.0.1) os) (same o.0.1)
+    ∙ ap (λ t. opens_named rows s o || t) (opens_found s rows named same os)
+
+-- one hall more
+more_opens : (s h : Code) (x : Hall) (rows : List Row) (os : List ((Code × Code) × Opening))
+    → list_any (opens_named (row.OfHall h x ∷ rows) s) os ≡ (list_any (opens s h) os || list_any (opens_named rows s) os)
+more_opens s h x rows [] = refl
+more_opens s h x rows (o ∷ os) =
+    ap (λ t. opens_named (row.OfHall h x ∷ rows) s o || t) (more_opens s h x rows os)
+    ∙ inner (same_code o.0.0 s) (same_code h o.0.1) (same_code o.0.1 h) (code_flips h o.0.1) (list_any (λ (y : Row). names_hall y o.0.1) rows) (list_any (opens s h) os) (list_any (opens_named rows s) os)
+  where
+    inner : (a b c : Bool) → b ≡ c → (d p q : Bool) → ((a && (b || d)) || (p || q)) ≡ (((a && c) || p) || ((a && d) || q))
+    inner a true true e d p q = by a d p q
+      where
+        by : (a d p q : Bool) → ((a && true) || (p || q)) ≡ (((a && true) || p) || ((a && d) || q))
+        by true d p q = refl
+        by false d p q = refl
+    inner a false false e d p q = by a d p q
+      where
+        by : (a d p q : Bool) → ((a && d) || (p || q)) ≡ (((a && false) || p) || ((a && d) || q))
+        by true true true q = refl
+        by true true false q = refl
+        by true false p q = refl
+        by false d p q = refl
+    inner a true false e d p q = cc
+    inner a false true e d p q = cc
+
+swap_named : (b h o n : Bool) → (b || (h || (o || n))) ≡ (h || (o || (b || n)))
+swap_named true true o n = refl
+swap_named true false true n = refl
+swap_named true false false n = refl
+swap_named false h o n = refl
+
+swap_opened : (b h o n : Bool) → (b || (h || (o || n))) ≡ (h || ((b || o) || n))
+swap_opened true true o n = refl
+swap_opened true false o n = refl
+swap_opened false h o n = refl
+
+swap_session : (b h g o n : Bool) → ((b || h) || ((g && h) || (o || n))) ≡ (h || (o || (b || n)))
+swap_session true true g o n = refl
+swap_session true false g true n = refl
+swap_session true false g false n = refl
+swap_session false true g o n = refl
+swap_session false false true o n = refl
+swap_session false false false o n = refl
+
+module _ (r : Relations) (s : Code) where
+  -- rows of sessions touch those of members with standing grants
+  abbrev pub stand_in : List Row → Bool
+  stand_in rows = list_any is_session_row rows && has_standing_member r s
+
+  abbrev pub opened_in : List Row → Bool
+  opened_in rows = list_any (opens_named rows s) r.openings
+
+  abbrev pub named_in : List Row → Bool
+  named_in rows = list_any (λ (x : Row). names_session r x s) rows
+
+  abbrev Touches : List Row → Type 0
+  Touches rows = list_any (λ (x : Row). row_touches r x s) rows ≡ (stand_in rows || (opened_in rows || named_in rows))
+
+  module _ (rows : List Row) (rest : Touches rows) where
+    other : (b : Bool) → (b || list_any (λ (x : Row). row_touches r x s) rows) ≡ (stand_in rows || (opened_in rows || (b || named_in rows)))
+    other b = ap (λ t. b || t) rest ∙ swap_named b (stand_in rows) (opened_in rows) (named_in rows)
+
+    one_more : (x : Row) → Touches (x ∷ rows)
+    one_more (row.OfSession told z) =
+        ap (λ t. (same_code told s || has_standing_member r s) || t) rest
+        ∙ swap_session (same_code told s) (has_standing_member r s) (list_any is_session_row rows) (opened_in rows) (named_in rows)
+    one_more (row.OfPaper p z) = other (is_paper_of r s p || names r z.session s)
+    one_more (row.OfHall h z) =
+        ap (λ b. b || list_any (λ (x : Row). row_touches r x s) rows) (sym (opened_any s h r.openings))
+        ∙ ap (λ t. list_any (opens s h) r.openings || t) rest
+        ∙ swap_opened (list_any (opens s h) r.openings) (stand_in rows) (opened_in rows) (named_in rows)
+        ∙ ap (λ b. stand_in rows || (b || named_in rows)) (sym (more_opens s h z rows r.openings))
+    one_more (row.OfOpening told h z) = other (names r told s)
+    one_more (row.OfCandidate c z) = rest
+    one_more (row.OfEntry c p) = other (is_paper_of r s p)
+    one_more (row.OfArrangement c z) = other (is_member r s c)
+
+  -- What rows touch is what they name, the sessions that open the halls that they name, and for rows of sessions those
+  -- of members with standing grants.
+  pub rows_touch : (rows : List Row) → Touches rows
+  rows_touch [] = sym (ap (λ b. b || false) (none_opens s r.openings))
+  rows_touch (x ∷ rows) = one_more rows (rows_touch rows) x
+
+-- ---- the entries of a candidate
+
+module _ (r : Relations) (s : Code) (c : ℕ) where
+  own_any : (es : List ((ℕ × Code) × Entry)) → list_any (is_live_entry r s c) (filter (is_row_of c) es) ≡ list_any (is_live_entry r s c) es
+  own_any [] = refl
+  own_any (e ∷ es) = inner (nat_eq e.0.0 c) refl (own_any es)
+    where
+      inner : (b : Bool) → nat_eq e.0.0 c ≡ b → list_any (is_live_entry r s c) (filter (is_row_of c) es) ≡ list_any (is_live_entry r s c) es
+          → list_any (is_live_entry r s c) (cond b (e ∷ filter (is_row_of c) es) (filter (is_row_of c) es)) ≡ (is_live_entry r s c e || list_any (is_live_entry r s c) es)
+      inner true is rest = ap (λ t. is_live_entry r s c e || t) rest
+      inner false is rest = rest ∙ sym (ap (λ b. (b && (e.1.live && is_paper_of r s e.0.1)) || list_any (is_live_entry r s c) es) is)
+
+  -- the first rows of these are all that the candidate has
+  pub own_rows : (rows : List ((ℕ × Code) × Entry)) → leading (is_row_of c) rows ≡ filter (is_row_of c) r.entries → list_any (is_live_entry r s c) (leading (is_row_of c) rows) ≡ has_live_entry r s c
+  own_rows rows is = ap (list_any (is_live_entry r s c)) is ∙ own_any r.entries

@@ -1,0 +1,5 @@
+pub mod Writing
+pub mod SingleKeys
+pub mod FirstBad
+pub mod Gathering
+pub mod ChosenSessions

@@ -1,0 +1,196 @@
+//! The repair of the plans after a change of the facts.
+ghost use Rattle.std.specs.Prelude.{◌≡◌, ◌<◌, ◌≤◌, ◌&&◌, nat_eq, position, All, slice_index_or, [], if◌then◌else◌, Some, ℕ, false, length, IsTrue, None, IfOk, IfErr, OnOk, IfSome};
+ghost use Rattle.std.specs.Option.{option_map, option_and_then, option_or};
+ghost use Rattle.exam_types.specs.declared.refusal.Refusal.TheVariants.{NoMemory};
+ghost use Rattle.exam_plan.specs.Matching.{SamePlan, IsBest};
+ghost use Rattle.exam_plan.specs.HallSets.{most_halls};
+ghost use Rattle.exam_plan.specs.Problems.{IsPlan, most_members, seating_of, plan_at};
+ghost use Rattle.exam_plan.specs.Repair.{IsRepair};
+ghost use Rattle.exam_rules.specs.Relations.{Code, Relations, relations_of, code_cmp, has_row, same_code};
+ghost use Rattle.exam_rules.specs.Sessions.{members};
+ghost use Rattle.exam_rules.specs.Seatings.{open_halls, plan_of};
+ghost use Rattle.exam_rules.specs.Names.{ListsRise, named_plan};
+ghost use Rattle.exam_rules.specs.Lists.{AreListsOf};
+ghost use Rattle.exam_commands.specs.NextPlans.{AreRepaired};
+ghost use Rattle.exam_commands.specs.Repairs.{IsRepaired};
+
+use exam_commands::{Seats, stored_plan};
+use exam_plan::{Plan, Problem, keep_lawful, sweep};
+use exam_rules::{Facts, SessionLists, indexed_problem};
+use exam_types::{HallCode, Number, Refusal, SessionCode};
+use std::alloc::Global;
+use std::collections::BTreeMap;
+
+/// The plans of all sessions, each repaired; `first` is seated first if they are a member.
+pub fn repaired(
+    alloc: Global,
+    facts: &Facts,
+    lists: &SessionLists,
+    seats: &Seats,
+    first: Option<Number>,
+) -> Result<Seats, Refusal>
+    requires lists { AreListsOf (relations_of facts.now) lists.now }
+    requires few { (s : Code) → IsTrue (has_row code_cmp facts.now.sessions.entries s)
+        → length (members (relations_of facts.now) s) ≤ most_members }
+    requires few_halls { (s : Code) → IsTrue (has_row code_cmp facts.now.sessions.entries s)
+        → length (open_halls (relations_of facts.now) s) ≤ most_halls }
+    ensures ok { IfOk result (λ new. (s : Code)
+        → IsRepaired (relations_of facts.now) first seats.now.entries new.entries s) }
+    ensures memory { IfErr result (λ e. e ≡ NoMemory) }
+{
+    let mut repaired = BTreeMap::new(alloc);
+    for (session, _) in &facts.sessions {
+        repair_session(alloc, facts, lists, session, seats, &first, &mut repaired)?;
+    }
+    Ok(repaired)
+}
+
+/// The plans of these sessions, each repaired; `first` is seated first if they are a member. Nobody is seated in other
+/// sessions.
+pub fn repaired_among(
+    alloc: Global,
+    facts: &Facts,
+    lists: &SessionLists,
+    sessions: &[SessionCode],
+    seats: &Seats,
+    first: Option<Number>,
+) -> Result<Seats, Refusal>
+    requires lists { AreListsOf (relations_of facts.now) lists.now }
+    requires few { (s : Code) → IsTrue (has_row code_cmp facts.now.sessions.entries s)
+        → length (members (relations_of facts.now) s) ≤ most_members }
+    requires few_halls { (s : Code) → IsTrue (has_row code_cmp facts.now.sessions.entries s)
+        → length (open_halls (relations_of facts.now) s) ≤ most_halls }
+    ensures ok { IfOk result (λ new. AreRepaired (relations_of facts.now) first sessions.now
+        seats.now.entries new.entries) }
+    ensures memory { IfErr result (λ e. e ≡ NoMemory) }
+{
+    let mut repaired = BTreeMap::new(alloc);
+    for (session, _) in &facts.sessions {
+        if sessions.contains(session) {
+            repair_session(alloc, facts, lists, session, seats, &first, &mut repaired)?;
+        }
+    }
+    Ok(repaired)
+}
+
+/// Adds the repaired plan of a session in which nobody is seated yet.
+fn repair_session(
+    alloc: Global,
+    facts: &Facts,
+    lists: &SessionLists,
+    session: &SessionCode,
+    seats: &Seats,
+    first: &Option<Number>,
+    repaired: &mut Seats,
+) -> Result<(), Refusal>
+    requires lists { AreListsOf (relations_of facts.now) lists.now }
+    requires few { length (members (relations_of facts.now) session.now) ≤ most_members }
+    requires few_halls { length (open_halls (relations_of facts.now) session.now) ≤ most_halls }
+    requires fresh { (c : ℕ) → plan_of repaired.old.entries session.now c ≡ None }
+    ensures ok { OnOk result (IsRepaired
+        (relations_of facts.now) first.now seats.now.entries repaired.new.entries session.now) }
+    ensures others { OnOk result ((s : Code) (c : ℕ) → same_code session.now s ≡ false
+        → plan_of repaired.new.entries s c ≡ plan_of repaired.old.entries s c) }
+    ensures memory { IfErr result (λ e. e ≡ NoMemory) }
+{
+    let listed = indexed_problem(alloc, facts, lists, session)?;
+    let plan = stored_plan(alloc, &listed.numbers, &listed.halls, session, seats)?;
+    let first = place_of_number(&listed.numbers, *first);
+    let plan = repaired_plan(alloc, &listed.problem, plan, first)?;
+    write_plan(session, &listed.numbers, &listed.halls, &plan, repaired)
+}
+
+/// The repair of a plan by indices.
+fn repaired_plan(
+    alloc: Global,
+    problem: &Problem,
+    plan: Plan,
+    first: Option<usize>,
+) -> Result<Plan, Refusal>
+    requires plan { IsPlan problem.now plan.items }
+    requires first { IfSome first (λ c. c < length problem.now.fit) }
+    ensures plan { IfOk result (λ new. IsPlan problem.now new.items) }
+    ensures repair { IfOk result (λ new.
+        IsRepair (seating_of problem.now) first (plan_at plan.items) (plan_at new.items)) }
+    ensures best { IfOk result (λ new. IsBest (seating_of problem.now) (plan_at new.items)) }
+    ensures memory { IfErr result (λ e. e ≡ NoMemory) }
+{
+    let plan = keep_lawful(problem, plan)?;
+    sweep(alloc, problem, plan, first)
+}
+
+/// The place of the number, if one is given and listed.
+fn place_of_number(numbers: &[Number], number: Option<Number>) -> Option<usize>
+    ensures { result ≡ option_and_then (λ c. position (nat_eq c) numbers.now) number }
+{
+    match number {
+        Some(number) => place_among(numbers, &number),
+        None => None,
+    }
+}
+
+fn place_among(numbers: &[Number], number: &Number) -> Option<usize>
+    ensures { result ≡ position (nat_eq number.now) numbers.now }
+{
+    numbers.iter().position(|other| *number == *other)
+}
+
+/// Adds the seats of a plan by indices.
+fn write_plan(
+    session: &SessionCode,
+    numbers: &[Number],
+    halls: &[HallCode],
+    plan: &[Option<usize>],
+    seats: &mut Seats,
+) -> Result<(), Refusal>
+    requires long { length plan.now ≡ length numbers.now }
+    requires exist { All (λ place. IfSome place (λ h. h < length halls.now)) plan.now }
+    requires fresh { (c : ℕ) → plan_of seats.old.entries session.now c ≡ None }
+    ensures ok { OnOk result ((r : Relations) → ListsRise r session.now
+        → numbers.now ≡ members r session.now → halls.now ≡ open_halls r session.now
+        → SamePlan (plan_of seats.new.entries session.now) (named_plan r session.now (plan_at plan.now))) }
+    ensures others { OnOk result ((s : Code) (c : ℕ) → same_code session.now s ≡ false
+        → plan_of seats.new.entries s c ≡ plan_of seats.old.entries s c) }
+    ensures memory { IfErr result (λ e. e ≡ NoMemory) }
+{
+    for (index, number) in numbers.iter().enumerate() {
+        add_place(seats, session, *number, halls, plan[index])?;
+    }
+    Ok(())
+}
+
+/// Seats a candidate in the hall at the place, if there is one.
+fn add_place(
+    seats: &mut Seats,
+    session: &SessionCode,
+    number: Number,
+    halls: &[HallCode],
+    place: Option<usize>,
+) -> Result<(), Refusal>
+    requires { IfSome place (λ h. h < length halls.now) }
+    ensures ok { OnOk result ((s : Code) (c : ℕ) → plan_of seats.new.entries s c
+        ≡ (if same_code session.now s && nat_eq number c
+        then option_or (option_map (λ h. slice_index_or halls.now h []) place) (plan_of seats.old.entries s c)
+        else plan_of seats.old.entries s c)) }
+    ensures memory { IfErr result (λ e. e ≡ NoMemory) }
+{
+    match place {
+        Some(place) => add_seat(seats, session, number, halls[place]),
+        None => Ok(()),
+    }
+}
+
+/// Seats a candidate.
+pub fn add_seat(
+    seats: &mut Seats,
+    session: &SessionCode,
+    number: Number,
+    hall: HallCode,
+) -> Result<(), Refusal>
+    ensures ok { OnOk result ((s : Code) (c : ℕ) → plan_of seats.new.entries s c
+        ≡ (if same_code session.now s && nat_eq number c then Some hall else plan_of seats.old.entries s c)) }
+    ensures memory { IfErr result (λ e. e ≡ NoMemory) }
+{
+    seats.insert((*session, number), hall)?;
+    Ok(())
+}

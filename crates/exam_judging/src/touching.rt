@@ -1,0 +1,345 @@
+//! Which sessions a command touches.
+ghost use Rattle.std.specs.Prelude.{◌≡◌, ◌↔◌, ◌&&◌, ◌||◌, false, ℕ, Contains, IsTrue, IfOk, IfErr, OnOk};
+ghost use Rattle.std.specs.BTreeSet.{contains};
+ghost use Rattle.std.specs.List.{list_any};
+ghost use Rattle.std.specs.Option.{option_map_or};
+ghost use Rattle.std.specs.List.Sorted.{IsStrictlySortedBy};
+ghost use Rattle.exam_types.specs.declared.refusal.Refusal.TheVariants.{NoMemory};
+ghost use Rattle.exam_rules.specs.declared.rows.Appeal.{Appeal as AppealRow};
+ghost use Rattle.exam_rules.specs.declared.rows.Opening.{Opening as OpeningRow};
+ghost use Rattle.exam_rules.specs.Relations.{Code, code_cmp, relations_of, same_code};
+ghost use Rattle.exam_rules.specs.Sessions.{has_live_entry, is_member, is_paper_of};
+ghost use Rattle.exam_commands.specs.Appeals.{appeal_at, bears_mark};
+ghost use Rattle.exam_commands.specs.declared.import_row.Row.{Row as ImportRow};
+ghost use Rattle.exam_commands.specs.Touched as spec;
+
+use exam_commands::granting::{self, ends_standing, is_grant};
+use exam_commands::{Command, Decision, Row};
+use exam_rules::{Appeal, Facts, entries_from, is_standing};
+use exam_types::{HallCode, Number, PaperCode, Refusal, SessionCode};
+use std::alloc::Global;
+use std::collections::BTreeSet;
+
+/// Codes of sessions, in order.
+type Codes = BTreeSet<SessionCode>;
+
+/// The sessions that a command touches, over the facts before it, codes rising. An accepted command leaves every other
+/// session as it is. A reference to what does not exist gives no session.
+pub fn touched(alloc: Global, facts: &Facts, command: &Command) -> Result<Vec<SessionCode>, Refusal>
+    ensures rising { IfOk result (λ codes. IsStrictlySortedBy code_cmp codes.items) }
+    ensures exact { IfOk result (λ codes. (s : Code)
+        → Contains codes.items s ↔ IsTrue (spec.touches (relations_of facts.now) command.now s)) }
+    ensures memory { IfErr result (λ e. e ≡ NoMemory) }
+{
+    let mut codes = BTreeSet::new(alloc);
+    add_touched(alloc, facts, command, &mut codes)?;
+    let list = codes.iter().copied().collect(alloc)?;
+    Ok(list)
+}
+
+/// Adds the sessions that a command touches.
+fn add_touched(
+    alloc: Global,
+    facts: &Facts,
+    command: &Command,
+    codes: &mut Codes,
+) -> Result<(), Refusal>
+    ensures ok { OnOk result ((s : Code) → contains code_cmp codes.new s
+        ≡ (spec.touches (relations_of facts.now) command.now s || contains code_cmp codes.old s)) }
+    ensures memory { IfErr result (λ e. e ≡ NoMemory) }
+{
+    match command {
+        Command::Import(import) => add_import(alloc, facts, import.rows(), codes),
+        Command::Withdraw(_, paper) | Command::Reinstate(_, paper) => {
+            add_paper(facts, paper, codes)
+        }
+        Command::CloseHall(session, _) => add_known(facts, session, codes),
+        Command::Lodge(_) | Command::Retract(_, _) => Ok(()),
+        Command::Decide(decision) => add_decision(facts, decision, codes),
+    }
+}
+
+/// Adds the sessions that these rows touch. The openings are walked once for all halls that they name, and the
+/// appeals once for all sessions.
+fn add_import(alloc: Global, facts: &Facts, rows: &[Row], codes: &mut Codes) -> Result<(), Refusal>
+    ensures ok { OnOk result ((s : Code) → contains code_cmp codes.new s
+        ≡ (list_any (λ (x : ImportRow). spec.row_touches (relations_of facts.now) x s) rows.now
+        || contains code_cmp codes.old s)) }
+    ensures memory { IfErr result (λ e. e ≡ NoMemory) }
+{
+    add_rows(facts, rows, codes)?;
+    let halls = named_halls(alloc, rows)?;
+    add_opened(facts, &halls, codes)?;
+    add_dated(facts, rows, codes)
+}
+
+/// If one of these rows is a session, whose date may change, adds the sessions that have a member with a standing
+/// grant.
+fn add_dated(facts: &Facts, rows: &[Row], codes: &mut Codes) -> Result<(), Refusal>
+    ensures ok { OnOk result ((s : Code) → contains code_cmp codes.new s
+        ≡ ((list_any spec.is_session_row rows.now && spec.has_standing_member (relations_of facts.now) s)
+        || contains code_cmp codes.old s)) }
+    ensures memory { IfErr result (λ e. e ≡ NoMemory) }
+{
+    if has_session(rows) {
+        add_standing(facts, codes)
+    } else {
+        Ok(())
+    }
+}
+
+/// Whether one of these rows is a session.
+fn has_session(rows: &[Row]) -> bool
+    ensures { result ≡ list_any spec.is_session_row rows.now }
+{
+    rows.iter().any(|row| is_session(row))
+}
+
+/// Whether the row is a session.
+fn is_session(row: &Row) -> bool
+    ensures { result ≡ spec.is_session_row row.now }
+{
+    matches!(row, Row::OfSession(_, _))
+}
+
+/// Adds the sessions that have a member with a standing grant.
+fn add_standing(facts: &Facts, codes: &mut Codes) -> Result<(), Refusal>
+    ensures ok { OnOk result ((s : Code) → contains code_cmp codes.new s
+        ≡ (spec.has_standing_member (relations_of facts.now) s || contains code_cmp codes.old s)) }
+    ensures memory { IfErr result (λ e. e ≡ NoMemory) }
+{
+    for (key, appeal) in &facts.appeals {
+        if is_standing(facts, key, appeal) {
+            add_candidate(facts, key.0, codes)?;
+        }
+    }
+    Ok(())
+}
+
+/// Adds the sessions that these rows touch in other ways than by naming a hall.
+fn add_rows(facts: &Facts, rows: &[Row], codes: &mut Codes) -> Result<(), Refusal>
+    ensures ok { OnOk result ((s : Code) → contains code_cmp codes.new s
+        ≡ (list_any (λ (x : ImportRow). spec.names_session (relations_of facts.now) x s) rows.now
+        || contains code_cmp codes.old s)) }
+    ensures memory { IfErr result (λ e. e ≡ NoMemory) }
+{
+    for row in rows {
+        add_row(facts, row, codes)?;
+    }
+    Ok(())
+}
+
+/// Adds the sessions that a row touches in other ways than by naming a hall.
+fn add_row(facts: &Facts, row: &Row, codes: &mut Codes) -> Result<(), Refusal>
+    ensures ok { OnOk result ((s : Code) → contains code_cmp codes.new s
+        ≡ (spec.names_session (relations_of facts.now) row.now s || contains code_cmp codes.old s)) }
+    ensures memory { IfErr result (λ e. e ≡ NoMemory) }
+{
+    match row {
+        Row::OfSession(session, _) => add_session(session, codes),
+        Row::OfPaper(code, paper) => add_both(facts, code, &paper.session, codes),
+        Row::OfOpening(session, _, _) => add_known(facts, session, codes),
+        Row::OfHall(_, _) | Row::OfCandidate(_, _) => Ok(()),
+        Row::OfEntry(_, paper) => add_paper(facts, paper, codes),
+        Row::OfArrangement(number, _) => add_candidate(facts, *number, codes),
+    }
+}
+
+/// The halls that the rows name.
+fn named_halls(alloc: Global, rows: &[Row]) -> Result<BTreeSet<HallCode>, Refusal>
+    ensures ok { IfOk result (λ halls. (h : Code) → contains code_cmp halls h
+        ≡ list_any (λ (x : ImportRow). spec.names_hall x h) rows.now) }
+    ensures memory { IfErr result (λ e. e ≡ NoMemory) }
+{
+    let mut halls = BTreeSet::new(alloc);
+    for row in rows {
+        add_named(row, &mut halls)?;
+    }
+    Ok(halls)
+}
+
+/// Adds the hall that the row names, if it does.
+fn add_named(row: &Row, halls: &mut BTreeSet<HallCode>) -> Result<(), Refusal>
+    ensures ok { OnOk result ((h : Code) → contains code_cmp halls.new h
+        ≡ (spec.names_hall row.now h || contains code_cmp halls.old h)) }
+    ensures memory { IfErr result (λ e. e ≡ NoMemory) }
+{
+    match row {
+        Row::OfHall(hall, _) => add_code(*hall, halls),
+        Row::OfSession(_, _)
+        | Row::OfPaper(_, _)
+        | Row::OfOpening(_, _, _)
+        | Row::OfCandidate(_, _)
+        | Row::OfEntry(_, _)
+        | Row::OfArrangement(_, _) => Ok(()),
+    }
+}
+
+/// Adds a hall.
+fn add_code(hall: HallCode, halls: &mut BTreeSet<HallCode>) -> Result<(), Refusal>
+    ensures ok { OnOk result ((h : Code) → contains code_cmp halls.new h
+        ≡ (same_code hall h || contains code_cmp halls.old h)) }
+    ensures memory { IfErr result (λ e. e ≡ NoMemory) }
+{
+    halls.insert(hall)?;
+    Ok(())
+}
+
+/// Adds a session.
+fn add_session(session: &SessionCode, codes: &mut Codes) -> Result<(), Refusal>
+    ensures ok { OnOk result ((s : Code) → contains code_cmp codes.new s
+        ≡ (same_code session.now s || contains code_cmp codes.old s)) }
+    ensures memory { IfErr result (λ e. e ≡ NoMemory) }
+{
+    codes.insert(*session)?;
+    Ok(())
+}
+
+/// Adds a session that a row refers to, if it exists.
+fn add_known(facts: &Facts, session: &SessionCode, codes: &mut Codes) -> Result<(), Refusal>
+    ensures ok { OnOk result ((s : Code) → contains code_cmp codes.new s
+        ≡ (spec.names (relations_of facts.now) session.now s || contains code_cmp codes.old s)) }
+    ensures memory { IfErr result (λ e. e ≡ NoMemory) }
+{
+    if facts.sessions.contains_key(session) {
+        add_session(session, codes)
+    } else {
+        Ok(())
+    }
+}
+
+/// Adds the session of a paper, if the paper and the session exist.
+fn add_paper(facts: &Facts, paper: &PaperCode, codes: &mut Codes) -> Result<(), Refusal>
+    ensures ok { OnOk result ((s : Code) → contains code_cmp codes.new s
+        ≡ (is_paper_of (relations_of facts.now) s paper.now || contains code_cmp codes.old s)) }
+    ensures memory { IfErr result (λ e. e ≡ NoMemory) }
+{
+    match facts.papers.get(paper) {
+        Some(row) => add_session(&row.session, codes),
+        None => Ok(()),
+    }
+}
+
+/// Adds the session of a paper, and its new one, if they exist.
+fn add_both(
+    facts: &Facts,
+    paper: &PaperCode,
+    session: &SessionCode,
+    codes: &mut Codes,
+) -> Result<(), Refusal>
+    ensures ok { OnOk result ((s : Code) → contains code_cmp codes.new s
+        ≡ ((is_paper_of (relations_of facts.now) s paper.now || spec.names (relations_of facts.now) session.now s)
+        || contains code_cmp codes.old s)) }
+    ensures memory { IfErr result (λ e. e ≡ NoMemory) }
+{
+    add_known(facts, session, codes)?;
+    add_paper(facts, paper, codes)
+}
+
+/// Adds the sessions that open one of these halls.
+fn add_opened(facts: &Facts, halls: &BTreeSet<HallCode>, codes: &mut Codes) -> Result<(), Refusal>
+    ensures ok { OnOk result ((s : Code) → contains code_cmp codes.new s
+        ≡ (list_any (λ (o : (Code × Code) × OpeningRow). same_code o.0.0 s && contains code_cmp halls.now o.0.1)
+        facts.now.openings.entries || contains code_cmp codes.old s)) }
+    ensures memory { IfErr result (λ e. e ≡ NoMemory) }
+{
+    for (key, _) in &facts.openings {
+        if halls.contains(&key.1) {
+            add_session(&key.0, codes)?;
+        }
+    }
+    Ok(())
+}
+
+/// Adds the sessions of which a candidate is a member.
+fn add_candidate(facts: &Facts, number: Number, codes: &mut Codes) -> Result<(), Refusal>
+    ensures ok { OnOk result ((s : Code) → contains code_cmp codes.new s
+        ≡ (is_member (relations_of facts.now) s number || contains code_cmp codes.old s)) }
+    ensures memory { IfErr result (λ e. e ≡ NoMemory) }
+{
+    if facts.candidates.contains_key(&number) {
+        add_entered(facts, number, codes)
+    } else {
+        Ok(())
+    }
+}
+
+/// Adds the sessions for whose papers a number has live entries.
+fn add_entered(facts: &Facts, number: Number, codes: &mut Codes) -> Result<(), Refusal>
+    ensures ok { OnOk result ((s : Code) → contains code_cmp codes.new s
+        ≡ (has_live_entry (relations_of facts.now) s number || contains code_cmp codes.old s)) }
+    ensures memory { IfErr result (λ e. e ≡ NoMemory) }
+{
+    for (key, entry) in entries_from(facts, number) {
+        if key.0 != number {
+            break;
+        }
+        if entry.live {
+            add_paper(facts, &key.1, codes)?;
+        }
+    }
+    Ok(())
+}
+
+/// Adds the sessions that a decision touches.
+fn add_decision(facts: &Facts, decision: &Decision, codes: &mut Codes) -> Result<(), Refusal>
+    ensures ok { OnOk result ((s : Code) → contains code_cmp codes.new s
+        ≡ (spec.decision_touches (relations_of facts.now) decision.now s || contains code_cmp codes.old s)) }
+    ensures memory { IfErr result (λ e. e ≡ NoMemory) }
+{
+    if is_grant(decision.outcome) {
+        add_appeal(facts, decision, codes)
+    } else {
+        Ok(())
+    }
+}
+
+/// Adds the sessions that a grant of the appeal touches, if the appeal exists.
+fn add_appeal(facts: &Facts, decision: &Decision, codes: &mut Codes) -> Result<(), Refusal>
+    ensures ok { OnOk result ((s : Code) → contains code_cmp codes.new s
+        ≡ (option_map_or (λ (a : AppealRow). spec.grant_touches (relations_of facts.now) decision.now a s)
+        (appeal_at (relations_of facts.now) decision.now.number decision.now.reference) false
+        || contains code_cmp codes.old s)) }
+    ensures memory { IfErr result (λ e. e ≡ NoMemory) }
+{
+    match facts.appeals.get(&(decision.number, decision.reference)) {
+        Some(appeal) => add_appellant(facts, decision, appeal, codes),
+        None => Ok(()),
+    }
+}
+
+/// Adds the session of the appeal; if its grant sets or ends a standing one, also those of the appellant.
+fn add_appellant(
+    facts: &Facts,
+    decision: &Decision,
+    appeal: &Appeal,
+    codes: &mut Codes,
+) -> Result<(), Refusal>
+    ensures ok { OnOk result ((s : Code) → contains code_cmp codes.new s
+        ≡ (spec.grant_touches (relations_of facts.now) decision.now appeal.now s
+        || contains code_cmp codes.old s)) }
+    ensures memory { IfErr result (λ e. e ≡ NoMemory) }
+{
+    add_others(facts, decision, appeal, codes)?;
+    add_session(&appeal.session, codes)
+}
+
+/// If a grant of the appeal sets or ends a standing one, adds the sessions of which the appellant is a member.
+fn add_others(
+    facts: &Facts,
+    decision: &Decision,
+    appeal: &Appeal,
+    codes: &mut Codes,
+) -> Result<(), Refusal>
+    ensures ok { OnOk result ((s : Code) → contains code_cmp codes.new s
+        ≡ (((bears_mark decision.now.outcome
+        || spec.ends_standing (relations_of facts.now) decision.now.number appeal.now)
+        && is_member (relations_of facts.now) s decision.now.number) || contains code_cmp codes.old s)) }
+    ensures memory { IfErr result (λ e. e ≡ NoMemory) }
+{
+    if granting::bears_mark(decision.outcome) || ends_standing(facts, decision.number, appeal) {
+        add_candidate(facts, decision.number, codes)
+    } else {
+        Ok(())
+    }
+}

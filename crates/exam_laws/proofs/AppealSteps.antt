@@ -1,0 +1,295 @@
+-- A lodging and a retraction are steps, and seat nobody elsewhere.
+use Rattle.std.proofs.Common.{◌≡◌, ℕ, ◌==◌, ◌&&◌, not, Bool, true, false, cond, [], ◌∷◌, ◌++◌, length, nat_le, Option, None, Some, Ok, Err, is_some, is_none, IsSome, IfSome, IsTrue, refl, ap, sym, subst, ◌∙◌, ◌⊎◌, inl, inr}
+use Rattle.std.specs.List.{list_all, list_any, filter_map}
+use Rattle.std.specs.Map.{keys_of}
+use Rattle.std.specs.Option.{option_and_then, option_map_or, option_or}
+use Rattle.std.specs.Ordering.{nat_cmp}
+use Rattle.std.proofs.Math.Path.{fun_ext}
+use Rattle.std.proofs.lemmas.Bool.{and_parts, and_from, not-false}
+use Rattle.exam_types.specs.declared.refusal.Refusal.{Refusal}
+use Rattle.exam_types.specs.declared.refusal.Refusal.TheVariants as refusal
+use Rattle.exam_plan.specs.Matching.{IsBest, Keeps}
+use Rattle.exam_rules.specs.declared.fit.Room.{Room}
+use Rattle.exam_rules.specs.declared.fit.Terms.{Terms}
+use Rattle.exam_rules.specs.declared.rows.Appeal.{Appeal}
+use Rattle.exam_rules.specs.declared.rows.Paper.{Paper}
+use Rattle.exam_rules.specs.declared.rows.Session.{Session}
+use Rattle.exam_rules.specs.declared.rows.Status.{Status}
+use Rattle.exam_rules.specs.declared.rows.Status.TheVariants as status
+use Rattle.exam_rules.specs.declared.rows.Subject.{Subject}
+use Rattle.exam_rules.specs.declared.rows.Subject.TheVariants as subject
+use Rattle.exam_rules.specs.Orders.{AreInOrder}
+use Rattle.exam_rules.specs.Relations.{Code, Relations, appeal_cmp, code_cmp, has_row, put_row, row_at, same_code}
+use Rattle.exam_rules.specs.Sessions.{appeal_count, asked_arrangement, barred_halls, clash_papers, has_live_entry, is_granted, is_live, is_live_paper, is_member, is_paper_of, sitting}
+use Rattle.exam_rules.specs.Seatings.{fits, opened_room, plan_of, seating, sitting_terms, suits_opened}
+use Rattle.exam_rules.proofs.Naming.{same_code_exact}
+use Rattle.exam_commands.specs.declared.command.AppealState.{AppealState}
+use Rattle.exam_commands.specs.declared.command.Command.TheVariants as command
+use Rattle.exam_commands.specs.declared.command.Lodging.{Lodging}
+use Rattle.exam_commands.specs.declared.command.Reply.TheVariants as reply
+use Rattle.exam_commands.specs.Appeals.{appeal_at, has_open_appeal, is_open, is_retracted, stored_state}
+use Rattle.exam_commands.specs.Changes.{first_refusal, unless}
+use Rattle.exam_commands.specs.Good.{IsGood, appeal_refers, marks_stand, may_bear, refers, subject_refers}
+use Rattle.exam_commands.specs.Limits.{most_appeals, within_limits, sessions_within, papers_within, halls_within, openings_within, candidates_within, members_within}
+use Rattle.exam_commands.specs.Lodgings as spec
+use Rattle.exam_commands.specs.Orders.{IsInOrder}
+use Rattle.exam_commands.specs.Singles.{AreSingle, SingleKey, same_single_key, single_key}
+use Rattle.exam_commands.specs.State.{State}
+use Rattle.exam_commands.specs.Steps.{SameSeating, Step}
+use Rattle.exam_commands.proofs.AppealKeys.{appeals_exact, appeals_total}
+use Rattle.exam_laws.proofs.Appealing.{apart_from_all, open_as, open_key, put_seating_same, single_flips, with_appeals}
+use Rattle.exam_commands.proofs.Borne.{closed_unborne, put_borne, unborne}
+use Rattle.exam_laws.proofs.Commanding.{ArePlansRepaired, DoListsRise, IsLimitRefusal, within_memory}
+use Rattle.exam_commands.proofs.LodgingChecks.{both_passed}
+use Rattle.exam_commands.proofs.PutAppeals.{all_at_row, count_replaced}
+use Rattle.exam_commands.proofs.PutRows.{IsApartFrom, put_distinct}
+use Rattle.exam_commands.proofs.Referring.{all_put, appeals_refer_so, passed, stored_refer, there}
+use Rattle.exam_commands.proofs.Staying.{best_stays}
+use Rattle.exam_laws.proofs.Stepping.{accepted_step, refused_step, same_seating}
+
+one_value : (x y : SingleKey) → Some x ≡ Some y → x ≡ y
+one_value x y is = cc
+
+-- what becomes of good facts is good, and every session has the seating that it had
+pub record IsSettled (r t : Relations) : Type 0 where
+  pub refer : refers t ≡ true
+  pub single : AreSingle t
+  pub marks : marks_stand t ≡ true
+  pub seated : (s : Code) → SameSeating (seating r s) (seating t s)
+
+same_relations : (before : State) → IsGood before → IsSettled before.relations before.relations
+same_relations before good = record {
+  refer = good.refer;
+  single = good.single;
+  marks = good.marks;
+  seated = λ s. record { members = refl; fits = λ c h. refl; desks = λ h. refl };
+}
+
+-- everybody keeps their place
+module _ (before after : State) (good : IsGood before) (t : Relations) (same : (s : Code) → SameSeating (seating before.relations s) (seating t s)) where
+  pub all_stay : DoListsRise t → ArePlansRepaired t before after → (N : ℕ → Type 0) (s : Code) → Keeps N (seating t s) (plan_of before.seats s) (plan_of after.seats s)
+  all_stay up plans N s =
+      let best : IsBest (seating t s) (plan_of before.seats s) = subst (λ g. IsBest g (plan_of before.seats s)) (same_seating before.relations t s (same s)) (good.best s) in
+      λ c some member other. subst (λ (o : Option Code). IsSome o) (sym (best_stays t s (up s) None (plan_of before.seats s) (plan_of after.seats s) best (plans s).repair c)) some
+
+-- ---- what a lodging names is there
+
+known_first : {X Y : Type 0} (f : X → Option Y) (o : Option X) → is_some (option_and_then f o) ≡ true → is_some o ≡ true
+known_first f None at = at
+known_first f (Some x) at = refl
+
+suits_some : (t : Option Terms) (o : Option Room) → suits_opened t o ≡ true → is_some o ≡ true
+suits_some t (Some room) at = refl
+suits_some (Some terms) None at = at
+suits_some None None at = at
+
+paper_known : (r : Relations) (s : Code) (c : ℕ) (p : Code) → is_live_paper r s c p ≡ true → has_row code_cmp r.papers p ≡ true
+paper_known r s c p at = inner (row_at code_cmp r.papers p) (and_parts (is_live r c p) (is_paper_of r s p) at).1
+  where
+    inner : (o : Option Paper) → option_map_or (λ (paper : Paper). same_code paper.session s) o false ≡ true → is_some o ≡ true
+    inner None here = here
+    inner (Some paper) here = refl
+
+module _ (before : State) (good : IsGood before) (today : ℕ) (l : Lodging) where
+  hall_known : (h : Code) → option_map_or (same_code h) (plan_of before.seats l.session l.number) false ≡ true → has_row code_cmp before.relations.halls h ≡ true
+  hall_known h at = inner (plan_of before.seats l.session l.number) refl at
+    where
+      inner : (o : Option Code) → plan_of before.seats l.session l.number ≡ o → option_map_or (same_code h) o false ≡ true → has_row code_cmp before.relations.halls h ≡ true
+      inner None is here = absurd (let differ : false ≡ true = here in cc)
+      inner (Some k) is here =
+          let r = before.relations in
+          let s = l.session in
+          let c = l.number in
+          let barred = not (list_any (same_code k) (barred_halls r s c)) in
+          let fitting : fits r s c k ≡ true = subst (λ (o : Option Code). IfSome o (λ k. IsTrue (fits r s c k))) is ((good.best s).lawful.fitting c) in
+          let suits = and_parts (suits_opened (sitting_terms r s c) (opened_room r s k)) barred (and_parts (has_live_entry r s c) (suits_opened (sitting_terms r s c) (opened_room r s k) && barred) fitting).1 in
+          let room : is_some (opened_room r s k) ≡ true = suits_some (sitting_terms r s c) (opened_room r s k) suits.0 in
+          ap (λ q. has_row code_cmp r.halls q) (same_code_exact h k here) ∙ known_first _ (row_at code_cmp r.halls k) room
+
+  subject_known : (asked : Subject) → first_refusal (spec.subject_checks before.relations before.seats l.session l.number asked) ≡ None → subject_refers before.relations asked ≡ true
+  subject_known (subject.Hall h) ok = hall_known h (there (option_map_or (same_code h) (plan_of before.seats l.session l.number) false) refusal.NotSeatedThere [] ok)
+  subject_known (subject.Clash p) ok =
+      let r = before.relations in
+      let sits : Bool × Refusal = (option_map_or (same_code p) (sitting r l.session l.number) false, refusal.NothingToChange) in
+      let live : Bool × Refusal = (not (is_live_paper r l.session l.number p), refusal.NoEntry) in
+      paper_known r l.session l.number p (there (is_live_paper r l.session l.number p) refusal.NoEntry (sits ∷ []) (passed (length (clash_papers r l.session l.number) == 0) refusal.NoClash (live ∷ sits ∷ []) ok).1)
+  subject_known (subject.Arrangement a) ok = refl
+
+  session_known : (o : Option Session) → (spec.closing_check l.subject today o).0 ≡ false → is_some o ≡ true
+  session_known None past = sym past
+  session_known (Some x) past = refl
+
+  record IsSound : Type 0 where
+    candidate : has_row nat_cmp before.relations.candidates l.number ≡ true
+    session : has_row code_cmp before.relations.sessions l.session ≡ true
+    subject : subject_refers before.relations l.subject ≡ true
+    alone : has_open_appeal before.relations l.number l.session l.subject ≡ false
+
+  abbrev stored : Option Appeal
+  stored = appeal_at before.relations l.number l.reference
+
+  abbrev made : Appeal
+  made = record { session = l.session; subject = l.subject; reason = l.reason; status = status.Pending; lodged = today }
+
+  -- none of the checks fails
+  abbrev pub IsChecked : Type 0
+  IsChecked = spec.standing_refusal before.relations before.seats today l ≡ None
+
+  sound : IsChecked → stored ≡ None → IsSound
+  sound ok none =
+      let r = before.relations in
+      let asked = spec.subject_checks r before.seats l.session l.number l.subject in
+      let first = passed (not (has_row nat_cmp r.candidates l.number)) refusal.UnknownCandidate (spec.lodging_checks r before.seats today l stored) ok in
+      let checks : first_refusal (spec.lodging_checks r before.seats today l None) ≡ None = ap (λ o. first_refusal (spec.lodging_checks r before.seats today l o)) (sym none) ∙ first.1 in
+      let member = passed (not (is_member r l.session l.number)) refusal.NotInSession (spec.past_closing r l.session l.subject today ∷ asked ++ spec.appeal_stands r l ∷ []) checks in
+      let day = passed (spec.past_closing r l.session l.subject today).0 (spec.past_closing r l.session l.subject today).1 (asked ++ spec.appeal_stands r l ∷ []) member.1 in
+      let both = both_passed asked (spec.appeal_stands r l ∷ []) day.1 in
+      record {
+        candidate = not-false (has_row nat_cmp r.candidates l.number) first.0;
+        session = session_known (row_at code_cmp r.sessions l.session) day.0;
+        subject = subject_known l.subject both.0;
+        alone = (passed (has_open_appeal r l.number l.session l.subject) refusal.AppealStands [] both.1).0;
+      }
+
+  new_facts : stored ≡ None → spec.with_lodging before.relations today l ≡ spec.with_appeal before.relations today l
+  new_facts none = ap (λ o. cond (is_none o) (spec.with_appeal before.relations today l) before.relations) none
+
+  same_facts : (a : Appeal) → stored ≡ Some a → spec.with_lodging before.relations today l ≡ before.relations
+  same_facts a at = ap (λ o. cond (is_none o) (spec.with_appeal before.relations today l) before.relations) at
+
+  new_settled : IsSound → stored ≡ None → IsSettled before.relations (spec.with_appeal before.relations today l)
+  new_settled s none =
+      let r = before.relations in
+      let k : ℕ × Code = (l.number, l.reference) in
+      record {
+        refer = appeals_refer_so r (put_row appeal_cmp r.appeals k made) good.refer
+            (all_put appeal_cmp appeals_exact (λ x. has_row nat_cmp r.candidates x.0.0 && appeal_refers r x.1) r.appeals k made (stored_refer r good.refer)
+            (and_from (has_row nat_cmp r.candidates l.number) (appeal_refers r made) s.candidate (and_from (has_row code_cmp r.sessions l.session) (subject_refers r l.subject) s.session s.subject)));
+        single = put_distinct appeal_cmp appeals_exact single_key same_single_key single_flips r.appeals k made
+            (λ x is. subst (λ y. IsApartFrom same_single_key y (filter_map single_key r.appeals)) (one_value (l.session, l.number, open_as l.subject) x (sym (open_key k made refl) ∙ is))
+            (apart_from_all l.session l.number l.subject r.appeals s.alone)) good.single;
+        marks = put_borne r.appeals k made r.standing (unborne r.appeals r.standing k good.marks (ap (λ o. option_map_or may_bear o false) none)) good.marks;
+        seated = put_seating_same r k made refl (λ b at. absurd (let differ : None ≡ Some b = sym none ∙ at in cc));
+      }
+
+  pub lodging_settled : (t : Relations) → IsChecked → t ≡ spec.with_lodging before.relations today l → IsSettled before.relations t
+  lodging_settled t ok is = subst (IsSettled before.relations) (sym is) (inner stored refl)
+    where
+      inner : (o : Option Appeal) → stored ≡ o → IsSettled before.relations (spec.with_lodging before.relations today l)
+      inner None none = subst (IsSettled before.relations) (sym (new_facts none)) (new_settled (sound ok none) none)
+      inner (Some a) at = subst (IsSettled before.relations) (sym (same_facts a at)) (same_relations before good)
+
+  -- ---- the limits
+
+  pub limit_refusal : IsChecked → (b : Bool) → (spec.one_too_many before.relations today l).0 ≡ b → spec.lodging_refusal before.relations before.seats today l ≡ cond b (Some refusal.TooMany) None
+  limit_refusal ok b e = ap (λ o. option_or o (first_refusal (spec.one_too_many before.relations today l ∷ []))) ok ∙ ap (λ x. cond x (Some refusal.TooMany) None) e
+
+  pub within_as : (b : Bool) → within_limits (spec.with_lodging before.relations today l) ≡ b → (spec.one_too_many before.relations today l).0 ≡ not b
+  within_as b within = inner stored refl b within
+    where
+      inner : (o : Option Appeal) → stored ≡ o → (b : Bool) → within_limits (spec.with_lodging before.relations today l) ≡ b → (is_none stored && not (within_limits (spec.with_appeal before.relations today l))) ≡ not b
+      inner None none b within =
+          ap (λ o. is_none o && not (within_limits (spec.with_appeal before.relations today l))) none
+          ∙ ap not (sym (ap within_limits (new_facts none)) ∙ within)
+      inner (Some a) at b within =
+          ap (λ o. is_none o && not (within_limits (spec.with_appeal before.relations today l))) at
+          ∙ ap not (sym good.limits ∙ sym (ap within_limits (same_facts a at)) ∙ within)
+
+  pub lodging_accepted : (after : State) (t : Relations) (told : AppealState) → IsChecked → within_limits t ≡ true → t ≡ spec.with_lodging before.relations today l → after.relations ≡ t → IsInOrder after
+      → told ≡ stored_state t l.number l.reference → DoListsRise t → ArePlansRepaired t before after → Step (command.Lodge l) today before (Ok (reply.Lodged told)) after
+  lodging_accepted after t told ok within is facts order says up plans =
+      let new : Relations = spec.with_lodging before.relations today l in
+      let none : spec.lodging_refusal before.relations before.seats today l ≡ None = limit_refusal ok false (within_as true (ap within_limits (sym is) ∙ within)) in
+      let same : (s : Code) → SameSeating (seating before.relations s) (seating new s) = (lodging_settled new ok refl).seated in
+      let up_new : DoListsRise new = subst DoListsRise is up in
+      let plans_new : ArePlansRepaired new before after = subst (λ u. ArePlansRepaired u before after) is plans in
+      let step = accepted_step (command.Lodge l) today before after new (ap (λ o. unless o new) none) (facts ∙ is) order up_new good plans_new
+      (all_stay before after good new same up_new plans_new (λ c. l.number ≡ c)) in
+      subst (λ (state : AppealState). Step (command.Lodge l) today before (Ok (reply.Lodged state)) after)
+      (ap (λ (r : Relations). stored_state r l.number l.reference) facts ∙ sym says) step
+
+  pub lodging_past : (t : Relations) → IsChecked → within_limits t ≡ false → t ≡ spec.with_lodging before.relations today l → Step (command.Lodge l) today before (Err refusal.TooMany) before
+  lodging_past t ok past is =
+      let new : Relations = spec.with_lodging before.relations today l in
+      let some : spec.lodging_refusal before.relations before.seats today l ≡ Some refusal.TooMany = limit_refusal ok true (within_as false (ap within_limits (sym is) ∙ past)) in
+      refused_step (command.Lodge l) today before refusal.TooMany (ap (λ o. unless o new) some)
+
+  -- if it goes no further, memory ran out or a limit was passed
+  pub lodging_limited : (t : Relations) → IsChecked → t ≡ spec.with_lodging before.relations today l → (e : Refusal) → IsLimitRefusal t e → (e ≡ refusal.NoMemory) ⊎ Step (command.Lodge l) today before (Err e) before
+  lodging_limited t ok is e (inl memory) = inl memory
+  lodging_limited t ok is e (inr past) = inr (subst (λ (x : Refusal). Step (command.Lodge l) today before (Err x) before) (sym past.0) (lodging_past t ok past.1 is))
+
+-- ---- a retraction
+
+count_same : (r : Relations) (k : ℕ × Code) (a b : Appeal) → AreInOrder r → row_at appeal_cmp r.appeals k ≡ Some b → within_limits (with_appeals r (put_row appeal_cmp r.appeals k a)) ≡ within_limits r
+count_same r k a b up at =
+    let counts : appeal_count (with_appeals r (put_row appeal_cmp r.appeals k a)) ≡ appeal_count r = fun_ext (λ c. count_replaced appeal_cmp appeals_total (λ (key : ℕ × Code). key.0 == c) r.appeals k a b up.appeals at) in
+    ap (λ (count : ℕ → ℕ). sessions_within r && (papers_within r && (halls_within r && (openings_within r && (candidates_within r && (members_within r && list_all (λ c. nat_le (count c) most_appeals) (keys_of r.candidates))))))) counts
+
+closed_granted : (st : Status) → (not (is_open st) && not (is_retracted st)) ≡ false → is_granted st ≡ false
+closed_granted status.Pending ok = refl
+closed_granted (status.Granted answer) ok = ok
+closed_granted (status.Refused answer) ok = refl
+closed_granted status.Retracted ok = refl
+closed_granted (status.Superseded answer) ok = refl
+
+module _ (before : State) (good : IsGood before) (c : ℕ) (reference : Code) where
+  abbrev there_is : Option Appeal
+  there_is = appeal_at before.relations c reference
+
+  abbrev pub IsRetractable : Type 0
+  IsRetractable = spec.retraction_refusal before.relations c reference ≡ None
+
+  pub record IsSettledWithin (t : Relations) : Type 0 where
+    pub settled : IsSettled before.relations t
+    pub within : within_limits t ≡ true
+
+  put_settled : AreInOrder before.relations → (a : Appeal) → there_is ≡ Some a → (not (is_open a.status) && not (is_retracted a.status)) ≡ false → IsSettledWithin (spec.with_retracted_appeal before.relations c reference a)
+  put_settled up a at closed =
+      let r = before.relations in
+      let k : ℕ × Code = (c, reference) in
+      let new : Appeal = record a { status = status.Retracted } in
+      let known : (has_row nat_cmp r.candidates c && appeal_refers r a) ≡ true = all_at_row appeal_cmp appeals_exact (λ x. has_row nat_cmp r.candidates x.0.0 && appeal_refers r x.1) r.appeals k a (stored_refer r good.refer) at in
+      record {
+        settled = record {
+          refer = appeals_refer_so r (put_row appeal_cmp r.appeals k new) good.refer
+              (all_put appeal_cmp appeals_exact (λ x. has_row nat_cmp r.candidates x.0.0 && appeal_refers r x.1) r.appeals k new (stored_refer r good.refer) known);
+          single = put_distinct appeal_cmp appeals_exact single_key same_single_key single_flips r.appeals k new (λ x is. absurd (let none : Option SingleKey = None in let differ : none ≡ Some x = is in cc)) good.single;
+          marks = put_borne r.appeals k new r.standing
+              (unborne r.appeals r.standing k good.marks (ap (λ o. option_map_or may_bear o false) at ∙ closed_unborne a.status (is_some (asked_arrangement a.subject)) closed)) good.marks;
+          seated = put_seating_same r k new refl (λ b is. let same : a ≡ b = (let both : Some a ≡ Some b = sym at ∙ is in cc) in ap (λ (x : Appeal). is_granted x.status) (sym same) ∙ closed_granted a.status closed);
+        };
+        within = count_same r k new a up at ∙ good.limits;
+      }
+
+  pub retraction_within : AreInOrder before.relations → IsRetractable → IsSettledWithin (spec.with_retraction before.relations c reference)
+  retraction_within up ok = inner there_is refl
+    where
+      by_status : (a : Appeal) → there_is ≡ Some a → (b : Bool) → is_retracted a.status ≡ b → IsSettledWithin (cond b before.relations (spec.with_retracted_appeal before.relations c reference a))
+      by_status a at true is = record { settled = same_relations before good; within = good.limits }
+      by_status a at false is =
+          let check : first_refusal (spec.retraction_checks (Some a)) ≡ None = ap (λ o. first_refusal (spec.retraction_checks o)) (sym at) ∙ ok in
+          put_settled up a at (passed (not (is_open a.status) && not (is_retracted a.status)) refusal.NotOpenAppeal [] check).0
+
+      inner : (o : Option Appeal) → there_is ≡ o → IsSettledWithin (spec.with_retraction before.relations c reference)
+      inner None none = absurd (let differ : Some refusal.UnknownAppeal ≡ None = ap (λ o. first_refusal (spec.retraction_checks o)) (sym none) ∙ ok in cc)
+      inner (Some a) at = subst IsSettledWithin (sym (ap (spec.with_retracted before.relations c reference) at)) (by_status a at (is_retracted a.status) refl)
+
+  abbrev pub IsWithout : Relations → Type 0
+  IsWithout t = t ≡ spec.with_retraction before.relations c reference
+
+  pub retraction_settled : (t : Relations) → AreInOrder before.relations → IsRetractable → IsWithout t → IsSettled before.relations t
+  retraction_settled t up ok is = subst (IsSettled before.relations) (sym is) (retraction_within up ok).settled
+
+  -- it goes no further only if memory runs out
+  pub retraction_memory : (t : Relations) → AreInOrder before.relations → IsRetractable → IsWithout t → (e : Refusal) → IsLimitRefusal t e → e ≡ refusal.NoMemory
+  retraction_memory t up ok is = within_memory t (ap within_limits is ∙ (retraction_within up ok).within)
+
+  pub retraction_accepted : (today : ℕ) (after : State) (t : Relations) → AreInOrder before.relations → IsRetractable → IsWithout t → after.relations ≡ t → IsInOrder after
+      → DoListsRise t → ArePlansRepaired t before after → Step (command.Retract c reference) today before (Ok reply.Retracted) after
+  retraction_accepted today after t order ok is facts order_after up plans =
+      let new : Relations = spec.with_retraction before.relations c reference in
+      let up_new : DoListsRise new = subst DoListsRise is up in
+      let plans_new : ArePlansRepaired new before after = subst (λ u. ArePlansRepaired u before after) is plans in
+      accepted_step (command.Retract c reference) today before after new (ap (λ o. unless o new) ok) (facts ∙ is) order_after up_new good plans_new
+      (all_stay before after good new (retraction_settled new order ok refl).seated up_new plans_new (λ d. c ≡ d))

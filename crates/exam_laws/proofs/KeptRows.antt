@@ -1,0 +1,201 @@
+-- No command takes a row away from the facts, but that the closing of a hall takes its opening.
+use Rattle.std.proofs.Common.{◌≡◌, ℕ, Bool, true, false, not, cond, List, [], ◌∷◌, map, Option, None, Some, Ok, is_none, is_some, refl, ap, sym, subst, ◌∙◌}
+use Rattle.std.specs.BTreeMap.{is_at}
+use Rattle.std.specs.Ordering.{nat_cmp}
+use Rattle.std.proofs.lemmas.Bool.{not-false}
+use Rattle.std.proofs.lemmas.Map.Lookups.{CmpEqualImpliesEq, exact_bytes, exact_pairs}
+use Rattle.exam_types.specs.declared.refusal.Refusal.TheVariants as refusal
+use Rattle.exam_rules.specs.declared.rows.Appeal.{Appeal}
+use Rattle.exam_rules.specs.declared.rows.Subject.{Subject}
+use Rattle.exam_rules.specs.Relations.{Code, Relations, appeal_cmp, code_cmp, entry_cmp, opening_cmp, has_row, put_row, row_at}
+use Rattle.exam_commands.specs.declared.command.Command.{Command}
+use Rattle.exam_commands.specs.declared.command.Command.TheVariants as command
+use Rattle.exam_commands.specs.declared.command.Decision.{Decision}
+use Rattle.exam_commands.specs.declared.command.Lodging.{Lodging}
+use Rattle.exam_commands.specs.declared.command.Outcome.{Outcome}
+use Rattle.exam_commands.specs.declared.command.Outcome.TheVariants as outcome
+use Rattle.exam_commands.specs.declared.command.Reply.{Reply}
+use Rattle.exam_commands.specs.declared.import_row.Row.{Row}
+use Rattle.exam_commands.specs.declared.import_row.Row.TheVariants as row
+use Rattle.exam_commands.specs.Appeals.{appeal_at, is_open, is_retracted, superseded}
+use Rattle.exam_commands.specs.Changes.{closing_refusal, first_refusal, import_refusal, reinstatement_refusal, with_live, with_row, with_rows, withdrawal_refusal, without_opening}
+use Rattle.exam_commands.specs.Decisions.{decision_checks, decision_refusal, gives_way, giving_way, grant_checks, is_made, is_too_late, not_arrangement, open_checks, with_decided, with_decision, with_outcome, with_superseded}
+use Rattle.exam_commands.specs.Good as good
+use Rattle.exam_commands.specs.Good.{IsGood}
+use Rattle.exam_commands.specs.KeptRows.{KeepsKeys, KeepsOpenings, KeepsRows}
+use Rattle.exam_commands.specs.Lodgings as spec
+use Rattle.exam_commands.specs.State.{State}
+use Rattle.exam_commands.specs.Steps.{Step, change}
+use Rattle.exam_laws.proofs.DecidedFacts.{marked_still, unmarked_open}
+use Rattle.exam_laws.proofs.Lasting.{made, new_facts, unrefused}
+use Rattle.exam_commands.proofs.Referring.{has_put, passed}
+use Rattle.exam_commands.proofs.OtherRows.{key_apart, removed_elsewhere}
+
+-- no table loses a key
+record Keeps (r t : Relations) : Type 0 where
+  rows : KeepsRows r t
+  openings : KeepsKeys opening_cmp r.openings t.openings
+
+keeps_itself : (r : Relations) → Keeps r r
+keeps_itself r = record {
+  rows = record { sessions = λ k h. h; papers = λ k h. h; halls = λ k h. h; candidates = λ k h. h; entries = λ k h. h; arrangements = λ k h. h; appeals = λ k h. h; standing = λ k h. h };
+  openings = λ k h. h;
+}
+
+-- one more row of an import
+keeps_row : (r : Relations) (x : Row) → Keeps r (with_row r x)
+keeps_row r (row.OfSession s x) = let same = (keeps_itself r).rows in record {
+  rows = record { sessions = λ k h. has_put code_cmp r.sessions s k x h; papers = same.papers; halls = same.halls; candidates = same.candidates; entries = same.entries; arrangements = same.arrangements; appeals = same.appeals; standing = same.standing };
+  openings = λ k h. h;
+}
+keeps_row r (row.OfPaper p x) = let same = (keeps_itself r).rows in record {
+  rows = record { sessions = same.sessions; papers = λ k h. has_put code_cmp r.papers p k x h; halls = same.halls; candidates = same.candidates; entries = same.entries; arrangements = same.arrangements; appeals = same.appeals; standing = same.standing };
+  openings = λ k h. h;
+}
+keeps_row r (row.OfHall j x) = let same = (keeps_itself r).rows in record {
+  rows = record { sessions = same.sessions; papers = same.papers; halls = λ k h. has_put code_cmp r.halls j k x h; candidates = same.candidates; entries = same.entries; arrangements = same.arrangements; appeals = same.appeals; standing = same.standing };
+  openings = λ k h. h;
+}
+keeps_row r (row.OfOpening s j x) = let same = (keeps_itself r).rows in record {
+  rows = record { sessions = same.sessions; papers = same.papers; halls = same.halls; candidates = same.candidates; entries = same.entries; arrangements = same.arrangements; appeals = same.appeals; standing = same.standing };
+  openings = λ k h. has_put opening_cmp r.openings (s, j) k x h;
+}
+keeps_row r (row.OfCandidate c x) = let same = (keeps_itself r).rows in record {
+  rows = record { sessions = same.sessions; papers = same.papers; halls = same.halls; candidates = λ k h. has_put nat_cmp r.candidates c k x h; entries = same.entries; arrangements = same.arrangements; appeals = same.appeals; standing = same.standing };
+  openings = λ k h. h;
+}
+keeps_row r (row.OfEntry c p) = inner (has_row entry_cmp r.entries (c, p))
+  where
+    inner : (b : Bool) → Keeps r (cond b r (record r { entries = put_row entry_cmp r.entries (c, p) (record { live = true }) }))
+    inner true = keeps_itself r
+    inner false = let same = (keeps_itself r).rows in record {
+      rows = record { sessions = same.sessions; papers = same.papers; halls = same.halls; candidates = same.candidates; entries = λ k h. has_put entry_cmp r.entries (c, p) k (record { live = true }) h; arrangements = same.arrangements; appeals = same.appeals; standing = same.standing };
+      openings = λ k h. h;
+    }
+keeps_row r (row.OfArrangement c x) = let same = (keeps_itself r).rows in record {
+  rows = record { sessions = same.sessions; papers = same.papers; halls = same.halls; candidates = same.candidates; entries = same.entries; arrangements = λ k h. has_put nat_cmp r.arrangements c k x h; appeals = same.appeals; standing = same.standing };
+  openings = λ k h. h;
+}
+
+keeps_both : (r t u : Relations) → Keeps r t → Keeps t u → Keeps r u
+keeps_both r t u one two = record {
+  rows = record {
+    sessions = λ k h. two.rows.sessions k (one.rows.sessions k h);
+    papers = λ k h. two.rows.papers k (one.rows.papers k h);
+    halls = λ k h. two.rows.halls k (one.rows.halls k h);
+    candidates = λ k h. two.rows.candidates k (one.rows.candidates k h);
+    entries = λ k h. two.rows.entries k (one.rows.entries k h);
+    arrangements = λ k h. two.rows.arrangements k (one.rows.arrangements k h);
+    appeals = λ k h. two.rows.appeals k (one.rows.appeals k h);
+    standing = λ k h. two.rows.standing k (one.rows.standing k h);
+  };
+  openings = λ k h. two.openings k (one.openings k h);
+}
+
+keeps_rows : (r : Relations) (rows : List Row) → Keeps r (with_rows r rows)
+keeps_rows r [] = keeps_itself r
+keeps_rows r (x ∷ rows) = keeps_both r (with_row r x) (with_rows (with_row r x) rows) (keeps_row r x) (keeps_rows (with_row r x) rows)
+
+-- entries, or appeals and marks, keep their keys, and the rest stays
+keeps_entries : (r : Relations) (c : ℕ) (p : Code) (live : Bool) → Keeps r (with_live r c p live)
+keeps_entries r c p live = let same = (keeps_itself r).rows in record {
+  rows = record { sessions = same.sessions; papers = same.papers; halls = same.halls; candidates = same.candidates; entries = λ k h. has_put entry_cmp r.entries (c, p) k (record { live = live }) h; arrangements = same.arrangements; appeals = same.appeals; standing = same.standing };
+  openings = λ k h. h;
+}
+
+keeps_appeals : (r : Relations) (appeals : List ((ℕ × Code) × Appeal)) (marks : List ((ℕ × Code) × Unit {0})) → KeepsKeys appeal_cmp r.appeals appeals → KeepsKeys appeal_cmp r.standing marks
+    → Keeps r (record r { appeals = appeals; standing = marks })
+keeps_appeals r appeals marks stay bear = let same = (keeps_itself r).rows in record {
+  rows = record { sessions = same.sessions; papers = same.papers; halls = same.halls; candidates = same.candidates; entries = same.entries; arrangements = same.arrangements; appeals = stay; standing = bear };
+  openings = λ k h. h;
+}
+
+put_appeal : (r : Relations) (k : ℕ × Code) (a : Appeal) → Keeps r (record r { appeals = put_row appeal_cmp r.appeals k a })
+put_appeal r k a = keeps_appeals r (put_row appeal_cmp r.appeals k a) r.standing (λ q h. has_put appeal_cmp r.appeals k q a h) (λ q h. h)
+
+lodging_keeps : (r : Relations) (day : ℕ) (l : Lodging) → Keeps r (spec.with_lodging r day l)
+lodging_keeps r day l = inner (is_none (appeal_at r l.number l.reference))
+  where
+    inner : (b : Bool) → Keeps r (cond b (spec.with_appeal r day l) r)
+    inner true = put_appeal r (l.number, l.reference) _
+    inner false = keeps_itself r
+
+retraction_keeps : (r : Relations) (c : ℕ) (reference : Code) → Keeps r (spec.with_retraction r c reference)
+retraction_keeps r c reference = inner (appeal_at r c reference)
+  where
+    by_status : (a : Appeal) (b : Bool) → Keeps r (cond b r (spec.with_retracted_appeal r c reference a))
+    by_status a true = keeps_itself r
+    by_status a false = put_appeal r (c, reference) _
+
+    inner : (o : Option Appeal) → Keeps r (spec.with_retracted r c reference o)
+    inner None = keeps_itself r
+    inner (Some a) = by_status a (is_retracted a.status)
+
+-- the superseded appeals stay
+given_keeps : (c : ℕ) (s : Code) (asked : Subject) (rows : List ((ℕ × Code) × Appeal)) → KeepsKeys appeal_cmp rows (map (giving_way c s asked) rows)
+given_keeps c s asked [] k has = has
+given_keeps c s asked (d ∷ ds) k has = inner (gives_way c s asked d) (given_keeps c s asked ds k)
+  where
+    found : (b : Bool) (a : Appeal) → (has_row appeal_cmp ds k ≡ true → has_row appeal_cmp (map (giving_way c s asked) ds) k ≡ true) → is_some (cond b (Some d.1) (row_at appeal_cmp ds k)) ≡ true
+        → is_some (cond b (Some a) (row_at appeal_cmp (map (giving_way c s asked) ds) k)) ≡ true
+    found true a later h = refl
+    found false a later h = later h
+
+    inner : (b : Bool) → (has_row appeal_cmp ds k ≡ true → has_row appeal_cmp (map (giving_way c s asked) ds) k ≡ true)
+        → has_row appeal_cmp (cond b (d.0, record d.1 { status = superseded d.1.status }) d ∷ map (giving_way c s asked) ds) k ≡ true
+    inner true later = found (is_at (appeal_cmp k) d.0) (record d.1 { status = superseded d.1.status }) later has
+    inner false later = found (is_at (appeal_cmp k) d.0) d.1 later has
+
+superseding_keeps : (c : ℕ) (a : Appeal) (o : Outcome) (rows : List ((ℕ × Code) × Appeal)) → KeepsKeys appeal_cmp rows (with_superseded c a o rows)
+superseding_keeps c a outcome.Grant rows = given_keeps c a.session a.subject rows
+superseding_keeps c a outcome.Standing rows = given_keeps c a.session a.subject rows
+superseding_keeps c a outcome.Refuse rows = λ k h. h
+
+-- an open appeal has no mark that its decision could take away
+decision_keeps : (r : Relations) (day : ℕ) (d : Decision) → good.marks_stand r ≡ true → decision_refusal r day d ≡ None → Keeps r (with_decision r d)
+decision_keeps r day d stand ok = inner (appeal_at r d.number d.reference) refl
+  where
+    was_open : (a : Appeal) → first_refusal (open_checks r day d a) ≡ None → is_open a.status ≡ true
+    was_open a none = not-false (is_open a.status) (passed (not (is_open a.status)) refusal.NotOpenAppeal ((is_too_late r a.session day, refusal.TooLate) ∷ not_arrangement a d.outcome ∷ grant_checks r d.number a d.outcome) none).0
+
+    by_case : (a : Appeal) → appeal_at r d.number d.reference ≡ Some a → (b : Bool) → first_refusal (cond b [] (open_checks r day d a)) ≡ None → Keeps r (cond b r (with_outcome r d a))
+    by_case a at true none = keeps_itself r
+    by_case a at false none =
+        keeps_appeals r (with_outcome r d a).appeals (with_outcome r d a).standing (λ k h. has_put appeal_cmp (with_superseded d.number a d.outcome r.appeals) (d.number, d.reference) k _ (superseding_keeps d.number a d.outcome r.appeals k h))
+        (λ k h. marked_still r d k (λ same. let differ : true ≡ false = sym h ∙ ap (has_row appeal_cmp r.standing) same ∙ unmarked_open r d a stand at (was_open a none) in cc) ∙ h)
+
+    inner : (o : Option Appeal) → appeal_at r d.number d.reference ≡ o → Keeps r (with_decided r d o)
+    inner None at = keeps_itself r
+    inner (Some a) at = by_case a at (is_made r d a) (ap (λ o. first_refusal (decision_checks r day d o)) (sym at) ∙ ok)
+
+-- what keeps all keys keeps those that stay
+all_stay : (done : Command) (r t : Relations) → Keeps r t → KeepsRows r t × KeepsOpenings done r t
+all_stay done r t keeps = (keeps.rows, λ k apart. keeps.openings k)
+
+openings_exact : CmpEqualImpliesEq opening_cmp
+openings_exact = exact_pairs code_cmp code_cmp exact_bytes exact_bytes
+
+change_keeps : (done : Command) (day : ℕ) (before : State) (t : Relations) → IsGood before → change done day before ≡ Ok t → KeepsRows before.relations t × KeepsOpenings done before.relations t
+change_keeps (command.Import import) day before t fine is =
+    all_stay (command.Import import) before.relations t (subst (Keeps before.relations) (made (import_refusal before.relations import.rows) (with_rows before.relations import.rows) t is) (keeps_rows before.relations import.rows))
+change_keeps (command.Withdraw c p) day before t fine is =
+    all_stay (command.Withdraw c p) before.relations t (subst (Keeps before.relations) (made (withdrawal_refusal before.relations c p) (with_live before.relations c p false) t is) (keeps_entries before.relations c p false))
+change_keeps (command.Reinstate c p) day before t fine is =
+    all_stay (command.Reinstate c p) before.relations t (subst (Keeps before.relations) (made (reinstatement_refusal before.relations c p) (with_live before.relations c p true) t is) (keeps_entries before.relations c p true))
+change_keeps (command.CloseHall s h) day before t fine is =
+    let r = before.relations in
+    let new = made (closing_refusal r s h) (without_opening r s h) t is in (
+      subst (KeepsRows r) new (record { sessions = λ k i. i; papers = λ k i. i; halls = λ k i. i; candidates = λ k i. i; entries = λ k i. i; arrangements = λ k i. i; appeals = λ k i. i; standing = λ k i. i }),
+      subst (KeepsOpenings (command.CloseHall s h) r) new (λ k apart has. ap is_some (removed_elsewhere opening_cmp openings_exact r.openings (s, h) k (key_apart opening_cmp openings_exact k (s, h) apart)) ∙ has),
+    )
+change_keeps (command.Lodge l) day before t fine is =
+    all_stay (command.Lodge l) before.relations t (subst (Keeps before.relations) (made (spec.lodging_refusal before.relations before.seats day l) (spec.with_lodging before.relations day l) t is) (lodging_keeps before.relations day l))
+change_keeps (command.Retract c reference) day before t fine is =
+    all_stay (command.Retract c reference) before.relations t (subst (Keeps before.relations) (made (spec.retraction_refusal before.relations c reference) (spec.with_retraction before.relations c reference) t is) (retraction_keeps before.relations c reference))
+change_keeps (command.Decide d) day before t fine is =
+    all_stay (command.Decide d) before.relations t (subst (Keeps before.relations) (made (decision_refusal before.relations day d) (with_decision before.relations d) t is)
+    (decision_keeps before.relations day d fine.marks (unrefused (decision_refusal before.relations day d) (with_decision before.relations d) t is)))
+
+pub step_keeps : (done : Command) (day : ℕ) (before : State) (reply : Reply) (after : State) → IsGood before → Step done day before (Ok reply) after
+    → KeepsRows before.relations after.relations × KeepsOpenings done before.relations after.relations
+step_keeps done day before reply after fine step = change_keeps done day before after.relations fine (new_facts done day before reply after step)

@@ -1,0 +1,81 @@
+-- An accepted command is a step, and a refused one too.
+use Rattle.std.proofs.Common.{◌≡◌, ℕ, nat_eq, not, Bool, true, cond, List, [], ◌∷◌, None, Some, Ok, Err, refl, ap, sym, subst, ◌∙◌}
+use Rattle.std.specs.Option.{option_or}
+use Rattle.std.proofs.Math.Path.{fun_ext}
+use Rattle.exam_types.specs.declared.refusal.Refusal.{Refusal}
+use Rattle.exam_types.specs.declared.refusal.Refusal.TheVariants as refusal
+use Rattle.exam_plan.specs.Matching.{Seating, IsBest}
+use Rattle.exam_rules.specs.Relations.{Code, Relations, same_code, code_cmp}
+use Rattle.std.specs.Ordering.{nat_cmp}
+use Rattle.exam_rules.specs.Sessions.{members}
+use Rattle.exam_rules.specs.Seatings.{seating, plan_of, fits, desks}
+use Rattle.exam_rules.specs.Names.{ListsRise}
+use Rattle.exam_commands.specs.declared.import_row.Row.{Row}
+use Rattle.exam_commands.specs.declared.command.Command.{Command}
+use Rattle.exam_commands.specs.declared.command.Command.TheVariants as command
+use Rattle.exam_commands.specs.Changes.{imported, unless, first_refusal, rows_refusal, with_rows, too_many}
+use Rattle.exam_commands.specs.Limits.{within_limits}
+use Rattle.exam_commands.specs.Orders.{IsInOrder}
+use Rattle.exam_commands.specs.Repairs.{IsRepaired}
+use Rattle.exam_commands.specs.State.{State, Seats}
+use Rattle.exam_commands.specs.Imports.{ImportRows}
+use Rattle.exam_commands.specs.Steps.{change, SameSeating, SeatsOn, IsNextPlan, StepTo, Step, first_seated}
+use Rattle.exam_commands.specs.Good.{IsGood}
+use Rattle.exam_commands.specs.Replies.{import_reply, reply_of}
+use Rattle.exam_commands.specs.declared.command.Reply.{Reply}
+use Rattle.exam_commands.proofs.Staying.{best_stays, kept_stays}
+
+-- ---- the change
+
+pub limits_refusal : (r : Relations) (rows : List Row) (b : Bool) → within_limits (with_rows r rows) ≡ b → first_refusal (too_many (with_rows r rows) ∷ []) ≡ cond (not b) (Some refusal.TooMany) None
+limits_refusal r rows b e = ap (λ t. cond (not t) (Some refusal.TooMany) None) e
+
+pub import_accepted : (r : Relations) (rows : List Row) → rows_refusal r rows ≡ None → within_limits (with_rows r rows) ≡ true → imported r rows ≡ Ok (with_rows r rows)
+import_accepted r rows ok within = ap (λ o. unless (option_or o (first_refusal (too_many (with_rows r rows) ∷ []))) (with_rows r rows)) ok ∙ ap (λ o. unless o (with_rows r rows)) (limits_refusal r rows true within)
+
+-- ---- the plans
+
+-- a session with the same members, fits and desks has the same seating
+pub same_seating : (r t : Relations) (s : Code) → SameSeating (seating r s) (seating t s) → seating r s ≡ seating t s
+same_seating r t s same =
+    ap (λ ms. with_parts ms (fits r s) (desks r s)) same.members
+    ∙ ap (λ f. with_parts (members t s) f (desks r s)) (fun_ext (λ c. fun_ext (same.fits c)))
+    ∙ ap (with_parts (members t s) (fits t s)) (fun_ext same.desks)
+  where
+    with_parts : List ℕ → (ℕ → Code → Bool) → (Code → ℕ) → Seating ℕ Code
+    with_parts ms f d = record { members = ms; fits = f; desks = d; same_candidate = nat_eq; same_hall = same_code; candidate_cmp = nat_cmp; hall_cmp = code_cmp }
+
+pub next_plan : (done : Command) (r t : Relations) (s : Code) (before after : Seats) → ListsRise t s → IsBest (seating r s) (plan_of before s) → IsRepaired t (first_seated done) before after s
+    → SeatsOn done (seating t s) (plan_of before s) (plan_of after s) → IsNextPlan done (seating r s) (seating t s) (plan_of before s) (plan_of after s)
+next_plan done r t s before after up best made kept = record {
+  best = made.best;
+  untouched = λ same. best_stays t s up (first_seated done) (plan_of before s) (plan_of after s) (subst (λ g. IsBest g (plan_of before s)) (same_seating r t s same) best) made.repair;
+  kept = kept;
+  repair = made.repair;
+}
+
+-- ---- any command
+
+pub accepted_step : (done : Command) (today : ℕ) (before after : State) (t : Relations) → change done today before ≡ Ok t → after.relations ≡ t → IsInOrder after → ((s : Code) → ListsRise t s) → IsGood before
+    → ((s : Code) → IsRepaired t (first_seated done) before.seats after.seats s) → ((s : Code) → SeatsOn done (seating t s) (plan_of before.seats s) (plan_of after.seats s))
+    → Step done today before (Ok (reply_of done before after)) after
+accepted_step done today before after t accepted facts order up good plans kept =
+    subst (StepTo done before (Ok (reply_of done before after)) after) (sym accepted)
+    (facts, λ s. next_plan done before.relations t s before.seats after.seats (up s) (good.best s) (plans s) (kept s), refl, order)
+
+pub refused_step : (done : Command) (today : ℕ) (before : State) (e : Refusal) → change done today before ≡ Err e → Step done today before (Err e) before
+refused_step done today before e refused = subst (StepTo done before (Err e) before) (sym refused) (refl, refl)
+
+-- ---- imports
+
+pub step_accepted : (import : ImportRows) (today : ℕ) (before after : State) (rows : List Row) (t : Relations) (reply : Reply) → rows ≡ import.rows
+    → rows_refusal before.relations rows ≡ None → t ≡ with_rows before.relations rows → within_limits t ≡ true → after.relations ≡ t → IsInOrder after
+    → reply ≡ import_reply before.relations rows
+    → ((s : Code) → ListsRise t s) → IsGood before → ((s : Code) → IsRepaired t None before.seats after.seats s) → Step (command.Import import) today before (Ok reply) after
+step_accepted import today before after rows t reply are ok is within facts order says up good plans =
+    let new : t ≡ with_rows before.relations import.rows = is ∙ ap (with_rows before.relations) are in
+    let accepted : imported before.relations import.rows ≡ Ok (with_rows before.relations import.rows) =
+    import_accepted before.relations import.rows (ap (rows_refusal before.relations) (sym are) ∙ ok) (ap within_limits (sym new) ∙ within) in
+    let step = accepted_step (command.Import import) today before after t (accepted ∙ ap Ok (sym new)) facts order up good plans
+    (λ s. kept_stays (seating t s) None (plan_of before.seats s) (plan_of after.seats s) (plans s).repair) in
+    subst (λ told. Step (command.Import import) today before (Ok told) after) (sym (says ∙ ap (import_reply before.relations) are)) step

@@ -1,5 +1,0 @@
-use Rattle.exam_office.proofs.LaterImports.{repeated_later}
-use Rattle.exam_office.proofs.laws.import_repeated_later_changes_nothing.Goals as goal
-
-pub returns : goal.returns
-returns c = repeated_later

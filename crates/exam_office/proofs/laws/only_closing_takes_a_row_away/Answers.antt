@@ -1,5 +1,0 @@
-use Rattle.exam_office.proofs.KeptRows.{step_keeps}
-use Rattle.exam_office.proofs.laws.only_closing_takes_a_row_away.Goals as goal
-
-pub returns : goal.returns
-returns c = λ done today before after reply fine step. step_keeps done today before reply after fine step

@@ -1,5 +1,0 @@
-use Rattle.exam_office.proofs.Lasting.{repeated_decision}
-use Rattle.exam_office.proofs.laws.repeated_decision_changes_nothing.Goals as goal
-
-pub returns : goal.returns
-returns c = repeated_decision

@@ -1,5 +1,0 @@
-use Rattle.exam_office.proofs.RepeatedImports.{repeated_step}
-use Rattle.exam_office.proofs.laws.repeated_import_changes_nothing.Goals as goal
-
-pub returns : goal.returns
-returns c = repeated_step

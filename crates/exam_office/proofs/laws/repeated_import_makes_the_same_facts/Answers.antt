@@ -1,5 +1,0 @@
-use Rattle.exam_office.proofs.RepeatedImports.{repeated_import}
-use Rattle.exam_office.proofs.laws.repeated_import_makes_the_same_facts.Goals as goal
-
-pub returns : goal.returns
-returns c = repeated_import

@@ -1,9 +1,0 @@
-use Rattle.exam_rules.specs.Relations.{relations_of}
-use Rattle.exam_office.proofs.OwnEntered.{EnteredLeft}
-use Rattle.exam_office.proofs.own_source.entered_sessions.Given as goal
-
--- the sessions so far, and what is left
-abbrev pub invariant-loop-key : goal.invariant-loop-key
-invariant-loop-key l =
-    (goal.iterator-loop-key).can_next l.key-iterator × (goal.iterator-loop-key).is_finite l.key-iterator
-    × EnteredLeft (relations_of l.facts) l.number l.list.items l.key-iterator

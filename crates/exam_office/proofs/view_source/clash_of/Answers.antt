@@ -1,7 +1,0 @@
-use Rattle.std.proofs.Common.{ap, is_some, ◌∙◌}
-use Rattle.exam_rules.specs.Relations.{relations_of}
-use Rattle.exam_office.proofs.Members.{clash_sits}
-use Rattle.exam_office.proofs.view_source.clash_of.Goals as goal
-
-pub unwrap-requires : goal.unwrap-requires
-unwrap-requires c = ap is_some c.sitting.ensures ∙ clash_sits (relations_of c.args.facts.now) c.args.session.now c.args.pair c.requires

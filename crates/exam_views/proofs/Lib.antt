@@ -1,0 +1,4 @@
+pub mod Showing
+pub mod OwnSeats
+pub mod OwnRows
+pub mod OwnEntered

@@ -1,0 +1,11 @@
+use Rattle.std.proofs.Common.{◌≡◌, ◌++◌, map}
+use Rattle.exam_rules.specs.Relations.{relations_of}
+use Rattle.exam_commands.specs.Own.{own_sessions, shown_session}
+use Rattle.exam_views.proofs.OwnRows.{sessions_left}
+use Rattle.exam_views.proofs.own_source.sessions_among.Given as goal
+
+-- what is left makes of the sessions so far the whole
+abbrev pub invariant-loop-session : goal.invariant-loop-session
+invariant-loop-session l =
+    (goal.iterator-loop-session).can_next l.session-iterator × (goal.iterator-loop-session).is_finite l.session-iterator
+    × (map shown_session l.list.items ++ sessions_left (record { relations = relations_of l.facts; seats = l.seats.entries }) l.number l.session-iterator ≡ own_sessions (record { relations = relations_of l.facts; seats = l.seats.entries }) l.number)

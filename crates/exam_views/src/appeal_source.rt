@@ -1,0 +1,47 @@
+//! Appeals that come one by one.
+ghost use Rattle.std.specs.Prelude.{◌≡◌, List, IsTrue, IfOk, IfErr};
+ghost use Rattle.exam_views.specs.declared.view.AppealRow.{AppealRow as Row};
+ghost use Rattle.exam_views.specs.Sources.{Gives, is_source_refusal};
+
+use crate::view::AppealRow;
+use exam_types::Refusal;
+
+/// Appeals of a session that come one by one, so they need not all be in memory at once.
+pub trait AppealSource {
+    /// The rows to come.
+    ghost coming: { Self → List Row };
+
+    /// Whether what it reads from, such as a disk, has returned what was written, so far.
+    ghost IsHonest: { Self → Type 0 };
+
+    /// The next row, or none after the last one. The contract speaks of a source that is honest after the call.
+    fn next(&mut self) -> Result<Option<AppealRow>, Refusal>
+        ensures row { Self.IsHonest self.new → IfOk result (λ row.
+            Gives row (Self.coming self.old) (Self.coming self.new)) }
+        ensures honest { Self.IsHonest self.new → Self.IsHonest self.old }
+        ensures refusal { IfErr result (λ e. IsTrue (is_source_refusal e)) };
+}
+
+/// Rows in memory.
+#[derive(Drop)]
+pub struct ListedAppeals<'a> {
+    pub rows: &'a [AppealRow],
+}
+
+impl<'a> AppealSource for ListedAppeals<'a> {
+    ghost use Rattle.std.specs.Prelude.{⊤};
+
+    ghost coming = { λ s. s.rows.now };
+
+    ghost IsHonest = { λ s. ⊤ };
+
+    fn next(&mut self) -> Result<Option<AppealRow>, Refusal> {
+        match self.rows.split_first() {
+            Some((row, rest)) => {
+                self.rows = rest;
+                Ok(Some(*row))
+            }
+            None => Ok(None),
+        }
+    }
+}

@@ -1,0 +1,361 @@
+//! How the office makes what it shows of one candidate: from their own rows, and from the seats of their sessions.
+ghost use Rattle.std.specs.Prelude.{◌≡◌, ◌<◌, ◌≤◌, ℕ, Contains, Some, count_by, filter};
+ghost use Rattle.std.specs.Prelude.{length, map, ◌++◌, IfOk, IfErr, OnOk, IsSome, IsTrue};
+ghost use Rattle.std.specs.Option.{option_map};
+ghost use Rattle.std.specs.Ordering.{is_lt};
+ghost use Rattle.exam_types.specs.declared.refusal.Refusal.TheVariants.{NoMemory};
+ghost use Rattle.exam_plan.specs.Matching.{occupants};
+ghost use Rattle.exam_plan.specs.Problems.{most_members};
+ghost use Rattle.exam_rules.specs.Relations.{Code, relations_of, code_cmp, seat_cmp, row_at, same_code};
+ghost use Rattle.exam_rules.specs.Relations.{has_row};
+ghost use Rattle.exam_rules.specs.Lists.{AreListsOf, entrants};
+ghost use Rattle.exam_rules.specs.Orders.{KeysRise};
+ghost use Rattle.exam_rules.specs.Seatings.{seating, plan_of, stands_before, desk_cmp, desk_key};
+ghost use Rattle.exam_rules.specs.Sessions as sessions;
+ghost use Rattle.exam_commands.specs.Entered.{HoldsEntered, session_of_paper};
+ghost use Rattle.exam_commands.specs.Good.{IsGood};
+ghost use Rattle.exam_commands.specs.Headline.{desk_of};
+ghost use Rattle.exam_commands.specs.Own as spec;
+
+use exam_commands::{Own, OwnAppeal, OwnSession, Seats};
+use exam_rules::{
+    Appeal, Candidate, Entrant, Facts, Session, SessionLists, appeals_from, arrangement_in_force,
+    entries_from, finish, is_member, is_paper_of, sitting, sitting_among,
+};
+use exam_types::{HallCode, Number, PaperCode, Reference, Refusal, SessionCode};
+use std::alloc::Global;
+use std::collections::btree_map::Range;
+
+/// What the order of desks compares: the sitting paper, and then the number.
+type DeskKey = (Option<PaperCode>, Number);
+
+/// What a good office shows of the candidate with the number, or none. Takes no memory for an unknown number.
+pub fn own_of(
+    alloc: Global,
+    facts: &Facts,
+    lists: &SessionLists,
+    seats: &Seats,
+    number: Number,
+) -> Result<Option<Own>, Refusal>
+    requires lists { AreListsOf (relations_of facts.now) lists.now }
+    requires good { IsGood (record { relations = relations_of facts.now; seats = seats.now.entries }) }
+    ensures ok { IfOk result (λ own. option_map spec.shown own
+        ≡ spec.own_of (record { relations = relations_of facts.now; seats = seats.now.entries }) number) }
+    ensures memory { IfErr result (λ e. (e ≡ NoMemory) × IsSome
+        (spec.own_of (record { relations = relations_of facts.now; seats = seats.now.entries }) number)) }
+{
+    match facts.candidates.get(&number) {
+        Some(row) => Ok(Some(own_rows(alloc, facts, lists, seats, number, row)?)),
+        None => Ok(None),
+    }
+}
+
+fn own_rows(
+    alloc: Global,
+    facts: &Facts,
+    lists: &SessionLists,
+    seats: &Seats,
+    number: Number,
+    row: &Candidate,
+) -> Result<Own, Refusal>
+    requires lists { AreListsOf (relations_of facts.now) lists.now }
+    requires good { IsGood (record { relations = relations_of facts.now; seats = seats.now.entries }) }
+    ensures ok { IfOk result (λ own. spec.shown own
+        ≡ spec.own_rows (record { relations = relations_of facts.now; seats = seats.now.entries }) number
+        row.now) }
+    ensures memory { IfErr result (λ e. e ≡ NoMemory) }
+{
+    Ok(Own {
+        number,
+        name: row.name.copy()?,
+        code: row.code,
+        sessions: own_sessions(alloc, facts, lists, seats, number)?,
+        appeals: own_appeals(alloc, facts, number)?,
+    })
+}
+
+/// The sessions of which the candidate is a member, by code.
+fn own_sessions(
+    alloc: Global,
+    facts: &Facts,
+    lists: &SessionLists,
+    seats: &Seats,
+    number: Number,
+) -> Result<Vec<OwnSession>, Refusal>
+    requires lists { AreListsOf (relations_of facts.now) lists.now }
+    requires good { IsGood (record { relations = relations_of facts.now; seats = seats.now.entries }) }
+    ensures ok { IfOk result (λ sessions. map spec.shown_session sessions.items
+        ≡ spec.own_sessions (record { relations = relations_of facts.now; seats = seats.now.entries })
+        number) }
+    ensures memory { IfErr result (λ e. e ≡ NoMemory) }
+{
+    let entered = entered_sessions(alloc, facts, number)?;
+    sessions_among(alloc, facts, lists, seats, number, &entered)
+}
+
+/// The same, if the candidate is a member of no other sessions than these.
+fn sessions_among(
+    alloc: Global,
+    facts: &Facts,
+    lists: &SessionLists,
+    seats: &Seats,
+    number: Number,
+    entered: &[SessionCode],
+) -> Result<Vec<OwnSession>, Refusal>
+    requires lists { AreListsOf (relations_of facts.now) lists.now }
+    requires good { IsGood (record { relations = relations_of facts.now; seats = seats.now.entries }) }
+    requires entered { HoldsEntered (relations_of facts.now) number entered.now }
+    ensures ok { IfOk result (λ sessions. map spec.shown_session sessions.items
+        ≡ spec.own_sessions (record { relations = relations_of facts.now; seats = seats.now.entries })
+        number) }
+    ensures memory { IfErr result (λ e. e ≡ NoMemory) }
+{
+    let mut list = Vec::new(alloc);
+    for (session, row) in &facts.sessions {
+        if is_member_among(facts, entered, session, number) {
+            list.push(own_session(alloc, facts, lists, seats, number, session, row)?)?;
+        }
+    }
+    Ok(list)
+}
+
+/// The session as its member sees it.
+fn own_session(
+    alloc: Global,
+    facts: &Facts,
+    lists: &SessionLists,
+    seats: &Seats,
+    number: Number,
+    session: &SessionCode,
+    row: &Session,
+) -> Result<OwnSession, Refusal>
+    requires lists { AreListsOf (relations_of facts.now) lists.now }
+    requires good { IsGood (record { relations = relations_of facts.now; seats = seats.now.entries }) }
+    requires known { row_at code_cmp facts.now.sessions.entries session.now ≡ Some row.now }
+    requires member { Contains (sessions.members (relations_of facts.now) session.now) number }
+    ensures ok { IfOk result (λ own. spec.own_session
+        (record { relations = relations_of facts.now; seats = seats.now.entries }) number
+        (session.now, row.now) ≡ Some (spec.shown_session own)) }
+    ensures memory { IfErr result (λ e. e ≡ NoMemory) }
+{
+    let sat = sitting(facts, session, number).unwrap();
+    let papers = live_papers(alloc, facts, session, number)?;
+    let clashes = clash_papers(alloc, &papers, sat)?;
+    let hall = seats.get(&(*session, number)).copied();
+    let end = finish(facts, session, number).unwrap();
+    let arrangement = arrangement_in_force(facts, session, number);
+    let desk = desk(facts, lists, seats, session, number, &hall);
+    Ok(OwnSession {
+        session: *session,
+        day: row.day,
+        start: row.start,
+        papers,
+        sitting: sat,
+        clashes,
+        arrangement,
+        finish: end,
+        hall,
+        desk,
+    })
+}
+
+/// The number of the candidate's desk in the hall in which they sit, if they do.
+fn desk(
+    facts: &Facts,
+    lists: &SessionLists,
+    seats: &Seats,
+    session: &SessionCode,
+    number: Number,
+    hall: &Option<HallCode>,
+) -> Option<u32>
+    requires lists { AreListsOf (relations_of facts.now) lists.now }
+    requires good { IsGood (record { relations = relations_of facts.now; seats = seats.now.entries }) }
+    requires known { IsTrue (has_row code_cmp facts.now.sessions.entries session.now) }
+    requires somebody { 0 < length facts.now.candidates.entries }
+    requires hall { hall.now ≡ plan_of seats.now.entries session.now number }
+    ensures { result ≡ desk_of (record { relations = relations_of facts.now; seats = seats.now.entries })
+        session.now number }
+{
+    match hall {
+        Some(hall) => Some(standing_before(facts, lists, seats, session, number, hall) + 1),
+        None => None,
+    }
+}
+
+/// How many of those who sit in the hall come before the candidate in the order of desks.
+fn standing_before(
+    facts: &Facts,
+    lists: &SessionLists,
+    seats: &Seats,
+    session: &SessionCode,
+    number: Number,
+    hall: &HallCode,
+) -> u32
+    requires lists { AreListsOf (relations_of facts.now) lists.now }
+    requires good { IsGood (record { relations = relations_of facts.now; seats = seats.now.entries }) }
+    requires known { IsTrue (has_row code_cmp facts.now.sessions.entries session.now) }
+    requires somebody { 0 < length facts.now.candidates.entries }
+    ensures count { result ≡ count_by (λ d. stands_before (relations_of facts.now) session.now d number)
+        (occupants (seating (relations_of facts.now) session.now) (plan_of seats.now.entries session.now)
+        hall.now) }
+    ensures most { result ≤ most_members }
+{
+    // Only the proof needs that the tables rise.
+    facts.show_order();
+    let members = lists.members_of(session);
+    let own = (sitting_among(facts, members, session, number), number);
+    let mut count = 0;
+    for (key, other) in seats_of(facts, seats, session) {
+        if *hall == *other && is_before(facts, members, session, key.1, &own) {
+            count += 1;
+        }
+    }
+    count
+}
+
+/// Whether the candidate comes before this key in the order of desks.
+fn is_before(
+    facts: &Facts,
+    members: &[Entrant],
+    session: &SessionCode,
+    number: Number,
+    key: &DeskKey,
+) -> bool
+    requires { members.now ≡ entrants (relations_of facts.now) session.now }
+    ensures { result ≡ is_lt (desk_cmp (desk_key (relations_of facts.now) session.now number) key.now) }
+{
+    (sitting_among(facts, members, session, number), number) < *key
+}
+
+/// The seats of the session, numbers rising. Everybody who sits is a candidate, so the numbers are between those of the
+/// first and the last candidate.
+fn seats_of<'a>(
+    facts: &Facts,
+    seats: &'a Seats,
+    session: &SessionCode,
+) -> Range<'a, (SessionCode, Number), HallCode>
+    requires good { IsGood (record { relations = relations_of facts.now; seats = seats.now.entries }) }
+    requires somebody { 0 < length facts.now.candidates.entries }
+    ensures value { result ≡ filter (λ (seat : (Code × ℕ) × Code). same_code seat.0.0 session.now)
+        seats.now.entries }
+    ensures rising { KeysRise seat_cmp seats.now.entries }
+{
+    let (first, _) = facts.candidates.first_key_value().unwrap();
+    let (last, _) = facts.candidates.last_key_value().unwrap();
+    seats.range((*session, *first)..=(*session, *last))
+}
+
+/// The papers that are not the one that is sat.
+fn clash_papers(
+    alloc: Global,
+    papers: &[PaperCode],
+    sat: PaperCode,
+) -> Result<Vec<PaperCode>, Refusal>
+    ensures ok { IfOk result (λ clashes. clashes.items
+        ≡ filter (sessions.is_clash (Some sat)) papers.now) }
+    ensures memory { IfErr result (λ e. e ≡ NoMemory) }
+{
+    let clashes = papers
+        .iter()
+        .copied()
+        .filter(|paper| sat != *paper)
+        .collect(alloc)?;
+    Ok(clashes)
+}
+
+/// The candidate's live papers in the session, by code.
+fn live_papers(
+    alloc: Global,
+    facts: &Facts,
+    session: &SessionCode,
+    number: Number,
+) -> Result<Vec<PaperCode>, Refusal>
+    ensures ok { IfOk result (λ papers. papers.items
+        ≡ sessions.live_papers (relations_of facts.now) session.now number) }
+    ensures memory { IfErr result (λ e. e ≡ NoMemory) }
+{
+    let mut papers = Vec::new(alloc);
+    for (key, entry) in entries_from(facts, number) {
+        if key.0 != number {
+            break;
+        }
+        if entry.live && is_paper_of(facts, session, &key.1) {
+            papers.push(key.1)?;
+        }
+    }
+    Ok(papers)
+}
+
+/// The sessions of the candidate's live papers, so that other sessions need not be searched. A session may be listed
+/// more than once.
+fn entered_sessions(
+    alloc: Global,
+    facts: &Facts,
+    number: Number,
+) -> Result<Vec<SessionCode>, Refusal>
+    ensures ok { IfOk result (λ list. HoldsEntered (relations_of facts.now) number list.items) }
+    ensures memory { IfErr result (λ e. e ≡ NoMemory) }
+{
+    let mut list = Vec::new(alloc);
+    for (key, entry) in entries_from(facts, number) {
+        if key.0 != number {
+            break;
+        }
+        if entry.live {
+            push_session(facts, &key.1, &mut list)?;
+        }
+    }
+    Ok(list)
+}
+
+/// Appends the session of a paper, if there is such a paper.
+fn push_session(
+    facts: &Facts,
+    paper: &PaperCode,
+    list: &mut Vec<SessionCode>,
+) -> Result<(), Refusal>
+    ensures ok { OnOk result (list.new.items
+        ≡ list.old.items ++ session_of_paper (relations_of facts.now) paper.now) }
+    ensures memory { IfErr result (λ e. e ≡ NoMemory) }
+{
+    if let Some(row) = facts.papers.get(paper) {
+        list.push(row.session)?;
+    }
+    Ok(())
+}
+
+/// Whether the candidate is a member of the session, if they are a member of no other sessions than these.
+fn is_member_among(
+    facts: &Facts,
+    entered: &[SessionCode],
+    session: &SessionCode,
+    number: Number,
+) -> bool
+    requires { HoldsEntered (relations_of facts.now) number entered.now }
+    ensures value { result ≡ sessions.is_member (relations_of facts.now) session.now number }
+    ensures listed { IsTrue result → Contains (sessions.members (relations_of facts.now) session.now) number }
+{
+    if !entered.contains(session) {
+        return false;
+    }
+    is_member(facts, session, number)
+}
+
+/// The candidate's appeals, by reference.
+fn own_appeals(alloc: Global, facts: &Facts, number: Number) -> Result<Vec<OwnAppeal>, Refusal>
+    ensures ok { IfOk result (λ appeals. appeals.items ≡ spec.own_appeals (relations_of facts.now) number) }
+    ensures memory { IfErr result (λ e. e ≡ NoMemory) }
+{
+    let mut appeals = Vec::new(alloc);
+    for (key, appeal) in appeals_from(facts, number) {
+        if key.0 != number {
+            break;
+        }
+        appeals.push(OwnAppeal {
+            reference: key.1,
+            appeal: appeal.clone()?,
+            standing: facts.standing.contains_key(key),
+        })?;
+    }
+    Ok(appeals)
+}
