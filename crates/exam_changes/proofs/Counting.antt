@@ -7,7 +7,7 @@ use Rattle.std.proofs.lemmas.List.Folds.{list_any-append}
 use Rattle.std.specs.List.{list_any, position_from}
 use Rattle.std.specs.Option.{option_map_or}
 use Rattle.exam_rules.specs.Relations.{Relations}
-use Rattle.exam_changes.specs.declared.changes.Counts.{Counts}
+use Rattle.exam_changes.specs.declared.importing.Counts.{Counts}
 use Rattle.exam_commands.specs.declared.command.Reply.TheVariants as reply
 use Rattle.exam_commands.specs.declared.import_row.Row.{Row}
 use Rattle.exam_commands.specs.Imports.{distinct_rows, has_key, key_of, place_of}

@@ -2,10 +2,10 @@
 #![tactic(auto)]
 
 mod before;
-mod changes;
 mod closing;
 mod deciding;
 mod entries;
+mod importing;
 mod kept;
 mod lodging;
 mod moves;
@@ -15,10 +15,10 @@ mod undo;
 mod unknown;
 
 pub use before::{Before, PlansBefore, TablesBefore};
-pub use changes::import_rows;
 pub use closing::close;
 pub use deciding::{decide, decided_reply, newly_decided};
 pub use entries::{reinstate, withdraw};
+pub use importing::import_rows;
 pub use lodging::lodge;
 pub use retracting::retract;
 pub use undo::Undo;

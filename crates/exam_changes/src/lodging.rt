@@ -35,9 +35,9 @@ pub fn lodge(
     ensures back { IfOk result (λ undo.
         undoing.TakesBack undo (relations_of facts.new) (relations_of facts.old)) }
     ensures checked { OnOk result
-        (spec.standing_refusal (relations_of facts.old) seats.now.entries today lodging.now ≡ None) }
+        (spec.lodging_refusal_but_limits (relations_of facts.old) seats.now.entries today lodging.now ≡ None) }
     ensures refusal { IfErr result (λ e. (e ≡ NoMemory)
-        ⊎ (spec.standing_refusal (relations_of facts.old) seats.now.entries today lodging.now ≡ Some e)) }
+        ⊎ (spec.lodging_refusal_but_limits (relations_of facts.old) seats.now.entries today lodging.now ≡ Some e)) }
     ensures same { OnErr result (relations_of facts.new ≡ relations_of facts.old) }
 {
     check_lodging(facts, seats, today, lodging)?;
@@ -77,7 +77,7 @@ fn store(facts: &mut Facts, today: Day, lodging: &Lodging) -> Result<Undo, Refus
 
 fn check_lodging(facts: &Facts, seats: &Seats, today: Day, lodging: &Lodging) -> Result<(), Refusal>
     ensures { result_err result
-        ≡ spec.standing_refusal (relations_of facts.now) seats.now.entries today lodging.now }
+        ≡ spec.lodging_refusal_but_limits (relations_of facts.now) seats.now.entries today lodging.now }
 {
     check_candidate(facts, &lodging.number)?;
     match facts.appeals.get(&(lodging.number, lodging.reference)) {
@@ -116,7 +116,7 @@ fn check_new(facts: &Facts, seats: &Seats, today: Day, lodging: &Lodging) -> Res
 fn check_asked(facts: &Facts, seats: &Seats, lodging: &Lodging) -> Result<(), Refusal>
     ensures { result_err result ≡ first_refusal (spec.subject_checks (relations_of facts.now)
         seats.now.entries lodging.now.session lodging.now.number lodging.now.subject
-        ++ spec.appeal_stands (relations_of facts.now) lodging.now ∷ []) }
+        ++ spec.appeal_is_open (relations_of facts.now) lodging.now ∷ []) }
 {
     check_subject(facts, seats, lodging)?;
     check_open(facts, lodging)
@@ -125,10 +125,10 @@ fn check_asked(facts: &Facts, seats: &Seats, lodging: &Lodging) -> Result<(), Re
 /// Refused if there is already an open appeal of the kind.
 fn check_open(facts: &Facts, lodging: &Lodging) -> Result<(), Refusal>
     ensures { result_err result
-        ≡ first_refusal (spec.appeal_stands (relations_of facts.now) lodging.now ∷ []) }
+        ≡ first_refusal (spec.appeal_is_open (relations_of facts.now) lodging.now ∷ []) }
 {
     if has_open_appeal(facts, lodging.number, &lodging.session, &lodging.subject) {
-        return Err(Refusal::AppealStands);
+        return Err(Refusal::AppealIsOpen);
     }
     Ok(())
 }

@@ -7,11 +7,11 @@ use Rattle.sqlite.specs.State.{State, IsUnchanged}
 use Rattle.exam_types.specs.declared.refusal.Refusal.{Refusal}
 use Rattle.exam_types.specs.declared.refusal.Refusal.TheVariants.{NoMemory, BadStore}
 use Rattle.exam_commands.specs.declared.table.Table.{Table as OfficeTable}
-use Rattle.exam_rows.specs.Forms.{Form}
-use Rattle.exam_rows.specs.Held.{HasTable}
-use Rattle.exam_rows.specs.Inside.{Contains}
-use Rattle.exam_tables.specs.Texts.{load_office, load_texts}
-use Rattle.exam_rows.specs.Loaded.{AreUnderstood, IsUnderstood}
+use Rattle.exam_tables.specs.Forms.{Form}
+use Rattle.exam_tables.specs.Held.{HasTable}
+use Rattle.exam_tables.specs.Inside.{Contains}
+use Rattle.exam_sql.specs.Texts.{load_office, load_texts}
+use Rattle.exam_tables.specs.Loaded.{AreUnderstood, IsUnderstood}
 use Rattle.exam_check.specs.FirstBad.{first_unread}
 use Rattle.exam_check.specs.Reading.{IsReadAs, read_part, table_texts}
 

@@ -24,15 +24,15 @@ use Rattle.exam_types.specs.declared.refusal.Refusal.TheVariants.{NoMemory, Stor
 use Rattle.exam_commands.specs.Good.{IsGood, IsTableGood, tables}
 use Rattle.exam_commands.specs.State.{State}
 use Rattle.exam_commands.specs.declared.table.Table.{Table as OfficeTable}
-use Rattle.exam_tables.specs.Content.{ContainsIn}
-use Rattle.exam_tables.specs.Made.{ContainsMade, made_schema}
-use Rattle.exam_tables.specs.Tables.{first_schema, store_schema}
-use Rattle.exam_tables.specs.Texts.{load_standing}
-use Rattle.exam_rows.specs.Faults.{refusal_of}
-use Rattle.exam_rows.specs.Inside.{Contains}
-use Rattle.exam_rows.specs.Loaded.{IsUnderstood}
-use Rattle.exam_rows.specs.Versions.{HasVersion, version, version_row}
-use Rattle.exam_rows.proofs.Versioned.{version_held}
+use Rattle.exam_sql.specs.Content.{ContainsIn}
+use Rattle.exam_sql.specs.Made.{ContainsMade, made_schema}
+use Rattle.exam_sql.specs.Tables.{first_schema, store_schema}
+use Rattle.exam_sql.specs.Texts.{load_standing}
+use Rattle.exam_tables.specs.Faults.{refusal_of}
+use Rattle.exam_tables.specs.Inside.{Contains}
+use Rattle.exam_tables.specs.Loaded.{IsUnderstood}
+use Rattle.exam_tables.specs.Versions.{HasVersion, version, version_row}
+use Rattle.exam_tables.proofs.Versioned.{version_held}
 use Rattle.exam_store.specs.Found.{Finds, FailsToOpen, HoldsGood}
 use Rattle.exam_store.specs.Refused.{HoldsFormed, HoldsNone, IsGoodIn}
 use Rattle.exam_store.proofs.Marking.{no_older, of_newest, one_version}

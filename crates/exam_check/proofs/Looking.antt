@@ -10,14 +10,14 @@ use Rattle.sqlite.specs.State.{HasCleanDisk, IsUnchanged, Survives}
 use Rattle.sqlite.proofs.Callers.{unchanged_then}
 use Rattle.exam_types.specs.declared.refusal.Refusal.{Refusal}
 use Rattle.exam_types.specs.declared.refusal.Refusal.TheVariants.{NoMemory, Store, BadStore, OldSchema}
-use Rattle.exam_tables.specs.Made.{ContainsMade}
-use Rattle.exam_tables.specs.Texts.{load_office, load_texts}
-use Rattle.exam_rows.specs.Faults.{is_store_refusal}
-use Rattle.exam_rows.specs.Inside.{Contains}
-use Rattle.exam_rows.specs.Loaded.{FailsToLoad, FailsToLoadFrom, IsLoadRefusal, OnlyReads, Told}
-use Rattle.exam_rows.specs.Versions.{HasVersion, IsOlder, IsVersion, version}
-use Rattle.exam_rows.proofs.Leaving.{bad_unchanged, both_survive, reads_only, still_itself, still_then, then_reads}
-use Rattle.exam_rows.specs.OurTables.{office_loads}
+use Rattle.exam_sql.specs.Made.{ContainsMade}
+use Rattle.exam_sql.specs.Texts.{load_office, load_texts}
+use Rattle.exam_tables.specs.Faults.{is_store_refusal}
+use Rattle.exam_tables.specs.Inside.{Contains}
+use Rattle.exam_tables.specs.Loaded.{FailsToLoad, FailsToLoadFrom, IsLoadRefusal, OnlyReads, Told}
+use Rattle.exam_tables.specs.Versions.{HasVersion, IsOlder, IsVersion, version}
+use Rattle.exam_tables.proofs.Leaving.{bad_unchanged, both_survive, reads_only, still_itself, still_then, then_reads}
+use Rattle.exam_tables.specs.OurTables.{office_loads}
 use Rattle.exam_store.proofs.Marking.{made_of, opens_as}
 use Rattle.exam_check.specs.FirstBad.{HasGoodVersion}
 use Rattle.exam_check.specs.Reading.{Looks}

@@ -6,9 +6,9 @@ use Rattle.exam_commands.specs.Good.{IsTableGood, tables}
 use Rattle.exam_commands.specs.State.{State}
 use Rattle.exam_commands.specs.declared.table.Table.{Table as OfficeTable}
 use Rattle.exam_commands.specs.declared.table.Table.TheVariants as office
-use Rattle.exam_rows.specs.Forms as forms
-use Rattle.exam_rows.specs.Held.{HasTable}
-use Rattle.exam_rows.specs.Versions.{ContainsOf, HasVersion, version}
+use Rattle.exam_tables.specs.Forms as forms
+use Rattle.exam_tables.specs.Held.{HasTable}
+use Rattle.exam_tables.specs.Versions.{ContainsOf, HasVersion, version}
 use Rattle.exam_check.specs.declared.tables.Table.{Table}
 use Rattle.exam_check.specs.declared.tables.Table.TheVariants as table
 

@@ -12,11 +12,11 @@ use Rattle.exam_types.specs.declared.refusal.Refusal.TheVariants.{BadStore}
 use Rattle.exam_rules.specs.Relations.{relations_of}
 use Rattle.exam_commands.specs.State.{State as Office}
 use Rattle.exam_commands.specs.declared.table.Table.{Table as OfficeTable}
-use Rattle.exam_rows.specs.Forms as forms
-use Rattle.exam_rows.specs.Forms.{Form}
-use Rattle.exam_rows.specs.Inside.{Contains}
-use Rattle.exam_rows.specs.Loaded.{HoldsTable, IsUnderstood, OnlyReads}
-use Rattle.exam_rows.specs.Parts.{Part}
+use Rattle.exam_tables.specs.Forms as forms
+use Rattle.exam_tables.specs.Forms.{Form}
+use Rattle.exam_tables.specs.Inside.{Contains}
+use Rattle.exam_tables.specs.Loaded.{HoldsTable, IsUnderstood, OnlyReads}
+use Rattle.exam_tables.specs.Parts.{Part}
 use Rattle.exam_store.specs.Found.{is_open_refusal}
 use Rattle.exam_check.specs.FirstBad.{HasGoodVersion, HoldsNoTable, HoldsTableOf, first_unread}
 use Rattle.exam_check.specs.Refused.{FailsToCheck}

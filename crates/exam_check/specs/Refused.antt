@@ -4,7 +4,7 @@ use Rattle.sqlite_trees.specs.declared.store.Store.{Ghosts}
 use Rattle.sqlite.specs.Held.{Held, state}
 use Rattle.exam_types.specs.declared.refusal.Refusal.{Refusal}
 use Rattle.exam_types.specs.declared.refusal.Refusal.TheVariants.{NoMemory, Store, OldSchema}
-use Rattle.exam_rows.specs.Loaded.{FailsThen}
+use Rattle.exam_tables.specs.Loaded.{FailsThen}
 use Rattle.exam_store.specs.Found.{FindsOld}
 
 -- Memory ran out, or the query of a table failed while the database was as before, or the version row is that of an

@@ -8,8 +8,8 @@ ghost use Rattle.exam_types.specs.declared.refusal.Refusal.{Refusal};
 ghost use Rattle.exam_types.specs.declared.refusal.Refusal.TheVariants as refusal;
 ghost use Rattle.exam_commands.specs.Good.{IsGood};
 ghost use Rattle.exam_commands.specs.State.{State};
-ghost use Rattle.exam_tables.specs.Made.{ContainsMade};
-ghost use Rattle.exam_rows.specs.Versions.{version};
+ghost use Rattle.exam_sql.specs.Made.{ContainsMade};
+ghost use Rattle.exam_tables.specs.Versions.{version};
 ghost use Rattle.exam_store.specs.Found.{FailsToOpen, Finds, HoldsGood};
 ghost use Rattle.exam_check.specs.FirstBad.{IsFirstBadTable};
 

@@ -3,20 +3,20 @@ ghost use Rattle.std.specs.Prelude.{◌≡◌, IfOk, OnOk, MatchOption};
 ghost use Rattle.sqlite.specs.Held.{state};
 ghost use Rattle.sqlite.specs.State.{HasCleanDisk};
 ghost use Rattle.exam_commands.specs.Good.{tables};
-ghost use Rattle.exam_rows.specs.Forms as forms;
-ghost use Rattle.exam_rows.specs.Inside.{Contains};
-ghost use Rattle.exam_rows.specs.Loaded.{AreUnderstood};
-ghost use Rattle.exam_rows.specs.Parts.{Part, then_part};
+ghost use Rattle.exam_tables.specs.Forms as forms;
+ghost use Rattle.exam_tables.specs.Inside.{Contains};
+ghost use Rattle.exam_tables.specs.Loaded.{AreUnderstood};
+ghost use Rattle.exam_tables.specs.Parts.{Part, then_part};
 ghost use Rattle.exam_check.specs.FirstBad.{first_unread};
 ghost use Rattle.exam_check.specs.Reading as spec;
 
 use crate::tables::first_unread;
 use exam_office::{Seats as Plans, Table as OfficeTable};
-use exam_rows::{
-    Appeals, Arrangements, Candidates, Entries, Halls, Openings, Papers, Seats, Sessions, Standing,
-    StoredRows, read_rows,
-};
 use exam_rules::Facts;
+use exam_tables::{
+    AppealTable, ArrangementTable, CandidateTable, EntryTable, HallTable, OpeningTable, PaperTable,
+    SeatTable, SessionTable, StandingTable, StoredRows, read_rows,
+};
 use exam_types::{HallCode, Number, Refusal, SessionCode};
 use sqlite::{Alter, Connection};
 use std::alloc::Global;
@@ -73,16 +73,19 @@ pub fn read_tables<S: Alter>(alloc: Global, conn: &mut Connection<S>) -> Result<
 
 /// The tables of an office.
 type OfficeTables = (
-    Sessions,
+    SessionTable,
     (
-        Papers,
+        PaperTable,
         (
-            Halls,
+            HallTable,
             (
-                Openings,
+                OpeningTable,
                 (
-                    Candidates,
-                    (Entries, (Arrangements, (Appeals, (Standing, Seats)))),
+                    CandidateTable,
+                    (
+                        EntryTable,
+                        (ArrangementTable, (AppealTable, (StandingTable, SeatTable))),
+                    ),
                 ),
             ),
         ),
@@ -139,7 +142,7 @@ impl<T: StoredRows, M: Reads> Reads for (T, M) {
 }
 
 /// The last table.
-impl Reads for Seats {
+impl Reads for SeatTable {
     type Rows = Option<BTreeMap<(SessionCode, Number), HallCode>>;
 
     ghost part = { spec.read_part forms.seats.cmp forms.seats };
@@ -148,7 +151,7 @@ impl Reads for Seats {
         alloc: Global,
         conn: &mut Connection<S>,
     ) -> Result<Option<BTreeMap<(SessionCode, Number), HallCode>>, Refusal> {
-        read_table::<Seats, S>(alloc, conn)
+        read_table::<SeatTable, S>(alloc, conn)
     }
 }
 

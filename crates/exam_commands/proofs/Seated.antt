@@ -6,7 +6,7 @@ use Rattle.exam_plan.specs.Matching.{IsLawful, occupants}
 use Rattle.exam_rules.specs.Orders.{AreInOrder}
 use Rattle.exam_rules.specs.Relations.{Code, code_cmp, has_row}
 use Rattle.exam_rules.specs.Sessions.{members}
-use Rattle.exam_rules.specs.Seatings.{seating, plan_of, fits, stands_before}
+use Rattle.exam_rules.specs.Seatings.{seating, plan_of, fits, comes_before}
 use Rattle.exam_rules.proofs.InOrder.{lists_rise}
 use Rattle.exam_rules.proofs.NamedDesks.{desk_within, desk_apart}
 use Rattle.exam_commands.specs.Good.{IsGood}
@@ -24,11 +24,11 @@ module _ (office : State) (s : Code) (good : IsGood office) (up : AreInOrder off
 
   -- who sit before c in the hall
   before : ℕ → Code → ℕ
-  before c h = count_by (λ d. stands_before office.relations s d c) (occupants (seating office.relations s) (plan_of office.seats s) h)
+  before c h = count_by (λ d. comes_before office.relations s d c) (occupants (seating office.relations s) (plan_of office.seats s) h)
 
   desk : (c : ℕ) (h : Code) → plan_of office.seats s c ≡ Some h → desk_of office s c ≡ Some (before c h + 1)
   unfolding before
-  desk c h e = ap (option_map (λ k. count_by (λ d. stands_before office.relations s d c) (occupants (seating office.relations s) (plan_of office.seats s) k) + 1)) e
+  desk c h e = ap (option_map (λ k. count_by (λ d. comes_before office.relations s d c) (occupants (seating office.relations s) (plan_of office.seats s) k) + 1)) e
 
   -- nobody sits in a session that is not there
   few : (c : ℕ) (h : Code) → plan_of office.seats s c ≡ Some h → length (members office.relations s) ≤ most_members

@@ -5,7 +5,7 @@ use Rattle.std.proofs.Math.Path.{fun_ext}
 use Rattle.exam_plan.specs.Matching.{Seating, Plan, SamePlan, IsBest}
 use Rattle.exam_plan.specs.Chains.{augmented, seated}
 use Rattle.exam_plan.specs.Repair.{kept_part, sweep_order, TurnFrom, Sweeps, IsRepair}
-use Rattle.exam_plan.proofs.LawLemmas.{best_repaired, best_stands}
+use Rattle.exam_plan.proofs.LawLemmas.{best_repaired, best_is_repair}
 use Rattle.exam_rules.specs.Relations.{Code, Relations}
 use Rattle.exam_rules.specs.Seatings.{indexed_seating, seating, problem_of}
 use Rattle.exam_rules.specs.Names.{naming, ListsRise, index_of, named_plan, indexed_plan}
@@ -29,7 +29,7 @@ best_is_repaired r s up first plan best =
     let indexed : IsBest (indexed_seating r s) (indexed_plan r s plan) = IsBest-indexed (naming r s) (renames r s up) plan best in
     subst (IsRepair (seating r s) first plan) (fun_ext (name_of_index (naming r s) (renames r s up) (follows r s up) plan best.lawful))
     (IsRepair-named (naming r s) (renames r s up) (follows r s up) first plan (indexed_plan r s plan)
-    (best_stands (problem_of r s) (option_and_then (index_of r s) first) (indexed_plan r s plan) indexed))
+    (best_is_repair (problem_of r s) (option_and_then (index_of r s) first) (indexed_plan r s plan) indexed))
 
 -- ---- nobody is put out by a sweep
 

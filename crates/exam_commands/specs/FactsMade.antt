@@ -8,7 +8,7 @@ use Rattle.exam_commands.specs.declared.command.Command.TheVariants as command
 use Rattle.exam_commands.specs.Changes.{closing_refusal, revival_refusal, rows_refusal, with_live, with_rows, without_opening, withdrawal_refusal}
 use Rattle.exam_commands.specs.Decisions.{decision_refusal, with_decision}
 use Rattle.exam_commands.specs.Good.{IsGood}
-use Rattle.exam_commands.specs.Lodgings.{retraction_refusal, standing_refusal, with_lodging, with_retraction}
+use Rattle.exam_commands.specs.Lodgings.{retraction_refusal, lodging_refusal_but_limits, with_lodging, with_retraction}
 use Rattle.exam_commands.specs.State.{State}
 
 -- the refusal by the checks on the facts and the plans as they are
@@ -17,7 +17,7 @@ early_refusal (command.Import import) today before = rows_refusal before.relatio
 early_refusal (command.Withdraw c p) today before = withdrawal_refusal before.relations c p
 early_refusal (command.Reinstate c p) today before = revival_refusal before.relations c p
 early_refusal (command.CloseHall s h) today before = closing_refusal before.relations s h
-early_refusal (command.Lodge l) today before = standing_refusal before.relations before.seats today l
+early_refusal (command.Lodge l) today before = lodging_refusal_but_limits before.relations before.seats today l
 early_refusal (command.Retract c reference) today before = retraction_refusal before.relations c reference
 early_refusal (command.Decide d) today before = decision_refusal before.relations today d
 

@@ -60,8 +60,8 @@ abbrev pub may_bear : Appeal → Bool
 may_bear a = is_some (asked_arrangement a.subject) && was_granted a.status
 
 -- the appeal of each mark exists and may bear it
-abbrev pub marks_stand : Relations → Bool
-marks_stand r = list_all (λ m. option_map_or may_bear (row_at appeal_cmp r.appeals m.0) false) r.standing
+abbrev pub marks_were_granted : Relations → Bool
+marks_were_granted r = list_all (λ m. option_map_or may_bear (row_at appeal_cmp r.appeals m.0) false) r.standing
 
 abbrev pub refers : Relations → Bool
 refers r =
@@ -74,7 +74,7 @@ pub record IsGood (office : State) : Type 0 where
   pub refer : IsTrue (refers office.relations)
   pub limits : IsTrue (within_limits office.relations)
   pub single : AreSingle office.relations
-  pub marks : IsTrue (marks_stand office.relations)
+  pub marks : IsTrue (marks_were_granted office.relations)
   pub best : (s : Code) → IsBest (seating office.relations s) (plan_of office.seats s)
 
 -- ---- by tables
@@ -95,7 +95,7 @@ IsTableGood office table.Arrangements = IsTrue (arrangements_refer office.relati
 IsTableGood office table.Appeals =
     IsTrue (limits.appeals_within office.relations && appeals_refer office.relations)
     × AreSingle office.relations
-IsTableGood office table.Standing = IsTrue (marks_stand office.relations)
+IsTableGood office table.Standing = IsTrue (marks_were_granted office.relations)
 IsTableGood office table.Seats = (s : Code) → IsBest (seating office.relations s) (plan_of office.seats s)
 
 -- the tables in the order in which they are checked

@@ -3,13 +3,13 @@ use Rattle.std.specs.Prelude.{◌≡◌, ℕ, ◌≤◌, Contains, IsTrue, Optio
 use Rattle.exam_plan.specs.Matching.{Plan, IsLawful, desk_number, size}
 use Rattle.exam_rules.specs.Relations.{Code}
 use Rattle.exam_rules.specs.Sessions.{members}
-use Rattle.exam_rules.specs.Seatings.{seating, plan_of, fits, desks, stands_before}
+use Rattle.exam_rules.specs.Seatings.{seating, plan_of, fits, desks, comes_before}
 use Rattle.exam_commands.specs.State.{State}
 
 -- the number of the candidate's desk, if they are seated
 abbrev pub desk_of : State → Code → ℕ → Option ℕ
 desk_of office s c =
-    desk_number (seating office.relations s) (stands_before office.relations s) (plan_of office.seats s) c
+    desk_number (seating office.relations s) (comes_before office.relations s) (plan_of office.seats s) c
 
 -- Everybody who sits is a member, and sits alone at a desk of a hall that fits them. No lawful plan seats more.
 pub record IsSeated (office : State) (s : Code) : Type 0 where

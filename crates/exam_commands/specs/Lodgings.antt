@@ -69,8 +69,8 @@ abbrev pub other_appeal : Lodging → Appeal → Bool × Refusal
 other_appeal l a = (not (is_same_lodging l a), refusal.RefTaken)
 
 -- there is an open appeal of this kind
-abbrev pub appeal_stands : Relations → Lodging → Bool × Refusal
-appeal_stands r l = (has_open_appeal r l.number l.session l.subject, refusal.AppealStands)
+abbrev pub appeal_is_open : Relations → Lodging → Bool × Refusal
+appeal_is_open r l = (has_open_appeal r l.number l.session l.subject, refusal.AppealIsOpen)
 
 -- the checks of an appeal; against the appeal that is stored under its reference, if one is
 abbrev pub lodging_checks : Relations → Seats → ℕ → Lodging → Option Appeal → List (Bool × Refusal)
@@ -79,7 +79,7 @@ lodging_checks r seats today l None =
     not_member r l.session l.number
     ∷ past_closing r l.session l.subject today
     ∷ subject_checks r seats l.session l.number l.subject
-    ++ appeal_stands r l
+    ++ appeal_is_open r l
     ∷ []
 
 -- with the open appeal, lodged on the day
@@ -107,14 +107,14 @@ one_too_many r today l = (
 )
 
 -- the refusal by the checks on the facts as they are
-abbrev pub standing_refusal : Relations → Seats → ℕ → Lodging → Option Refusal
-standing_refusal r seats today l =
+abbrev pub lodging_refusal_but_limits : Relations → Seats → ℕ → Lodging → Option Refusal
+lodging_refusal_but_limits r seats today l =
     first_refusal (no_candidate r l.number
     ∷ lodging_checks r seats today l (appeal_at r l.number l.reference))
 
 abbrev pub lodging_refusal : Relations → Seats → ℕ → Lodging → Option Refusal
 lodging_refusal r seats today l =
-    option_or (standing_refusal r seats today l) (first_refusal (one_too_many r today l ∷ []))
+    option_or (lodging_refusal_but_limits r seats today l) (first_refusal (one_too_many r today l ∷ []))
 
 abbrev pub lodged : Relations → Seats → ℕ → Lodging → Result Relations Refusal
 lodged r seats today l = unless (lodging_refusal r seats today l) (with_lodging r today l)

@@ -16,7 +16,7 @@ use Rattle.exam_types.specs.declared.refusal.Refusal.TheVariants.{HallNotOpened,
 use Rattle.exam_rules.specs.declared.rows.Opening.{Opening}
 use Rattle.exam_rules.specs.Orders.{AreInOrder}
 use Rattle.exam_rules.specs.Relations.{Code, opening_cmp, row_at, same_code}
-use Rattle.exam_rules.specs.Seatings.{desks, plan_of, rank, stands_before}
+use Rattle.exam_rules.specs.Seatings.{desks, plan_of, rank, comes_before}
 use Rattle.exam_rules.specs.Sessions.{members}
 use Rattle.exam_rules.proofs.InOrder.{lists_rise}
 use Rattle.exam_rules.proofs.Naming.{same_code_exact, same_code_itself}
@@ -130,12 +130,12 @@ module _ (office : State) (s h : Code) (good : IsGood office) (up : AreInOrder o
       let r = office.relations in
       let member : Contains (members r s) c = seated.member c h e in
       let known = listed (members r s) c member in
-      let alone : stands_before r s c c ≡ false = order_is_rank r s c c known known ∙ le-ltb (rank r s c) (rank r s c) (omega arith) in
+      let alone : comes_before r s c c ≡ false = order_is_rank r s c c known known ∙ le-ltb (rank r s c) (rank r s c) (omega arith) in
       let kept : sits c ≡ true = ap (is_there h) e ∙ same_code_itself h in
-      let less = fewer (λ d. stands_before r s d c) sits (members r s) member.0 c member.1 (ap sits member.2 ∙ kept) (ap (λ d. stands_before r s d c) member.2 ∙ alone) in
-      let counted : Some (count_by (λ d. stands_before r s d c) (filter sits (members r s)) + 1) ≡ Some n
-      = sym (ap (option_map (λ k. count_by (λ d. stands_before r s d c) (filter (λ d. is_there k (hall_at d)) (members r s)) + 1)) e) ∙ is in
-      let same : count_by (λ d. stands_before r s d c) (filter sits (members r s)) + 1 ≡ n = cc in
+      let less = fewer (λ d. comes_before r s d c) sits (members r s) member.0 c member.1 (ap sits member.2 ∙ kept) (ap (λ d. comes_before r s d c) member.2 ∙ alone) in
+      let counted : Some (count_by (λ d. comes_before r s d c) (filter sits (members r s)) + 1) ≡ Some n
+      = sym (ap (option_map (λ k. count_by (λ d. comes_before r s d c) (filter (λ d. is_there k (hall_at d)) (members r s)) + 1)) e) ∙ is in
+      let same : count_by (λ d. comes_before r s d c) (filter sits (members r s)) + 1 ≡ n = cc in
       omega (arith, less, same)
 
   -- as many seats as members are in the hall

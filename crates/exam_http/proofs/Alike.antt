@@ -16,7 +16,7 @@ use Rattle.exam_commands.specs.Steps.{Step}
 use Rattle.exam_laws.proofs.OwnLodging.{same_lodging_answer}
 use Rattle.exam_laws.proofs.OwnRetracting.{same_retraction_answer}
 use Rattle.exam_store.specs.Applied.{MayApply}
-use Rattle.exam_rows.specs.Faults.{is_store_refusal}
+use Rattle.exam_tables.specs.Faults.{is_store_refusal}
 use Rattle.exam_store.specs.Stores.{OfficeIn}
 use Rattle.exam_request.specs.Answer.{Told, ok_told, refusal_told}
 use Rattle.exam_request.specs.Asked.{Request}

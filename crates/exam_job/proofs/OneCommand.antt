@@ -6,7 +6,7 @@ use Rattle.sqlite_trees.specs.declared.store.Store.{Ghosts}
 use Rattle.exam_types.specs.declared.refusal.Refusal.{Refusal}
 use Rattle.exam_commands.specs.declared.command.Command.{Command}
 use Rattle.exam_commands.specs.declared.command.Reply.{Reply}
-use Rattle.exam_rows.specs.Transactions.{IsSound}
+use Rattle.exam_tables.specs.Transactions.{IsSound}
 use Rattle.exam_store.specs.Applied.{AreApplied, IsApplied}
 use Rattle.exam_store.specs.Kept.{Rekeeps}
 use Rattle.exam_store.specs.Stores.{OfficeIn}

@@ -14,10 +14,10 @@ use Rattle.exam_commands.specs.State.{State}
 use Rattle.exam_views.specs.Views.{appeal_row, appeals_of}
 use Rattle.exam_files.specs.OfficeSheets.{of_known, register_of}
 use Rattle.exam_files.specs.Registers.{appeal_line, register_heading, register_text}
-use Rattle.exam_rows.specs.declared.send_fault.SendFault.{SendFault}
-use Rattle.exam_rows.specs.declared.send_fault.SendFault.TheVariants as faults
-use Rattle.exam_rows.specs.Loaded.{OnlyReads}
-use Rattle.exam_rows.specs.Streamed.{appeals_in, is_send_fault, text_of}
+use Rattle.exam_tables.specs.declared.send_fault.SendFault.{SendFault}
+use Rattle.exam_tables.specs.declared.send_fault.SendFault.TheVariants as faults
+use Rattle.exam_tables.specs.Loaded.{OnlyReads}
+use Rattle.exam_tables.specs.Streamed.{appeals_in, is_send_fault, text_of}
 use Rattle.exam_job.specs.Printed.{Flushes, fault_of_send}
 use Rattle.exam_job.specs.Sheets.{Streams, is_break}
 use Rattle.exam_job.specs.declared.report.JobFault.{JobFault}

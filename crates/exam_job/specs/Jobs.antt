@@ -15,7 +15,7 @@ use Rattle.exam_line.specs.Lines as line
 use Rattle.exam_line.specs.declared.line.Sheet.TheVariants as sheet
 use Rattle.exam_send.specs.Given.{Gave}
 use Rattle.exam_store.specs.Applied.{IsApplied}
-use Rattle.exam_rows.specs.Transactions.{IsSound}
+use Rattle.exam_tables.specs.Transactions.{IsSound}
 use Rattle.exam_store.specs.Kept.{Rekeeps}
 use Rattle.exam_store.specs.Stores.{OfficeIn}
 use Rattle.exam_job.specs.Printed.{Prints, Reports, reply_text}

@@ -4,7 +4,7 @@ use Rattle.sqlite_trees.specs.declared.store.Store.{Ghosts}
 use Rattle.sqlite.specs.Held.{Held, state}
 use Rattle.sqlite.specs.State.{HasCleanDisk}
 use Rattle.exam_types.specs.declared.refusal.Refusal.{Refusal}
-use Rattle.exam_rows.specs.Transactions.{Commits}
+use Rattle.exam_tables.specs.Transactions.{Commits}
 use Rattle.exam_store.specs.Found.{FailsToMigrate}
 use Rattle.exam_store.specs.Kept as store
 use Rattle.exam_job.specs.Printed.{Prints, migration_text}

@@ -15,8 +15,8 @@ use Rattle.exam_files.specs.declared.sheet_fault.SheetFault.{SheetFault}
 use Rattle.exam_files.specs.declared.sheet_fault.SheetFault.TheVariants as sheet
 use Rattle.exam_line.specs.declared.line.LineFault.{LineFault}
 use Rattle.exam_line.specs.declared.line.LineFault.TheVariants as line
-use Rattle.exam_rows.specs.declared.send_fault.SendFault.{SendFault}
-use Rattle.exam_rows.specs.declared.send_fault.SendFault.TheVariants as sent
+use Rattle.exam_tables.specs.declared.send_fault.SendFault.{SendFault}
+use Rattle.exam_tables.specs.declared.send_fault.SendFault.TheVariants as sent
 use Rattle.exam_send.specs.Sending.{AppendsBeginning, AppendsPart}
 use Rattle.exam_job.specs.declared.report.JobFault.{JobFault}
 use Rattle.exam_job.specs.declared.report.JobFault.TheVariants as fault

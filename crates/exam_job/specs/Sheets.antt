@@ -19,7 +19,7 @@ use Rattle.exam_files.specs.Registers.{appeal_register}
 use Rattle.exam_files.specs.Shortages.{shortage_text}
 use Rattle.exam_line.specs.declared.line.Sheet.{Sheet}
 use Rattle.exam_line.specs.declared.line.Sheet.TheVariants as sheet
-use Rattle.exam_rows.specs.Loaded.{OnlyReads}
+use Rattle.exam_tables.specs.Loaded.{OnlyReads}
 use Rattle.exam_send.specs.Sending.{AppendsBeginning}
 use Rattle.exam_store.specs.Kept.{Keeps}
 use Rattle.exam_store.specs.Stores.{OfficeIn}

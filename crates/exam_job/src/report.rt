@@ -9,8 +9,8 @@ ghost use Rattle.exam_job.specs.declared.report.JobFault.TheVariants.{Refused};
 use crate::lines::fault_line;
 use exam_files::SheetFault;
 use exam_line::LineFault;
-use exam_rows::SendFault;
 use exam_send::{WriteFailed, send};
+use exam_tables::SendFault;
 use exam_types::Refusal;
 use std::io::Write;
 

@@ -2,13 +2,13 @@
 //! their plans.
 #![tactic(auto)]
 
-mod grants;
+mod judging;
 pub mod limits;
 mod references;
 mod repair;
-mod tables;
+mod singles;
 mod touching;
 
+pub use judging::{first_bad_listed, first_bad_table};
 pub use repair::{add_seat, repaired_among};
-pub use tables::{first_bad_listed, first_bad_table};
 pub use touching::touched;

@@ -67,8 +67,8 @@ fn subject_refers(facts: &Facts, subject: &Subject) -> bool
 }
 
 /// Whether the appeal of each mark exists and may bear it.
-pub fn marks_stand(facts: &Facts) -> bool
-    ensures { result ≡ good.marks_stand (relations_of facts.now) }
+pub fn marks_were_granted(facts: &Facts) -> bool
+    ensures { result ≡ good.marks_were_granted (relations_of facts.now) }
 {
     facts.standing.iter().all(|(key, _)| is_borne(facts, key))
 }

@@ -29,7 +29,7 @@ use Rattle.exam_commands.specs.declared.command.Lodging.{Lodging}
 use Rattle.exam_commands.specs.declared.command.Reply.TheVariants as reply
 use Rattle.exam_commands.specs.Appeals.{appeal_at, has_open_appeal, is_open, is_retracted, stored_state}
 use Rattle.exam_commands.specs.Changes.{first_refusal, unless}
-use Rattle.exam_commands.specs.Good.{IsGood, appeal_refers, marks_stand, may_bear, refers, subject_refers}
+use Rattle.exam_commands.specs.Good.{IsGood, appeal_refers, marks_were_granted, may_bear, refers, subject_refers}
 use Rattle.exam_commands.specs.Limits.{most_appeals, within_limits, sessions_within, papers_within, halls_within, openings_within, candidates_within, members_within}
 use Rattle.exam_commands.specs.Lodgings as spec
 use Rattle.exam_commands.specs.Orders.{IsInOrder}
@@ -54,7 +54,7 @@ one_value x y is = cc
 pub record IsSettled (r t : Relations) : Type 0 where
   pub refer : refers t ≡ true
   pub single : AreSingle t
-  pub marks : marks_stand t ≡ true
+  pub marks : marks_were_granted t ≡ true
   pub seated : (s : Code) → SameSeating (seating r s) (seating t s)
 
 same_relations : (before : State) → IsGood before → IsSettled before.relations before.relations
@@ -133,7 +133,7 @@ module _ (before : State) (good : IsGood before) (today : ℕ) (l : Lodging) whe
 
   -- none of the checks fails
   abbrev pub IsChecked : Type 0
-  IsChecked = spec.standing_refusal before.relations before.seats today l ≡ None
+  IsChecked = spec.lodging_refusal_but_limits before.relations before.seats today l ≡ None
 
   sound : IsChecked → stored ≡ None → IsSound
   sound ok none =
@@ -141,14 +141,14 @@ module _ (before : State) (good : IsGood before) (today : ℕ) (l : Lodging) whe
       let asked = spec.subject_checks r before.seats l.session l.number l.subject in
       let first = passed (not (has_row nat_cmp r.candidates l.number)) refusal.UnknownCandidate (spec.lodging_checks r before.seats today l stored) ok in
       let checks : first_refusal (spec.lodging_checks r before.seats today l None) ≡ None = ap (λ o. first_refusal (spec.lodging_checks r before.seats today l o)) (sym none) ∙ first.1 in
-      let member = passed (not (is_member r l.session l.number)) refusal.NotInSession (spec.past_closing r l.session l.subject today ∷ asked ++ spec.appeal_stands r l ∷ []) checks in
-      let day = passed (spec.past_closing r l.session l.subject today).0 (spec.past_closing r l.session l.subject today).1 (asked ++ spec.appeal_stands r l ∷ []) member.1 in
-      let both = both_passed asked (spec.appeal_stands r l ∷ []) day.1 in
+      let member = passed (not (is_member r l.session l.number)) refusal.NotInSession (spec.past_closing r l.session l.subject today ∷ asked ++ spec.appeal_is_open r l ∷ []) checks in
+      let day = passed (spec.past_closing r l.session l.subject today).0 (spec.past_closing r l.session l.subject today).1 (asked ++ spec.appeal_is_open r l ∷ []) member.1 in
+      let both = both_passed asked (spec.appeal_is_open r l ∷ []) day.1 in
       record {
         candidate = not-false (has_row nat_cmp r.candidates l.number) first.0;
         session = session_known (row_at code_cmp r.sessions l.session) day.0;
         subject = subject_known l.subject both.0;
-        alone = (passed (has_open_appeal r l.number l.session l.subject) refusal.AppealStands [] both.1).0;
+        alone = (passed (has_open_appeal r l.number l.session l.subject) refusal.AppealIsOpen [] both.1).0;
       }
 
   new_facts : stored ≡ None → spec.with_lodging before.relations today l ≡ spec.with_appeal before.relations today l

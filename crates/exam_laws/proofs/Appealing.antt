@@ -66,17 +66,17 @@ not_granted true false = refl
 not_granted false here = refl
 
 -- ungranted, marked or not
-pub never_stands : (mine marked : Bool) → (mine && (false && marked)) ≡ false
-never_stands true marked = refl
-never_stands false marked = refl
+pub never_marked : (mine marked : Bool) → (mine && (false && marked)) ≡ false
+never_marked true marked = refl
+never_marked false marked = refl
 
 -- an appeal that is put leaves the standing grants as they are, if it is not granted and replaces no granted one
 pub put_standing_same : (r : Relations) (k : ℕ × Code) (a : Appeal) → is_granted a.status ≡ false → ((b : Appeal) → row_at appeal_cmp r.appeals k ≡ Some b → is_granted b.status ≡ false)
     → (c : ℕ) → standing_grants (with_appeals r (put_row appeal_cmp r.appeals k a)) c ≡ standing_grants r c
 put_standing_same r k a new old c =
     ap (filter_map (λ (x : (ℕ × Code) × Appeal). standing_grant r x.1)) (put_passed_over appeal_cmp appeals_exact (is_standing r c) r.appeals k a
-    (ap (λ g. nat_eq k.0 c && (g && is_marked r k)) new ∙ never_stands (nat_eq k.0 c) (is_marked r k))
-    (λ b at. ap (λ g. nat_eq k.0 c && (g && is_marked r k)) (old b at) ∙ never_stands (nat_eq k.0 c) (is_marked r k)))
+    (ap (λ g. nat_eq k.0 c && (g && is_marked r k)) new ∙ never_marked (nat_eq k.0 c) (is_marked r k))
+    (λ b at. ap (λ g. nat_eq k.0 c && (g && is_marked r k)) (old b at) ∙ never_marked (nat_eq k.0 c) (is_marked r k)))
 
 -- an appeal that is put seats nobody elsewhere, if it is not granted and replaces no granted one
 pub put_seating_same : (r : Relations) (k : ℕ × Code) (a : Appeal) → is_granted a.status ≡ false → ((b : Appeal) → row_at appeal_cmp r.appeals k ≡ Some b → is_granted b.status ≡ false)

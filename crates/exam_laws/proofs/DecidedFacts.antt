@@ -113,10 +113,10 @@ module _ (r : Relations) (c : ℕ) (a : Appeal) where
   rows_distinct outcome.Refuse distinct = distinct
 
   -- the key of the decided appeal, if it has one
-  abbrev stands_as : Outcome → Code → Option SingleKey
-  stands_as o answer = option_map {U = SingleKey} (λ kind. (a.session, c, kind)) (single_as (decided o answer) a.subject)
+  abbrev single_if : Outcome → Code → Option SingleKey
+  single_if o answer = option_map {U = SingleKey} (λ kind. (a.session, c, kind)) (single_as (decided o answer) a.subject)
 
-  granted_fresh : (answer : Code) → IsFresh same_single_key (stands_as outcome.Grant answer) (filter_map single_key (map given r.appeals))
+  granted_fresh : (answer : Code) → IsFresh same_single_key (single_if outcome.Grant answer) (filter_map single_key (map given r.appeals))
   granted_fresh answer x is = inner (single_as (status.Granted answer) a.subject) refl is
     where
       inner : (o : Option Single) → single_as (status.Granted answer) a.subject ≡ o → option_map {U = SingleKey} (λ kind. (a.session, c, kind)) o ≡ Some x
@@ -127,7 +127,7 @@ module _ (r : Relations) (c : ℕ) (a : Appeal) where
           let one : whole ≡ x = cc in
           subst (λ z. IsApartFrom same_single_key z (filter_map single_key (map given r.appeals))) one (places_apart c a.session a.subject answer kind e r.appeals)
 
-  rows_fresh : (o : Outcome) (answer : Code) → IsFresh same_single_key (stands_as o answer) (filter_map single_key (with_superseded c a o r.appeals))
+  rows_fresh : (o : Outcome) (answer : Code) → IsFresh same_single_key (single_if o answer) (filter_map single_key (with_superseded c a o r.appeals))
   rows_fresh outcome.Grant answer x is = granted_fresh answer x is
   rows_fresh outcome.Standing answer x is = granted_fresh answer x is
   rows_fresh outcome.Refuse answer x is = absurd (let none : Option SingleKey = None in let differ : none ≡ Some x = is in cc)
@@ -203,8 +203,8 @@ module _ (r : Relations) (d : Decision) where
       inner false = mark_gone r.standing key
 
   -- the standing grants of another candidate are the same
-  pub others_stand : (a : Appeal) (n : ℕ) → nat_eq d.number n ≡ false → standing_grants (with_outcome r d a) n ≡ standing_grants r n
-  others_stand a n other =
+  pub others_standing_grants : (a : Appeal) (n : ℕ) → nat_eq d.number n ≡ false → standing_grants (with_outcome r d a) n ≡ standing_grants r n
+  others_standing_grants a n other =
       ap (filter_map (λ (x : (ℕ × Code) × Appeal). standing_grant r x.1))
       (ap (λ p. filter p (put_row appeal_cmp rows key v)) (fun_ext same_test)
       ∙ put_filtered appeal_cmp appeals_exact (is_standing r n) rows key v (λ w. ap (λ b. b && (is_granted w.status && is_marked r key)) other)
@@ -224,7 +224,7 @@ module _ (r : Relations) (d : Decision) where
               let differ : true ≡ false = sym own ∙ ap (λ (k : ℕ × Code). nat_eq k.0 n) same ∙ other in cc))
           inner false away = refl
 
-  pub unmarked_open : (a : Appeal) → good.marks_stand r ≡ true → appeal_at r d.number d.reference ≡ Some a → is_open a.status ≡ true → is_marked r key ≡ false
+  pub unmarked_open : (a : Appeal) → good.marks_were_granted r ≡ true → appeal_at r d.number d.reference ≡ Some a → is_open a.status ≡ true → is_marked r key ≡ false
   unmarked_open a stand at open_yet = unborne r.appeals r.standing key stand (ap (λ o. option_map_or good.may_bear o false) at ∙ open_unborne a open_yet)
 
   -- what gave way may bear its mark as before
@@ -259,8 +259,8 @@ module _ (r : Relations) (d : Decision) where
   rows_borne a outcome.Standing m = mapped_borne d.number a r.appeals m
   rows_borne a outcome.Refuse m = refl
 
-  marks_after : (a : Appeal) → good.marks_stand r ≡ true → appeal_at r d.number d.reference ≡ Some a → is_open a.status ≡ true
-      → (o : Outcome) → d.outcome ≡ o → (bears_mark o && is_none (asked_arrangement a.subject)) ≡ false → good.marks_stand (with_outcome r d a) ≡ true
+  marks_after : (a : Appeal) → good.marks_were_granted r ≡ true → appeal_at r d.number d.reference ≡ Some a → is_open a.status ≡ true
+      → (o : Outcome) → d.outcome ≡ o → (bears_mark o && is_none (asked_arrangement a.subject)) ≡ false → good.marks_were_granted (with_outcome r d a) ≡ true
   marks_after a stand at open_yet o is fits_mark = inner o is fits_mark
     where
       v : Appeal
@@ -276,7 +276,7 @@ module _ (r : Relations) (d : Decision) where
       asked None off = absurd (let differ : true ≡ false = off in cc)
       asked (Some wanted) off = refl
 
-      inner : (o : Outcome) → d.outcome ≡ o → (bears_mark o && is_none (asked_arrangement a.subject)) ≡ false → good.marks_stand (with_outcome r d a) ≡ true
+      inner : (o : Outcome) → d.outcome ≡ o → (bears_mark o && is_none (asked_arrangement a.subject)) ≡ false → good.marks_were_granted (with_outcome r d a) ≡ true
       inner outcome.Grant is fits_mark = ap (λ o. list_all after (cond (bears_mark o) (put_row appeal_cmp r.standing key tt) (without_mark key r.standing))) is ∙ ap (list_all after) (unmarked_same r.standing key (unmarked_open a stand at open_yet)) ∙ old
       inner outcome.Refuse is fits_mark = ap (λ o. list_all after (cond (bears_mark o) (put_row appeal_cmp r.standing key tt) (without_mark key r.standing))) is ∙ ap (list_all after) (unmarked_same r.standing key (unmarked_open a stand at open_yet)) ∙ old
       inner outcome.Standing is fits_mark =
@@ -285,10 +285,10 @@ module _ (r : Relations) (d : Decision) where
           (ap (λ o. option_map_or good.may_bear o false) (put_found appeal_cmp appeals_total (with_superseded d.number a d.outcome r.appeals) key v)
           ∙ ap (λ o. is_some (asked_arrangement a.subject) && good.was_granted (decided o d.answer)) is ∙ asked (asked_arrangement a.subject) fits_mark)
 
-  pub decision_marks : (today : ℕ) → good.marks_stand r ≡ true → decision_refusal r today d ≡ None → good.marks_stand (with_decision r d) ≡ true
+  pub decision_marks : (today : ℕ) → good.marks_were_granted r ≡ true → decision_refusal r today d ≡ None → good.marks_were_granted (with_decision r d) ≡ true
   decision_marks today stand ok = inner (appeal_at r d.number d.reference) refl ok
     where
-      by_case : (a : Appeal) → appeal_at r d.number d.reference ≡ Some a → (b : Bool) → first_refusal (cond b [] (open_checks r today d a)) ≡ None → good.marks_stand (cond b r (with_outcome r d a)) ≡ true
+      by_case : (a : Appeal) → appeal_at r d.number d.reference ≡ Some a → (b : Bool) → first_refusal (cond b [] (open_checks r today d a)) ≡ None → good.marks_were_granted (cond b r (with_outcome r d a)) ≡ true
       by_case a at true checked = stand
       by_case a at false checked =
           let opened = passed (not (is_open a.status)) refusal.NotOpenAppeal ((is_too_late r a.session today, refusal.TooLate) ∷ not_arrangement a d.outcome ∷ grant_checks r d.number a d.outcome) checked in
@@ -296,7 +296,7 @@ module _ (r : Relations) (d : Decision) where
           let suited = passed (not_arrangement a d.outcome).0 refusal.NotArrangement (grant_checks r d.number a d.outcome) timely.1 in
           marks_after a stand at (not-false (is_open a.status) opened.0) d.outcome refl suited.0
 
-      inner : (o : Option Appeal) → appeal_at r d.number d.reference ≡ o → first_refusal (decision_checks r today d o) ≡ None → good.marks_stand (with_decided r d o) ≡ true
+      inner : (o : Option Appeal) → appeal_at r d.number d.reference ≡ o → first_refusal (decision_checks r today d o) ≡ None → good.marks_were_granted (with_decided r d o) ≡ true
       inner None at checked = stand
       inner (Some a) at checked = by_case a at (is_made r d a) checked
 
@@ -366,7 +366,7 @@ module _ (r : Relations) (d : Decision) where
           fits_same r (put_row appeal_cmp rows (d.number, d.reference) v) (with_mark d r.standing) s c
           (ap (map (λ (x : (ℕ × Code) × Appeal). x.1.subject))
           (put_filtered appeal_cmp appeals_exact (is_granted_appeal s c) rows (d.number, d.reference) v (λ w. ap (λ b. b && (same_code w.session s && is_granted w.status)) other) ∙ rows_filtered r d.number a s c other d.outcome))
-          (others_stand r d a c other) h
+          (others_standing_grants r d a c other) h
 
   pub decision_desks : (s h : Code) → desks (with_decision r d) s h ≡ desks r s h
   decision_desks s h = either (λ t. desks t s h ≡ desks r s h) refl (λ a stored. refl)

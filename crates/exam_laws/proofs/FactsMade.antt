@@ -11,7 +11,7 @@ use Rattle.exam_commands.specs.declared.command.Command.TheVariants as command
 use Rattle.exam_commands.specs.Changes.{first_refusal, too_many, unless, with_live, with_rows, without_opening}
 use Rattle.exam_commands.specs.Decisions.{with_decision}
 use Rattle.exam_commands.specs.FactsMade.{early_refusal, facts_made, may_pass_limit}
-use Rattle.exam_commands.specs.Good.{IsGood, marks_stand, refers}
+use Rattle.exam_commands.specs.Good.{IsGood, marks_were_granted, refers}
 use Rattle.exam_commands.specs.Limits.{within_limits}
 use Rattle.exam_commands.specs.Lodgings as lodgings
 use Rattle.exam_commands.specs.Singles.{AreSingle, same_single_key, single_key}
@@ -87,7 +87,7 @@ module _ (today : ℕ) (before : State) (good : IsGood before) (up : AreInOrder 
   made_single (command.Decide d) ok = decision_single before.relations d good.single
 
   -- and so do the marks
-  pub made_marks : (done : Command) → early_refusal done today before ≡ None → marks_stand (facts_made done today before) ≡ true
+  pub made_marks : (done : Command) → early_refusal done today before ≡ None → marks_were_granted (facts_made done today before) ≡ true
   made_marks (command.Import import) ok =
       ap (λ rows. list_all (borne_in rows) (with_rows before.relations import.rows).standing) (import_appeals before.relations import.rows)
       ∙ ap (list_all (borne_in before.relations.appeals)) (import_standing before.relations import.rows) ∙ good.marks

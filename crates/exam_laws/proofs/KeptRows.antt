@@ -152,7 +152,7 @@ superseding_keeps c a outcome.Standing rows = given_keeps c a.session a.subject 
 superseding_keeps c a outcome.Refuse rows = λ k h. h
 
 -- an open appeal has no mark that its decision could take away
-decision_keeps : (r : Relations) (day : ℕ) (d : Decision) → good.marks_stand r ≡ true → decision_refusal r day d ≡ None → Keeps r (with_decision r d)
+decision_keeps : (r : Relations) (day : ℕ) (d : Decision) → good.marks_were_granted r ≡ true → decision_refusal r day d ≡ None → Keeps r (with_decision r d)
 decision_keeps r day d stand ok = inner (appeal_at r d.number d.reference) refl
   where
     was_open : (a : Appeal) → first_refusal (open_checks r day d a) ≡ None → is_open a.status ≡ true

@@ -49,8 +49,8 @@ use Rattle.exam_commands.proofs.SameSeats.{seats_exact, seats_total}
 -- ---- an appeal and what becomes of it
 
 -- decided so, with this answer and with the mark or without it, or superseded since
-abbrev Stands : Outcome → List ℕ → Bool → Status → Type 0
-Stands outcome answer marked st = (is_decided outcome answer marked st ≡ true) ⊎ (state_of st ≡ state.Superseded)
+abbrev IsSettled : Outcome → List ℕ → Bool → Status → Type 0
+IsSettled outcome answer marked st = (is_decided outcome answer marked st ≡ true) ⊎ (state_of st ≡ state.Superseded)
 
 -- it asks the same, and one that is retracted, decided or superseded stays so
 record Continues (a b : Appeal) : Type 0 where
@@ -58,16 +58,16 @@ record Continues (a b : Appeal) : Type 0 where
   subject : b.subject ≡ a.subject
   reason : b.reason ≡ a.reason
   retracted : a.status ≡ status.Retracted → b.status ≡ status.Retracted
-  decided : (m : Outcome) (answer : List ℕ) (marked : Bool) → is_decided m answer marked a.status ≡ true → Stands m answer marked b.status
+  decided : (m : Outcome) (answer : List ℕ) (marked : Bool) → is_decided m answer marked a.status ≡ true → IsSettled m answer marked b.status
   closed : is_open a.status ≡ false → is_open b.status ≡ false
   superseded : state_of a.status ≡ state.Superseded → state_of b.status ≡ state.Superseded
 
 continues_itself : (a : Appeal) → Continues a a
 continues_itself a = record { session = refl; subject = refl; reason = refl; retracted = λ is. is; decided = λ m answer marked is. inl is; closed = λ is. is; superseded = λ is. is }
 
-stands_on : (a b : Appeal) → Continues a b → (m : Outcome) (answer : List ℕ) (marked : Bool) → Stands m answer marked a.status → Stands m answer marked b.status
-stands_on a b on m answer marked (inl is) = on.decided m answer marked is
-stands_on a b on m answer marked (inr is) = inr (on.superseded is)
+settled_on : (a b : Appeal) → Continues a b → (m : Outcome) (answer : List ℕ) (marked : Bool) → IsSettled m answer marked a.status → IsSettled m answer marked b.status
+settled_on a b on m answer marked (inl is) = on.decided m answer marked is
+settled_on a b on m answer marked (inr is) = inr (on.superseded is)
 
 -- what is open is neither decided nor superseded
 open_undecided : {A : Type 0} (m : Outcome) (answer : List ℕ) (marked : Bool) (st : Status) → is_open st ≡ true → is_decided m answer marked st ≡ true → A
@@ -86,21 +86,21 @@ open_undecided m answer marked (status.Refused stored) open_yet is = absurd (let
 open_undecided m answer marked status.Retracted open_yet is = absurd (let differ : false ≡ true = open_yet in cc)
 open_undecided m answer marked (status.Superseded stored) open_yet is = absurd (let differ : false ≡ true = open_yet in cc)
 
-open_standing : {A : Type 0} (st : Status) → is_open st ≡ true → state_of st ≡ state.Superseded → A
-open_standing status.Pending open_yet is = absurd (let differ : state.Pending ≡ state.Superseded = is in cc)
-open_standing (status.Granted stored) open_yet is = absurd (let differ : false ≡ true = open_yet in cc)
-open_standing (status.Refused stored) open_yet is = absurd (let differ : false ≡ true = open_yet in cc)
-open_standing status.Retracted open_yet is = absurd (let differ : false ≡ true = open_yet in cc)
-open_standing (status.Superseded stored) open_yet is = absurd (let differ : false ≡ true = open_yet in cc)
+open_not_superseded : {A : Type 0} (st : Status) → is_open st ≡ true → state_of st ≡ state.Superseded → A
+open_not_superseded status.Pending open_yet is = absurd (let differ : state.Pending ≡ state.Superseded = is in cc)
+open_not_superseded (status.Granted stored) open_yet is = absurd (let differ : false ≡ true = open_yet in cc)
+open_not_superseded (status.Refused stored) open_yet is = absurd (let differ : false ≡ true = open_yet in cc)
+open_not_superseded status.Retracted open_yet is = absurd (let differ : false ≡ true = open_yet in cc)
+open_not_superseded (status.Superseded stored) open_yet is = absurd (let differ : false ≡ true = open_yet in cc)
 
 -- so a stored appeal of this kind is not open
-stands_closed : (m : Outcome) (answer : List ℕ) (marked : Bool) (st : Status) → Stands m answer marked st → is_open st ≡ false
-stands_closed m answer marked st stands = inner (is_open st) refl stands
+settled_closed : (m : Outcome) (answer : List ℕ) (marked : Bool) (st : Status) → IsSettled m answer marked st → is_open st ≡ false
+settled_closed m answer marked st is_settled = inner (is_open st) refl is_settled
   where
-    inner : (b : Bool) → is_open st ≡ b → Stands m answer marked st → b ≡ false
-    inner false closed stands = refl
+    inner : (b : Bool) → is_open st ≡ b → IsSettled m answer marked st → b ≡ false
+    inner false closed is_settled = refl
     inner true open_yet (inl is) = open_undecided m answer marked st open_yet is
-    inner true open_yet (inr is) = open_standing st open_yet is
+    inner true open_yet (inr is) = open_not_superseded st open_yet is
 
 -- an appeal at the key, which continues this one
 record GoesOn (r : Relations) (k : ℕ × Code) (a : Appeal) : Type 0 where
@@ -131,7 +131,7 @@ carries_both r t u one two = record {
           subject = second.continues.subject ∙ first.continues.subject;
           reason = second.continues.reason ∙ first.continues.reason;
           retracted = λ is. second.continues.retracted (first.continues.retracted is);
-          decided = λ m answer marked is. stands_on first.then second.then second.continues m answer marked (first.continues.decided m answer marked is);
+          decided = λ m answer marked is. settled_on first.then second.then second.continues m answer marked (first.continues.decided m answer marked is);
           closed = λ is. second.continues.closed (first.continues.closed is);
           superseded = λ is. second.continues.superseded (first.continues.superseded is);
         };
@@ -205,14 +205,14 @@ retraction_carries r c reference ok = inner (appeal_at r c reference) refl
           retracted = λ before. refl;
           decided = λ m answer marked is. open_undecided m answer marked a.status (opens was) (ap (λ (x : Appeal). is_decided m answer marked x.status) same ∙ is);
           closed = λ is. refl;
-          superseded = λ is. open_standing a.status (opens was) (ap (λ (x : Appeal). state_of x.status) same ∙ is);
+          superseded = λ is. open_not_superseded a.status (opens was) (ap (λ (x : Appeal). state_of x.status) same ∙ is);
         })
 
     inner : (o : Option Appeal) → appeal_at r c reference ≡ o → Carries r (spec.with_retracted r c reference o)
     inner None none = carries_itself r
     inner (Some a) at = by_status a at (λ was. retracting_open a.status was (ap (λ o. first_refusal (spec.retraction_checks o)) (sym at) ∙ ok)) (is_retracted a.status) refl
 
-superseding : (m : Outcome) (answer : List ℕ) (marked : Bool) (st : Status) → is_decided m answer marked st ≡ true → Stands m answer marked (superseded st)
+superseding : (m : Outcome) (answer : List ℕ) (marked : Bool) (st : Status) → is_decided m answer marked st ≡ true → IsSettled m answer marked (superseded st)
 superseding m answer marked (status.Granted stored) is = inr refl
 superseding m answer marked status.Pending is = inl is
 superseding m answer marked (status.Refused stored) is = inl is
@@ -315,7 +315,7 @@ outcome_carries r d a stored open_yet = record {
                 retracted = λ is. absurd (let differ : true ≡ false = sym open_yet ∙ ap is_open is in cc);
                 decided = λ m answer marked is. open_undecided m answer marked a.status open_yet is;
                 closed = λ is. decided_closed d.outcome;
-                superseded = λ is. open_standing a.status open_yet is;
+                superseded = λ is. open_not_superseded a.status open_yet is;
               });
         }
     inner q x at false away =
@@ -420,7 +420,7 @@ module _ (l : Lodging) where
             ∙ is.same;
       }
 
-  lodged_then : (day : ℕ) (before : State) → spec.standing_refusal before.relations before.seats day l ≡ None → IsLodged (spec.with_lodging before.relations day l) l
+  lodged_then : (day : ℕ) (before : State) → spec.lodging_refusal_but_limits before.relations before.seats day l ≡ None → IsLodged (spec.with_lodging before.relations day l) l
   lodged_then day before ok = inner (appeal_at before.relations l.number l.reference) refl
     where
       inner : (o : Option Appeal) → appeal_at before.relations l.number l.reference ≡ o → IsLodged (spec.with_lodging before.relations day l) l
@@ -465,7 +465,7 @@ repeated_lodging l day later before mid late after first done replies second up 
     let changed = new_facts (command.Lodge l) day before first mid one in
     let refused = spec.lodging_refusal before.relations before.seats day l in
     let none = unrefused refused (spec.with_lodging before.relations day l) mid.relations changed in
-    let standing = neither (spec.standing_refusal before.relations before.seats day l) (first_refusal (spec.one_too_many before.relations day l ∷ [])) none in
+    let standing = neither (spec.lodging_refusal_but_limits before.relations before.seats day l) (first_refusal (spec.one_too_many before.relations day l ∷ [])) none in
     let there : IsLodged mid.relations l = subst (λ t. IsLodged t l) (made refused (spec.with_lodging before.relations day l) mid.relations changed) (lodged_then l day before standing.0) in
     let still = lodged_still l mid.relations late.relations (run_carries done mid replies late run) there in
     let to : StepTo (command.Lodge l) late second after (Ok late.relations) = subst (StepTo (command.Lodge l) late second after) (lodged_again l later late still) two in
@@ -529,7 +529,7 @@ repeated_retraction c reference day later before mid late after first done repli
 record IsDecidedAt (r : Relations) (d : Decision) : Type 0 where
   appeal : Appeal
   stored : appeal_at r d.number d.reference ≡ Some appeal
-  stands : Stands d.outcome d.answer (is_marked r (d.number, d.reference)) appeal.status
+  is_settled : IsSettled d.outcome d.answer (is_marked r (d.number, d.reference)) appeal.status
 
 decided_itself : (m : Outcome) (answer : List ℕ) → is_decided m answer (bears_mark m) (decided m answer) ≡ true
 decided_itself outcome.Grant answer = same_code_itself answer
@@ -562,22 +562,22 @@ module _ (d : Decision) where
   decided_still r t carries is =
       let on = carries.appeals (d.number, d.reference) is.appeal is.stored in
       let k : ℕ × Code = (d.number, d.reference) in
-      let same : is_marked t k ≡ is_marked r k = carries.marks k is.appeal is.stored (stands_closed d.outcome d.answer (is_marked r k) is.appeal.status is.stands) in
+      let same : is_marked t k ≡ is_marked r k = carries.marks k is.appeal is.stored (settled_closed d.outcome d.answer (is_marked r k) is.appeal.status is.is_settled) in
       record {
         appeal = on.then;
         stored = on.stored;
-        stands = subst (λ marked. Stands d.outcome d.answer marked on.then.status) (sym same) (stands_on is.appeal on.then on.continues d.outcome d.answer (is_marked r k) is.stands);
+        is_settled = subst (λ marked. IsSettled d.outcome d.answer marked on.then.status) (sym same) (settled_on is.appeal on.then on.continues d.outcome d.answer (is_marked r k) is.is_settled);
       }
 
   decided_then : (r : Relations) (day : ℕ) → decision_refusal r day d ≡ None → IsDecidedAt (with_decision r d) d
   decided_then r day ok = inner (appeal_at r d.number d.reference) refl
     where
       by_case : (a : Appeal) → appeal_at r d.number d.reference ≡ Some a → (b : Bool) → is_made r d a ≡ b → IsDecidedAt (cond b r (with_outcome r d a)) d
-      by_case a at true is = record { appeal = a; stored = at; stands = inl is }
+      by_case a at true is = record { appeal = a; stored = at; is_settled = inl is }
       by_case a at false is = record {
         appeal = record a { status = decided d.outcome d.answer };
         stored = put_found appeal_cmp appeals_total (with_superseded d.number a d.outcome r.appeals) (d.number, d.reference) (record a { status = decided d.outcome d.answer });
-        stands = inl (subst (λ marked. is_decided d.outcome d.answer marked (decided d.outcome d.answer) ≡ true) (sym (marked_as_made r d a)) (decided_itself d.outcome d.answer));
+        is_settled = inl (subst (λ marked. is_decided d.outcome d.answer marked (decided d.outcome d.answer) ≡ true) (sym (marked_as_made r d a)) (decided_itself d.outcome d.answer));
       }
 
       inner : (o : Option Appeal) → appeal_at r d.number d.reference ≡ o → IsDecidedAt (with_decision r d) d
@@ -606,9 +606,9 @@ repeated_decision d day later before mid late after first done replies second up
     let none = unrefused refused (with_decision before.relations d) mid.relations changed in
     let there : IsDecidedAt mid.relations d = subst (λ t. IsDecidedAt t d) (made refused (with_decision before.relations d) mid.relations changed) (decided_then d before.relations day none) in
     let still = decided_still d mid.relations late.relations (run_carries done mid replies late run) there in
-    inner still.appeal still.stored still.stands
+    inner still.appeal still.stored still.is_settled
   where
-    inner : (a : Appeal) → appeal_at late.relations d.number d.reference ≡ Some a → Stands d.outcome d.answer (is_marked late.relations (d.number, d.reference)) a.status
+    inner : (a : Appeal) → appeal_at late.relations d.number d.reference ≡ Some a → IsSettled d.outcome d.answer (is_marked late.relations (d.number, d.reference)) a.status
         → ((second ≡ Ok reply.Unchanged) ⊎ ((stored_state late.relations d.number d.reference ≡ state.Superseded) × (second ≡ Err refusal.NotOpenAppeal))) × (after ≡ late)
     inner a at (inl is) =
         let to : StepTo (command.Decide d) late second after (Ok late.relations) = subst (StepTo (command.Decide d) late second after) (again_unchanged d later late a at is) two in (
@@ -631,7 +631,7 @@ lodging_moves_nobody l day before after first good up up_after step =
     let changed = new_facts (command.Lodge l) day before first after step in
     let refused = spec.lodging_refusal before.relations before.seats day l in
     let none = unrefused refused (spec.with_lodging before.relations day l) after.relations changed in
-    let standing = neither (spec.standing_refusal before.relations before.seats day l) (first_refusal (spec.one_too_many before.relations day l ∷ [])) none in
+    let standing = neither (spec.lodging_refusal_but_limits before.relations before.seats day l) (first_refusal (spec.one_too_many before.relations day l ∷ [])) none in
     let settled = lodging_settled before good day l after.relations standing.0 (sym (made refused (spec.with_lodging before.relations day l) after.relations changed)) in
     same_seats (command.Lodge l) before (Ok first) after after.relations settled.seated up up_after (subst (StepTo (command.Lodge l) before (Ok first) after) changed step)
 

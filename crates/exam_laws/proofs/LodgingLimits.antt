@@ -45,7 +45,7 @@ module _ (r : Relations) (within : within_limits r ≡ true) where
       at p d true same = ap p (sym (exact_unsigned_eq d c same))
       at p d false other = refl
 
-  module _ (seats : Seats) (today : ℕ) (l : Lodging) (ok : lodgings.standing_refusal r seats today l ≡ None) where
+  module _ (seats : Seats) (today : ℕ) (l : Lodging) (ok : lodgings.lodging_refusal_but_limits r seats today l ≡ None) where
     known : has_row nat_cmp r.candidates l.number ≡ true
     known = not-false (has_row nat_cmp r.candidates l.number) (passed (not (has_row nat_cmp r.candidates l.number)) refusal.UnknownCandidate (lodgings.lodging_checks r seats today l (appeal_at r l.number l.reference)) ok).0
 

@@ -31,7 +31,7 @@ use Rattle.exam_commands.specs.State.{Seats, State}
 use Rattle.exam_commands.specs.Steps.{Step, change, first_seated}
 use Rattle.exam_commands.specs.Touched.{ends_standing, grant_touches, is_appeal_for, touches}
 use Rattle.exam_laws.proofs.FactsMade.{early_is_change, made_is_change, past_limit}
-use Rattle.exam_laws.proofs.Parting.{change_same, standing_same}
+use Rattle.exam_laws.proofs.Parting.{change_same, lodging_refusal_same}
 use Rattle.exam_laws.proofs.Stepping.{refused_step}
 use Rattle.exam_rules.proofs.Naming.{same_code_itself}
 
@@ -43,8 +43,8 @@ early_same (command.Withdraw c p) today office part agrees = ap (λ (r : Relatio
 early_same (command.Reinstate c p) today office part agrees = ap (λ (r : Relations). revival_refusal r c p) agrees.facts
 early_same (command.CloseHall s h) today office part agrees = ap (λ (r : Relations). closing_refusal r s h) agrees.facts
 early_same (command.Lodge l) today office part agrees =
-    ap (λ (r : Relations). lodgings.standing_refusal r part.seats today l) agrees.facts
-    ∙ standing_same office.relations part.seats office.seats today l (agrees.read l.session (same_code_itself l.session) l.number)
+    ap (λ (r : Relations). lodgings.lodging_refusal_but_limits r part.seats today l) agrees.facts
+    ∙ lodging_refusal_same office.relations part.seats office.seats today l (agrees.read l.session (same_code_itself l.session) l.number)
 early_same (command.Retract c reference) today office part agrees = ap (λ (r : Relations). lodgings.retraction_refusal r c reference) agrees.facts
 early_same (command.Decide d) today office part agrees = ap (λ (r : Relations). decision_refusal r today d) agrees.facts
 

@@ -55,7 +55,7 @@ limit_check within = first_refusal ((not within, refusal.TooMany) ∷ [])
 -- is open, and by the limits
 abbrev held_refusal : Lodging → ℕ → ℕ → List (Bool × Refusal) → Bool → Bool → Option Refusal
 held_refusal l today held asked stands within =
-    option_or (first_refusal ((nat_lt (held - notice_days l.subject) today, refusal.PastClosing (held - notice_days l.subject)) ∷ asked ++ (stands, refusal.AppealStands) ∷ [])) (limit_check within)
+    option_or (first_refusal ((nat_lt (held - notice_days l.subject) today, refusal.PastClosing (held - notice_days l.subject)) ∷ asked ++ (stands, refusal.AppealIsOpen) ∷ [])) (limit_check within)
 
 abbrev new_shown : Lodging → ℕ → List (Code × Appeal) → Option OwnSessionRow → Option Refusal
 new_shown l today appeals None = Some refusal.NotInSession
@@ -176,7 +176,7 @@ module _ (office : State) (today : ℕ) (l : Lodging) (good : IsGood office) (up
   -- of a new appeal, whether or not the candidate is a member of the session and the session is there
   abbrev new_by : Bool → Option Session → Option Refusal
   new_by member held =
-      option_or (first_refusal ((not member, refusal.NotInSession) ∷ spec.closing_check l.subject today held ∷ spec.subject_checks r office.seats s c l.subject ++ spec.appeal_stands r l ∷ []))
+      option_or (first_refusal ((not member, refusal.NotInSession) ∷ spec.closing_check l.subject today held ∷ spec.subject_checks r office.seats s c l.subject ++ spec.appeal_is_open r l ∷ []))
       (limit_check within)
 
   abbrev seen_by : Bool → Option Session → Option OwnSessionRow
@@ -194,7 +194,7 @@ module _ (office : State) (today : ℕ) (l : Lodging) (good : IsGood office) (up
       inner true member (Some x) held =
           let live : has_live_entry r s c ≡ true = ap (λ (b : Bool). b && has_live_entry r s c) (sym there) ∙ member in
           let seen = member_sees office c s x there held live in
-          ap (λ (checks : List (Bool × Refusal)). held_refusal l today x.day checks (spec.appeal_stands r l).0 within) (subject_told x seen l.subject)
+          ap (λ (checks : List (Bool × Refusal)). held_refusal l today x.day checks (spec.appeal_is_open r l).0 within) (subject_told x seen l.subject)
           ∙ ap (λ (b : Bool). held_refusal l today x.day (subject_shown (session_row office c (s, x) seen.paper seen.end) l.subject) b within) (open_found c s l.subject r.appeals)
           ∙ ap (λ (b : Bool). held_refusal l today x.day (subject_shown (session_row office c (s, x) seen.paper seen.end) l.subject) (list_any (is_own_open s l.subject) (own_among c r.appeals)) b)
           (within_told r today l none good.limits there)

@@ -130,16 +130,16 @@ asked_same r a b s c same (subject.Hall h) = ap (λ (o : Option Code). (not (opt
 asked_same r a b s c same (subject.Clash p) = refl
 asked_same r a b s c same (subject.Arrangement x) = refl
 
-pub standing_same : (r : Relations) (a b : Seats) (today : ℕ) (l : Lodging) → plan_of a l.session l.number ≡ plan_of b l.session l.number → lodgings.standing_refusal r a today l ≡ lodgings.standing_refusal r b today l
-standing_same r a b today l same = ap (λ checks. first_refusal (no_candidate r l.number ∷ checks)) (checks_same (appeal_at r l.number l.reference))
+pub lodging_refusal_same : (r : Relations) (a b : Seats) (today : ℕ) (l : Lodging) → plan_of a l.session l.number ≡ plan_of b l.session l.number → lodgings.lodging_refusal_but_limits r a today l ≡ lodgings.lodging_refusal_but_limits r b today l
+lodging_refusal_same r a b today l same = ap (λ checks. first_refusal (no_candidate r l.number ∷ checks)) (checks_same (appeal_at r l.number l.reference))
   where
     checks_same : (o : Option Appeal) → lodgings.lodging_checks r a today l o ≡ lodgings.lodging_checks r b today l o
-    checks_same None = ap (λ checks. lodgings.not_member r l.session l.number ∷ lodgings.past_closing r l.session l.subject today ∷ checks ++ lodgings.appeal_stands r l ∷ []) (asked_same r a b l.session l.number same l.subject)
+    checks_same None = ap (λ checks. lodgings.not_member r l.session l.number ∷ lodgings.past_closing r l.session l.subject today ∷ checks ++ lodgings.appeal_is_open r l ∷ []) (asked_same r a b l.session l.number same l.subject)
     checks_same (Some x) = refl
 
 lodged_same : (r : Relations) (a b : Seats) (today : ℕ) (l : Lodging) → plan_of a l.session l.number ≡ plan_of b l.session l.number → lodgings.lodged r a today l ≡ lodgings.lodged r b today l
 lodged_same r a b today l same =
-    ap (λ o. unless (option_or o (first_refusal (lodgings.one_too_many r today l ∷ []))) (lodgings.with_lodging r today l)) (standing_same r a b today l same)
+    ap (λ o. unless (option_or o (first_refusal (lodgings.one_too_many r today l ∷ []))) (lodgings.with_lodging r today l)) (lodging_refusal_same r a b today l same)
 
 pub change_same : (done : Command) (today : ℕ) (office part : State) → Agrees done office part → change done today part ≡ change done today office
 change_same (command.Import import) today office part agrees = ap (λ (r : Relations). imported r import.rows) agrees.facts

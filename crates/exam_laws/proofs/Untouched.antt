@@ -36,7 +36,7 @@ use Rattle.exam_commands.specs.declared.import_row.Row.TheVariants as row
 use Rattle.exam_commands.specs.Appeals.{appeal_at, bears_mark, decided, is_grant, is_open, superseded, supersedes}
 use Rattle.exam_commands.specs.Changes.{closing_refusal, first_refusal, import_refusal, no_hall, not_opened, reinstatement_refusal, row_checks, rows_refusal, too_many, with_live, with_row, with_rows, withdrawal_refusal, without_opening}
 use Rattle.exam_commands.specs.Decisions.{decision_checks, decision_refusal, gives_way, giving_way, grant_checks, is_earlier, is_made, is_too_late, not_arrangement, open_checks, with_decided, with_decision, with_mark, with_outcome, with_superseded, without_mark}
-use Rattle.exam_commands.specs.Good.{IsGood, marks_stand, refers}
+use Rattle.exam_commands.specs.Good.{IsGood, marks_were_granted, refers}
 use Rattle.exam_commands.specs.Lodgings as lodgings
 use Rattle.exam_commands.specs.Orders.{IsInOrder}
 use Rattle.exam_commands.specs.State.{State}
@@ -44,10 +44,10 @@ use Rattle.exam_commands.specs.Steps.{SameSeating, Step, StepTo, change}
 use Rattle.exam_commands.specs.Touched.{decision_touches, ends_standing, grant_touches, has_standing_member, names, row_touches, stands_in, touches}
 use Rattle.exam_commands.proofs.Alike.{SpeakAlike, alike_itself, alike_seating}
 use Rattle.exam_commands.proofs.AppealKeys.{appeals_exact}
-use Rattle.exam_laws.proofs.Appealing.{fits_same, never_stands, not_granted, put_seating_same, seating_by, with_appeals, with_decisions}
+use Rattle.exam_laws.proofs.Appealing.{fits_same, never_marked, not_granted, put_seating_same, seating_by, with_appeals, with_decisions}
 use Rattle.exam_laws.proofs.AppealSteps.{lodging_settled, retraction_settled}
 use Rattle.exam_commands.proofs.Borne.{unmarked_same}
-use Rattle.exam_laws.proofs.DecidedFacts.{others_stand, unmarked_open}
+use Rattle.exam_laws.proofs.DecidedFacts.{others_standing_grants, unmarked_open}
 use Rattle.exam_laws.proofs.Lasting.{made, new_facts, unrefused}
 use Rattle.exam_commands.proofs.LiveMarks.{entries_exact, put_elsewhere, put_filtered}
 use Rattle.exam_commands.proofs.PutAppeals.{put_passed_over}
@@ -454,7 +454,7 @@ module _ (r : Relations) (c : ℕ) (own : Code) (asked : Subject) where
           → filter (is_standing r c) (map (giving_way c own asked) rows) ≡ filter (is_standing r c) rows → Stays (cond b superseded_row row)
       inner true gives off rest =
           ap (λ b. cond b (superseded_row ∷ filter (is_standing r c) (map (giving_way c own asked) rows)) (filter (is_standing r c) (map (giving_way c own asked) rows)))
-          (ap (λ g. nat_eq row.0.0 c && (g && is_marked r row.0)) (never_granted row.1.status) ∙ never_stands (nat_eq row.0.0 c) (is_marked r row.0))
+          (ap (λ g. nat_eq row.0.0 c && (g && is_marked r row.0)) (never_granted row.1.status) ∙ never_marked (nat_eq row.0.0 c) (is_marked r row.0))
           ∙ rest
           ∙ sym (ap (λ b. cond b (row ∷ filter (is_standing r c) rows) (filter (is_standing r c) rows)) (unmarked (nat_eq row.0.0 c) (is_granted row.1.status) (is_marked r row.0) off))
       inner false stays off rest = ap (λ t. cond (is_standing r c row) (row ∷ t) t) rest
@@ -463,7 +463,7 @@ module _ (r : Relations) (c : ℕ) (own : Code) (asked : Subject) where
 unentered_fits : (r : Relations) (s : Code) (c : ℕ) (h : Code) → has_live_entry r s c ≡ false → fits r s c h ≡ false
 unentered_fits r s c h out = ap (λ b. b && (suits_opened (sitting_terms r s c) (opened_room r s h) && not (list_any (same_code h) (barred_halls r s c)))) out
 
-module _ (r : Relations) (refer : refers r ≡ true) (stand : marks_stand r ≡ true) (d : Decision) (s : Code) (a : Appeal) (at : appeal_at r d.number d.reference ≡ Some a) (open_yet : is_open a.status ≡ true) where
+module _ (r : Relations) (refer : refers r ≡ true) (stand : marks_were_granted r ≡ true) (d : Decision) (s : Code) (a : Appeal) (at : appeal_at r d.number d.reference ≡ Some a) (open_yet : is_open a.status ≡ true) where
   abbrev key : ℕ × Code
   key = (d.number, d.reference)
 
@@ -534,7 +534,7 @@ module _ (r : Relations) (refer : refers r ≡ true) (stand : marks_stand r ≡ 
       by_number n h true mine = subst (λ m. fits t s m h ≡ fits r s m h) (eqb-true d.number n mine) (of_appellant h (has_live_entry r s d.number) refl)
       by_number n h false other =
           fits_same r (put_row appeal_cmp given_rows key granted_row) (with_mark d r.standing) s n (granted_same n)
-          (ap (λ u. standing_grants u n) (sym made_is) ∙ others_stand r d a n other) h
+          (ap (λ u. standing_grants u n) (sym made_is) ∙ others_standing_grants r d a n other) h
 
   outcome_spares : (o : Outcome) → d.outcome ≡ o → (is_grant o && grant_touches r d a s) ≡ false → SameSeating (seating r s) (seating (with_outcome r d a) s)
   outcome_spares outcome.Grant is away = subst (λ (u : Relations). SameSeating (seating r s) (seating u s)) (sym (made_as outcome.Grant is)) (grant_seating outcome.Grant is refl away)
@@ -554,7 +554,7 @@ module _ (r : Relations) (refer : refers r ≡ true) (stand : marks_stand r ≡ 
       made_as = ap (λ (u : Outcome). with_decisions r (put_row appeal_cmp (with_superseded d.number a u r.appeals) key (record a { status = decided u d.answer })) (cond (bears_mark u) (put_row appeal_cmp r.standing key tt) (without_mark key r.standing))) is
           ∙ ap (with_decisions r (put_row appeal_cmp r.appeals key (record a { status = status.Refused d.answer }))) (unmarked_same r.standing key unmarked)
 
-module _ (r : Relations) (refer : refers r ≡ true) (stand : marks_stand r ≡ true) (today : ℕ) (d : Decision) (s : Code) where
+module _ (r : Relations) (refer : refers r ≡ true) (stand : marks_were_granted r ≡ true) (today : ℕ) (d : Decision) (s : Code) where
   pub decision_spares : decision_refusal r today d ≡ None → decision_touches r d s ≡ false → SameSeating (seating r s) (seating (with_decision r d) s)
   decision_spares ok away = inner (appeal_at r d.number d.reference) refl ok
     where
@@ -605,7 +605,7 @@ module _ (before : State) (good : IsGood before) (up : IsInOrder before) (today 
       let r = before.relations in
       let refused = lodgings.lodging_refusal r before.seats today l in
       let none = unrefused refused (lodgings.with_lodging r today l) t is in
-      let standing = neither (lodgings.standing_refusal r before.seats today l) (first_refusal (lodgings.one_too_many r today l ∷ [])) none in
+      let standing = neither (lodgings.lodging_refusal_but_limits r before.seats today l) (first_refusal (lodgings.one_too_many r today l ∷ [])) none in
       (lodging_settled before good today l t standing.0 (sym (made refused (lodgings.with_lodging r today l) t is))).seated s
   spared (command.Retract c reference) t is away =
       let r = before.relations in

@@ -13,7 +13,7 @@ use Rattle.exam_office.specs.declared.part_steps.Made.{Made}
 use Rattle.exam_office.specs.Drafts.{AreMixed, HasOld, IsDraftOf, seats_after, seats_before, state_after, state_before}
 use Rattle.exam_commands.specs.Exchanges.{all_put, taken_back, without_old}
 use Rattle.exam_commands.specs.FactsMade.{WasMade}
-use Rattle.exam_commands.specs.Good.{IsGood, marks_stand, refers}
+use Rattle.exam_commands.specs.Good.{IsGood, marks_were_granted, refers}
 use Rattle.exam_commands.specs.Limits.{within_limits}
 use Rattle.exam_commands.specs.NextPlans.{Plans, PlansBack}
 use Rattle.exam_commands.specs.Orders.{IsInOrder}
@@ -159,7 +159,7 @@ good_after done today office after told old was within step = record {
   refer = ap refers was.made ∙ made_refers was.today was.office was.good order done was.early;
   limits = within;
   single = subst AreSingle (sym was.made) (made_single was.today was.office was.good order done was.early);
-  marks = ap marks_stand was.made ∙ made_marks was.today was.office was.good order done was.early;
+  marks = ap marks_were_granted was.made ∙ made_marks was.today was.office was.good order done was.early;
   best = λ s. (to.1 s).best;
 }
   where

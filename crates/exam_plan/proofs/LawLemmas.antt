@@ -105,8 +105,8 @@ sweeps_itself p q best (c ∷ cs) = (q, turn (q c) refl, sweeps_itself p q best 
     turn None e = inr (best_has_no_chain p q best c e, λ d. refl)
 
 -- a best plan is its own repair
-pub best_stands : (p : Problem) (first : Option ℕ) (q : Plan ℕ ℕ) → IsBest (seating_of p) q → IsRepair (seating_of p) first q q
-best_stands p first q best =
+pub best_is_repair : (p : Problem) (first : Option ℕ) (q : Plan ℕ ℕ) → IsBest (seating_of p) q → IsRepair (seating_of p) first q q
+best_is_repair p first q best =
     subst (λ (m : Plan ℕ ℕ). Sweeps (seating_of p) m (sweep_order (seating_of p) first) q) (sym (kept_all p q best.lawful))
     (sweeps_itself p q best (sweep_order (seating_of p) first))
 

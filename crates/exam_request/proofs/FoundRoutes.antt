@@ -53,17 +53,17 @@ is_text (b ∷ t) h = (omega (arith, (h 0).fits), is_text t (λ i. h (suc i)))
 
 -- ---- where the parts lie
 
-number_stands : (route : Route) (n r : List ℕ) → IsPart n → part (n ++ behind_number route r) ≡ n
-number_stands Seats n r h = (part_ends n (codes "seats") h.1).0
-number_stands Clashes n r h = (part_ends n (codes "clashes") h.1).0
-number_stands Appeals n r h = (part_ends n (codes "appeals") h.1).0
-number_stands Appeal n r h = (part_ends n (codes "appeals/" ++ r) h.1).0
+number_is_read : (route : Route) (n r : List ℕ) → IsPart n → part (n ++ behind_number route r) ≡ n
+number_is_read Seats n r h = (part_ends n (codes "seats") h.1).0
+number_is_read Clashes n r h = (part_ends n (codes "clashes") h.1).0
+number_is_read Appeals n r h = (part_ends n (codes "appeals") h.1).0
+number_is_read Appeal n r h = (part_ends n (codes "appeals/" ++ r) h.1).0
 
-reference_stands : (route : Route) (n r : List ℕ) → IsReferenceOf route r → reference_in route (length n) (codes "/candidates/" ++ n ++ behind_number route r) ≡ r
-reference_stands Seats n r e = sym e
-reference_stands Clashes n r e = sym e
-reference_stands Appeals n r e = sym e
-reference_stands Appeal n r e =
+reference_is_read : (route : Route) (n r : List ℕ) → IsReferenceOf route r → reference_in route (length n) (codes "/candidates/" ++ n ++ behind_number route r) ≡ r
+reference_is_read Seats n r e = sym e
+reference_is_read Clashes n r e = sym e
+reference_is_read Appeals n r e = sym e
+reference_is_read Appeal n r e =
     let at : length n + 21 ≡ length (codes "/candidates/") + (length n + 9) = omega arith in
     let all : List ℕ = codes "/candidates/" ++ (n ++ (codes "/appeals/" ++ r)) in
     ap (λ k. part (drop k all)) at ∙ ap part (drop-append-add (codes "/candidates/") (n ++ (codes "/appeals/" ++ r)) (length n + 9))
@@ -73,8 +73,8 @@ pub parts_stand : (target : List ℕ) (t : Target) → reading target ≡ Some t
     → t ≡ record { route = t.route; number = part (drop 12 target); reference = reference_in t.route (length (part (drop 12 target))) target }
 parts_stand target t e =
     let said = reading_says target t e in
-    let number = number_stands t.route t.number t.reference said.0.0 in
-    rw (said.1, number, reference_stands t.route t.number t.reference said.0.1) refl
+    let number = number_is_read t.route t.number t.reference said.0.0 in
+    rw (said.1, number, reference_is_read t.route t.number t.reference said.0.1) refl
 
 -- what a route that was found says
 pub found_reads : (target : List ℕ) (route : Route) → IsText target → option_map (λ r. r.value) (first table target) ≡ Some route

@@ -9,7 +9,7 @@ use Rattle.exam_plan.proofs.NumberLaws.{number_fits, numbers_differ}
 use Rattle.exam_plan.proofs.Renaming.{IsLawful-indexed}
 use Rattle.exam_rules.specs.Relations.{Code, Relations}
 use Rattle.exam_rules.specs.Sessions.{members}
-use Rattle.exam_rules.specs.Seatings.{indexed_seating, seating, problem_of, desks, fits, open_halls, fitting_places, stands_before}
+use Rattle.exam_rules.specs.Seatings.{indexed_seating, seating, problem_of, desks, fits, open_halls, fitting_places, comes_before}
 use Rattle.exam_rules.specs.Names.{naming, ListsRise, number_at, index_of, hall_index, named_plan, indexed_plan}
 use Rattle.exam_rules.proofs.Naming.{renames, index_below, order_same}
 use Rattle.exam_rules.proofs.Following.{follows}
@@ -47,13 +47,13 @@ module _ (r : Relations) (s : Code) (up : ListsRise r s) (q : Plan ℕ Code) (la
             ∙ ap (option_and_then (hall_index r s)) e ∙ hall.1;
       }
 
-  number_is : (c : ℕ) (h : Code) (p : Place c h) → desk_number (seating r s) (stands_before r s) q c ≡ desk_number (indexed_seating r s) (ranks_before (problem_of r s)) (indexed_plan r s q) p.index
+  number_is : (c : ℕ) (h : Code) (p : Place c h) → desk_number (seating r s) (comes_before r s) q c ≡ desk_number (indexed_seating r s) (ranks_before (problem_of r s)) (indexed_plan r s q) p.index
   number_is c h p =
-      ap (λ (plan : Plan ℕ Code). desk_number (seating r s) (stands_before r s) plan c) (sym back)
-      ∙ desk_number-named (naming r s) (renames r s up) (stands_before r s) (ranks_before (problem_of r s)) (order_same r s) (indexed_plan r s q) lawful_indexed c p.index p.is
+      ap (λ (plan : Plan ℕ Code). desk_number (seating r s) (comes_before r s) plan c) (sym back)
+      ∙ desk_number-named (naming r s) (renames r s up) (comes_before r s) (ranks_before (problem_of r s)) (order_same r s) (indexed_plan r s q) lawful_indexed c p.index p.is
 
   -- the number is one of the hall's desks
-  pub desk_within : (c n : ℕ) (h : Code) → q c ≡ Some h → desk_number (seating r s) (stands_before r s) q c ≡ Some n → n ≤ desks r s h
+  pub desk_within : (c n : ℕ) (h : Code) → q c ≡ Some h → desk_number (seating r s) (comes_before r s) q c ≡ Some n → n ≤ desks r s h
   desk_within c n h e number =
       let p = place c h e in
       subst (λ k. n ≤ k) (sym ((renames r s up).desks h p.hall p.hall_is))
@@ -64,7 +64,7 @@ module _ (r : Relations) (s : Code) (up : ListsRise r s) (q : Plan ℕ Code) (la
 
   -- and nobody else of the hall has it
   pub desk_apart : length (members r s) ≤ most_members → (c d : ℕ) (h : Code) → q c ≡ Some h → q d ≡ Some h
-      → desk_number (seating r s) (stands_before r s) q c ≡ desk_number (seating r s) (stands_before r s) q d → c ≡ d
+      → desk_number (seating r s) (comes_before r s) q c ≡ desk_number (seating r s) (comes_before r s) q d → c ≡ d
   desk_apart few c d h ec ed same =
       let pc = place c h ec in
       let pd = place d h ed in

@@ -29,7 +29,7 @@ use Rattle.exam_rules.specs.declared.fit.Terms.{Terms}
 use Rattle.exam_rules.specs.declared.fit.Room.{Room}
 use Rattle.exam_rules.specs.Relations.{Code, Relations, code_cmp, same_code, opening_cmp, row_at}
 use Rattle.exam_rules.specs.Sessions.{members, has_live_entry, barred_halls}
-use Rattle.exam_rules.specs.Seatings.{positions, fits, desks, open_halls, fitting_places, problem_of, rank, stands_before, suits_opened, sitting_terms, opened_room, room_of}
+use Rattle.exam_rules.specs.Seatings.{positions, fits, desks, open_halls, fitting_places, problem_of, rank, comes_before, suits_opened, sitting_terms, opened_room, room_of}
 use Rattle.exam_rules.specs.Names.{naming, first_place, number_at, hall_at, index_of, hall_index, ListsRise}
 use Rattle.exam_rules.proofs.Places.{within}
 use Rattle.exam_rules.proofs.Ranking.{all_there, order_is_rank}
@@ -282,7 +282,7 @@ module _ (r : Relations) (s : Code) where
   codes_rise up j k ej ek e = Less-from_sorted code_cmp (open_halls r s) j k [] up.codes (ranked j k Less (sym e)) (open_index k ek)
 
   -- members come before one another in the order of desks as their indices rank
-  pub order_same : (i j : ℕ) → Contains (range_with_len 0 (length rows)) i → Contains (range_with_len 0 (length rows)) j → stands_before r s (number_at r s i) (number_at r s j) ≡ ranks_before (problem_of r s) i j
+  pub order_same : (i j : ℕ) → Contains (range_with_len 0 (length rows)) i → Contains (range_with_len 0 (length rows)) j → comes_before r s (number_at r s i) (number_at r s j) ≡ ranks_before (problem_of r s) i j
   order_same i j mi mj =
       order_is_rank r s (number_at r s i) (number_at r s j) (there i (below_member i mi)) (there j (below_member j mj))
       ∙ ap (λ n. nat_lt n (rank r s (number_at r s j))) (sym (get_or-map (rank r s) (members r s) i 0 0 (below_member i mi)))

@@ -27,7 +27,7 @@ use Rattle.exam_plan.proofs.Small.{both_tie}
 use Rattle.exam_rules.proofs.Places.{positions_rise, positions_exist}
 use Rattle.exam_rules.specs.Relations.{Code, Relations, code_cmp}
 use Rattle.exam_rules.specs.Sessions.{members, sitting}
-use Rattle.exam_rules.specs.Seatings.{fits, desks, open_halls, fitting_places, desk_key, desk_cmp, stands_before, rank, ranks_of, problem_of}
+use Rattle.exam_rules.specs.Seatings.{fits, desks, open_halls, fitting_places, desk_key, desk_cmp, comes_before, rank, ranks_of, problem_of}
 
 pub desk_total : IsTotalOrder desk_cmp
 desk_total = then_total (on_total (λ (k : Option Code × ℕ). k.0) (options_total nat_list_cmp_total)) (on_total (λ (k : Option Code × ℕ). k.1) nat_cmp_total)
@@ -111,7 +111,7 @@ module _ (r : Relations) (s : Code) where
   -- a member who comes before another has a lesser rank
   pub rank_rises : (c d : ℕ) → list_any (nat_eq c) (members r s) ≡ true → desk_cmp (desk_key r s c) (desk_key r s d) ≡ Less → rank r s c < rank r s d
   rank_rises c d member before =
-      count_less (λ x. stands_before r s x c) (λ x. stands_before r s x d) nat_eq c (λ x e. exact_unsigned_eq c x e) (members r s)
+      count_less (λ x. comes_before r s x c) (λ x. comes_before r s x d) nat_eq c (λ x e. exact_unsigned_eq c x e) (members r s)
       (λ x e. ap is_lt (desk_total.trans (desk_key r s x) (desk_key r s c) (desk_key r s d) (lt_from (desk_cmp (desk_key r s x) (desk_key r s c)) e) before))
       member (ap is_lt (tied_itself desk_total (desk_key r s c))) (ap is_lt before)
 
@@ -153,7 +153,7 @@ module _ (r : Relations) (s : Code) where
   parts_are counts fit places a b c = λ i. record { desk_counts = a i; fit = b i; rank = c i }
 
   -- members come in the order of their ranks
-  pub order_is_rank : (c d : ℕ) → list_any (nat_eq c) (members r s) ≡ true → list_any (nat_eq d) (members r s) ≡ true → stands_before r s c d ≡ nat_lt (rank r s c) (rank r s d)
+  pub order_is_rank : (c d : ℕ) → list_any (nat_eq c) (members r s) ≡ true → list_any (nat_eq d) (members r s) ≡ true → comes_before r s c d ≡ nat_lt (rank r s c) (rank r s d)
   order_is_rank c d mc md = inner (desk_cmp (desk_key r s c) (desk_key r s d)) refl
     where
       inner : (o : Ordering) → desk_cmp (desk_key r s c) (desk_key r s d) ≡ o → is_lt o ≡ nat_lt (rank r s c) (rank r s d)

@@ -16,7 +16,7 @@ use Rattle.exam_plan.specs.Matching.{desk_number}
 use Rattle.exam_plan.specs.Repair.{kept_part}
 use Rattle.exam_rules.specs.Relations.{Code, Relations}
 use Rattle.exam_rules.specs.Sessions.{members, sitting, clashes, arrangement_in_force, finish}
-use Rattle.exam_rules.specs.Seatings.{fits, seating, plan_of, stands_before, problem_of}
+use Rattle.exam_rules.specs.Seatings.{fits, seating, plan_of, comes_before, problem_of}
 use Rattle.exam_plan.specs.Problems.{Problem}
 
 abbrev pub paper_of : ℕ → Features → Paper
@@ -225,7 +225,7 @@ abbrev both_in_A : List ((Code × ℕ) × Code)
 both_in_A = ((codes "S1", 2), codes "A") ∷ ((codes "S1", 5), codes "A") ∷ []
 
 abbrev desk_in_A : ℕ → Option ℕ
-desk_in_A = desk_number (seating two_sittings (codes "S1")) (stands_before two_sittings (codes "S1"))
+desk_in_A = desk_number (seating two_sittings (codes "S1")) (comes_before two_sittings (codes "S1"))
     (plan_of both_in_A (codes "S1"))
 
 first_desk : desk_in_A 5 ≡ Some 1

@@ -104,8 +104,8 @@ abbrev pub desk_cmp : Option Code × ℕ → Option Code × ℕ → Ordering
 desk_cmp = pair_cmp (option_cmp code_cmp) nat_cmp
 
 -- in the order of desks
-abbrev pub stands_before : Relations → Code → ℕ → ℕ → Bool
-stands_before r s c d = is_lt (desk_cmp (desk_key r s c) (desk_key r s d))
+abbrev pub comes_before : Relations → Code → ℕ → ℕ → Bool
+comes_before r s c d = is_lt (desk_cmp (desk_key r s c) (desk_key r s d))
 
 -- the places, from n on, of the elements that pass
 abbrev pub positions : {A : Type 0} → (A → Bool) → ℕ → List A → List ℕ
@@ -118,7 +118,7 @@ fitting_places r s c halls = positions (fits r s c) 0 halls
 
 -- the candidate's place in the order of desks, from 0
 abbrev pub rank : Relations → Code → ℕ → ℕ
-rank r s c = count_by (λ d. stands_before r s d c) (members r s)
+rank r s c = count_by (λ d. comes_before r s d c) (members r s)
 
 -- The same with candidates and halls as indices: the i-th member, and the j-th open hall.
 abbrev pub problem_of : Relations → Code → Problem

@@ -9,7 +9,7 @@ ghost use Rattle.exam_plan.specs.Repair.{kept_part, IsSweep, IsRepair};
 ghost use Rattle.exam_plan.specs.Problems.{most_members, plan_at, ranks_before};
 ghost use Rattle.exam_rules.specs.Relations.{Code, Relations};
 ghost use Rattle.exam_rules.specs.Sessions.{members};
-ghost use Rattle.exam_rules.specs.Seatings.{indexed_seating, seating, problem_of, desks, stands_before};
+ghost use Rattle.exam_rules.specs.Seatings.{indexed_seating, seating, problem_of, desks, comes_before};
 ghost use Rattle.exam_rules.specs.Orders.{AreInOrder};
 ghost use Rattle.exam_rules.specs.Names.{ListsRise, SeatsInOpenHalls, named_plan, indexed_plan, named_chain};
 ghost use Rattle.exam_rules.specs.Names.{index_of, hall_index, number_at, hall_at};
@@ -22,7 +22,7 @@ pub fn lists_rise()
 /// A lawful plan of the problem seats candidates only in open halls. Read by numbers and codes it is a lawful plan of
 /// the session that seats as many, a best one is a best one, and the unseated are the same. Read by indices again it is
 /// the same plan.
-pub fn plans_carry_over()
+pub fn plans_by_name()
     ensures lawful { (r : Relations) (s : Code) (p : Plan ℕ ℕ) → ListsRise r s
         → IsLawful (indexed_seating r s) p → IsLawful (seating r s) (named_plan r s p) }
     ensures size { (r : Relations) (s : Code) (p : Plan ℕ ℕ) → ListsRise r s
@@ -39,7 +39,7 @@ pub fn plans_carry_over()
 
 /// A lawful plan of the session is, read by indices, a lawful plan of the problem that seats as many, and a
 /// best one is a best one. Read by numbers and codes again it is the same plan.
-pub fn plans_come_back()
+pub fn plans_by_index()
     ensures lawful { (r : Relations) (s : Code) (q : Plan ℕ Code) → ListsRise r s → IsLawful (seating r s) q
         → IsLawful (indexed_seating r s) (indexed_plan r s q) }
     ensures size { (r : Relations) (s : Code) (q : Plan ℕ Code) → ListsRise r s → IsLawful (seating r s) q
@@ -63,13 +63,13 @@ pub fn lists_are_plans()
 {}
 
 /// The contested members are those at the indices of the contested candidates of the problem.
-pub fn contested_carry_over()
+pub fn contested_by_name()
     ensures { (r : Relations) (s : Code) (c i : ℕ) → ListsRise r s → index_of r s c ≡ Some i
         → IsContested (seating r s) c ↔ IsContested (indexed_seating r s) i }
 {}
 
 /// By numbers and codes, a certificate of the problem is one of the session.
-pub fn certificates_carry_over()
+pub fn certificates_by_name()
     ensures { (r : Relations) (s : Code) (p : Plan ℕ ℕ) (candidates halls : List ℕ) → ListsRise r s
         → IsCertificate (indexed_seating r s) p candidates halls
         → IsCertificate (seating r s) (named_plan r s p)
@@ -77,10 +77,10 @@ pub fn certificates_carry_over()
 {}
 
 /// The desk number of a member is that of their index.
-pub fn desk_numbers_carry_over()
+pub fn desk_numbers_by_name()
     ensures { (r : Relations) (s : Code) (p : Plan ℕ ℕ) (c i : ℕ) → ListsRise r s
         → IsLawful (indexed_seating r s) p → index_of r s c ≡ Some i
-        → desk_number (seating r s) (stands_before r s) (named_plan r s p) c
+        → desk_number (seating r s) (comes_before r s) (named_plan r s p) c
         ≡ desk_number (indexed_seating r s) (ranks_before (problem_of r s)) p i }
 {}
 
@@ -89,18 +89,18 @@ pub fn desk_numbers_carry_over()
 /// Within the limits of an office no session has more than 4,096 members.
 pub fn desks_are_of_their_own()
     ensures within { (r : Relations) (s : Code) (q : Plan ℕ Code) (c n : ℕ) (h : Code) → ListsRise r s
-        → IsLawful (seating r s) q → q c ≡ Some h → desk_number (seating r s) (stands_before r s) q c ≡ Some n
+        → IsLawful (seating r s) q → q c ≡ Some h → desk_number (seating r s) (comes_before r s) q c ≡ Some n
         → n ≤ desks r s h }
     ensures apart { (r : Relations) (s : Code) (q : Plan ℕ Code) (c d : ℕ) (h : Code) → ListsRise r s
         → IsLawful (seating r s) q → length (members r s) ≤ most_members → q c ≡ Some h → q d ≡ Some h
-        → desk_number (seating r s) (stands_before r s) q c
-        ≡ desk_number (seating r s) (stands_before r s) q d
+        → desk_number (seating r s) (comes_before r s) q c
+        ≡ desk_number (seating r s) (comes_before r s) q d
         → c ≡ d }
 {}
 
 /// By numbers and codes, an augmenting chain of the problem is one of the session, a least one is a least one, and the
 /// plans that they lead to are the same.
-pub fn chains_carry_over()
+pub fn chains_by_name()
     ensures chain { (r : Relations) (s : Code) (p : Plan ℕ ℕ) (i : ℕ) (chain : Chain ℕ ℕ) → ListsRise r s
         → SeatsInOpenHalls r s p → IsChain (indexed_seating r s) p i chain
         → IsChain (seating r s) (named_plan r s p) (number_at r s i) (named_chain r s chain) }
@@ -115,7 +115,7 @@ pub fn chains_carry_over()
 {}
 
 /// By indices, an augmenting chain of the session from a member is one of the problem, and a least one is a least one.
-pub fn chains_come_back()
+pub fn chains_by_index()
     ensures chain { (r : Relations) (s : Code) (p : Plan ℕ ℕ) (c i : ℕ) (chain : Chain ℕ Code) → ListsRise r s
         → SeatsInOpenHalls r s p → index_of r s c ≡ Some i → IsChain (seating r s) (named_plan r s p) c chain
         → (indices : Chain ℕ ℕ)
@@ -129,7 +129,7 @@ pub fn chains_come_back()
 
 /// The part that stays of any plan of the session, also of one from before the facts changed, is the part that stays of
 /// it by indices, and it is lawful.
-pub fn kept_parts_carry_over()
+pub fn kept_parts_by_name()
     ensures named { (r : Relations) (s : Code) (q : Plan ℕ Code) → ListsRise r s
         → SamePlan (kept_part (seating r s) q)
         (named_plan r s (kept_part (indexed_seating r s) (indexed_plan r s q))) }
@@ -142,7 +142,7 @@ pub fn kept_parts_carry_over()
 
 /// By numbers and codes, a sweep of the problem is a sweep of the session. It begins with the index of the session's
 /// first candidate, or with nobody if they are no member.
-pub fn sweeps_carry_over()
+pub fn sweeps_by_name()
     ensures { (r : Relations) (s : Code) (first : Option ℕ) (p after : Plan ℕ ℕ) → ListsRise r s
         → SeatsInOpenHalls r s p
         → IsSweep (indexed_seating r s) (option_and_then (index_of r s) first) p after
@@ -150,7 +150,7 @@ pub fn sweeps_carry_over()
 {}
 
 /// The repair by indices of any plan of the session is its repair in the session.
-pub fn repairs_carry_over()
+pub fn repairs_by_name()
     ensures { (r : Relations) (s : Code) (first : Option ℕ) (before : Plan ℕ Code) (after : Plan ℕ ℕ)
         → ListsRise r s
         → IsRepair (indexed_seating r s) (option_and_then (index_of r s) first)
@@ -159,7 +159,7 @@ pub fn repairs_carry_over()
 {}
 
 /// By indices, a sweep of the session is a sweep of the problem.
-pub fn sweeps_come_back()
+pub fn sweeps_by_index()
     ensures { (r : Relations) (s : Code) (first : Option ℕ) (p : Plan ℕ ℕ) (after : Plan ℕ Code)
         → ListsRise r s → SeatsInOpenHalls r s p → IsSweep (seating r s) first (named_plan r s p) after
         → (indices : Plan ℕ ℕ)
@@ -168,7 +168,7 @@ pub fn sweeps_come_back()
 {}
 
 /// By indices, a repair in the session is a repair of the problem.
-pub fn repairs_come_back()
+pub fn repairs_by_index()
     ensures { (r : Relations) (s : Code) (first : Option ℕ) (before after : Plan ℕ Code) → ListsRise r s
         → IsRepair (seating r s) first before after
         → (indices : Plan ℕ ℕ)

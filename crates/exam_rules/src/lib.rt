@@ -17,10 +17,10 @@ pub use clashing::{clashes, clashes_among};
 pub use facts::Facts;
 pub use fit::{finish, fits};
 pub use laws::{
-    certificates_carry_over, chains_carry_over, chains_come_back, contested_carry_over,
-    desk_numbers_carry_over, desks_are_of_their_own, kept_parts_carry_over, lists_are_plans,
-    lists_rise, plans_carry_over, plans_come_back, repair_is_one, repairs_carry_over,
-    repairs_come_back, sweeps_carry_over, sweeps_come_back,
+    certificates_by_name, chains_by_index, chains_by_name, contested_by_name, desk_numbers_by_name,
+    desks_are_of_their_own, kept_parts_by_name, lists_are_plans, lists_rise, plans_by_index,
+    plans_by_name, repair_is_one, repairs_by_index, repairs_by_name, sweeps_by_index,
+    sweeps_by_name,
 };
 pub use lists::{BySession, Entrant, SessionLists, entered_session, session_lists, sitting_among};
 pub use rows::{

@@ -28,10 +28,10 @@ use Rattle.exam_commands.specs.Lodgings.{with_appeal, with_lodging, with_retract
 use Rattle.exam_commands.specs.State.{State, empty_state}
 use Rattle.exam_commands.specs.Steps.{Step, change}
 use Rattle.exam_laws.proofs.Lasting.{made, new_facts}
-use Rattle.exam_rows.specs.Rows.{IsAppeal, IsSession}
+use Rattle.exam_tables.specs.Rows.{IsAppeal, IsSession}
 use Rattle.exam_store.specs.Refused.{HoldsFormed}
 use Rattle.exam_store.specs.Stops.{HasDays, HasRowDay, HasRowDays}
-use Rattle.exam_rows.proofs.OneTable.{session_day}
+use Rattle.exam_tables.proofs.OneTable.{session_day}
 
 abbrev OfSession : Session → Type 0
 OfSession x = IsDay x.day

@@ -6,9 +6,9 @@ use Rattle.exam_rules.specs.Orders.{KeysRise}
 use Rattle.exam_rules.specs.Relations.{seat_cmp}
 use Rattle.exam_commands.specs.Good.{IsGood}
 use Rattle.exam_commands.specs.State.{State as Office}
-use Rattle.exam_rows.specs.declared.writing.Changes.{Changes}
-use Rattle.exam_rows.specs.Inside.{FailsToWrite}
-use Rattle.exam_rows.specs.Writes.{all_saved}
+use Rattle.exam_tables.specs.declared.writing.Changes.{Changes}
+use Rattle.exam_tables.specs.Inside.{FailsToWrite}
+use Rattle.exam_tables.specs.Writes.{all_saved}
 use Rattle.exam_store.specs.Saves.{TurnsTables, FailsToSave}
 use Rattle.exam_store.proofs.KeysHold.{no_key}
 

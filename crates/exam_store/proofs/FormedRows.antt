@@ -12,12 +12,12 @@ use Rattle.sqlite_rules.specs.Lists.{Has}
 use Rattle.sqlite_rules.proofs.ListLemmas.{all_has}
 use Rattle.sqlite_rules.proofs.ProbeLemmas.{has_mapped, mapped_has}
 use Rattle.exam_types.specs.Days.{IsDay}
-use Rattle.exam_tables.proofs.Queries.{has_permuted}
+use Rattle.exam_sql.proofs.Queries.{has_permuted}
 use Rattle.exam_commands.specs.Orders.{IsInOrder}
 use Rattle.exam_commands.specs.State.{State}
-use Rattle.exam_rows.specs.Held.{HoldsRows}
-use Rattle.exam_rows.specs.Loaded.{HoldsTable}
-use Rattle.exam_rows.proofs.OneTable.{Tells, session_day, session_tells, paper_tells, hall_tells, opening_tells, candidate_tells, entry_tells, arrangement_tells, appeal_tells, standing_tells, seat_tells}
+use Rattle.exam_tables.specs.Held.{HoldsRows}
+use Rattle.exam_tables.specs.Loaded.{HoldsTable}
+use Rattle.exam_tables.proofs.OneTable.{Tells, session_day, session_tells, paper_tells, hall_tells, opening_tells, candidate_tells, entry_tells, arrangement_tells, appeal_tells, standing_tells, seat_tells}
 use Rattle.exam_store.specs.Kept.{HoldsOffice}
 use Rattle.exam_store.specs.Refused.{HoldsFormed}
 use Rattle.exam_store.specs.Stops.{HasDays}

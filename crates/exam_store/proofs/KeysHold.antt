@@ -10,27 +10,27 @@ use Rattle.sqlite_rules.specs.Lists.{Has}
 use Rattle.sqlite_rules.proofs.ListLemmas.{all_has, has_left, has_right}
 use Rattle.sqlite_rules.proofs.ProbeLemmas.{has_mapped, mapped_has}
 use Rattle.sqlite.specs.Effect.{Database}
-use Rattle.exam_tables.specs.Changes.{put_all, delete_all}
-use Rattle.exam_tables.specs.Content.{put, delete}
-use Rattle.exam_tables.proofs.Queries.{has_permuted}
-use Rattle.exam_tables.proofs.References.{Stand, links}
-use Rattle.exam_tables.proofs.Standing.{Way, at_rest, putting, all_there, deleting, arrived, now, is_sound, made, Along, Goes, goes_both, puts_part, deletes_part, known_at_start, stands_at, left_was}
+use Rattle.exam_sql.specs.Changes.{put_all, delete_all}
+use Rattle.exam_sql.specs.Content.{put, delete}
+use Rattle.exam_sql.proofs.Queries.{has_permuted}
+use Rattle.exam_sql.proofs.References.{AllRefer, links}
+use Rattle.exam_sql.proofs.KeptReferences.{Way, at_rest, putting, all_there, deleting, arrived, now, is_sound, made, Along, Goes, goes_both, puts_part, deletes_part, known_at_start, all_refer_at, left_was}
 use Rattle.exam_rules.specs.Orders.{KeysRise}
 use Rattle.exam_rules.specs.Relations.{seat_cmp}
 use Rattle.exam_commands.specs.Good.{IsGood}
 use Rattle.exam_commands.specs.State.{State}
-use Rattle.exam_rows.specs.declared.writing.Changes.{Changes}
-use Rattle.exam_rows.specs.Held.{HoldsRows}
-use Rattle.exam_rows.specs.Inside.{Write, put_of, delete_of, written, RefusesOne, RefusesOneRow}
+use Rattle.exam_tables.specs.declared.writing.Changes.{Changes}
+use Rattle.exam_tables.specs.Held.{HoldsRows}
+use Rattle.exam_tables.specs.Inside.{Write, put_of, delete_of, written, RefusesOne, RefusesOneRow}
 use Rattle.exam_store.specs.Kept.{HoldsOffice, Keeps}
-use Rattle.exam_rows.specs.Forms.{Form, sessions, papers, halls, candidates, openings, entries, arrangements, appeals, standing, seats, opening_key, seat_key, with_put}
-use Rattle.exam_rows.specs.Writes.{with_deleted, openings_deleted, seats_deleted, all_put, all_saved}
+use Rattle.exam_tables.specs.Forms.{Form, sessions, papers, halls, candidates, openings, entries, arrangements, appeals, standing, seats, opening_key, seat_key, with_put}
+use Rattle.exam_tables.specs.Writes.{with_deleted, openings_deleted, seats_deleted, all_put, all_saved}
 use Rattle.exam_store.specs.Saves.{TurnsTables}
-use Rattle.exam_rows.specs.Differences.{Turns}
-use Rattle.exam_tables.specs.Texts.{delete_opening, delete_seat}
-use Rattle.exam_rows.proofs.EachTree.{rows_put, keys_deleted, put_whole, whole}
-use Rattle.exam_rows.proofs.Narrowing.{Narrows, all_narrow}
-use Rattle.exam_store.proofs.Referring.{stand}
+use Rattle.exam_tables.specs.Differences.{Turns}
+use Rattle.exam_sql.specs.Texts.{delete_opening, delete_seat}
+use Rattle.exam_tables.proofs.EachTree.{rows_put, keys_deleted, put_whole, whole}
+use Rattle.exam_tables.proofs.Narrowing.{Narrows, all_narrow}
+use Rattle.exam_store.proofs.Referring.{all_refer}
 use Rattle.exam_store.proofs.Rekeeping.{holds_after}
 
 abbrev keys : ℕ → List ℕ
@@ -69,21 +69,21 @@ module _ (before after : State) (c : Changes) (all : Trees) (turns : TurnsTables
   will : HoldsOffice end after
   will = holds_after before after c all turns held
 
-  stood : Stand all
-  stood = stand all before good_before rises_before held
+  referred : AllRefer all
+  referred = all_refer all before good_before rises_before held
 
-  will_stand : Stand end
-  will_stand = stand end after good_after rises_after will
+  will_refer : AllRefer end
+  will_refer = all_refer end after good_after rises_after will
 
   abbrev Passes : (ℕ → Way) → List Write → (ℕ → Way) → Type 0
-  Passes = Goes change keys all mid end fit stood will_stand
+  Passes = Goes change keys all mid end fit referred will_refer
 
   puts : {K V : Type 0} (form : Form K V) {cmp : K → K → Ordering} {old new : List (K × V)} {deletes : List K} (rows : List (Bor K × Bor V)) (ways : ℕ → Way) → keys form.tree ≡ form.places
       → ways form.tree ≡ at_rest → is_sound (now ways form.tree putting) ≡ true → mid form.tree ≡ put_all form.places (rows_put form rows) (all form.tree)
       → ((r : Row) → Has (end form.tree) r → Has (mid form.tree) r) → Turns cmp old new (map deref_pair rows) deletes → HoldsRows form.row new (end form.tree) → Passes ways (with_put form rows) (after_put ways form.tree)
   puts {K} {V} form rows ways is rests sound puts_are stay turned holds =
       let row = λ (y : Bor K × Bor V). form.row y.0.now y.1.now in
-      puts_part change keys all mid end fit stood will_stand form.tree (λ y. put_of form.put form.tree form.places (row y)) (λ y. Null ∷ row y) ways rests sound
+      puts_part change keys all mid end fit referred will_refer form.tree (λ y. put_of form.put form.tree form.places (row y)) (λ y. Null ∷ row y) ways rests sound
       (λ y a. ap (λ k. with_tree a form.tree (put k (Null ∷ row y) (a form.tree))) (sym is)) rows (puts_are ∙ ap (λ k. put_all k (rows_put form rows) (all form.tree)) (sym is)) stay (comes form.row rows (end form.tree) turned holds)
 
   -- of a table that loses no row
@@ -96,7 +96,7 @@ module _ (before after : State) (c : Changes) (all : Trees) (turns : TurnsTables
       → is_sound (now ways form.tree deleting) ≡ true → end form.tree ≡ delete_all form.places (keys_deleted key gone) (mid form.tree) → Passes ways (with_deleted form sql key gone) (after_delete ways form.tree)
   deletes {K} {V} form sql key gone ways is rests sound ends =
       let row = λ (k : Bor K). key k.now in
-      deletes_part change keys all mid end fit stood will_stand form.tree (λ k. delete_of sql form.tree form.places (row k)) (λ k. Null ∷ row k) ways rests sound
+      deletes_part change keys all mid end fit referred will_refer form.tree (λ k. delete_of sql form.tree form.places (row k)) (λ k. Null ∷ row k) ways rests sound
       (λ k a. ap (λ l. with_tree a form.tree (delete l (Null ∷ row k) (a form.tree))) (sym is)) gone (ends ∙ ap (λ k. delete_all k (keys_deleted key gone) (mid form.tree)) (sym is))
 
   -- ---- the stages
@@ -183,15 +183,15 @@ module _ (before after : State) (c : Changes) (all : Trees) (turns : TurnsTables
   gone_openings = deletes openings delete_opening opening_key c.openings.delete.items w11 refl refl refl openings_end
 
   abbrev both : (first next last : ℕ → Way) (xs ys : List Write) → Passes first xs next → Passes next ys last → Passes first (xs ++ ys) last
-  both = goes_both change keys all mid end fit stood will_stand
+  both = goes_both change keys all mid end fit referred will_refer
 
   all_puts : Passes w0 (all_put c) w10
   all_puts = both w0 w2 w10 _ _ (both w0 w1 w2 _ _ sessions_put papers_put) (both w2 w4 w10 _ _ (both w2 w3 w4 _ _ halls_put openings_put)
       (both w4 w7 w10 _ _ (both w4 w5 w7 _ _ candidates_put (both w5 w6 w7 _ _ entries_put arrangements_put)) (both w7 w8 w10 _ _ appeals_put (both w8 w9 w10 _ _ standing_put seats_put))))
 
   -- After each write each row has what it refers to.
-  pub stands : Along change (all_saved c) all
-  stands = (both w0 w10 w12 _ _ all_puts (both w10 w11 w12 _ _ gone_seats gone_openings) all (known_at_start change keys all mid end)).0
+  pub refers_all : Along change (all_saved c) all
+  refers_all = (both w0 w10 w12 _ _ all_puts (both w10 w11 w12 _ _ gone_seats gone_openings) all (known_at_start change keys all mid end)).0
 
 written_made : (writes : List Write) (all : Trees) → written writes all ≡ made change writes all
 written_made [] all = refl
@@ -200,8 +200,8 @@ written_made (w ∷ writes) all = written_made writes (w.change all)
 -- Where the database keeps the old office, it refuses a write of the save by no foreign key.
 pub no_key : (before after : State) (c : Changes) (limit : Option ℕ) (db : Database) → TurnsTables before after c → IsGood before → IsGood after → KeysRise seat_cmp before.seats → KeysRise seat_cmp after.seats → Keeps db before → RefusesOne (all_saved c) limit db → RefusesOneRow (all_saved c) limit db
 no_key before after c limit db turns good_before good_after rises_before rises_after keeps (done, next, rest, are, at, run, becomes, refused) =
-    let along = subst (λ l. Along change l keeps.all) are (stands before after c keeps.all turns keeps.held good_before good_after rises_before rises_after) in
-    let stood : Stand (next.change (written done keeps.all)) = subst (λ a. Stand (next.change a)) (sym (written_made done keeps.all)) (stands_at change done next rest keeps.all along) in
+    let along = subst (λ l. Along change l keeps.all) are (refers_all before after c keeps.all turns keeps.held good_before good_after rises_before rises_after) in
+    let referred : AllRefer (next.change (written done keeps.all)) = subst (λ a. AllRefer (next.change a)) (sym (written_made done keeps.all)) (all_refer_at change done next rest keeps.all along) in
     let among : Has (all_saved c) next = subst (λ l. Has l next) (sym are) (has_right done (next ∷ rest) next (inl refl)) in
     let narrow = all_has Narrows (all_saved c) next (all_narrow c) among in
-    (done, next, rest, are, at, run, becomes, narrow limit at (written done keeps.all) (becomes keeps.all keeps.contains) stood refused)
+    (done, next, rest, are, at, run, becomes, narrow limit at (written done keeps.all) (becomes keeps.all keeps.contains) referred refused)

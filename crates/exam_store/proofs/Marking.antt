@@ -7,16 +7,16 @@ use Rattle.sqlite.specs.Effect.{Database}
 use Rattle.sqlite.specs.State.{State, IsUnchanged}
 use Rattle.exam_types.specs.declared.refusal.Refusal.{Refusal}
 use Rattle.exam_types.specs.declared.refusal.Refusal.TheVariants.{OldSchema}
-use Rattle.exam_tables.specs.Content.{ContainsIn}
-use Rattle.exam_tables.specs.Made.{ContainsMade, lists_marks, made_schema}
-use Rattle.exam_tables.proofs.AllTables.{marks_listed}
-use Rattle.exam_tables.specs.Texts.{held_texts, load_standing}
-use Rattle.exam_rows.specs.Faults.{is_store_refusal}
-use Rattle.exam_rows.specs.Inside.{Contains}
-use Rattle.exam_rows.specs.Loaded.{AreUnderstood, IsUnderstood}
+use Rattle.exam_sql.specs.Content.{ContainsIn}
+use Rattle.exam_sql.specs.Made.{ContainsMade, lists_marks, made_schema}
+use Rattle.exam_sql.proofs.AllTables.{marks_listed}
+use Rattle.exam_sql.specs.Texts.{held_texts, load_standing}
+use Rattle.exam_tables.specs.Faults.{is_store_refusal}
+use Rattle.exam_tables.specs.Inside.{Contains}
+use Rattle.exam_tables.specs.Loaded.{AreUnderstood, IsUnderstood}
 use Rattle.exam_store.specs.Found.{is_open_refusal, version_texts}
-use Rattle.exam_rows.specs.Versions.{ContainsOf, HasVersion, IsKnown, IsOlder, IsVersion, marks_since, version, version_row}
-use Rattle.exam_rows.specs.declared.version.Version.{Version}
+use Rattle.exam_tables.specs.Versions.{ContainsOf, HasVersion, IsKnown, IsOlder, IsVersion, marks_since, version, version_row}
+use Rattle.exam_tables.specs.declared.version.Version.{Version}
 
 listed : (has_marks : Bool) → lists_marks (made_schema has_marks) ≡ has_marks
 listed true = marks_listed.0

@@ -6,16 +6,16 @@ use Rattle.sqlite_trees.specs.Tree.{Trees}
 use Rattle.sqlite.specs.Effect.{Database}
 use Rattle.sqlite.specs.State.{State, HasCleanDisk, IsUnchanged, Survives}
 use Rattle.exam_types.specs.declared.refusal.Refusal.{Refusal}
-use Rattle.exam_tables.specs.Made.{ContainsMade}
-use Rattle.exam_tables.proofs.Keys.{equal_itself}
+use Rattle.exam_sql.specs.Made.{ContainsMade}
+use Rattle.exam_sql.proofs.Keys.{equal_itself}
 use Rattle.exam_store.proofs.Marking.{made_of, no_older, one_version}
 use Rattle.exam_commands.specs.State.{State as Office}
-use Rattle.exam_rows.specs.Versions.{FailsToCreate, FailsToMake, HasVersion, IsKnown, Widens, version, version_at, with_version}
-use Rattle.exam_rows.proofs.Creating.{made_later}
+use Rattle.exam_tables.specs.Versions.{FailsToCreate, FailsToMake, HasVersion, IsKnown, Widens, version, version_at, with_version}
+use Rattle.exam_tables.proofs.Creating.{made_later}
 use Rattle.exam_store.specs.Kept.{HoldsOffice, Migrates}
 use Rattle.exam_commands.specs.Good.{IsGood}
 use Rattle.exam_store.specs.Refused.{HoldsNone, HoldsNoOffice, IsGoodIn, is_within}
-use Rattle.exam_rows.specs.declared.version.Version.{Version}
+use Rattle.exam_tables.specs.declared.version.Version.{Version}
 
 -- the newest version takes the place of an older one
 renewed : (v : ℕ) (all : Trees) → HasVersion v all → HasVersion version (with_version all)

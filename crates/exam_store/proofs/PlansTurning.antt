@@ -21,9 +21,9 @@ use Rattle.exam_commands.specs.State.{Seats}
 use Rattle.exam_changes.specs.TablesBefore.{AreOf}
 use Rattle.exam_commands.proofs.Repeating.{same_rows}
 use Rattle.exam_commands.proofs.SameSeats.{seats_exact, seats_total}
-use Rattle.exam_rows.specs.declared.differences.Difference.{Difference}
-use Rattle.exam_rows.specs.Differences.{has_key, is_one_of, Differs, Turns}
-use Rattle.exam_rows.proofs.RowTurning.{stays}
+use Rattle.exam_tables.specs.declared.differences.Difference.{Difference}
+use Rattle.exam_tables.specs.Differences.{has_key, is_one_of, Differs, Turns}
+use Rattle.exam_tables.proofs.RowTurning.{stays}
 use Rattle.exam_store.specs.Saves.{TurnsTable}
 
 -- what no element passes none of those that are left passes

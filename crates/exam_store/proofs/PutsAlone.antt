@@ -10,8 +10,8 @@ use Rattle.std.proofs.lemmas.Map.Lookups.{CmpEqualImpliesEq}
 use Rattle.exam_rules.specs.Relations.{has_row, row_at}
 use Rattle.exam_commands.specs.KeptRows.{KeepsKeys}
 use Rattle.exam_changes.proofs.Exchanges.{has_first, has_later}
-use Rattle.exam_rows.specs.Differences.{has_key, is_one_of, Turns}
-use Rattle.exam_rows.proofs.RowTurning.{stays}
+use Rattle.exam_tables.specs.Differences.{has_key, is_one_of, Turns}
+use Rattle.exam_tables.proofs.RowTurning.{stays}
 use Rattle.exam_store.proofs.PlansTurning.{key_is_row, row_left}
 use Rattle.exam_store.proofs.RowsTurning.{none_deleted}
 

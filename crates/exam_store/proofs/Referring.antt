@@ -21,9 +21,9 @@ use Rattle.sqlite_schema.specs.Rules.{agree, equal}
 use Rattle.sqlite_rules.specs.Lists.{Has}
 use Rattle.sqlite_rules.proofs.ListLemmas.{all_from, test_has, some_from, some_has, has_contained, contains_had}
 use Rattle.sqlite_rules.proofs.ProbeLemmas.{has_mapped, mapped_has}
-use Rattle.exam_tables.proofs.Keys.{equal_itself, text_itself}
-use Rattle.exam_tables.proofs.Queries.{has_permuted}
-use Rattle.exam_tables.proofs.References.{Stand, Stands, link}
+use Rattle.exam_sql.proofs.Keys.{equal_itself, text_itself}
+use Rattle.exam_sql.proofs.Queries.{has_permuted}
+use Rattle.exam_sql.proofs.References.{AllRefer, LinkHolds, link}
 use Rattle.exam_rules.specs.Orders.{KeysRise}
 use Rattle.exam_rules.specs.Relations.{Code, Relations, appeal_cmp, code_cmp, opening_cmp, seat_cmp, has_row, row_at}
 use Rattle.exam_rules.specs.Seatings.{plan_of, suits_opened, room_of, sitting_terms, fits}
@@ -37,11 +37,11 @@ use Rattle.exam_commands.specs.Good.{IsGood, papers_refer, openings_refer, entri
 use Rattle.exam_commands.specs.State.{State}
 use Rattle.exam_commands.proofs.Members.{kept_from}
 use Rattle.exam_commands.proofs.SameSeats.{seats_total}
-use Rattle.exam_rows.specs.Held.{HoldsRows}
+use Rattle.exam_tables.specs.Held.{HoldsRows}
 use Rattle.exam_store.specs.Kept.{HoldsOffice}
-use Rattle.exam_rows.specs.Rows.{session_row, paper_row, hall_row, candidate_row, opening_row, entry_row, arrangement_row, appeal_row, standing_row, seat_row}
-use Rattle.exam_rows.specs.Stored.{whole}
-use Rattle.exam_rows.proofs.Exact.{appeals_exact, openings_exact}
+use Rattle.exam_tables.specs.Rows.{session_row, paper_row, hall_row, candidate_row, opening_row, entry_row, arrangement_row, appeal_row, standing_row, seat_row}
+use Rattle.exam_tables.specs.Stored.{whole}
+use Rattle.exam_tables.proofs.Exact.{appeals_exact, openings_exact}
 
 -- a row that is looked up is among the rows
 found : {K X : Type 0} (cmp : K → K → Ordering) (k : K) (stored : K × X → Row) (test : Row → Bool) → ((e : K × X) → is_eq (cmp k e.0) ≡ true → test (stored e) ≡ true) → (rows : List (K × X)) → has_row cmp rows k ≡ true → list_any test (map stored rows) ≡ true
@@ -113,39 +113,39 @@ module _ (all : Trees) (office : State) (good : IsGood office) (rises : KeysRise
       let others = and_parts _ _ entries.1 in
       (papers.0, openings.0, entries.0, others.0, others.1)
 
-  paper_session : Stands all (link 3 (3 ∷ []) 1 (1 ∷ []))
+  paper_session : LinkHolds all (link 3 (3 ∷ []) 1 (1 ∷ []))
   paper_session = refer_by paper_row session_row r.papers r.sessions (all 3) (all 1) held.facts.papers held.facts.sessions (λ p c. agree plain (1 ∷ []) p (3 ∷ []) c)
       (λ x h. by_code session_row x.1.session _ (λ e. refl) r.sessions (test_has _ r.papers x refer.0 h))
 
-  opening_session : Stands all (link 8 (1 ∷ []) 1 (1 ∷ []))
+  opening_session : LinkHolds all (link 8 (1 ∷ []) 1 (1 ∷ []))
   opening_session = refer_by opening_row session_row r.openings r.sessions (all 8) (all 1) held.facts.openings held.facts.sessions (λ p c. agree plain (1 ∷ []) p (1 ∷ []) c)
       (λ x h. by_code session_row x.0.0 _ (λ e. refl) r.sessions (and_parts _ _ (test_has _ r.openings x refer.1 h)).0)
 
-  opening_hall : Stands all (link 8 (2 ∷ []) 5 (1 ∷ []))
+  opening_hall : LinkHolds all (link 8 (2 ∷ []) 5 (1 ∷ []))
   opening_hall = refer_by opening_row hall_row r.openings r.halls (all 8) (all 5) held.facts.openings held.facts.halls (λ p c. agree plain (1 ∷ []) p (2 ∷ []) c)
       (λ x h. by_code hall_row x.0.1 _ (λ e. refl) r.halls (and_parts _ _ (test_has _ r.openings x refer.1 h)).1)
 
-  entry_candidate : Stands all (link 10 (1 ∷ []) 7 (1 ∷ []))
+  entry_candidate : LinkHolds all (link 10 (1 ∷ []) 7 (1 ∷ []))
   entry_candidate = refer_by entry_row candidate_row r.entries r.candidates (all 10) (all 7) held.facts.entries held.facts.candidates (λ p c. agree plain (1 ∷ []) p (1 ∷ []) c)
       (λ x h. candidate_by x.0.0 _ (λ e. refl) r.candidates (and_parts _ _ (test_has _ r.entries x refer.2 h)).0)
 
-  entry_paper : Stands all (link 10 (2 ∷ []) 3 (1 ∷ []))
+  entry_paper : LinkHolds all (link 10 (2 ∷ []) 3 (1 ∷ []))
   entry_paper = refer_by entry_row paper_row r.entries r.papers (all 10) (all 3) held.facts.entries held.facts.papers (λ p c. agree plain (1 ∷ []) p (2 ∷ []) c)
       (λ x h. by_code paper_row x.0.1 _ (λ e. refl) r.papers (and_parts _ _ (test_has _ r.entries x refer.2 h)).1)
 
-  arrangement_candidate : Stands all (link 12 (1 ∷ []) 7 (1 ∷ []))
+  arrangement_candidate : LinkHolds all (link 12 (1 ∷ []) 7 (1 ∷ []))
   arrangement_candidate = refer_by arrangement_row candidate_row r.arrangements r.candidates (all 12) (all 7) held.facts.arrangements held.facts.candidates (λ p c. agree plain (1 ∷ []) p (1 ∷ []) c)
       (λ x h. candidate_by x.0 _ (λ e. refl) r.candidates (test_has _ r.arrangements x refer.3 h))
 
-  appeal_candidate : Stands all (link 13 (1 ∷ []) 7 (1 ∷ []))
+  appeal_candidate : LinkHolds all (link 13 (1 ∷ []) 7 (1 ∷ []))
   appeal_candidate = refer_by appeal_row candidate_row r.appeals r.candidates (all 13) (all 7) held.facts.appeals held.facts.candidates (λ p c. agree plain (1 ∷ []) p (1 ∷ []) c)
       (λ x h. candidate_by x.0.0 _ (λ e. refl) r.candidates (and_parts _ _ (test_has _ r.appeals x refer.4 h)).0)
 
-  appeal_session : Stands all (link 13 (3 ∷ []) 1 (1 ∷ []))
+  appeal_session : LinkHolds all (link 13 (3 ∷ []) 1 (1 ∷ []))
   appeal_session = refer_by appeal_row session_row r.appeals r.sessions (all 13) (all 1) held.facts.appeals held.facts.sessions (λ p c. agree plain (1 ∷ []) p (3 ∷ []) c)
       (λ x h. by_code session_row x.1.session _ (λ e. refl) r.sessions (and_parts _ _ (and_parts _ _ (test_has _ r.appeals x refer.4 h)).1).0)
 
-  standing_appeal : Stands all (link 17 (1 ∷ 2 ∷ []) 13 (1 ∷ 2 ∷ []))
+  standing_appeal : LinkHolds all (link 17 (1 ∷ 2 ∷ []) 13 (1 ∷ 2 ∷ []))
   standing_appeal = refer_by standing_row appeal_row r.standing r.appeals (all 17) (all 13) held.facts.standing held.facts.appeals (λ p c. agree plain (1 ∷ 2 ∷ []) p (1 ∷ 2 ∷ []) c)
       (λ x h. appeal_by x.0 _ (λ e. refl) r.appeals (borne (row_at appeal_cmp r.appeals x.0) (test_has _ r.standing x good.marks h)))
 
@@ -163,16 +163,16 @@ module _ (all : Trees) (office : State) (good : IsGood office) (rises : KeysRise
       let fitting : fits r x.0.0 x.0.1 x.1 ≡ true = subst (λ o. IfSome o (λ hall. IsTrue (fits r x.0.0 x.0.1 hall))) (sits x h) ((good.best x.0.0).lawful.fitting x.0.1) in
       opened (sitting_terms r x.0.0 x.0.1) (row_at code_cmp r.halls x.1) (row_at opening_cmp r.openings (x.0.0, x.1)) (and_parts _ _ (and_parts _ _ fitting).1).0
 
-  seat_candidate : Stands all (link 15 (2 ∷ []) 7 (1 ∷ []))
+  seat_candidate : LinkHolds all (link 15 (2 ∷ []) 7 (1 ∷ []))
   seat_candidate = refer_by seat_row candidate_row office.seats r.candidates (all 15) (all 7) held.seats held.facts.candidates (λ p c. agree plain (1 ∷ []) p (2 ∷ []) c)
       (λ x h.
       let e = has_mapped (λ (e : ℕ × Candidate). e.0) r.candidates x.0.1 (seated x h) in
       some_from _ _ (Null ∷ candidate_row e.0.0 e.0.1) (mapped_has (λ (e : ℕ × Candidate). Null ∷ candidate_row e.0 e.1) r.candidates e.0 e.1)
       (subst (λ m. (equal (first_key plain).collation (whole m) (whole x.0.1) && true) ≡ true) e.2 (both_true (equal_itself (pos x.0.1)) refl)))
 
-  seat_opening : Stands all (link 15 (1 ∷ 3 ∷ []) 8 (1 ∷ 2 ∷ []))
+  seat_opening : LinkHolds all (link 15 (1 ∷ 3 ∷ []) 8 (1 ∷ 2 ∷ []))
   seat_opening = refer_by seat_row opening_row office.seats r.openings (all 15) (all 8) held.seats held.facts.openings (λ p c. agree plain (1 ∷ 2 ∷ []) p (1 ∷ 3 ∷ []) c)
       (λ x h. opening_by (x.0.0, x.1) _ (λ e. refl) r.openings (sits_opened x h))
 
-  pub stand : Stand all
-  stand = (paper_session, (opening_session, (opening_hall, (entry_candidate, (entry_paper, (arrangement_candidate, (appeal_candidate, (appeal_session, (seat_candidate, (seat_opening, (standing_appeal, tt)))))))))))
+  pub all_refer : AllRefer all
+  all_refer = (paper_session, (opening_session, (opening_hall, (entry_candidate, (entry_paper, (arrangement_candidate, (appeal_candidate, (appeal_session, (seat_candidate, (seat_opening, (standing_appeal, tt)))))))))))

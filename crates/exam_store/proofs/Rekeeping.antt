@@ -4,31 +4,31 @@ use Rattle.std.proofs.lemmas.List.Sorted.{IsPermutation-refl}
 use Rattle.sqlite_trees.specs.Tree.{Trees}
 use Rattle.sqlite.specs.Effect.{Database}
 use Rattle.sqlite_schema.specs.declared.schema.Schema.{Schema}
-use Rattle.exam_tables.specs.Tables.{no_schema, store_schema}
+use Rattle.exam_sql.specs.Tables.{no_schema, store_schema}
 use Rattle.sqlite.specs.State.{State as Shown, HasCleanDisk, IsUnchanged, Survives}
 use Rattle.exam_types.specs.declared.refusal.Refusal.{Refusal}
 use Rattle.exam_commands.specs.State.{State, empty_state}
-use Rattle.exam_rows.specs.declared.writing.Changes.{Changes}
-use Rattle.exam_rows.specs.Held.{HoldsRows}
+use Rattle.exam_tables.specs.declared.writing.Changes.{Changes}
+use Rattle.exam_tables.specs.Held.{HoldsRows}
 use Rattle.exam_store.specs.Kept.{HoldsOffice}
-use Rattle.exam_rows.specs.Inside.{Becomes, IsOurs, written}
+use Rattle.exam_tables.specs.Inside.{Becomes, IsOurs, written}
 use Rattle.exam_store.specs.Found.{Finds, version_texts}
 use Rattle.exam_store.specs.Kept.{KeepsOurs, Keeps, Rekeeps}
 use Rattle.exam_store.specs.Refused.{HoldsFormed}
-use Rattle.exam_rows.specs.Loaded.{AreUnderstood, IsUnderstood, OnlyReads}
-use Rattle.exam_rows.proofs.Leaving.{both_survive}
+use Rattle.exam_tables.specs.Loaded.{AreUnderstood, IsUnderstood, OnlyReads}
+use Rattle.exam_tables.proofs.Leaving.{both_survive}
 use Rattle.exam_store.proofs.Marking.{made_of, of_newest, one_version, still_made}
-use Rattle.exam_tables.specs.Made.{ContainsMade}
+use Rattle.exam_sql.specs.Made.{ContainsMade}
 use Rattle.sqlite.proofs.Callers.{unchanged_then}
-use Rattle.exam_tables.specs.Texts.{load_office}
-use Rattle.exam_rows.proofs.Holding.{held_facts}
-use Rattle.exam_rows.specs.Forms as forms
-use Rattle.exam_rows.specs.Writes.{all_saved}
+use Rattle.exam_sql.specs.Texts.{load_office}
+use Rattle.exam_tables.proofs.Holding.{held_facts}
+use Rattle.exam_tables.specs.Forms as forms
+use Rattle.exam_tables.specs.Writes.{all_saved}
 use Rattle.exam_store.specs.Saves.{TurnsTables}
-use Rattle.exam_rows.specs.Versions.{HasVersion, new_tables, IsMade, version}
-use Rattle.exam_rows.proofs.EachTree.{whole}
-use Rattle.exam_rows.specs.OurTables.{sessions_ours, papers_ours, halls_ours, openings_ours, candidates_ours, entries_ours, arrangements_ours, appeals_ours, standing_ours, seats_ours}
-use Rattle.exam_rows.proofs.SavedRows.{openings_named, seats_named, table_put, table_saved}
+use Rattle.exam_tables.specs.Versions.{HasVersion, new_tables, IsMade, version}
+use Rattle.exam_tables.proofs.EachTree.{whole}
+use Rattle.exam_tables.specs.OurTables.{sessions_ours, papers_ours, halls_ours, openings_ours, candidates_ours, entries_ours, arrangements_ours, appeals_ours, standing_ours, seats_ours}
+use Rattle.exam_tables.proofs.SavedRows.{openings_named, seats_named, table_put, table_saved}
 
 -- the rows of each table are those of the new office
 pub holds_after : (before after : State) (c : Changes) (all : Trees) → TurnsTables before after c → HoldsOffice all before → HoldsOffice (written (all_saved c) all) after

@@ -5,8 +5,8 @@ use Rattle.sqlite_trees.specs.Tree.{Trees}
 use Rattle.sqlite.specs.Effect.{Database}
 use Rattle.sqlite.specs.State.{State as Shown, HasCleanDisk}
 use Rattle.exam_types.specs.declared.refusal.Refusal.{Refusal}
-use Rattle.exam_tables.specs.Content.{Holds, places}
-use Rattle.exam_tables.specs.Tables.{store_schema}
+use Rattle.exam_sql.specs.Content.{Holds, places}
+use Rattle.exam_sql.specs.Tables.{store_schema}
 use Rattle.exam_commands.specs.declared.command.Command.{Command}
 use Rattle.exam_commands.specs.declared.command.Reply.{Reply}
 use Rattle.exam_commands.specs.Orders.{IsInOrder}
@@ -14,8 +14,8 @@ use Rattle.exam_commands.specs.State.{State}
 use Rattle.exam_commands.specs.Steps.{Step, StepTo}
 use Rattle.exam_laws.proofs.Lasting.{new_facts}
 use Rattle.exam_laws.proofs.OneResult.{one_result}
-use Rattle.exam_rows.specs.Inside.{IsOurs}
-use Rattle.exam_rows.specs.Transactions.{Commits}
+use Rattle.exam_tables.specs.Inside.{IsOurs}
+use Rattle.exam_tables.specs.Transactions.{Commits}
 use Rattle.exam_store.specs.Applied.{MayApply, TurnsBy}
 use Rattle.exam_store.specs.Kept.{IsKept, Keeps}
 use Rattle.exam_store.specs.Stops.{IsBeforeOrAfter, IsFoundAs, Reopens}

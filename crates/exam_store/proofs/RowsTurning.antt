@@ -15,8 +15,8 @@ use Rattle.exam_commands.specs.Exchanges.{HasRows, put_back}
 use Rattle.exam_changes.proofs.Exchanges.{has_first, has_later}
 use Rattle.exam_changes.proofs.GoingBack.{or_row, put_back_at}
 use Rattle.exam_commands.proofs.Repeating.{same_rows}
-use Rattle.exam_rows.specs.Differences.{has_key, Turns}
-use Rattle.exam_rows.proofs.RowTurning.{stays}
+use Rattle.exam_tables.specs.Differences.{has_key, Turns}
+use Rattle.exam_tables.proofs.RowTurning.{stays}
 use Rattle.exam_store.proofs.PlansTurning.{key_is_row, rises_left, row_left}
 
 -- none of these is among no keys

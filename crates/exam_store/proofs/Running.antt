@@ -17,7 +17,7 @@ use Rattle.exam_commands.specs.State.{State}
 use Rattle.exam_commands.specs.Steps.{MayStep, NoneLacksMemory, Run, Step}
 use Rattle.exam_laws.proofs.Lasting.{repeated_decision, repeated_lodging, repeated_retraction}
 use Rattle.exam_laws.proofs.OneResult.{one_run}
-use Rattle.exam_rows.specs.Faults.{is_store_refusal}
+use Rattle.exam_tables.specs.Faults.{is_store_refusal}
 use Rattle.exam_store.specs.Applied.{Applies, FailsInStore, MayApply, NoneFails, in_memory}
 
 -- the store refused the command, and the office stays, or its step is made

@@ -7,11 +7,11 @@ use Rattle.sqlite_value.specs.Order.{Row}
 use Rattle.sqlite_trees.specs.Tree.{Trees}
 use Rattle.sqlite_schema.specs.declared.schema.Table.{Table}
 use Rattle.sqlite.specs.Effect.{Database}
-use Rattle.exam_tables.specs.Content.{Holds, places}
-use Rattle.exam_tables.specs.Tables as tables
-use Rattle.exam_tables.specs.Tables.{store_schema}
+use Rattle.exam_sql.specs.Content.{Holds, places}
+use Rattle.exam_sql.specs.Tables as tables
+use Rattle.exam_sql.specs.Tables.{store_schema}
 use Rattle.exam_commands.specs.State.{State}
-use Rattle.exam_rows.specs.Inside.{Contains}
+use Rattle.exam_tables.specs.Inside.{Contains}
 use Rattle.exam_store.specs.Kept.{HaveSameTables, Keeps}
 
 -- what one database holds, another with the same rows holds too

@@ -2,7 +2,7 @@
 use Rattle.std.proofs.Common.{◌≡◌}
 use Rattle.sqlite_trees.specs.Tree.{Trees}
 use Rattle.exam_commands.specs.State.{State}
-use Rattle.exam_rows.proofs.OneTable.{one_facts, one_seats}
+use Rattle.exam_tables.proofs.OneTable.{one_facts, one_seats}
 use Rattle.exam_store.specs.Refused.{HoldsFormed}
 
 pub one_office : (all : Trees) (a b : State) → HoldsFormed all a → HoldsFormed all b → a ≡ b

@@ -10,10 +10,10 @@ use Rattle.exam_commands.specs.declared.command.Command.{Command}
 use Rattle.exam_commands.specs.declared.command.Reply.{Reply}
 use Rattle.exam_commands.specs.State.{State}
 use Rattle.exam_commands.specs.Steps.{Step}
-use Rattle.exam_rows.specs.Faults.{is_store_refusal}
+use Rattle.exam_tables.specs.Faults.{is_store_refusal}
 use Rattle.exam_store.specs.Saves.{FailsToSave}
-use Rattle.exam_rows.specs.Inside.{IsOurs}
-use Rattle.exam_rows.specs.Transactions.{Commits}
+use Rattle.exam_tables.specs.Inside.{IsOurs}
+use Rattle.exam_tables.specs.Transactions.{Commits}
 use Rattle.exam_store.specs.Kept.{Rekeeps}
 use Rattle.exam_store.specs.Stores.{OfficeIn}
 

@@ -8,13 +8,13 @@ use Rattle.sqlite.specs.Held.{Held, state}
 use Rattle.exam_types.specs.declared.refusal.Refusal.{Refusal}
 use Rattle.exam_types.specs.declared.refusal.Refusal.TheVariants.{Store, OldSchema}
 use Rattle.exam_commands.specs.State.{State as Office, empty_state}
-use Rattle.exam_tables.specs.Made.{ContainsMade}
-use Rattle.exam_tables.specs.Texts.{held_texts, load_office, load_standing, load_texts}
-use Rattle.exam_rows.specs.Inside.{Contains, IsOurs}
+use Rattle.exam_sql.specs.Made.{ContainsMade}
+use Rattle.exam_sql.specs.Texts.{held_texts, load_office, load_standing, load_texts}
+use Rattle.exam_tables.specs.Inside.{Contains, IsOurs}
 use Rattle.exam_store.specs.Kept.{Keeps}
-use Rattle.exam_rows.specs.Loaded.{AreUnderstood, FailsThen, IsLoadRefusal, IsMadeHere}
-use Rattle.exam_rows.specs.Versions.{ContainsOf, FailsToMake, HasVersion, IsOlder, IsVersion, marks_since, version}
-use Rattle.exam_rows.specs.Faults.{is_store_refusal}
+use Rattle.exam_tables.specs.Loaded.{AreUnderstood, FailsThen, IsLoadRefusal, IsMadeHere}
+use Rattle.exam_tables.specs.Versions.{ContainsOf, FailsToMake, HasVersion, IsOlder, IsVersion, marks_since, version}
+use Rattle.exam_tables.specs.Faults.{is_store_refusal}
 use Rattle.exam_store.specs.Refused.{HoldsFormed, HoldsNone, IsGoodIn}
 
 -- if there is a version row, it is that of the newest version

@@ -4,10 +4,10 @@ use Rattle.sqlite_trees.specs.Tree.{Trees}
 use Rattle.sqlite.specs.Effect.{Database}
 use Rattle.sqlite.specs.State.{State, HasCleanDisk}
 use Rattle.exam_commands.specs.State.{State as Office}
-use Rattle.exam_rows.specs.Forms as forms
-use Rattle.exam_rows.specs.Held.{HasRows, HoldsFacts}
-use Rattle.exam_rows.specs.Inside.{Contains, IsOurs}
-use Rattle.exam_rows.specs.Versions.{ContainsOf, HasVersion, IsOlder, version}
+use Rattle.exam_tables.specs.Forms as forms
+use Rattle.exam_tables.specs.Held.{HasRows, HoldsFacts}
+use Rattle.exam_tables.specs.Inside.{Contains, IsOurs}
+use Rattle.exam_tables.specs.Versions.{ContainsOf, HasVersion, IsOlder, version}
 
 -- each table of facts has the rows of its relation, and the table of seats those of the plans
 pub record HoldsOffice (all : Trees) (office : Office) : Type 0 where

@@ -6,9 +6,9 @@ use Rattle.exam_rules.specs.Relations.{Code, Relations}
 use Rattle.exam_commands.specs.Good.{IsGood}
 use Rattle.exam_commands.specs.Limits.{holds_at_most}
 use Rattle.exam_commands.specs.State.{State}
-use Rattle.exam_rows.specs.Held.{HoldsRelations, HoldsSeats}
-use Rattle.exam_rows.specs.Versions.{HasVersion, version_at}
-use Rattle.exam_rows.specs.declared.version.Version.{Version}
+use Rattle.exam_tables.specs.Held.{HoldsRelations, HoldsSeats}
+use Rattle.exam_tables.specs.Versions.{HasVersion, version_at}
+use Rattle.exam_tables.specs.declared.version.Version.{Version}
 
 -- the tables have the rows of this office, whose keys rise and whose values have the forms of their columns
 abbrev pub HoldsFormed : Trees → State → Type 0

@@ -9,11 +9,11 @@ use Rattle.sqlite.specs.State.{State as Shown}
 use Rattle.exam_types.specs.declared.refusal.Refusal.{Refusal}
 use Rattle.exam_rules.specs.Relations.{code_cmp, opening_cmp, entry_cmp, appeal_cmp, seat_cmp}
 use Rattle.exam_commands.specs.State.{State}
-use Rattle.exam_rows.specs.declared.differences.Difference.{Difference}
-use Rattle.exam_rows.specs.declared.writing.Changes.{Changes}
-use Rattle.exam_rows.specs.Differences.{Turns}
-use Rattle.exam_rows.specs.Inside.{RefusesOne, RefusesOneRow, FailsFor}
-use Rattle.exam_rows.specs.Writes.{all_saved}
+use Rattle.exam_tables.specs.declared.differences.Difference.{Difference}
+use Rattle.exam_tables.specs.declared.writing.Changes.{Changes}
+use Rattle.exam_tables.specs.Differences.{Turns}
+use Rattle.exam_tables.specs.Inside.{RefusesOne, RefusesOneRow, FailsFor}
+use Rattle.exam_tables.specs.Writes.{all_saved}
 use Rattle.exam_store.specs.Kept.{Keeps}
 
 -- the rows that are put turn a table that loses none

@@ -14,7 +14,7 @@ use Rattle.exam_commands.specs.declared.import_row.Row.{Row}
 use Rattle.exam_commands.specs.declared.import_row.Row.TheVariants as row
 use Rattle.exam_commands.specs.State.{State}
 use Rattle.exam_commands.specs.Steps.{Step}
-use Rattle.exam_rows.specs.Inside.{IsOurs}
+use Rattle.exam_tables.specs.Inside.{IsOurs}
 use Rattle.exam_store.specs.Found.{Finds}
 use Rattle.exam_store.specs.Kept.{Keeps}
 

@@ -4,13 +4,13 @@ ghost use Rattle.sqlite.specs.Held.{state};
 ghost use Rattle.sqlite.specs.State.{HasCleanDisk, Survives};
 ghost use Rattle.exam_types.specs.declared.refusal.Refusal.TheVariants.{BadStore, UnknownSession};
 ghost use Rattle.exam_rules.specs.Relations.{code_cmp, has_row};
-ghost use Rattle.exam_rows.specs.Loaded.{OnlyReads};
-ghost use Rattle.exam_rows.specs.Streamed as streamed;
-ghost use Rattle.exam_rows.specs.declared.send_fault.SendFault.TheVariants.{Refused};
+ghost use Rattle.exam_tables.specs.Loaded.{OnlyReads};
+ghost use Rattle.exam_tables.specs.Streamed as streamed;
+ghost use Rattle.exam_tables.specs.declared.send_fault.SendFault.TheVariants.{Refused};
 ghost use Rattle.exam_store.specs.Kept.{Keeps};
 
 use exam_office::Office;
-use exam_rows::{AppealText, SendFault, count_appeals, send_appeals};
+use exam_tables::{AppealText, SendFault, count_appeals, send_appeals};
 use exam_types::{Refusal, SessionCode};
 use sqlite::{Alter, Connection};
 use std::alloc::Global;

@@ -2,17 +2,17 @@
 ghost use Rattle.std.specs.Prelude.{◌≡◌, IsTrue, IfOk, IfErr, OnOk};
 ghost use Rattle.sqlite.specs.Held.{state};
 ghost use Rattle.sqlite.specs.State.{HasCleanDisk, IsUnchanged, Survives};
-ghost use Rattle.exam_tables.specs.Made.{ContainsMade, lists_marks};
-ghost use Rattle.exam_tables.specs.Texts.{held_texts, load_standing};
-ghost use Rattle.exam_rows.specs.Faults.{is_store_refusal};
-ghost use Rattle.exam_rows.specs.Loaded.{AreUnderstood, FailsThen, IsLoadRefusal, IsUnderstood, OnlyReads};
-ghost use Rattle.exam_rows.specs.Versions.{ContainsOf, IsKnown};
+ghost use Rattle.exam_sql.specs.Made.{ContainsMade, lists_marks};
+ghost use Rattle.exam_sql.specs.Texts.{held_texts, load_standing};
+ghost use Rattle.exam_tables.specs.Faults.{is_store_refusal};
+ghost use Rattle.exam_tables.specs.Loaded.{AreUnderstood, FailsThen, IsLoadRefusal, IsUnderstood, OnlyReads};
+ghost use Rattle.exam_tables.specs.Versions.{ContainsOf, IsKnown};
 ghost use Rattle.exam_store.specs.Found.{version_texts};
 ghost use Rattle.exam_commands.specs.Good.{IsGood};
 ghost use Rattle.exam_store.specs.Refused.{HoldsFormed, HoldsNoOffice, HoldsNone, is_within};
 
 use exam_office::Office;
-use exam_rows::{Seats, Version, has_marks, load_facts, load_rows};
+use exam_tables::{SeatTable, Version, has_marks, load_facts, load_rows};
 use exam_types::Refusal;
 use sqlite::{Alter, Connection};
 use std::alloc::Global;
@@ -84,6 +84,6 @@ fn load_office<S: Alter>(alloc: Global, conn: &mut Connection<S>) -> Result<Offi
     ensures told { IfErr result (λ e. IsTrue (is_store_refusal e)) }
 {
     let facts = load_facts(alloc, conn)?;
-    let seats = load_rows::<Seats, S>(alloc, conn)?;
+    let seats = load_rows::<SeatTable, S>(alloc, conn)?;
     Office::from_parts(alloc, facts, seats)
 }

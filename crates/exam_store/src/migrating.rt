@@ -2,18 +2,18 @@
 ghost use Rattle.std.specs.Prelude.{◌≡◌, ◌∷◌, IsTrue, IfOk, IfErr};
 ghost use Rattle.sqlite.specs.Held.{state};
 ghost use Rattle.sqlite.specs.State.{HasCleanDisk, IsUnchanged, Survives};
-ghost use Rattle.exam_rows.specs.Faults.{is_store_refusal};
-ghost use Rattle.exam_rows.specs.Loaded.{AreUnderstood, FailsThen, IsLoadRefusal, OnlyReads};
-ghost use Rattle.exam_rows.specs.Transactions.{Commits};
-ghost use Rattle.exam_rows.specs.Versions.{ContainsOf, IsKnown, IsVersion, version};
+ghost use Rattle.exam_tables.specs.Faults.{is_store_refusal};
+ghost use Rattle.exam_tables.specs.Loaded.{AreUnderstood, FailsThen, IsLoadRefusal, OnlyReads};
+ghost use Rattle.exam_tables.specs.Transactions.{Commits};
+ghost use Rattle.exam_tables.specs.Versions.{ContainsOf, IsKnown, IsVersion, version};
 ghost use Rattle.exam_store.specs.Found.{FailsToMigrate, HoldsGood, version_texts};
 ghost use Rattle.exam_store.specs.Kept.{Migrates};
 ghost use Rattle.exam_store.specs.Refused.{HoldsNone};
-ghost use Rattle.exam_tables.specs.Made.{ContainsMade};
-ghost use Rattle.exam_tables.specs.Texts.{load_office as office_text};
+ghost use Rattle.exam_sql.specs.Made.{ContainsMade};
+ghost use Rattle.exam_sql.specs.Texts.{load_office as office_text};
 
 use crate::loading::load_version;
-use exam_rows::{NEWEST, Version, save_widened, version_of};
+use exam_tables::{NEWEST, Version, save_widened, version_of};
 use exam_types::Refusal;
 use sqlite::{Alter, Connection};
 use std::alloc::Global;

@@ -1,2 +1,40 @@
-//! What the statements of the office's eleven tables do to their rows. It has only definitions and lemmas.
+//! The rows of the office's tables: their columns, the statements that put, delete and show them, the schema, and
+//! one transaction for all that changes.
 #![tactic(auto)]
+
+mod appeal_text;
+mod columns;
+mod counting;
+mod differences;
+mod faults;
+mod loading;
+mod schema;
+mod send_fault;
+mod statements;
+mod streaming;
+mod subjects;
+mod table;
+mod tables;
+mod version;
+mod writing;
+
+pub use appeal_text::AppealText;
+pub use counting::count_appeals;
+pub use differences::{Difference, Keyed, difference_of};
+pub use loading::load_facts;
+pub use schema::{has_marks, is_blank, version_of};
+pub use send_fault::SendFault;
+pub use streaming::send_appeals;
+pub use table::{StoredRows, load_rows, read_rows};
+pub use tables::appeals::AppealTable;
+pub use tables::arrangements::ArrangementTable;
+pub use tables::candidates::CandidateTable;
+pub use tables::entries::EntryTable;
+pub use tables::halls::HallTable;
+pub use tables::openings::OpeningTable;
+pub use tables::papers::PaperTable;
+pub use tables::seats::SeatTable;
+pub use tables::sessions::SessionTable;
+pub use tables::standing::StandingTable;
+pub use version::{Limits, NEWEST, Version};
+pub use writing::{Changes, save_changes, save_empty, save_widened};

@@ -6,8 +6,8 @@ use Rattle.sqlite.specs.State.{HasCleanDisk, Survives}
 use Rattle.sqlite_trees.specs.View.{doubt}
 use Rattle.sqlite_trees.specs.declared.store.Store.{Ghosts}
 use Rattle.exam_commands.specs.State.{State}
-use Rattle.exam_rows.specs.Loaded.{IsLeft, OnlyReads}
-use Rattle.exam_rows.specs.Transactions.{Commits, IsSound}
+use Rattle.exam_tables.specs.Loaded.{IsLeft, OnlyReads}
+use Rattle.exam_tables.specs.Transactions.{Commits, IsSound}
 use Rattle.exam_store.specs.Kept.{Keeps, Rekeeps}
 use Rattle.exam_store.specs.Stores.{OfficeIn}
 use Rattle.exam_theorem.specs.Keeping.{KeepsIt, KeepsOn}

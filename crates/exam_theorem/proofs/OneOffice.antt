@@ -17,7 +17,7 @@ use Rattle.exam_request.specs.declared.choice.Choice.{Choice}
 use Rattle.exam_request.specs.declared.choice.Choice.TheVariants as choice
 use Rattle.exam_request.specs.declared.fault.Fault.{Fault}
 use Rattle.exam_store.specs.Applied.{MayApply}
-use Rattle.exam_rows.specs.Faults.{is_store_refusal}
+use Rattle.exam_tables.specs.Faults.{is_store_refusal}
 use Rattle.exam_http.specs.Alike.{IsFailure as IsFailureTold}
 use Rattle.exam_http.specs.Answering.{TellsReply, choice_in}
 use Rattle.exam_http.specs.declared.serving.HttpFault.{HttpFault}

@@ -6,7 +6,7 @@ use Rattle.exam_rules.specs.Relations.{Code}
 use Rattle.exam_commands.specs.State.{State}
 use Rattle.exam_line.specs.declared.line.Sheet.{Sheet}
 use Rattle.exam_line.specs.declared.line.Sheet.TheVariants as sheet
-use Rattle.exam_rows.specs.Transactions.{IsSound}
+use Rattle.exam_tables.specs.Transactions.{IsSound}
 use Rattle.exam_store.specs.Stores.{OfficeIn}
 use Rattle.exam_theorem.specs.Following.{LineEnd}
 use Rattle.exam_theorem.specs.Keeping.{KeepsIt, KeepsOn}

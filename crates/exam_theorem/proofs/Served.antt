@@ -10,7 +10,7 @@ use Rattle.exam_commands.specs.declared.command.Command.{Command}
 use Rattle.exam_commands.specs.declared.command.Command.TheVariants as command
 use Rattle.exam_commands.specs.declared.command.Reply.{Reply}
 use Rattle.exam_commands.specs.State.{State}
-use Rattle.exam_rows.specs.Transactions.{IsSound}
+use Rattle.exam_tables.specs.Transactions.{IsSound}
 use Rattle.exam_store.specs.Applied.{IsApplied}
 use Rattle.exam_store.specs.Kept.{Keeps, Rekeeps}
 use Rattle.exam_store.specs.Stores.{OfficeIn}

@@ -17,7 +17,7 @@ use Rattle.exam_request.specs.Answer.{Told, answer_text}
 use Rattle.exam_store.specs.Applied.{MayApply}
 use Rattle.exam_http.specs.Alike.{IsFailure as IsFailureTold}
 use Rattle.exam_http.specs.declared.serving.HttpFault.{HttpFault}
-use Rattle.exam_rows.specs.Faults.{is_store_refusal}
+use Rattle.exam_tables.specs.Faults.{is_store_refusal}
 use Rattle.exam_job.specs.declared.report.JobFault.{JobFault}
 use Rattle.exam_job.specs.declared.report.JobFault.TheVariants.{File, Refused, Write}
 use Rattle.exam_theorem.specs.Orders.{Given, MayUnseat, command_of, line_of, of_line, of_request}

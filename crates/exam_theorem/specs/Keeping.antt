@@ -1,7 +1,7 @@
 -- What becomes of the tables that keep an office.
 use Rattle.sqlite_trees.specs.declared.store.Store.{Ghosts}
 use Rattle.sqlite.specs.Held.{state}
-use Rattle.exam_rows.specs.Transactions.{IsSound}
+use Rattle.exam_tables.specs.Transactions.{IsSound}
 use Rattle.exam_store.specs.Kept.{IsKept}
 use Rattle.exam_store.specs.Stores.{OfficeIn}
 

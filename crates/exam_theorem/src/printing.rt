@@ -5,7 +5,7 @@ ghost use Rattle.exam_types.specs.declared.refusal.Refusal.TheVariants.{NoMemory
 ghost use Rattle.exam_rules.specs.Relations.{Code};
 ghost use Rattle.exam_commands.specs.Headline.{IsSeated};
 ghost use Rattle.exam_line.specs.Lines as lines;
-ghost use Rattle.exam_rows.specs.Transactions.{IsSound};
+ghost use Rattle.exam_tables.specs.Transactions.{IsSound};
 ghost use Rattle.exam_theorem.specs.Following as spec;
 ghost use Rattle.exam_theorem.specs.Keeping.{KeepsIt, KeepsOn};
 ghost use Rattle.exam_theorem.specs.Orders.{sheet_asked, sheet_of, shown};

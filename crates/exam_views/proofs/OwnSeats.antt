@@ -24,7 +24,7 @@ use Rattle.exam_plan.specs.Problems.{most_members}
 use Rattle.exam_rules.specs.Orders.{KeysRise}
 use Rattle.exam_rules.specs.Relations.{Code, Relations, code_cmp, same_code, seat_cmp}
 use Rattle.exam_rules.specs.Sessions.{members, has_live_entry}
-use Rattle.exam_rules.specs.Seatings.{seating, plan_of, stands_before, desk_cmp, desk_key}
+use Rattle.exam_rules.specs.Seatings.{seating, plan_of, comes_before, desk_cmp, desk_key}
 use Rattle.exam_rules.proofs.Naming.{same_code_exact, same_code_itself}
 use Rattle.exam_commands.specs.State.{Seats}
 use Rattle.exam_commands.proofs.Members.{kept_from}
@@ -234,13 +234,13 @@ module _ (r : Relations) (seats : Seats) (s : Code) (up : KeysRise seat_cmp seat
         inner true true true x y z rest = rw (y, z) (ap suc rest)
 
     -- those who come before the candidate in the hall, counted over the seats of the session
-    pub counted_before : IsStrictlySortedBy nat_cmp (members r s) → (c : ℕ) → before_among r s h (desk_key r s c) (filter is_own seats) ≡ count_by (λ d. stands_before r s d c) (occupants (seating r s) (plan_of seats s) h)
-    counted_before rising c = sym (passing (λ d. stands_before r s d c) seats) ∙ length-filter (λ d. stands_before r s d c) (seated seats) ∙ ap (count_by (λ d. stands_before r s d c)) (sym (occupants_are rising))
+    pub counted_before : IsStrictlySortedBy nat_cmp (members r s) → (c : ℕ) → before_among r s h (desk_key r s c) (filter is_own seats) ≡ count_by (λ d. comes_before r s d c) (occupants (seating r s) (plan_of seats s) h)
+    counted_before rising c = sym (passing (λ d. comes_before r s d c) seats) ∙ length-filter (λ d. comes_before r s d c) (seated seats) ∙ ap (count_by (λ d. comes_before r s d c)) (sym (occupants_are rising))
 
 -- in a hall sit no more than the session may have members
-pub few_before : (r : Relations) (seats : Seats) (s h : Code) (c : ℕ) → length (members r s) ≤ most_members → count_by (λ d. stands_before r s d c) (occupants (seating r s) (plan_of seats s) h) ≤ most_members
+pub few_before : (r : Relations) (seats : Seats) (s h : Code) (c : ℕ) → length (members r s) ≤ most_members → count_by (λ d. comes_before r s d c) (occupants (seating r s) (plan_of seats s) h) ≤ most_members
 few_before r seats s h c limit =
-    let sitting_there : count_by (λ d. stands_before r s d c) (occupants (seating r s) (plan_of seats s) h) ≤ length (occupants (seating r s) (plan_of seats s) h) = count_by-le-length (λ d. stands_before r s d c) (occupants (seating r s) (plan_of seats s) h) in
+    let sitting_there : count_by (λ d. comes_before r s d c) (occupants (seating r s) (plan_of seats s) h) ≤ length (occupants (seating r s) (plan_of seats s) h) = count_by-le-length (λ d. comes_before r s d c) (occupants (seating r s) (plan_of seats s) h) in
     let all : length (occupants (seating r s) (plan_of seats s) h) ≡ count_by (λ d. is_hall (seating r s) h (plan_of seats s d)) (members r s) = length-filter (λ d. is_hall (seating r s) h (plan_of seats s d)) (members r s) in
     let few : count_by (λ d. is_hall (seating r s) h (plan_of seats s d)) (members r s) ≤ length (members r s) = count_by-le-length (λ d. is_hall (seating r s) h (plan_of seats s d)) (members r s) in
     omega arith

@@ -20,7 +20,7 @@ use Rattle.exam_rules.specs.declared.rows.Candidate.{Candidate}
 use Rattle.exam_rules.specs.declared.rows.Opening.{Opening}
 use Rattle.exam_rules.specs.Relations.{Code, Relations, code_cmp, same_code, row_at}
 use Rattle.exam_rules.specs.Sessions.{members, sitting, finish, clashes}
-use Rattle.exam_rules.specs.Seatings.{indexed_seating, seating, problem_of, plan_of, open_halls, desks, fitting_places, stands_before, IsTooLarge}
+use Rattle.exam_rules.specs.Seatings.{indexed_seating, seating, problem_of, plan_of, open_halls, desks, fitting_places, comes_before, IsTooLarge}
 use Rattle.exam_rules.specs.Names.{naming, ListsRise, number_at, hall_at, index_of, named_plan, indexed_plan}
 use Rattle.exam_rules.proofs.Naming.{renames, order_same, numbers_rise, codes_rise, fit_open, index_known}
 use Rattle.exam_rules.proofs.Ranking.{is_problem}
@@ -203,11 +203,11 @@ module _ (r : Relations) (seats : Seats) (s : Code) (up : ListsRise r s) (few : 
       ∙ ap (λ (q : ℕ → Option Code). q (number_at r s i)) named_is
 
   desk_is : (i : ℕ) → i < length (members r s)
-      → desk_number (seating_of view.problem) (ranks_before view.problem) (plan_at view.plan) i ≡ desk_number (seating r s) (stands_before r s) (plan_of seats s) (number_at r s i)
+      → desk_number (seating_of view.problem) (ranks_before view.problem) (plan_at view.plan) i ≡ desk_number (seating r s) (comes_before r s) (plan_of seats s) (number_at r s i)
   desk_is i below =
       ap (λ (p : Problem). desk_number (seating_of p) (ranks_before p) (plan_at view.plan) i) made.problem
-      ∙ sym (desk_number-named (naming r s) (renames r s up) (stands_before r s) (ranks_before (problem_of r s)) (order_same r s) (plan_at view.plan) best_indexed.lawful (number_at r s i) i (index_known r s up i below))
-      ∙ ap (λ (q : ℕ → Option Code). desk_number (seating r s) (stands_before r s) q (number_at r s i)) named_is
+      ∙ sym (desk_number-named (naming r s) (renames r s up) (comes_before r s) (ranks_before (problem_of r s)) (order_same r s) (plan_at view.plan) best_indexed.lawful (number_at r s i) i (index_known r s up i below))
+      ∙ ap (λ (q : ℕ → Option Code). desk_number (seating r s) (comes_before r s) q (number_at r s i)) named_is
 
   abbrev office : State
   office = record { relations = r; seats = seats }
@@ -215,8 +215,8 @@ module _ (r : Relations) (seats : Seats) (s : Code) (up : ListsRise r s) (few : 
   seat_is : (i : ℕ) (m : Member) (n : ℕ) → member_of r s n ≡ Some m → n ≡ number_at r s i → i < length (members r s) → Some (seat_at view i m) ≡ seat_of office s n
   seat_is i m n is at below =
       ap (λ (h : Option Code). Some (seat_in m h (desk_number (seating_of view.problem) (ranks_before view.problem) (plan_at view.plan) i))) (hall_is i below ∙ ap (plan_of seats s) (sym at))
-      ∙ ap (λ (d : Option ℕ). Some (seat_in m (plan_of seats s n) d)) (desk_is i below ∙ ap (desk_number (seating r s) (stands_before r s) (plan_of seats s)) (sym at))
-      ∙ sym (ap (option_map (λ (x : Member). seat_in x (plan_of seats s n) (desk_number (seating r s) (stands_before r s) (plan_of seats s) n))) is)
+      ∙ ap (λ (d : Option ℕ). Some (seat_in m (plan_of seats s n) d)) (desk_is i below ∙ ap (desk_number (seating r s) (comes_before r s) (plan_of seats s)) (sym at))
+      ∙ sym (ap (option_map (λ (x : Member). seat_in x (plan_of seats s n) (desk_number (seating r s) (comes_before r s) (plan_of seats s) n))) is)
 
   -- of the members from the i-th on
   seats_are : (i : ℕ) (ms : List Member) (ns : List ℕ) → map (λ (m : Member). Some m) ms ≡ map (member_of r s) ns → ((k : ℕ) → k < length ns → (get_or ns k 0 ≡ number_at r s (i + k)) × (i + k < length (members r s)))

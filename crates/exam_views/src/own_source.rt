@@ -10,7 +10,7 @@ ghost use Rattle.exam_rules.specs.Relations.{Code, relations_of, code_cmp, seat_
 ghost use Rattle.exam_rules.specs.Relations.{has_row};
 ghost use Rattle.exam_rules.specs.Lists.{AreListsOf, entrants};
 ghost use Rattle.exam_rules.specs.Orders.{KeysRise};
-ghost use Rattle.exam_rules.specs.Seatings.{seating, plan_of, stands_before, desk_cmp, desk_key};
+ghost use Rattle.exam_rules.specs.Seatings.{seating, plan_of, comes_before, desk_cmp, desk_key};
 ghost use Rattle.exam_rules.specs.Sessions as sessions;
 ghost use Rattle.exam_commands.specs.Entered.{HoldsEntered, session_of_paper};
 ghost use Rattle.exam_commands.specs.Good.{IsGood};
@@ -177,13 +177,13 @@ fn desk(
         session.now number }
 {
     match hall {
-        Some(hall) => Some(standing_before(facts, lists, seats, session, number, hall) + 1),
+        Some(hall) => Some(seated_before(facts, lists, seats, session, number, hall) + 1),
         None => None,
     }
 }
 
 /// How many of those who sit in the hall come before the candidate in the order of desks.
-fn standing_before(
+fn seated_before(
     facts: &Facts,
     lists: &SessionLists,
     seats: &Seats,
@@ -195,7 +195,7 @@ fn standing_before(
     requires good { IsGood (record { relations = relations_of facts.now; seats = seats.now.entries }) }
     requires known { IsTrue (has_row code_cmp facts.now.sessions.entries session.now) }
     requires somebody { 0 < length facts.now.candidates.entries }
-    ensures count { result ≡ count_by (λ d. stands_before (relations_of facts.now) session.now d number)
+    ensures count { result ≡ count_by (λ d. comes_before (relations_of facts.now) session.now d number)
         (occupants (seating (relations_of facts.now) session.now) (plan_of seats.now.entries session.now)
         hall.now) }
     ensures most { result ≤ most_members }

@@ -4,7 +4,7 @@ use Rattle.sqlite.specs.Held.{Held, state}
 use Rattle.sqlite.specs.State.{HasCleanDisk}
 use Rattle.sqlite_trees.specs.declared.store.Store.{Ghosts}
 use Rattle.sqlite_trees.specs.Tree.{Trees}
-use Rattle.exam_tables.specs.Made.{ContainsMade}
+use Rattle.exam_sql.specs.Made.{ContainsMade}
 use Rattle.exam_check.specs.FirstBad.{IsFirstBadTable}
 use Rattle.exam_check.specs.Lines.{check_text}
 use Rattle.exam_check.specs.declared.tables.Table.{Table}

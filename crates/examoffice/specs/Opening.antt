@@ -11,7 +11,7 @@ use Rattle.sqlite_wal.specs.Recovery.{Image}
 use Rattle.exam_types.specs.declared.refusal.Refusal.{Refusal}
 use Rattle.exam_types.specs.declared.refusal.Refusal.TheVariants.{NoMemory, Store, BadStore}
 use Rattle.exam_commands.specs.State.{State as Office, empty_state}
-use Rattle.exam_rows.specs.Versions.{IsBlank}
+use Rattle.exam_tables.specs.Versions.{IsBlank}
 use Rattle.exam_store.specs.Found.{Finds}
 
 -- the connection has the database that the files held

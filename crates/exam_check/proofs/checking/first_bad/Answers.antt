@@ -1,8 +1,8 @@
 use Rattle.std.proofs.Common.{◌≡◌, Err, refl, subst, rules}
 use Rattle.sqlite.specs.Effect.{Database}
 use Rattle.sqlite.specs.Held.{state}
-use Rattle.exam_rows.specs.Inside.{Contains}
-use Rattle.exam_rows.specs.Versions.{HasVersion, version}
+use Rattle.exam_tables.specs.Inside.{Contains}
+use Rattle.exam_tables.specs.Versions.{HasVersion, version}
 use Rattle.exam_store.proofs.Marking.{of_newest, older, still_made}
 use Rattle.exam_commands.specs.Good.{tables}
 use Rattle.exam_check.specs.Reading.{office_in, table_texts}

@@ -1,7 +1,7 @@
 use Rattle.std.proofs.Common.{◌≡◌, Err, sym, subst, rules}
 use Rattle.sqlite.specs.Held.{state}
-use Rattle.exam_rows.specs.Loaded.{AreRowsOf}
-use Rattle.exam_rows.proofs.Refusing.{rows_held, rows_shown}
+use Rattle.exam_tables.specs.Loaded.{AreRowsOf}
+use Rattle.exam_tables.proofs.Refusing.{rows_held, rows_shown}
 use Rattle.exam_check.proofs.Found.{of_bad}
 use Rattle.exam_check.proofs.Looking.{looks_ok, query_looks}
 use Rattle.exam_check.proofs.reading.read_table.Goals as goal

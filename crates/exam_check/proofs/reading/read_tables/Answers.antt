@@ -1,6 +1,6 @@
 use Rattle.std.proofs.Common.{◌≡◌, None, Err, refl, rules}
 use Rattle.exam_commands.specs.declared.table.Table.TheVariants as office
-use Rattle.exam_rows.specs.Forms as forms
+use Rattle.exam_tables.specs.Forms as forms
 use Rattle.exam_check.proofs.Found.{noted_as}
 use Rattle.exam_check.proofs.Looking.{fails_still, looks_on}
 use Rattle.exam_check.proofs.reading.read_tables.Goals as goal

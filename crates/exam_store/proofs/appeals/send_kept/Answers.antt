@@ -1,9 +1,9 @@
 use Rattle.std.proofs.Common.{◌≡◌, length, ap, subst, ◌∙◌}
 use Rattle.sqlite.specs.Held.{state}
 use Rattle.exam_rules.specs.Relations.{Relations}
-use Rattle.exam_rows.specs.Streamed.{appeals_in}
-use Rattle.exam_rows.proofs.Counted.{HaveForms}
-use Rattle.exam_rows.proofs.OneByOne.{survives_itself}
+use Rattle.exam_tables.specs.Streamed.{appeals_in}
+use Rattle.exam_tables.proofs.Counted.{HaveForms}
+use Rattle.exam_tables.proofs.OneByOne.{survives_itself}
 use Rattle.exam_store.proofs.Registering.{has_appeals}
 use Rattle.exam_store.proofs.appeals.send_kept.Goals as goal
 

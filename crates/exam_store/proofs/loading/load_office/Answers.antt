@@ -2,13 +2,13 @@ use Rattle.std.proofs.Common.{◌≡◌, ◌++◌, [], ◌∷◌, Err, inl, inr,
 use Rattle.std.proofs.lemmas.Result.{IfOk-weaker, IfErr-weaker}
 use Rattle.sqlite.specs.Held.{state}
 use Rattle.sqlite.specs.Effect.{Database}
-use Rattle.exam_tables.specs.Texts.{fact_texts, load_seat}
-use Rattle.exam_rows.specs.OurTables.{seats_ours}
+use Rattle.exam_sql.specs.Texts.{fact_texts, load_seat}
+use Rattle.exam_tables.specs.OurTables.{seats_ours}
 use Rattle.sqlite.proofs.Callers.{unchanged_then}
 use Rattle.exam_store.specs.Refused.{HoldsFormed}
-use Rattle.exam_rows.specs.Loaded.{AreUnderstood, IsUnderstood}
-use Rattle.exam_rows.proofs.Leaving.{both_survive, left_then, reads_only, still, understood_before, understood_still}
-use Rattle.exam_rows.proofs.Refusing.{part_failed, still_there}
+use Rattle.exam_tables.specs.Loaded.{AreUnderstood, IsUnderstood}
+use Rattle.exam_tables.proofs.Leaving.{both_survive, left_then, reads_only, still, understood_before, understood_still}
+use Rattle.exam_tables.proofs.Refusing.{part_failed, still_there}
 use Rattle.exam_store.proofs.loading.load_office.Goals as goal
 
 pub returns-clause-rows : goal.returns-clause-rows

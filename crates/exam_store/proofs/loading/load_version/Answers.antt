@@ -1,9 +1,9 @@
 use Rattle.std.proofs.Common.{◌≡◌, true, Err, inr, refl, sym, ap, ◌∙◌, true≢false, rules}
 use Rattle.sqlite.specs.Effect.{Database}
 use Rattle.sqlite.specs.Held.{state}
-use Rattle.exam_tables.specs.Made.{lists_marks}
-use Rattle.exam_rows.specs.Versions.{marks_since}
-use Rattle.exam_rows.proofs.Refusing.{part_failed}
+use Rattle.exam_sql.specs.Made.{lists_marks}
+use Rattle.exam_tables.specs.Versions.{marks_since}
+use Rattle.exam_tables.proofs.Refusing.{part_failed}
 use Rattle.exam_store.specs.Refused.{is_within}
 use Rattle.exam_store.proofs.Marking.{found_different, found_equal, known_marks, listed_of, made_of, understood_of}
 use Rattle.exam_store.proofs.Newest.{none_good, within_of}

@@ -2,12 +2,12 @@ use Rattle.std.proofs.Common.{◌≡◌, Err, inl, sym, ap, subst, ◌∙◌, ru
 use Rattle.sqlite.specs.Effect.{Database}
 use Rattle.sqlite.specs.Held.{state}
 use Rattle.sqlite.proofs.Callers.{unchanged_then}
-use Rattle.exam_tables.specs.Made.{lists_marks}
-use Rattle.exam_tables.specs.Texts.{load_office}
-use Rattle.exam_rows.specs.Loaded.{AreUnderstood}
-use Rattle.exam_rows.specs.OurTables.{office_loads}
-use Rattle.exam_rows.proofs.Leaving.{both_survive, left_then, still_itself, still_then}
-use Rattle.exam_rows.proofs.Refusing.{part_failed}
+use Rattle.exam_sql.specs.Made.{lists_marks}
+use Rattle.exam_sql.specs.Texts.{load_office}
+use Rattle.exam_tables.specs.Loaded.{AreUnderstood}
+use Rattle.exam_tables.specs.OurTables.{office_loads}
+use Rattle.exam_tables.proofs.Leaving.{both_survive, left_then, still_itself, still_then}
+use Rattle.exam_tables.proofs.Refusing.{part_failed}
 use Rattle.exam_store.specs.Found.{version_texts}
 use Rattle.exam_store.proofs.Marking.{is_of, known_marks, made_of, still_made, still_of}
 use Rattle.exam_store.proofs.Newest.{none_of_any, within_as}

@@ -1,9 +1,9 @@
 use Rattle.std.proofs.Common.{◌≡◌, IsTrue, Ok, Err, false, inl, inr, arith, subst, rules}
 use Rattle.sqlite.specs.State.{HasCleanDisk}
 use Rattle.sqlite.specs.Held.{state}
-use Rattle.exam_tables.specs.Texts.{held_texts}
-use Rattle.exam_rows.specs.Versions.{HasVersion, Widens, version}
-use Rattle.exam_rows.proofs.Committing.{commits_err, commits_ok, commits_weaker, then_commits, unchanged_commits}
+use Rattle.exam_sql.specs.Texts.{held_texts}
+use Rattle.exam_tables.specs.Versions.{HasVersion, Widens, version}
+use Rattle.exam_tables.proofs.Committing.{commits_err, commits_ok, commits_weaker, then_commits, unchanged_commits}
 use Rattle.exam_store.specs.Kept.{Migrates}
 use Rattle.exam_store.proofs.Marking.{some_understood, still_made}
 use Rattle.exam_store.proofs.Newest.{migrates, newest_alone, not_made}

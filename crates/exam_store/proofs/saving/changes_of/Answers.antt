@@ -8,8 +8,8 @@ use Rattle.exam_commands.specs.KeptRows.{KeepsKeys}
 use Rattle.exam_commands.proofs.AppealKeys.{appeals_total}
 use Rattle.exam_changes.specs.declared.before.Before.{Before}
 use Rattle.exam_changes.specs.TablesBefore.{WasTable}
-use Rattle.exam_rows.specs.declared.differences.Difference.{Difference}
-use Rattle.exam_rows.proofs.Exact.{sessions_exact, papers_exact, halls_exact, openings_exact, candidates_exact, entries_exact, arrangements_exact, appeals_exact, standing_exact}
+use Rattle.exam_tables.specs.declared.differences.Difference.{Difference}
+use Rattle.exam_tables.proofs.Exact.{sessions_exact, papers_exact, halls_exact, openings_exact, candidates_exact, entries_exact, arrangements_exact, appeals_exact, standing_exact}
 use Rattle.exam_store.specs.Saves.{TurnsRows, TurnsTable}
 use Rattle.exam_store.proofs.PutsAlone.{puts_alone}
 use Rattle.exam_store.proofs.saving.changes_of.Goals as goal

@@ -1,4 +1,4 @@
-use Rattle.exam_rows.proofs.RowTurning.{nothing_turns}
+use Rattle.exam_tables.proofs.RowTurning.{nothing_turns}
 use Rattle.exam_store.proofs.saving.no_difference.Goals as goal
 
 pub returns : goal.returns

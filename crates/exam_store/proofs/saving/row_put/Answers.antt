@@ -2,7 +2,7 @@ use Rattle.std.proofs.Common.{◌≡◌, true, false, ◌++◌, ◌∷◌, [], N
 use Rattle.std.specs.Option.{option_copied}
 use Rattle.std.specs.Prelude.{is_some}
 use Rattle.exam_rules.specs.Relations.{row_at}
-use Rattle.exam_rows.proofs.RowTurning.{row_turns}
+use Rattle.exam_tables.proofs.RowTurning.{row_turns}
 use Rattle.exam_store.proofs.saving.row_put.Goals as goal
 use Rattle.exam_store.proofs.saving.row_put.Goals.{in-Some+in_ok-push, in_default}
 

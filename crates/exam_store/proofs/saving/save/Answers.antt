@@ -1,5 +1,5 @@
 use Rattle.sqlite.specs.Held.{state}
-use Rattle.exam_rows.proofs.Committing.{commits_weaker}
+use Rattle.exam_tables.proofs.Committing.{commits_weaker}
 use Rattle.exam_store.proofs.Failing.{fails_to_save}
 use Rattle.exam_store.proofs.Rekeeping.{rekeeps}
 use Rattle.exam_store.proofs.saving.save.Goals as goal

@@ -1,7 +1,7 @@
 use Rattle.std.proofs.Common.{subst}
 use Rattle.std.specs.Cmp.Lexicographic.{pointwise}
 use Rattle.std.specs.Prelude.{nat_eq}
-use Rattle.exam_rows.proofs.Exact.{seats_exact}
+use Rattle.exam_tables.proofs.Exact.{seats_exact}
 use Rattle.exam_rules.specs.Relations.{seat_cmp}
 use Rattle.exam_changes.specs.TablesBefore.{WerePlans}
 use Rattle.exam_store.specs.Saves.{TurnsTable}

@@ -1,6 +1,6 @@
 use Rattle.std.proofs.Common.{◌≡◌, Err, rules}
 use Rattle.sqlite.specs.Held.{state}
-use Rattle.exam_rows.specs.Versions.{IsBlank}
+use Rattle.exam_tables.specs.Versions.{IsBlank}
 use Rattle.exam_store.proofs.Marking.{opens_as}
 use Rattle.exam_store.proofs.Rekeeping.{keeps_empty}
 use Rattle.exam_store.proofs.store.create_office.Goals as goal

@@ -1,11 +1,11 @@
 use Rattle.std.proofs.Common.{◌≡◌, Err, inl, inr, refl, subst, rules}
 use Rattle.std.proofs.lemmas.Result.{IfErr-weaker}
 use Rattle.sqlite.specs.Held.{state}
-use Rattle.exam_tables.specs.Texts.{load_office}
-use Rattle.exam_rows.specs.Versions.{HasVersion, version}
-use Rattle.exam_rows.specs.OurTables.{office_loads}
-use Rattle.exam_rows.proofs.Leaving.{both_survive, still_itself, still_then, then_reads}
-use Rattle.exam_rows.proofs.Refusing.{part_failed}
+use Rattle.exam_sql.specs.Texts.{load_office}
+use Rattle.exam_tables.specs.Versions.{HasVersion, version}
+use Rattle.exam_tables.specs.OurTables.{office_loads}
+use Rattle.exam_tables.proofs.Leaving.{both_survive, still_itself, still_then, then_reads}
+use Rattle.exam_tables.proofs.Refusing.{part_failed}
 use Rattle.exam_store.proofs.Marking.{made_of, older, one_version, opens_as, still_of}
 use Rattle.exam_store.proofs.Rekeeping.{finds_kept, loaded}
 use Rattle.exam_store.proofs.store.load_kept.Goals as goal

@@ -1,7 +1,7 @@
 use Rattle.std.proofs.Common.{subst}
 use Rattle.std.specs.Prelude.{map, string_bytes}
 use Rattle.sqlite.specs.Held.{state}
-use Rattle.exam_rows.specs.Transactions.{IsSound}
+use Rattle.exam_tables.specs.Transactions.{IsSound}
 use Rattle.exam_theorem.specs.Keeping.{KeepsIt}
 use Rattle.exam_theorem.specs.Printing.{RestsOnAsked}
 use Rattle.exam_theorem.proofs.Asked.{asked_is, printed, unread}

@@ -1,6 +1,6 @@
 use Rattle.std.proofs.Common.{◌≡◌, Err, rules}
 use Rattle.sqlite.proofs.Callers.{memory_is_clean}
-use Rattle.exam_rows.proofs.Creating.{only_memory}
+use Rattle.exam_tables.proofs.Creating.{only_memory}
 use Rattle.exam_store.proofs.Rekeeping.{keeps_empty}
 use Rattle.exam_store.proofs.store.Store+MemStore.in_memory.Goals as goal
 

@@ -3,7 +3,7 @@ use Rattle.sqlite.specs.Held.{state}
 use Rattle.exam_commands.specs.State.{State}
 use Rattle.exam_commands.specs.Steps.{Step}
 use Rattle.exam_laws.proofs.KeptRows.{step_keeps}
-use Rattle.exam_rows.proofs.Committing.{commits_weaker, commits_ok, commits_err}
+use Rattle.exam_tables.proofs.Committing.{commits_weaker, commits_ok, commits_err}
 use Rattle.exam_store.proofs.Applying.{draft_turns, draft_fails}
 use Rattle.exam_store.proofs.store.Store.apply.Goals as goal
 

@@ -3,7 +3,7 @@ use Rattle.std.proofs.lemmas.List.{take_more}
 use Rattle.sqlite.specs.Held.{state}
 use Rattle.sqlite.specs.State.{HasCleanDisk}
 use Rattle.exam_store.specs.Applied.{Applies, AreApplied}
-use Rattle.exam_rows.specs.Transactions.{IsSound}
+use Rattle.exam_tables.specs.Transactions.{IsSound}
 use Rattle.exam_store.proofs.Applying.{applies_more, applied_more}
 use Rattle.exam_store.proofs.store.Store.apply_all.Goals as goal
 

@@ -3,7 +3,7 @@ use Rattle.std.specs.Prelude.{vec_len}
 use Rattle.std.specs.Vec.{vec_capacity}
 use Rattle.sqlite.specs.Held.{state}
 use Rattle.exam_store.specs.Applied.{Applies, AreApplied}
-use Rattle.exam_rows.specs.Transactions.{IsSound}
+use Rattle.exam_tables.specs.Transactions.{IsSound}
 use Rattle.exam_store.specs.Kept.{Rekeeps}
 use Rattle.exam_store.proofs.store.Store.apply_all.Given as goal
 

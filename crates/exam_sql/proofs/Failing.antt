@@ -1,0 +1,304 @@
+-- Why a statement on the rows of a table fails.
+use Rattle.std.proofs.Common.{◌≡◌, ◌≤◌, inl, inr, ℕ, ℤ, List, [], ◌∷◌, ◌++◌, length, Bool, true, false, ◌||◌, MatchBool, IsTrue, Some, None, Option, option_map, Ok, Err, Result, refl, sym, ap, subst, ◌∙◌, append-nil}
+use Rattle.sqlite_value.specs.Order.{Row}
+use Rattle.sqlite_trees.specs.Tree.{Trees, rowid}
+use Rattle.sqlite_trees.specs.declared.error.StoreError.TheVariants.{OutOfMemory, Io, Corrupt, Full, Broken, Unstorable}
+use Rattle.sqlite_schema.specs.declared.command.Conflict.{Conflict}
+use Rattle.sqlite_schema.specs.declared.command.Conflict.TheVariants.{Abort, Ignore, Replace}
+use Rattle.sqlite_schema.specs.declared.command.Upsert.{Upsert}
+use Rattle.sqlite_schema.specs.declared.command.Command.{Command}
+use Rattle.sqlite_schema.specs.declared.command.Command.TheVariants.{InsertOr, Delete}
+use Rattle.sqlite_schema.specs.declared.command.Source.{Source}
+use Rattle.sqlite_schema.specs.declared.command.Source.TheVariants.{Values, Query}
+use Rattle.sqlite_schema.specs.declared.program.Program.{Program}
+use Rattle.sqlite_schema.specs.declared.schema.Schema.{Schema}
+use Rattle.sqlite_schema.specs.declared.schema.Keys.{Keys}
+use Rattle.sqlite_schema.specs.declared.schema.Table.{Table}
+use Rattle.sqlite_rules.specs.declared.error.Refusal.{Refusal}
+use Rattle.sqlite_rules.specs.declared.error.Refusal.TheVariants.{Violates, Mismatch, NoRowid, BadReference, TooDeep}
+use Rattle.sqlite_rules.specs.Cast.{cast_row}
+use Rattle.sqlite_rules.specs.Edit.{Edit, edit_of, with_rowid}
+use Rattle.sqlite_rules.specs.Calls.{ids_of}
+use Rattle.sqlite_rules.specs.declared.error.Rowids.TheVariants.{Given}
+use Rattle.sqlite_resolve.specs.declared.compiled.Compiled.{Compiled}
+use Rattle.sqlite_resolve.specs.declared.error.CompileError.{CompileError}
+use Rattle.sqlite.specs.declared.error.Error.{Error}
+use Rattle.sqlite.specs.declared.error.Error.TheVariants.{InvalidQuery}
+use Rattle.sqlite_schema.specs.declared.schema.Constraint.TheVariants.{ForeignKey}
+use Rattle.sqlite.specs.declared.run.Mode.{Mode}
+use Rattle.sqlite.specs.Effect.{Database, edit_error, is_query}
+use Rattle.sqlite.specs.Rows.{Part, Then, Gives, Task, Queried, Sourced, Edited, Counter, CounterIn, Counts, CountsIn, Written, Puts, Clears, Updates, Resolves, Meets, Upserts, Judged, Tries, TriesEach, InsertsOr, Deletes, passes_over, sequence, nothing, shown, count_of, joined, higher, rowids_for, mended, stamped}
+use Rattle.sqlite.specs.Does.{Does, Concludes, OnRows, AtPlace, Tally}
+use Rattle.sqlite.specs.Clock.{timed}
+use Rattle.sqlite.specs.State as state
+use Rattle.sqlite.specs.State.{State, Executes, ExecutesIn, IsNotRun, IsStatement, ExecutesInside, Escapes, EndsScope, IsMisplaced, shows_rows, is_pragma, text_of, mode_of, Runs, RunsCommand}
+use Rattle.sqlite.specs.Listing.{understood}
+use Rattle.sqlite.proofs.Callers.{IsPlain, command_of}
+use Rattle.exam_sql.specs.Refusals.{Refuses, RunsTo, Fails, is_failure}
+
+-- ---- the errors by which a part of a statement is refused
+
+abbrev Named : {A : Type 0} → Part A → Type 0
+Named P = (e : Error) → P (Err (Some e)) → IsTrue (is_failure e)
+
+-- a part that stopped at its first part
+left : {B : Type 0} {First : Option Error → Type 0} (e : Error) → ((stop : Option Error) × First stop × ◌≡◌ {A = Result B (Option Error)} (Err (Some e)) (Err stop)) → ((f : Error) → First (Some f) → IsTrue (is_failure f)) → IsTrue (is_failure e)
+left {B} {First} e stopped named = go stopped.0 stopped.1 stopped.2
+  where
+    go : (stop : Option Error) → First stop → ◌≡◌ {A = Result B (Option Error)} (Err (Some e)) (Err stop) → IsTrue (is_failure e)
+    go None first same = absurd cc
+    go (Some f) first same = let it : e ≡ f = cc in subst (λ x. IsTrue (is_failure x)) (sym it) (named f first)
+
+gives_named : {A : Type 0} (a : A) → Named (Gives a)
+gives_named a e h = absurd cc
+
+is : (e f : Error) → e ≡ f → IsTrue (is_failure f) → IsTrue (is_failure e)
+is e f same named = subst (λ x. IsTrue (is_failure x)) (sym same) named
+
+-- this error is the one that is reported
+told : {A : Type 0} (e f : Error) → ◌≡◌ {A = Result A (Option Error)} (Err (Some e)) (Err (Some f)) → IsTrue (is_failure f) → IsTrue (is_failure e)
+told e f same named = let it : e ≡ f = cc in is e f it named
+
+queried_named : (limit : Option ℕ) (db : Database) (q : Program) (params : Row) → Named (Queried limit db q params)
+queried_named limit db q params e (inl typed) = is e _ typed.0 refl
+queried_named limit db q params e (inr (inl over)) = is e _ over.0 refl
+queried_named limit db q params e (inr (inr long)) = is e _ long.0 refl
+
+sourced_named : (limit : Option ℕ) (db : Database) (params : Row) (from : Source) → Named (Sourced limit db params from)
+sourced_named limit db params (Values terms width) e (inl typed) = is e _ typed.0 refl
+sourced_named limit db params (Values terms width) e (inr long) = is e _ long.0 refl
+sourced_named limit db params (Query q) e h = queried_named limit db q params e h
+
+edit_named : (why : Refusal) → IsTrue (is_failure (edit_error why))
+edit_named (Violates rule) = refl
+edit_named Mismatch = refl
+edit_named NoRowid = refl
+edit_named BadReference = refl
+edit_named TooDeep = refl
+
+edited_named : (schema : Schema) (keys : Keys) (db : Trees) (edit : Edit) → Named (Edited schema keys db edit)
+edited_named schema keys db edit e h = go h.0 h.2
+  where
+    go : (why : Option Refusal) → Some e ≡ option_map edit_error why → IsTrue (is_failure e)
+    go None same = absurd cc
+    go (Some why) same = let it : e ≡ edit_error why = cc in is e (edit_error why) it (edit_named why)
+
+match_named : {A : Type 0} (b : Bool) (P Q : Part A) → Named P → Named Q → Named (λ out. MatchBool b (P out) (Q out))
+match_named true P Q one two e h = one e h
+match_named false P Q one two e h = two e h
+
+at_named : {X A : Type 0} (P : X → Part A) (o : Option X) → ((x : X) → Named (P x)) → Named (AtPlace P o)
+at_named P None named e h = told e InvalidQuery h refl
+at_named P (Some x) named e h = named x e h
+
+module _ (task : Task) where
+  open task use {limit, keys, schema, table, params}
+
+  counter_named : (db : Trees) → Named (Counter task db)
+  counter_named db = match_named table.is_counted (CounterIn task db (sequence schema)) (Gives None) (in_named (sequence schema)) (gives_named None)
+    where
+      in_named : (o : Option Table) → Named (CounterIn task db o)
+      in_named None e h = told e InvalidQuery h refl
+      in_named (Some counters) e h = absurd cc
+
+  counts_named : (db : Trees) (counter : Option Row) (top : ℤ) → Named (Counts task db counter top)
+  counts_named db counter top = match_named _ (CountsIn task db counter top (sequence schema)) (Gives db) (in_named (sequence schema)) (gives_named db)
+    where
+      in_named : (o : Option Table) → Named (CountsIn task db counter top o)
+      in_named None e h = told e InvalidQuery h refl
+      in_named (Some counters) e h = edited_named schema keys db _ e h
+
+  puts_named : (new : Row) (db : Trees) → Named (Puts task new db)
+  puts_named new db e (inl s) = left e s (λ f. edited_named schema keys db (edit_of db table [] Given 0 (new ∷ [])) f)
+  puts_named new db e (inr on) = let h = on.2 in absurd cc
+
+  replaced : (new : Row) (db : Trees) (found : List Row) → Named (Then (Edited schema keys db (edit_of db table (ids_of found) Given 0 [])) (Puts task new))
+  replaced new db found e (inl s) = left e s (λ f. edited_named schema keys db (edit_of db table (ids_of found) Given 0 []) f)
+  replaced new db found e (inr on) = puts_named new on.0 e on.2
+
+  clears_named : (way : Conflict) (new : Row) (db : Trees) (found : List Row) → Named (Clears task way new db found)
+  clears_named way new db [] e h = puts_named new db e h
+  clears_named Abort new db (x ∷ more) e h = puts_named new db e h
+  clears_named Ignore new db (x ∷ more) e h = absurd cc
+  clears_named Replace new db (x ∷ more) e h = replaced new db (x ∷ more) e h
+
+  updates_named : (q : Program) (given : Row) (db : Trees) → Named (Updates task q given db)
+  updates_named q given db e (inl s) = left e s (λ f. queried_named limit (record { schema = schema; trees = db }) q given f)
+  updates_named q given db e (inr (found, _, inl s)) = left e s (λ f. edited_named schema keys db (edit_of db table (ids_of found) Given 1 found) f)
+  updates_named q given db e (inr (found, _, inr on)) = let h = on.2 in absurd cc
+
+  deletes_named : (q : Program) (db : Trees) → Named (Deletes task q db)
+  deletes_named q db e (inl s) = left e s (λ f. queried_named limit (record { schema = schema; trees = db }) q params f)
+  deletes_named q db e (inr (found, _, inl s)) = left e s (λ f. edited_named schema keys db (edit_of db table (ids_of found) Given 0 []) f)
+  deletes_named q db e (inr (found, _, inr on)) = let h = on.2 in absurd cc
+
+  resolves_named : (new : Row) (db : Trees) (there : Row) (q : Option Program) → Named (Resolves task new db there q)
+  resolves_named new db there None e h = absurd cc
+  resolves_named new db there (Some q) e h = updates_named q (params ++ rowid there ∷ shown table new) db e h
+
+  meets_named : (Otherwise : Part Written) (new : Row) (db : Trees) (clause : Upsert) (found : List Row) → Named Otherwise → Named (Meets task Otherwise new db clause found)
+  meets_named Otherwise new db clause [] named = named
+  meets_named Otherwise new db clause (there ∷ more) named = resolves_named new db there clause.update
+
+  upserts_named : (way : Conflict) (new : Row) (db : Trees) (clauses : List Upsert) → Named (Upserts task way new db clauses)
+  upserts_named way new db [] e h = clears_named way new db h.0 e h.2
+  upserts_named way new db (clause ∷ more) e h = meets_named (Upserts task way new db more) new db clause h.0 (upserts_named way new db more) e h.2
+
+  judged_named : (way : Conflict) (clauses : List Upsert) (new : Row) (db : Trees) (verdict : Option Refusal) → Named (Judged task way clauses new db verdict)
+  judged_named way clauses new db None = upserts_named way new db clauses
+  judged_named way clauses new db (Some why) = match_named (passes_over way why) (Gives (nothing db)) (λ out. out ≡ Err (Some (edit_error why))) (gives_named (nothing db)) (λ e h. told e (edit_error why) h (edit_named why))
+
+  tries_named : (way : Conflict) (clauses : List Upsert) (new : Row) (db : Trees) → Named (Tries task way clauses new db)
+  tries_named way clauses new db e (inl full) = told e (edit_error NoRowid) full.1 (edit_named NoRowid)
+  tries_named way clauses new db e (inr judged) = judged_named way clauses new db judged.0 e judged.2
+
+  each_named : (way : Conflict) (clauses : List Upsert) (sources : List Row) (top : ℤ) (done : Written) → Named (TriesEach task way clauses sources top done)
+  each_named way clauses [] top done e h = absurd cc
+  each_named way clauses (source ∷ more) top done e (inl s) = left e s (λ f. tries_named way clauses (with_rowid (rowids_for table top) (done.trees table.tree) (cast_row table (mended way table source))) done.trees f)
+  each_named way clauses (source ∷ more) top done e (inr on) = each_named way clauses more (higher top (with_rowid (rowids_for table top) (done.trees table.tree) (cast_row table (mended way table source)))) (joined done on.0) e on.2
+
+  inserts_named : (way : Conflict) (clauses : List Upsert) (from : Source) (db : Trees) → Named (InsertsOr task way clauses from db)
+  inserts_named way clauses from db e (inl s) = left e s (λ f. sourced_named limit (record { schema = schema; trees = db }) (stamped table params) from f)
+  inserts_named way clauses from db e (inr (found, _, inl s)) = left e s (λ f. counter_named db f)
+  inserts_named way clauses from db e (inr (found, _, inr (counter, _, inl s))) = left e s (λ f. each_named way clauses found (count_of counter) (nothing db) f)
+  inserts_named way clauses from db e (inr (found, _, inr (counter, _, inr (done, _, inl s)))) = left e s (λ f. counts_named done.0.trees counter done.1 f)
+  inserts_named way clauses from db e (inr (found, _, inr (counter, _, inr (done, _, inr on)))) = let h = on.2 in absurd cc
+
+  concludes_named : (mode : Mode) (w : Written) → Named (Concludes task mode None w)
+  concludes_named mode w e (inl s) = left e s (λ f h. let it : f ≡ edit_error (Violates ForeignKey) = let h = h.1 in cc in is f (edit_error (Violates ForeignKey)) it (edit_named (Violates ForeignKey)))
+  concludes_named mode w e (inr (in_doubt, _, inl s)) = left e s (λ f h. absurd cc)
+  concludes_named mode w e (inr (in_doubt, _, inr on)) = let h = on.2 in absurd cc
+
+-- ---- a statement that fails
+
+-- it writes rows
+abbrev pub IsOnRows : Command → Type 0
+IsOnRows (InsertOr at way from clauses) = Unit {0}
+IsOnRows (Delete at q) = Unit {0}
+IsOnRows _ = ⊥
+
+abbrev task_on : Option ℕ → Mode → Row → Database → Table → Task
+task_on limit mode params db table = record { limit = limit; keys = mode.keys; schema = db.schema; table = table; params = params }
+
+on_insert : (task : Task) (mode : Mode) (way : Conflict) (clauses : List Upsert) (from : Source) (db : Trees) → Named (Then (InsertsOr task way clauses from db) (Concludes task mode None))
+on_insert task mode way clauses from db e (inl s) = left e s (λ f. inserts_named task way clauses from db f)
+on_insert task mode way clauses from db e (inr went) = concludes_named task mode went.0 e went.2
+
+on_delete : (task : Task) (mode : Mode) (at : ℕ) (q : Program) (db : Trees) → Named (Then (Deletes task q db) (Concludes task mode None))
+on_delete task mode at q db e (inl s) = left e s (λ f. deletes_named task q db f)
+on_delete task mode at q db e (inr went) = concludes_named task mode went.0 e went.2
+
+does_named : (limit : Option ℕ) (mode : Mode) (params : Row) (db : Database) (text : List ℕ) (command : Command) → IsOnRows command → Named (Does limit mode params db text None command)
+does_named limit mode params db text (InsertOr at way from clauses) rows = at_named (λ table. OnRows (task_on limit mode params db table) mode None (InsertOr at way from clauses) db.trees) _ (λ table. on_insert (task_on limit mode params db table) mode way clauses from db.trees)
+does_named limit mode params db text (Delete at q) rows = at_named (λ table. OnRows (task_on limit mode params db table) mode None (Delete at q) db.trees) _ (λ table. on_delete (task_on limit mode params db table) mode at q db.trees)
+does_named limit mode params db text _ rows = absurd rows
+
+module _ (old new : State) (Refused : Type 0) where
+  -- the disk, the memory or a row that is too big
+  pub cause : (e : Error) (TooBig : Type 0) → state.Fails old new TooBig e → (TooBig → Refused) → Fails old new Refused e
+  cause e TooBig (OutOfMemory, same, why, back, tells) big = inl same
+  cause e TooBig (Io, same, why, back, tells) big = inr (is e _ same refl, inl (inl why))
+  cause e TooBig (Corrupt, same, why, back, tells) big = inr (is e _ same refl, inl (inl why))
+  cause e TooBig (Full, same, why, back, tells) big = inr (is e _ same refl, inl (inl why))
+  cause e TooBig (Broken, same, why, back, tells) big = inr (is e _ same refl, inl (inr why))
+  cause e TooBig (Unstorable, same, why, back, tells) big = inr (is e _ same refl, inr (big why))
+
+-- what follows from the answer of a statement: the database does it, or why it fails
+pub record Answers (sql : List ℕ) (params : Row) (old new : State) : Type 0 where
+  pub done : (count : ℕ) → Executes sql params old new (Ok count) → RunsTo old.step_limit sql params old.now new.now
+  pub fails : (e : Error) → ExecutesInside 0 sql params old new (Err e) → Fails old new (Refuses old.step_limit old.now sql params) e
+
+-- the text is one statement with so many parameters
+abbrev pub IsWhole : List ℕ → ℕ → Result Compiled CompileError → Type 0
+IsWhole text count (Ok c) = (length text ≤ c.tail) × (count ≡ length c.names)
+IsWhole text count (Err fault) = ⊥
+
+module _ (sql : List ℕ) (params : Row) (old new : State) (schema : Schema) (has : old.now.schema ≡ schema) (command : Command) (commands : command_of (understood schema sql) ≡ command) (writes : IsOnRows command)
+    (plain : IsPlain (understood schema sql)) (whole : IsWhole sql (length params) (understood schema sql)) where
+  abbrev Why : Error → Type 0
+  Why = Fails old new (Refuses old.step_limit old.now sql params)
+
+  module _ (c : Compiled) (known : understood schema sql ≡ Ok c) where
+    its_plain : (c.returning ≡ None) × (c.formats ≡ [])
+    its_plain = subst IsPlain known plain
+
+    its_whole : (length sql ≤ c.tail) × (length params ≡ length c.names)
+    its_whole = subst (IsWhole sql (length params)) known whole
+
+    its_rows : IsOnRows c.command
+    its_rows = subst IsOnRows (sym commands ∙ ap command_of known) writes
+
+    refused : (now : ℕ) (stop : Option Error) → Does old.step_limit (mode_of old) (timed params c.formats now) old.now (text_of sql c) c.returning c.command (Err stop) → Refuses old.step_limit old.now sql params
+    refused now stop does = (c, ap (λ s. understood s sql) has ∙ known, stop, rw (its_plain.1, append-nil params) at does)
+
+    -- what it was done by
+    tally_of : (k : Command) → IsOnRows k → (given : Row) (count : ℕ) → Runs old new c.returning k (text_of sql c) given count → (tally : Tally) × Does old.step_limit (mode_of old) given old.now (text_of sql c) c.returning k (Ok (tally, new.now))
+    tally_of (InsertOr at way from clauses) rows given count w = (w.tally, w.changed)
+    tally_of (Delete at q) rows given count w = (w.tally, w.changed)
+    tally_of _ rows given count w = absurd rows
+
+    reached : (now : ℕ) (tally : Tally) → Does old.step_limit (mode_of old) (timed params c.formats now) old.now (text_of sql c) c.returning c.command (Ok (tally, new.now)) → RunsTo old.step_limit sql params old.now new.now
+    reached now tally does = (c, ap (λ s. understood s sql) has ∙ known, tally, rw (its_plain.1, append-nil params) at does)
+
+    command_done : (now count : ℕ) → RunsCommand old new sql c (timed params c.formats now) (Ok count) → RunsTo old.step_limit sql params old.now new.now
+    command_done now count ran =
+        let it = tally_of c.command its_rows (timed params c.formats now) count ran in
+        reached now it.0 it.1
+
+  -- it shows no rows
+  quiet : (c : Compiled) → IsOnRows c.command → c.returning ≡ None → shows_rows false c ≡ false
+  quiet c rows none = rw none (of_command c.command rows)
+    where
+      of_command : (command : Command) → IsOnRows command → (is_query command || (is_pragma command || false)) ≡ false
+      of_command (InsertOr at way from clauses) rows = refl
+      of_command (Delete at q) rows = refl
+      of_command _ rows = absurd rows
+
+  misplaced : (command : Command) → IsOnRows command → (e : Error) → IsMisplaced old command e → ⊥
+  misplaced command rows e (inl (same, inl (it, going))) = subst IsOnRows it rows
+  misplaced command rows e (inl (same, inr (inl it, out))) = subst IsOnRows it rows
+  misplaced command rows e (inl (same, inr (inr it, out))) = subst IsOnRows it rows
+  misplaced command rows e (inr (same, name, inl it, none)) = subst IsOnRows it rows
+  misplaced command rows e (inr (same, name, inr it, none)) = subst IsOnRows it rows
+
+  escapes : (command : Command) → IsOnRows command → Escapes 0 old command → ⊥
+  escapes command rows (inl (inl it)) = subst IsOnRows it rows
+  escapes command rows (inl (inr it)) = subst IsOnRows it rows
+  escapes command rows (inr (name, inl it, held)) = subst IsOnRows it rows
+  escapes command rows (inr (name, inr it, held)) = subst IsOnRows it rows
+
+  -- what the database has of the text is what the schema has of it
+  from_schema : {r : Result Compiled CompileError} → understood old.now.schema sql ≡ r → understood schema sql ≡ r
+  from_schema it = ap (λ s. understood s sql) (sym has) ∙ it
+
+  command_fails : (c : Compiled) (known : understood schema sql ≡ Ok c) (now : ℕ) (e : Error) → RunsCommand old new sql c (timed params c.formats now) (Err e) → Why e
+  command_fails c known now e (inl (inl wrong, same)) = absurd (misplaced c.command (its_rows c known) e wrong)
+  command_fails c known now e (inl (inr (may, does), same)) =
+      let named = rw ((its_plain c known).0) at does in
+      inr (does_named old.step_limit (mode_of old) (timed params c.formats now) old.now (text_of sql c) c.command (its_rows c known) e named, inr (refused c known now (Some e) does))
+  command_fails c known now e (inr failed) = cause old new _ e _ failed (λ big. refused c known now None big)
+
+  done_as : (count : ℕ) → Executes sql params old new (Ok count) → RunsTo old.step_limit sql params old.now new.now
+  unfolding ExecutesIn
+  done_as count (c, it, ran) =
+      let known = from_schema it.is in
+      command_done c known it.now count (rw (quiet c (its_rows c known) (its_plain c known).0) at ran)
+
+  fails_as : (e : Error) → Executes sql params old new (Err e) → Why e
+  unfolding ExecutesIn IsNotRun
+  fails_as e (inl (inl (inl unknown, same))) = absurd (subst IsPlain (from_schema unknown.1) plain)
+  fails_as e (inl (inl (inr (c, known, inl many), same))) = absurd (many.0 (its_whole c (from_schema known)).0)
+  fails_as e (inl (inl (inr (c, known, inr (inl given)), same))) = absurd (given.0 (its_whole c (from_schema known)).1)
+  fails_as e (inl (inl (inr (c, known, inr (inr timeless)), same))) = absurd (timeless.0 (its_plain c (from_schema known)).1)
+  fails_as e (inl (inr failed)) = cause old new _ e _ failed (λ big. absurd big)
+  fails_as e (inr (c, it, ran)) =
+      let known = from_schema it.is in
+      command_fails c known it.now e (rw (quiet c (its_rows c known) (its_plain c known).0) at ran)
+
+  fails_inside : (e : Error) → ExecutesInside 0 sql params old new (Err e) → Why e
+  unfolding EndsScope
+  fails_inside e (inl (ran, same)) = fails_as e ran
+  fails_inside e (inr ((c, it, ends), told_as, same)) = absurd (escapes c.command (its_rows c (from_schema it.is)) ends)
+
+  pub answers : Answers sql params old new
+  answers = record { done = done_as; fails = fails_inside }

@@ -1,0 +1,33 @@
+-- Why what was written is not committed.
+use Rattle.std.proofs.Common.{◌≡◌, ◌≤◌, inl, inr, ap, ◌∙◌, Result, Ok, Err, IfErr, IsTrue}
+use Rattle.std.proofs.lemmas.Bool.{both_ways}
+use Rattle.sqlite_trees.specs.Tree.{Trees}
+use Rattle.sqlite_trees.specs.declared.error.StoreError.TheVariants.{OutOfMemory, Io, Corrupt, Full, Broken, Unstorable}
+use Rattle.sqlite.specs.declared.error.Error.{Error}
+use Rattle.sqlite.specs.State.{State, HasCleanDisk, Survives}
+use Rattle.sqlite.specs.Steps.{FailsToCommit}
+use Rattle.exam_types.specs.declared.refusal.Refusal.{Refusal}
+use Rattle.exam_tables.specs.Faults.{refusal_of}
+use Rattle.exam_tables.specs.Inside.{FailsFor}
+use Rattle.exam_tables.proofs.Steps.{down_later, down_longer}
+
+-- what was written is undone
+pub undone : (Against : Type 0) (old last end : State) (e : Refusal) → last.faults ≤ end.faults → FailsFor Against old last e → FailsFor Against old end e
+undone Against old last end e up (inl lacks) = inl lacks
+undone Against old last end e up (inr (told, inl down)) = inr (told, inl (down_longer old last end up down))
+undone Against old last end e up (inr (told, inr refused)) = inr (told, inr refused)
+
+module _ (Against : Type 0) {P Q : Trees → Type 0} (old last end : State) (before : Survives old last P) (after : Survives last end Q) (clean : HasCleanDisk last) (going : IsTrue last.in_transaction) where
+  not_committed : (e : Refusal) (error : Error) → e ≡ refusal_of error → FailsToCommit last end error → FailsFor Against old end e
+  not_committed e error told (inl (OutOfMemory, same, why, back, tells)) = inl (told ∙ ap refusal_of same)
+  not_committed e error told (inl (Io, same, why, back, tells)) = inr (told ∙ ap refusal_of same, inl (down_later old last end before clean after.counts (inl why)))
+  not_committed e error told (inl (Corrupt, same, why, back, tells)) = inr (told ∙ ap refusal_of same, inl (down_later old last end before clean after.counts (inl why)))
+  not_committed e error told (inl (Full, same, why, back, tells)) = inr (told ∙ ap refusal_of same, inl (down_later old last end before clean after.counts (inl why)))
+  not_committed e error told (inl (Broken, same, why, back, tells)) = inr (told ∙ ap refusal_of same, inl (down_later old last end before clean after.counts (inr why)))
+  not_committed e error told (inl (Unstorable, same, why, back, tells)) = absurd why
+  not_committed e error told (inr late) = absurd (both_ways _ late.1 going)
+
+  -- what was written is not committed
+  pub uncommitted : (result : Result (Unit {0}) Refusal) → IfErr result (λ e. (error : Error) × (e ≡ refusal_of error) × FailsToCommit last end error) → IfErr result (FailsFor Against old end)
+  uncommitted (Ok u) failed = tt
+  uncommitted (Err e) failed = not_committed e failed.0 failed.1 failed.2

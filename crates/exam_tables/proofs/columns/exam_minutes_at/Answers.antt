@@ -1,0 +1,6 @@
+use Rattle.exam_types.specs.Numbers.{IsExamMinutes}
+use Rattle.exam_tables.proofs.Reading.{narrowed}
+use Rattle.exam_tables.proofs.columns.exam_minutes_at.Goals as goal
+
+pub returns : goal.returns
+returns c = rw c.ok_or.ensures.value (narrowed IsExamMinutes _ _ c.new.result c.in_ok-small_at.ensures.1 c.new.ensures)

@@ -1,0 +1,67 @@
+use Rattle.std.proofs.Common.{◌≡◌, Err, [], rules, inl, inr, refl, sym, ◌∙◌}
+use Rattle.std.proofs.lemmas.Result.{IfOk-weaker, IfErr-weaker}
+use Rattle.sqlite.specs.Held.{state}
+use Rattle.exam_sql.specs.Texts.{load_office}
+use Rattle.exam_sql.proofs.Loads.{load_fails, shown_by}
+use Rattle.exam_sql.proofs.OfOffice as office
+use Rattle.exam_sql.proofs.Quiet.{shown_unchanged, failed_unchanged}
+use Rattle.exam_tables.proofs.Leaving.{bad_unchanged, query_survives, reads_only, shown_understood, understood_still, fails_to_load}
+use Rattle.exam_tables.proofs.Versioned.{version_held, version_shown}
+use Rattle.exam_tables.proofs.schema.version_of.Goals as goal
+
+pub returns-clause-ok : goal.returns-clause-ok
+returns-clause-ok g c = λ clean.
+    IfOk-weaker c.version_in.result _ _ (λ version is all was.
+    let rows = c.in_ok-rows.rows.items in
+    let shown = shown_by (office.loads was.has_marks) (state g.S.Store c.args.conn.now) (state g.S.Store c.all_rows.new.conn) rows all was.contains (c.in_ok-rows.ensures.shown clean) in
+    (version_held version.number (all 0) rows shown.0 (sym c.as_slice.ensures.value ∙ is), shown.1)) c.version_in.ensures.ok
+
+pub returns-clause-bad : goal.returns-clause-bad
+returns-clause-bad g c = λ clean.
+    IfErr-weaker c.version_in.result _ _ (λ e why. inr (inr (
+      why.0,
+      λ all was version one held.
+          let rows = c.in_ok-rows.rows.items in
+          let shown = shown_by (office.loads was.has_marks) (state g.S.Store c.args.conn.now) (state g.S.Store c.all_rows.new.conn) rows all was.contains (c.in_ok-rows.ensures.shown clean) in
+          why.1 version one (c.as_slice.ensures.value ∙ version_shown version (all 0) rows shown.0 held),
+    ))) c.version_in.ensures.bad
+
+pub returns-clause-told : goal.returns-clause-told
+returns-clause-told g c = IfErr-weaker c.version_in.result _ _ (λ e why. rw why.0 refl) c.version_in.ensures.bad
+
+pub returns-clause-left : goal.returns-clause-left
+returns-clause-left g c = λ clean.
+    let old = state g.S.Store c.args.conn.now in
+    let new = state g.S.Store c.all_rows.new.conn in
+    reads_only old new c.version_in.result (shown_unchanged load_office office.is_query [] old new c.in_ok-rows.rows.items (c.in_ok-rows.ensures.shown clean))
+
+pub returns-in_err-rows-clause-left : goal.returns-in_err-rows-clause-left
+returns-in_err-rows-clause-left g c = λ clean.
+    let is : c.from_residual.result ≡ Err c.in_err-rows.field-0.0 = search rules in
+    let it = c.in_err-rows.ensures.failed clean in
+    rw is (failed_unchanged load_office [] (state g.S.Store c.args.conn.now) (state g.S.Store c.all_rows.new.conn) it.0 it.2)
+
+pub returns-clause-survives : goal.returns-clause-survives
+returns-clause-survives g c = query_survives load_office office.is_query (state g.S.Store c.args.conn.now) (state g.S.Store c.all_rows.new.conn) c.all_rows.ensures.survives
+
+pub returns-in_err-rows-clause-survives : goal.returns-in_err-rows-clause-survives
+returns-in_err-rows-clause-survives g c = query_survives load_office office.is_query (state g.S.Store c.args.conn.now) (state g.S.Store c.all_rows.new.conn) c.all_rows.ensures.survives
+
+pub returns-in_err-rows-clause-bad : goal.returns-in_err-rows-clause-bad
+returns-in_err-rows-clause-bad g c = λ clean.
+    let is : c.from_residual.result ≡ Err c.in_err-rows.field-0.0 = search rules in
+    rw is (inr (inl (fails_to_load {V = Unit {0}} load_office (λ old new has_marks. load_fails (office.loads has_marks) old new) (state g.S.Store c.args.conn.now) (state g.S.Store c.all_rows.new.conn) (Err c.in_err-rows.field-0.0) (c.in_err-rows.ensures.failed clean))))
+
+pub returns-clause-understood : goal.returns-clause-understood
+returns-clause-understood g c = λ clean.
+    understood_still c.version_in.result (shown_understood load_office (state g.S.Store c.args.conn.now) (state g.S.Store c.all_rows.new.conn) c.in_ok-rows.rows.items (c.in_ok-rows.ensures.shown clean))
+
+pub returns-clause-unchanged : goal.returns-clause-unchanged
+returns-clause-unchanged g c = λ clean.
+    IfErr-weaker c.version_in.result _ _ (λ e why bad. shown_unchanged load_office office.is_query [] (state g.S.Store c.args.conn.now) (state g.S.Store c.all_rows.new.conn) c.in_ok-rows.rows.items (c.in_ok-rows.ensures.shown clean)) c.version_in.ensures.bad
+
+pub returns-in_err-rows-clause-unchanged : goal.returns-in_err-rows-clause-unchanged
+returns-in_err-rows-clause-unchanged g c = λ clean.
+    let is : c.from_residual.result ≡ Err c.in_err-rows.field-0.0 = search rules in
+    let it = c.in_err-rows.ensures.failed clean in
+    rw is (λ bad. bad_unchanged load_office [] (state g.S.Store c.args.conn.now) (state g.S.Store c.all_rows.new.conn) it.0 it.2 (sym it.1 ∙ bad))

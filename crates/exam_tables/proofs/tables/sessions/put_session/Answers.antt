@@ -1,0 +1,13 @@
+use Rattle.std.proofs.Common.{pos, arith}
+use Rattle.sqlite.specs.Held.{state}
+use Rattle.exam_sql.proofs.OfSession as session
+use Rattle.exam_sql.proofs.Edits.{put_edits}
+use Rattle.exam_tables.proofs.Steps.{makes_by, passed}
+use Rattle.exam_tables.proofs.tables.sessions.put_session.Goals as goal
+
+pub returns-clause-made : goal.returns-clause-made
+returns-clause-made g c =
+    let old = state g.S.Store c.args.tx.now.conn.now in
+    let new = state g.S.Store c.run.new.tx.conn.now in
+    makes_by (put_edits (session.puts c.args.code.now c.args.day.now (pos c.args.start))) old new c.run.result
+    (rw (c.as_bytes.ensures.value, c.from.ensures, c.get.ensures.value, passed c.args.start (omega (arith, c.get.ensures.range))) at c.run.ensures.ran) (rw (c.as_bytes.ensures.value, c.from.ensures, c.get.ensures.value, passed c.args.start (omega (arith, c.get.ensures.range))) at c.run.ensures.failed) c.run.ensures.kept c.run.ensures.survives c.run.ensures.told
