@@ -1,5 +1,5 @@
 -- Rows that tables hold in their stored forms have the forms of their columns.
-use Rattle.std.proofs.Common.{All, ◌≡◌, List, [], ◌∷◌, map, inl, inr, Ordering, subst}
+use Rattle.std.proofs.Common.{All, ◌≡◌, List, [], ◌∷◌, map, inl, inr, Ordering, refl, subst}
 use Rattle.std.specs.List.{AllByRecursion}
 use Rattle.std.specs.Map.{values_of}
 use Rattle.std.proofs.lemmas.List.Elements.{recursion_from_All}
