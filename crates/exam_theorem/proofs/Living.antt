@@ -17,10 +17,18 @@ use Rattle.exam_theorem.specs.Keeping.{KeepsIt}
 use Rattle.exam_theorem.specs.Life.{ArePassed, Lives, Stays}
 use Rattle.exam_theorem.specs.Orders.{Given}
 use Rattle.exam_theorem.specs.Printing.{PrintsAsked, RestsOnAsked}
-use Rattle.exam_theorem.specs.Resting.{HasOffice, IsAtRest, IsVersioned, StopsWith}
+use Rattle.exam_theorem.specs.Resting.{HasOffice, IsAtRest, IsVersioned, Rests, RestsOn, StopsWith}
 use Rattle.exam_theorem.specs.declared.orders.Outcome.{Outcome}
 use Rattle.exam_theorem.proofs.Passing.{passed_clean, passed_rests}
 use Rattle.exam_theorem.proofs.PrintedAfter.{rests_more_asked}
+use Rattle.exam_theorem.proofs.Settling.{at_rest}
+
+-- the office that was there rests in what was opened
+pub opened_rests_on : {S : Type 0} (g : Ghosts S) (old : Shown) (start : OfficeIn S)
+    → (HasCleanDisk (state g start.database) → (office : State) → HasOffice old.now office → (start.office ≡ office) × IsAtRest g start) → RestsOn old (state g start.database)
+opened_rests_on g old start same sound office rest =
+    let it = same sound.0 office rest.has in
+    subst (Rests (state g start.database)) it.0 (at_rest g start it.1)
 
 module _ {S : Type 0} (g : Ghosts S) (old : Shown) (start new : OfficeIn S) (orders : List Given) (outcomes : List Outcome)
     (passes : (last : OfficeIn S) × ArePassed g orders start outcomes last × Stays g last new)
