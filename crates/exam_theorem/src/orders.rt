@@ -113,6 +113,8 @@ fn follow_words<S: Alter>(
     ensures follows { spec.FollowsWords (map string_bytes words.now) file.now store.old.office result
         store.new.office }
     ensures spares { spec.Spares (of_line (map string_bytes words.now) file.now) store.old.office store.new.office }
+    ensures own { OwnRowsDecide (of_line (map string_bytes words.now) file.now) store.old.office
+        (Outcome.Line result) }
     ensures settles { Settles S.Store (IsTrue (spec.is_failure result))
         (LeadsTo (of_line (map string_bytes words.now) file.now) store.old.office) store.old store.new }
     ensures kept { KeepsOn S.Store store.old store.new }
