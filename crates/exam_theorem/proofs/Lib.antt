@@ -8,3 +8,13 @@ mod Sparing
 mod Listing
 mod Asked
 mod PrintedAfter
+mod Having
+mod Settling
+mod SettledOrders
+mod SaidDays
+mod OwnRows
+mod Passing
+mod SettledSheets
+mod Bringing
+mod Living
+mod Accepting

@@ -7,7 +7,7 @@ use Rattle.exam_theorem.specs.Orders.{Given, shown}
 use Rattle.exam_theorem.specs.declared.orders.Order.{Order}
 use Rattle.exam_theorem.specs.declared.orders.Outcome.{Outcome}
 
-shown_more : (orders : List Order) (x : Order) → map shown (orders ++ x ∷ []) ≡ map shown orders ++ shown x ∷ []
+pub shown_more : (orders : List Order) (x : Order) → map shown (orders ++ x ∷ []) ≡ map shown orders ++ shown x ∷ []
 shown_more [] x = refl
 shown_more (y ∷ orders) x = ap (λ rest. shown y ∷ rest) (shown_more orders x)
 

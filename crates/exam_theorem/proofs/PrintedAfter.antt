@@ -16,7 +16,7 @@ rests_more : (P Q : Type 0) → (P → Q) → (which : Sheet) → RestsOn P whic
 rests_more P Q more sheet.Appeals p = more p
 rests_more P Q more which p = tt
 
-rests_more_asked : (P Q : Type 0) → (P → Q) → (asked : Option (Code × Sheet)) → RestsOnAsked P asked → RestsOnAsked Q asked
+pub rests_more_asked : (P Q : Type 0) → (P → Q) → (asked : Option (Code × Sheet)) → RestsOnAsked P asked → RestsOnAsked Q asked
 rests_more_asked P Q more None p = tt
 rests_more_asked P Q more (Some asked) p = rests_more P Q more asked.1 p
 

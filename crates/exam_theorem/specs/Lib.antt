@@ -6,8 +6,12 @@
 -- - Following: what becomes of orders, one after the other
 -- - Printing: the sheet that words ask for
 -- - Keeping: the tables of a database that keep an office
+-- - Resting: the office that a database has, in whichever version, and what a stop leaves of it
+-- - Life: the whole life of an office, from a database of any version
 pub mod Orders
 pub mod Requests
 pub mod Following
 pub mod Printing
 pub mod Keeping
+pub mod Resting
+pub mod Life

@@ -1,19 +1,22 @@
 //! What comes in, and what becomes of it.
-ghost use Rattle.std.specs.Prelude.{◌≡◌, map, IfOk, IfErr, OnErr, string_bytes};
+ghost use Rattle.std.specs.Prelude.{◌≡◌, map, IfOk, IfErr, IsTrue, OnErr, string_bytes};
 ghost use Rattle.exam_types.specs.declared.refusal.Refusal.TheVariants.{NoMemory};
 ghost use Rattle.exam_rules.specs.Relations.{Code};
 ghost use Rattle.exam_commands.specs.Headline.{IsSeated};
 ghost use Rattle.exam_line.specs.Lines as lines;
 ghost use Rattle.exam_theorem.specs.Following as spec;
 ghost use Rattle.exam_theorem.specs.Keeping.{KeepsOn};
+ghost use Rattle.exam_theorem.specs.Life.{ArePassed, HasJobDays, LeadsTo, OwnRowsDecide};
 ghost use Rattle.exam_theorem.specs.Orders.{command_of, of_line, of_request, shown};
 ghost use Rattle.exam_theorem.specs.Requests.{FollowsRequest};
+ghost use Rattle.exam_theorem.specs.Resting.{Settles};
 
 use exam_http::{HttpFault, serve_one};
 use exam_job::{JobFault, carry_out};
 use exam_line::{Line, LineFault, parse_line};
 use exam_office::{lodging_and_retracting_move_nobody, one_step_has_one_result};
-use exam_store::Store;
+use exam_request::{choices_are_of_who_shows_the_code, requests_ask_one_thing};
+use exam_store::{Store, offices_have_days};
 use exam_types::{Day, Refusal};
 use sqlite::Alter;
 use std::alloc::Global;
@@ -66,6 +69,8 @@ pub fn follow_all<S: Alter>(
         spec.AreFollowed (map shown orders.now) store.old.office outcomes.items store.new.office) }
     ensures spares { IfOk result (λ outcomes. spec.EachSparesOthers (map shown orders.now) store.old.office
         outcomes.items store.new.office) }
+    ensures passes { IfOk result (λ outcomes.
+        ArePassed S.Store (map shown orders.now) store.old outcomes.items store.new) }
     ensures kept { KeepsOn S.Store store.old store.new }
     ensures memory { IfErr result (λ e. e ≡ NoMemory) }
     ensures same { OnErr result (store.new ≡ store.old) }
@@ -82,6 +87,9 @@ pub fn follow_all<S: Alter>(
 fn follow<S: Alter>(alloc: Global, store: &mut Store<S>, order: &Order<'_>) -> Outcome
     ensures follows { spec.Follows (shown order.now) store.old.office result store.new.office }
     ensures spares { spec.Spares (shown order.now) store.old.office store.new.office }
+    ensures own { OwnRowsDecide (shown order.now) store.old.office result }
+    ensures settles { Settles S.Store (spec.IsFailure result) (LeadsTo (shown order.now) store.old.office)
+        store.old store.new }
     ensures headline { (s : Code) → IsSeated store.new.office s }
     ensures kept { KeepsOn S.Store store.old store.new }
 {
@@ -105,6 +113,10 @@ fn follow_words<S: Alter>(
     ensures follows { spec.FollowsWords (map string_bytes words.now) file.now store.old.office result
         store.new.office }
     ensures spares { spec.Spares (of_line (map string_bytes words.now) file.now) store.old.office store.new.office }
+    ensures own { OwnRowsDecide (of_line (map string_bytes words.now) file.now) store.old.office
+        (Outcome.Line result) }
+    ensures settles { Settles S.Store (IsTrue (spec.is_failure result))
+        (LeadsTo (of_line (map string_bytes words.now) file.now) store.old.office) store.old store.new }
     ensures kept { KeepsOn S.Store store.old store.new }
 {
     match parse_line(alloc, words) {
@@ -122,8 +134,15 @@ fn follow_line<S: Alter>(
 ) -> LineEnd
     ensures follows { spec.FollowsCommand (command_of (lines.job_shown line.entry.job) file.entry.now)
         line.entry.today store.old.office result store.new.office }
+    ensures settles { HasJobDays (lines.job_shown line.entry.job) → Settles S.Store (IsTrue (spec.is_failure result))
+        (λ at. (end : spec.LineEnd) × spec.FollowsCommand (command_of (lines.job_shown line.entry.job) file.entry.now)
+        line.entry.today store.old.office end at) store.old store.new }
     ensures kept { KeepsOn S.Store store.old store.new }
 {
+    // A command has one result, and leaves the days of sessions and appeals between 2000 and 2199, as its own day is.
+    one_step_has_one_result();
+    offices_have_days();
+    let _ = line.today.number();
     told(carry_out(alloc, line, store, &mut file, &mut io::sink()))
 }
 
@@ -146,13 +165,22 @@ fn follow_request<S: Alter>(
 ) -> Answered
     ensures follows { FollowsRequest bytes.entry.now today store.old.office result store.new.office }
     ensures spares { spec.Spares (of_request bytes.entry.now today) store.old.office store.new.office }
+    ensures own { OwnRowsDecide (of_request bytes.entry.now today) store.old.office (Outcome.Request result) }
+    ensures settles { Settles S.Store (spec.IsFailureOf result.served result.answer.items)
+        (LeadsTo (of_request bytes.entry.now today) store.old.office) store.old store.new }
     ensures kept { KeepsOn S.Store store.old store.new }
 {
     // A command has one result, so the office that the tables keep is the one that it led to.
     one_step_has_one_result();
+    // It leaves the days of sessions and appeals between 2000 and 2199, as its own day is.
+    offices_have_days();
+    let _ = today.number();
     // In a good office a lodging and a retraction move nobody.
     lodging_and_retracting_move_nobody();
     store.show_good();
+    // The bytes ask one thing, and what they ask is for the candidate whom they name.
+    requests_ask_one_thing();
+    choices_are_of_who_shows_the_code();
     let mut answer = Vec::new(alloc);
     let served = serve_one(alloc, store, today, &mut bytes, &mut answer);
     Answered { served, answer }

@@ -7,7 +7,9 @@ ghost use Rattle.exam_commands.specs.Headline.{IsSeated};
 ghost use Rattle.exam_line.specs.Lines as lines;
 ghost use Rattle.exam_tables.specs.Transactions.{IsSound};
 ghost use Rattle.exam_theorem.specs.Following as spec;
+ghost use Rattle.exam_store.specs.Stores.{OfficeIn};
 ghost use Rattle.exam_theorem.specs.Keeping.{KeepsIt, KeepsOn};
+ghost use Rattle.exam_theorem.specs.Life.{ArePassed, Stays};
 ghost use Rattle.exam_theorem.specs.Orders.{sheet_asked, sheet_of, shown};
 ghost use Rattle.exam_theorem.specs.Printing.{PrintsAsked, RestsOnAsked};
 
@@ -44,6 +46,8 @@ pub fn print_after<S: Alter, O: Write>(
         spec.AreFollowed (map shown orders.now) store.old.office day.outcomes.items store.new.office) }
     ensures spares { IfOk result (λ day. spec.EachSparesOthers (map shown orders.now) store.old.office
         day.outcomes.items store.new.office) }
+    ensures passes { IfOk result (λ day. (last : OfficeIn S) × ArePassed S.Store (map shown orders.now) store.old
+        day.outcomes.items last × Stays S.Store last store.new) }
     ensures sheet { RestsOnAsked (IsSound (state S.Store store.new.database) × KeepsIt S.Store store.old)
         (sheet_asked (map string_bytes words.now))
         → IfOk result (λ day. PrintsAsked O.contents store.new.office
@@ -76,6 +80,7 @@ fn print_asked<S: Alter, O: Write>(
         (sheet_asked (map string_bytes words.now)) → PrintsAsked O.contents store.old.office
         (sheet_asked (map string_bytes words.now)) out.old result out.new }
     ensures office { store.new.office ≡ store.old.office }
+    ensures stays { Stays S.Store store.old store.new }
     ensures kept { KeepsOn S.Store store.old store.new }
 {
     match parse_line(alloc, words) {
@@ -95,6 +100,7 @@ fn print_line<S: Alter, O: Write>(
         (sheet_of (lines.job_shown line.entry.job)) → PrintsAsked O.contents store.old.office
         (sheet_of (lines.job_shown line.entry.job)) out.old result out.new }
     ensures office { store.new.office ≡ store.old.office }
+    ensures stays { Stays S.Store store.old store.new }
     ensures kept { KeepsOn S.Store store.old store.new }
 {
     if is_sheet(&line) {

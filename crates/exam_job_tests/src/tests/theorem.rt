@@ -1,11 +1,12 @@
-//! A day through the call of `exam_theorem` that joins all layers, from its first import to a door list.
-use super::{play, text_of};
+//! A day through the calls of `exam_theorem` that join all layers, from its first import to a door list, and an office of
+//! version 1 that lives on.
+use super::{InMemory, office_after, play, text_of};
 use exam_job::JobFault;
 use exam_line::LineFault;
 use exam_school::{Step, Words, dated, expect_same};
 use exam_scripts::{request_of, words_of};
 use exam_store::Store;
-use exam_theorem::{Answered, EndOfDay, LineEnd, LineStop, Order, Outcome, print_after};
+use exam_theorem::{Answered, EndOfDay, LineEnd, LineStop, Order, Outcome, live, print_after};
 use sqlite::MemStore;
 use std::alloc::Global;
 use std::test::Fail;
@@ -146,4 +147,52 @@ fn a_day_ends_in_its_door_list(rt: HostRuntime) -> Result<(), Fail> {
     expect_same(printed.as_str(), THIRD_IN_B, "door list")?;
     // The program prints what the text says.
     play(&rt, &[DAY])
+}
+
+/// The first candidate sits in hall A. Then the tables become those of version 1.
+const OLDER: &str = "\
+$ import entries f
+number,paper
+0000001,MA-1
+> added 1 changed 0 same 0
+$ sql
+DROP TABLE standing; UPDATE office SET version = 1
+";
+
+const SECOND_IN_B: &str = "\
+DOOR LIST session S1 hall B
+date 2027-06-01 start 09:00 desks 1 seated 1
+   1 0000002 MA-1         Ada Lin
+";
+
+/// Brings the office over, follows an order, and returns the door list of hall B.
+fn lived(alloc: Global, conn: InMemory, order: &Order<'_>) -> Result<String, Fail> {
+    let asked = words_of(alloc, "door-list S1 B", "2027-05-01")?;
+    let mut out = Vec::new(alloc);
+    match live(
+        alloc,
+        conn,
+        slice::from_ref(order),
+        asked.as_slice(),
+        &mut out,
+    ) {
+        Ok(life) => drop(life),
+        Err(refused) => {
+            drop(refused);
+            return Err(Fail::new("refused"));
+        }
+    }
+    Ok(String::from_utf8(out).ok().ok_or("text")?)
+}
+
+#[test]
+fn an_office_of_version_1_lives_on(rt: HostRuntime) -> Result<(), Fail> {
+    let alloc = rt.alloc();
+    let words = words_of(alloc, "import entries f", "2027-05-01")?;
+    let order = Order::Line {
+        words: words.as_slice(),
+        file: b"number,paper\n0000002,MA-1\n",
+    };
+    let printed = lived(alloc, office_after(alloc, &[OLDER])?, &order)?;
+    expect_same(printed.as_str(), SECOND_IN_B, "door list")
 }

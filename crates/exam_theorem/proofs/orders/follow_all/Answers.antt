@@ -3,6 +3,7 @@ use Rattle.std.proofs.lemmas.List.{take_more}
 use Rattle.exam_theorem.specs.Following.{Follows, SparesOthers}
 use Rattle.exam_theorem.proofs.KeptOffice.{then_on}
 use Rattle.exam_theorem.proofs.Listing.{next_of_each}
+use Rattle.exam_theorem.proofs.Passing.{next_passed}
 use Rattle.exam_theorem.proofs.orders.follow_all.Goals as goal
 
 pub orders-preserved : goal.orders-preserved
@@ -21,6 +22,9 @@ orders-preserved g c =
           c.orders.invariant.so_far c.follow.ensures.follows;
       spares = next_of_each SparesOthers (take i orders) (take (i + 1) orders) x more outcomes all c.follow.result c.push_reserved.ensures.items before mid after
           c.orders.invariant.spares (record { follows = c.follow.ensures.follows; spares = c.follow.ensures.spares; seated = c.follow.ensures.headline });
+      passes = next_passed g.S.Store (take i orders) (take (i + 1) orders) x more outcomes all c.follow.result c.push_reserved.ensures.items c.args.store.now c.orders.store c.follow.new.store
+          c.orders.invariant.passes
+          (record { follows = c.follow.ensures.follows; spares = c.follow.ensures.spares; seated = c.follow.ensures.headline; own = c.follow.ensures.own; settles = c.follow.ensures.settles });
       kept = then_on g.S.Store c.args.store.now c.orders.store c.follow.new.store c.orders.invariant.kept c.follow.ensures.kept;
       answered = omega (arith, c.push_reserved.ensures.len, c.orders.invariant.answered);
       room = omega (arith, c.push_reserved.ensures.capacity, c.orders.invariant.room);

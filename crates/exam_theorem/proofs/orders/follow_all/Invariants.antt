@@ -3,6 +3,7 @@ use Rattle.std.specs.Prelude.{map, vec_len}
 use Rattle.std.specs.Vec.{vec_capacity}
 use Rattle.exam_theorem.specs.Following.{AreFollowed, EachSparesOthers}
 use Rattle.exam_theorem.specs.Keeping.{KeepsOn}
+use Rattle.exam_theorem.specs.Life.{ArePassed}
 use Rattle.exam_theorem.specs.Orders.{shown}
 use Rattle.exam_theorem.proofs.orders.follow_all.Given as goal
 
@@ -11,6 +12,7 @@ abbrev pub invariant-orders : goal.invariant-orders
 invariant-orders g l = record {
   so_far : AreFollowed (map shown (take l.order-index l.orders)) l.fn.store.office l.outcomes.items l.store.office;
   spares : EachSparesOthers (map shown (take l.order-index l.orders)) l.fn.store.office l.outcomes.items l.store.office;
+  passes : ArePassed g.S.Store (map shown (take l.order-index l.orders)) l.fn.store l.outcomes.items l.store;
   kept : KeepsOn g.S.Store l.fn.store l.store;
   answered : vec_len l.outcomes ≡ l.order-index;
   room : length l.orders ≤ vec_capacity l.outcomes;

@@ -1,0 +1,90 @@
+-- The office that a database has, in whichever version, and what a stop leaves of it.
+use Rattle.std.specs.Prelude.{◌≡◌, ◌⊎◌, ℕ, IsTrue}
+use Rattle.sqlite_trees.specs.declared.store.Store.{Ghosts}
+use Rattle.sqlite_trees.specs.Tree.{Trees}
+use Rattle.sqlite.specs.Effect.{Database}
+use Rattle.sqlite.specs.Held.{state}
+use Rattle.sqlite.specs.State.{State, HasCleanDisk}
+use Rattle.exam_types.specs.declared.refusal.Refusal.{Refusal}
+use Rattle.exam_types.specs.declared.refusal.Refusal.TheVariants.{NoMemory, Store}
+use Rattle.exam_commands.specs.Orders.{IsInOrder}
+use Rattle.exam_commands.specs.State.{State as Office}
+use Rattle.exam_tables.specs.Transactions.{IsSound}
+use Rattle.exam_tables.specs.Versions.{ContainsOf, HasVersion, IsVersion}
+use Rattle.exam_store.specs.Found.{HoldsGood}
+use Rattle.exam_store.specs.Kept.{Keeps, KeepsIn}
+use Rattle.exam_store.specs.Stops.{HasDays}
+use Rattle.exam_store.specs.Stores.{OfficeIn}
+use Rattle.exam_theorem.specs.Keeping.{KeepsIt}
+
+-- ---- a database
+
+-- the tables are those of some version, and have its number; nothing is said of their other rows
+abbrev pub IsVersioned : Database → Type 0
+IsVersioned db = (v : ℕ) × IsVersion v × (all : Trees) × ContainsOf v db all × HasVersion v all
+
+-- the tables are those of some version, and hold a good office of it, in the forms of their columns
+abbrev pub IsAccepted : Database → Type 0
+IsAccepted db = (v : ℕ) × IsVersion v × (all : Trees) × HoldsGood v db all
+
+-- The tables of some version have the rows of this office. The keys of its tables rise, and its days have texts of their
+-- own, so that no other office can be opened over these tables.
+pub record HasOffice (db : Database) (office : Office) : Type 0 where
+  pub number : ℕ
+  pub is_version : IsVersion number
+  pub kept : KeepsIn number db office
+  pub order : IsInOrder office
+  pub days : HasDays office.relations
+
+-- a database that has an office becomes one that keeps the same in the newest version
+abbrev pub BringsOver : Database → Database → Type 0
+BringsOver old new = (office : Office) → HasOffice old office → Keeps new office
+
+-- the connection is open, and sees what is committed, which has this office
+pub record Rests (s : State) (office : Office) : Type 0 where
+  pub is_open : IsTrue s.is_open
+  pub committed : s.committed ≡ s.now
+  pub has : HasOffice s.now office
+
+-- the trees are those of a database that has this office
+abbrev pub LeavesOffice : Office → Trees → Type 0
+LeavesOffice office trees = (db : Database) × HasOffice db office × (trees ≡ db.trees)
+
+-- whatever office was there, a stop at any moment of the call has left it there
+abbrev pub StopsWith : State → State → Type 0
+StopsWith old new =
+    (office : Office) → Rests old office → HasCleanDisk new → (trees : Trees) → new.may_leave trees
+    → LeavesOffice office trees
+
+-- whatever office was there is there, if the disk has returned what was written and the connection is open
+abbrev pub RestsOn : State → State → Type 0
+RestsOn old new = IsSound new → (office : Office) → Rests old office → Rests new office
+
+-- memory ran out, or the database could not be used
+abbrev pub IsFailing : Refusal → Type 0
+IsFailing e = (e ≡ NoMemory) ⊎ (e ≡ Store)
+
+-- ---- an office in a store
+
+-- The connection is open, and the tables of the newest version keep the office, committed. With its order and its days,
+-- opening finds this office and no other.
+pub record IsAtRest {S : Type 0} (g : Ghosts S) (it : OfficeIn S) : Type 0 where
+  pub is_open : IsTrue (state g it.database).is_open
+  pub kept : KeepsIt g it
+  pub order : IsInOrder it.office
+  pub days : HasDays it.office.relations
+
+-- What a call makes of an office in a store that is at rest, if it may fail, and before that lead to other offices.
+pub record Settles {S : Type 0} (g : Ghosts S) (Failed : Type 0) (Leads : Office → Type 0) (old new : OfficeIn S)
+    : Type 0 where
+  -- no fault of the disk is forgotten, and a connection that is shut is not opened again
+  pub was_clean : HasCleanDisk (state g new.database) → HasCleanDisk (state g old.database)
+  pub was_sound : IsSound (state g new.database) → IsSound (state g old.database)
+  -- it is at rest again, if the disk has returned what was written and the connection is open
+  pub rests : IsAtRest g old → IsSound (state g new.database) → IsAtRest g new
+  -- A stop at any moment of the call leaves the office after it. Only if the call failed, it may leave an office to
+  -- which the call leads, where the office of the store is still the one before.
+  pub stop : IsAtRest g old → HasCleanDisk (state g new.database) → (trees : Trees)
+      → (state g new.database).may_leave trees
+      → LeavesOffice new.office trees
+      ⊎ (Failed × (new.office ≡ old.office) × (at : Office) × Leads at × LeavesOffice at trees)
