@@ -1,17 +1,17 @@
 -- The lines of a door list are those of the hall's occupants, by desk.
-use Rattle.std.proofs.Common.{◌≡◌, ◌∙◌, ◌+◌, ◌<◌, ◌≤◌, ℕ, zero, suc, Bool, true, false, cond, List, [], ◌∷◌, ◌++◌, length, get_or, map, filter, count_by, nat_eq, ◌≢◌, Contains, Option, Some, None, Ok, Err, refl, sym, ap, arith, inl, inr}
-use Rattle.std.specs.List.{AllByRecursion, flat_map, list_any, range_with_len}
+use Rattle.std.proofs.Common.{◌≡◌, ◌∙◌, ◌+◌, ◌<◌, ◌≤◌, ℕ, zero, suc, Bool, true, false, cond, List, [], ◌∷◌, ◌++◌, length, get_or, map, filter, count_by, nat_eq, Contains, Option, Some, None, Ok, Err, refl, sym, ap, arith, inl, inr}
+use Rattle.std.specs.List.{AllByRecursion, flat_map, range_with_len}
 use Rattle.std.specs.List.Sorted.{IsStrictlySortedBy}
 use Rattle.std.specs.Option.{option_map, option_map_or, ok_or}
 use Rattle.std.specs.Ordering.{nat_cmp}
-use Rattle.std.specs.declared.cmp.Ordering.TheVariants.{Less, Equal}
-use Rattle.std.specs.Cmp.{nat_cmp_is}
+use Rattle.std.specs.declared.cmp.Ordering.TheVariants.{Less}
 use Rattle.std.proofs.lemmas.Bool.{cases_Bool, eq-eqb, le-ltb}
 use Rattle.std.proofs.lemmas.Grind.{flat_map-append}
 use Rattle.std.proofs.lemmas.List.Folds.{list_any_at}
 use Rattle.std.proofs.lemmas.List.Sums.{count_by-le-length, length-filter}
 use Rattle.std.proofs.lemmas.List.Sorted.{length_permutation}
 use Rattle.std.proofs.lemmas.Map.Keys.{sorted_head, sorted_tail}
+use Rattle.std.proofs.lemmas.Cmp.{ranked}
 use Rattle.exam_types.specs.declared.refusal.Refusal.TheVariants.{HallNotOpened, UnknownHall}
 use Rattle.exam_rules.specs.declared.rows.Opening.{Opening}
 use Rattle.exam_rules.specs.Orders.{AreInOrder}
@@ -74,14 +74,6 @@ fewer p q xs i d below kept out =
     let less = fewer_left p q xs i d below kept out in
     let same = length-filter p (filter q xs) in omega (arith, less, same)
 
-apart_if_less : (x y : ℕ) → nat_cmp x y ≡ Less → x ≢ y
-apart_if_less x y less same =
-    let tied : nat_cmp x y ≡ Equal = sym (nat_cmp_is x y Equal same) in
-    let both : Less ≡ Equal = sym less ∙ tied in cc
-
-listed : (xs : List ℕ) (x : ℕ) → Contains xs x → list_any (nat_eq x) xs ≡ true
-listed xs x in_it = list_any_at (nat_eq x) xs in_it.0 x in_it.1 (eq-eqb x (get_or xs in_it.0 x) (sym in_it.2))
-
 -- ---- the seats of an office
 
 module _ (office : State) (s h : Code) (good : IsGood office) (up : AreInOrder office.relations) where
@@ -129,7 +121,7 @@ module _ (office : State) (s h : Code) (good : IsGood office) (up : AreInOrder o
   rank_within c n e is =
       let r = office.relations in
       let member : Contains (members r s) c = seated.member c h e in
-      let known = listed (members r s) c member in
+      let known = list_any_at (nat_eq c) (members r s) member.0 c member.1 (eq-eqb c (get_or (members r s) member.0 c) (sym member.2)) in
       let alone : comes_before r s c c ≡ false = order_is_rank r s c c known known ∙ le-ltb (rank r s c) (rank r s c) (omega arith) in
       let kept : sits c ≡ true = ap (is_there h) e ∙ same_code_itself h in
       let less = fewer (λ d. comes_before r s d c) sits (members r s) member.0 c member.1 (ap sits member.2 ∙ kept) (ap (λ d. comes_before r s d c) member.2 ∙ alone) in
@@ -174,7 +166,10 @@ module _ (office : State) (s h : Code) (good : IsGood office) (up : AreInOrder o
   apart_from c seat of (other ∷ seats) (d ∷ cs) e later =
       let parts = cons_parts (Some other) (seat_of office s d) (map (λ (x : Seat). Some x) seats) (map (seat_of office s) cs) e in
       let of_other = seat_is d other parts.0 in (
-        λ sits sits_too same. apart_if_less c d later.0 (seated.alone c d h (sits_there c seat of sits) (sits_there d other of_other sits_too) (sym of.desk_is ∙ same ∙ of_other.desk_is)),
+        λ sits sits_too same.
+            let less : c < d = ranked c d Less (sym later.0) in
+            let one : c ≡ d = seated.alone c d h (sits_there c seat of sits) (sits_there d other of_other sits_too) (sym of.desk_is ∙ same ∙ of_other.desk_is) in
+            omega arith,
         apart_from c seat of seats cs parts.1 later.1,
       )
 

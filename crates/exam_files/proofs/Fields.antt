@@ -1,24 +1,21 @@
 -- Fields that csv writes as they are.
-use Rattle.std.proofs.Common.{◌≡◌, ◌<◌, ◌^◌, ◌+◌, ◌-◌, ◌*◌, ◌&&◌, ℕ, List, [], ◌∷◌, ◌++◌, Bool, true, false, codes, fold, refl, arith, rules, append_assoc}
+use Rattle.std.proofs.Common.{◌≡◌, ◌<◌, ◌^◌, ◌+◌, ◌-◌, ◌*◌, ℕ, List, [], ◌∷◌, ◌++◌, Bool, true, false, codes, fold, refl, arith, rules, append_assoc}
 use Rattle.std.specs.List.{list_all}
 use Rattle.std.specs.Fmt.{decimal}
 use Rattle.std.proofs.lemmas.Fmt.{digits_decimal}
 use Rattle.std.proofs.lemmas.Str.Parse.{IsNumeralModel, numerals_by_fold}
+use Rattle.std.proofs.lemmas.Bool.{and_parts}
 use Rattle.csv.specs.Writing.{default_writer, fields_text, is_blank, needs_byte, needs_quotes, row_text}
 use Rattle.exam_types.specs.Codes.{is_code, is_hall_code, is_capital_or_digit, is_dashed}
 use Rattle.exam_types.specs.Digits.{digits, digits_value, is_digit}
 use Rattle.exam_types.specs.Numbers.{number_text}
 use Rattle.exam_types.proofs.DigitFacts.{digits_are}
 
-both : (a b : Bool) → (a && b) ≡ true → (a ≡ true) × (b ≡ true)
-both true b e = (refl, e)
-both false b e = cc e
-
 -- what one test lets through, another does
 pub all_pass : (p q : ℕ → Bool) → ((b : ℕ) → p b ≡ true → q b ≡ true) → (bytes : List ℕ) → list_all p bytes ≡ true → list_all q bytes ≡ true
 all_pass p q one [] all = refl
 all_pass p q one (b ∷ rest) all =
-    let parts = both (p b) (list_all p rest) all in
+    let parts = and_parts (p b) (list_all p rest) all in
     rw (one b parts.0, all_pass p q one rest parts.1) refl
 
 bare_byte : (b : ℕ) → is_dashed b ≡ true → needs_byte default_writer b ≡ false
@@ -28,7 +25,7 @@ bare_byte b is = grind arith
 pub bare : (field : List ℕ) → list_all is_dashed field ≡ true → needs_quotes default_writer field ≡ false
 bare [] all = refl
 bare (b ∷ rest) all =
-    let parts = both (is_dashed b) (list_all is_dashed rest) all in
+    let parts = and_parts (is_dashed b) (list_all is_dashed rest) all in
     rw (bare_byte b parts.0, bare rest parts.1) refl
 
 capital_dashed : (b : ℕ) → is_capital_or_digit b ≡ true → is_dashed b ≡ true
@@ -39,7 +36,7 @@ digit_dashed b is = grind arith
 
 -- a code has only bytes of its alphabet
 pub all_allowed : (allowed : ℕ → Bool) (low high : ℕ) (code : List ℕ) → is_code allowed low high code ≡ true → list_all allowed code ≡ true
-all_allowed allowed low high code is = (both _ (list_all allowed code) is).1
+all_allowed allowed low high code is = (and_parts _ (list_all allowed code) is).1
 
 pub hall_dashed : (code : List ℕ) → is_hall_code code ≡ true → list_all is_dashed code ≡ true
 hall_dashed code is = all_pass is_capital_or_digit is_dashed capital_dashed code (all_allowed is_capital_or_digit 1 8 code is)

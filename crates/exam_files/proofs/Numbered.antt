@@ -5,6 +5,7 @@ use Rattle.std.specs.List.{AllByRecursion, flat_map, list_any, range_with_len}
 use Rattle.std.proofs.lemmas.Bool.{cases_Bool, cases_eq, eq-eqb, eqb-true, ne_eqb}
 use Rattle.std.proofs.lemmas.List.{length-map, map-append}
 use Rattle.std.proofs.lemmas.List.Sorted.{IsPermutation-append_right, IsPermutation-cons, IsPermutation-middle, IsPermutation-refl, IsPermutation-sym, IsPermutation-trans, length_permutation}
+use Rattle.std.proofs.lemmas.Option.{same_Some}
 use Rattle.exam_files.specs.Doors.{is_desk}
 
 -- ---- one more element at its number
@@ -150,9 +151,6 @@ module _ {X : Type 0} (keeps : X → Bool) (number : X → Option ℕ) where
       joined true = refl
       joined false = refl
 
-  same_number : (m n : ℕ) → Some m ≡ Some n → m ≡ n
-  same_number m n e = cc
-
   -- a number at which one is
   number_within : (a k n : ℕ) (xs : List X) → AllByRecursion (IsNumbered a k) xs → list_any (has n) xs ≡ true → n < a + k
   number_within a k n [] all is = cc is
@@ -160,7 +158,7 @@ module _ {X : Type 0} (keeps : X → Bool) (number : X → Option ℕ) where
     | inl here ↦
         let both = has_is n x here in
         let own = all.0 both.0 in
-        let same = same_number own.0 n (sym own.1 ∙ both.1) in
+        let same = same_Some own.0 n (sym own.1 ∙ both.1) in
         let high = own.3 in omega (arith, same, high)
     | inr out ↦ number_within a k n xs all.1 (rw out at is)
   ]

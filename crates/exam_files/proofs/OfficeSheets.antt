@@ -2,16 +2,15 @@
 use Rattle.std.proofs.Common.{◌≡◌, ◌↔◌, ◌∙◌, ℕ, ◌+◌, ◌&&◌, ◌||◌, Bool, true, false, cond, List, [], ◌∷◌, length, map, filter, Contains, Option, Some, Ok, Err, refl, ap, sym, subst, arith}
 use Rattle.std.specs.Prelude.{find, filter_map, sum_by}
 use Rattle.std.specs.declared.cmp.Ordering.{Ordering}
-use Rattle.std.specs.declared.cmp.Ordering.TheVariants.{Less, Equal, Greater}
 use Rattle.std.specs.BTreeSet as sorted
 use Rattle.std.specs.BTreeSet.{BTreeSet}
-use Rattle.std.specs.Cmp.{IsTotalOrder, nat_cmp_total}
+use Rattle.std.specs.Cmp.{IsTotalOrder, nat_cmp_total, both_ways, tied_then}
 use Rattle.std.specs.Cmp.Lexicographic.{nat_list_cmp_total, texts_ties}
 use Rattle.std.specs.List.{All, list_any, cons_option}
 use Rattle.std.specs.List.Sorted.{IsStrictlySortedBy}
 use Rattle.std.specs.Map.{keys_of}
 use Rattle.std.specs.Option.{option_map, ok_or}
-use Rattle.std.specs.Ordering.{is_eq, ordering_then}
+use Rattle.std.specs.Ordering.{is_eq}
 use Rattle.std.proofs.lemmas.List.Elements.{All-head, All-tail}
 use Rattle.std.proofs.lemmas.Map.Lookups.{CmpEqualImpliesEq, btree_set_from_contains, exact_bytes, exact_unsigned}
 use Rattle.std.proofs.lemmas.Map.Views.{btree_set_contains_iff}
@@ -51,18 +50,13 @@ all_given {B = B} f (x ∷ xs) (n ∷ ns) e =
     let w = cons_parts (Some x) (f n) (map (λ (y : B). Some y) xs) (map f ns) e in
     ap (λ (t : List B). x ∷ t) (all_given f xs ns w.1) ∙ ap (λ (o : Option B). cons_option o (filter_map f ns)) w.0
 
-same_bool : (a b : Bool) → (a ≡ true → b ≡ true) → (b ≡ true → a ≡ true) → a ≡ b
-same_bool true b there back = sym (there refl)
-same_bool false true there back = back refl
-same_bool false false there back = refl
-
 -- rising lists with the same elements are the same
 same_rising : {K : Type 0} {R : K → K → Ordering} → IsTotalOrder R → CmpEqualImpliesEq R → (xs ys : List K) → IsStrictlySortedBy R xs → IsStrictlySortedBy R ys
     → ((k : K) → Contains xs k ↔ Contains ys k) → xs ≡ ys
 same_rising {K} {R} o exact xs ys up up' same =
     let left : BTreeSet K = record { keys = xs } in
     let right : BTreeSet K = record { keys = ys } in
-    btree_set_from_contains o left right up up' (λ q. same_bool (sorted.contains R left q) (sorted.contains R right q)
+    btree_set_from_contains o left right up up' (λ q. both_ways (sorted.contains R left q) (sorted.contains R right q)
     (λ t. (btree_set_contains_iff o exact right q).1 ((same q).0 ((btree_set_contains_iff o exact left q).0 t)))
     (λ t. (btree_set_contains_iff o exact left q).1 ((same q).1 ((btree_set_contains_iff o exact right q).0 t)))) exact
 
@@ -76,7 +70,7 @@ with_values f (row ∷ rows) all =
 -- ---- halls and openings
 
 pub flipped : (a b : Code) → same_code a b ≡ same_code b a
-flipped a b = same_bool (same_code a b) (same_code b a)
+flipped a b = both_ways (same_code a b) (same_code b a)
     (λ t. ap (same_code b) (same_code_exact a b t) ∙ same_code_itself b)
     (λ t. ap (same_code a) (same_code_exact b a t) ∙ same_code_itself a)
 
@@ -84,11 +78,6 @@ any_flipped : (h : Code) (xs : List Code) → list_any (λ code. same_code code 
 any_flipped h [] = refl
 any_flipped h (x ∷ xs) =
     ap (λ b. b || list_any (λ code. same_code code h) xs) (flipped x h) ∙ ap (λ t. same_code h x || t) (any_flipped h xs)
-
-both_equal : (a b : Ordering) → is_eq (ordering_then a b) ≡ (is_eq a && is_eq b)
-both_equal Less b = refl
-both_equal Equal b = refl
-both_equal Greater b = refl
 
 tied : (s x : Code) → is_eq (code_cmp s x) ≡ same_code x s
 tied s x = sym (texts_ties s x) ∙ flipped s x
@@ -102,7 +91,7 @@ opened_row s h (o ∷ rows) = by_session (same_code o.0.0 s) test (opened_row s 
   where
     test : is_eq (opening_cmp (s, h) o.0) ≡ (same_code o.0.0 s && same_code o.0.1 h)
     test =
-        both_equal (code_cmp s o.0.0) (code_cmp h o.0.1)
+        sym (tied_then (code_cmp s o.0.0) (code_cmp h o.0.1))
         ∙ ap (λ b. b && is_eq (code_cmp h o.0.1)) (tied s o.0.0) ∙ ap (λ b. same_code o.0.0 s && b) (tied h o.0.1)
 
     rest : List (Code × Opening)
