@@ -1,12 +1,12 @@
 -- The office that a database has: in the newest version, and once it was brought there and opened.
-use Rattle.std.proofs.Common.{◌≡◌, ◌≢◌, ◌⊎◌, ◌∙◌, ℕ, inl, inr, arith, refl, sym, ap, subst}
+use Rattle.std.proofs.Common.{◌≡◌, ◌≢◌, ◌⊎◌, ◌∙◌, ℕ, inl, inr, refl, sym, subst}
 use Rattle.sqlite_trees.specs.Tree.{Trees}
 use Rattle.sqlite.specs.Effect.{Database}
-use Rattle.sqlite.specs.State.{State, HasCleanDisk, IsUnchanged}
+use Rattle.sqlite.specs.State.{State, HasCleanDisk}
 use Rattle.exam_sql.specs.Made.{ContainsMade}
 use Rattle.exam_commands.specs.Orders.{IsInOrder}
 use Rattle.exam_commands.specs.State.{State as Office}
-use Rattle.exam_tables.specs.Inside.{Contains, IsOurs}
+use Rattle.exam_tables.specs.Inside.{IsOurs}
 use Rattle.exam_tables.specs.Versions.{ContainsOf, HasVersion, IsVersion, version}
 use Rattle.exam_store.specs.Found.{Finds, HoldsGood}
 use Rattle.exam_store.specs.Kept.{Keeps, KeepsIn, Migrates}
