@@ -3,14 +3,8 @@
 
 ghost use Rattle.std.specs.Prelude.{◌≡◌, ◌≢◌};
 
-mod files;
-mod running;
-mod serving;
-#[cfg(test)]
-mod tests;
-
 use exam_line::LineFault;
-use running::run;
+use exam_program::run;
 use sqlite::Unknown;
 use std::env;
 use std::io::ErrorKind;

@@ -1,0 +1,104 @@
+//! Command lines over two databases, a folder, an import file and a port.
+use exam_program::run;
+use sqlite::Unknown;
+use std::alloc::{AllocError, Global};
+use std::fs;
+use std::net::{Ipv4Addr, SocketAddrV4, TcpListener};
+use std::os::unix::fs::MetadataExt;
+use std::process::ExitCode;
+use std::test::Fail;
+
+const FOLDER: &str = "examoffice_lines";
+
+/// What a line ends with: its exit status, and what it prints on standard output and on standard error.
+type End = (u8, &'static str, &'static str);
+
+/// A database, a command over it, and how the line ends.
+const LINES: &[(&str, &str, End)] = &[
+    ("none.db", "export S1", (1, "", "refused 24\n")),
+    ("none.db", "migrate", (1, "", "refused 24\n")),
+    ("none.db", "check", (1, "bad office\n", "")),
+    ("sessions.csv", "check", (1, "bad office\n", "")),
+    ("empty.db", "export S1", (1, "", "refused 24\n")),
+    ("empty.db", "migrate", (1, "", "refused 24\n")),
+    ("empty.db", "check", (1, "bad office\n", "")),
+    ("a.db", "init", (0, "ready\n", "")),
+    (
+        "a.db",
+        "import sessions examoffice_lines/sessions.csv",
+        (0, "added 1 changed 0 same 0\n", ""),
+    ),
+    (
+        "a.db",
+        "export S1",
+        (0, "session,number,paper,hall,desk\n", ""),
+    ),
+    ("a.db", "export S2", (1, "", "refused 4\n")),
+    (
+        "a.db",
+        "import sessions examoffice_lines/none.csv",
+        (1, "", "file fault\n"),
+    ),
+    ("a.db", "exports S1", (2, "", "line not understood\n")),
+    ("b.db", "init", (0, "ready\n", "")),
+    ("b.db", "export S1", (1, "", "refused 4\n")),
+    ("b.db", "migrate", (0, "already 3\n", "")),
+    ("b.db", "check", (0, "good\n", "")),
+    ("folder.db", "init", (1, "", "refused 23\n")),
+    ("folder.db", "export S1", (1, "", "refused 23\n")),
+    ("folder.db", "check", (1, "", "refused 23\n")),
+];
+
+fn words_of(alloc: Global, database: &str, command: &str) -> Result<Vec<String>, AllocError> {
+    let path = format!(in alloc; "{FOLDER}/{database}")?;
+    let mut words = Vec::new(alloc);
+    for word in ["examoffice", "--db", path.as_str(), "--today", "2027-05-01"] {
+        words.push(String::from_str(alloc, word)?)?;
+    }
+    for word in command.split(' ') {
+        words.push(String::from_str(alloc, word)?)?;
+    }
+    Ok(words)
+}
+
+/// Whether the line ends like this.
+fn ends(rt: &HostRuntime, database: &str, command: &str, end: End) -> Result<bool, AllocError> {
+    let (status, out, err) = end;
+    let words = words_of(rt.alloc(), database, command)?;
+    let mut printed = Vec::new(rt.alloc());
+    let mut told = Vec::new(rt.alloc());
+    let ended = run(rt, Ok(words), Unknown, &mut printed, &mut told);
+    Ok(
+        ended == ExitCode::from(status)
+            && printed.as_slice() == out.as_bytes()
+            && told.as_slice() == err.as_bytes(),
+    )
+}
+
+#[test]
+fn lines_end_as_they_should(rt: HostRuntime) -> Result<(), Fail> {
+    let _ = fs::remove_dir_all(&rt, FOLDER);
+    fs::create_dir(&rt, FOLDER)?;
+    fs::create_dir(&rt, "examoffice_lines/folder.db")?;
+    fs::write(
+        &rt,
+        "examoffice_lines/sessions.csv",
+        "session,date,start\nS1,2027-06-01,09:00\n",
+    )?;
+    fs::write(&rt, "examoffice_lines/empty.db", "")?;
+    for (database, command, end) in LINES {
+        assert!(rt; ends(&rt, database, command, *end)?, "{database} {command}");
+    }
+    let listener = TcpListener::bind(&rt, SocketAddrV4::new(Ipv4Addr::LOCALHOST, 0))?;
+    let port = listener.local_addr()?.port();
+    let command = format!(in rt.alloc(); "serve {port}")?;
+    assert!(rt; ends(&rt, "a.db", command.as_str(), (1, "", "net fault\n"))?);
+    for name in ["examoffice_lines/a.db", "examoffice_lines/a.db-wal"] {
+        assert!(rt; fs::metadata(&rt, name)?.mode() & 0o777 == 0o600, "{name}");
+    }
+    assert!(rt; fs::metadata(&rt, "examoffice_lines/none.db").is_err());
+    assert!(rt; fs::metadata(&rt, "examoffice_lines/empty.db")?.len() == 0);
+    assert!(rt; fs::metadata(&rt, "examoffice_lines/empty.db-wal").is_err());
+    fs::remove_dir_all(&rt, FOLDER)?;
+    Ok(())
+}

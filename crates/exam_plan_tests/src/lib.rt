@@ -1,5 +1,0 @@
-//! Examples of what the calls of `exam_plan` answer. They stand beside it, so that the gate proves that crate once.
-#![tactic(auto)]
-
-#[cfg(test)]
-mod tests;
