@@ -71,9 +71,6 @@ same_features-is x y e = sym (set_of_sum x (features_sum y) (eqb-true _ _ e)) �
 pub same_features-itself : (f : Features) → same_features f f ≡ true
 same_features-itself f = eq-eqb (features_sum f) (features_sum f) refl
 
-pub same_features-refl : (x y : Features) → x ≡ y → same_features x y ≡ true
-same_features-refl x y e = eq-eqb (features_sum x) (features_sum y) (ap features_sum e)
-
 -- ---- texts
 
 -- the set that a set's text names is the set

@@ -65,14 +65,6 @@ impl Features {
         self.mask & wanted.mask == wanted.mask
     }
 
-    /// Whether both sets have the same features.
-    pub fn equals(self, other: Features) -> bool
-        ensures value { result ≡ spec.same_features self other }
-        ensures decides { IsTrue result ↔ (self ≡ other) }
-    {
-        self == other
-    }
-
     /// The sum of 1 for the first feature, 2 for the next, and so on by powers of two.
     pub fn sum(self) -> u32
         ensures value { result ≡ spec.features_sum self }

@@ -8,6 +8,7 @@ ghost use Rattle.exam_plan.specs.Matching.{IsBest};
 ghost use Rattle.exam_plan.specs.Problems.{IsPlan, most_members, seating_of, plan_at};
 
 use exam_plan::{Mask, Plan, Problem, desks, keep_lawful, shortage, sweep, sweep_dead};
+use exam_school::expect_same;
 use exam_types::Refusal;
 use std::alloc::Global;
 use std::test::Fail;
@@ -119,79 +120,110 @@ fn swept(alloc: Global, problem: &Problem) -> Result<Plan, Refusal>
     sweep(alloc, problem, keep_lawful(problem, nobody)?, None)
 }
 
-const YES: bool = true;
-
-const NO: bool = false;
-
-#[test]
-fn third_candidate_is_short_of_a_desk(rt: HostRuntime) -> Result<(), Fail> {
-    let fits = [[YES, YES, NO], [YES, NO, NO], [YES, YES, NO]];
-    let problem = problem_of(rt.alloc(), [1, 1, 0], &fits)?;
-    let plan = swept(rt.alloc(), &problem)?;
-    assert_eq!(rt; plan.as_slice(), [Some(1), Some(0), None].as_slice());
-    let (same, dead) = swept_dead(rt.alloc(), &problem)?;
-    assert_eq!(rt; same.as_slice(), plan.as_slice());
-    assert_eq!(rt; dead.as_slice(), [0, 1].as_slice());
-    let short = shortage(rt.alloc(), &problem, &plan)?;
-    assert_eq!(rt; short.unseated, 1);
-    assert_eq!(rt; short.halls.as_slice(), [0, 1].as_slice());
-    assert_eq!(rt; short.candidates.as_slice(), [0, 1, 2].as_slice());
-    let numbers = desks(rt.alloc(), &problem, &plan)?;
-    assert_eq!(rt; numbers.as_slice(), [Some(1), Some(1), None].as_slice());
+/// Appends a word and a list of numbers, `-` for none.
+fn put<I: Iterator<Item = Option<usize>> + Drop>(
+    alloc: Global,
+    told: &mut String,
+    word: &str,
+    numbers: I,
+) -> Result<(), Fail> {
+    told.push_str(word)?;
+    for number in numbers {
+        match number {
+            Some(number) => told.push_str(format!(in alloc; " {number}")?.as_str())?,
+            None => told.push_str(" -")?,
+        }
+    }
     Ok(())
 }
 
-#[test]
-fn dead_halls_are_listed_once(rt: HostRuntime) -> Result<(), Fail> {
-    let fits = [
-        [YES, YES, NO],
-        [YES, NO, NO],
-        [YES, YES, NO],
-        [YES, YES, NO],
-    ];
-    let problem = problem_of(rt.alloc(), [1, 1, 0], &fits)?;
-    let (plan, dead) = swept_dead(rt.alloc(), &problem)?;
-    assert_eq!(rt; plan.as_slice(), [Some(1), Some(0), None, None].as_slice());
-    assert_eq!(rt; dead.as_slice(), [0, 1].as_slice());
-    Ok(())
+/// What is made of a problem: the plan, the dead halls, the desks, and the shortage.
+fn told_of(alloc: Global, problem: &Problem) -> Result<String, Fail> {
+    let plan = swept(alloc, problem)?;
+    let (same, dead) = swept_dead(alloc, problem)?;
+    if same != plan {
+        return Err(Fail::new("another plan"));
+    }
+    let numbers = desks(alloc, problem, &plan)?;
+    let short = shortage(alloc, problem, &plan)?;
+    let unseated = short.unseated;
+    let mut told = String::new(alloc);
+    put(alloc, &mut told, "plan", plan.iter().copied())?;
+    put(alloc, &mut told, " dead", dead.iter().copied().map(Some))?;
+    put(
+        alloc,
+        &mut told,
+        " desks",
+        numbers.iter().map(|desk| desk.map(|desk| desk as usize)),
+    )?;
+    told.push_str(format!(in alloc; " unseated {unseated}")?.as_str())?;
+    put(
+        alloc,
+        &mut told,
+        " halls",
+        short.halls.iter().copied().map(Some),
+    )?;
+    put(
+        alloc,
+        &mut told,
+        " candidates",
+        short.candidates.iter().copied().map(Some),
+    )?;
+    Ok(told)
 }
 
-#[test]
-fn barred_candidate_is_short_in_one_hall(rt: HostRuntime) -> Result<(), Fail> {
-    let fits = [[YES, NO, NO], [YES, NO, NO], [YES, YES, NO]];
-    let problem = problem_of(rt.alloc(), [1, 1, 0], &fits)?;
-    let plan = swept(rt.alloc(), &problem)?;
-    let short = shortage(rt.alloc(), &problem, &plan)?;
-    assert_eq!(rt; short.unseated, 1);
-    assert_eq!(rt; short.halls.as_slice(), [0].as_slice());
-    assert_eq!(rt; short.candidates.as_slice(), [0, 1].as_slice());
-    Ok(())
+/// Expects that this is made of a problem.
+fn expect(alloc: Global, problem: &Problem, wanted: &str, name: &str) -> Result<(), Fail> {
+    expect_same(told_of(alloc, problem)?.as_str(), wanted, name)
 }
 
-#[test]
-fn nobody_fits_and_a_reader_beside_a_full_session(rt: HostRuntime) -> Result<(), Fail> {
-    let alone = problem_of(rt.alloc(), [1, 0, 0], &[[NO, NO, NO]])?;
-    let nowhere = swept(rt.alloc(), &alone)?;
-    let short = shortage(rt.alloc(), &alone, &nowhere)?;
-    assert_eq!(rt; short.unseated, 1);
-    assert_eq!(rt; short.halls.len(), 0);
-    assert_eq!(rt; short.candidates.as_slice(), [0].as_slice());
-
-    let fits = [[YES, YES, NO], [YES, NO, NO], [YES, YES, NO], [NO, NO, NO]];
-    let full = problem_of(rt.alloc(), [1, 1, 0], &fits)?;
-    let plan = swept(rt.alloc(), &full)?;
-    let short = shortage(rt.alloc(), &full, &plan)?;
-    assert_eq!(rt; short.unseated, 2);
-    assert_eq!(rt; short.candidates.as_slice(), [0, 1, 2, 3].as_slice());
-    Ok(())
+/// Three digits.
+fn three_of(word: &str) -> Result<[u8; 3], Fail> {
+    match word.as_bytes() {
+        [first, second, third] => Ok([*first, *second, *third]),
+        _ => Err(Fail::new("three digits")),
+    }
 }
 
+/// The problem of a text: the desks of three halls, a digit each, and behind them for each candidate whether each hall
+/// fits, 1 or 0.
+fn small_problem(alloc: Global, text: &str) -> Result<Problem, Fail> {
+    let (desks, candidates) = text.split_once(' ').ok_or("desks")?;
+    let desks = three_of(desks)?.map(|digit| u32::from(digit.saturating_sub(b'0')));
+    let mut fits = Vec::new(alloc);
+    for word in candidates.split(' ') {
+        fits.push(three_of(word)?.map(|digit| digit == b'1'))?;
+    }
+    if fits.len() > 4096 {
+        return Err(Fail::new("too many"));
+    }
+    Ok(problem_of(alloc, desks, fits.as_slice())?)
+}
+
+/// Small problems by their names, and what is made of each.
+const SMALL: &str = "\
+a third candidate is short of a desk: 110 110 100 110 > \
+plan 1 0 - dead 0 1 desks 1 1 - unseated 1 halls 0 1 candidates 0 1 2
+dead halls are listed once: 110 110 100 110 110 > \
+plan 1 0 - - dead 0 1 desks 1 1 - - unseated 2 halls 0 1 candidates 0 1 2 3
+a barred candidate is short in one hall: 110 100 100 110 > \
+plan 0 - 1 dead 0 desks 1 - 1 unseated 1 halls 0 candidates 0 1
+nothing fits: 100 000 > \
+plan - dead desks - unseated 1 halls candidates 0
+a reader beside a full session: 110 110 100 110 000 > \
+plan 1 0 - - dead 0 1 desks 1 1 - - unseated 2 halls 0 1 candidates 0 1 2 3
+the least of two short chains is taken: 111 101 011 110 > \
+plan 2 1 0 dead desks 1 1 1 unseated 0 halls candidates
+";
+
 #[test]
-fn least_of_two_short_chains_is_taken(rt: HostRuntime) -> Result<(), Fail> {
-    let fits = [[YES, NO, YES], [NO, YES, YES], [YES, YES, NO]];
-    let problem = problem_of(rt.alloc(), [1, 1, 1], &fits)?;
-    let plan = swept(rt.alloc(), &problem)?;
-    assert_eq!(rt; plan.as_slice(), [Some(2), Some(1), Some(0)].as_slice());
+fn small_problems_are_swept(rt: HostRuntime) -> Result<(), Fail> {
+    for line in SMALL.lines() {
+        let (name, line) = line.split_once(": ").ok_or("name")?;
+        let (text, wanted) = line.split_once(" > ").ok_or("line")?;
+        let problem = small_problem(rt.alloc(), text)?;
+        expect(rt.alloc(), &problem, wanted, name)?;
+    }
     Ok(())
 }
 
@@ -201,61 +233,37 @@ fn first_and_last_hall_are_told_apart(rt: HostRuntime) -> Result<(), Fail> {
     let masks = [last, [1, 1 << 127], [1, 0], last];
     let problem = masked_problem(rt.alloc(), 256, masks.as_slice())?;
     let first_row = problem.fitting(1);
-    assert!(rt; first_row.contains(0) && first_row.contains(255));
-    assert!(rt; !first_row.contains(1) && !first_row.contains(127) && !first_row.contains(128));
-    assert!(rt; !first_row.contains(254) && !first_row.contains(256));
-    let (plan, dead) = swept_dead(rt.alloc(), &problem)?;
-    assert_eq!(rt;
-        plan.as_slice(),
-        [Some(255), Some(0), None, None].as_slice()
-    );
-    assert_eq!(rt; dead.as_slice(), [0, 255].as_slice());
-    let short = shortage(rt.alloc(), &problem, &swept(rt.alloc(), &problem)?)?;
-    assert_eq!(rt; short.unseated, 2);
-    assert_eq!(rt; short.halls.as_slice(), [0, 255].as_slice());
-    assert_eq!(rt; short.candidates.as_slice(), [0, 1, 2, 3].as_slice());
-    Ok(())
+    let held = [0, 1, 127, 128, 254, 255, 256].map(|hall| first_row.contains(hall));
+    assert!(rt; held == [true, false, false, false, false, true, false]);
+    let wanted =
+        "plan 255 0 - - dead 0 255 desks 1 1 - - unseated 2 halls 0 255 candidates 0 1 2 3";
+    expect(rt.alloc(), &problem, wanted, "first and last")
 }
 
 #[test]
 fn chain_goes_on_from_hall_127_to_hall_128(rt: HostRuntime) -> Result<(), Fail> {
     let masks = [[1 << 127, 1], [0, 3], [1 << 127, 0]];
     let problem = masked_problem(rt.alloc(), 130, masks.as_slice())?;
-    let (plan, dead) = swept_dead(rt.alloc(), &problem)?;
-    assert_eq!(rt;
-        plan.as_slice(),
-        [Some(128), Some(129), Some(127)].as_slice()
-    );
-    assert_eq!(rt; dead.len(), 0);
-    Ok(())
+    let wanted = "plan 128 129 127 dead desks 1 1 1 unseated 0 halls candidates";
+    expect(rt.alloc(), &problem, wanted, "127 and 128")
 }
 
 #[test]
 fn halls_126_to_130_alone_fit(rt: HostRuntime) -> Result<(), Fail> {
     let problem = equal_problem(rt.alloc(), 140, [3 << 126, 7], 6)?;
-    let (plan, dead) = swept_dead(rt.alloc(), &problem)?;
-    assert_eq!(rt;
-        plan.as_slice(),
-        [Some(126), Some(127), Some(128), Some(129), Some(130), None].as_slice()
-    );
-    assert_eq!(rt; dead.as_slice(), [126, 127, 128, 129, 130].as_slice());
-    let short = shortage(rt.alloc(), &problem, &swept(rt.alloc(), &problem)?)?;
-    assert_eq!(rt;
-        short.halls.as_slice(),
-        [126, 127, 128, 129, 130].as_slice()
-    );
-    assert!(rt; short.unseated == 1 && counts_to(&short.candidates, 6));
-    Ok(())
+    let wanted = "plan 126 127 128 129 130 - dead 126 127 128 129 130 desks 1 1 1 1 1 - \
+unseated 1 halls 126 127 128 129 130 candidates 0 1 2 3 4 5";
+    expect(rt.alloc(), &problem, wanted, "126 to 130")
 }
 
 #[test]
 fn one_candidate_more_than_200_halls(rt: HostRuntime) -> Result<(), Fail> {
     let problem = equal_problem(rt.alloc(), 200, [u128::MAX, (1 << 72) - 1], 201)?;
     let (plan, dead) = swept_dead(rt.alloc(), &problem)?;
-    assert_eq!(rt; plan.iter().filter(|place| place.is_some()).count(), 200);
+    assert!(rt; plan.iter().filter(|place| place.is_some()).count() == 200);
     assert!(rt; counts_to(&dead, 200));
     let short = shortage(rt.alloc(), &problem, &swept(rt.alloc(), &problem)?)?;
-    assert_eq!(rt; short.unseated, 1);
+    assert!(rt; short.unseated == 1);
     assert!(rt; counts_to(&short.halls, 200) && counts_to(&short.candidates, 201));
     Ok(())
 }
@@ -263,18 +271,11 @@ fn one_candidate_more_than_200_halls(rt: HostRuntime) -> Result<(), Fail> {
 #[test]
 fn no_hall_and_no_candidate(rt: HostRuntime) -> Result<(), Fail> {
     let nowhere = masked_problem(rt.alloc(), 0, [[0u128, 0], [0, 0]].as_slice())?;
-    let (plan, dead) = swept_dead(rt.alloc(), &nowhere)?;
-    assert_eq!(rt; plan.as_slice(), [None, None].as_slice());
-    assert_eq!(rt; dead.len(), 0);
-    let short = shortage(rt.alloc(), &nowhere, &swept(rt.alloc(), &nowhere)?)?;
-    assert_eq!(rt; short.halls.len(), 0);
-    assert_eq!(rt; short.candidates.as_slice(), [0, 1].as_slice());
-
+    let wanted = "plan - - dead desks - - unseated 2 halls candidates 0 1";
+    expect(rt.alloc(), &nowhere, wanted, "no hall")?;
     let empty = masked_problem(rt.alloc(), 2, [].as_slice())?;
-    let (plan, dead) = swept_dead(rt.alloc(), &empty)?;
-    assert_eq!(rt; plan.len(), 0);
-    assert_eq!(rt; dead.len(), 0);
-    Ok(())
+    let wanted = "plan dead desks unseated 0 halls candidates";
+    expect(rt.alloc(), &empty, wanted, "no candidate")
 }
 
 /// The hall of a candidate in the plan with this number, 3 for none.
