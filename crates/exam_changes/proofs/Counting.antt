@@ -14,6 +14,7 @@ use Rattle.exam_commands.specs.Imports.{distinct_rows, has_key, key_of, place_of
 use Rattle.exam_commands.specs.Replies.{import_reply, is_changed, is_new, is_same, is_stored}
 use Rattle.exam_commands.proofs.ImportKeys.{key_flips, key_itself}
 use Rattle.exam_commands.proofs.ImportRowsEqual.{numbers}
+use Rattle.std.proofs.lemmas.Bool.{ne_eqb}
 
 -- no row before has the key of this one
 abbrev pub is_fresh : List Row → Row → Bool
@@ -32,13 +33,6 @@ left_start rows = all (distinct_rows rows)
 
 nat_eq_is : (a b : ℕ) → a ≡ b → nat_eq a b ≡ true
 nat_eq_is a b = eq-eqb a b
-
-nat_eq_not : (a b : ℕ) → (a ≡ b → ⊥) → nat_eq a b ≡ false
-nat_eq_not a b differ = inner (nat_eq a b) refl
-  where
-    inner : (c : Bool) → nat_eq a b ≡ c → nat_eq a b ≡ false
-    inner true e = absurd (differ (numbers a b e))
-    inner false e = e
 
 filter_twice : (p q r : Row → Bool) → ((x : Row) → r x ≡ (q x && p x)) → (xs : List Row) → filter p (filter q xs) ≡ filter r xs
 filter_twice p q r same [] = refl
@@ -88,7 +82,7 @@ at_own_place t n (x ∷ before) rest row own = inner (t x) (at_own_place t (n + 
   where
     inner : (b : Bool) → option_map_or (λ first. nat_eq first (n + 1 + length before)) (position_from t (n + 1) (before ++ row ∷ rest)) false ≡ not (list_any t before)
         → option_map_or (λ first. nat_eq first (n + length (x ∷ before))) (cond b (Some n) (position_from t (n + 1) (before ++ row ∷ rest))) false ≡ not (b || list_any t before)
-    inner true h = nat_eq_not n (n + length (x ∷ before)) (λ e. omega arith)
+    inner true h = ne_eqb n (n + length (x ∷ before)) (λ e. omega arith)
     inner false h = let e : n + length (x ∷ before) ≡ n + 1 + length before = omega arith in rw e h
 
 module _ (i : ℕ) (rows : List Row) (row : Row) (here : i < length rows) (is : row ≡ get_or rows i row) where

@@ -12,6 +12,7 @@ use Rattle.exam_commands.specs.Imports.{AreOfKind, conflicts, has_key, is_consis
 use Rattle.exam_commands.proofs.ImportKeys.{key_exact, key_itself}
 use Rattle.exam_commands.proofs.ImportRowsEqual.{row_exact, row_refl}
 use Rattle.exam_commands.proofs.ImportPlaces.{first-none, place-append, place-none}
+use Rattle.std.proofs.lemmas.Bool.{and_parts, not-true, or_parts}
 
 -- a row with a key has it, and no other
 key_is : (k : Key) (r : Row) → has_key k r ≡ true → key_of r ≡ k
@@ -43,31 +44,15 @@ or_left : (x y : Bool) → (x || y) ≡ false → x ≡ false
 or_left true y e = e
 or_left false y e = refl
 
-or_right : (x y : Bool) → (x || y) ≡ false → y ≡ false
-or_right true y e = cc e
-or_right false y e = e
-
-and_left : (x y : Bool) → (x && y) ≡ true → x ≡ true
-and_left true y e = refl
-and_left false y e = e
-
-and_right : (x y : Bool) → (x && y) ≡ true → y ≡ true
-and_right true y e = e
-and_right false y e = cc e
-
-not_true : (x : Bool) → not x ≡ true → x ≡ false
-not_true true e = cc e
-not_true false e = refl
-
 pub conflicts-same : (row first : Row) (rows : List Row) → is_consistent rows ≡ true → find (has_key (key_of row)) rows ≡ Some first → same_row first row ≡ true → conflicts row rows ≡ false
 conflicts-same row first [] good e same = cc e
-conflicts-same row first (r ∷ rows) good e same = step (has_key (key_of row) r) (λ h. conflicts-same row first rows (and_right _ _ good) h same) e
+conflicts-same row first (r ∷ rows) good e same = step (has_key (key_of row) r) (λ h. conflicts-same row first rows (and_parts _ _ good).1 h same) e
   where
     step : (b : Bool) → (find (has_key (key_of row)) rows ≡ Some first → conflicts row rows ≡ false) → cond b (Some r) (find (has_key (key_of row)) rows) ≡ Some first → ((b && not (same_row r row)) || conflicts row rows) ≡ false
     step true more e =
         let is_first : first ≡ r = cc in
         let equal : r ≡ row = subst (λ x. x ≡ row) is_first (row_exact first row same) in
-        let none : conflicts row rows ≡ false = subst (λ x. conflicts x rows ≡ false) equal (not_true _ (and_left _ _ good)) in
+        let none : conflicts row rows ≡ false = subst (λ x. conflicts x rows ≡ false) equal (not-true _ (and_parts _ _ good).0) in
         let agrees : same_row r row ≡ true = subst (λ x. same_row x row ≡ true) is_first same in
         rw (agrees, none) refl
     step false more e = more e
@@ -95,8 +80,8 @@ consistent-more row (r ∷ rows) good none =
     let here : (has_key (key_of r) row && not (same_row row r)) ≡ false =
     other_way r row (or_left (has_key (key_of row) r && not (same_row r row)) (conflicts row rows) none) in
     let rest : is_consistent (rows ++ row ∷ []) ≡ true =
-    consistent-more row rows (and_right (not (conflicts r rows)) (is_consistent rows) good) (or_right (has_key (key_of row) r && not (same_row r row)) (conflicts row rows) none) in
-    let before : conflicts r rows ≡ false = not_true (conflicts r rows) (and_left (not (conflicts r rows)) (is_consistent rows) good) in
+    consistent-more row rows (and_parts _ _ good).1 (or_parts _ _ none).1 in
+    let before : conflicts r rows ≡ false = not-true _ (and_parts _ _ good).0 in
     rw (list_any-append (λ s. has_key (key_of r) s && not (same_row s r)) rows (row ∷ []), before, here, rest) refl
 
 pub kind-more : (kind : Kind) (row : Row) (rows : List Row) → kind_of row ≡ kind → AreOfKind kind rows → AreOfKind kind (rows ++ row ∷ [])

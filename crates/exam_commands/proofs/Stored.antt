@@ -1,11 +1,11 @@
 -- After an import each of its rows is stored, and put again they change nothing.
-use Rattle.std.proofs.Common.{◌≡◌, ℕ, ◌&&◌, ◌||◌, not, Bool, true, false, cond, List, [], ◌∷◌, Option, None, Some, eq-eqb, refl, sym, ap, ◌∙◌, is_some}
+use Rattle.std.proofs.Common.{◌≡◌, ℕ, ◌&&◌, not, Bool, true, false, cond, List, [], ◌∷◌, Option, None, Some, eq-eqb, refl, sym, ap, ◌∙◌, is_some}
 use Rattle.std.specs.Cmp.{IsTotalOrder, nat_cmp_total, then_total, on_total}
 use Rattle.std.specs.Cmp.Lexicographic.{nat_list_cmp_total}
 use Rattle.std.specs.List.{AllByRecursion}
 use Rattle.std.specs.Ordering.{is_eq, nat_cmp}
 use Rattle.std.specs.Option.{option_map}
-use Rattle.std.proofs.lemmas.Bool.{and_from, and_parts, not-false}
+use Rattle.std.proofs.lemmas.Bool.{and_from, and_parts, not-false, not-true, or_parts}
 use Rattle.exam_rules.specs.declared.rows.Entry.{Entry}
 use Rattle.exam_rules.proofs.Naming.{same_code_itself}
 use Rattle.exam_rules.specs.Orders.{AreInOrder, KeysRise}
@@ -143,18 +143,10 @@ row_keeps r (row.OfCandidate s v) (row.OfCandidate t x) agrees at = put_stays na
 row_keeps r (row.OfArrangement s v) (row.OfArrangement t x) agrees at = put_stays nat_cmp nat_cmp_total r.arrangements s t v x (λ e. let same : row.OfArrangement s v ≡ row.OfArrangement t x = agrees e in cc) at
 row_keeps r y x agrees at = at
 
-neither : (x y : Bool) → (x || y) ≡ false → (x ≡ false) × (y ≡ false)
-neither true y e = cc
-neither false y e = (refl, e)
-
-is_false : (x : Bool) → not x ≡ true → x ≡ false
-is_false true e = cc
-is_false false e = refl
-
 rows_keep : (r : Relations) (x : Row) (rows : List Row) → conflicts x rows ≡ false → IsStored r x → IsStored (with_rows r rows) x
 rows_keep r x [] none at = at
 rows_keep r x (y ∷ rows) none at =
-    let both = neither (has_key (key_of x) y && not (same_row y x)) (conflicts x rows) none in
+    let both = or_parts _ _ none in
     rows_keep (with_row r y) x rows both.1 (row_keeps r y x (λ e. agreed (has_key (key_of x) y) both.0 (sym (cmp_same (key_of y) (key_of x)) ∙ e)) at)
   where
     agreed : (b : Bool) → (b && not (same_row y x)) ≡ false → b ≡ true → y ≡ x
@@ -165,4 +157,4 @@ pub rows_stored : (r : Relations) (rows : List Row) → is_consistent rows ≡ t
 rows_stored r [] agree = tt
 rows_stored r (x ∷ rows) agree =
     let both = and_parts (not (conflicts x rows)) (is_consistent rows) agree in
-    (rows_keep (with_row r x) x rows (is_false (conflicts x rows) both.0) (row_stored r x), rows_stored (with_row r x) rows both.1)
+    (rows_keep (with_row r x) x rows (not-true _ both.0) (row_stored r x), rows_stored (with_row r x) rows both.1)

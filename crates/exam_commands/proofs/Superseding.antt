@@ -52,7 +52,7 @@ key_itself x = and_from (same_code x.0 x.0) ((x.1 == x.1) && same_single x.2 x.2
 
 -- ---- the key of a granted appeal
 
-superseded_ungranted : (st : Status) → is_granted (superseded st) ≡ false
+pub superseded_ungranted : (st : Status) → is_granted (superseded st) ≡ false
 superseded_ungranted status.Pending = refl
 superseded_ungranted (status.Granted answer) = refl
 superseded_ungranted (status.Refused answer) = refl

@@ -1,5 +1,5 @@
 -- The rows that a command leaves in the tables: all except the opening that closing a hall takes away.
-use Rattle.std.specs.Prelude.{◌≡◌, ℕ, IsTrue, List}
+use Rattle.std.specs.Prelude.{◌≡◌, IsTrue, List}
 use Rattle.std.specs.declared.cmp.Ordering.{Ordering}
 use Rattle.std.specs.Ordering.{nat_cmp}
 use Rattle.exam_rules.specs.Relations.{Code, Relations, appeal_cmp, code_cmp, entry_cmp, has_row, opening_cmp}

@@ -226,7 +226,7 @@ count_same r k a b up at =
     let counts : appeal_count (with_appeals r (put_row appeal_cmp r.appeals k a)) ≡ appeal_count r = fun_ext (λ c. count_replaced appeal_cmp appeals_total (λ (key : ℕ × Code). key.0 == c) r.appeals k a b up.appeals at) in
     ap (λ (count : ℕ → ℕ). sessions_within r && (papers_within r && (halls_within r && (openings_within r && (candidates_within r && (members_within r && list_all (λ c. nat_le (count c) most_appeals) (keys_of r.candidates))))))) counts
 
-closed_granted : (st : Status) → (not (is_open st) && not (is_retracted st)) ≡ false → is_granted st ≡ false
+pub closed_granted : (st : Status) → (not (is_open st) && not (is_retracted st)) ≡ false → is_granted st ≡ false
 closed_granted status.Pending ok = refl
 closed_granted (status.Granted answer) ok = ok
 closed_granted (status.Refused answer) ok = refl

@@ -3,7 +3,6 @@ use Rattle.std.proofs.Common.{◌≡◌, ℕ, Bool, true, false, not, cond, List
 use Rattle.std.specs.BTreeMap.{is_at}
 use Rattle.std.specs.Ordering.{nat_cmp}
 use Rattle.std.proofs.lemmas.Bool.{not-false}
-use Rattle.std.proofs.lemmas.Map.Lookups.{CmpEqualImpliesEq, exact_bytes, exact_pairs}
 use Rattle.exam_types.specs.declared.refusal.Refusal.TheVariants as refusal
 use Rattle.exam_rules.specs.declared.rows.Appeal.{Appeal}
 use Rattle.exam_rules.specs.declared.rows.Subject.{Subject}
@@ -30,6 +29,7 @@ use Rattle.exam_laws.proofs.DecidedFacts.{marked_still, unmarked_open}
 use Rattle.exam_laws.proofs.Lasting.{made, new_facts, unrefused}
 use Rattle.exam_commands.proofs.Referring.{has_put, passed}
 use Rattle.exam_commands.proofs.OtherRows.{key_apart, removed_elsewhere}
+use Rattle.exam_commands.proofs.AppealKeys.{openings_exact}
 
 -- no table loses a key
 record Keeps (r t : Relations) : Type 0 where
@@ -171,9 +171,6 @@ decision_keeps r day d stand ok = inner (appeal_at r d.number d.reference) refl
 -- what keeps all keys keeps those that stay
 all_stay : (done : Command) (r t : Relations) → Keeps r t → KeepsRows r t × KeepsOpenings done r t
 all_stay done r t keeps = (keeps.rows, λ k apart. keeps.openings k)
-
-openings_exact : CmpEqualImpliesEq opening_cmp
-openings_exact = exact_pairs code_cmp code_cmp exact_bytes exact_bytes
 
 change_keeps : (done : Command) (day : ℕ) (before : State) (t : Relations) → IsGood before → change done day before ≡ Ok t → KeepsRows before.relations t × KeepsOpenings done before.relations t
 change_keeps (command.Import import) day before t fine is =

@@ -3,7 +3,7 @@
 use Rattle.std.proofs.Common.{◌≡◌, ℕ, suc, ◌&&◌, ◌||◌, Bool, true, false, cond, List, [], ◌∷◌, filter, length, map, nat_eq, Option, None, Some, is_some, eq-eqb, refl, ap, sym, ◌∙◌}
 use Rattle.std.specs.List.{list_all, list_any, cons_option, filter_map}
 use Rattle.std.specs.BTreeMap.{insert_entry, is_at}
-use Rattle.std.specs.Cmp.{Equal-is, IsTotalOrder, nat_cmp_total, then_total, on_total}
+use Rattle.std.specs.Cmp.{Equal-is, IsTotalOrder, nat_cmp_total}
 use Rattle.std.specs.Cmp.Lexicographic.{nat_list_cmp_total, texts_ties}
 use Rattle.std.specs.List.{AllByRecursion}
 use Rattle.std.specs.Map.{keys_of}
@@ -26,6 +26,7 @@ use Rattle.exam_rules.specs.Sessions.{is_live_entry, is_paper_of, live_papers_in
 use Rattle.exam_commands.specs.Appeals.{is_open, is_open_appeal, same_kind}
 use Rattle.exam_commands.specs.declared.own.OwnAppeal.{OwnAppeal}
 use Rattle.exam_commands.specs.Own.{OwnSessionRow, own_appeal, own_appeals}
+use Rattle.exam_commands.proofs.Stored.{entry_total}
 
 -- ---- looking up
 
@@ -34,19 +35,13 @@ pub none_past : {K X : Type 0} (cmp : K → K → Ordering) → IsTotalOrder cmp
 none_past cmp o k q [] tied above = refl
 none_past cmp o k q (e ∷ es) tied above = ap (λ r. cond (is_eq r) (Some e.1) (row_at cmp es q)) (o.congr q k e.0 tied ∙ above.0) ∙ none_past cmp o k q es tied above.1
 
-entries_total : IsTotalOrder entry_cmp
-entries_total = then_total (on_total (λ (k : ℕ × Code). k.0) nat_cmp_total) (on_total (λ (k : ℕ × Code). k.1) nat_list_cmp_total)
-
-number_is : (n : ℕ) → nat_eq n n ≡ true
-number_is n = eq-eqb n n refl
-
 -- the key of another candidate is another one
 other_key : (c n : ℕ) (p q : Code) → nat_eq n c ≡ false → is_eq (ordering_then (nat_cmp c n) (code_cmp p q)) ≡ false
 other_key c n p q other = inner (nat_cmp c n) refl
   where
     inner : (o : Ordering) → nat_cmp c n ≡ o → is_eq (ordering_then o (code_cmp p q)) ≡ false
     inner Less is = refl
-    inner Equal is = absurd (let same : c ≡ n = exact_unsigned c n is in let f : true ≡ false = sym (number_is n) ∙ ap (nat_eq n) (sym same) ∙ other in cc)
+    inner Equal is = absurd (let same : c ≡ n = exact_unsigned c n is in let f : true ≡ false = sym (eq-eqb n n refl) ∙ ap (nat_eq n) (sym same) ∙ other in cc)
     inner Greater is = refl
 
 -- of keys of one candidate the second parts decide
@@ -135,7 +130,7 @@ live_found r s c p (e ∷ es) up = by_owner (nat_eq e.0.0 c) refl (live_found r 
         → found_with t ≡ list_any (same_code p) (papers_with (e.1.live && is_paper_of r s e.0.1))
     by_paper true here own rest =
         let same : p ≡ e.0.1 = exact_bytes p e.0.1 ((Equal-is (code_cmp p e.0.1)).0 here) in
-        let gone : row_at entry_cmp es (c, p) ≡ None = none_past entry_cmp entries_total e.0 (c, p) es (same_key here own) (sorted_head entry_cmp e.0 (keys_of es) up) in
+        let gone : row_at entry_cmp es (c, p) ≡ None = none_past entry_cmp entry_total e.0 (c, p) es (same_key here own) (sorted_head entry_cmp e.0 (keys_of es) up) in
         let none : list_any (same_code p) (live_papers_in r es s c) ≡ false = sym rest ∙ ap (λ o. option_map_or (λ (entry : Entry). entry.live) o false && is_paper_of r s p) gone in
         at_live e.1.live (is_paper_of r s e.0.1) none (texts_ties p e.0.1 ∙ here) (ap (is_paper_of r s) same)
     by_paper false away own rest = rest ∙ sym (passed_over (e.1.live && is_paper_of r s e.0.1) (texts_ties p e.0.1 ∙ away))
@@ -240,5 +235,5 @@ all_but_one {X} p b c (e ∷ es) every =
       where
         turn : (r : Ordering) → nat_cmp c e.0 ≡ r → cond (is_some (cond (is_eq r) (Some e.1) (row_at nat_cmp es c))) b true ≡ cond (has_row nat_cmp es c) b true
         turn Less is = refl
-        turn Equal is = absurd (let same : c ≡ e.0 = exact_unsigned c e.0 is in let f : true ≡ false = sym (number_is e.0) ∙ ap (nat_eq e.0) (sym same) ∙ other in cc)
+        turn Equal is = absurd (let same : c ≡ e.0 = exact_unsigned c e.0 is in let f : true ≡ false = sym (eq-eqb e.0 e.0 refl) ∙ ap (nat_eq e.0) (sym same) ∙ other in cc)
         turn Greater is = refl

@@ -21,7 +21,6 @@ use Rattle.exam_rules.specs.declared.rows.Arrangement.{Arrangement}
 use Rattle.exam_rules.specs.declared.rows.Candidate.{Candidate}
 use Rattle.exam_rules.specs.declared.rows.Paper.{Paper}
 use Rattle.exam_rules.specs.declared.rows.Session.{Session}
-use Rattle.exam_rules.specs.declared.rows.Status.{Status}
 use Rattle.exam_rules.specs.declared.rows.Status.TheVariants as status
 use Rattle.exam_rules.specs.declared.rows.Subject.{Subject}
 use Rattle.exam_rules.specs.Orders.{KeysRise}
@@ -42,7 +41,7 @@ use Rattle.exam_commands.specs.Own.{OwnRows, OwnSessionRow, own_appeal, own_of, 
 use Rattle.exam_commands.specs.State.{Seats, State}
 use Rattle.exam_commands.specs.Steps.{Step, StepTo}
 use Rattle.exam_commands.proofs.AppealKeys.{appeals_exact}
-use Rattle.exam_laws.proofs.Appealing.{put_standing_same, with_appeals}
+use Rattle.exam_laws.proofs.Appealing.{not_granted, put_standing_same, with_appeals}
 use Rattle.exam_commands.proofs.Borne.{closed_unborne, unborne}
 use Rattle.exam_laws.proofs.Lasting.{lodging_moves_nobody, retraction_moves_nobody}
 use Rattle.exam_laws.proofs.OwnFacts.{AppealRows, map_twice}
@@ -50,6 +49,8 @@ use Rattle.exam_laws.proofs.OwnLodging.{same_lodging_refusal}
 use Rattle.exam_laws.proofs.OwnRetracting.{same_appeal, same_retraction_refusal}
 use Rattle.exam_commands.proofs.PutAppeals.{put_passed_over}
 use Rattle.exam_commands.proofs.Referring.{passed}
+use Rattle.exam_laws.proofs.AppealSteps.{closed_granted}
+use Rattle.std.proofs.lemmas.Bool.{ne_eqb}
 
 abbrev state_of : Relations → Seats → State
 state_of r seats = record { relations = r; seats = seats }
@@ -97,12 +98,6 @@ module _ (r : Relations) (seats : Seats) where
   pub sessions_stay : (rows : AppealRows) (c : ℕ) → granted_subjects rows ≡ granted_subjects r.appeals → standing_grants (with_appeals r rows) c ≡ standing_grants r c
       → own_sessions (state_of (with_appeals r rows) seats) c ≡ own_sessions (state_of r seats) c
   sessions_stay rows c same stand = ap (sessions_by c (granted_subjects rows)) stand ∙ ap (λ asked. sessions_by c asked (standing_grants r c)) same
-
--- what is not granted counts for nothing
-not_granted : (mine here : Bool) → (mine && (here && false)) ≡ false
-not_granted true true = refl
-not_granted true false = refl
-not_granted false here = refl
 
 -- the appeal is put in the place of none that is granted, and bears no mark
 record IsPutUngranted (r : Relations) (k : ℕ × Code) (a : Appeal) : Type 0 where
@@ -250,13 +245,6 @@ module _ (r : Relations) (seats : Seats) (k : ℕ × Code) (a : Appeal) (put : I
           ∙ ap (λ (rows : AppealRows). Some (with_own (map (own_appeal r) rows) (own_rows (state_of r seats) c row)))
           (put_passed_over appeal_cmp appeals_exact (is_row_of c) r.appeals k a other (λ b at. other))
 
-unlike : (n m : ℕ) → (n ≡ m → ⊥) → nat_eq n m ≡ false
-unlike n m other = inner (nat_eq n m) refl
-  where
-    inner : (b : Bool) → nat_eq n m ≡ b → b ≡ false
-    inner true same = absurd (other (exact_unsigned_eq n m same))
-    inner false same = refl
-
 -- by an accepted command, or by none
 abbrev view_or : Option OwnRows → Option OwnRows → Option Refusal → Option OwnRows
 view_or new old None = new
@@ -312,7 +300,7 @@ module _ (office : State) (day : ℕ) (l : Lodging) (good : IsGood office) where
 
     pub lodging_shows_others : (c : ℕ) → (l.number ≡ c → ⊥) → own_of after c ≡ own_of office c
     lodging_shows_others c other =
-        lodging_led c ∙ ap (λ (v : Option OwnRows). view_or v (own_of office c) (spec.lodging_refusal office.relations office.seats day l)) (lodged_other c (unlike l.number c other))
+        lodging_led c ∙ ap (λ (v : Option OwnRows). view_or v (own_of office c) (spec.lodging_refusal office.relations office.seats day l)) (lodged_other c (ne_eqb l.number c other))
         ∙ either (spec.lodging_refusal office.relations office.seats day l)
       where
         either : (o : Option Refusal) → view_or (own_of office c) (own_of office c) o ≡ own_of office c
@@ -334,13 +322,6 @@ same_lodging_view one other one_after other_after day l first second good up sou
     ∙ sym (lodging_shown other day l sound other_after second rise rise_after again)
 
 -- ---- a retraction
-
-closed_granted : (st : Status) → (not (is_open st) && not (is_retracted st)) ≡ false → is_granted st ≡ false
-closed_granted status.Pending ok = refl
-closed_granted (status.Granted answer) ok = ok
-closed_granted (status.Refused answer) ok = refl
-closed_granted status.Retracted ok = refl
-closed_granted (status.Superseded answer) ok = refl
 
 abbrev retracted_one : Appeal → Appeal
 retracted_one a = record a { status = status.Retracted }
@@ -408,7 +389,7 @@ module _ (office : State) (c : ℕ) (reference : Code) (good : IsGood office) wh
 
     pub retraction_shows_others : (d : ℕ) → (c ≡ d → ⊥) → own_of after d ≡ own_of office d
     retraction_shows_others d other =
-        retraction_led d (own_of office d) (λ ok. retracted_other ok d (unlike c d other)) ∙ either (spec.retraction_refusal office.relations c reference)
+        retraction_led d (own_of office d) (λ ok. retracted_other ok d (ne_eqb c d other)) ∙ either (spec.retraction_refusal office.relations c reference)
       where
         either : (o : Option Refusal) → view_or (own_of office d) (own_of office d) o ≡ own_of office d
         either None = refl

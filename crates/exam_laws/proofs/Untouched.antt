@@ -10,7 +10,7 @@ use Rattle.std.specs.declared.cmp.Ordering.{Ordering}
 use Rattle.std.specs.declared.cmp.Ordering.TheVariants.{Less, Equal, Greater}
 use Rattle.std.specs.Ordering.{nat_cmp, match_ordering}
 use Rattle.std.proofs.lemmas.Bool.{and_parts, eqb-true, not-false}
-use Rattle.std.proofs.lemmas.Map.Lookups.{CmpEqualImpliesEq, exact_pairs, exact_bytes, exact_unsigned}
+use Rattle.std.proofs.lemmas.Map.Lookups.{exact_bytes, exact_unsigned}
 use Rattle.exam_types.specs.declared.refusal.Refusal.TheVariants as refusal
 use Rattle.exam_plan.specs.Matching.{SamePlan}
 use Rattle.exam_rules.specs.declared.rows.Appeal.{Appeal}
@@ -43,7 +43,7 @@ use Rattle.exam_commands.specs.State.{State}
 use Rattle.exam_commands.specs.Steps.{SameSeating, Step, StepTo, change}
 use Rattle.exam_commands.specs.Touched.{decision_touches, ends_standing, grant_touches, has_standing_member, names, row_touches, stands_in, touches}
 use Rattle.exam_commands.proofs.Alike.{SpeakAlike, alike_itself, alike_seating}
-use Rattle.exam_commands.proofs.AppealKeys.{appeals_exact}
+use Rattle.exam_commands.proofs.AppealKeys.{appeals_exact, openings_exact}
 use Rattle.exam_laws.proofs.Appealing.{fits_same, never_marked, not_granted, put_seating_same, seating_by, with_appeals, with_decisions}
 use Rattle.exam_laws.proofs.AppealSteps.{lodging_settled, retraction_settled}
 use Rattle.exam_commands.proofs.Borne.{unmarked_same}
@@ -55,6 +55,7 @@ use Rattle.exam_commands.proofs.PutRows.{mapped_filtered, put_keys}
 use Rattle.exam_commands.proofs.Referring.{Grows, appeals_row, grows_both, grows_none, grows_row, neither, parted, passed, standing_row, there}
 use Rattle.exam_commands.proofs.Repeating.{put_found, put_rises}
 use Rattle.exam_commands.proofs.OtherRows.{key_apart, removed_elsewhere}
+use Rattle.exam_commands.proofs.Superseding.{superseded_ungranted}
 
 -- ---- rows at other keys
 
@@ -72,9 +73,6 @@ numbers_filtered {X} p (e ∷ es) c x out = inner (nat_cmp c e.0) (numbers_filte
     inner Less rest = ap (λ b. cond b (c ∷ filter p (e.0 ∷ keys_of es)) (filter p (e.0 ∷ keys_of es))) out
     inner Equal rest = refl
     inner Greater rest = ap (λ ns. cond (p e.0) (e.0 ∷ ns) ns) rest
-
-openings_exact : CmpEqualImpliesEq opening_cmp
-openings_exact = exact_pairs code_cmp code_cmp exact_bytes exact_bytes
 
 -- a code that does not name the session is another
 other_code : (s t : Code) → same_code t s ≡ false → s ≡ t → ⊥
@@ -342,14 +340,6 @@ closing_spares r named h s away = record {
 
 -- ---- decisions
 
--- what gave way is no grant
-never_granted : (st : Status) → is_granted (superseded st) ≡ false
-never_granted status.Pending = refl
-never_granted (status.Granted answer) = refl
-never_granted (status.Refused answer) = refl
-never_granted status.Retracted = refl
-never_granted (status.Superseded answer) = refl
-
 open_ungranted : (st : Status) → is_open st ≡ true → is_granted st ≡ false
 open_ungranted status.Pending open_yet = refl
 open_ungranted (status.Granted answer) open_yet = absurd (let differ : false ≡ true = open_yet in cc)
@@ -383,7 +373,7 @@ module _ (c : ℕ) (own s : Code) (asked : Subject) (away : same_code own s ≡ 
   out n row is = inner (gives_way c own asked row)
     where
       inner : (b : Bool) → is_granted_appeal s n (cond b (row.0, record row.1 { status = superseded row.1.status }) row) ≡ false
-      inner true = ap (λ g. nat_eq row.0.0 n && (same_code row.1.session s && g)) (never_granted row.1.status) ∙ not_granted (nat_eq row.0.0 n) (same_code row.1.session s)
+      inner true = ap (λ g. nat_eq row.0.0 n && (same_code row.1.session s && g)) (superseded_ungranted row.1.status) ∙ not_granted (nat_eq row.0.0 n) (same_code row.1.session s)
       inner false = is
 
   given_keyed : (row : (ℕ × Code) × Appeal) → (given row).0 ≡ row.0
@@ -454,7 +444,7 @@ module _ (r : Relations) (c : ℕ) (own : Code) (asked : Subject) where
           → filter (is_standing r c) (map (giving_way c own asked) rows) ≡ filter (is_standing r c) rows → Stays (cond b superseded_row row)
       inner true gives off rest =
           ap (λ b. cond b (superseded_row ∷ filter (is_standing r c) (map (giving_way c own asked) rows)) (filter (is_standing r c) (map (giving_way c own asked) rows)))
-          (ap (λ g. nat_eq row.0.0 c && (g && is_marked r row.0)) (never_granted row.1.status) ∙ never_marked (nat_eq row.0.0 c) (is_marked r row.0))
+          (ap (λ g. nat_eq row.0.0 c && (g && is_marked r row.0)) (superseded_ungranted row.1.status) ∙ never_marked (nat_eq row.0.0 c) (is_marked r row.0))
           ∙ rest
           ∙ sym (ap (λ b. cond b (row ∷ filter (is_standing r c) rows) (filter (is_standing r c) rows)) (unmarked (nat_eq row.0.0 c) (is_granted row.1.status) (is_marked r row.0) off))
       inner false stays off rest = ap (λ t. cond (is_standing r c row) (row ∷ t) t) rest

@@ -30,7 +30,7 @@ set_twice all tree u one two = elim (cases_Bool (u == tree)) [ inl is ↦ rw is 
 set_same : (all : Trees) (tree u : ℕ) → with_tree all tree (all tree) u ≡ all u
 set_same all tree u = elim (cases_Bool (u == tree)) [ inl is ↦ rw is (ap all (sym (eqb-true u tree is))) | inr other ↦ rw other ]
 
-set_here : (all : Trees) (tree : ℕ) (rows : List Row) → with_tree all tree rows tree ≡ rows
+pub set_here : (all : Trees) (tree : ℕ) (rows : List Row) → with_tree all tree rows tree ≡ rows
 set_here all tree rows = rw (eq-eqb tree tree refl)
 
 -- many puts of one table set it once

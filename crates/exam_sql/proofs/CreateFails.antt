@@ -27,6 +27,7 @@ use Rattle.sqlite.proofs.Callers.{IsPlain, command_of, statement_of}
 use Rattle.exam_sql.specs.Refusals.{Fails}
 use Rattle.exam_sql.proofs.Failing.{IsWhole}
 use Rattle.exam_sql.proofs.StatementFails.{IsQuiet, fails_by}
+use Rattle.exam_sql.proofs.KeysHold.{first_of}
 
 -- nothing forbids the table: its name is free, and its text and its columns are neither too long nor too many
 pub record IsFree (schema : Schema) (table : Table) (text : List ℕ) : Type 0 where
@@ -86,15 +87,11 @@ module _ (schema : Schema) (table : Table) (text : List ℕ) (defined : table_de
   made db has (Some e) (inl no_text) = no_text.0 free.utf8
   made db has (Some e) (inr (why, refused, same)) = not_refused why (subst (λ s. RefusesTable s text why) has refused)
 
--- a part that stopped gave the error that it stopped at
-stops : {B : Type 0} {First : Option Error → Type 0} (stop : Option Error) → ((first : Option Error) × First first × ◌≡◌ {A = Result B (Option Error)} (Err stop) (Err first)) → First stop
-stops {B} {First} stop it = let same : it.0 ≡ stop = cc in subst First same it.1
-
 module _ (schema : Schema) (table : Table) (text : List ℕ) (is : command_of (understood schema text) ≡ CreateTable) (plain : IsPlain (understood schema text)) (whole : IsWhole text 0 (understood schema text))
     (one : statement_of text (understood schema text) ≡ text) (defined : table_defined_by text ≡ Ok table) (uncounted : lacks_sequence (created schema table) ≡ false) (free : IsFree schema table text) where
   -- carrying it out does not stop either
   not_stopped : (db : Database) → db.schema ≡ schema → (stop : Option Error) → Then (MakesTable text db) MakesSequence (Err stop) → ⊥
-  not_stopped db has stop (inl at_table) = made schema table text defined free db has stop (stops {First = λ s. MakesTable text db (Err s)} stop at_table)
+  not_stopped db has stop (inl at_table) = made schema table text defined free db has stop (first_of {First = λ s. MakesTable text db (Err s)} stop at_table)
   not_stopped db has stop (inr (after, makes, counts)) =
       let same : makes.table ≡ table = same_table schema table text defined free makes.table makes.defined in
       let now : after.schema ≡ created schema table = makes.is ∙ ap (λ s. created s makes.table) has ∙ ap (created schema) same in
@@ -126,7 +123,7 @@ module _ (schema : Schema) (table : Table) (text : List ℕ) (is : command_of (u
     never : (stop : Option Error) → Does old.step_limit (mode_of old) [] old.now (statement_of text (understood schema text)) None CreateTable (Err stop) → ⊥
     never stop does =
         let named = subst (λ t. Does old.step_limit (mode_of old) [] old.now t None CreateTable (Err stop)) one does in
-        not_stopped old.now has stop (stops {First = λ s. Then (MakesTable text old.now) MakesSequence (Err s)} stop (first named))
+        not_stopped old.now has stop (first_of {First = λ s. Then (MakesTable text old.now) MakesSequence (Err s)} stop (first named))
       where
         first : Defines (mode_of old) (Then (MakesTable text old.now) MakesSequence) (Err stop)
             → (s : Option Error) × Then (MakesTable text old.now) MakesSequence (Err s) × ◌≡◌ {A = Result (Tally × Database) (Option Error)} (Err stop) (Err s)

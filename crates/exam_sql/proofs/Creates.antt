@@ -1,7 +1,7 @@
 -- What CREATE TABLE adds to the tables that are there.
-use Rattle.std.proofs.Common.{◌≡◌, ℕ, List, [], ◌∷◌, true, false, not, ◌==◌, Ok, Err, Result, OnOk, None, refl, sym, ap, subst, ◌∙◌}
+use Rattle.std.proofs.Common.{◌≡◌, ℕ, List, [], ◌∷◌, true, false, not, ◌==◌, Ok, Err, Result, OnOk, None, sym, ap, subst, ◌∙◌}
 use Rattle.std.specs.List.{AllByRecursion, list_all}
-use Rattle.std.proofs.lemmas.Bool.{eq-eqb, not-true}
+use Rattle.std.proofs.lemmas.Bool.{not-true}
 use Rattle.std.proofs.lemmas.List.Sorted.{IsPermutation-refl}
 use Rattle.sqlite_value.specs.Order.{Row}
 use Rattle.sqlite_trees.specs.Tree.{Trees, with_tree}
@@ -20,9 +20,7 @@ use Rattle.sqlite.specs.State.{State, Executes, Writes}
 use Rattle.sqlite.proofs.Callers.{IsPlain, command_of, statement_of, runs_as}
 use Rattle.exam_sql.specs.Content.{places, Holds, ContainsIn}
 use Rattle.exam_sql.proofs.Statements.{went, same_value}
-
-set_here : (all : Trees) (t : ℕ) → with_tree all t [] t ≡ []
-set_here all t = rw (eq-eqb t t refl)
+use Rattle.exam_sql.proofs.Changes.{set_here}
 
 new_holds : (at : List ℕ) (kept rows : List Row) → kept ≡ [] → rows ≡ [] → Holds at kept rows
 new_holds at kept rows a b = rw (a, b) (record { shaped = (tt, tt); same = IsPermutation-refl _ })
@@ -53,7 +51,7 @@ module _ (schema : Schema) (table : Table) (text : List ℕ) (is : command_of (u
             let apart : (t.tree == next_tree schema) ≡ false = not-true _ (test_has _ schema.tables t fresh has) in
             let rows_same : new.now.trees t.tree ≡ old.now.trees t.tree = ap (λ (d : Database). d.trees t.tree) now ∙ all_has _ schema.tables t kept has in
             rw apart (subst (λ l. Holds (places t) l (all t.tree)) (sym rows_same) (all_has _ schema.tables t was.rows has))))
-            (new_holds (places table) (new.now.trees (next_tree schema)) _ empty (set_here all (next_tree schema)), tt);
+            (new_holds (places table) (new.now.trees (next_tree schema)) _ empty (set_here all (next_tree schema) []), tt);
       }
 
   -- the database is sound after it

@@ -12,6 +12,7 @@ use Rattle.sqlite_rules.proofs.ListLemmas.{all_has, all_from, some_from, some_ha
 use Rattle.exam_sql.specs.Changes.{put_all, delete_all}
 use Rattle.exam_sql.specs.Content.{put, delete, same_key}
 use Rattle.exam_sql.proofs.References.{Link, links, AllRefer, LinkHolds, has_parent}
+use Rattle.exam_sql.proofs.Changes.{set_here}
 
 -- what is known of the rows of a table on its way
 pub record Way : Type 0 where
@@ -129,9 +130,6 @@ module _ (key : List ℕ) (before mid after : List Row) where
   }
 
 -- ---- all tables
-
-set_here : (all : Trees) (tree : ℕ) (rows : List Row) → with_tree all tree rows tree ≡ rows
-set_here all tree rows = rw (eq-eqb tree tree refl)
 
 set_elsewhere : (all : Trees) (tree u : ℕ) (rows : List Row) → (u == tree) ≡ false → with_tree all tree rows u ≡ all u
 set_elsewhere all tree u rows other = rw other

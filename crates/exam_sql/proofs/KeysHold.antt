@@ -28,7 +28,7 @@ use Rattle.exam_sql.proofs.Statements.{SetsRow, task, database_is}
 use Rattle.exam_sql.proofs.Deletes.{TakesRow, taking}
 
 -- a part that stopped at its first part
-first_of : {B : Type 0} {First : Option Error → Type 0} (stop : Option Error) → ((s : Option Error) × First s × ◌≡◌ {A = Result B (Option Error)} (Err stop) (Err s)) → First stop
+pub first_of : {B : Type 0} {First : Option Error → Type 0} (stop : Option Error) → ((s : Option Error) × First s × ◌≡◌ {A = Result B (Option Error)} (Err stop) (Err s)) → First stop
 first_of {B} {First} stop it = let same : it.0 ≡ stop = cc in subst First same it.1
 
 -- where the foreign keys hold after what is written, it stops before

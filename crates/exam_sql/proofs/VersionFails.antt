@@ -1,5 +1,5 @@
 -- Why the version is not set: whatever rows the tables have, only a limit of steps that is too low prevents it.
-use Rattle.std.proofs.Common.{◌≡◌, ◌⊎◌, ◌==◌, ◌||◌, ◌&&◌, not, inl, inr, ℕ, ℤ, zero, suc, pos, negsuc, List, [], ◌∷◌, length, Bool, true, false, None, Some, Option, Ok, Err, Result, refl, sym, ap, ap₂, subst, ◌∙◌, arith, IsSome, lit≤, lit<, length-append, true≢false, All, map, Equal}
+use Rattle.std.proofs.Common.{◌≡◌, ◌⊎◌, ◌==◌, ◌||◌, ◌&&◌, not, inl, inr, ℕ, ℤ, zero, suc, pos, negsuc, List, [], ◌∷◌, length, Bool, true, false, None, Some, Option, Ok, Err, refl, sym, ap, ap₂, subst, ◌∙◌, arith, IsSome, lit≤, lit<, length-append, true≢false, All, map, Equal}
 use Rattle.std.specs.List.{AllByRecursion, list_all, list_any}
 use Rattle.std.specs.Ordering.{is_eq}
 use Rattle.std.specs.Cmp.Derive.{both_true}
@@ -55,6 +55,7 @@ use Rattle.exam_sql.proofs.Keys.{cast_int, cast_null, equal_is, equal_itself, sa
 use Rattle.exam_sql.proofs.KeysHold.{on_insert}
 use Rattle.exam_sql.proofs.OfOffice as office
 use Rattle.exam_sql.proofs.Statements.{finds, replaces, tries_one, without, held_at, database_is}
+use Rattle.exam_sql.proofs.KeysHold.{first_of}
 
 -- the first table has no index
 unguarded : list_all (λ (t : Table). not (t.tree == 0) || list_all (λ i. not (guards i t)) store_schema.indexes) store_schema.tables ≡ true
@@ -245,10 +246,6 @@ module _ (version : ℤ) where
 
     abbrev TooFew : Option Error → Type 0
     TooFew stop = (stop ≡ Some (SqliteFailure OperationInterrupted)) × IsSome limit
-
-    -- a part that stopped at its first part
-    first_of : {B : Type 0} {First : Option Error → Type 0} (stop : Option Error) → ((s : Option Error) × First s × ◌≡◌ {A = Result B (Option Error)} (Err stop) (Err s)) → First stop
-    first_of {B} {First} stop it = let same : it.0 ≡ stop = cc in subst First same it.1
 
     sourced : (stop : Option Error) → Sourced limit (record { schema = store_schema; trees = db }) (stamped tables.office.table given) (Values office.terms 3) (Err stop) → TooFew stop
     sourced None h = absurd h

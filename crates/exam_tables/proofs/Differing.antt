@@ -9,6 +9,7 @@ use Rattle.std.specs.Ordering.{is_eq, ordering_reverse}
 use Rattle.std.proofs.lemmas.List.{take_all, map-append}
 use Rattle.exam_rules.specs.Orders.{KeysRise}
 use Rattle.exam_tables.specs.Differences.{first_cmp, has_key, has_entry, to_put, to_delete}
+use Rattle.std.proofs.lemmas.Bool.{not-false, not-true}
 
 or_false : (b : Bool) → (b || false) ≡ b
 or_false true = refl
@@ -171,14 +172,6 @@ split_first : {P E : Type 0} (f : P → E) (l : List P) (d : P) → 0 < length l
 split_first f [] d some = absurd (omega arith)
 split_first f (x ∷ l) d some = ap (λ r. f x ∷ map f r) (sym (take_all (length (x ∷ l) - 1) l (omega arith)))
 
-not_not : (b : Bool) → not b ≡ false → b ≡ true
-not_not true e = refl
-not_not false e = absurd cc
-
-not_so : (b : Bool) → not b ≡ true → b ≡ false
-not_so true e = absurd cc
-not_so false e = refl
-
 one_first : {P : Type 0} (l : List P) (d e : P) → 0 < length l → get_or l 0 d ≡ get_or l 0 e
 one_first [] d e some = absurd (omega arith)
 one_first (x ∷ l) d e some = refl
@@ -207,10 +200,10 @@ module _ {K X : Type 0} {cmp : K → K → Ordering} (total : IsTotalOrder cmp) 
     refs_pass alike is =
         subst (λ p. IsWalked cmp same old new (map deref_pair (take (length old_left - 1) (drop 1 old_left))) (map deref_pair (take (length new_left - 1) (drop 1 new_left))) p (map (λ key. key.now) deletes))
         (sym (ap (map deref_pair) is))
-        (walk_passes total same old new _ _ _ _ _ _ _ _ (split_first deref_pair old_left x old_some) (split_first deref_pair new_left y new_some) (sym tied) walked (not_not _ alike))
+        (walk_passes total same old new _ _ _ _ _ _ _ _ (split_first deref_pair old_left x old_some) (split_first deref_pair new_left y new_some) (sym tied) walked (not-false _ alike))
 
     pub refs_change : not (same (get_or old_left 0 x).1.now (get_or new_left 0 y).1.now) ≡ true → (z : Bor K × Bor X) → z ≡ get_or new_left 0 z → more ≡ puts ++ z ∷ [] → Walked (take (length old_left - 1) (drop 1 old_left)) (take (length new_left - 1) (drop 1 new_left)) more deletes
     refs_change unlike z first is =
         subst (λ p. IsWalked cmp same old new (map deref_pair (take (length old_left - 1) (drop 1 old_left))) (map deref_pair (take (length new_left - 1) (drop 1 new_left))) p (map (λ key. key.now) deletes))
         (sym (ap (map deref_pair) (is ∙ ap (λ r. puts ++ r ∷ []) (first ∙ one_first new_left z y new_some)) ∙ map-append deref_pair puts (get_or new_left 0 y ∷ [])))
-        (walk_changes total same old new _ _ _ _ _ _ _ _ (split_first deref_pair old_left x old_some) (split_first deref_pair new_left y new_some) (sym tied) walked (not_so _ unlike))
+        (walk_changes total same old new _ _ _ _ _ _ _ _ (split_first deref_pair old_left x old_some) (split_first deref_pair new_left y new_some) (sym tied) walked (not-true _ unlike))

@@ -310,11 +310,6 @@ module _ {S W : Type 0} (g : Ghosts S) (contents : W → Option (List ℕ)) (hea
         let left = begins g s has.all appeals has.held now done.given (contained now same) (done.reads s begun) done.forms in
         all_sent heading line count (contents before) (appeals_in appeals s) many (contents at) place done.given left.0 left.1 done.many end done.sent
 
--- a call that only reads, after one that changed nothing
-pub reads_then : {A E : Type 0} (old mid new : State) (result : Result A E) → IsUnchanged old mid → OnlyReads mid new result → OnlyReads old new result
-reads_then old mid new (Ok value) first next = unchanged_then old mid new first next
-reads_then old mid new (Err e) first next = left_then old mid new first next
-
 -- a row that is read as none of an appeal
 pub row_lacks : {S : Type 0} (g : Ghosts S) (old new : Held S) (row : Row) (shown : Option Row) → Some row ≡ shown → Advances g old new shown → IsUnchanged (state g old) (state g new)
     → (result : Result KeyedAppeal Refusal) → MayRead (λ (a : KeyedAppeal). IsAppeal a.0 a.1) (λ (a : KeyedAppeal). appeal_row a.0 a.1) row result

@@ -116,7 +116,3 @@ part_failed e fails none (inr (inr bad)) = inr (inr (bad.0, none bad.1))
 -- a database that a call leaves as it is holds what it held
 pub still_there : (old new : State) (all : Trees) {A : Type 0} → ContainsMade old.now all → A × IsUnchanged old new → ContainsMade new.now all
 still_there old new all was it = subst (λ (db : Database). ContainsMade db all) (sym it.1.0.now_is) was
-
-pub always_ok : {T E P : Type 0} (r : Result T E) → P → OnOk r P
-always_ok (Ok x) p = p
-always_ok (Err e) p = tt

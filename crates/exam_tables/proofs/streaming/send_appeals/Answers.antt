@@ -9,8 +9,8 @@ use Rattle.exam_sql.proofs.SessionAppeals.{query_stops}
 use Rattle.exam_tables.specs.Faults.{refusal_of}
 use Rattle.exam_tables.specs.Loaded.{OnlyReads}
 use Rattle.exam_tables.specs.Streamed.{HasAppeals}
-use Rattle.exam_tables.proofs.Leaving.{both_survive, not_bad_store}
-use Rattle.exam_tables.proofs.OneByOne.{reads_then, refused_fails, refused_same}
+use Rattle.exam_tables.proofs.Leaving.{both_survive, not_bad_store, then_reads}
+use Rattle.exam_tables.proofs.OneByOne.{refused_fails, refused_same}
 use Rattle.exam_tables.proofs.streaming.send_appeals.Goals as goal
 
 pub returns-in-Ok-clause-sent : goal.returns-in-Ok-clause-sent
@@ -37,7 +37,7 @@ returns-in-Ok-clause-left g c =
     let left : HasCleanDisk new → OnlyReads old new c.send_rows.result = λ clean.
     let before : HasCleanDisk now = omega (arith, c.send_rows.ensures.survives.clean) in
     let started = rw c.as_bytes.ensures.value at (begun session_appeals session_appeals_is_query g.S.Store _ c.args.conn.now c.in-Ok.rows.conn.now (c.in-Ok.ensures.begun before)) in
-    reads_then old now new c.send_rows.result started.1 (c.send_rows.ensures.left clean c.args.session.now started.0) in
+    then_reads old now new c.send_rows.result started.1 (c.send_rows.ensures.left clean c.args.session.now started.0) in
     search rules
 
 pub returns-in-Ok-clause-survives : goal.returns-in-Ok-clause-survives
