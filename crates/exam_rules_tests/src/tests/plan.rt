@@ -121,11 +121,11 @@ fn swept(alloc: Global, problem: &Problem) -> Result<Plan, Refusal>
 }
 
 /// Appends a word and a list of numbers, `-` for none.
-fn put<I: Iterator<Item = Option<usize>> + Drop>(
+fn put(
     alloc: Global,
     told: &mut String,
     word: &str,
-    numbers: I,
+    numbers: &[Option<usize>],
 ) -> Result<(), Fail> {
     told.push_str(word)?;
     for number in numbers {
@@ -137,38 +137,42 @@ fn put<I: Iterator<Item = Option<usize>> + Drop>(
     Ok(())
 }
 
+/// The same for a list in which each is a number.
+fn put_all(alloc: Global, told: &mut String, word: &str, numbers: &[usize]) -> Result<(), Fail> {
+    told.push_str(word)?;
+    for number in numbers {
+        told.push_str(format!(in alloc; " {number}")?.as_str())?;
+    }
+    Ok(())
+}
+
+/// Appends the plan that a sweep makes of nothing, the dead halls and the desks.
+fn put_plan(alloc: Global, told: &mut String, problem: &Problem, plan: &Plan) -> Result<(), Fail>
+    requires { IsPlan problem.now plan.now.items }
+{
+    let (same, dead) = swept_dead(alloc, problem)?;
+    if same != *plan {
+        return Err(Fail::new("another plan"));
+    }
+    let mut numbers = Vec::new(alloc);
+    for desk in &desks(alloc, problem, plan)? {
+        numbers.push(desk.map(|desk| desk as usize))?;
+    }
+    put(alloc, told, "plan", plan.as_slice())?;
+    put_all(alloc, told, " dead", dead.as_slice())?;
+    put(alloc, told, " desks", numbers.as_slice())
+}
+
 /// What is made of a problem: the plan, the dead halls, the desks, and the shortage.
 fn told_of(alloc: Global, problem: &Problem) -> Result<String, Fail> {
     let plan = swept(alloc, problem)?;
-    let (same, dead) = swept_dead(alloc, problem)?;
-    if same != plan {
-        return Err(Fail::new("another plan"));
-    }
-    let numbers = desks(alloc, problem, &plan)?;
+    let mut told = String::new(alloc);
+    put_plan(alloc, &mut told, problem, &plan)?;
     let short = shortage(alloc, problem, &plan)?;
     let unseated = short.unseated;
-    let mut told = String::new(alloc);
-    put(alloc, &mut told, "plan", plan.iter().copied())?;
-    put(alloc, &mut told, " dead", dead.iter().copied().map(Some))?;
-    put(
-        alloc,
-        &mut told,
-        " desks",
-        numbers.iter().map(|desk| desk.map(|desk| desk as usize)),
-    )?;
     told.push_str(format!(in alloc; " unseated {unseated}")?.as_str())?;
-    put(
-        alloc,
-        &mut told,
-        " halls",
-        short.halls.iter().copied().map(Some),
-    )?;
-    put(
-        alloc,
-        &mut told,
-        " candidates",
-        short.candidates.iter().copied().map(Some),
-    )?;
+    put_all(alloc, &mut told, " halls", short.halls.as_slice())?;
+    put_all(alloc, &mut told, " candidates", short.candidates.as_slice())?;
     Ok(told)
 }
 
