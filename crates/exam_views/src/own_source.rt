@@ -106,7 +106,6 @@ fn own_sessions(
 }
 
 /// The same, if the candidate is a member of no other sessions than these.
-#[tactic(auto, using(crate::proofs::OwnRows::all_left))]
 fn sessions_among(
     alloc: Global,
     facts: &Facts,
@@ -150,7 +149,7 @@ fn own_session(
     requires member { Contains (sessions.members (relations_of facts.now) held.0.now) number }
     ensures ok { IfOk result (λ own. option_map (session_with desks) (spec.own_session
         (record { relations = relations_of facts.now; seats = seats.now.entries }) number
-        (held.0.now, held.1.now)) ≡ Some (spec.shown_session own)) }
+        (held.entry.0.now, held.entry.1.now)) ≡ Some (spec.shown_session own)) }
     ensures memory { IfErr result (λ e. e ≡ NoMemory) }
 {
     let (session, row) = held;

@@ -10,5 +10,5 @@ abbrev pub invariant-loop-session : goal.invariant-loop-session
 invariant-loop-session l =
     (goal.iterator-loop-session).can_next l.session-iterator × (goal.iterator-loop-session).is_finite l.session-iterator
     × (map shown_session l.list.items
-    ++ sessions_left l.fn.desks (record { relations = relations_of l.facts; seats = l.seats.entries }) l.number l.session-iterator
-    ≡ map (session_with l.fn.desks) (own_sessions (record { relations = relations_of l.facts; seats = l.seats.entries }) l.number))
+    ++ sessions_left l.desks (record { relations = relations_of l.facts; seats = l.seats.entries }) l.number l.session-iterator
+    ≡ map (session_with l.desks) (own_sessions (record { relations = relations_of l.facts; seats = l.seats.entries }) l.number))
