@@ -1,5 +1,6 @@
 -- From what a call gives to what is answered.
-use Rattle.std.proofs.Common.{◌≡◌, ◌∙◌, ℕ, List, [], ◌∷◌, ◌++◌, map, Option, None, Some, true, false, refl, ap, inl, inr}
+use Rattle.std.proofs.Common.{◌≡◌, ◌∙◌, ℕ, List, [], ◌∷◌, ◌++◌, map, Option, None, Some, true, false, refl, ap}
+use Rattle.std.proofs.Common.{inl, inr}
 use Rattle.std.specs.Prelude.{IsSome, IsSomeAnd, codes, option_and_then}
 use Rattle.std.specs.List.{flat_map}
 use Rattle.std.specs.Option.{option_map}
@@ -62,7 +63,8 @@ all_shown [] = refl
 all_shown (session ∷ rest) = ap (λ sessions. session ∷ sessions) (all_shown rest)
 
 -- what is missed does not depend on desks
-same_missed : (own : List OwnSessionRow) → flat_map missed_in (map (session_with desks.Hidden) own) ≡ flat_map missed_in own
+same_missed : (own : List OwnSessionRow)
+    → flat_map missed_in (map (session_with desks.Hidden) own) ≡ flat_map missed_in own
 same_missed [] = refl
 same_missed (session ∷ rest) = ap (λ missed. missed_in session ++ missed) (same_missed rest)
 
@@ -79,7 +81,8 @@ pub page_of : (page : Page) (desks : Desks) (own : Own) (rows : Option OwnRows) 
     → IsSomeAnd rows (λ whole. body ≡ page_body page whole)
 page_of page desks own None body same is made = absurd (let differ : Some (shown own) ≡ None = is in cc)
 page_of page desks own (Some whole) body same is made =
-    let rows : shown own ≡ rows_with desks whole = let some : Some (shown own) ≡ Some (rows_with desks whole) = is in cc in
+    let some : Some (shown own) ≡ Some (rows_with desks whole) = is in
+    let rows : shown own ≡ rows_with desks whole = cc in
     made ∙ ap (page_body page) rows ∙ same whole
 
 pub page_told : (own : Option OwnRows) (page : Page) (body : List ℕ) (told : Told) → IsSomeAnd own (λ r. body ≡ page_body page r) → told ≡ ok_told body → IsSomeAnd own (λ r. told ≡ ok_told (page_body page r))

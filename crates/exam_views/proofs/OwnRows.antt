@@ -1,5 +1,6 @@
 -- One turn of a loop over what is a candidate's own.
-use Rattle.std.proofs.Common.{◌≡◌, ℕ, Option, None, Some, Bool, true, List, [], ◌∷◌, ◌++◌, map, filter, nat_eq, refl, ap, sym, ◌∙◌}
+use Rattle.std.proofs.Common.{◌≡◌, ℕ, Bool, true, List, [], ◌∷◌, ◌++◌, map, filter, nat_eq, refl, ap, sym, ◌∙◌}
+use Rattle.std.specs.Prelude.{Option, None, Some}
 use Rattle.std.specs.List.{cons_option, filter_map}
 use Rattle.std.specs.Option.{option_map}
 use Rattle.exam_rules.specs.declared.rows.Appeal.{Appeal}
@@ -37,7 +38,8 @@ mapped : {A B C : Type 0} (f : B → C) (g : A → Option B) (xs : List A)
 mapped f g [] = refl
 mapped {A} {B} f g (x ∷ xs) = ap (cons_option (option_map f (g x))) (mapped f g xs) ∙ onto (g x)
   where
-    onto : (o : Option B) → cons_option (option_map f o) (map f (filter_map g xs)) ≡ map f (cons_option o (filter_map g xs))
+    onto : (o : Option B)
+        → cons_option (option_map f o) (map f (filter_map g xs)) ≡ map f (cons_option o (filter_map g xs))
     onto None = refl
     onto (Some y) = refl
 

@@ -27,7 +27,7 @@ use exam_types::{HallCode, Number, PaperCode, Reference, Refusal, SessionCode};
 use std::alloc::Global;
 use std::collections::btree_map::Range;
 
-/// Whether a candidate's desks are shown. To make them takes a walk over all seats of their sessions.
+/// Whether a candidate's desks are shown. To count them the office walks over all seats of the candidate's sessions.
 #[derive(Clone, Copy, Debug, PartialEq, Eq)]
 pub enum Desks {
     Shown,
@@ -37,7 +37,7 @@ pub enum Desks {
 /// What the order of desks compares: the sitting paper, and then the number.
 type DeskKey = (Option<PaperCode>, Number);
 
-/// What a good office shows of the candidate with the number, or none. Where desks are hidden, each session has none, and
+/// What a good office shows of the candidate with the number, or none. Where desks are hidden, no session has one, and
 /// nobody is counted. Takes no memory for an unknown number.
 pub fn own_of(
     alloc: Global,

@@ -6,12 +6,13 @@ use Rattle.exam_views.proofs.OwnRows.{all_left}
 use Rattle.exam_views.proofs.own_source.sessions_among.Goals as goal
 
 pub loop-session-init : goal.loop-session-init
-loop-session-init c = (
-  tt,
-  tt,
-  rw (c.new-list.ensures.items, c.into_iter-session-iterator.ensures.into_iter_gives.0)
-      (all_left c.args.desks (record { relations = relations_of c.args.facts.now; seats = c.args.seats.now.entries }) c.args.number),
-)
+loop-session-init c =
+    let r = relations_of c.args.facts.now in (
+      tt,
+      tt,
+      rw (c.new-list.ensures.items, c.into_iter-session-iterator.ensures.into_iter_gives.0)
+          (all_left c.args.desks (record { relations = r; seats = c.args.seats.now.entries }) c.args.number),
+    )
 
 pub own_session-requires-clause-known : goal.own_session-requires-clause-known
 own_session-requires-clause-known c =
