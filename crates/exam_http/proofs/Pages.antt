@@ -74,17 +74,6 @@ same_seats own = ap (λ sessions. list_body (codes "seats") (map seat_object ses
 pub same_clashes : (own : OwnRows) → page_body page.Clashes (rows_with desks.Hidden own) ≡ page_body page.Clashes own
 same_clashes own = ap (λ missed. list_body (codes "clashes") (map clash_object missed)) (same_missed own.sessions)
 
--- a page of rows with desks on which it does not depend is the page of the whole rows
-pub page_of : (page : Page) (desks : Desks) (own : Own) (rows : Option OwnRows) (body : List ℕ)
-    → ((whole : OwnRows) → page_body page (rows_with desks whole) ≡ page_body page whole)
-    → option_map shown (Some own) ≡ option_map (rows_with desks) rows → body ≡ page_body page (shown own)
-    → IsSomeAnd rows (λ whole. body ≡ page_body page whole)
-page_of page desks own None body same is made = absurd (let differ : Some (shown own) ≡ None = is in cc)
-page_of page desks own (Some whole) body same is made =
-    let some : Some (shown own) ≡ Some (rows_with desks whole) = is in
-    let rows : shown own ≡ rows_with desks whole = cc in
-    made ∙ ap (page_body page) rows ∙ same whole
-
 pub page_told : (own : Option OwnRows) (page : Page) (body : List ℕ) (told : Told) → IsSomeAnd own (λ r. body ≡ page_body page r) → told ≡ ok_told body → IsSomeAnd own (λ r. told ≡ ok_told (page_body page r))
 page_told None page body told is tells = absurd is
 page_told (Some rows) page body told is tells = tells ∙ ap ok_told is
