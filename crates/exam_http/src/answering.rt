@@ -3,7 +3,8 @@ ghost use Rattle.std.specs.Prelude.{◌≡◌, ◌⊎◌, option_and_then, optio
 ghost use Rattle.exam_types.specs.declared.refusal.Refusal.TheVariants.{NoMemory};
 ghost use Rattle.exam_rules.specs.Relations.{Code};
 ghost use Rattle.exam_commands.specs.Headline.{IsSeated};
-ghost use Rattle.exam_commands.specs.Own.{own_of};
+ghost use Rattle.exam_commands.specs.Own.{OwnRows, own_of};
+ghost use Rattle.exam_views.specs.Desks.{rows_with};
 ghost use Rattle.exam_request.specs.Answer.{ok_told, refusal_told};
 ghost use Rattle.exam_request.specs.Asked.{asked_of, request_of};
 ghost use Rattle.exam_request.specs.Bodies as bodies;
@@ -11,7 +12,7 @@ ghost use Rattle.exam_request.specs.Choices.{number_named};
 ghost use Rattle.exam_request.specs.Targets as targets;
 ghost use Rattle.exam_http.specs.Answering as spec;
 
-use exam_office::{AppealState, Command, Reply};
+use exam_office::{AppealState, Command, Desks, Reply};
 use exam_request::{
     Answer, Asked, Choice, Found, Named, Page, Request, candidate_of, choose, find, page_body,
     server_routes,
@@ -127,8 +128,19 @@ fn own_page<S: Alter>(
     ensures memory { IfErr result (λ e. e ≡ NoMemory) }
     ensures same { store.new ≡ store.old }
 {
-    let own = store.view_candidate(alloc, number)?.unwrap();
+    let desks = desks_on(page);
+    let own = store.view_candidate(alloc, number, desks)?.unwrap();
     page_body(alloc, page, &own)
+}
+
+/// Whether the page shows desks. No page depends on desks that it does not show.
+fn desks_on(page: Page) -> Desks
+    ensures { (own : OwnRows) → bodies.page_body page (rows_with result own) ≡ bodies.page_body page own }
+{
+    match page {
+        Page::Seats => Desks::Shown,
+        Page::Clashes | Page::Appeals => Desks::Hidden,
+    }
 }
 
 /// The answer to a lodging or a retraction.

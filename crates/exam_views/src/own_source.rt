@@ -16,6 +16,7 @@ ghost use Rattle.exam_commands.specs.Entered.{HoldsEntered, session_of_paper};
 ghost use Rattle.exam_commands.specs.Good.{IsGood};
 ghost use Rattle.exam_commands.specs.Headline.{desk_of};
 ghost use Rattle.exam_commands.specs.Own as spec;
+ghost use Rattle.exam_views.specs.Desks.{desk_with, rows_with, session_with};
 
 use exam_commands::{Own, OwnAppeal, OwnSession, Seats};
 use exam_rules::{
@@ -26,26 +27,35 @@ use exam_types::{HallCode, Number, PaperCode, Reference, Refusal, SessionCode};
 use std::alloc::Global;
 use std::collections::btree_map::Range;
 
+/// Whether a candidate's desks are shown. To count them the office walks over all seats of the candidate's sessions.
+#[derive(Clone, Copy, Debug, PartialEq, Eq)]
+pub enum Desks {
+    Shown,
+    Hidden,
+}
+
 /// What the order of desks compares: the sitting paper, and then the number.
 type DeskKey = (Option<PaperCode>, Number);
 
-/// What a good office shows of the candidate with the number, or none. Takes no memory for an unknown number.
+/// What a good office shows of the candidate with the number, or none. Where desks are hidden, no session has one, and
+/// nobody is counted. Takes no memory for an unknown number.
 pub fn own_of(
     alloc: Global,
     facts: &Facts,
     lists: &SessionLists,
     seats: &Seats,
     number: Number,
+    desks: Desks,
 ) -> Result<Option<Own>, Refusal>
     requires lists { AreListsOf (relations_of facts.now) lists.now }
     requires good { IsGood (record { relations = relations_of facts.now; seats = seats.now.entries }) }
-    ensures ok { IfOk result (λ own. option_map spec.shown own
-        ≡ spec.own_of (record { relations = relations_of facts.now; seats = seats.now.entries }) number) }
+    ensures ok { IfOk result (λ own. option_map spec.shown own ≡ option_map (rows_with desks)
+        (spec.own_of (record { relations = relations_of facts.now; seats = seats.now.entries }) number)) }
     ensures memory { IfErr result (λ e. (e ≡ NoMemory) × IsSome
         (spec.own_of (record { relations = relations_of facts.now; seats = seats.now.entries }) number)) }
 {
     match facts.candidates.get(&number) {
-        Some(row) => Ok(Some(own_rows(alloc, facts, lists, seats, number, row)?)),
+        Some(row) => Ok(Some(own_rows(alloc, facts, lists, seats, number, row, desks)?)),
         None => Ok(None),
     }
 }
@@ -57,19 +67,20 @@ fn own_rows(
     seats: &Seats,
     number: Number,
     row: &Candidate,
+    desks: Desks,
 ) -> Result<Own, Refusal>
     requires lists { AreListsOf (relations_of facts.now) lists.now }
     requires good { IsGood (record { relations = relations_of facts.now; seats = seats.now.entries }) }
-    ensures ok { IfOk result (λ own. spec.shown own
-        ≡ spec.own_rows (record { relations = relations_of facts.now; seats = seats.now.entries }) number
-        row.now) }
+    ensures ok { IfOk result (λ own. spec.shown own ≡ rows_with desks
+        (spec.own_rows (record { relations = relations_of facts.now; seats = seats.now.entries }) number
+        row.now)) }
     ensures memory { IfErr result (λ e. e ≡ NoMemory) }
 {
     Ok(Own {
         number,
         name: row.name.copy()?,
         code: row.code,
-        sessions: own_sessions(alloc, facts, lists, seats, number)?,
+        sessions: own_sessions(alloc, facts, lists, seats, number, desks)?,
         appeals: own_appeals(alloc, facts, number)?,
     })
 }
@@ -81,16 +92,17 @@ fn own_sessions(
     lists: &SessionLists,
     seats: &Seats,
     number: Number,
+    desks: Desks,
 ) -> Result<Vec<OwnSession>, Refusal>
     requires lists { AreListsOf (relations_of facts.now) lists.now }
     requires good { IsGood (record { relations = relations_of facts.now; seats = seats.now.entries }) }
-    ensures ok { IfOk result (λ sessions. map spec.shown_session sessions.items
-        ≡ spec.own_sessions (record { relations = relations_of facts.now; seats = seats.now.entries })
-        number) }
+    ensures ok { IfOk result (λ sessions. map spec.shown_session sessions.items ≡ map (session_with desks)
+        (spec.own_sessions (record { relations = relations_of facts.now; seats = seats.now.entries })
+        number)) }
     ensures memory { IfErr result (λ e. e ≡ NoMemory) }
 {
     let entered = entered_sessions(alloc, facts, number)?;
-    sessions_among(alloc, facts, lists, seats, number, &entered)
+    sessions_among(alloc, facts, lists, seats, number, &entered, desks)
 }
 
 /// The same, if the candidate is a member of no other sessions than these.
@@ -101,19 +113,21 @@ fn sessions_among(
     seats: &Seats,
     number: Number,
     entered: &[SessionCode],
+    desks: Desks,
 ) -> Result<Vec<OwnSession>, Refusal>
     requires lists { AreListsOf (relations_of facts.now) lists.now }
     requires good { IsGood (record { relations = relations_of facts.now; seats = seats.now.entries }) }
     requires entered { HoldsEntered (relations_of facts.now) number entered.now }
-    ensures ok { IfOk result (λ sessions. map spec.shown_session sessions.items
-        ≡ spec.own_sessions (record { relations = relations_of facts.now; seats = seats.now.entries })
-        number) }
+    ensures ok { IfOk result (λ sessions. map spec.shown_session sessions.items ≡ map (session_with desks)
+        (spec.own_sessions (record { relations = relations_of facts.now; seats = seats.now.entries })
+        number)) }
     ensures memory { IfErr result (λ e. e ≡ NoMemory) }
 {
     let mut list = Vec::new(alloc);
     for (session, row) in &facts.sessions {
         if is_member_among(facts, entered, session, number) {
-            list.push(own_session(alloc, facts, lists, seats, number, session, row)?)?;
+            let held = (session, row);
+            list.push(own_session(alloc, facts, lists, seats, number, held, desks)?)?;
         }
     }
     Ok(list)
@@ -126,25 +140,26 @@ fn own_session(
     lists: &SessionLists,
     seats: &Seats,
     number: Number,
-    session: &SessionCode,
-    row: &Session,
+    held: (&SessionCode, &Session),
+    desks: Desks,
 ) -> Result<OwnSession, Refusal>
     requires lists { AreListsOf (relations_of facts.now) lists.now }
     requires good { IsGood (record { relations = relations_of facts.now; seats = seats.now.entries }) }
-    requires known { row_at code_cmp facts.now.sessions.entries session.now ≡ Some row.now }
-    requires member { Contains (sessions.members (relations_of facts.now) session.now) number }
-    ensures ok { IfOk result (λ own. spec.own_session
+    requires known { row_at code_cmp facts.now.sessions.entries held.0.now ≡ Some held.1.now }
+    requires member { Contains (sessions.members (relations_of facts.now) held.0.now) number }
+    ensures ok { IfOk result (λ own. option_map (session_with desks) (spec.own_session
         (record { relations = relations_of facts.now; seats = seats.now.entries }) number
-        (session.now, row.now) ≡ Some (spec.shown_session own)) }
+        (held.entry.0.now, held.entry.1.now)) ≡ Some (spec.shown_session own)) }
     ensures memory { IfErr result (λ e. e ≡ NoMemory) }
 {
+    let (session, row) = held;
     let sat = sitting(facts, session, number).unwrap();
     let papers = live_papers(alloc, facts, session, number)?;
     let clashes = clash_papers(alloc, &papers, sat)?;
     let hall = seats.get(&(*session, number)).copied();
     let end = finish(facts, session, number).unwrap();
     let arrangement = arrangement_in_force(facts, session, number);
-    let desk = desk(facts, lists, seats, session, number, &hall);
+    let desk = desk(facts, lists, seats, session, number, &hall, desks);
     Ok(OwnSession {
         session: *session,
         day: row.day,
@@ -159,7 +174,7 @@ fn own_session(
     })
 }
 
-/// The number of the candidate's desk in the hall in which they sit, if they do.
+/// The number of the candidate's desk in the hall in which they sit, if they do and desks are shown.
 fn desk(
     facts: &Facts,
     lists: &SessionLists,
@@ -167,18 +182,21 @@ fn desk(
     session: &SessionCode,
     number: Number,
     hall: &Option<HallCode>,
+    desks: Desks,
 ) -> Option<u32>
     requires lists { AreListsOf (relations_of facts.now) lists.now }
     requires good { IsGood (record { relations = relations_of facts.now; seats = seats.now.entries }) }
     requires known { IsTrue (has_row code_cmp facts.now.sessions.entries session.now) }
     requires somebody { 0 < length facts.now.candidates.entries }
     requires hall { hall.now ≡ plan_of seats.now.entries session.now number }
-    ensures { result ≡ desk_of (record { relations = relations_of facts.now; seats = seats.now.entries })
-        session.now number }
+    ensures { result ≡ desk_with desks
+        (desk_of (record { relations = relations_of facts.now; seats = seats.now.entries }) session.now number) }
 {
-    match hall {
-        Some(hall) => Some(seated_before(facts, lists, seats, session, number, hall) + 1),
-        None => None,
+    match (desks, hall) {
+        (Desks::Shown, Some(hall)) => {
+            Some(seated_before(facts, lists, seats, session, number, hall) + 1)
+        }
+        _ => None,
     }
 }
 

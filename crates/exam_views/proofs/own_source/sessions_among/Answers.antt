@@ -1,7 +1,18 @@
 use Rattle.std.specs.Map.Iter.{deref_pair}
 use Rattle.std.specs.Cmp.Lexicographic.{nat_list_cmp_total}
 use Rattle.std.proofs.lemmas.Map.Iter.{btree_map_turn}
+use Rattle.exam_rules.specs.Relations.{relations_of}
+use Rattle.exam_views.proofs.OwnRows.{all_left}
 use Rattle.exam_views.proofs.own_source.sessions_among.Goals as goal
+
+pub loop-session-init : goal.loop-session-init
+loop-session-init c =
+    let r = relations_of c.args.facts.now in (
+      tt,
+      tt,
+      rw (c.new-list.ensures.items, c.into_iter-session-iterator.ensures.into_iter_gives.0)
+          (all_left c.args.desks (record { relations = r; seats = c.args.seats.now.entries }) c.args.number),
+    )
 
 pub own_session-requires-clause-known : goal.own_session-requires-clause-known
 own_session-requires-clause-known c =
