@@ -13,7 +13,6 @@ use Rattle.exam_commands.specs.declared.import_row.Row.{Row}
 use Rattle.exam_commands.specs.Imports.{distinct_rows, has_key, key_of, place_of}
 use Rattle.exam_commands.specs.Replies.{import_reply, is_changed, is_new, is_same, is_stored}
 use Rattle.exam_commands.proofs.ImportKeys.{key_flips, key_itself}
-use Rattle.exam_commands.proofs.ImportRowsEqual.{numbers}
 use Rattle.std.proofs.lemmas.Bool.{ne_eqb}
 
 -- no row before has the key of this one

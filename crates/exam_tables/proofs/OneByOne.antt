@@ -39,12 +39,12 @@ use Rattle.exam_tables.specs.declared.send_fault.SendFault.{SendFault}
 use Rattle.exam_tables.specs.declared.send_fault.SendFault.TheVariants as faults
 use Rattle.exam_tables.specs.Inside.{Contains}
 use Rattle.exam_tables.specs.Faults.{refusal_of}
-use Rattle.exam_tables.specs.Loaded.{HoldsTable, OnlyReads}
+use Rattle.exam_tables.specs.Loaded.{HoldsTable}
 use Rattle.exam_tables.specs.Reading.{MayRead}
 use Rattle.exam_tables.specs.Rows.{IsAppeal, appeal_row}
 use Rattle.exam_tables.specs.Streamed.{HasAppeals, KeyedAppeal, LacksNext, Sends, appeals_in, text_of}
 use Rattle.exam_tables.proofs.Counted.{HaveForms}
-use Rattle.exam_tables.proofs.Leaving.{left_then, not_bad_store}
+use Rattle.exam_tables.proofs.Leaving.{not_bad_store}
 use Rattle.exam_tables.proofs.OneTable.{appeal_tells}
 
 -- ---- the order
