@@ -13,6 +13,7 @@ ghost use Rattle.exam_check.specs.Refused.{is_check_refusal};
 ghost use Rattle.exam_job.specs.Reading.{IsReadFault};
 ghost use Rattle.exam_program.specs.Checking.{FoundIn, TellsTable};
 ghost use Rattle.exam_program.specs.Opening.{IsOver, MakesIn, OpensIn, opening_refusal};
+ghost use Rattle.exam_program.specs.Running.{ChecksIn, MigratesIn};
 
 use exam_check::{Table, check, check_line};
 use exam_job::{DONE, FAILED, JobFault, migrate_office, print};
@@ -102,7 +103,9 @@ pub fn migrate_file<S: Start, O: Write>(
     path: &str,
     start: S,
     out: &mut O,
-) -> Result<(), JobFault> {
+) -> Result<(), JobFault>
+    ensures { MigratesIn over_files (image_at S.Start) O.contents out.old result out.new }
+{
     let mut conn = open_present(rt, path, start)?;
     let told = migrate_office(rt.alloc(), &mut conn, out);
     // The migration is already committed, so a failure here undoes nothing.
@@ -117,7 +120,9 @@ pub fn check_file<S: Start, O: Write>(
     path: &str,
     start: S,
     out: &mut O,
-) -> Result<u8, JobFault> {
+) -> Result<u8, JobFault>
+    ensures { ChecksIn over_files O.contents out.old result out.new }
+{
     let found = match open_present(rt, path, start) {
         Ok(conn) => check_over(rt.alloc(), conn)?,
         Err(Refusal::BadStore) => Some(Table::Office),
