@@ -72,8 +72,8 @@ pub data ImportsFile {S W : Type 0} (g : Ghosts S) (contents : W → Option (Lis
 
 -- ---- lines
 
--- What a line's job does. `init` has nothing to do after the store was opened. `serve`, `migrate` and `check` do nothing
--- here: the program itself does them. Only an import reads the reader.
+-- What a line's job does. `init` has nothing to do after the store was opened. `serve`, `migrate` and `check` do
+-- nothing here: the program itself does them. Only an import reads the reader.
 abbrev pub Does : {S W : Type 0} → Ghosts S → (W → Option (List ℕ)) → Job → ℕ → Option (List ℕ)
     → Option (List ℕ) → OfficeIn S → W → Result (Unit {0}) JobFault → OfficeIn S → W → Type 0
 Does g contents line.init today input rest old before result new after =

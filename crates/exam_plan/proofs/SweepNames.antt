@@ -1,4 +1,5 @@
--- Turns and sweeps by indices are those by names, and the other way round, for two seatings of which one renames the other.
+-- Turns and sweeps by indices are those by names, and the other way round, for two seatings of which one renames the
+-- other.
 use Rattle.std.proofs.Common.{◌≡◌, ℕ, Bool, true, false, cond, not, List, [], ◌∷◌, ◌++◌, map, filter, Contains, Option, None, Some, IfSome, inl, inr, refl, sym, ap, subst, ◌∙◌}
 use Rattle.std.specs.List.{AllByRecursion}
 use Rattle.std.specs.Option.{option_map, option_and_then}

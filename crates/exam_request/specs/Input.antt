@@ -27,7 +27,8 @@ abbrev pub head_or_fault : List ℕ → Option ℕ → Result (List ℕ × List 
 head_or_fault input (Some n) = Ok (take n input, drop n input)
 head_or_fault input None = Err (if nat_lt (length input) most_head then Head else Size)
 
--- the head that an input begins with, which its first bytes hold, as many as the longest head has, and the bytes after it
+-- the head that an input begins with, which its first bytes hold, as many as the longest head has, and the bytes after
+-- it
 abbrev pub head_of : List ℕ → Result (List ℕ × List ℕ) Fault
 head_of input = head_or_fault input (head_len (take most_head input))
 

@@ -1,5 +1,5 @@
--- What changes of openings change in the lists: those of halls alone. That of the session of a hall that is closed is without
--- it.
+-- What changes of openings change in the lists: those of halls alone. That of the session of a hall that is closed is
+-- without it.
 use Rattle.std.proofs.Common.{◌≡◌, not, Bool, true, false, cond, List, [], ◌∷◌, filter, map, Vec, refl, ap, sym, subst, ◌∙◌}
 use Rattle.std.specs.Global.{Global}
 use Rattle.std.specs.BTreeMap.{BTreeMap, is_at}

@@ -252,7 +252,8 @@ mark reference = ((1, reference), tt)
 -- S1 on one day, S2 and S3 on the next, S4 on the third; 5 percent are imported
 abbrev days : List ((ℕ × Code) × Appeal) → List ((ℕ × Code) × Unit {0}) → Relations
 days appeals standing = record base {
-  sessions = (codes "S1", on_day 20970) ∷ (codes "S2", on_day 20971) ∷ (codes "S3", on_day 20971) ∷ (codes "S4", on_day 20972) ∷ [];
+  sessions = (codes "S1", on_day 20970) ∷ (codes "S2", on_day 20971) ∷ (codes "S3", on_day 20971)
+      ∷ (codes "S4", on_day 20972) ∷ [];
   arrangements = (1, extra_of 5) ∷ [];
   appeals = appeals;
   standing = standing;
@@ -281,19 +282,27 @@ no_mark_no_standing = refl
 abbrev both : (ℕ × Code) × Appeal → (ℕ × Code) × Appeal → Relations
 both first second = days (first ∷ second ∷ []) (mark (codes "AR1") ∷ mark (codes "AR2") ∷ [])
 
-latest_date : extra_in (both (asked (codes "AR1") (codes "S2") 30) (asked (codes "AR2") (codes "S1") 25)) (codes "S4") ≡ 30
+latest_date : extra_in (both (asked (codes "AR1") (codes "S2") 30) (asked (codes "AR2") (codes "S1") 25)) (codes "S4")
+    ≡ 30
 latest_date = refl
 
-greater_code : extra_in (both (asked (codes "AR1") (codes "S3") 40) (asked (codes "AR2") (codes "S2") 30)) (codes "S4") ≡ 40
+greater_code : extra_in (both (asked (codes "AR1") (codes "S3") 40) (asked (codes "AR2") (codes "S2") 30)) (codes "S4")
+    ≡ 40
 greater_code = refl
 
 -- the grant for the session itself comes first
-granted_there : extra_in (days (asked (codes "AR1") (codes "S3") 40 ∷ asked (codes "AR2") (codes "S4") 50 ∷ []) (mark (codes "AR1") ∷ [])) (codes "S4") ≡ 50
+granted_there : extra_in
+    (days (asked (codes "AR1") (codes "S3") 40 ∷ asked (codes "AR2") (codes "S4") 50 ∷ []) (mark (codes "AR1") ∷ []))
+    (codes "S4")
+    ≡ 50
 granted_there = refl
 
 -- a superseded grant has no effect
 abbrev superseded : (ℕ × Code) × Appeal → (ℕ × Code) × Appeal
 superseded a = (a.0, record a.1 { status = status.Superseded (codes "ok") })
 
-superseded_is_none : extra_in (both (superseded (asked (codes "AR1") (codes "S2") 30)) (asked (codes "AR2") (codes "S1") 25)) (codes "S4") ≡ 25
+superseded_is_none : extra_in
+    (both (superseded (asked (codes "AR1") (codes "S2") 30)) (asked (codes "AR2") (codes "S1") 25))
+    (codes "S4")
+    ≡ 25
 superseded_is_none = refl

@@ -8,8 +8,8 @@ use std::alloc::Global;
 use std::str;
 use std::test::Fail;
 
-/// The request of a line, and the last four digits of the access code that it shows: of the code behind `as`, or else of
-/// the candidate's number in a target such as `/candidates/0000001/appeals`.
+/// The request of a line, and the last four digits of the access code that it shows: of the code behind `as`, or else
+/// of the candidate's number in a target such as `/candidates/0000001/appeals`.
 fn parts_of(line: &str) -> Option<(&str, &str)> {
     if let Some(parts) = line.split_once(" as CODE") {
         return Some(parts);

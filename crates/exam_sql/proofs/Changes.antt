@@ -67,7 +67,8 @@ all_not : (key : List ℕ) (gone news : List Row) → AllByRecursion (λ r. is_a
 all_not key gone [] h = tt
 all_not key gone (r ∷ news) h = (ap not h.0, all_not key gone news h.1)
 
--- The rows that are put and those of the old ones with keys that are neither put nor deleted are the new ones: so the puts and then the deletes make the new rows of the old.
+-- The rows that are put and those of the old ones with keys that are neither put nor deleted are the new ones: so the
+-- puts and then the deletes make the new rows of the old.
 pub differs_by : (key : List ℕ) (old new news gone : List Row) → AreApart key news → AllByRecursion (λ r. is_among key gone r ≡ false) news
     → IsPermutation (news ++ filter (λ r. not (is_among key news r || is_among key gone r)) old) new → IsPermutation (delete_all key gone (put_all key news old)) new
 differs_by key old new news gone apart spared same =

@@ -1,5 +1,5 @@
--- The texts that delete an opening or a seat by its key, and that read the appeals of a session; the texts that load the
--- tables.
+-- The texts that delete an opening or a seat by its key, and that read the appeals of a session; the texts that load
+-- the tables.
 use Rattle.std.specs.Prelude.{ℕ, List, [], ◌∷◌, ◌++◌, codes}
 use Rattle.exam_sql.specs.Tables.{office, session, paper, hall, candidate, opening, entry, arrangement, appeal}
 use Rattle.exam_sql.specs.Tables.{seat, standing}

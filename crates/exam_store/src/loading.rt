@@ -17,8 +17,8 @@ use exam_types::Refusal;
 use sqlite::{Alter, Connection};
 use std::alloc::Global;
 
-/// The good office that the tables of this version hold, with no more than the version can hold. Refused with `BadStore`
-/// if they hold none.
+/// The good office that the tables of this version hold, with no more than the version can hold. Refused with
+/// `BadStore` if they hold none.
 pub fn load_version<S: Alter>(
     alloc: Global,
     conn: &mut Connection<S>,

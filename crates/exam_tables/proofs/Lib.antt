@@ -11,6 +11,7 @@ pub mod Marked
 pub mod Narrowing
 pub mod OneByOne
 pub mod OneTable
+pub mod OurKeys
 pub mod PartByPart
 pub mod Reading
 pub mod Refusing

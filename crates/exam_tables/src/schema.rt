@@ -53,8 +53,8 @@ pub fn create_tables<S: Alter>(tx: &mut Transaction<'_, S>) -> Result<(), Refusa
     widen_tables(tx, false)
 }
 
-/// Turns the tables of an older version, whatever rows they have, into those of the newest. `has_marks` says whether the
-/// table of marks exists.
+/// Turns the tables of an older version, whatever rows they have, into those of the newest. `has_marks` says whether
+/// the table of marks exists.
 pub fn widen_tables<S: Alter>(tx: &mut Transaction<'_, S>, has_marks: bool) -> Result<(), Refusal>
     ensures same_reference { tx.new.conn.ghost_name ≡ tx.old.conn.ghost_name }
     ensures made { (all : _)

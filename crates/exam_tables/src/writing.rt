@@ -180,8 +180,8 @@ pub fn save_empty<S: Alter>(conn: &mut Connection<S>) -> Result<(), Refusal>
     commit(tx)
 }
 
-/// Turns the tables of an older version, whatever rows they have, into those of the newest, in one transaction or not at
-/// all.
+/// Turns the tables of an older version, whatever rows they have, into those of the newest, in one transaction or not
+/// at all.
 pub fn save_widened<S: Alter>(conn: &mut Connection<S>) -> Result<(), Refusal>
     ensures made { Commits (state S.Store conn.old) (state S.Store conn.new) result Widens }
     ensures failed { HasCleanDisk (state S.Store conn.new) → IsMadeHere (state S.Store conn.old).now

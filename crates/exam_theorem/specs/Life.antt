@@ -42,7 +42,8 @@ answer_of (outcome.Line end) = []
 
 -- both offices show the same of the candidate whom the bytes of a request name
 abbrev pub ShowSame : List ℕ → State → State → Type 0
-ShowSame bytes one other = (request : Request) → Asks bytes (Ok request) → own_named one request ≡ own_named other request
+ShowSame bytes one other =
+    (request : Request) → Asks bytes (Ok request) → own_named one request ≡ own_named other request
 
 -- Any other office that shows the same of the candidate whom the request names answers it that day with the same bytes,
 -- unless one of them meets a failure. (Every office of a store is good and in order.)

@@ -27,8 +27,8 @@ IsVersioned db = (v : ℕ) × IsVersion v × (all : Trees) × ContainsOf v db al
 abbrev pub IsAccepted : Database → Type 0
 IsAccepted db = (v : ℕ) × IsVersion v × (all : Trees) × HoldsGood v db all
 
--- The tables of some version have the rows of this office. The keys of its tables rise, and its days have texts of their
--- own, so that no other office can be opened over these tables.
+-- The tables of some version have the rows of this office. The keys of its tables rise, and its days have texts of
+-- their own, so that no other office can be opened over these tables.
 pub record HasOffice (db : Database) (office : Office) : Type 0 where
   pub number : ℕ
   pub is_version : IsVersion number

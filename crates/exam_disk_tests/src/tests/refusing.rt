@@ -189,8 +189,8 @@ fn refuse_each(
     Err(Fail::new("more calls than expected"))
 }
 
-/// Takes a step over the files, refuses it each call of both, and looks at what is left in each of these ways. Gives the
-/// files after it.
+/// Takes a step over the files, refuses it each call of both, and looks at what is left in each of these ways. Gives
+/// the files after it.
 fn refuse(
     alloc: Global,
     files: Files<Fused>,

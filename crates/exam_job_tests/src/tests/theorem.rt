@@ -1,5 +1,5 @@
-//! A day through the calls of `exam_theorem` that join all layers, from its first import to a door list, and an office of
-//! version 1 that lives on.
+//! A day through the calls of `exam_theorem` that join all layers, from its first import to a door list, and an office
+//! of version 1 that lives on.
 use super::{InMemory, office_after, play, text_of};
 use exam_job::JobFault;
 use exam_line::LineFault;

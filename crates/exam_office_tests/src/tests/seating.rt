@@ -5,8 +5,8 @@ use std::test::Fail;
 
 /// In the second story the halls A, B and C hold two of three needs each, and each of three candidates has one of them.
 /// In the fifth a granted appeal bars the first from the free hall B, so another entry changes nothing for them. In the
-/// last the first sits PH-2, which requires a computer, by a granted clash appeal, and the third was granted the need of
-/// a screen.
+/// last the first sits PH-2, which requires a computer, by a granted clash appeal, and the third was granted the need
+/// of a screen.
 const SEATED: &str = "\
 # a need moves another by a chain
 import entries 1 MA-1 > Imported 1 0 0

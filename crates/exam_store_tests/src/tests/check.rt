@@ -148,7 +148,8 @@ fn rows_that_refer_to_nothing_are_found(rt: HostRuntime) -> Result<(), Fail> {
     finds_each(rt.alloc(), LOOSE)
 }
 
-/// What is found of that office after so many statements, in which the number of each takes the place of `*`, and these.
+/// What is found of that office after so many statements, in which the number of each takes the place of `*`, and
+/// these.
 fn found_of_many(
     alloc: Global,
     (sql, then): (&str, &str),
