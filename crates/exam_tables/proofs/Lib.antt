@@ -11,7 +11,6 @@ pub mod Marked
 pub mod Narrowing
 pub mod OneByOne
 pub mod OneTable
-pub mod OurKeys
 pub mod PartByPart
 pub mod Reading
 pub mod Refusing

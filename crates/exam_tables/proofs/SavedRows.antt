@@ -20,7 +20,7 @@ use Rattle.exam_tables.specs.Loaded.{KeysMatch}
 use Rattle.exam_tables.specs.Forms.{opening_key, seat_key}
 use Rattle.exam_tables.specs.Rows.{opening_row, seat_row}
 use Rattle.exam_tables.proofs.Differing.{absent_key}
-use Rattle.exam_tables.proofs.OurKeys.{text_key, two_parts, whole_key}
+use Rattle.exam_tables.specs.OurTables.{text_key, two_parts, whole_key}
 
 -- the columns of a key name the row that has it
 pub record AreNamed {K X : Type 0} (cmp : K → K → Ordering) (key : List ℕ) (row : K → X → Row) (key_of : K → Row) : Type 0 where

@@ -1,11 +1,23 @@
--- What the texts of the ten tables have in common.
-use Rattle.std.proofs.Common.{pos, refl, lit<, if◌then◌else◌}
+-- What the texts of the ten tables have in common. The code names these facts, and a file of specs may not name proofs
+-- of its own crate, so the facts of keys are proved here too.
+use Rattle.std.proofs.Common.{◌≡◌, ◌&&◌, ℕ, pos, Bool, true, false, Ordering, Less, Equal, Greater, refl, ap, subst, ◌∙◌, lit<, true≢false, if◌then◌else◌}
+use Rattle.std.specs.Bool.{Decides, one_answer}
+use Rattle.std.specs.Cmp.{Equal-is, tied_itself, nat_cmp_total}
+use Rattle.std.specs.Cmp.Lexicographic.{nat_list_cmp_total}
 use Rattle.std.specs.List as lists
+use Rattle.std.specs.Ordering.{is_eq, ordering_then, nat_cmp}
+use Rattle.std.proofs.lemmas.Map.Lookups.{exact_unsigned, exact_bytes}
+use Rattle.sqlite_value.specs.declared.value.Value.TheVariants.{Text}
+use Rattle.sqlite_value.specs.Keys.{plain, first_key}
+use Rattle.sqlite_schema.specs.Rules.{equal}
+use Rattle.sqlite_trees.specs.Tree.{Trees}
+use Rattle.sqlite.specs.Effect.{Database}
 use Rattle.exam_types.specs.Days.{day_text}
 use Rattle.exam_types.specs.Features.{features_sum}
-use Rattle.exam_sql.specs.Made.{made_schema}
+use Rattle.exam_sql.specs.Made.{ContainsMade, made_schema}
 use Rattle.exam_sql.specs.Tables.{store_schema}
 use Rattle.exam_sql.specs.Texts.{load_texts, load_office}
+use Rattle.exam_sql.proofs.Keys.{equal_itself, int_same, text_itself, text_same}
 use Rattle.exam_sql.proofs.OfAppeal as appeal
 use Rattle.exam_sql.proofs.OfArrangement as arrangement
 use Rattle.exam_sql.proofs.OfCandidate as candidate
@@ -16,10 +28,43 @@ use Rattle.exam_sql.proofs.OfPaper as paper
 use Rattle.exam_sql.proofs.OfSeat as seat
 use Rattle.exam_sql.proofs.OfSession as session
 use Rattle.exam_sql.proofs.OfStanding as standing
+use Rattle.exam_rules.specs.Relations.{Code, code_cmp}
 use Rattle.exam_tables.specs.Forms as forms
 use Rattle.exam_tables.specs.Forms.{IsOurTable}
-use Rattle.exam_tables.specs.Stored.{kind_number, target_of, needs_of, extra_of, state_number, answer_of}
-use Rattle.exam_tables.proofs.OurKeys.{newest_made, one_part, text_key, two_parts, whole_key}
+use Rattle.exam_tables.specs.Inside.{Contains}
+use Rattle.exam_tables.specs.Stored.{kind_number, target_of, needs_of, extra_of, state_number, answer_of, whole}
+
+-- ---- keys
+
+pub text_key : (a b : Code) → equal (first_key plain).collation (Text a) (Text b) ≡ is_eq (code_cmp a b)
+text_key a b = one_answer _ _ (λ h. let e = text_same (Text a) b h in cc, λ (e : a ≡ b). subst (λ t. equal (first_key plain).collation (Text a) (Text t) ≡ true) e (text_itself a)) (same_codes a b)
+  where
+    same_codes : (a b : Code) → Decides (is_eq (code_cmp a b)) (a ≡ b)
+    same_codes a b = (λ h. exact_bytes a b ((Equal-is (code_cmp a b)).0 h), λ e. subst (λ t. is_eq (code_cmp a t) ≡ true) e (ap is_eq (tied_itself nat_list_cmp_total a)))
+
+pub whole_key : (m n : ℕ) → equal (first_key plain).collation (whole m) (whole n) ≡ is_eq (nat_cmp m n)
+whole_key m n = one_answer _ _ (λ h. let e = int_same (pos m) (pos n) h in cc, λ (e : m ≡ n). subst (λ k. equal (first_key plain).collation (whole m) (whole k) ≡ true) e (equal_itself (pos m))) (same_numbers m n)
+  where
+    same_numbers : (m n : ℕ) → Decides (is_eq (nat_cmp m n)) (m ≡ n)
+    same_numbers m n = (λ h. exact_unsigned m n ((Equal-is (nat_cmp m n)).0 h), λ e. subst (λ k. is_eq (nat_cmp m k) ≡ true) e (ap is_eq (tied_itself nat_cmp_total m)))
+
+one_part : (a b : Bool) → a ≡ b → (a && true) ≡ b
+one_part a b is = and_true a ∙ is
+  where
+    and_true : (b : Bool) → (b && true) ≡ b
+    and_true true = refl
+    and_true false = refl
+
+pub two_parts : (a b : Bool) (o p : Ordering) → a ≡ is_eq o → b ≡ is_eq p → (a && (b && true)) ≡ is_eq (ordering_then o p)
+two_parts a b Less p first second = ap (λ c. c && (b && true)) first
+two_parts a b Equal p first second = ap (λ c. c && (b && true)) first ∙ one_part b (is_eq p) second
+two_parts a b Greater p first second = ap (λ c. c && (b && true)) first
+
+-- ---- the tables
+
+-- the tables of the newest version are those of some version
+newest_made : (db : Database) (all : Trees) → Contains db all → ContainsMade db all
+newest_made db all was = record { has_marks = true; contains = was; unmarked = λ none. absurd (true≢false none) }
 
 pub sessions_ours : IsOurTable forms.sessions.cmp forms.sessions
 sessions_ours = record {
