@@ -13,12 +13,14 @@ ghost use Rattle.exam_check.specs.Refused.{is_check_refusal};
 ghost use Rattle.exam_job.specs.Reading.{IsReadFault};
 ghost use Rattle.exam_program.specs.Checking.{FoundIn, TellsTable};
 ghost use Rattle.exam_program.specs.Opening.{IsOver, MakesIn, OpensIn, opening_refusal};
+ghost use Rattle.exam_program.specs.Running.{ChecksIn, MigratesIn};
 
 use exam_check::{Table, check, check_line};
 use exam_job::{DONE, FAILED, JobFault, migrate_office, print};
 use exam_store::Store;
 use exam_types::Refusal;
 use sqlite::{Connection, Error, ErrorCode, FileFrom, FileStore, Start};
+use sqlite_trees::store::Store as Trees;
 use std::alloc::Global;
 use std::fs::{self, File, OpenOptions};
 use std::io::{ErrorKind, Write};
@@ -102,7 +104,9 @@ pub fn migrate_file<S: Start, O: Write>(
     path: &str,
     start: S,
     out: &mut O,
-) -> Result<(), JobFault> {
+) -> Result<(), JobFault>
+    ensures { MigratesIn ⟦<OfficeFile<S> as Trees>⟧ (image_at S.Start) O.contents out.old result out.new }
+{
     let mut conn = open_present(rt, path, start)?;
     let told = migrate_office(rt.alloc(), &mut conn, out);
     // The migration is already committed, so a failure here undoes nothing.
@@ -117,7 +121,9 @@ pub fn check_file<S: Start, O: Write>(
     path: &str,
     start: S,
     out: &mut O,
-) -> Result<u8, JobFault> {
+) -> Result<u8, JobFault>
+    ensures { ChecksIn ⟦<OfficeFile<S> as Trees>⟧ (image_at S.Start) O.contents out.old result out.new }
+{
     let found = match open_present(rt, path, start) {
         Ok(conn) => check_over(rt.alloc(), conn)?,
         Err(Refusal::BadStore) => Some(Table::Office),
@@ -165,11 +171,6 @@ fn tell_table<O: Write>(found: Option<Table>, out: &mut O) -> Result<u8, JobFaul
         None => Ok(DONE),
         Some(_) => Ok(FAILED),
     }
-}
-
-/// Closes the office. What was answered is already committed, so a failure here undoes nothing.
-pub fn close_office<S: Start>(store: Store<OfficeFile<S>>) {
-    let _ = store.close().close();
 }
 
 /// Opens an import file.

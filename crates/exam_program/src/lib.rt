@@ -6,6 +6,5 @@ mod files;
 mod running;
 mod serving;
 
-pub use files::{OfficeFile, close_office, create_office};
 pub use running::run;
 pub use serving::serve_each;

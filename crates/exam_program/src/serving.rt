@@ -1,13 +1,13 @@
 //! The office on a port of this machine.
-ghost use Rattle.std.specs.Prelude.{◌≡◌, ◌⊎◌, IfErr};
-ghost use Rattle.exam_job.specs.declared.report.JobFault.TheVariants.{Net, Write};
+ghost use Rattle.std.specs.Prelude.{◌≡◌, IfErr};
+ghost use Rattle.exam_job.specs.declared.report.JobFault.TheVariants.{Net};
+ghost use Rattle.exam_program.specs.Running.{ServesOn};
 
-use crate::files::OfficeFile;
 use exam_http::{HttpFault, serve_one};
 use exam_job::{JobFault, connection_fault_line, print, print_error, serving_line};
 use exam_store::Store;
 use exam_types::Day;
-use sqlite::Start;
+use sqlite::Alter;
 use std::io::{self, ErrorKind, Read, Write};
 use std::net::{Ipv4Addr, Shutdown, SocketAddrV4, TcpListener, TcpStream};
 use std::time::{Duration, Instant};
@@ -33,16 +33,19 @@ struct Timed<'s> {
 impl Timed<'_> {
     /// How much longer a read or a write that began at this moment may last.
     fn time_left(&self, began: Instant) -> io::Result<Duration> {
-        let silence = Duration::from_secs(LONGEST_SILENCE).saturating_sub(began.elapsed(self.rt)?);
-        let connection = Duration::from_secs(LONGEST_CONNECTION).saturating_sub(
-            self.since.elapsed(self.rt)?,
-        );
+        let silence = left_of(self.rt, LONGEST_SILENCE, began)?;
+        let connection = left_of(self.rt, LONGEST_CONNECTION, self.since)?;
         let left = silence.min(connection);
         if left.is_zero() {
             return Err(io::Error::from(ErrorKind::TimedOut));
         }
         Ok(left)
     }
+}
+
+/// What is left of so many seconds since this moment.
+fn left_of(rt: &HostRuntime, seconds: u64, since: Instant) -> io::Result<Duration> {
+    Ok(Duration::from_secs(seconds).saturating_sub(since.elapsed(rt)?))
 }
 
 impl Read for Timed<'_> {
@@ -81,15 +84,15 @@ impl Write for Timed<'_> {
 }
 
 /// Serves one connection after the other on the port, with the day as today. Prints a line once the port is bound.
-pub fn serve<S: Start, O: Write, E: Write>(
+pub fn serve<S: Alter, O: Write, E: Write>(
     rt: &HostRuntime,
-    store: &mut Store<OfficeFile<S>>,
+    store: &mut Store<S>,
     today: Day,
     port: u16,
     out: &mut O,
     err: &mut E,
 ) -> Result<(), JobFault>
-    ensures { IfErr result (λ fault. (fault ≡ Net) ⊎ (fault ≡ Write)) }
+    ensures { ServesOn O.contents port out.old result out.new }
 {
     let address = SocketAddrV4::new(Ipv4Addr::LOCALHOST, port);
     let Ok(listener) = TcpListener::bind(rt, address) else {
@@ -100,9 +103,9 @@ pub fn serve<S: Start, O: Write, E: Write>(
 }
 
 /// Serves one connection after the other, until one cannot be accepted, or until it has served as many as it may.
-pub fn serve_each<S: Start, E: Write>(
+pub fn serve_each<S: Alter, E: Write>(
     rt: &HostRuntime,
-    store: &mut Store<OfficeFile<S>>,
+    store: &mut Store<S>,
     today: Day,
     listener: &TcpListener,
     err: &mut E,
@@ -119,9 +122,9 @@ pub fn serve_each<S: Start, E: Write>(
 }
 
 /// Serves one request, and prints the fault if the connection failed.
-fn serve_connection<S: Start, E: Write>(
+fn serve_connection<S: Alter, E: Write>(
     rt: &HostRuntime,
-    store: &mut Store<OfficeFile<S>>,
+    store: &mut Store<S>,
     today: Day,
     stream: &TcpStream,
     err: &mut E,
@@ -139,9 +142,9 @@ fn serve_connection<S: Start, E: Write>(
     let _ = stream.shutdown(Shutdown::Write);
 }
 
-fn serve_timed<S: Start>(
+fn serve_timed<S: Alter>(
     rt: &HostRuntime,
-    store: &mut Store<OfficeFile<S>>,
+    store: &mut Store<S>,
     today: Day,
     stream: &TcpStream,
     since: Instant,

@@ -1,4 +1,5 @@
 //! An office as the rows of its tables, and requests to it.
 mod check;
 mod http;
+mod job;
 mod store;

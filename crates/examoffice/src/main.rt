@@ -14,7 +14,7 @@ fn main(rt: HostRuntime) -> ExitCode {
     let mut out = rt.stdout();
     let mut err = rt.stderr();
     // Nothing is known of what the file holds; every contract below holds for any first contents.
-    run(&rt, words_of(&rt), Unknown, &mut out, &mut err)
+    ExitCode::from(run(&rt, words_of(&rt), Unknown, &mut out, &mut err))
 }
 
 /// The words of the command line, the program's name first. If one of them is not text, the line is not understood.

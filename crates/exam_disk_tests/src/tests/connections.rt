@@ -1,14 +1,11 @@
 //! Connections within this machine, served one after the other.
 use exam_job::JobFault;
-use exam_program::{close_office, create_office, serve_each};
+use exam_program::serve_each;
+use exam_store::Store;
 use exam_types::Day;
-use sqlite::Unknown;
-use std::fs;
 use std::io::{self, Write};
 use std::net::{Ipv4Addr, SocketAddrV4, TcpListener, TcpStream};
 use std::test::Fail;
-
-const FOLDER: &str = "examoffice_connections";
 
 /// What a client sends, how many bytes follow that nobody reads, and what it gets. The first one sends nothing.
 const CLIENTS: &[(&str, usize, &str)] = &[
@@ -30,9 +27,7 @@ Connection: close\r\n\r\n{\"error\":37}",
 /// The listener does not wait, so serving ends after the last client.
 #[test]
 fn each_client_is_served(rt: HostRuntime) -> Result<(), Fail> {
-    let _ = fs::remove_dir_all(&rt, FOLDER);
-    fs::create_dir(&rt, FOLDER)?;
-    let mut store = create_office(&rt, "examoffice_connections/office.db", Unknown)?;
+    let mut store = Store::in_memory(rt.alloc())?;
     let today = Day::parse(b"2027-05-01").ok_or("day")?;
     let listener = TcpListener::bind(&rt, SocketAddrV4::new(Ipv4Addr::LOCALHOST, 0))?;
     listener.set_nonblocking(true)?;
@@ -51,7 +46,5 @@ fn each_client_is_served(rt: HostRuntime) -> Result<(), Fail> {
         let answer = io::read_to_string(rt.alloc(), client)?;
         assert!(rt; answer.as_str() == *wanted, "{wanted}");
     }
-    close_office(store);
-    fs::remove_dir_all(&rt, FOLDER)?;
     Ok(())
 }

@@ -5,7 +5,6 @@ use std::alloc::{AllocError, Global};
 use std::fs;
 use std::net::{Ipv4Addr, SocketAddrV4, TcpListener};
 use std::os::unix::fs::MetadataExt;
-use std::process::ExitCode;
 use std::test::Fail;
 
 const FOLDER: &str = "examoffice_lines";
@@ -69,7 +68,7 @@ fn ends(rt: &HostRuntime, database: &str, command: &str, end: End) -> Result<boo
     let mut told = Vec::new(rt.alloc());
     let ended = run(rt, Ok(words), Unknown, &mut printed, &mut told);
     Ok(
-        ended == ExitCode::from(status)
+        ended == status
             && printed.as_slice() == out.as_bytes()
             && told.as_slice() == err.as_bytes(),
     )
