@@ -67,11 +67,7 @@ fn ends(rt: &HostRuntime, database: &str, command: &str, end: End) -> Result<boo
     let mut printed = Vec::new(rt.alloc());
     let mut told = Vec::new(rt.alloc());
     let ended = run(rt, Ok(words), Unknown, &mut printed, &mut told);
-    Ok(
-        ended == status
-            && printed.as_slice() == out.as_bytes()
-            && told.as_slice() == err.as_bytes(),
-    )
+    Ok(ended == status && printed.as_slice() == out.as_bytes() && told.as_slice() == err.as_bytes())
 }
 
 #[test]
