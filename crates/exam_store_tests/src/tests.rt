@@ -2,4 +2,5 @@
 mod check;
 mod http;
 mod job;
+mod offices;
 mod store;

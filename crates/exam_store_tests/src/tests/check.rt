@@ -1,20 +1,16 @@
 //! An office as the rows of its tables, and what makes a table of it bad.
+use crate::tests::offices::{InMemory, office_of, refusal_of_opening};
 use exam_check::{Table, check, check_line};
 use exam_school::{ROWS, TWO_SIT, expect_same};
-use exam_store::Store;
 use exam_types::Refusal;
-use sqlite::{Connection, MemStore};
+use sqlite::Connection;
 use std::alloc::Global;
 use std::str;
 use std::test::Fail;
 
 /// The school with two seats after these statements.
-fn office_after(alloc: Global, sql: &str) -> Result<Connection<MemStore>, Fail> {
-    let mut conn = Store::in_memory(alloc)?.close();
-    for rows in [ROWS, TWO_SIT, sql] {
-        conn.execute_batch(rows)?;
-    }
-    Ok(conn)
+fn office_after(alloc: Global, sql: &str) -> Result<InMemory, Fail> {
+    office_of(alloc, &[ROWS, TWO_SIT, sql])
 }
 
 /// What `check` finds of that office after these statements.
@@ -25,13 +21,7 @@ fn found_after(alloc: Global, sql: &str) -> Result<Option<Table>, Fail> {
 
 /// Whether opening accepts that office after these statements.
 fn is_opened_after(alloc: Global, sql: &str) -> Result<bool, Fail> {
-    match Store::open(alloc, office_after(alloc, sql)?) {
-        Ok(_) => Ok(true),
-        Err((_, conn)) => {
-            drop(conn);
-            Ok(false)
-        }
-    }
+    Ok(refusal_of_opening(alloc, office_after(alloc, sql)?) == 0)
 }
 
 /// Expects, after the statements of each line, the line that `check` prints of that office.

@@ -9,15 +9,11 @@ mod seating;
 mod standing;
 mod theorem;
 
+use crate::tests::offices::{InMemory, empty_office};
 use exam_school::{PEOPLE, Step, TIMETABLE, expect_same};
 use exam_scripts::answer_to;
-use exam_store::Store;
-use sqlite::{Connection, MemStore};
 use std::alloc::Global;
 use std::test::Fail;
-
-/// The connection to a closed office in memory.
-type InMemory = Connection<MemStore>;
 
 /// Takes a step. It is dear to prove, as each call that takes a connection in memory for one of any kind.
 fn answer_in_memory(
@@ -80,7 +76,7 @@ fn text_of(alloc: Global, days: &[&str]) -> Result<String, Fail> {
 /// The office in memory after the base day and these.
 fn office_after(alloc: Global, days: &[&str]) -> Result<InMemory, Fail> {
     let text = text_of(alloc, days)?;
-    let conn = Store::in_memory(alloc)?.close();
+    let conn = empty_office(alloc)?;
     let (conn, compared) = played(alloc, conn, text.as_str());
     compared?;
     Ok(conn)

@@ -4,8 +4,8 @@ mod lists;
 mod migrating;
 mod opening;
 
+use crate::tests::offices::{InMemory, after, office_of, refusal_of_opening};
 use exam_store::Store;
-use sqlite::{Connection, MemStore};
 use std::alloc::Global;
 use std::process::Abort;
 use std::test::Fail;
@@ -26,45 +26,13 @@ const FIRST_SEATED: &str = "\
 INSERT INTO entry VALUES (1, 'MA-1', 1);
 INSERT INTO seat VALUES ('S1', 1, 'A')";
 
-/// Runs statements over a connection.
-fn after(conn: Connection<MemStore>, sql: &str) -> Result<Connection<MemStore>, Fail> {
-    let mut conn = conn;
-    conn.execute_batch(sql)?;
-    Ok(conn)
-}
-
-/// A closed empty office in memory.
-fn empty_office(alloc: Global) -> Result<Connection<MemStore>, Fail> {
-    Ok(Store::in_memory(alloc)?.close())
-}
-
-/// A closed office in memory after these statements.
-fn office_of(alloc: Global, statements: &[&str]) -> Result<Connection<MemStore>, Fail> {
-    let mut conn = empty_office(alloc)?;
-    for sql in statements {
-        conn = after(conn, sql)?;
-    }
-    Ok(conn)
-}
-
 /// The base office with its first candidate seated.
-fn seated_office(alloc: Global) -> Result<Connection<MemStore>, Fail> {
+fn seated_office(alloc: Global) -> Result<InMemory, Fail> {
     office_of(alloc, &[BASE, FIRST_SEATED])
 }
 
-/// The number of the refusal of opening what this connection holds, or 0 if it is opened.
-fn refusal_of_opening(alloc: Global, conn: Connection<MemStore>) -> u16 {
-    match Store::open(alloc, conn) {
-        Ok(_) => 0,
-        Err((refusal, conn)) => {
-            drop(conn);
-            refusal.number()
-        }
-    }
-}
-
 /// The number of the refusal of making an office in what this connection holds, or 0 if it is made.
-fn refusal_of_creating(alloc: Global, conn: Connection<MemStore>) -> u16 {
+fn refusal_of_creating(alloc: Global, conn: InMemory) -> u16 {
     match Store::create(alloc, conn) {
         Ok(_) => 0,
         Err((refusal, conn)) => {

@@ -1,6 +1,7 @@
 //! A day through the calls of `exam_theorem` that join all layers, from its first import to a door list, and an office
 //! of version 1 that lives on.
-use super::{InMemory, office_after, play, text_of};
+use super::{office_after, play, text_of};
+use crate::tests::offices::InMemory;
 use exam_job::JobFault;
 use exam_line::LineFault;
 use exam_school::{Step, Words, dated, expect_same};

@@ -1,8 +1,7 @@
 //! Tables that hold no office are refused.
-use super::{
-    BAD_STORE, BASE, after, expect_each, office_of, refusal_of_creating, refusal_of_opening,
-};
-use sqlite::{Connection, MemStore};
+use super::{BAD_STORE, BASE, expect_each, refusal_of_creating};
+use crate::tests::offices::{InMemory, after, office_of, refusal_of_opening};
+use sqlite::Connection;
 use std::alloc::Global;
 use std::test::Fail;
 
@@ -160,7 +159,7 @@ fn a_mark_of_what_was_never_granted_is_refused(rt: HostRuntime) -> Result<(), Fa
 }
 
 /// The base office with that many more halls.
-fn office_of_halls(alloc: Global, halls: u32) -> Result<Connection<MemStore>, Fail> {
+fn office_of_halls(alloc: Global, halls: u32) -> Result<InMemory, Fail> {
     let mut conn = office_of(alloc, &[BASE])?;
     for number in 0..halls {
         let sql = format!(in alloc; "INSERT INTO hall VALUES ('H{number}', 'Hall', 0)")?;
@@ -170,11 +169,7 @@ fn office_of_halls(alloc: Global, halls: u32) -> Result<Connection<MemStore>, Fa
 }
 
 /// The office with that many appeals of one candidate, which are refused.
-fn with_appeals(
-    alloc: Global,
-    conn: Connection<MemStore>,
-    appeals: u32,
-) -> Result<Connection<MemStore>, Fail> {
+fn with_appeals(alloc: Global, conn: InMemory, appeals: u32) -> Result<InMemory, Fail> {
     let mut conn = conn;
     let columns = "'S1', 1, 'A', 0, 0, '', 3, 'No', '2027-05-01'";
     for number in 0..appeals {

@@ -1,7 +1,7 @@
 //! A list of commands is applied in turn, each with its answer.
 use super::seated_office;
+use crate::tests::offices::opened;
 use exam_office::{Command, Reply};
-use exam_store::Store;
 use exam_types::{Day, Number, PaperCode, Refusal};
 use std::process::Abort;
 use std::test::Fail;
@@ -17,9 +17,7 @@ fn each_command_of_a_list_is_answered(rt: HostRuntime) -> Result<(), Fail> {
         (Command::Withdraw(first, paper), today),
         (Command::Reinstate(first, paper), today),
     ];
-    let Ok(mut store) = Store::open(alloc, seated_office(alloc)?) else {
-        return Err(Fail::new("no office"));
-    };
+    let mut store = opened(alloc, seated_office(alloc)?)?;
     let answers = store.apply_all(alloc, &commands)?;
     let expected = matches!(
         answers.as_slice(),

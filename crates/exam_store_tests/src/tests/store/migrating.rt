@@ -1,8 +1,6 @@
 //! Offices of older versions are brought to the newest, whole or not at all.
-use super::{
-    BAD_STORE, BASE, FIRST_SEATED, after, expect_each, office_of, refusal_of_creating,
-    refusal_of_opening,
-};
+use super::{BAD_STORE, BASE, FIRST_SEATED, expect_each, refusal_of_creating};
+use crate::tests::offices::{InMemory, after, office_of, opened, refusal_of_opening};
 use exam_office::{Command, Reply};
 use exam_store::{Store, migrate};
 use exam_types::{Day, Number, PaperCode};
@@ -21,7 +19,7 @@ const TO_SECOND: &str = "UPDATE office SET version = 2";
 const OLD_SCHEMA: u16 = 27;
 
 /// An office of an older version, made so by the first text, with one candidate seated, after these statements.
-fn old_office(alloc: Global, back: &str, sql: &str) -> Result<Connection<MemStore>, Fail> {
+fn old_office(alloc: Global, back: &str, sql: &str) -> Result<InMemory, Fail> {
     office_of(alloc, &[BASE, FIRST_SEATED, sql, back])
 }
 
@@ -44,7 +42,7 @@ fn an_old_office_is_not_opened(rt: HostRuntime) -> Result<(), Fail> {
 
 /// Brings what the connection holds to the newest version. Returns the old version and the new one, or the number of
 /// the refusal and 0.
-fn migrated(alloc: Global, conn: &mut Connection<MemStore>) -> (u16, u16) {
+fn migrated(alloc: Global, conn: &mut InMemory) -> (u16, u16) {
     match migrate(alloc, conn) {
         Ok((old, new)) => (u16::from(old), u16::from(new)),
         Err(refusal) => (refusal.number(), 0),
@@ -61,10 +59,8 @@ fn is_withdrawn(alloc: Global, store: &mut Store<MemStore>) -> Result<bool, Fail
 }
 
 /// The closed office after that withdrawal.
-fn withdrawn(alloc: Global, conn: Connection<MemStore>) -> Result<Connection<MemStore>, Fail> {
-    let Ok(mut store) = Store::open(alloc, conn) else {
-        return Err(Fail::new("no office"));
-    };
+fn withdrawn(alloc: Global, conn: InMemory) -> Result<InMemory, Fail> {
+    let mut store = opened(alloc, conn)?;
     if is_withdrawn(alloc, &mut store)? {
         Ok(store.close())
     } else {
@@ -73,7 +69,7 @@ fn withdrawn(alloc: Global, conn: Connection<MemStore>) -> Result<Connection<Mem
 }
 
 /// How many rows a query shows.
-fn count(conn: &mut Connection<MemStore>, sql: &str) -> Result<usize, Fail> {
+fn count(conn: &mut InMemory, sql: &str) -> Result<usize, Fail> {
     Ok(conn.query_all(sql, &[])?.len())
 }
 
@@ -189,7 +185,7 @@ DROP TABLE office
 ";
 
 /// Expects that these tables are refused.
-fn expect_refused<R: Abort + AllocGlobal>(rt: &R, conn: Connection<MemStore>, sql: &str) {
+fn expect_refused<R: Abort + AllocGlobal>(rt: &R, conn: InMemory, sql: &str) {
     let mut conn = conn;
     let found = migrated(rt.alloc(), &mut conn);
     drop(conn);

@@ -1,5 +1,6 @@
 //! Offices that were closed are opened again, if their plan is still a best one.
-use super::{BAD_STORE, BASE, FIRST_SEATED, expect_each, refusal_of_creating, refusal_of_opening};
+use super::{BAD_STORE, BASE, FIRST_SEATED, expect_each, refusal_of_creating};
+use crate::tests::offices::refusal_of_opening;
 use sqlite::Connection;
 use std::test::Fail;
 
