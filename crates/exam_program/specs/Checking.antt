@@ -11,11 +11,11 @@ use Rattle.exam_check.specs.declared.tables.Table.{Table}
 use Rattle.exam_job.specs.Printed.{Prints}
 use Rattle.exam_job.specs.declared.report.JobFault.{JobFault}
 
--- the first bad table of the database that the file held, as it was seen while the disk returned what was written
-abbrev pub FoundIn : {S : Type 0} → Ghosts S → Held S → Option Table → Type 0
-FoundIn {S} g was found =
-    (now : Held S) × (HasCleanDisk (state g now) → (all : Trees) → ContainsMade (state g was).now all
-    → IsFirstBadTable (state g was).now all found)
+-- This is the first bad table of the database, if until now the disk has returned what was written.
+abbrev pub FoundIn : {S : Type 0} → Ghosts S → Held S → Held S → Option Table → Type 0
+FoundIn g was now found =
+    HasCleanDisk (state g now) → HasCleanDisk (state g was)
+    × ((all : Trees) → ContainsMade (state g was).now all → IsFirstBadTable (state g was).now all found)
 
 -- 0 if there is none
 abbrev pub check_status : Option Table → ℕ

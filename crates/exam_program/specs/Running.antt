@@ -80,15 +80,15 @@ RunsOpened {S} g image contents said before untold result after told =
 abbrev pub MigratesIn : {S O : Type 0} → Ghosts S → Image → Contents O → O → Result (Unit {0}) JobFault → O → Type 0
 MigratesIn {S} g image contents before result after =
     IsNotOpened is_store_refusal before result after
-    ⊎ ((old : Held S) × (new : Held S) × IsOver g image old × Migrates g contents old before result new after)
+    ⊎ ((old : Held S) × (new : Held S) × IsOver g image old new × Migrates g contents old before result new after)
 
 -- the first bad table of the database that the files held; or that they held none, which is a bad office
 abbrev pub ChecksIn : {S O : Type 0} → Ghosts S → Image → Contents O → O → Result ℕ JobFault → O → Type 0
 ChecksIn {S} g image contents before result after =
     IsNotOpened is_check_refusal before result after
     ⊎ (TellsTable contents (Some Office) before result after
-    ⊎ ((was : Held S) × (found : Option Table) × IsOver g image was × FoundIn g was found
-    × TellsTable contents found before result after))
+    ⊎ ((was : Held S) × (now : Held S) × (found : Option Table) × IsOver g image was now
+    × FoundIn g was now found × TellsTable contents found before result after))
 
 -- what a line does, by its job, before its fault is reported
 abbrev pub RunsJob : {S O E : Type 0} → Ghosts S → Image → Contents O → Said → Job → O → E

@@ -6,13 +6,12 @@ ghost use Rattle.sqlite_store.specs.FileStore.{view};
 ghost use Rattle.sqlite_wal.specs.Files.{image_at};
 ghost use Rattle.exam_tables.specs.Faults.{is_store_refusal};
 ghost use Rattle.exam_tables.specs.Versions.{IsBlank};
-ghost use Rattle.exam_commands.specs.State.{empty_state};
 ghost use Rattle.exam_store.specs.Found.{Finds, is_open_refusal};
 ghost use Rattle.exam_store.specs.Kept.{KeepsOurs};
 ghost use Rattle.exam_check.specs.Refused.{is_check_refusal};
 ghost use Rattle.exam_job.specs.Reading.{IsReadFault};
 ghost use Rattle.exam_program.specs.Checking.{FoundIn, TellsTable};
-ghost use Rattle.exam_program.specs.Opening.{IsOver, MakesIn, OpensIn, opening_refusal};
+ghost use Rattle.exam_program.specs.Opening.{IsOver, MakesIn, MakesNew, OpensIn, opening_refusal};
 ghost use Rattle.exam_program.specs.Running.{ChecksIn, MigratesIn};
 
 use exam_check::{Table, check, check_line};
@@ -56,7 +55,8 @@ fn create_over<S: Start>(
     alloc: Global,
     conn: Connection<OfficeFile<S>>,
 ) -> Result<Store<OfficeFile<S>>, Refusal>
-    ensures empty { IsBlank (file_state conn).now → IfOk result (λ store. store.office ≡ empty_state) }
+    ensures made { IsBlank (file_state conn).now
+        → IfOk result (λ store. MakesNew (file_state conn) (file_state store.database) store.office) }
     ensures found { (IsBlank (file_state conn).now → ⊥)
         → IfOk result (λ store. Finds (file_state conn) (file_state store.database) store.office) }
     ensures kept { IfOk result (λ store. KeepsOurs (file_state store.database) store.office) }
@@ -139,7 +139,7 @@ fn open_present<S: Start>(
     path: &str,
     start: S,
 ) -> Result<Connection<OfficeFile<S>>, Refusal>
-    ensures found { IfOk result (IsOver over_files (image_at S.Start)) }
+    ensures found { IfOk result (λ conn. IsOver over_files (image_at S.Start) conn conn) }
     ensures told { IfErr result (λ refusal. IsTrue (is_store_refusal refusal)) }
 {
     if !has_file(rt, path)? || !has_bytes(rt, path)? {
@@ -154,7 +154,7 @@ fn check_over<S: Start>(
     alloc: Global,
     mut conn: Connection<OfficeFile<S>>,
 ) -> Result<Option<Table>, Refusal>
-    ensures found { IfOk result (FoundIn over_files conn) }
+    ensures found { IfOk result (λ found. (now : _) × FoundIn over_files conn now found) }
     ensures told { IfErr result (λ refusal. IsTrue (is_check_refusal refusal)) }
 {
     let found = check(alloc, &mut conn);
@@ -260,7 +260,7 @@ fn open_database<S: Start>(
     path: &str,
     start: S,
 ) -> Result<Connection<OfficeFile<S>>, Refusal>
-    ensures found { IfOk result (IsOver over_files (image_at S.Start)) }
+    ensures found { IfOk result (λ conn. IsOver over_files (image_at S.Start) conn conn) }
     ensures plain { IfOk result (λ conn. HasCleanDisk (file_state conn) → IsBlankAs false (image_at S.Start)
         → (view conn.store).has_sums ≡ false) }
     ensures told { IfErr result (λ refusal. IsTrue (is_store_refusal refusal)) }
