@@ -35,8 +35,7 @@
 --   and a desk of their own in it, and no lawful plan seats more
 -- - Between: lists of commands without an import or the closing of a hall
 -- - KeptRows: the rows that a command leaves in the tables: all except the opening that closing a hall takes away
--- - Own, Entered: what the office shows of one candidate; the sessions for whose papers they have
---   live entries
+-- - Own: what the office shows of one candidate
 pub mod Appeals
 pub mod Lodgings
 pub mod Decisions
@@ -60,7 +59,6 @@ pub mod NextPlans
 pub mod Parts
 pub mod Headline
 pub mod Moves
-pub mod Entered
 pub mod Own
 pub mod Words
 pub mod Examples

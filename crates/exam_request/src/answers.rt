@@ -11,7 +11,7 @@ use crate::routes::Route;
 use crate::status::{phrase_of, status_of};
 use arrayvec::ArrayVec;
 use exam_commands::{AppealState, state_word};
-use exam_send::{WriteFailed, send_both};
+use exam_send::{WriteFailed, send, send_both};
 use exam_types::{Day, Refusal};
 use http::StatusCode;
 use itoa::Buffer;
@@ -143,7 +143,7 @@ impl Answer {
     }
 }
 
-/// Writes the answer: its head, then its body.
+/// Writes the answer: its head, then its body. A short body goes out in one write with its head.
 pub fn write_answer<W: Write>(answer: &Answer, writer: &mut W) -> Result<(), WriteFailed>
     ensures ok { OnOk result
         (Appends (W.contents writer.old) (W.contents writer.new) (spec.answer_text answer.now)) }
@@ -151,8 +151,12 @@ pub fn write_answer<W: Write>(answer: &Answer, writer: &mut W) -> Result<(), Wri
         (AppendsPart (W.contents writer.old) (W.contents writer.new) (spec.answer_text answer.now)) }
 {
     let body = answer.body();
-    let head = head(answer.status, answer.allow, body.len());
-    send_both(writer, head.as_slice(), body)
+    let mut head = head(answer.status, answer.allow, body.len());
+    if body.len() > head.remaining_capacity() {
+        return send_both(writer, head.as_slice(), body);
+    }
+    put(&mut head, body);
+    send(writer, head.as_slice())
 }
 
 /// The head of an answer with a body of this length.

@@ -150,11 +150,22 @@ pub fn finish(facts: &Facts, session: &SessionCode, number: Number) -> Option<Mi
     let Some(row) = facts.sessions.get(session) else {
         return None;
     };
-    let Some(paper) = sitting_row(facts, sitting(facts, session, number)) else {
-        return None;
-    };
     let arrangement = arrangement_in_force(facts, session, number);
-    Some(end_minute(row, paper, &arrangement))
+    finish_beside(facts, row, sitting(facts, session, number), &arrangement)
+}
+
+/// The same in a session with this row, for a member who sits this paper under this arrangement.
+pub fn finish_beside(
+    facts: &Facts,
+    row: &Session,
+    sat: Option<PaperCode>,
+    arrangement: &Arrangement,
+) -> Option<Minute>
+    ensures { result ≡ option_map (λ paper. spec.end_of row.now paper arrangement.now)
+        (option_and_then (row_at code_cmp facts.now.papers.entries) sat) }
+{
+    let paper = sitting_row(facts, sat)?;
+    Some(end_minute(row, paper, arrangement))
 }
 
 /// Whether the hall is opened for the session and fits the member. No hall fits a number without a live entry for a

@@ -15,7 +15,7 @@ mod standing;
 pub use appeals::{appeals_from, has_at_most};
 pub use clashing::{clashes, clashes_among};
 pub use facts::Facts;
-pub use fit::{finish, fits};
+pub use fit::{finish, finish_beside, fits};
 pub use laws::{
     certificates_by_name, chains_by_index, chains_by_name, contested_by_name, desk_numbers_by_name,
     desks_are_of_their_own, kept_parts_by_name, lists_are_plans, lists_rise, plans_by_index,
@@ -29,5 +29,6 @@ pub use rows::{
 pub use seating::{ListedProblem, indexed_problem, problem};
 pub use sessions::{
     arrangement_in_force, entries_from, is_clash, is_live_paper, is_member, is_paper_of, sitting,
+    sitting_beside,
 };
 pub use standing::is_standing;

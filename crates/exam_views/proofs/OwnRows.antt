@@ -1,15 +1,19 @@
 -- One turn of a loop over what is a candidate's own.
-use Rattle.std.proofs.Common.{◌≡◌, ℕ, Bool, true, List, [], ◌∷◌, ◌++◌, map, filter, nat_eq, refl, ap, sym, ◌∙◌}
+use Rattle.std.proofs.Common.{◌≡◌, ℕ, Bool, true, false, List, [], ◌∷◌, ◌++◌, map, filter, nat_eq, refl, ap, sym, ◌∙◌}
 use Rattle.std.specs.Prelude.{Option, None, Some}
 use Rattle.std.specs.List.{cons_option, filter_map}
-use Rattle.std.specs.Option.{option_map}
+use Rattle.std.specs.Option.{option_map, option_and_then}
+use Rattle.std.proofs.lemmas.List.{map-append}
 use Rattle.exam_rules.specs.declared.rows.Appeal.{Appeal}
+use Rattle.exam_rules.specs.declared.rows.Arrangement.{Arrangement}
+use Rattle.exam_rules.specs.declared.rows.Paper.{Paper}
 use Rattle.exam_rules.specs.declared.rows.Session.{Session}
-use Rattle.exam_rules.specs.Relations.{Code, Relations, is_row_of, leading}
-use Rattle.exam_rules.specs.Sessions.{is_marked, is_member}
+use Rattle.exam_rules.specs.Relations.{Code, Relations, code_cmp, is_row_of, leading, row_at}
+use Rattle.exam_rules.specs.Sessions.{arrangement_in_force, end_of, finish, is_marked, is_member, sitting, sitting_row}
 use Rattle.exam_rules.proofs.Turns.{push_step}
 use Rattle.exam_commands.specs.declared.own.OwnAppeal.{OwnAppeal}
-use Rattle.exam_commands.specs.Own.{OwnSessionRow, own_appeal, own_session, own_sessions}
+use Rattle.exam_commands.specs.declared.own.OwnSession.{OwnSession}
+use Rattle.exam_commands.specs.Own.{OwnSessionRow, own_appeal, own_session, own_sessions, shown_session}
 use Rattle.exam_commands.specs.State.{State}
 use Rattle.exam_views.specs.Desks.{session_with}
 use Rattle.exam_views.specs.declared.own_source.Desks.{Desks}
@@ -49,3 +53,28 @@ pub all_left : (desks : Desks) (office : State) (c : ℕ)
 all_left desks office c =
     mapped (session_with desks) (own_session office c)
     (filter (λ (held : Code × Session). is_member office.relations held.0 c) office.relations.sessions)
+
+-- after the row of a session of which the candidate is a member
+pub member_turn : (desks : Desks) (office : State) (c : ℕ) (held : Code × Session) (own : OwnSession) (rows rest : List (Code × Session)) (before after : List OwnSession) (whole : List OwnSessionRow)
+    → is_member office.relations held.0 c ≡ true → option_map (session_with desks) (own_session office c held) ≡ Some (shown_session own) → rows ≡ held ∷ rest → after ≡ before ++ own ∷ []
+    → map shown_session before ++ sessions_left desks office c rows ≡ whole → map shown_session after ++ sessions_left desks office c rest ≡ whole
+member_turn desks office c held own rows rest before after whole member shows split pushed so_far =
+    let first : sessions_left desks office c (held ∷ rest) ≡ shown_session own ∷ sessions_left desks office c rest = rw (member, shows) refl in
+    push_step (map shown_session before) (map shown_session after) (sessions_left desks office c rest) whole (shown_session own)
+    (ap (map shown_session) pushed ∙ map-append shown_session before (own ∷ []))
+    (ap (λ t. map shown_session before ++ t) (sym first ∙ ap (sessions_left desks office c) (sym split)) ∙ so_far)
+
+-- after that of another session
+pub other_turn : (desks : Desks) (office : State) (c : ℕ) (held : Code × Session) (rows rest : List (Code × Session)) (before whole : List OwnSessionRow)
+    → is_member office.relations held.0 c ≡ false → rows ≡ held ∷ rest → before ++ sessions_left desks office c rows ≡ whole → before ++ sessions_left desks office c rest ≡ whole
+other_turn desks office c held rows rest before whole no_member split so_far =
+    let first : sessions_left desks office c (held ∷ rest) ≡ sessions_left desks office c rest = rw no_member refl in
+    ap (λ t. before ++ t) (sym first ∙ ap (sessions_left desks office c) (sym split)) ∙ so_far
+
+-- when the member ends, by the row of the session, the paper that they sit and the arrangement in force
+pub ends : (r : Relations) (s : Code) (c : ℕ) (row : Session) (sat : Option Code) (a : Arrangement) → row_at code_cmp r.sessions s ≡ Some row → sitting r s c ≡ sat → a ≡ arrangement_in_force r s c
+    → finish r s c ≡ option_map (λ (paper : Paper). end_of row paper a) (option_and_then (row_at code_cmp r.papers) sat)
+ends r s c row sat a known sits is =
+    ap (option_and_then (λ (session : Session). option_map (λ (paper : Paper). end_of session paper (arrangement_in_force r s c)) (sitting_row r s c))) known
+    ∙ ap (λ o. option_map (λ (paper : Paper). end_of row paper (arrangement_in_force r s c)) (option_and_then (row_at code_cmp r.papers) o)) sits
+    ∙ ap (λ b. option_map (λ (paper : Paper). end_of row paper b) (option_and_then (row_at code_cmp r.papers) sat)) (sym is)

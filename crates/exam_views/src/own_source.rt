@@ -1,8 +1,8 @@
 //! How the office makes what it shows of one candidate: from their own rows, and from the seats of their sessions.
-ghost use Rattle.std.specs.Prelude.{◌≡◌, ◌<◌, ◌≤◌, ℕ, Contains, Some, count_by, filter};
+ghost use Rattle.std.specs.Prelude.{◌≡◌, ◌<◌, ◌≤◌, ℕ, Some, count_by, filter};
 ghost use Rattle.std.specs.Prelude.{length, map, ◌++◌, IfOk, IfErr, OnOk, IsSome, IsTrue};
 ghost use Rattle.std.specs.Option.{option_map};
-ghost use Rattle.std.specs.Ordering.{is_lt};
+ghost use Rattle.std.specs.Ordering.{is_lt, nat_cmp};
 ghost use Rattle.exam_types.specs.declared.refusal.Refusal.TheVariants.{NoMemory};
 ghost use Rattle.exam_plan.specs.Matching.{occupants};
 ghost use Rattle.exam_plan.specs.Problems.{most_members};
@@ -12,16 +12,16 @@ ghost use Rattle.exam_rules.specs.Lists.{AreListsOf, entrants};
 ghost use Rattle.exam_rules.specs.Orders.{KeysRise};
 ghost use Rattle.exam_rules.specs.Seatings.{seating, plan_of, comes_before, desk_cmp, desk_key};
 ghost use Rattle.exam_rules.specs.Sessions as sessions;
-ghost use Rattle.exam_commands.specs.Entered.{HoldsEntered, session_of_paper};
 ghost use Rattle.exam_commands.specs.Good.{IsGood};
 ghost use Rattle.exam_commands.specs.Headline.{desk_of};
 ghost use Rattle.exam_commands.specs.Own as spec;
 ghost use Rattle.exam_views.specs.Desks.{desk_with, rows_with, session_with};
+ghost use Rattle.exam_views.specs.Entered.{AreEntered, papers_in, with_session};
 
 use exam_commands::{Own, OwnAppeal, OwnSession, Seats};
 use exam_rules::{
     Appeal, Candidate, Entrant, Facts, Session, SessionLists, appeals_from, arrangement_in_force,
-    entries_from, finish, is_member, is_paper_of, sitting, sitting_among,
+    entries_from, finish_beside, sitting_among, sitting_beside,
 };
 use exam_types::{HallCode, Number, PaperCode, Reference, Refusal, SessionCode};
 use std::alloc::Global;
@@ -36,6 +36,14 @@ pub enum Desks {
 
 /// What the order of desks compares: the sitting paper, and then the number.
 type DeskKey = (Option<PaperCode>, Number);
+
+/// A session, and the papers in it for which a candidate has live entries, by code.
+#[derive(Drop)]
+struct Attended<'a> {
+    session: &'a SessionCode,
+    row: &'a Session,
+    papers: Vec<PaperCode>,
+}
 
 /// What a good office shows of the candidate with the number, or none. Where desks are hidden, no session has one, and
 /// nobody is counted. Takes no memory for an unknown number.
@@ -71,6 +79,7 @@ fn own_rows(
 ) -> Result<Own, Refusal>
     requires lists { AreListsOf (relations_of facts.now) lists.now }
     requires good { IsGood (record { relations = relations_of facts.now; seats = seats.now.entries }) }
+    requires candidate { IsTrue (has_row nat_cmp facts.now.candidates.entries number) }
     ensures ok { IfOk result (λ own. spec.shown own ≡ rows_with desks
         (spec.own_rows (record { relations = relations_of facts.now; seats = seats.now.entries }) number
         row.now)) }
@@ -96,28 +105,30 @@ fn own_sessions(
 ) -> Result<Vec<OwnSession>, Refusal>
     requires lists { AreListsOf (relations_of facts.now) lists.now }
     requires good { IsGood (record { relations = relations_of facts.now; seats = seats.now.entries }) }
+    requires candidate { IsTrue (has_row nat_cmp facts.now.candidates.entries number) }
     ensures ok { IfOk result (λ sessions. map spec.shown_session sessions.items ≡ map (session_with desks)
         (spec.own_sessions (record { relations = relations_of facts.now; seats = seats.now.entries })
         number)) }
     ensures memory { IfErr result (λ e. e ≡ NoMemory) }
 {
-    let entered = entered_sessions(alloc, facts, number)?;
+    let entered = entered_papers(alloc, facts, number)?;
     sessions_among(alloc, facts, lists, seats, number, &entered, desks)
 }
 
-/// The same, if the candidate is a member of no other sessions than these.
+/// The same, by the candidate's live papers with their sessions.
 fn sessions_among(
     alloc: Global,
     facts: &Facts,
     lists: &SessionLists,
     seats: &Seats,
     number: Number,
-    entered: &[SessionCode],
+    entered: &[(SessionCode, PaperCode)],
     desks: Desks,
 ) -> Result<Vec<OwnSession>, Refusal>
     requires lists { AreListsOf (relations_of facts.now) lists.now }
     requires good { IsGood (record { relations = relations_of facts.now; seats = seats.now.entries }) }
-    requires entered { HoldsEntered (relations_of facts.now) number entered.now }
+    requires candidate { IsTrue (has_row nat_cmp facts.now.candidates.entries number) }
+    requires entered { AreEntered (relations_of facts.now) number entered.now }
     ensures ok { IfOk result (λ sessions. map spec.shown_session sessions.items ≡ map (session_with desks)
         (spec.own_sessions (record { relations = relations_of facts.now; seats = seats.now.entries })
         number)) }
@@ -125,12 +136,34 @@ fn sessions_among(
 {
     let mut list = Vec::new(alloc);
     for (session, row) in &facts.sessions {
-        if is_member_among(facts, entered, session, number) {
-            let held = (session, row);
+        let papers = entered_in(alloc, session, entered)?;
+        if !papers.is_empty() {
+            let held = Attended {
+                session,
+                row,
+                papers,
+            };
             list.push(own_session(alloc, facts, lists, seats, number, held, desks)?)?;
         }
     }
     Ok(list)
+}
+
+/// The papers of the session among these.
+fn entered_in(
+    alloc: Global,
+    session: &SessionCode,
+    entered: &[(SessionCode, PaperCode)],
+) -> Result<Vec<PaperCode>, Refusal>
+    ensures ok { IfOk result (λ papers. papers.items ≡ papers_in entered.now session.now) }
+    ensures memory { IfErr result (λ e. e ≡ NoMemory) }
+{
+    let papers = entered
+        .iter()
+        .filter(|paper| paper.0 == *session)
+        .map(|paper| paper.1)
+        .collect(alloc)?;
+    Ok(papers)
 }
 
 /// The session as its member sees it.
@@ -140,25 +173,30 @@ fn own_session(
     lists: &SessionLists,
     seats: &Seats,
     number: Number,
-    held: (&SessionCode, &Session),
+    held: Attended<'_>,
     desks: Desks,
 ) -> Result<OwnSession, Refusal>
     requires lists { AreListsOf (relations_of facts.now) lists.now }
     requires good { IsGood (record { relations = relations_of facts.now; seats = seats.now.entries }) }
-    requires known { row_at code_cmp facts.now.sessions.entries held.0.now ≡ Some held.1.now }
-    requires member { Contains (sessions.members (relations_of facts.now) held.0.now) number }
+    requires known { row_at code_cmp facts.now.sessions.entries held.session.now ≡ Some held.row.now }
+    requires candidate { IsTrue (has_row nat_cmp facts.now.candidates.entries number) }
+    requires papers { held.papers.items ≡ sessions.live_papers (relations_of facts.now) held.session.now number }
+    requires member { 0 < length held.papers.items }
     ensures ok { IfOk result (λ own. option_map (session_with desks) (spec.own_session
         (record { relations = relations_of facts.now; seats = seats.now.entries }) number
-        (held.entry.0.now, held.entry.1.now)) ≡ Some (spec.shown_session own)) }
+        (held.entry.session.now, held.entry.row.now)) ≡ Some (spec.shown_session own)) }
     ensures memory { IfErr result (λ e. e ≡ NoMemory) }
 {
-    let (session, row) = held;
-    let sat = sitting(facts, session, number).unwrap();
-    let papers = live_papers(alloc, facts, session, number)?;
+    let Attended {
+        session,
+        row,
+        papers,
+    } = held;
+    let sat = sitting_beside(facts, session, number, papers[0]).unwrap();
     let clashes = clash_papers(alloc, &papers, sat)?;
-    let hall = seats.get(&(*session, number)).copied();
-    let end = finish(facts, session, number).unwrap();
     let arrangement = arrangement_in_force(facts, session, number);
+    let finish = finish_beside(facts, row, Some(sat), &arrangement).unwrap();
+    let hall = seats.get(&(*session, number)).copied();
     let desk = desk(facts, lists, seats, session, number, &hall, desks);
     Ok(OwnSession {
         session: *session,
@@ -168,7 +206,7 @@ fn own_session(
         sitting: sat,
         clashes,
         arrangement,
-        finish: end,
+        finish,
         hall,
         desk,
     })
@@ -281,37 +319,13 @@ fn clash_papers(
     Ok(clashes)
 }
 
-/// The candidate's live papers in the session, by code.
-fn live_papers(
-    alloc: Global,
-    facts: &Facts,
-    session: &SessionCode,
-    number: Number,
-) -> Result<Vec<PaperCode>, Refusal>
-    ensures ok { IfOk result (λ papers. papers.items
-        ≡ sessions.live_papers (relations_of facts.now) session.now number) }
-    ensures memory { IfErr result (λ e. e ≡ NoMemory) }
-{
-    let mut papers = Vec::new(alloc);
-    for (key, entry) in entries_from(facts, number) {
-        if key.0 != number {
-            break;
-        }
-        if entry.live && is_paper_of(facts, session, &key.1) {
-            papers.push(key.1)?;
-        }
-    }
-    Ok(papers)
-}
-
-/// The sessions of the candidate's live papers, so that other sessions need not be searched. A session may be listed
-/// more than once.
-fn entered_sessions(
+/// The candidate's live papers, each with its session.
+fn entered_papers(
     alloc: Global,
     facts: &Facts,
     number: Number,
-) -> Result<Vec<SessionCode>, Refusal>
-    ensures ok { IfOk result (λ list. HoldsEntered (relations_of facts.now) number list.items) }
+) -> Result<Vec<(SessionCode, PaperCode)>, Refusal>
+    ensures ok { IfOk result (λ list. AreEntered (relations_of facts.now) number list.items) }
     ensures memory { IfErr result (λ e. e ≡ NoMemory) }
 {
     let mut list = Vec::new(alloc);
@@ -320,43 +334,26 @@ fn entered_sessions(
             break;
         }
         if entry.live {
-            push_session(facts, &key.1, &mut list)?;
+            push_paper(facts, &key.1, &mut list)?;
         }
     }
     Ok(list)
 }
 
-/// Appends the session of a paper, if there is such a paper.
-fn push_session(
+/// Appends the paper with its session, if there is such a paper.
+fn push_paper(
     facts: &Facts,
     paper: &PaperCode,
-    list: &mut Vec<SessionCode>,
+    list: &mut Vec<(SessionCode, PaperCode)>,
 ) -> Result<(), Refusal>
     ensures ok { OnOk result (list.new.items
-        ≡ list.old.items ++ session_of_paper (relations_of facts.now) paper.now) }
+        ≡ list.old.items ++ with_session (relations_of facts.now) paper.now) }
     ensures memory { IfErr result (λ e. e ≡ NoMemory) }
 {
     if let Some(row) = facts.papers.get(paper) {
-        list.push(row.session)?;
+        list.push((row.session, *paper))?;
     }
     Ok(())
-}
-
-/// Whether the candidate is a member of the session, if they are a member of no other sessions than these.
-fn is_member_among(
-    facts: &Facts,
-    entered: &[SessionCode],
-    session: &SessionCode,
-    number: Number,
-) -> bool
-    requires { HoldsEntered (relations_of facts.now) number entered.now }
-    ensures value { result ≡ sessions.is_member (relations_of facts.now) session.now number }
-    ensures listed { IsTrue result → Contains (sessions.members (relations_of facts.now) session.now) number }
-{
-    if !entered.contains(session) {
-        return false;
-    }
-    is_member(facts, session, number)
 }
 
 /// The candidate's appeals, by reference.

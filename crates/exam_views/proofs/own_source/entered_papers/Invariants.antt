@@ -1,8 +1,8 @@
 use Rattle.exam_rules.specs.Relations.{relations_of}
 use Rattle.exam_views.proofs.OwnEntered.{EnteredLeft}
-use Rattle.exam_views.proofs.own_source.entered_sessions.Given as goal
+use Rattle.exam_views.proofs.own_source.entered_papers.Given as goal
 
--- the sessions so far, and what is left
+-- the papers so far, and what is left
 abbrev pub invariant-loop-key : goal.invariant-loop-key
 invariant-loop-key l =
     (goal.iterator-loop-key).can_next l.key-iterator × (goal.iterator-loop-key).is_finite l.key-iterator
