@@ -71,7 +71,7 @@ module _ (r : Relations) (n : ℕ) where
   first_in s rows = head_of (live_papers_in r (leading (is_row_of n) rows) s n)
 
   -- which session a row counts for
-  counts_for : (s p : Code) (e : Entry) (o : Option Code) → entered_session r p e ≡ o → (e.live && is_paper_of r s p) ≡ option_map_or (λ t. same_code t s) o false
+  pub counts_for : (s p : Code) (e : Entry) (o : Option Code) → entered_session r p e ≡ o → (e.live && is_paper_of r s p) ≡ option_map_or (λ t. same_code t s) o false
   counts_for s p e o is = subst (λ o. (e.live && is_paper_of r s p) ≡ option_map_or (λ t. same_code t s) o false) is (outer e.live (row_at code_cmp r.papers p))
     where
       inner : (row : Option Paper) → option_map_or (λ (paper : Paper). same_code paper.session s) row false ≡ option_map_or (λ t. same_code t s) (option_map (λ (paper : Paper). paper.session) row) false

@@ -22,7 +22,10 @@ pub use laws::{
     plans_by_name, repair_is_one, repairs_by_index, repairs_by_name, sweeps_by_index,
     sweeps_by_name,
 };
-pub use lists::{BySession, Entrant, SessionLists, entered_session, session_lists, sitting_among};
+pub use lists::{
+    BySession, Entrant, SessionLists, append_by_session, entered_session, session_lists,
+    sitting_among,
+};
 pub use rows::{
     Appeal, Arrangement, Candidate, Entry, Hall, Opening, Paper, Session, Status, Subject,
 };

@@ -38,7 +38,7 @@ pub struct SessionLists {
 }
 
 /// Appends to the session's list.
-fn append<T: Copy + Drop>(
+pub fn append_by_session<T: Copy + Drop>(
     alloc: Global,
     lists: &mut BySession<T>,
     session: SessionCode,
@@ -184,7 +184,7 @@ fn halls_by_session(alloc: Global, facts: &Facts) -> Result<BySession<HallCode>,
 {
     let mut halls = BTreeMap::new(alloc);
     for (key, _) in &facts.openings {
-        append(alloc, &mut halls, key.0, key.1)?;
+        append_by_session(alloc, &mut halls, key.0, key.1)?;
     }
     Ok(halls)
 }

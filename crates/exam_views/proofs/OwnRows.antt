@@ -1,6 +1,8 @@
 -- One turn of a loop over what is a candidate's own.
-use Rattle.std.proofs.Common.{◌≡◌, ℕ, Bool, true, false, List, [], ◌∷◌, ◌++◌, map, filter, nat_eq, refl, ap, sym, ◌∙◌}
+use Rattle.std.proofs.Common.{◌≡◌, ◌⊎◌, inl, inr, ℕ, Bool, true, false, Vec, List, [], ◌∷◌, ◌++◌, map, filter, nat_eq, refl, ap, sym, ◌∙◌}
 use Rattle.std.specs.Prelude.{Option, None, Some}
+use Rattle.std.specs.Global.{Global}
+use Rattle.std.specs.Map.{keys_of}
 use Rattle.std.specs.List.{cons_option, filter_map}
 use Rattle.std.specs.Option.{option_map, option_and_then}
 use Rattle.std.proofs.lemmas.List.{map-append}
@@ -9,13 +11,16 @@ use Rattle.exam_rules.specs.declared.rows.Arrangement.{Arrangement}
 use Rattle.exam_rules.specs.declared.rows.Paper.{Paper}
 use Rattle.exam_rules.specs.declared.rows.Session.{Session}
 use Rattle.exam_rules.specs.Relations.{Code, Relations, code_cmp, is_row_of, leading, row_at}
-use Rattle.exam_rules.specs.Sessions.{arrangement_in_force, end_of, finish, is_marked, is_member, sitting, sitting_row}
+use Rattle.exam_rules.specs.Sessions.{arrangement_in_force, end_of, finish, is_marked, is_member, live_papers, sitting, sitting_row}
+use Rattle.exam_rules.specs.Lists.{listed}
+use Rattle.exam_rules.specs.Orders.{KeysRise}
 use Rattle.exam_rules.proofs.Turns.{push_step}
 use Rattle.exam_commands.specs.declared.own.OwnAppeal.{OwnAppeal}
 use Rattle.exam_commands.specs.declared.own.OwnSession.{OwnSession}
 use Rattle.exam_commands.specs.Own.{OwnSessionRow, own_appeal, own_session, own_sessions, shown_session}
 use Rattle.exam_commands.specs.State.{State}
 use Rattle.exam_views.specs.Desks.{session_with}
+use Rattle.exam_views.proofs.OwnEntered.{known_row, rows_of, same_sessions, unknown_row}
 use Rattle.exam_views.specs.declared.own_source.Desks.{Desks}
 
 -- the candidate's appeals at the beginning of these rows
@@ -48,11 +53,12 @@ mapped {A} {B} f g (x ∷ xs) = ap (cons_option (option_map f (g x))) (mapped f 
     onto (Some y) = refl
 
 -- at first all of them are left
-pub all_left : (desks : Desks) (office : State) (c : ℕ)
-    → sessions_left desks office c office.relations.sessions ≡ map (session_with desks) (own_sessions office c)
-all_left desks office c =
-    mapped (session_with desks) (own_session office c)
-    (filter (λ (held : Code × Session). is_member office.relations held.0 c) office.relations.sessions)
+pub all_left : (desks : Desks) (office : State) (c : ℕ) (held : List (Code × Vec Code Global)) → ((s : Code) → listed held s ≡ live_papers office.relations s c)
+    → KeysRise code_cmp held → KeysRise code_cmp office.relations.sessions
+    → sessions_left desks office c (rows_of office.relations (keys_of held)) ≡ map (session_with desks) (own_sessions office c)
+all_left desks office c held are up rise =
+    ap (filter_map (λ (held : Code × Session). option_map (session_with desks) (own_session office c held))) (same_sessions office.relations c held are up rise)
+    ∙ mapped (session_with desks) (own_session office c) (filter (λ (held : Code × Session). is_member office.relations held.0 c) office.relations.sessions)
 
 -- after the row of a session of which the candidate is a member
 pub member_turn : (desks : Desks) (office : State) (c : ℕ) (held : Code × Session) (own : OwnSession) (rows rest : List (Code × Session)) (before after : List OwnSession) (whole : List OwnSessionRow)
@@ -64,12 +70,27 @@ member_turn desks office c held own rows rest before after whole member shows sp
     (ap (map shown_session) pushed ∙ map-append shown_session before (own ∷ []))
     (ap (λ t. map shown_session before ++ t) (sym first ∙ ap (sessions_left desks office c) (sym split)) ∙ so_far)
 
--- after that of another session
-pub other_turn : (desks : Desks) (office : State) (c : ℕ) (held : Code × Session) (rows rest : List (Code × Session)) (before whole : List OwnSessionRow)
-    → is_member office.relations held.0 c ≡ false → rows ≡ held ∷ rest → before ++ sessions_left desks office c rows ≡ whole → before ++ sessions_left desks office c rest ≡ whole
-other_turn desks office c held rows rest before whole no_member split so_far =
-    let first : sessions_left desks office c (held ∷ rest) ≡ sessions_left desks office c rest = rw no_member refl in
-    ap (λ t. before ++ t) (sym first ∙ ap (sessions_left desks office c) (sym split)) ∙ so_far
+-- after a session of which the candidate is no member, or that does not exist
+pub absent_turn : (desks : Desks) (office : State) (c : ℕ) (k : Code) (ks : List Code) (before whole : List OwnSessionRow)
+    → (is_member office.relations k c ≡ false) ⊎ (row_at code_cmp office.relations.sessions k ≡ None)
+    → before ++ sessions_left desks office c (rows_of office.relations (k ∷ ks)) ≡ whole → before ++ sessions_left desks office c (rows_of office.relations ks) ≡ whole
+absent_turn desks office c k ks before whole why so_far = ap (λ t. before ++ t) (sym (same why)) ∙ so_far
+  where
+    r : Relations
+    r = office.relations
+
+    missing : row_at code_cmp r.sessions k ≡ None → sessions_left desks office c (rows_of r (k ∷ ks)) ≡ sessions_left desks office c (rows_of r ks)
+    missing at = ap (sessions_left desks office c) (unknown_row r k ks at)
+
+    absent : (o : Option Session) → row_at code_cmp r.sessions k ≡ o → is_member r k c ≡ false → sessions_left desks office c (rows_of r (k ∷ ks)) ≡ sessions_left desks office c (rows_of r ks)
+    absent None at no_member = missing at
+    absent (Some row) at no_member =
+        let past : sessions_left desks office c ((k, row) ∷ rows_of r ks) ≡ sessions_left desks office c (rows_of r ks) = rw no_member refl in
+        ap (sessions_left desks office c) (known_row r k ks row at) ∙ past
+
+    same : (is_member r k c ≡ false) ⊎ (row_at code_cmp r.sessions k ≡ None) → sessions_left desks office c (rows_of r (k ∷ ks)) ≡ sessions_left desks office c (rows_of r ks)
+    same (inl no_member) = absent (row_at code_cmp r.sessions k) refl no_member
+    same (inr at) = missing at
 
 -- when the member ends, by the row of the session, the paper that they sit and the arrangement in force
 pub ends : (r : Relations) (s : Code) (c : ℕ) (row : Session) (sat : Option Code) (a : Arrangement) → row_at code_cmp r.sessions s ≡ Some row → sitting r s c ≡ sat → a ≡ arrangement_in_force r s c

@@ -1,6 +1,6 @@
 //! How the office makes what it shows of one candidate: from their own rows, and from the seats of their sessions.
-ghost use Rattle.std.specs.Prelude.{◌≡◌, ◌<◌, ◌≤◌, ℕ, Some, count_by, filter};
-ghost use Rattle.std.specs.Prelude.{length, map, ◌++◌, IfOk, IfErr, OnOk, IsSome, IsTrue};
+ghost use Rattle.std.specs.Prelude.{◌≡◌, ◌<◌, ◌≤◌, ◌⊎◌, ℕ, [], None, Some, IfSome, IsNone, count_by, filter};
+ghost use Rattle.std.specs.Prelude.{length, map, IfOk, IfErr, IsSome, IsTrue};
 ghost use Rattle.std.specs.Option.{option_map};
 ghost use Rattle.std.specs.Ordering.{is_lt, nat_cmp};
 ghost use Rattle.exam_types.specs.declared.refusal.Refusal.TheVariants.{NoMemory};
@@ -8,7 +8,7 @@ ghost use Rattle.exam_plan.specs.Matching.{occupants};
 ghost use Rattle.exam_plan.specs.Problems.{most_members};
 ghost use Rattle.exam_rules.specs.Relations.{Code, relations_of, code_cmp, seat_cmp, row_at, same_code};
 ghost use Rattle.exam_rules.specs.Relations.{has_row};
-ghost use Rattle.exam_rules.specs.Lists.{AreListsOf, entrants};
+ghost use Rattle.exam_rules.specs.Lists.{AreListsOf, entrants, listed};
 ghost use Rattle.exam_rules.specs.Orders.{KeysRise};
 ghost use Rattle.exam_rules.specs.Seatings.{seating, plan_of, comes_before, desk_cmp, desk_key};
 ghost use Rattle.exam_rules.specs.Sessions as sessions;
@@ -16,15 +16,16 @@ ghost use Rattle.exam_commands.specs.Good.{IsGood};
 ghost use Rattle.exam_commands.specs.Headline.{desk_of};
 ghost use Rattle.exam_commands.specs.Own as spec;
 ghost use Rattle.exam_views.specs.Desks.{desk_with, rows_with, session_with};
-ghost use Rattle.exam_views.specs.Entered.{AreEntered, papers_in, with_session};
 
 use exam_commands::{Own, OwnAppeal, OwnSession, Seats};
 use exam_rules::{
-    Appeal, Candidate, Entrant, Facts, Session, SessionLists, appeals_from, arrangement_in_force,
-    entries_from, finish_beside, sitting_among, sitting_beside,
+    Appeal, BySession, Candidate, Entrant, Facts, Session, SessionLists, appeals_from,
+    append_by_session, arrangement_in_force, entered_session, entries_from, finish_beside,
+    sitting_among, sitting_beside,
 };
 use exam_types::{HallCode, Number, PaperCode, Reference, Refusal, SessionCode};
 use std::alloc::Global;
+use std::collections::BTreeMap;
 use std::collections::btree_map::Range;
 
 /// Whether a candidate's desks are shown. To count them the office walks over all seats of the candidate's sessions.
@@ -37,10 +38,10 @@ pub enum Desks {
 /// What the order of desks compares: the sitting paper, and then the number.
 type DeskKey = (Option<PaperCode>, Number);
 
-/// A session, and the papers in it for which a candidate has live entries, by code.
+/// A session of which the candidate is a member, and their live papers in it, by code.
 #[derive(Drop)]
-struct Attended<'a> {
-    session: &'a SessionCode,
+struct Membership<'a> {
+    session: SessionCode,
     row: &'a Session,
     papers: Vec<PaperCode>,
 }
@@ -111,59 +112,37 @@ fn own_sessions(
         number)) }
     ensures memory { IfErr result (λ e. e ≡ NoMemory) }
 {
-    let entered = entered_papers(alloc, facts, number)?;
-    sessions_among(alloc, facts, lists, seats, number, &entered, desks)
-}
-
-/// The same, by the candidate's live papers with their sessions.
-fn sessions_among(
-    alloc: Global,
-    facts: &Facts,
-    lists: &SessionLists,
-    seats: &Seats,
-    number: Number,
-    entered: &[(SessionCode, PaperCode)],
-    desks: Desks,
-) -> Result<Vec<OwnSession>, Refusal>
-    requires lists { AreListsOf (relations_of facts.now) lists.now }
-    requires good { IsGood (record { relations = relations_of facts.now; seats = seats.now.entries }) }
-    requires candidate { IsTrue (has_row nat_cmp facts.now.candidates.entries number) }
-    requires entered { AreEntered (relations_of facts.now) number entered.now }
-    ensures ok { IfOk result (λ sessions. map spec.shown_session sessions.items ≡ map (session_with desks)
-        (spec.own_sessions (record { relations = relations_of facts.now; seats = seats.now.entries })
-        number)) }
-    ensures memory { IfErr result (λ e. e ≡ NoMemory) }
-{
+    // Only the proof needs that the sessions rise.
+    facts.show_order();
     let mut list = Vec::new(alloc);
-    for (session, row) in &facts.sessions {
-        let papers = entered_in(alloc, session, entered)?;
-        if !papers.is_empty() {
-            let held = Attended {
-                session,
-                row,
-                papers,
-            };
+    for (session, papers) in entered_papers(alloc, facts, number)? {
+        if let Some(held) = membership_of(facts, session, papers) {
             list.push(own_session(alloc, facts, lists, seats, number, held, desks)?)?;
         }
     }
     Ok(list)
 }
 
-/// The papers of the session among these.
-fn entered_in(
-    alloc: Global,
-    session: &SessionCode,
-    entered: &[(SessionCode, PaperCode)],
-) -> Result<Vec<PaperCode>, Refusal>
-    ensures ok { IfOk result (λ papers. papers.items ≡ papers_in entered.now session.now) }
-    ensures memory { IfErr result (λ e. e ≡ NoMemory) }
+/// The session with these papers, if there are any.
+fn membership_of(
+    facts: &Facts,
+    session: SessionCode,
+    papers: Vec<PaperCode>,
+) -> Option<Membership<'_>>
+    ensures some { IfSome result (λ held. (held.session ≡ session) × (held.papers ≡ papers)
+        × (0 < length papers.items) × (row_at code_cmp facts.now.sessions.entries session ≡ Some held.row.now)) }
+    ensures none { IsNone result → (papers.items ≡ [])
+        ⊎ (row_at code_cmp facts.now.sessions.entries session ≡ None) }
 {
-    let papers = entered
-        .iter()
-        .filter(|paper| paper.0 == *session)
-        .map(|paper| paper.1)
-        .collect(alloc)?;
-    Ok(papers)
+    let row = facts.sessions.get(&session)?;
+    if papers.is_empty() {
+        return None;
+    }
+    Some(Membership {
+        session,
+        row,
+        papers,
+    })
 }
 
 /// The session as its member sees it.
@@ -173,33 +152,33 @@ fn own_session(
     lists: &SessionLists,
     seats: &Seats,
     number: Number,
-    held: Attended<'_>,
+    held: Membership<'_>,
     desks: Desks,
 ) -> Result<OwnSession, Refusal>
     requires lists { AreListsOf (relations_of facts.now) lists.now }
     requires good { IsGood (record { relations = relations_of facts.now; seats = seats.now.entries }) }
-    requires known { row_at code_cmp facts.now.sessions.entries held.session.now ≡ Some held.row.now }
+    requires known { row_at code_cmp facts.now.sessions.entries held.session ≡ Some held.row.now }
     requires candidate { IsTrue (has_row nat_cmp facts.now.candidates.entries number) }
-    requires papers { held.papers.items ≡ sessions.live_papers (relations_of facts.now) held.session.now number }
+    requires papers { held.papers.items ≡ sessions.live_papers (relations_of facts.now) held.session number }
     requires member { 0 < length held.papers.items }
     ensures ok { IfOk result (λ own. option_map (session_with desks) (spec.own_session
         (record { relations = relations_of facts.now; seats = seats.now.entries }) number
-        (held.entry.session.now, held.entry.row.now)) ≡ Some (spec.shown_session own)) }
+        (held.entry.session, held.entry.row.now)) ≡ Some (spec.shown_session own)) }
     ensures memory { IfErr result (λ e. e ≡ NoMemory) }
 {
-    let Attended {
+    let Membership {
         session,
         row,
         papers,
     } = held;
-    let sat = sitting_beside(facts, session, number, papers[0]).unwrap();
+    let sat = sitting_beside(facts, &session, number, papers[0]).unwrap();
     let clashes = clash_papers(alloc, &papers, sat)?;
-    let arrangement = arrangement_in_force(facts, session, number);
+    let arrangement = arrangement_in_force(facts, &session, number);
     let finish = finish_beside(facts, row, Some(sat), &arrangement).unwrap();
-    let hall = seats.get(&(*session, number)).copied();
-    let desk = desk(facts, lists, seats, session, number, &hall, desks);
+    let hall = seats.get(&(session, number)).copied();
+    let desk = desk(facts, lists, seats, &session, number, &hall, desks);
     Ok(OwnSession {
-        session: *session,
+        session,
         day: row.day,
         start: row.start,
         papers,
@@ -319,41 +298,26 @@ fn clash_papers(
     Ok(clashes)
 }
 
-/// The candidate's live papers, each with its session.
+/// The candidate's live papers, by session and code.
 fn entered_papers(
     alloc: Global,
     facts: &Facts,
     number: Number,
-) -> Result<Vec<(SessionCode, PaperCode)>, Refusal>
-    ensures ok { IfOk result (λ list. AreEntered (relations_of facts.now) number list.items) }
+) -> Result<BySession<PaperCode>, Refusal>
+    ensures ok { IfOk result (λ entered. (s : Code)
+        → listed entered.entries s ≡ sessions.live_papers (relations_of facts.now) s number) }
     ensures memory { IfErr result (λ e. e ≡ NoMemory) }
 {
-    let mut list = Vec::new(alloc);
+    let mut entered = BTreeMap::new(alloc);
     for (key, entry) in entries_from(facts, number) {
         if key.0 != number {
             break;
         }
-        if entry.live {
-            push_paper(facts, &key.1, &mut list)?;
+        if let Some(session) = entered_session(facts, &key.1, entry) {
+            append_by_session(alloc, &mut entered, session, key.1)?;
         }
     }
-    Ok(list)
-}
-
-/// Appends the paper with its session, if there is such a paper.
-fn push_paper(
-    facts: &Facts,
-    paper: &PaperCode,
-    list: &mut Vec<(SessionCode, PaperCode)>,
-) -> Result<(), Refusal>
-    ensures ok { OnOk result (list.new.items
-        ≡ list.old.items ++ with_session (relations_of facts.now) paper.now) }
-    ensures memory { IfErr result (λ e. e ≡ NoMemory) }
-{
-    if let Some(row) = facts.papers.get(paper) {
-        list.push((row.session, *paper))?;
-    }
-    Ok(())
+    Ok(entered)
 }
 
 /// The candidate's appeals, by reference.

@@ -3,7 +3,7 @@ use Rattle.std.specs.Option.{option_copied_mut}
 use Rattle.std.specs.BTreeMap.{is_at}
 use Rattle.exam_rules.specs.Relations.{code_cmp, row_at}
 use Rattle.exam_rules.proofs.Listing.{changed, items_at}
-use Rattle.exam_rules.proofs.lists.append.Goals as goal
+use Rattle.exam_rules.proofs.lists.append_by_session.Goals as goal
 
 pub returns-in_ok-push-in-Some-clause-ok : goal.returns-in_ok-push-in-Some-clause-ok
 returns-in_ok-push-in-Some-clause-ok g c =
