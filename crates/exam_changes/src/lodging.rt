@@ -128,7 +128,7 @@ fn check_open(facts: &Facts, lodging: &Lodging) -> Result<(), Refusal>
         ≡ first_refusal (spec.appeal_is_open (relations_of facts.now) lodging.now ∷ []) }
 {
     if has_open_appeal(facts, lodging.number, &lodging.session, &lodging.subject) {
-        return Err(Refusal::AppealIsOpen);
+        return Err(Refusal::AppealStands);
     }
     Ok(())
 }

@@ -70,7 +70,7 @@ other_appeal l a = (not (is_same_lodging l a), refusal.RefTaken)
 
 -- there is an open appeal of this kind
 abbrev pub appeal_is_open : Relations → Lodging → Bool × Refusal
-appeal_is_open r l = (has_open_appeal r l.number l.session l.subject, refusal.AppealIsOpen)
+appeal_is_open r l = (has_open_appeal r l.number l.session l.subject, refusal.AppealStands)
 
 -- the checks of an appeal; against the appeal that is stored under its reference, if one is
 abbrev pub lodging_checks : Relations → Seats → ℕ → Lodging → Option Appeal → List (Bool × Refusal)

@@ -148,7 +148,7 @@ module _ (before : State) (good : IsGood before) (today : ℕ) (l : Lodging) whe
         candidate = not-false (has_row nat_cmp r.candidates l.number) first.0;
         session = session_known (row_at code_cmp r.sessions l.session) day.0;
         subject = subject_known l.subject both.0;
-        alone = (passed (has_open_appeal r l.number l.session l.subject) refusal.AppealIsOpen [] both.1).0;
+        alone = (passed (has_open_appeal r l.number l.session l.subject) refusal.AppealStands [] both.1).0;
       }
 
   new_facts : stored ≡ None → spec.with_lodging before.relations today l ≡ spec.with_appeal before.relations today l

@@ -55,7 +55,7 @@ limit_check within = first_refusal ((not within, refusal.TooMany) ∷ [])
 -- is open, and by the limits
 abbrev held_refusal : Lodging → ℕ → ℕ → List (Bool × Refusal) → Bool → Bool → Option Refusal
 held_refusal l today held asked stands within =
-    option_or (first_refusal ((nat_lt (held - notice_days l.subject) today, refusal.PastClosing (held - notice_days l.subject)) ∷ asked ++ (stands, refusal.AppealIsOpen) ∷ [])) (limit_check within)
+    option_or (first_refusal ((nat_lt (held - notice_days l.subject) today, refusal.PastClosing (held - notice_days l.subject)) ∷ asked ++ (stands, refusal.AppealStands) ∷ [])) (limit_check within)
 
 abbrev new_shown : Lodging → ℕ → List (Code × Appeal) → Option OwnSessionRow → Option Refusal
 new_shown l today appeals None = Some refusal.NotInSession

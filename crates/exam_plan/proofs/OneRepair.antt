@@ -21,7 +21,7 @@ module _ {C H : Type 0} (g : Seating C H) (candidates : IsTotalOrder g.candidate
   one_turn before c None x y (inr u) (inl v) = absurd (u.0 v.0 v.1.is_chain)
   one_turn before c None x y (inr u) (inr v) = same_as before x y u.1 v.1
 
-  one_sweep : (cs : List C) (before x y : Plan C H) → Sweeps g before cs x → Sweeps g before cs y → SamePlan x y
+  pub one_sweep : (cs : List C) (before x y : Plan C H) → Sweeps g before cs x → Sweeps g before cs y → SamePlan x y
   one_sweep [] before x y u v = same_as before x y u v
   one_sweep (c ∷ cs) before x y u v =
       one_sweep cs u.0 x y u.2 (subst (λ (mid : Plan C H). Sweeps g mid cs y) (sym (fun_ext (one_turn before c (before c) u.0 v.0 u.1 v.1))) v.2)

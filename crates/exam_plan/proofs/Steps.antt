@@ -7,9 +7,9 @@ use Rattle.std.proofs.lemmas.Bool.{cases_eq, cases_lt, cases_Bool, or_cases, or_
 use Rattle.std.proofs.lemmas.List.{get_or-set_same, get_or-set_other, get_or_past, length-append, get_or_default}
 use Rattle.exam_plan.specs.HallSets.{holds}
 use Rattle.exam_plan.specs.Matching.{Plan, occupants}
-use Rattle.exam_plan.specs.Chains.{HasFreeDesk}
+use Rattle.exam_plan.specs.Chains.{HasFreeDesk, LeadsTo}
 use Rattle.exam_plan.specs.Problems.{Problem, IsProblem, IsPlan, plan_at, seating_of}
-use Rattle.exam_plan.specs.Searches.{IsMarked, MarksAll, IsTouching, Reaches, CanReach, AreLayers, AreInward, AreOnward, LeadsTo, IsLeastHall, IsLeastMover, IsAdvanced, count_at}
+use Rattle.exam_plan.specs.Searches.{IsMarked, MarksAll, IsTouching, Reaches, CanReach, AreLayers, AreInward, AreOnward, IsLeastHall, IsLeastMover, IsAdvanced, count_at}
 use Rattle.exam_plan.proofs.Counting.{bit, count_below, count_below-same, count_by-range, count_below-more, count_below-lt, count_below-le-bound, sits_at, bit_le}
 use Rattle.exam_plan.proofs.Seatings.{length-occupants, fits_below}
 
@@ -309,17 +309,17 @@ module _ (p : Problem) (q : Plan ℕ ℕ) where
 
   -- where no further hop widens a set that does not touch the candidate, the candidate leads to no free desk
   pub leads_nowhere : (marks next : ℕ → Bool) (j c : ℕ) → MarksAll marks (Reaches p q j) → IsNext marks next → ((h : ℕ) → next h ≡ true → marks h ≡ true) → (IsTouching p marks c → ⊥)
-      → (i h : ℕ) → LeadsTo p q c i h → HasFreeDesk (seating_of p) q h → ⊥
+      → (i h : ℕ) → LeadsTo (seating_of p) q c i h → HasFreeDesk (seating_of p) q h → ⊥
   leads_nowhere marks next j c layer wide same away i h leads free = avoid i h leads ((layer h).1 (free_reaches j h free))
     where
-      avoid : (i h : ℕ) → LeadsTo p q c i h → IsMarked marks h → ⊥
+      avoid : (i h : ℕ) → LeadsTo (seating_of p) q c i h → IsMarked marks h → ⊥
       avoid zero h fit m = away (h, fit, m)
       avoid (suc i) h (k, lead, d) m = avoid i k lead (same k ((wide k).1 (inr (d.0, d.1, (h, d.2, m)))))
 
 -- ---- to which halls a candidate leads
 
 module _ (p : Problem) (q : Plan ℕ ℕ) (c : ℕ) where
-  pub leads_below : IsProblem p → (j h : ℕ) → LeadsTo p q c j h → h < length p.desk_counts
+  pub leads_below : IsProblem p → (j h : ℕ) → LeadsTo (seating_of p) q c j h → h < length p.desk_counts
   leads_below good zero h fit = fits_below p good c h fit
   leads_below good (suc j) h (k, lead, d) = fits_below p good d.0 h d.2
 
@@ -332,7 +332,7 @@ module _ (p : Problem) (q : Plan ℕ ℕ) (c : ℕ) where
   followed_none led dead d h k sits t f fits = absurd (let z : true ≡ false = sym t ∙ f in cc)
 
   module _ (sets : List ℕ) (onward : AreOnward p q sets) (dead led fresh next more rest : ℕ) (good : IsProblem p)
-      (apart : (h : ℕ) → IsMarked (holds led) h → IsMarked (holds dead) h → ⊥) (leads : (h : ℕ) → IsMarked (holds led) h → (j : ℕ) × LeadsTo p q c j h)
+      (apart : (h : ℕ) → IsMarked (holds led) h → IsMarked (holds dead) h → ⊥) (leads : (h : ℕ) → IsMarked (holds led) h → (j : ℕ) × LeadsTo (seating_of p) q c j h)
       (within : (h : ℕ) → IsMarked (holds fresh) h → IsMarked (holds led) h) (followed : IsFollowed led fresh dead)
       (widens : IsWidened sets led fresh next) (more_is : (h : ℕ) → holds more h ≡ holds next h && not (holds dead h)) (rest_is : (h : ℕ) → holds rest h ≡ holds more h && not (holds led h)) where
     next_or_dead : (h : ℕ) → IsMarked (holds next) h → IsMarked (holds more) h ⊎ IsMarked (holds dead) h
@@ -348,7 +348,7 @@ module _ (p : Problem) (q : Plan ℕ ℕ) (c : ℕ) where
     pub more_apart : (h : ℕ) → IsMarked (holds more) h → IsMarked (holds dead) h → ⊥
     more_apart h m d = let b = beyond next dead more h (more_is h) m in let z : true ≡ false = sym d ∙ b.1 in cc
 
-    pub more_leads : (h : ℕ) → IsMarked (holds more) h → (j : ℕ) × LeadsTo p q c j h
+    pub more_leads : (h : ℕ) → IsMarked (holds more) h → (j : ℕ) × LeadsTo (seating_of p) q c j h
     more_leads h m = elim ((widens h).0 (beyond next dead more h (more_is h) m).0) [
       | inl t ↦ leads h t
       | inr w ↦ (let r = leads w.0 (within w.0 w.1) in let o = (onward w.0 h (leads_below good r.0 w.0 r.1)).0 w.2 in (suc r.0, (w.0, r.1, o)))

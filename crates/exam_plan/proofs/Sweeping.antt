@@ -6,9 +6,10 @@ use Rattle.std.specs.List.{range_with_len}
 use Rattle.std.proofs.lemmas.Bool.{cases_eq, cases_lt, eq-eqb, ne_eqb, eqb-true}
 use Rattle.std.proofs.lemmas.Option.{same_Some, IfSome_then}
 use Rattle.exam_plan.specs.Matching.{Seating, Plan, occupants, IsLawful, IsBest, IsContested}
-use Rattle.exam_plan.specs.Repair.{Turn, Sweeps, IsSweep}
+use Rattle.exam_plan.specs.Repair.{IsDeadList, IsSweep, ListsDead, Sweeps, SweepsDead, Turn}
 use Rattle.exam_plan.specs.Problems.{Problem, IsProblem, seating_of}
-use Rattle.exam_plan.specs.Searches.{IsMarked, AreClosed, IsSettled, IsTraced, LeadsTo, Draws, is_drawn}
+use Rattle.exam_plan.specs.Chains.{LeadsTo}
+use Rattle.exam_plan.specs.Searches.{IsMarked, AreClosed, IsSettled, IsTraced, Draws, is_drawn}
 use Rattle.exam_plan.proofs.Counting.{range_next}
 use Rattle.exam_plan.proofs.Seatings.{fits_member, fits_below}
 use Rattle.exam_plan.proofs.Optimality.{drawn_in, closed_is_greatest}
@@ -40,11 +41,26 @@ one_of c (suc n) l = elim (cases_eq c n) [
   | inr m ↦ next_filter (nat_eq c) n false (ne_eqb c n m) ∙ ap (λ xs. xs ++ []) (one_of c n (omega arith))
 ]
 
+-- the first one's turn comes first
+pub first_done : (p : Problem) (c : ℕ) → c < length p.fit → done p (Some c) 0 ≡ c ∷ []
+first_done p c below = append-nil (filter (nat_eq c) (range_with_len 0 (length p.fit))) ∙ one_of c (length p.fit) below
+
 module _ (g : Seating ℕ ℕ) where
   -- one more turn
   pub Sweeps-push : (before : Plan ℕ ℕ) (cs : List ℕ) (mid : Plan ℕ ℕ) (c : ℕ) (after : Plan ℕ ℕ) → Sweeps g before cs mid → Turn g mid c after → Sweeps g before (cs ++ c ∷ []) after
   Sweeps-push before [] mid c after same turn = (after, subst (λ (b : Plan ℕ ℕ). Turn g b c after) (λ i d. same d i) turn, λ d. refl)
   Sweeps-push before (x ∷ cs) mid c after s turn = (s.0, s.1, Sweeps-push s.0 cs mid c after s.2 turn)
+
+  pub SweepsDead-push : (before : Plan ℕ ℕ) (dead cs : List ℕ) (mid : Plan ℕ ℕ) (so_far : List ℕ) (c : ℕ) (after : Plan ℕ ℕ) (listed : List ℕ) → SweepsDead g before dead cs mid so_far → Turn g mid c after
+      → ListsDead g mid c so_far listed → SweepsDead g before dead (cs ++ c ∷ []) after listed
+  SweepsDead-push before dead [] mid so_far c after listed s turn deaths = (
+    after,
+    listed,
+    subst (λ (b : Plan ℕ ℕ). Turn g b c after) (λ i d. s.0 d i) turn,
+    subst (λ (xs : List ℕ). ListsDead g before c xs listed) s.1 (subst (λ (b : Plan ℕ ℕ). ListsDead g b c so_far listed) (λ i d. s.0 d i) deaths),
+    ((λ d. refl), refl),
+  )
+  SweepsDead-push before dead (x ∷ cs) mid so_far c after listed s turn deaths = (s.0, s.1, s.2, s.3, SweepsDead-push s.0 s.1 cs mid so_far c after listed s.4 turn deaths)
 
 module _ (p : Problem) (before : Plan ℕ ℕ) (dead : ℕ → Bool) where
   pub swept_none : IsLawful (seating_of p) before → AreClosed p before dead → IsSwept p None before before dead 0
@@ -65,7 +81,7 @@ module _ (p : Problem) (before : Plan ℕ ℕ) (dead : ℕ → Bool) where
     kept = kept;
     firstly = settled;
     settled = λ d l. absurd (omega arith);
-    turns = subst (λ (cs : List ℕ). Sweeps (seating_of p) before cs q) (sym (append-nil (filter (nat_eq c) (range_with_len 0 (length p.fit))) ∙ one_of c (length p.fit) below)) (q, turn, λ d. refl);
+    turns = subst (λ (cs : List ℕ). Sweeps (seating_of p) before cs q) (sym (first_done p c below)) (q, turn, λ d. refl);
   }
 
 module _ (p : Problem) (first : Option ℕ) (before q : Plan ℕ ℕ) (dead : ℕ → Bool) (i : ℕ) (swept : IsSwept p first before q dead i) where
@@ -80,12 +96,12 @@ module _ (p : Problem) (first : Option ℕ) (before q : Plan ℕ ℕ) (dead : �
       → done p (Some c) (i + 1) ≡ filter (nat_eq c) (range_with_len 0 (length p.fit)) ++ (filter (λ d. not (nat_eq c d)) (range_with_len 0 i) ++ cond (not b) (i ∷ []) [])
   done_next c b e = ap (λ xs. filter (nat_eq c) (range_with_len 0 (length p.fit)) ++ xs) (filter_next (λ d. not (nat_eq c d)) i (not b) (ap not e))
 
-  done_more : (o : Option ℕ) → (o ≡ Some i → ⊥) → done p o (i + 1) ≡ done p o i ++ i ∷ []
+  pub done_more : (o : Option ℕ) → (o ≡ Some i → ⊥) → done p o (i + 1) ≡ done p o i ++ i ∷ []
   done_more None away = range_next i
   done_more (Some c) away = done_next c false (ne_eqb c i (λ e. away (ap Some e)))
       ∙ sym (append_assoc (filter (nat_eq c) (range_with_len 0 (length p.fit))) (filter (λ d. not (nat_eq c d)) (range_with_len 0 i)) (i ∷ []))
 
-  done_same : (o : Option ℕ) → o ≡ Some i → done p o (i + 1) ≡ done p o i
+  pub done_same : (o : Option ℕ) → o ≡ Some i → done p o (i + 1) ≡ done p o i
   done_same None e = cc
   done_same (Some c) e = done_next c true (eq-eqb c i (same_Some c i e))
       ∙ ap (λ xs. filter (nat_eq c) (range_with_len 0 (length p.fit)) ++ xs) (append-nil (filter (λ d. not (nat_eq c d)) (range_with_len 0 i)))
@@ -141,7 +157,7 @@ module _ (p : Problem) (good : IsProblem p) (first : Option ℕ) (before q : Pla
 
   -- ---- the dead halls are those that fit a contested candidate
 
-  traced_draws : (c : ℕ) → q c ≡ None → (j h : ℕ) → LeadsTo p q c j h → Draws p q (suc j) h
+  traced_draws : (c : ℕ) → q c ≡ None → (j h : ℕ) → LeadsTo (seating_of p) q c j h → Draws p q (suc j) h
   traced_draws c none zero h fit = (c, inl none, fit)
   traced_draws c none (suc j) h (k, lead, d) = (d.0, inr (k, d.1, traced_draws c none j k lead), d.2)
 
@@ -174,6 +190,13 @@ module _ (p : Problem) (good : IsProblem p) (first : Option ℕ) (before q : Pla
       order : (o : Option ℕ) → Sweeps (seating_of p) before (done p o (length p.fit)) q → IsSweep (seating_of p) o before q
       order None s = s
       order (Some c) s = s
+
+pub listed_in_order : (p : Problem) (o : Option ℕ) (before after : Plan ℕ ℕ) (listed : List ℕ) (n : ℕ) → n ≡ length p.fit → SweepsDead (seating_of p) before [] (done p o n) after listed → IsDeadList (seating_of p) o before after listed
+listed_in_order p o before after listed n all s = order o (subst (λ (m : ℕ). SweepsDead (seating_of p) before [] (done p o m) after listed) all s)
+  where
+    order : (o : Option ℕ) → SweepsDead (seating_of p) before [] (done p o (length p.fit)) after listed → IsDeadList (seating_of p) o before after listed
+    order None s = s
+    order (Some c) s = s
 
 pub not_first : (o : Option ℕ) (i : ℕ) (b : Bool) → b ≡ not (option_eq nat_eq o (Some i)) → b ≡ true → o ≡ Some i → ⊥
 not_first o i b told shown is = let z : b ≡ false = told ∙ ap (λ t. not (option_eq nat_eq t (Some i))) is ∙ ap not (eq-eqb i i refl) in let y : false ≡ true = sym z ∙ shown in cc

@@ -1,26 +1,35 @@
 -- What one turn of the sweep keeps.
-use Rattle.std.proofs.Common.{◌≡◌, ◌⊎◌, ℕ, zero, suc, ◌+◌, ◌<◌, ◌≤◌, ◌||◌, ◌&&◌, not, Bool, true, false, cond, IsTrue, List, [], ◌∷◌, length, get_or, set, nat_eq, nat_lt, Option, None, Some, IsSome, is_some, refl, sym, ap, ◌∙◌, inl, inr, subst, arith}
+use Rattle.std.proofs.Common.{append-nil, ◌++◌, ◌≡◌, ◌⊎◌, ℕ, zero, suc, ◌+◌, ◌<◌, ◌≤◌, ◌||◌, ◌&&◌, not, Bool, true, false, cond, IsTrue, List, [], ◌∷◌, length, get_or, set, nat_eq, nat_lt, Option, None, Some, IsSome, is_some, refl, sym, ap, ◌∙◌, inl, inr, subst, arith}
 use Rattle.std.proofs.lemmas.Bool.{cases_eq, cases_lt, eq-eqb, ne_eqb, eqb-true, ltb-true, lt-ltb, or_cases, or_left, or_right, and_from, and_parts}
 use Rattle.std.proofs.lemmas.List.{get_or_past, get_or_default}
 use Rattle.std.proofs.lemmas.Option.{same_Some}
 use Rattle.std.proofs.Math.Bool.{not-not}
-use Rattle.exam_plan.specs.HallSets.{holds}
+use Rattle.std.specs.Prelude.{Contains, ◌↔◌}
+use Rattle.std.specs.List.Sorted.{IsStrictlySortedBy}
+use Rattle.std.specs.Ordering.{nat_cmp}
+use Rattle.exam_plan.specs.HallSets.{holds, halls_below}
 use Rattle.exam_plan.specs.Matching.{Plan, occupants, IsLawful}
-use Rattle.exam_plan.specs.Chains.{Chain, HasFreeDesk, Leads, IsChain, augmented}
-use Rattle.exam_plan.specs.Repair.{Turn, TurnFrom}
+use Rattle.exam_plan.specs.Chains.{Chain, HasFreeDesk, Leads, IsChain, augmented, LeadsTo}
+use Rattle.exam_plan.specs.Repair.{AreNewlyDead, ListsDead, ListsDeadFrom, Turn, TurnFrom}
 use Rattle.exam_plan.specs.Problems.{Problem, seating_of, plan_at}
-use Rattle.exam_plan.specs.Searches.{IsMarked, MarksAll, IsWithin, LeadsTo, IsTraced, CanReach, IsAdvanced, AreClosed, IsSettled, TakesLeast, count_at}
+use Rattle.exam_plan.specs.Searches.{IsMarked, MarksAll, IsWithin, IsTraced, CanReach, IsAdvanced, AreClosed, IsSettled, TakesLeast, count_at}
 use Rattle.exam_plan.proofs.Counting.{bit}
+use Rattle.exam_plan.proofs.Rising.{passing, passes_in, filter_sorted}
 use Rattle.exam_plan.proofs.Seatings.{length-occupants}
 use Rattle.exam_plan.proofs.Layers.{least_leads, least_distinct, least_is_least}
 use Rattle.exam_plan.proofs.Moves.{AllMoves, AreDistinct, moved_cases, moved_keeps, IsRoute, route_of, ends_free, occupants-moved, lawful-moved}
 use Rattle.exam_plan.proofs.Steps.{plan_at-get_or, count_at-below, one_counted}
+
+none_sorted : IsStrictlySortedBy nat_cmp []
+unfolding IsStrictlySortedBy
+none_sorted = tt
 
 -- all that a turn owes that moves along a chain to the last hall
 pub record IsTurned (p : Problem) (q : Plan ℕ ℕ) (dead : ℕ → Bool) (c last : ℕ) (after : Plan ℕ ℕ) : Type 0 where
   pub lawful : IsLawful (seating_of p) after
   pub kept : (d : ℕ) → IsSome (q d) → IsSome (after d)
   pub turn : Turn (seating_of p) q c after
+  pub chain : (chain : Chain ℕ ℕ) × IsChain (seating_of p) q c chain
   pub closed : AreClosed p after dead
   pub traced : (h : ℕ) → IsTraced p q dead h → IsTraced p after dead h
   pub settled : IsSettled p after dead c
@@ -67,9 +76,29 @@ module _ (p : Problem) (q : Plan ℕ ℕ) (dead : ℕ → Bool) (closed : AreClo
       ))
 
   -- who fits dead halls alone leads to dead halls alone
-  pub leads_dead : (c : ℕ) → IsWithin p dead c → (j h : ℕ) → LeadsTo p q c j h → IsMarked dead h
+  pub leads_dead : (c : ℕ) → IsWithin p dead c → (j h : ℕ) → LeadsTo (seating_of p) q c j h → IsMarked dead h
   leads_dead c within zero h fit = within h fit
   leads_dead c within (suc j) h (k, lead, d) = closed.stays d.0 k h d.1 (leads_dead c within j k lead) d.2
+
+  -- the turn of one who is settled adds no hall to the dead ones
+  pub settled_deaths : (c : ℕ) → IsSettled p q dead c → (listed : List ℕ) → ((h : ℕ) → Contains listed h ↔ IsMarked dead h) → ListsDead (seating_of p) q c listed listed
+  settled_deaths c settled listed are = at (q c) refl
+    where
+      none_new : IsWithin p dead c → AreNewlyDead (seating_of p) q c listed []
+      none_new within = record {
+        rising = none_sorted;
+        exact = λ h. (
+          (λ m. absurd (let l : m.0 < 0 = m.1 in omega arith)),
+          (λ w. absurd (w.1 ((are h).1 (leads_dead c within w.0.0 h w.0.1)))),
+        );
+      }
+
+      at : (o : Option ℕ) → q c ≡ o → ListsDeadFrom (seating_of p) q c (q c) listed listed
+      at (Some h) e = subst (λ (o : Option ℕ). ListsDeadFrom (seating_of p) q c o listed listed) (sym e) refl
+      at None e =
+          let within : IsWithin p dead c = elim settled [ inl s ↦ absurd (let z : false ≡ true = sym (ap is_some e) ∙ s in cc) | inr a ↦ a ] in
+          subst (λ (o : Option ℕ). ListsDeadFrom (seating_of p) q c o listed listed) (sym e)
+          (inr (no_chain c e within, ([], none_new within, sym (append-nil listed))))
 
   module _ (lawful : IsLawful (seating_of p) q) (c : ℕ) (unseated : q c ≡ None) (hops : List (ℕ × ℕ)) (last n : ℕ)
       (least : TakesLeast p q n c hops last) (far : (i : ℕ) → i < n → CanReach p q i c → ⊥) where
@@ -104,7 +133,7 @@ module _ (p : Problem) (q : Plan ℕ ℕ) (dead : ℕ → Bool) (closed : AreClo
       ];
     }
 
-    lead_again : (e : ℕ) → IsWithin p dead e → (j h : ℕ) → LeadsTo p q e j h → LeadsTo p arranged e j h
+    lead_again : (e : ℕ) → IsWithin p dead e → (j h : ℕ) → LeadsTo (seating_of p) q e j h → LeadsTo (seating_of p) arranged e j h
     lead_again e within zero h fit = fit
     lead_again e within (suc j) h (k, lead, d) = (k, lead_again e within j k lead, (d.0, sits, d.2))
       where
@@ -124,6 +153,7 @@ module _ (p : Problem) (q : Plan ℕ ℕ) (dead : ℕ → Bool) (closed : AreClo
       kept = λ d was. moved_keeps p q c hops last d was;
       turn = subst (λ (o : Option ℕ). TurnFrom (seating_of p) q c o arranged) (sym unseated)
           (inl (record { hops = hops; last = last }, least_is_least p q n c hops last least far, λ d. refl));
+      chain = (record { hops = hops; last = last }, (least_is_least p q n c hops last least far).is_chain);
       closed = still_closed;
       traced = still_traced;
       settled = inl (arrives hops);
@@ -136,6 +166,10 @@ module _ (p : Problem) (q : Plan ℕ ℕ) (dead : ℕ → Bool) (closed : AreClo
   turned lawful c unseated n last after moved far =
       let same : augmented (seating_of p) q c moved.0 last ≡ after = λ i d. (sym (moved.2 d)) i in
       subst (λ (a : Plan ℕ ℕ). IsTurned p q dead c last a) same (augmented_turn lawful c unseated moved.0 last n moved.1 far)
+
+-- a turn along a chain adds no hall to the dead ones
+pub chain_deaths : (p : Problem) (q : Plan ℕ ℕ) (dead : ℕ → Bool) (c last : ℕ) (after : Plan ℕ ℕ) → IsTurned p q dead c last after → q c ≡ None → (listed : List ℕ) → ListsDead (seating_of p) q c listed listed
+chain_deaths p q dead c last after turned unseated listed = subst (λ (o : Option ℕ). ListsDeadFrom (seating_of p) q c o listed listed) (sym unseated) (inl (turned.chain, refl))
 
 -- ---- the halls with a free desk
 
@@ -222,7 +256,7 @@ module _ (p : Problem) (q after : Plan ℕ ℕ) (last : ℕ) (occupied : (h : �
 -- ---- the dead halls after a failed search
 
 module _ (p : Problem) (q : Plan ℕ ℕ) (c : ℕ) (unseated : q c ≡ None) (dead led both : ℕ) (is : (h : ℕ) → holds both h ≡ holds dead h || holds led h)
-    (nowhere : (j h : ℕ) → LeadsTo p q c j h → HasFreeDesk (seating_of p) q h → ⊥) (leads : (h : ℕ) → IsMarked (holds led) h → (j : ℕ) × LeadsTo p q c j h)
+    (nowhere : (j h : ℕ) → LeadsTo (seating_of p) q c j h → HasFreeDesk (seating_of p) q h → ⊥) (leads : (h : ℕ) → IsMarked (holds led) h → (j : ℕ) × LeadsTo (seating_of p) q c j h)
     (fitting : (h : ℕ) → IsTrue ((seating_of p).fits c h) → IsMarked (holds led) h ⊎ IsMarked (holds dead) h)
     (led_closed : (d h k : ℕ) → q d ≡ Some h → IsMarked (holds led) h → IsTrue ((seating_of p).fits d k) → IsMarked (holds led) k ⊎ IsMarked (holds dead) k)
     (closed : AreClosed p q (holds dead)) where
@@ -253,6 +287,25 @@ module _ (p : Problem) (q : Plan ℕ ℕ) (c : ℕ) (unseated : q c ≡ None) (d
     | inl d ↦ (let t = traced h d in (t.0, t.1, t.2, (λ k fit. dead_in k (t.3 k fit)), t.4))
     | inr l ↦ (let r = leads h l in (c, r.0, unseated, both_within, r.1))
   ]
+
+  -- a failed search appends the halls of its set
+  pub both_deaths : (n : ℕ) → ((h : ℕ) → IsMarked (holds led) h → h < n) → ((h : ℕ) → IsMarked (holds led) h → IsMarked (holds dead) h → ⊥) → (listed after : List ℕ) → ((h : ℕ) → Contains listed h ↔ IsMarked (holds dead) h)
+      → after ≡ listed ++ halls_below n led → ListsDead (seating_of p) q c listed after
+  both_deaths n within apart listed after are grown =
+      subst (λ (o : Option ℕ). ListsDeadFrom (seating_of p) q c o listed after) (sym unseated)
+      (inr (no_chain p q (holds both) both_closed c unseated both_within, (halls_below n led, newly, grown)))
+    where
+      newly : AreNewlyDead (seating_of p) q c listed (halls_below n led)
+      newly = record {
+        rising = filter_sorted (holds led) n;
+        exact = λ h. (
+          (λ m. let l = (passing (holds led) n h m).1 in (leads h l, λ d. apart h l ((are h).0 d))),
+          (λ w. elim (in_either h (leads_dead p q (holds both) both_closed c both_within w.0.0 h w.0.1)) [
+            | inl d ↦ absurd (w.1 ((are h).1 d))
+            | inr l ↦ passes_in (holds led) n h (within h l) l
+          ]),
+        );
+      }
 
   pub both_settled : (d : ℕ) → IsSettled p q (holds dead) d → IsSettled p q (holds both) d
   both_settled d (inl s) = inl s

@@ -1,5 +1,5 @@
 -- Augmenting chains.
-use Rattle.std.specs.Prelude.{◌≡◌, ◌≢◌, ◌<◌, IsTrue, List, [], ◌∷◌, ◌++◌, length, map, if◌then◌else◌}
+use Rattle.std.specs.Prelude.{◌≡◌, ◌≢◌, ◌<◌, ℕ, zero, suc, IsTrue, List, [], ◌∷◌, ◌++◌, length, map, if◌then◌else◌}
 use Rattle.std.specs.Prelude.{AllPairs, Some}
 use Rattle.std.specs.declared.cmp.Ordering.{Ordering}
 use Rattle.std.specs.declared.cmp.Ordering.TheVariants.{Greater}
@@ -26,6 +26,12 @@ module _ {C H : Type 0} where
   Leads g plan c (hop ∷ hops) last =
       IsTrue (g.fits c hop.0) × (HasFreeDesk g plan hop.0 → ⊥) × (plan hop.1 ≡ Some hop.0)
       × Leads g plan hop.1 hops last
+
+  -- c leads to the hall: it fits c, or it fits an occupant of a hall to which c leads, so many times
+  abbrev pub LeadsTo : Seating C H → Plan C H → C → ℕ → H → Type 0
+  LeadsTo g plan c zero h = IsTrue (g.fits c h)
+  LeadsTo g plan c (suc j) h =
+      (k : H) × LeadsTo g plan c j k × ((d : C) × (plan d ≡ Some k) × IsTrue (g.fits d h))
 
   pub record IsChain (g : Seating C H) (plan : Plan C H) (c : C) (chain : Chain C H) : Type 0 where
     pub leads : Leads g plan c chain.hops chain.last

@@ -1,10 +1,11 @@
 -- The repair of a plan.
-use Rattle.std.specs.Prelude.{◌⊎◌, ℕ, Bool, ◌&&◌, nat_lt, not, List, [], ◌∷◌, ◌++◌, filter, count_by, Option}
+use Rattle.std.specs.Prelude.{◌≡◌, ◌⊎◌, ◌↔◌, ℕ, Contains, Bool, ◌&&◌, nat_lt, not, List, [], ◌∷◌, ◌++◌, filter, count_by, Option}
 use Rattle.std.specs.Prelude.{None, Some, if◌then◌else◌}
 use Rattle.std.specs.List.{list_any}
+use Rattle.std.specs.List.Sorted.{IsStrictlySortedBy}
 use Rattle.std.specs.Ordering.{is_lt}
 use Rattle.exam_plan.specs.Matching.{Seating, Plan, SamePlan, is_hall}
-use Rattle.exam_plan.specs.Chains.{Chain, IsChain, IsLeastChain, augmented}
+use Rattle.exam_plan.specs.Chains.{Chain, IsChain, IsLeastChain, LeadsTo, augmented}
 
 module _ {C H : Type 0} where
   abbrev pub is_member : Seating C H → C → Bool
@@ -60,6 +61,34 @@ module _ {C H : Type 0} where
 
   abbrev pub IsSweep : Seating C H → Option C → Plan C H → Plan C H → Type 0
   IsSweep g first before after = Sweeps g before (sweep_order g first) after
+
+  -- what a search from c without a chain adds to the dead halls: those to which c leads, rising
+  pub record AreNewlyDead (g : Seating C H) (plan : Plan C H) (c : C) (dead halls : List H) : Type 0 where
+    pub rising : IsStrictlySortedBy g.hall_cmp halls
+    pub exact : (h : H) → Contains halls h ↔ (((j : ℕ) × LeadsTo g plan c j h) × (Contains dead h → ⊥))
+
+  -- The dead list after a turn: the same after that of a seated candidate and after one that takes a chain;
+  -- otherwise the newly dead halls come after the others.
+  abbrev pub ListsDeadFrom : Seating C H → Plan C H → C → Option H → List H → List H → Type 0
+  ListsDeadFrom g plan c (Some h) dead after = after ≡ dead
+  ListsDeadFrom g plan c None dead after =
+      (((chain : Chain C H) × IsChain g plan c chain) × (after ≡ dead))
+      ⊎ (((chain : Chain C H) → IsChain g plan c chain → ⊥)
+      × ((halls : List H) × AreNewlyDead g plan c dead halls × (after ≡ dead ++ halls)))
+
+  abbrev pub ListsDead : Seating C H → Plan C H → C → List H → List H → Type 0
+  ListsDead g plan c dead after = ListsDeadFrom g plan c (plan c) dead after
+
+  -- the turns of these candidates, one after the other, and the dead list that each leaves
+  abbrev pub SweepsDead : Seating C H → Plan C H → List H → List C → Plan C H → List H → Type 0
+  SweepsDead g before dead [] after listed = SamePlan after before × (listed ≡ dead)
+  SweepsDead g before dead (c ∷ cs) after listed =
+      (mid : Plan C H) × (more : List H) × Turn g before c mid × ListsDead g before c dead more
+      × SweepsDead g mid more cs after listed
+
+  -- the plan and the dead list after a sweep, which begins without dead halls
+  abbrev pub IsDeadList : Seating C H → Option C → Plan C H → Plan C H → List H → Type 0
+  IsDeadList g first before after listed = SweepsDead g before [] (sweep_order g first) after listed
 
   -- the new plan of a session, from the old one
   abbrev pub IsRepair : Seating C H → Option C → Plan C H → Plan C H → Type 0

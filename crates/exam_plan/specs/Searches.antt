@@ -11,8 +11,8 @@ use Rattle.exam_plan.specs.declared.turns.Progress.{Progress}
 use Rattle.exam_plan.specs.HallSets.{holds, halls_below}
 use Rattle.exam_plan.specs.Tallies.{IsWhole, one_if, tally_of}
 use Rattle.exam_plan.specs.Matching.{Plan, IsLawful}
-use Rattle.exam_plan.specs.Chains.{HasFreeDesk, augmented}
-use Rattle.exam_plan.specs.Repair.{Turn}
+use Rattle.exam_plan.specs.Chains.{HasFreeDesk, LeadsTo, augmented}
+use Rattle.exam_plan.specs.Repair.{Turn, ListsDead}
 use Rattle.exam_plan.specs.Problems.{Problem, IsPlan, seating_of, plan_at}
 
 -- the hall is in the set
@@ -82,17 +82,12 @@ module _ (p : Problem) (plan : Plan ℕ ℕ) where
       (hops : List (ℕ × ℕ)) × TakesLeast j c hops last
       × ((d : ℕ) → after d ≡ augmented (seating_of p) plan c hops last d)
 
-  -- the candidate leads to the hall: it fits, or it fits an occupant of such a hall, so many times
-  abbrev pub LeadsTo : ℕ → ℕ → ℕ → Type 0
-  LeadsTo c zero h = IsTrue ((seating_of p).fits c h)
-  LeadsTo c (suc j) h = (k : ℕ) × LeadsTo c j k × ((d : ℕ) × (plan d ≡ Some k) × IsTrue ((seating_of p).fits d h))
-
   -- what a search from the candidate found: how many hops the least chain has, or that there is no chain
   abbrev pub IsFound : List ℕ → ℕ → Option ℕ → Type 0
   IsFound layers c (Some hops) =
       (hops < length layers) × AreLayers (hops + 1) layers × CanReach hops c
       × ((j : ℕ) → j < hops → CanReach j c → ⊥)
-  IsFound layers c None = (j h : ℕ) → LeadsTo c j h → HasFreeDesk (seating_of p) plan h → ⊥
+  IsFound layers c None = (j h : ℕ) → LeadsTo (seating_of p) plan c j h → HasFreeDesk (seating_of p) plan h → ⊥
 
   -- the halls of the set are full, and fit whom they hold only among themselves
   pub record AreClosed (dead : ℕ → Bool) : Type 0 where
@@ -106,7 +101,8 @@ module _ (p : Problem) (plan : Plan ℕ ℕ) where
 
   -- an unseated candidate whose fitting halls are in the set leads to the hall
   abbrev pub IsTraced : (ℕ → Bool) → ℕ → Type 0
-  IsTraced dead h = (c : ℕ) × (j : ℕ) × (plan c ≡ None) × IsWithin p dead c × LeadsTo c j h
+  IsTraced dead h = (c : ℕ) × (j : ℕ) × (plan c ≡ None) × IsWithin p dead c
+      × LeadsTo (seating_of p) plan c j h
 
   -- over at most so many halls an unseated candidate leads to the hall
   abbrev pub Draws : ℕ → ℕ → Type 0
@@ -204,6 +200,7 @@ pub record IsNextTurn (p : Problem) (before : Progress) (c : ℕ) (after : Progr
   pub kept : IsKept p after
   pub seated : (d : ℕ) → IsSome (plan_at before.plan.items d) → IsSome (plan_at after.plan.items d)
   pub turn : Turn (seating_of p) (plan_at before.plan.items) c (plan_at after.plan.items)
+  pub deaths : ListsDead (seating_of p) (plan_at before.plan.items) c before.listed.items after.listed.items
   pub settled : IsSettled p (plan_at after.plan.items) (holds after.dead) c
   pub others : (d : ℕ) → IsSettled p (plan_at before.plan.items) (holds before.dead) d
       → IsSettled p (plan_at after.plan.items) (holds after.dead) d

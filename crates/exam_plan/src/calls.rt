@@ -3,7 +3,7 @@ ghost use Rattle.std.specs.Prelude.{◌≡◌, ◌<◌, ℕ, length, IfOk, IsOk,
 ghost use Rattle.std.specs.List.{IsDistinct};
 ghost use Rattle.exam_plan.specs.Matching.{IsLawful, IsBest, SamePlan, IsCertificate, IsContested, unseated};
 ghost use Rattle.exam_plan.specs.Problems.{IsPlan, seating_of, plan_at, desk_numbers};
-ghost use Rattle.exam_plan.specs.Repair.{kept_part, IsSweep};
+ghost use Rattle.exam_plan.specs.Repair.{kept_part, IsDeadList, IsSweep};
 
 use crate::problem::{Plan, Problem};
 use crate::report::Shortage;
@@ -29,7 +29,7 @@ pub fn keep_lawful(problem: &Problem, mut plan: Plan) -> Result<Plan, Refusal>
 
 /// Gives each unseated candidate one turn, the first candidate first and then numbers rising: a turn moves
 /// everybody along the least chain to a free desk, where there is a chain. Beside the plan there are the dead
-/// halls: those that fit the candidates whom some best plan leaves out, each once, as the failed turns reached them.
+/// halls: those that fit the candidates whom some best plan leaves out, turn by turn, and rising for each turn.
 pub fn sweep_dead(
     alloc: Global,
     problem: &Problem,
@@ -45,6 +45,8 @@ pub fn sweep_dead(
         → IsSome (plan_at new.items c)) }
     ensures chains { IfOk result (λ (new, dead).
         IsSweep (seating_of problem.now) first (plan_at plan.items) (plan_at new.items)) }
+    ensures order { IfOk result (λ (new, dead).
+        IsDeadList (seating_of problem.now) first (plan_at plan.items) (plan_at new.items) dead.items) }
     ensures dead { IfOk result (λ (new, dead). (h : ℕ) → Contains dead.items h
         ↔ ((c : ℕ) × IsContested (seating_of problem.now) c × IsTrue ((seating_of problem.now).fits c h))) }
     ensures once { IfOk result (λ (new, dead). IsDistinct nat_eq dead.items) }

@@ -3,9 +3,9 @@ ghost use Rattle.std.specs.Prelude.{◌≡◌, ◌⊎◌, ◌↔◌, ◌<◌, �
 ghost use Rattle.std.specs.Prelude.{MatchOption, slice_index, slice_set};
 ghost use Rattle.exam_plan.specs.HallSets.{most_halls, holds};
 ghost use Rattle.exam_plan.specs.Problems.{IsPlan, seating_of, plan_at};
-ghost use Rattle.exam_plan.specs.Chains.{HasFreeDesk};
+ghost use Rattle.exam_plan.specs.Chains.{HasFreeDesk, LeadsTo};
 ghost use Rattle.exam_plan.specs.Searches.{IsMarked, MarksAll, IsTouching, Reaches, AreLayers, AreInward, AreOnward, IsOnward, CanReach};
-ghost use Rattle.exam_plan.specs.Searches.{IsAdvanced, IsFound, LeadsTo};
+ghost use Rattle.exam_plan.specs.Searches.{IsAdvanced, IsFound};
 
 use crate::hall_set::HallSet;
 use crate::onward::Onward;
@@ -120,7 +120,7 @@ pub fn led_to(
     requires onward { AreOnward problem.now (plan_at plan.now.items) onward.now }
     ensures apart { (h : ℕ) → IsMarked (holds result) h → IsMarked (holds dead) h → ⊥ }
     ensures led { (h : ℕ) → IsMarked (holds result) h
-        → (j : ℕ) × LeadsTo problem.now (plan_at plan.now.items) candidate j h }
+        → (j : ℕ) × LeadsTo (seating_of problem.now) (plan_at plan.now.items) candidate j h }
     ensures fitting { (h : ℕ) → IsTrue ((seating_of problem.now).fits candidate h)
         → IsMarked (holds result) h ⊎ IsMarked (holds dead) h }
     ensures closed { (d h k : ℕ) → plan_at plan.now.items d ≡ Some h → IsMarked (holds result) h

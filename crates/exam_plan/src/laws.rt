@@ -5,7 +5,7 @@ ghost use Rattle.std.specs.Ordering.{nat_cmp};
 ghost use Rattle.exam_plan.specs.Matching.{Seating, Plan, SamePlan, IsLawful, IsBest, IsCertificate};
 ghost use Rattle.exam_plan.specs.Matching.{IsContested, desk_number, size};
 ghost use Rattle.exam_plan.specs.Chains.{Chain, IsLeastChain};
-ghost use Rattle.exam_plan.specs.Repair.{kept_part, IsRepair};
+ghost use Rattle.exam_plan.specs.Repair.{kept_part, IsRepair, IsSweep};
 ghost use Rattle.exam_plan.specs.Problems as problems;
 ghost use Rattle.exam_plan.specs.Problems.{IsProblem, seating_of, ranks_before};
 
@@ -49,6 +49,12 @@ pub fn least_chain_is_one()
 /// What stays of a plan is lawful.
 pub fn what_stays_is_lawful()
     ensures { (p : problems.Problem) (q : Plan ℕ ℕ) → IsLawful (seating_of p) (kept_part (seating_of p) q) }
+{}
+
+/// A sweep from a plan has one result.
+pub fn sweep_has_one_result()
+    ensures { (p : problems.Problem) (first : Option ℕ) (q r s : Plan ℕ ℕ) → IsSweep (seating_of p) first q r
+        → IsSweep (seating_of p) first q s → SamePlan r s }
 {}
 
 /// A repair has one result.

@@ -20,7 +20,7 @@ pub use hall_set::{HallSet, MOST_HALLS, Mask};
 pub use laws::{
     best_plan_is_its_repair, best_sizes_agree, certificate_shows_best, contested_are_a_certificate,
     desk_number_is_within_the_hall, desk_numbers_are_distinct, least_chain_is_one,
-    repair_has_one_result, some_plan_is_best, what_stays_is_lawful,
+    repair_has_one_result, some_plan_is_best, sweep_has_one_result, what_stays_is_lawful,
 };
 pub use problem::{MOST_MEMBERS, Plan, Problem};
 pub use report::Shortage;

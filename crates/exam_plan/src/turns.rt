@@ -1,5 +1,5 @@
 //! The turns of a sweep.
-ghost use Rattle.std.specs.Prelude.{◌≡◌, ◌<◌, ◌≤◌, ◌+◌, ◌++◌, ◌&&◌, ℕ, length, not, nat_eq, nat_lt, All, IfSome, IfOk, IfErr, slice_index};
+ghost use Rattle.std.specs.Prelude.{◌≡◌, ◌<◌, ◌≤◌, ◌+◌, ◌++◌, ◌&&◌, ℕ, [], length, not, nat_eq, nat_lt, All, IfSome, IfOk, IfErr, slice_index};
 ghost use Rattle.std.specs.Prelude.{vec_capacity};
 ghost use Rattle.exam_plan.specs.HallSets.{most_halls, holds, halls_below};
 ghost use Rattle.exam_plan.specs.Matching.{IsLawful};
@@ -73,6 +73,7 @@ pub fn start(alloc: Global, problem: &Problem, plan: Plan) -> Result<Progress, R
     requires lawful { IsLawful (seating_of problem.now) (plan_at plan.items) }
     ensures kept { IfOk result (λ sweep. IsKept problem.now sweep) }
     ensures plan { IfOk result (λ sweep. sweep.plan.items ≡ plan.items) }
+    ensures none { IfOk result (λ sweep. sweep.listed.items ≡ []) }
     ensures memory { IfErr result (λ e. e ≡ Refusal.NoMemory) }
 {
     let halls = problem.hall_count();

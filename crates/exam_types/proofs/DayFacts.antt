@@ -1,10 +1,10 @@
--- The civil date of a day's number, and its number by `jiff_core`.
+-- The civil date of a day's number, and its number by `jiff`.
 use Rattle.std.proofs.Common.{◌≡◌, ◌∙◌, ◌<◌, ◌≤◌, ◌+◌, ◌-◌, inl, inr, ℕ, zero, suc, pos, Bool, true, false, cond, Option, Some, nat_lt, refl, sym, ap, arith}
 use Rattle.std.specs.Prelude.{find, unwrap_or}
 use Rattle.std.proofs.lemmas.Bool.{cases_order}
 use Rattle.std.specs.List.{range_with_len}
-use Rattle.jiff_core.specs.declared.civil.date.Date.{Date}
-use Rattle.jiff_core.specs.Date.{epoch_day}
+use Rattle.jiff.specs.Types.{Date}
+use Rattle.jiff.specs.Words.{epoch_day}
 use Rattle.jiff_core.specs.Calendar.{IsCivilDate, IsYear, day_count, days_from_civil, days_of_months as jiff_days_of_months}
 use Rattle.jiff_core.proofs.SignedLemmas.{signed_arith}
 use Rattle.jiff_core.proofs.MarchLemmas.{day_count-early}
@@ -78,7 +78,7 @@ next_month y m from =
     let step : days_of_months y m ≡ days_of_months y (m - 1) + month_days y m = rw is at (days_of_months-suc y (m - 1)) in
     rw next (omega arith)
 
--- `jiff_core` counts the same days
+-- `jiff` counts the same days
 jiff_months : (y m : ℕ) → jiff_days_of_months (pos y) m ≡ days_of_months y m
 unfolding jiff_days_of_months days_of_months
 jiff_months y zero = refl
@@ -177,7 +177,7 @@ date_of n is =
     let civil = civil_of n is in
     record { year = pos (year_of n); month = month_of n; day = month_day_of n; year_in = civil.0; month_in = civil.1; day_in = civil.2 }
 
--- a date of `jiff_core` with this number is the civil date of the day
+-- a date of `jiff` with this number is the civil date of the day
 pub date_parts : (date : Date) (n : ℕ) → IsDay n → epoch_day date ≡ pos n → (date.year ≡ pos (year_of n)) × (date.month ≡ month_of n) × (date.day ≡ month_day_of n)
 unfolding date_of
 date_parts date n is number = epoch_day_injective date (date_of n is) (number ∙ sym (number_of_civil n is))

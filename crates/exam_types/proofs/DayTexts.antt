@@ -1,11 +1,12 @@
 -- A day's text, read and written.
-use Rattle.std.proofs.Common.{◌&&◌, to_z, of_z, unsigned_abs, ◌≡◌, ◌↔◌, ◌∙◌, ◌<◌, ◌≤◌, ◌+◌, ◌-◌, ◌^◌, ◌++◌, ℕ, ℤ, pos, List, [], ◌∷◌, Bool, true, false, Option, Some, None, nat_le, length, get_or, take, drop, refl, sym, ap, arith}
-use Rattle.std.specs.Prelude.{bytes_eq, if◌then◌else◌}
+use Rattle.std.proofs.Common.{◌&&◌, to_z, of_z, unsigned_abs, ◌≡◌, ◌↔◌, ◌∙◌, ◌<◌, ◌≤◌, ◌+◌, ◌-◌, ◌^◌, ◌++◌, ℕ, ℤ, pos, neg_ℤ, ◌+ℤ◌, ◌-ℤ◌, List, [], ◌∷◌, Bool, true, false, Option, Some, None, nat_le, length, get_or, take, drop, refl, sym, ap, arith}
+use Rattle.std.specs.Prelude.{bytes_eq, if◌then◌else◌, Result, Ok, Err, IsOk, IfOk}
 use Rattle.std.specs.List.{list_all}
-use Rattle.jiff_core.specs.declared.civil.date.Date.{Date}
-use Rattle.jiff_core.specs.Calendar.{IsDate}
-use Rattle.jiff_core.specs.Date.{IsYmd, epoch_day}
-use Rattle.jiff_core.proofs.SignedLemmas.{back_small, signed_arith}
+use Rattle.std.specs.Result.{result_ok}
+use Rattle.jiff.specs.Types.{Date, Day, Span}
+use Rattle.jiff.specs.Words.{CanAddToDate, IsDate, IsEpochDay, IsOnly, IsYmd, date_add, epoch_day}
+use Rattle.jiff.proofs.SpanFacts.{can_add-days, date_add-days, signed_arith}
+use Rattle.jiff_core.proofs.SignedLemmas.{back_small}
 use mir.Val.{hbits}
 use Rattle.std.specs.Int.{Width}
 use Rattle.exam_types.specs.Days.{IsDay, date_text, day_of, day_text, is_day, month_day_of, month_days, month_of, month_start, spelled_day, year_of}
@@ -40,7 +41,7 @@ digits-number_of bytes n e =
     let back = digits-value bytes read.0 in
     rw read.1 at back
 
--- a small number that `jiff_core` has as a signed one
+-- a small number that `jiff` has as a signed one
 pub plain : (w : Width) (z : ℤ) (n : ℕ) → z ≡ pos n → n < 2 ^ hbits w → unsigned_abs (to_z w (of_z w z)) ≡ n
 plain w z n e small = rw e (ap unsigned_abs (back_small w (pos n) small))
 
@@ -137,6 +138,39 @@ text_of_numbers (a ∷ b ∷ c ∷ e ∷ f ∷ g ∷ h ∷ i ∷ j ∷ []) y m d
 text_of_numbers (a ∷ b ∷ c ∷ e ∷ f ∷ g ∷ h ∷ i ∷ j ∷ k ∷ []) y m d long first second year y_small month m_small day d_small =
     (y_small, m_small, d_small, joined y m d f i (a ∷ b ∷ c ∷ e ∷ []) (g ∷ h ∷ []) (j ∷ k ∷ []) (four_digits a b c e y (sym year)) (sym first) (two_digits g h m (sym month)) (sym second) (two_digits j k d (sym day)))
 text_of_numbers (a ∷ b ∷ c ∷ e ∷ f ∷ g ∷ h ∷ i ∷ j ∷ k ∷ l ∷ rest) y m d long first second year y_small month m_small day d_small = absurd (omega arith)
+
+minus_by_test : (b : Bool) (r : Option ℕ) (z : ℤ) (a k : ℕ) → nat_le (10957 + k) a ≡ b → IsDay a → z ≡ pos a -ℤ pos k → ((n : ℕ) → (r ≡ Some n) ↔ (IsDay n × (z ≡ pos n))) → r ≡ (if b then Some (a - k) else None)
+minus_by_test true r z a k test is number exact =
+    let enough : 10957 + k ≤ a = grind arith in
+    (exact (a - k)).1 ((omega arith, omega arith), omega (arith, signed_arith))
+minus_by_test false (Some n) z a k test is number exact =
+    let short : a < 10957 + k = grind arith in
+    let day = (exact n).0 refl in
+    absurd (omega (arith, signed_arith))
+minus_by_test false None z a k test is number exact = refl
+
+-- a date some days earlier, if that is not before the first day
+pub minus_is : (r : Option ℕ) (z : ℤ) (a k : ℕ) → IsDay a → z ≡ pos a -ℤ pos k → ((n : ℕ) → (r ≡ Some n) ↔ (IsDay n × (z ≡ pos n))) → r ≡ (if nat_le (10957 + k) a then Some (a - k) else None)
+minus_is r z a k is number exact = minus_by_test (nat_le (10957 + k) a) r z a k refl is number exact
+
+of_ok : {E : Type 0} (r : Result Date E) (d : Date) (P : Date → Type 0) → Some d ≡ result_ok r → IfOk r P → P d
+of_ok (Ok x) d P e h = let same : d ≡ x = cc in rw same h
+of_ok (Err x) d P e h = cc e
+
+not_ok : {E : Type 0} (r : Result Date E) → result_ok r ≡ None → IsOk r → ⊥
+not_ok (Ok x) e h = cc e
+not_ok (Err x) e h = cc h
+
+-- the day number that `jiff` comes to
+pub number_before : {E : Type 0} (r : Result Date E) (date earlier : Date) (n k : ℕ) (s : Span) → epoch_day date ≡ pos n → IsOnly Day (neg_ℤ (pos k)) s → Some earlier ≡ result_ok r → IfOk r (λ x. epoch_day x ≡ date_add date s) → epoch_day earlier ≡ pos n -ℤ pos k
+number_before r date earlier n k s number only e h =
+    of_ok r earlier (λ x. epoch_day x ≡ date_add date s) e h ∙ date_add-days date (neg_ℤ (pos k)) s only ∙ omega (arith, signed_arith)
+
+-- no subtraction of so few days leaves its calendar
+pub jiff_subtracts : {E : Type 0} (r : Result Date E) (date : Date) (n k : ℕ) (s : Span) → IsDay n → k < 65536 → epoch_day date ≡ pos n → IsOnly Day (neg_ℤ (pos k)) s → (IsOk r ↔ CanAddToDate date s) → result_ok r ≡ None → ⊥
+jiff_subtracts r date n k s is few number only can none =
+    let day : IsEpochDay (epoch_day date +ℤ neg_ℤ (pos k)) = (omega (arith, signed_arith), omega (arith, signed_arith)) in
+    not_ok r none (can.1 ((can_add-days date (neg_ℤ (pos k)) s only).1 day))
 
 and_true : (a b : Bool) → a ≡ true → b ≡ true → (a && b) ≡ true
 and_true a b h k = rw (h, k) refl

@@ -8,7 +8,7 @@ use Rattle.exam_types.specs.declared.refusal.Refusal.TheVariants.{AlreadyWithdra
 use Rattle.exam_types.specs.declared.refusal.Refusal.TheVariants.{NotSeatedThere, NotInSession, PastClosing}
 use Rattle.exam_types.specs.declared.refusal.Refusal.TheVariants.{RefTaken, UnknownAppeal, NotOpenAppeal}
 use Rattle.exam_types.specs.declared.refusal.Refusal.TheVariants.{TooLate, NoClash, NothingToChange, TooMany}
-use Rattle.exam_types.specs.declared.refusal.Refusal.TheVariants.{AppealIsOpen, NoMemory, Store, BadStore}
+use Rattle.exam_types.specs.declared.refusal.Refusal.TheVariants.{AppealStands, NoMemory, Store, BadStore}
 use Rattle.exam_types.specs.declared.refusal.Refusal.TheVariants.{HallNotOpened, NotArrangement, OldSchema}
 
 abbrev pub refusal_number : Refusal → ℕ
@@ -32,7 +32,7 @@ refusal_number TooLate = 17
 refusal_number NoClash = 18
 refusal_number NothingToChange = 19
 refusal_number TooMany = 20
-refusal_number AppealIsOpen = 21
+refusal_number AppealStands = 21
 refusal_number NoMemory = 22
 refusal_number Store = 23
 refusal_number BadStore = 24

@@ -1,8 +1,8 @@
 //! A day from 2000-01-01 to 2199-12-31.
-ghost use Rattle.std.specs.Prelude.{◌≡◌, ◌<◌, ◌↔◌, ◌+◌, ◌-◌, ◌++◌, ℕ, nat_le, length, pos, Some, None};
+ghost use Rattle.std.specs.Prelude.{◌≡◌, ◌<◌, ◌↔◌, ◌+◌, ◌-◌, ◌++◌, ℕ, nat_le, length, pos, neg_ℤ, Some, None};
 ghost use Rattle.std.specs.Prelude.{IsSome, IfSome, OnOk, OnErr, IfErr, if◌then◌else◌};
-ghost use Rattle.jiff_core.specs.Calendar.{IsDate};
-ghost use Rattle.jiff_core.specs.Date.{IsYmd, epoch_day};
+ghost use Rattle.jiff.specs.Types.{Day as SpanDay};
+ghost use Rattle.jiff.specs.Words.{IsDate, IsOnly, IsYmd, epoch_day};
 ghost use Rattle.arrayvec.specs.ArrayVec.{array_vec_len};
 ghost use Rattle.exam_types.specs.Days as spec;
 ghost use Rattle.exam_types.specs.Days.{IsDay};
@@ -10,7 +10,9 @@ ghost use Rattle.exam_types.specs.declared.refusal.Refusal.TheVariants.{NoMemory
 
 use crate::digits::{ShortText, number_of, push_digits};
 use crate::refusal::Refusal;
-use jiff_core::civil::Date;
+use jiff::civil::Date;
+use jiff::{Span, ToSpan};
+use jiff_core::civil::Date as PlainDate;
 use std::marker::Model;
 use std::{fmt, str};
 
@@ -68,13 +70,7 @@ impl Day {
     pub fn minus(self, days: u16) -> Option<Day>
         ensures { result ≡ (if nat_le (FIRST_DAY + days) self then Some (self - days) else None) }
     {
-        let days = u32::from(days);
-        if self.value < FIRST_DAY + days {
-            return None;
-        }
-        Some(Day {
-            value: self.value - days,
-        })
+        Day::from_date(self.date().checked_add(days_back(days)).ok()?)
     }
 
     /// The days since 1970-01-01.
@@ -89,13 +85,13 @@ impl Day {
         ensures number { epoch_day result ≡ pos self }
         ensures range { IsDay self }
     {
-        Date::from_days_since_min(self.number() + EPOCH)
+        Date::from_plain(PlainDate::from_days_since_min(self.number() + EPOCH))
     }
 
     fn from_date(date: Date) -> Option<Day>
         ensures { (n : ℕ) → (result ≡ Some n) ↔ (IsDay n × (epoch_day date ≡ pos n)) }
     {
-        let number = date.to_unix_epoch_day();
+        let number = date.to_plain().to_unix_epoch_day();
         if number < FIRST_DAY as i32 || number > LAST_DAY as i32 {
             return None;
         }
@@ -111,11 +107,11 @@ impl Day {
     {
         let date = self.date();
         let mut text = ShortText::new();
-        push_digits(&mut text, 4, u32::from(date.year.unsigned_abs()));
+        push_digits(&mut text, 4, u32::from(date.year().unsigned_abs()));
         text.push(b'-');
-        push_digits(&mut text, 2, u32::from(date.month));
+        push_digits(&mut text, 2, u32::from(date.month().unsigned_abs()));
         text.push(b'-');
-        push_digits(&mut text, 2, u32::from(date.day));
+        push_digits(&mut text, 2, u32::from(date.day().unsigned_abs()));
         text
     }
 }
@@ -140,6 +136,14 @@ fn parts_of(bytes: &[u8]) -> Option<(u32, u32, u32)>
     let month = number_of(&bytes[5..7])?;
     let day = number_of(&bytes[8..])?;
     Some((year, month, day))
+}
+
+/// A span that goes back by so many days.
+fn days_back(days: u16) -> Span
+    ensures { IsOnly SpanDay (neg_ℤ (pos days)) result }
+{
+    let count = -i64::from(days);
+    count.days()
 }
 
 /// The date, or none if the calendar does not have it.

@@ -73,7 +73,7 @@ pub enum Refusal {
     TooMany,
     /// There is already an open appeal of this kind.
     #[error("an open appeal of this kind stands")]
-    AppealIsOpen,
+    AppealStands,
     /// There is not enough memory.
     #[error("not enough memory")]
     NoMemory,
@@ -136,7 +136,7 @@ impl Refusal {
             Refusal::NoClash => 18,
             Refusal::NothingToChange => 19,
             Refusal::TooMany => 20,
-            Refusal::AppealIsOpen => 21,
+            Refusal::AppealStands => 21,
             Refusal::NoMemory => 22,
             Refusal::Store => 23,
             Refusal::BadStore => 24,

@@ -37,7 +37,7 @@ appeals > 2
 seats S1 > 1 B 2 A
 # one appeal of a kind is open
 lodge 1 HA1 S1 hall B draught on 2027-05-30 > Lodged Pending
-lodge 1 HA2 S1 hall B draught on 2027-05-30 > AppealIsOpen
+lodge 1 HA2 S1 hall B draught on 2027-05-30 > AppealStands
 lodge 2 HA1 S1 hall A draught on 2027-05-30 > Lodged Pending
 retract 1 HA1 > Retracted
 lodge 1 HA2 S1 hall B draught on 2027-05-30 > Lodged Pending

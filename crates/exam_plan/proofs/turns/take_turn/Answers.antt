@@ -6,7 +6,7 @@ use Rattle.exam_plan.specs.Searches.{IsMarked, IsSettled, AreOnward, count_at}
 use Rattle.exam_plan.proofs.Steps.{count_at-le, within_other, leads_below}
 use Rattle.exam_plan.proofs.Tables.{onward_of}
 use Rattle.exam_plan.proofs.Listing.{room_left, after_lists, after_once, after_many}
-use Rattle.exam_plan.proofs.TurnLemmas.{IsTurned, turned, stays_put, counts_after, free_after, both_closed, both_within, both_traced, both_settled, seated_at, none_of}
+use Rattle.exam_plan.proofs.TurnLemmas.{IsTurned, turned, stays_put, settled_deaths, chain_deaths, both_deaths, counts_after, free_after, both_closed, both_within, both_traced, both_settled, seated_at, none_of}
 use Rattle.exam_plan.proofs.turns.take_turn.Goals as goal
 use Rattle.exam_plan.proofs.turns.take_turn.Goals.{then-is_some-via-then-is_some, then-is_some-via-else-is_some+then-is_empty}
 
@@ -21,6 +21,7 @@ returns-then-is_some c = record {
   kept = c.requires.kept;
   seated = λ d s. s;
   turn = stays_put c.args.problem.now (plan_at c.args.sweep.now.plan.items) (holds c.args.sweep.now.dead) c.requires.kept.closed c.args.candidate (settled c);
+  deaths = settled_deaths c.args.problem.now (plan_at c.args.sweep.now.plan.items) (holds c.args.sweep.now.dead) c.requires.kept.closed c.args.candidate (settled c) c.args.sweep.now.listed.items c.requires.kept.listed;
   settled = settled c;
   others = λ d s. s;
 }
@@ -71,6 +72,7 @@ returns-in-Some c =
       };
       seated = t.kept;
       turn = t.turn;
+      deaths = chain_deaths c.args.problem.now (plan_at c.args.sweep.now.plan.items) (holds c.args.sweep.now.dead) c.args.candidate c.advance-last.result (plan_at c.advance-last.new.plan.items) t unseated c.args.sweep.now.listed.items;
       settled = t.settled;
       others = t.others;
     }
@@ -99,6 +101,8 @@ returns-in-None c =
       };
       seated = λ d s. s;
       turn = stays_put c.args.problem.now (plan_at c.args.sweep.now.plan.items) (holds c.union-sweep.result) (both_closed c.args.problem.now (plan_at c.args.sweep.now.plan.items) c.args.candidate unseated c.args.sweep.now.dead c.led_to-led.result c.union-sweep.result c.union-sweep.ensures c.in-None.ensures.found c.led_to-led.ensures.led c.led_to-led.ensures.fitting c.led_to-led.ensures.closed c.requires.kept.closed) c.args.candidate (inr (both_within c.args.problem.now (plan_at c.args.sweep.now.plan.items) c.args.candidate unseated c.args.sweep.now.dead c.led_to-led.result c.union-sweep.result c.union-sweep.ensures c.in-None.ensures.found c.led_to-led.ensures.led c.led_to-led.ensures.fitting c.led_to-led.ensures.closed c.requires.kept.closed));
+      deaths = both_deaths c.args.problem.now (plan_at c.args.sweep.now.plan.items) c.args.candidate unseated c.args.sweep.now.dead c.led_to-led.result c.union-sweep.result c.union-sweep.ensures c.in-None.ensures.found c.led_to-led.ensures.led c.led_to-led.ensures.fitting c.led_to-led.ensures.closed c.requires.kept.closed
+          (length c.args.problem.now.desk_counts) within c.led_to-led.ensures.apart c.args.sweep.now.listed.items c.list_halls.new.listed.items c.requires.kept.listed grown;
       settled = inr (both_within c.args.problem.now (plan_at c.args.sweep.now.plan.items) c.args.candidate unseated c.args.sweep.now.dead c.led_to-led.result c.union-sweep.result c.union-sweep.ensures c.in-None.ensures.found c.led_to-led.ensures.led c.led_to-led.ensures.fitting c.led_to-led.ensures.closed c.requires.kept.closed);
       others = both_settled c.args.problem.now (plan_at c.args.sweep.now.plan.items) c.args.candidate unseated c.args.sweep.now.dead c.led_to-led.result c.union-sweep.result c.union-sweep.ensures c.in-None.ensures.found c.led_to-led.ensures.led c.led_to-led.ensures.fitting c.led_to-led.ensures.closed c.requires.kept.closed;
     }
