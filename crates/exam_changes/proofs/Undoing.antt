@@ -15,7 +15,6 @@ use Rattle.exam_commands.specs.declared.import_row.Kind.{Kind}
 use Rattle.exam_commands.specs.declared.import_row.Kind.TheVariants as kind
 use Rattle.exam_commands.specs.declared.import_row.Row.{Row}
 use Rattle.exam_commands.specs.declared.import_row.Row.TheVariants as row
-use Rattle.exam_changes.specs.declared.undo.Undo.{Undo}
 use Rattle.exam_changes.specs.declared.undo.Undo.TheVariants as undo
 use Rattle.exam_commands.specs.Changes.{with_row, with_rows}
 use Rattle.exam_commands.specs.Imports.{AreOfKind, kind_of}
@@ -91,14 +90,15 @@ none_back kept r none = record {
   candidates = none_goes_back nat_cmp kept.candidates.entries r.candidates none.candidates;
   entries = none_goes_back entry_cmp kept.entries.entries r.entries none.entries;
   arrangements = none_goes_back nat_cmp kept.arrangements.entries r.arrangements none.arrangements;
-  appeals = refl;
-  standing = refl;
+  appeals = none_goes_back appeal_cmp kept.appeals.entries r.appeals none.appeals;
+  standing = none_goes_back appeal_cmp kept.standing.entries r.standing none.standing;
 }
 
 -- table by table
 pub all_back : {kept : KeptRows} {t r : Relations} → GoBack code_cmp kept.sessions.entries t.sessions r.sessions → GoBack code_cmp kept.papers.entries t.papers r.papers → GoBack code_cmp kept.halls.entries t.halls r.halls
     → GoBack opening_cmp kept.openings.entries t.openings r.openings → GoBack nat_cmp kept.candidates.entries t.candidates r.candidates → GoBack entry_cmp kept.entries.entries t.entries r.entries
-    → GoBack nat_cmp kept.arrangements.entries t.arrangements r.arrangements → t.appeals ≡ r.appeals → t.standing ≡ r.standing → RowsGoBack kept t r
+    → GoBack nat_cmp kept.arrangements.entries t.arrangements r.arrangements → GoBack appeal_cmp kept.appeals.entries t.appeals r.appeals → GoBack appeal_cmp kept.standing.entries t.standing r.standing
+    → RowsGoBack kept t r
 all_back sessions papers halls openings candidates entries arrangements appeals standing = record {
   sessions = sessions;
   papers = papers;
@@ -122,6 +122,8 @@ rows_back kept t r back = (
     candidates = back.candidates.there;
     entries = back.entries.there;
     arrangements = back.arrangements.there;
+    appeals = back.appeals.there;
+    standing = back.standing.there;
   },
   λ i. record {
     sessions = back.sessions.back i;
@@ -131,8 +133,8 @@ rows_back kept t r back = (
     candidates = back.candidates.back i;
     entries = back.entries.back i;
     arrangements = back.arrangements.back i;
-    appeals = back.appeals i;
-    standing = back.standing i;
+    appeals = back.appeals.back i;
+    standing = back.standing.back i;
   },
 )
 

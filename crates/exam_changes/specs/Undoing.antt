@@ -1,7 +1,8 @@
 -- How a change of the facts is taken back, and which table an import changes.
-use Rattle.std.specs.Prelude.{◌≡◌, ⊤, IsTrue, []}
+use Rattle.std.specs.Prelude.{◌≡◌, ⊤, ℕ, Bool, IsTrue, List, [], Option, None, Some, if◌then◌else◌}
 use Rattle.std.specs.Ordering.{nat_cmp}
-use Rattle.exam_rules.specs.Relations.{Relations, appeal_cmp, code_cmp, entry_cmp, has_row, opening_cmp, put_row, remove_row}
+use Rattle.exam_rules.specs.declared.rows.Appeal.{Appeal}
+use Rattle.exam_rules.specs.Relations.{Code, Relations, appeal_cmp, code_cmp, entry_cmp, has_row, opening_cmp, put_row, remove_row}
 use Rattle.exam_commands.specs.declared.import_row.Kind.{Kind}
 use Rattle.exam_commands.specs.declared.import_row.Kind.TheVariants as kind
 use Rattle.exam_changes.specs.declared.kept.KeptRows.{KeptRows}
@@ -20,6 +21,8 @@ pub record AreNone (kept : KeptRows) : Type 0 where
   pub candidates : kept.candidates.entries ≡ []
   pub entries : kept.entries.entries ≡ []
   pub arrangements : kept.arrangements.entries ≡ []
+  pub appeals : kept.appeals.entries ≡ []
+  pub standing : kept.standing.entries ≡ []
 
 -- each key that was changed has a row, so that putting it back, or taking it away, needs no memory
 pub record AreThere (kept : KeptRows) (r : Relations) : Type 0 where
@@ -30,6 +33,8 @@ pub record AreThere (kept : KeptRows) (r : Relations) : Type 0 where
   pub candidates : HasRows nat_cmp kept.candidates.entries r.candidates
   pub entries : HasRows entry_cmp kept.entries.entries r.entries
   pub arrangements : HasRows nat_cmp kept.arrangements.entries r.arrangements
+  pub appeals : HasRows appeal_cmp kept.appeals.entries r.appeals
+  pub standing : HasRows appeal_cmp kept.standing.entries r.standing
 
 -- the facts with the rows as they were
 abbrev pub with_kept : KeptRows → Relations → Relations
@@ -41,6 +46,8 @@ with_kept kept r = record r {
   candidates = put_back nat_cmp r.candidates kept.candidates.entries;
   entries = put_back entry_cmp r.entries kept.entries.entries;
   arrangements = put_back nat_cmp r.arrangements kept.arrangements.entries;
+  appeals = put_back appeal_cmp r.appeals kept.appeals.entries;
+  standing = put_back appeal_cmp r.standing kept.standing.entries;
 }
 
 -- the new facts become the old ones, table by table
@@ -52,8 +59,26 @@ pub record RowsGoBack (kept : KeptRows) (new old : Relations) : Type 0 where
   pub candidates : GoBack nat_cmp kept.candidates.entries new.candidates old.candidates
   pub entries : GoBack entry_cmp kept.entries.entries new.entries old.entries
   pub arrangements : GoBack nat_cmp kept.arrangements.entries new.arrangements old.arrangements
-  pub appeals : new.appeals ≡ old.appeals
-  pub standing : new.standing ≡ old.standing
+  pub appeals : GoBack appeal_cmp kept.appeals.entries new.appeals old.appeals
+  pub standing : GoBack appeal_cmp kept.standing.entries new.standing old.standing
+
+-- ---- the rows of a decision
+
+-- with the earlier grant as it is now, if there is one
+abbrev pub with_earlier : Option ((ℕ × Code) × Appeal) → List ((ℕ × Code) × Appeal) → List ((ℕ × Code) × Appeal)
+with_earlier None appeals = appeals
+with_earlier (Some e) appeals = put_row appeal_cmp appeals e.0 e.1
+
+-- with a mark for the appeal at the key, if the grant bears one
+abbrev pub marks_with : Bool → ℕ × Code → List ((ℕ × Code) × Unit {0}) → List ((ℕ × Code) × Unit {0})
+marks_with mark key standing = if mark then put_row appeal_cmp standing key tt else standing
+
+-- with the rows that a decision of the appeal at the key changes
+abbrev pub with_decided : Option ((ℕ × Code) × Appeal) → ℕ × Code → Appeal → Bool → Relations → Relations
+with_decided earlier key appeal mark r = record r {
+  appeals = put_row appeal_cmp (with_earlier earlier r.appeals) key appeal;
+  standing = marks_with mark key r.standing;
+}
 
 -- ---- any change
 
@@ -65,7 +90,6 @@ restored (undo.NewAppeal k) r = record r { appeals = remove_row appeal_cmp r.app
 restored (undo.Appeal k x) r = record r { appeals = put_row appeal_cmp r.appeals k x }
 restored (undo.Rows kept) r = with_kept kept r
 restored (undo.Openings m) r = record r { openings = m.entries }
-restored (undo.Decisions m marks) r = record r { appeals = m.entries; standing = marks.entries }
 
 -- each key that is named has a row, so that putting it back, or taking it away, needs no memory
 abbrev pub IsThere : Undo → Relations → Type 0
@@ -75,7 +99,6 @@ IsThere (undo.NewAppeal k) r = IsTrue (has_row appeal_cmp r.appeals k)
 IsThere (undo.Appeal k x) r = IsTrue (has_row appeal_cmp r.appeals k)
 IsThere (undo.Rows kept) r = AreThere kept r
 IsThere (undo.Openings m) r = ⊤
-IsThere (undo.Decisions m marks) r = ⊤
 
 -- the new facts become the old ones
 abbrev pub TakesBack : Undo → Relations → Relations → Type 0

@@ -1,37 +1,40 @@
 //! Deciding an appeal.
-ghost use Rattle.std.specs.Prelude.{◌≡◌, ◌⊎◌, ◌∷◌, [], map, None, Some, IfOk, IfErr, OnOk, OnErr};
+ghost use Rattle.std.specs.Prelude.{◌≡◌, ◌⊎◌, ◌∷◌, [], None, Some, IsTrue, IfOk, IfErr, OnOk, OnErr};
 ghost use Rattle.std.specs.Option.{option_and_then};
 ghost use Rattle.std.specs.Result.{result_err};
 ghost use Rattle.exam_types.specs.declared.refusal.Refusal.TheVariants.{NoMemory};
-ghost use Rattle.exam_rules.specs.Relations.{appeal_cmp, put_row, relations_of};
+ghost use Rattle.exam_rules.specs.Relations.{Relations, appeal_cmp, put_row, relations_of};
 ghost use Rattle.exam_rules.specs.declared.rows.Subject.TheVariants as subjects;
 ghost use Rattle.exam_commands.specs.Appeals as appeals;
 ghost use Rattle.exam_commands.specs.Changes.{first_refusal};
 ghost use Rattle.exam_commands.specs.Decisions as spec;
+ghost use Rattle.exam_commands.specs.Good.{marks_were_granted};
 ghost use Rattle.exam_commands.specs.NextPlans as next;
 ghost use Rattle.exam_commands.specs.Singles.{AreSingle};
 ghost use Rattle.exam_changes.specs.Undoing as undoing;
 
+use crate::kept::{KeptRows, put_kept};
 use crate::moves::moved;
-use crate::rows::put;
-use crate::undo::{Marks, Undo};
+use crate::undo::Undo;
 use exam_commands::granting::{bears_mark, earlier_grant, is_grant};
 use exam_commands::{Command, Decision, Outcome, Reply, Seats, is_open, stored_state};
 use exam_rules::{Appeal, Facts, Status, Subject, is_live_paper, is_member};
 use exam_types::{Day, Number, PaperCode, Reason, Reference, Refusal, SessionCode};
-use std::collections::BTreeMap;
-use std::mem::replace;
-
-/// The appeals of the facts, by candidate and reference.
-type Appeals = BTreeMap<(Number, Reference), Appeal>;
+use std::alloc::Global;
 
 /// Decides the appeal; a grant supersedes an earlier grant of its kind. Returns how to take this back; nothing changes
 /// if the decision is already made. Refused, in this order, for an unknown appeal; for one that is not open; from the
 /// session's day on; for a standing grant of anything but an arrangement; for a grant if the candidate is no longer a
 /// member, or has no live entry for the paper; and if there is not enough memory. After a refusal the facts are as
 /// before. It never passes a limit.
-pub fn decide(facts: &mut Facts, decision: &Decision, today: Day) -> Result<Undo, Refusal>
-    requires { AreSingle (relations_of facts.old) }
+pub fn decide(
+    alloc: Global,
+    facts: &mut Facts,
+    decision: &Decision,
+    today: Day,
+) -> Result<Undo, Refusal>
+    requires single { AreSingle (relations_of facts.old) }
+    requires marks { IsTrue (marks_were_granted (relations_of facts.old)) }
     ensures ok { OnOk result (relations_of facts.new
         ≡ spec.with_decision (relations_of facts.old) decision.now) }
     ensures back { IfOk result (λ undo.
@@ -42,64 +45,152 @@ pub fn decide(facts: &mut Facts, decision: &Decision, today: Day) -> Result<Undo
         ⊎ (spec.decision_refusal (relations_of facts.old) today decision.now ≡ Some e)) }
     ensures same { OnErr result (relations_of facts.new ≡ relations_of facts.old) }
 {
-    let Some(appeal) = facts.appeals.get(&(decision.number, decision.reference)) else {
+    let key = (decision.number, decision.reference);
+    let Some(appeal) = facts.appeals.get(&key) else {
         return Err(Refusal::UnknownAppeal);
     };
     if is_made(facts, decision, appeal) {
         return Ok(Undo::Nothing);
     }
     check_appeal(facts, decision, today, appeal)?;
-    let appeals = decided_appeals(facts, decision, appeal)?;
-    let marks = marks_with(facts, decision)?;
-    Ok(Undo::Decisions(
-        replace(&mut facts.appeals, appeals),
-        replace(&mut facts.standing, marks),
-    ))
+    let earlier = superseded_grant(facts, decision.number, appeal, decision.outcome)?;
+    let decided = with_status(appeal, status_of(decision.outcome, &decision.answer)?)?;
+    put_decided(
+        alloc,
+        facts,
+        earlier,
+        key,
+        decided,
+        bears_mark(decision.outcome),
+    )
 }
 
-/// A copy of the marks: it has one for the appeal exactly if the grant also holds for later sessions.
-fn marks_with(facts: &Facts, decision: &Decision) -> Result<Marks, Refusal>
-    ensures ok { IfOk result (λ marks. marks.entries
-        ≡ spec.with_mark decision.now (relations_of facts.now).standing) }
+/// The earlier grant that the decision supersedes, superseded; none if it is no grant, or there is none.
+fn superseded_grant(
+    facts: &Facts,
+    number: Number,
+    appeal: &Appeal,
+    outcome: Outcome,
+) -> Result<Option<((Number, Reference), Appeal)>, Refusal>
+    requires { AreSingle (relations_of facts.now) }
+    ensures ok { IfOk result (λ earlier. undoing.with_earlier earlier facts.now.appeals.entries
+        ≡ spec.with_superseded number appeal.now outcome facts.now.appeals.entries) }
     ensures memory { IfErr result (λ e. e ≡ NoMemory) }
 {
-    let key = (decision.number, decision.reference);
-    if bears_mark(decision.outcome) {
-        marks_and(facts, key)
-    } else {
-        marks_without(facts, key)
+    facts.show_order();
+    if !is_grant(outcome) {
+        return Ok(None);
+    }
+    match earlier_grant(facts, number, appeal) {
+        Some((key, earlier)) => {
+            let status = superseded_status(&earlier.status)?;
+            Ok(Some((*key, with_status(earlier, status)?)))
+        }
+        None => Ok(None),
     }
 }
 
-/// A copy of the marks, with one for the appeal under the key.
-fn marks_and(facts: &Facts, key: (Number, Reference)) -> Result<Marks, Refusal>
-    ensures ok { IfOk result (λ marks. marks.entries
-        ≡ put_row appeal_cmp (relations_of facts.now).standing key tt) }
+/// Puts the earlier grant, the appeal under the key and its mark, if the grant bears one, and returns how to take them
+/// back. An open appeal bears no mark, so none goes. After a refusal the facts are as before.
+fn put_decided(
+    alloc: Global,
+    facts: &mut Facts,
+    earlier: Option<((Number, Reference), Appeal)>,
+    key: (Number, Reference),
+    appeal: Appeal,
+    mark: bool,
+) -> Result<Undo, Refusal>
+    ensures ok { OnOk result (relations_of facts.new
+        ≡ undoing.with_decided earlier key appeal mark (relations_of facts.old)) }
+    ensures back { IfOk result (λ undo.
+        undoing.TakesBack undo (relations_of facts.new) (relations_of facts.old)) }
     ensures memory { IfErr result (λ e. e ≡ NoMemory) }
+    ensures same { OnErr result (relations_of facts.new ≡ relations_of facts.old) }
 {
-    let mut marks = copied_marks(facts)?;
-    put(&mut marks, key, ())?;
-    Ok(marks)
+    let mut kept = KeptRows::none(alloc);
+    match put_rows(facts, &mut kept, earlier, key, appeal, mark) {
+        Ok(()) => Ok(Undo::Rows(kept)),
+        Err(refusal) => {
+            kept.take_back(facts);
+            Err(refusal)
+        }
+    }
 }
 
-/// A copy of the marks, without one for the appeal under the key.
-fn marks_without(facts: &Facts, key: (Number, Reference)) -> Result<Marks, Refusal>
-    ensures ok { IfOk result (λ marks. marks.entries
-        ≡ spec.without_mark key (relations_of facts.now).standing) }
+/// Puts these rows, and keeps what was there.
+fn put_rows(
+    facts: &mut Facts,
+    kept: &mut KeptRows,
+    earlier: Option<((Number, Reference), Appeal)>,
+    key: (Number, Reference),
+    appeal: Appeal,
+    mark: bool,
+) -> Result<(), Refusal>
+    ensures ok { OnOk result (relations_of facts.new
+        ≡ undoing.with_decided earlier key appeal mark (relations_of facts.old)) }
+    ensures back { (first : Relations) → undoing.RowsGoBack kept.old (relations_of facts.old) first
+        → undoing.RowsGoBack kept.new (relations_of facts.new) first }
     ensures memory { IfErr result (λ e. e ≡ NoMemory) }
 {
-    // The keys of the marks rise, so there is at most one for the appeal.
-    facts.show_order();
-    let mut marks = copied_marks(facts)?;
-    let _ = marks.remove(&key);
-    Ok(marks)
+    put_earlier(facts, kept, earlier)?;
+    put_appeal(facts, kept, &key, appeal)?;
+    put_mark(facts, kept, &key, mark)
 }
 
-fn copied_marks(facts: &Facts) -> Result<Marks, Refusal>
-    ensures ok { IfOk result (λ copy. copy.entries ≡ (relations_of facts.now).standing) }
+/// Puts the appeal under the key, and keeps what was there.
+fn put_appeal(
+    facts: &mut Facts,
+    kept: &mut KeptRows,
+    key: &(Number, Reference),
+    appeal: Appeal,
+) -> Result<(), Refusal>
+    ensures ok { OnOk result (relations_of facts.new ≡ record (relations_of facts.old) {
+      appeals = put_row appeal_cmp (relations_of facts.old).appeals key.now appeal;
+    }) }
+    ensures back { (first : Relations) → undoing.RowsGoBack kept.old (relations_of facts.old) first
+        → undoing.RowsGoBack kept.new (relations_of facts.new) first }
     ensures memory { IfErr result (λ e. e ≡ NoMemory) }
 {
-    Ok(facts.standing.clone()?)
+    put_kept(&mut facts.appeals, &mut kept.appeals, *key, appeal)
+}
+
+/// Puts the earlier grant, if there is one, and keeps what was there.
+fn put_earlier(
+    facts: &mut Facts,
+    kept: &mut KeptRows,
+    earlier: Option<((Number, Reference), Appeal)>,
+) -> Result<(), Refusal>
+    ensures ok { OnOk result (relations_of facts.new ≡ record (relations_of facts.old) {
+      appeals = undoing.with_earlier earlier (relations_of facts.old).appeals;
+    }) }
+    ensures back { (first : Relations) → undoing.RowsGoBack kept.old (relations_of facts.old) first
+        → undoing.RowsGoBack kept.new (relations_of facts.new) first }
+    ensures memory { IfErr result (λ e. e ≡ NoMemory) }
+{
+    match earlier {
+        Some((key, appeal)) => put_appeal(facts, kept, &key, appeal),
+        None => Ok(()),
+    }
+}
+
+/// Puts the mark of the appeal under the key, if the grant bears one, and keeps what was there.
+fn put_mark(
+    facts: &mut Facts,
+    kept: &mut KeptRows,
+    key: &(Number, Reference),
+    mark: bool,
+) -> Result<(), Refusal>
+    ensures ok { OnOk result (relations_of facts.new ≡ record (relations_of facts.old) {
+      standing = undoing.marks_with mark key.now (relations_of facts.old).standing;
+    }) }
+    ensures back { (first : Relations) → undoing.RowsGoBack kept.old (relations_of facts.old) first
+        → undoing.RowsGoBack kept.new (relations_of facts.new) first }
+    ensures memory { IfErr result (λ e. e ≡ NoMemory) }
+{
+    if !mark {
+        return Ok(());
+    }
+    put_kept(&mut facts.standing, &mut kept.standing, *key, ())
 }
 
 /// Whether the decision is made already.
@@ -110,77 +201,6 @@ fn is_made(facts: &Facts, decision: &Decision, appeal: &Appeal) -> bool
         .standing
         .contains_key(&(decision.number, decision.reference));
     is_decided(decision.outcome, &decision.answer, marked, &appeal.status)
-}
-
-/// A copy of the appeals with this one decided. The decision must not be made already.
-fn decided_appeals(facts: &Facts, decision: &Decision, appeal: &Appeal) -> Result<Appeals, Refusal>
-    requires { AreSingle (relations_of facts.now) }
-    ensures ok { IfOk result (λ changed. changed.entries
-        ≡ (spec.with_outcome (relations_of facts.now) decision.now appeal.now).appeals) }
-    ensures memory { IfErr result (λ e. e ≡ NoMemory) }
-{
-    let status = status_of(decision.outcome, &decision.answer)?;
-    let decided = with_status(appeal, status)?;
-    let mut appeals = superseded_appeals(facts, decision.number, appeal, decision.outcome)?;
-    put(&mut appeals, (decision.number, decision.reference), decided)?;
-    Ok(appeals)
-}
-
-/// A copy of the appeals before the decision: if it is a grant, the earlier grant of its kind is superseded.
-fn superseded_appeals(
-    facts: &Facts,
-    number: Number,
-    appeal: &Appeal,
-    outcome: Outcome,
-) -> Result<Appeals, Refusal>
-    requires { AreSingle (relations_of facts.now) }
-    ensures ok { IfOk result (λ changed. changed.entries
-        ≡ spec.with_superseded number appeal.now outcome facts.now.appeals.entries) }
-    ensures memory { IfErr result (λ e. e ≡ NoMemory) }
-{
-    if is_grant(outcome) {
-        appeals_giving_way(facts, number, appeal)
-    } else {
-        copied_appeals(facts)
-    }
-}
-
-/// A copy of the appeals with the earlier grant superseded, if there is one.
-fn appeals_giving_way(facts: &Facts, number: Number, appeal: &Appeal) -> Result<Appeals, Refusal>
-    requires { AreSingle (relations_of facts.now) }
-    ensures ok { IfOk result (λ changed. changed.entries
-        ≡ map (spec.giving_way number appeal.now.session appeal.now.subject) facts.now.appeals.entries) }
-    ensures memory { IfErr result (λ e. e ≡ NoMemory) }
-{
-    facts.show_order();
-    match earlier_grant(facts, number, appeal) {
-        Some((key, earlier)) => appeals_with_superseded(facts, *key, earlier),
-        None => copied_appeals(facts),
-    }
-}
-
-/// A copy of the appeals with this one superseded, if it was granted.
-fn appeals_with_superseded(
-    facts: &Facts,
-    key: (Number, Reference),
-    appeal: &Appeal,
-) -> Result<Appeals, Refusal>
-    ensures ok { IfOk result (λ changed. changed.entries
-        ≡ put_row appeal_cmp facts.now.appeals.entries key
-        (record appeal.now { status = appeals.superseded appeal.now.status })) }
-    ensures memory { IfErr result (λ e. e ≡ NoMemory) }
-{
-    let superseded = with_status(appeal, superseded_status(&appeal.status)?)?;
-    let mut changed = copied_appeals(facts)?;
-    put(&mut changed, key, superseded)?;
-    Ok(changed)
-}
-
-fn copied_appeals(facts: &Facts) -> Result<Appeals, Refusal>
-    ensures ok { IfOk result (λ copy. copy.entries ≡ facts.now.appeals.entries) }
-    ensures memory { IfErr result (λ e. e ≡ NoMemory) }
-{
-    Ok(facts.appeals.clone()?)
 }
 
 /// The session of the appeal that the command decides, unless the decision is already made; none for other commands.

@@ -8,15 +8,15 @@ ghost use Rattle.exam_changes.specs.Undoing as spec;
 
 use crate::before::{Before, TablesBefore};
 use crate::rows::{put, set};
-use exam_rules::{Arrangement, Candidate, Entry, Facts, Hall, Opening, Paper, Session};
-use exam_types::{HallCode, Number, PaperCode, Refusal, SessionCode};
+use exam_rules::{Appeal, Arrangement, Candidate, Entry, Facts, Hall, Opening, Paper, Session};
+use exam_types::{HallCode, Number, PaperCode, Reference, Refusal, SessionCode};
 use std::alloc::Global;
 use std::collections::BTreeMap;
 
 /// For each key that was changed, the row that it had, or none if it had none.
 pub type Kept<K, V> = BTreeMap<K, Option<V>>;
 
-/// The rows that an import has changed, as they were.
+/// The rows that an import or a decision has changed, as they were.
 #[derive(Drop)]
 pub struct KeptRows {
     pub sessions: Kept<SessionCode, Session>,
@@ -26,6 +26,8 @@ pub struct KeptRows {
     pub candidates: Kept<Number, Candidate>,
     pub entries: Kept<(Number, PaperCode), Entry>,
     pub arrangements: Kept<Number, Arrangement>,
+    pub appeals: Kept<(Number, Reference), Appeal>,
+    pub standing: Kept<(Number, Reference), ()>,
 }
 
 impl KeptRows {
@@ -41,6 +43,8 @@ impl KeptRows {
             candidates: BTreeMap::new(alloc),
             entries: BTreeMap::new(alloc),
             arrangements: BTreeMap::new(alloc),
+            appeals: BTreeMap::new(alloc),
+            standing: BTreeMap::new(alloc),
         }
     }
 
@@ -56,6 +60,8 @@ impl KeptRows {
         put_back(&mut facts.candidates, self.candidates);
         put_back(&mut facts.entries, self.entries);
         put_back(&mut facts.arrangements, self.arrangements);
+        put_back(&mut facts.appeals, self.appeals);
+        put_back(&mut facts.standing, self.standing);
     }
 
     /// What each table was before these changes, described by what it is after them.
@@ -71,8 +77,8 @@ impl KeptRows {
             candidates: Before::Rows(&self.candidates),
             entries: Before::Rows(&self.entries),
             arrangements: Before::Rows(&self.arrangements),
-            appeals: Before::Same,
-            standing: Before::Same,
+            appeals: Before::Rows(&self.appeals),
+            standing: Before::Rows(&self.standing),
         }
     }
 }

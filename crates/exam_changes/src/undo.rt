@@ -24,16 +24,11 @@ pub enum Undo {
     NewAppeal((Number, Reference)),
     /// The appeal had this row.
     Appeal((Number, Reference), Appeal),
-    /// The rows of an import were these.
+    /// The rows of an import or of a decision were these.
     Rows(KeptRows),
     /// The openings were these.
     Openings(BTreeMap<(SessionCode, HallCode), Opening>),
-    /// The appeals and the marks of standing grants were these.
-    Decisions(BTreeMap<(Number, Reference), Appeal>, Marks),
 }
-
-/// The marks of standing grants, by candidate and reference.
-pub type Marks = BTreeMap<(Number, Reference), ()>;
 
 impl Undo {
     /// Takes the change back. Takes no memory.
@@ -54,10 +49,6 @@ impl Undo {
             }
             Undo::Rows(kept) => kept.take_back(facts),
             Undo::Openings(rows) => facts.openings = rows,
-            Undo::Decisions(appeals, marks) => {
-                facts.appeals = appeals;
-                facts.standing = marks;
-            }
         }
     }
 }
@@ -76,10 +67,6 @@ impl Undo {
             Undo::Appeal(key, _) => before.appeals = Before::Row(key),
             Undo::Rows(kept) => before = kept.tables_before(),
             Undo::Openings(rows) => before.openings = Before::Table(rows),
-            Undo::Decisions(appeals, marks) => {
-                before.appeals = Before::Table(appeals);
-                before.standing = Before::Table(marks);
-            }
         }
         before
     }

@@ -4,7 +4,7 @@ ghost use Rattle.exam_types.specs.declared.refusal.Refusal.TheVariants.{NoMemory
 ghost use Rattle.exam_rules.specs.Lists.{AreListsOf};
 ghost use Rattle.exam_rules.specs.Relations.{Code, Relations, relations_of};
 ghost use Rattle.exam_commands.specs.FactsMade.{WasMade, early_refusal, facts_made, may_pass_limit};
-ghost use Rattle.exam_commands.specs.Good.{IsGood};
+ghost use Rattle.exam_commands.specs.Good.{IsGood, marks_were_granted};
 ghost use Rattle.exam_commands.specs.Limits.{within_limits};
 ghost use Rattle.exam_commands.specs.NextPlans as planning;
 ghost use Rattle.exam_commands.specs.Orders.{IsInOrder};
@@ -124,7 +124,8 @@ fn change(
     command: &Command,
     today: Day,
 ) -> Result<(Undo, Reply), Refusal>
-    requires { AreSingle (relations_of facts.old) }
+    requires single { AreSingle (relations_of facts.old) }
+    requires marks { IsTrue (marks_were_granted (relations_of facts.old)) }
     ensures ok { OnOk result (relations_of facts.new ≡ facts_made command.now today
         (record { relations = relations_of facts.old; seats = plans.now.entries })) }
     ensures back { IfOk result (λ made. undoing.TakesBack made.0 (relations_of facts.new)
@@ -154,7 +155,9 @@ fn change(
         Command::Retract(number, reference) => {
             Ok((retract(facts, *number, *reference)?, Reply::Retracted))
         }
-        Command::Decide(decision) => Ok((decide(facts, decision, today)?, Reply::Unchanged)),
+        Command::Decide(decision) => {
+            Ok((decide(alloc, facts, decision, today)?, Reply::Unchanged))
+        }
     }
 }
 

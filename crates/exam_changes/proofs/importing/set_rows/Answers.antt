@@ -1,7 +1,5 @@
-use Rattle.std.proofs.Common.{subst, ◌∙◌}
+use Rattle.std.proofs.Common.{◌∙◌}
 use Rattle.exam_rules.specs.Relations.{Relations, relations_of}
-use Rattle.exam_changes.specs.Undoing.{RowsGoBack, TakesBack}
-use Rattle.exam_changes.specs.declared.undo.Undo.TheVariants as undo
 use Rattle.exam_changes.proofs.Undoing.{none_back, rows_back}
 use Rattle.exam_changes.proofs.importing.set_rows.Goals as goal
 

@@ -1,8 +1,8 @@
-use Rattle.std.proofs.Common.{◌≡◌, ◌∷◌, List, Option, Some, ap, sym, subst, ◌∙◌}
+use Rattle.std.proofs.Common.{◌≡◌, ◌∷◌, List, Option, ap, sym, subst, ◌∙◌}
 use Rattle.std.specs.Map.{keys_of}
 use Rattle.std.proofs.lemmas.Map.Keys.{sorted_tail}
 use Rattle.exam_rules.specs.Orders.{KeysRise}
-use Rattle.exam_commands.specs.Exchanges.{HasRows, put_back, set_row}
+use Rattle.exam_commands.specs.Exchanges.{HasRows, put_back}
 use Rattle.exam_changes.proofs.Exchanges.{has_first}
 use Rattle.exam_changes.proofs.GoingBack.{there_later}
 use Rattle.exam_changes.proofs.kept.put_back.Goals as goal

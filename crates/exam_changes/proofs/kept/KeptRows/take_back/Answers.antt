@@ -16,3 +16,9 @@ put_back-requires-4-clause-exact c = openings_exact
 
 pub put_back-requires-6-clause-exact : goal.put_back-requires-6-clause-exact
 put_back-requires-6-clause-exact c = appeals_exact
+
+pub put_back-requires-8-clause-exact : goal.put_back-requires-8-clause-exact
+put_back-requires-8-clause-exact c = appeals_exact
+
+pub put_back-requires-9-clause-exact : goal.put_back-requires-9-clause-exact
+put_back-requires-9-clause-exact c = appeals_exact
