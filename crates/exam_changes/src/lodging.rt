@@ -15,7 +15,7 @@ use crate::unknown::check_candidate;
 use exam_commands::{Lodging, Seats, has_open_appeal, is_same_subject, notice_days};
 use exam_rules::{
     Appeal, Arrangement, Facts, Session, Status, Subject, arrangement_in_force, entries_from,
-    is_clash, is_live_paper, is_member, is_paper_of, sitting,
+    is_clash, is_live_paper, is_member, is_paper_of, sitting_by_entries,
 };
 use exam_types::{Day, HallCode, Number, PaperCode, Refusal, SessionCode};
 
@@ -207,7 +207,7 @@ fn check_clash(
     if !is_live_paper(facts, session, number, paper) {
         return Err(Refusal::NoEntry);
     }
-    match sitting(facts, session, number) {
+    match sitting_by_entries(facts, session, number) {
         Some(sat) if *paper == sat => Err(Refusal::NothingToChange),
         _ => Ok(()),
     }
@@ -233,7 +233,7 @@ fn check_arrangement(
 fn has_clash(facts: &Facts, session: &SessionCode, number: Number) -> bool
     ensures { result ≡ not (length (sessions.clash_papers (relations_of facts.now) session.now number) == 0) }
 {
-    let sat = sitting(facts, session, number);
+    let sat = sitting_by_entries(facts, session, number);
     for (key, entry) in entries_from(facts, number) {
         if key.0 != number {
             break;

@@ -15,3 +15,4 @@ pub mod InForce
 pub mod InOrder
 pub mod NamedDesks
 pub mod Relisting
+pub mod LastGrants

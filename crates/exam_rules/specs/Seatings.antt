@@ -1,6 +1,6 @@
 -- Which halls fit a member, and the seating problem of a session.
 use Rattle.std.specs.Prelude.{◌≡◌, ◌⊎◌, ◌<◌, length, ℕ, ◌+◌, ◌&&◌, ◌||◌, nat_le, nat_lt, nat_eq, not, Bool}
-use Rattle.std.specs.Prelude.{false, List, [], ◌∷◌, map, filter, count_by, Option, None, Some, if◌then◌else◌}
+use Rattle.std.specs.Prelude.{true, false, List, [], ◌∷◌, map, filter, count_by, Option, None, Some, if◌then◌else◌}
 use Rattle.std.specs.List.{list_any}
 use Rattle.std.specs.Option.{option_map, option_and_then, option_map_or, option_cmp}
 use Rattle.std.specs.declared.cmp.Ordering.{Ordering}
@@ -19,7 +19,7 @@ use Rattle.exam_plan.specs.Matching.{Seating, Plan}
 use Rattle.exam_plan.specs.HallSets.{most_halls}
 use Rattle.exam_plan.specs.Problems.{Problem, most_members, seating_of}
 use Rattle.exam_rules.specs.Relations.{Code, Relations, pair_cmp, code_cmp, same_code, opening_cmp, seat_cmp}
-use Rattle.exam_rules.specs.Relations.{row_at}
+use Rattle.exam_rules.specs.Relations.{has_row, row_at}
 use Rattle.exam_rules.specs.Sessions.{members, has_live_entry, sitting, sitting_row, arrangement_in_force}
 use Rattle.exam_rules.specs.Sessions.{barred_halls, end_of, IsSessionRefusal}
 
@@ -136,9 +136,10 @@ indexed_seating r s = seating_of (problem_of r s)
 abbrev pub IsTooLarge : Relations → Code → Type 0
 IsTooLarge r s = (most_members < length (members r s)) ⊎ (most_halls < length (open_halls r s))
 
--- the refusals of every call on a session, and that for more members or open halls than any session may have
+-- the refusals of every call on a session, and that for a known session with more members or open halls than any may have
 abbrev pub IsProblemRefusal : Relations → Code → Refusal → Type 0
-IsProblemRefusal r s e = IsSessionRefusal r s e ⊎ ((e ≡ TooMany) × IsTooLarge r s)
+IsProblemRefusal r s e =
+    IsSessionRefusal r s e ⊎ ((e ≡ TooMany) × IsTooLarge r s × (has_row code_cmp r.sessions s ≡ true))
 
 -- ---- definitions that only the code uses
 

@@ -7,7 +7,7 @@ ghost use Rattle.exam_rules.specs.Sessions as spec;
 
 use crate::facts::Facts;
 use crate::lists::{lists_with, numbers_of};
-use crate::sessions::{entries_from, is_clash, is_paper_of, sitting};
+use crate::sessions::{entries_from, is_clash, is_paper_of, sitting_by_entries};
 use exam_types::{Number, PaperCode, Refusal, SessionCode};
 use std::alloc::Global;
 
@@ -56,7 +56,7 @@ fn push_clashes(
         ++ spec.clashes_of (relations_of facts.now) session.now number) }
     ensures memory { IfErr result (λ e. e ≡ NoMemory) }
 {
-    let sat = sitting(facts, session, number);
+    let sat = sitting_by_entries(facts, session, number);
     for (key, entry) in entries_from(facts, number) {
         if key.0 != number {
             break;

@@ -1,5 +1,5 @@
 //! When a member ends, and which halls fit.
-ghost use Rattle.std.specs.Prelude.{◌≡◌, ◌<◌, ◌≤◌, ◌&&◌, ℕ, not, length, map, IsTrue, IfOk, IfErr};
+ghost use Rattle.std.specs.Prelude.{◌≡◌, ◌<◌, ◌≤◌, ◌&&◌, ℕ, None, not, length, map, if◌then◌else◌, IsTrue, IfOk, IfErr};
 ghost use Rattle.std.specs.List.{list_any};
 ghost use Rattle.std.specs.Option.{option_map, option_and_then};
 ghost use Rattle.exam_plan.specs.HallSets.{most_halls, holds, halls_below};
@@ -11,7 +11,7 @@ ghost use Rattle.exam_rules.specs.Seatings as seatings;
 use crate::appeals::{barred_halls, is_barred};
 use crate::facts::Facts;
 use crate::rows::{Arrangement, Hall, Opening, Paper, Session};
-use crate::sessions::{arrangement_in_force, has_live_entry, sitting};
+use crate::sessions::{arrangement_in_force, is_member, sitting_by_entries};
 use exam_plan::HallSet;
 use exam_types::{
     ClosingTime, Features, HallCode, Minute, Number, PaperCode, Refusal, SessionCode,
@@ -142,19 +142,32 @@ fn suits_opened(terms: &Option<Terms>, room: &Option<Room>) -> bool
     }
 }
 
-/// When the member ends, or none for a number without a live entry for a paper of the session. It may be past midnight.
-/// Does not check that the candidate exists; in an office every entry has one.
+/// When the member ends; it may be past midnight. None for a number that is no member's.
 pub fn finish(facts: &Facts, session: &SessionCode, number: Number) -> Option<Minute>
+    ensures { result ≡ (if spec.is_member (relations_of facts.now) session.now number
+        then spec.finish (relations_of facts.now) session.now number else None) }
+{
+    if is_member(facts, session, number) {
+        finish_by_entries(facts, session, number)
+    } else {
+        None
+    }
+}
+
+/// When a candidate ends. Does not look whether the number is a candidate's: it is for callers who know that, and goes
+/// by entries and appeals alone.
+pub fn finish_by_entries(facts: &Facts, session: &SessionCode, number: Number) -> Option<Minute>
     ensures { result ≡ spec.finish (relations_of facts.now) session.now number }
 {
     let Some(row) = facts.sessions.get(session) else {
         return None;
     };
     let arrangement = arrangement_in_force(facts, session, number);
-    finish_beside(facts, row, sitting(facts, session, number), &arrangement)
+    let sat = sitting_by_entries(facts, session, number);
+    finish_beside(facts, row, sat, &arrangement)
 }
 
-/// The same in a session with this row, for a member who sits this paper under this arrangement.
+/// When a member ends who sits this paper under this arrangement in a session with this row.
 pub fn finish_beside(
     facts: &Facts,
     row: &Session,
@@ -168,14 +181,15 @@ pub fn finish_beside(
     Some(end_minute(row, paper, arrangement))
 }
 
-/// Whether the hall is opened for the session and fits the member. No hall fits a number without a live entry for a
-/// paper of the session. Does not check that the candidate exists; in an office every entry has one.
+/// Whether the hall is opened for the session and fits the member. No hall fits a number that is no member's.
 pub fn fits(facts: &Facts, session: &SessionCode, number: Number, hall: &HallCode) -> bool
-    ensures { result ≡ seatings.fits (relations_of facts.now) session.now number hall.now }
+    ensures { result ≡ (spec.is_member (relations_of facts.now) session.now number
+        && seatings.fits (relations_of facts.now) session.now number hall.now) }
 {
-    has_live_entry(facts, session, number)
+    let sat = sitting_by_entries(facts, session, number);
+    is_member(facts, session, number)
         && suits_opened(
-            &sitting_terms(facts, session, number, sitting(facts, session, number)),
+            &sitting_terms(facts, session, number, sat),
             &opened_room(facts, session, hall),
         )
         && !is_barred(facts, session, number, hall)

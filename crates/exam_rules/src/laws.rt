@@ -1,5 +1,8 @@
-//! What holds for indices holds for numbers and codes, because both are sorted in any facts (`lists_rise`).
-ghost use Rattle.std.specs.Prelude.{◌≡◌, ◌↔◌, ◌<◌, ◌≤◌, ℕ, List, Option, None, Some, length, map};
+//! Laws of the rules: what holds for indices holds for numbers and codes, because both are sorted in any facts
+//! (`lists_rise`); and which standing grant counts.
+ghost use Rattle.std.specs.Prelude.{◌≡◌, ◌↔◌, ◌<◌, ◌≤◌, ℕ, List, Option, None, Some, false, length, map};
+ghost use Rattle.std.specs.Prelude.{All, Contains};
+ghost use Rattle.std.specs.Ordering.{is_gt};
 ghost use Rattle.std.specs.Prelude.{slice_index_or};
 ghost use Rattle.std.specs.Option.{option_map, option_and_then};
 ghost use Rattle.exam_plan.specs.Matching.{Plan, SamePlan, IsLawful, IsBest, IsCertificate, IsContested};
@@ -8,7 +11,8 @@ ghost use Rattle.exam_plan.specs.Chains.{Chain, IsChain, IsLeastChain, augmented
 ghost use Rattle.exam_plan.specs.Repair.{kept_part, IsSweep, IsRepair};
 ghost use Rattle.exam_plan.specs.Problems.{most_members, plan_at, ranks_before};
 ghost use Rattle.exam_rules.specs.Relations.{Code, Relations};
-ghost use Rattle.exam_rules.specs.Sessions.{members};
+ghost use Rattle.exam_rules.specs.declared.standing.StandingGrant.{StandingGrant};
+ghost use Rattle.exam_rules.specs.Sessions.{last_until, members, standing_cmp, standing_grants};
 ghost use Rattle.exam_rules.specs.Seatings.{indexed_seating, seating, problem_of, desks, comes_before};
 ghost use Rattle.exam_rules.specs.Orders.{AreInOrder};
 ghost use Rattle.exam_rules.specs.Names.{ListsRise, SeatsInOpenHalls, named_plan, indexed_plan, named_chain};
@@ -182,4 +186,16 @@ pub fn repair_is_one()
     ensures { (r : Relations) (s : Code) (first : Option ℕ) (before one other : Plan ℕ Code)
         → IsRepair (seating r s) first before one → IsRepair (seating r s) first before other
         → SamePlan one other }
+{}
+
+/// The standing grant that counts on a day is one of the candidate's, and its date is not later than the day. No other
+/// such grant of theirs is of a later date, or of the same date and a greater session code. None counts exactly if each
+/// has a later date.
+pub fn last_standing_grant_counts()
+    ensures last { (r : Relations) (c day : ℕ) (g : StandingGrant) → last_until day (standing_grants r c) ≡ Some g
+        → Contains (standing_grants r c) g × (g.day ≤ day)
+        × All (λ (other : StandingGrant). other.day ≤ day → is_gt (standing_cmp other g) ≡ false)
+        (standing_grants r c) }
+    ensures none { (r : Relations) (c day : ℕ) → (last_until day (standing_grants r c) ≡ None)
+        ↔ All (λ (g : StandingGrant). day < g.day) (standing_grants r c) }
 {}

@@ -15,12 +15,12 @@ mod standing;
 pub use appeals::{appeals_from, has_at_most};
 pub use clashing::{clashes, clashes_among};
 pub use facts::Facts;
-pub use fit::{finish, finish_beside, fits};
+pub use fit::{finish, finish_beside, finish_by_entries, fits};
 pub use laws::{
     certificates_by_name, chains_by_index, chains_by_name, contested_by_name, desk_numbers_by_name,
-    desks_are_of_their_own, kept_parts_by_name, lists_are_plans, lists_rise, plans_by_index,
-    plans_by_name, repair_is_one, repairs_by_index, repairs_by_name, sweeps_by_index,
-    sweeps_by_name,
+    desks_are_of_their_own, kept_parts_by_name, last_standing_grant_counts, lists_are_plans,
+    lists_rise, plans_by_index, plans_by_name, repair_is_one, repairs_by_index, repairs_by_name,
+    sweeps_by_index, sweeps_by_name,
 };
 pub use lists::{
     BySession, Entrant, SessionLists, append_by_session, entered_session, session_lists,
@@ -32,6 +32,6 @@ pub use rows::{
 pub use seating::{ListedProblem, indexed_problem, problem};
 pub use sessions::{
     arrangement_in_force, entries_from, is_clash, is_live_paper, is_member, is_paper_of, sitting,
-    sitting_beside,
+    sitting_beside, sitting_by_entries,
 };
 pub use standing::is_standing;

@@ -14,7 +14,7 @@ ghost use Rattle.exam_rules.specs.Lists as listing;
 
 use crate::facts::Facts;
 use crate::rows::Entry;
-use crate::sessions::{entries_from, least_live_paper, sitting, sitting_beside};
+use crate::sessions::{entries_from, least_live_paper, sitting_beside, sitting_by_entries};
 use exam_types::{HallCode, Number, PaperCode, Refusal, SessionCode};
 use std::alloc::Global;
 use std::collections::BTreeMap;
@@ -579,7 +579,7 @@ impl SessionLists {
     }
 }
 
-/// The paper that the candidate sits, as `sitting` finds it. `entrants` are the members of the session; for a member it
+/// What [`sitting_by_entries`] finds for the candidate. `entrants` are the members of the session; for a member it
 /// reads no entry.
 pub fn sitting_among(
     facts: &Facts,
@@ -592,7 +592,7 @@ pub fn sitting_among(
 {
     match paper_among(entrants, number) {
         Some(least) => sitting_beside(facts, session, number, least),
-        None => sitting(facts, session, number),
+        None => sitting_by_entries(facts, session, number),
     }
 }
 

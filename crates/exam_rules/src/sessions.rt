@@ -1,5 +1,5 @@
 //! Who belongs to a session, which paper each sits, and under which arrangement.
-ghost use Rattle.std.specs.Prelude.{◌≡◌, ◌↔◌, [], Some, filter, codes, Contains, IsTrue};
+ghost use Rattle.std.specs.Prelude.{◌≡◌, ◌↔◌, [], None, Some, filter, codes, Contains, IsTrue, if◌then◌else◌};
 ghost use Rattle.std.specs.BTreeMap.Range.{entries_between};
 ghost use Rattle.std.specs.declared.ops.Bound.TheVariants.{Unbounded, Excluded};
 ghost use Rattle.exam_rules.specs.Relations.{Code, relations_of, entry_cmp, is_row_of, leading};
@@ -116,9 +116,21 @@ fn granted_sitting(facts: &Facts, session: &SessionCode, number: Number) -> Opti
 }
 
 /// The paper that the member sits: that of the granted clash appeal if it is live and of this session, otherwise the
-/// least live one, and none for a number without a live entry there. Does not check that the candidate exists; in an
-/// office every entry has one.
+/// least live one. None for a number that is no member's.
 pub fn sitting(facts: &Facts, session: &SessionCode, number: Number) -> Option<PaperCode>
+    ensures { result ≡ (if spec.is_member (relations_of facts.now) session.now number
+        then spec.sitting (relations_of facts.now) session.now number else None) }
+{
+    if is_member(facts, session, number) {
+        sitting_by_entries(facts, session, number)
+    } else {
+        None
+    }
+}
+
+/// The paper that a candidate sits. Does not look whether the number is a candidate's: it is for callers who know that,
+/// and goes by entries and appeals alone.
+pub fn sitting_by_entries(facts: &Facts, session: &SessionCode, number: Number) -> Option<PaperCode>
     ensures { result ≡ spec.sitting (relations_of facts.now) session.now number }
 {
     match granted_sitting(facts, session, number) {
@@ -127,7 +139,7 @@ pub fn sitting(facts: &Facts, session: &SessionCode, number: Number) -> Option<P
     }
 }
 
-/// The same for a candidate whose least live paper there is this one.
+/// What [`sitting_by_entries`] finds for a candidate whose least live paper there is this one.
 pub fn sitting_beside(
     facts: &Facts,
     session: &SessionCode,

@@ -15,8 +15,8 @@ ghost use Rattle.exam_views.specs.Views as views;
 use crate::view::{AppealRow, Clash, Member, SessionView};
 use exam_commands::{Seats, state_of, stored_plan};
 use exam_rules::{
-    Appeal, Entrant, Facts, ListedProblem, Opening, Session, SessionLists, clashes_among, finish,
-    indexed_problem, sitting, sitting_among,
+    Appeal, Entrant, Facts, ListedProblem, Opening, Session, SessionLists, clashes_among,
+    finish_by_entries, indexed_problem, sitting_among, sitting_by_entries,
 };
 use exam_types::{HallCode, Number, PaperCode, Reference, Refusal, SessionCode};
 use std::alloc::Global;
@@ -137,7 +137,7 @@ fn clash_of(facts: &Facts, session: &SessionCode, pair: (Number, PaperCode)) -> 
 {
     Clash {
         number: pair.0,
-        sitting: sitting(facts, session, pair.0).unwrap(),
+        sitting: sitting_by_entries(facts, session, pair.0).unwrap(),
         paper: pair.1,
     }
 }
@@ -241,6 +241,6 @@ fn member_of(
         number,
         name: candidate.name.copy()?,
         paper: sitting_among(facts, entrants, session, number).unwrap(),
-        finish: finish(facts, session, number).unwrap(),
+        finish: finish_by_entries(facts, session, number).unwrap(),
     })
 }

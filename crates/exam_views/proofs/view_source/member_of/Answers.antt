@@ -10,4 +10,4 @@ pub unwrap-requires : goal.unwrap-requires
 unwrap-requires c = ap is_some c.sitting_among.ensures ∙ member_sits (relations_of c.args.facts.now) c.args.session.now c.args.number c.requires.member
 
 pub unwrap-requires-2 : goal.unwrap-requires-2
-unwrap-requires-2 c = ap is_some c.finish.ensures ∙ member_ends (relations_of c.args.facts.now) c.args.session.now c.args.number c.requires.known c.requires.member
+unwrap-requires-2 c = ap is_some c.finish_by_entries.ensures ∙ member_ends (relations_of c.args.facts.now) c.args.session.now c.args.number c.requires.known c.requires.member
