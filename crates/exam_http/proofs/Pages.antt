@@ -1,7 +1,8 @@
 -- From what a call gives to what is answered.
-use Rattle.std.proofs.Common.{◌≡◌, ◌∙◌, ℕ, List, [], ◌∷◌, ◌++◌, map, Option, None, Some, true, false, refl, ap}
+use Rattle.std.proofs.Common.{◌≡◌, ◌∙◌, ℕ, List, [], ◌∷◌, ◌++◌, map, Option, None, Some, true, false, refl, ap, sym, subst}
 use Rattle.std.proofs.Common.{inl, inr}
-use Rattle.std.specs.Prelude.{IsSome, IsSomeAnd, codes, option_and_then}
+use Rattle.std.specs.Prelude.{◌⊎◌, IfOk, IsSome, IsSomeAnd, Result, Ok, Err, codes, option_and_then}
+use Rattle.exam_types.specs.declared.refusal.Refusal.{Refusal}
 use Rattle.std.specs.List.{flat_map}
 use Rattle.std.specs.Option.{option_map}
 use Rattle.std.specs.Ordering.{nat_cmp}
@@ -11,13 +12,11 @@ use Rattle.exam_rules.specs.Relations.{Code, row_at}
 use Rattle.exam_commands.specs.Own.{OwnRows, OwnSessionRow, own_of, own_rows, shown}
 use Rattle.exam_commands.specs.declared.own.Own.{Own}
 use Rattle.exam_commands.specs.State.{State}
-use Rattle.exam_views.specs.Desks.{rows_with, session_with}
-use Rattle.exam_views.specs.declared.own_source.Desks.{Desks}
-use Rattle.exam_views.specs.declared.own_source.Desks.TheVariants as desks
+use Rattle.exam_views.specs.Desks.{rows_without_desks, session_without_desk}
 use Rattle.exam_store.specs.Stores.{OfficeIn}
 use Rattle.exam_request.specs.Answer.{Told, ok_told}
 use Rattle.exam_request.specs.Asked.{Request}
-use Rattle.exam_request.specs.Bodies.{clash_object, missed_in, page_body, seat_object}
+use Rattle.exam_request.specs.Bodies.{clash_object, missed_in, page_body}
 use Rattle.exam_request.specs.Json.{list_body}
 use Rattle.exam_request.specs.declared.choice.Named.{Named}
 use Rattle.exam_request.specs.declared.own_bodies.Page.{Page}
@@ -51,28 +50,45 @@ nobody office target at = ap (λ n. option_map named_as (option_and_then (own_of
 -- ---- a page
 
 -- who is shown is viewed
-pub viewed : (desks : Desks) (own : Option Own) (rows : Option OwnRows)
-    → option_map shown own ≡ option_map (rows_with desks) rows → IsSome rows → IsSome own
-viewed desks None None is some = absurd (let differ : false ≡ true = some in cc)
-viewed desks None (Some rows) is some = absurd (let differ : None ≡ Some (rows_with desks rows) = is in cc)
-viewed desks (Some own) rows is some = refl
-
--- each session with its desk is the session
-all_shown : (own : List OwnSessionRow) → map (session_with desks.Shown) own ≡ own
-all_shown [] = refl
-all_shown (session ∷ rest) = ap (λ sessions. session ∷ sessions) (all_shown rest)
+pub viewed : (page : Page) (own : Option Own) (rows : Option OwnRows)
+    → option_map (λ own. page_body page (shown own)) own ≡ option_map (page_body page) rows → IsSome rows → IsSome own
+viewed page None None is some = absurd (let differ : false ≡ true = some in cc)
+viewed page None (Some rows) is some = absurd (let differ : None ≡ Some (page_body page rows) = is in cc)
+viewed page (Some own) rows is some = refl
 
 -- what is missed does not depend on desks
 same_missed : (own : List OwnSessionRow)
-    → flat_map missed_in (map (session_with desks.Hidden) own) ≡ flat_map missed_in own
+    → flat_map missed_in (map session_without_desk own) ≡ flat_map missed_in own
 same_missed [] = refl
 same_missed (session ∷ rest) = ap (λ missed. missed_in session ++ missed) (same_missed rest)
 
-pub same_seats : (own : OwnRows) → page_body page.Seats (rows_with desks.Shown own) ≡ page_body page.Seats own
-same_seats own = ap (λ sessions. list_body (codes "seats") (map seat_object sessions)) (all_shown own.sessions)
-
-pub same_clashes : (own : OwnRows) → page_body page.Clashes (rows_with desks.Hidden own) ≡ page_body page.Clashes own
+same_clashes : (own : OwnRows) → page_body page.Clashes (rows_without_desks own) ≡ page_body page.Clashes own
 same_clashes own = ap (λ missed. list_body (codes "clashes") (map clash_object missed)) (same_missed own.sessions)
+
+-- a page of all rows of whoever is viewed
+pub whole_viewed : (page : Page) (viewed : Result (Option Own) Refusal) (rows : Option OwnRows) → IfOk viewed (λ own. option_map shown own ≡ rows)
+    → IfOk viewed (λ own. option_map (λ own. page_body page (shown own)) own ≡ option_map (page_body page) rows)
+whole_viewed page (Err refusal) rows is = is
+whole_viewed page (Ok own) rows is = through own ∙ ap (option_map (page_body page)) is
+  where
+    through : (own : Option Own) → option_map (λ own. page_body page (shown own)) own ≡ option_map (page_body page) (option_map shown own)
+    through None = refl
+    through (Some own) = refl
+
+-- a page without desks, of all rows but the desks of whoever is viewed
+pub deskless_viewed : (shows : Page) → (shows ≡ page.Clashes) ⊎ (shows ≡ page.Appeals) → (viewed : Result (Option Own) Refusal) (rows : Option OwnRows)
+    → IfOk viewed (λ own. option_map shown own ≡ option_map rows_without_desks rows)
+    → IfOk viewed (λ own. option_map (λ own. page_body shows (shown own)) own ≡ option_map (page_body shows) rows)
+deskless_viewed shows which (Err refusal) rows is = is
+deskless_viewed shows which (Ok own) rows is = whole_viewed shows (Ok own) (option_map rows_without_desks rows) is ∙ by which rows
+  where
+    same : (shows ≡ page.Clashes) ⊎ (shows ≡ page.Appeals) → (rows : OwnRows) → page_body shows (rows_without_desks rows) ≡ page_body shows rows
+    same (inl clashes) rows = subst (λ p. page_body p (rows_without_desks rows) ≡ page_body p rows) (sym clashes) (same_clashes rows)
+    same (inr appeals) rows = subst (λ p. page_body p (rows_without_desks rows) ≡ page_body p rows) (sym appeals) refl
+
+    by : (shows ≡ page.Clashes) ⊎ (shows ≡ page.Appeals) → (rows : Option OwnRows) → option_map (page_body shows) (option_map rows_without_desks rows) ≡ option_map (page_body shows) rows
+    by which None = refl
+    by which (Some rows) = ap Some (same which rows)
 
 pub page_told : (own : Option OwnRows) (page : Page) (body : List ℕ) (told : Told) → IsSomeAnd own (λ r. body ≡ page_body page r) → told ≡ ok_told body → IsSomeAnd own (λ r. told ≡ ok_told (page_body page r))
 page_told None page body told is tells = absurd is

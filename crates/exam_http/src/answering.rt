@@ -3,8 +3,7 @@ ghost use Rattle.std.specs.Prelude.{◌≡◌, ◌⊎◌, option_and_then, optio
 ghost use Rattle.exam_types.specs.declared.refusal.Refusal.TheVariants.{NoMemory};
 ghost use Rattle.exam_rules.specs.Relations.{Code};
 ghost use Rattle.exam_commands.specs.Headline.{IsSeated};
-ghost use Rattle.exam_commands.specs.Own.{OwnRows, own_of};
-ghost use Rattle.exam_views.specs.Desks.{rows_with};
+ghost use Rattle.exam_commands.specs.Own.{own_of, shown};
 ghost use Rattle.exam_request.specs.Answer.{ok_told, refusal_told};
 ghost use Rattle.exam_request.specs.Asked.{asked_of, request_of};
 ghost use Rattle.exam_request.specs.Bodies as bodies;
@@ -12,7 +11,7 @@ ghost use Rattle.exam_request.specs.Choices.{number_named};
 ghost use Rattle.exam_request.specs.Targets as targets;
 ghost use Rattle.exam_http.specs.Answering as spec;
 
-use exam_office::{AppealState, Command, Desks, Reply};
+use exam_office::{AppealState, Command, Own, Reply};
 use exam_request::{
     Answer, Asked, Choice, Found, Named, Page, Request, candidate_of, choose, find, page_body,
     server_routes,
@@ -128,18 +127,25 @@ fn own_page<S: Alter>(
     ensures memory { IfErr result (λ e. e ≡ NoMemory) }
     ensures same { store.new ≡ store.old }
 {
-    let desks = desks_on(page);
-    let own = store.view_candidate(alloc, number, desks)?.unwrap();
+    let own = viewed(alloc, store, number, page)?.unwrap();
     page_body(alloc, page, &own)
 }
 
-/// Whether the page shows desks. No page depends on desks that it does not show.
-fn desks_on(page: Page) -> Desks
-    ensures { (own : OwnRows) → bodies.page_body page (rows_with result own) ≡ bodies.page_body page own }
+/// The candidate's rows, with what the page shows of them: desks are counted only for the page that has them.
+fn viewed<S: Alter>(
+    alloc: Global,
+    store: &mut Store<S>,
+    number: Number,
+    page: Page,
+) -> Result<Option<Own>, Refusal>
+    ensures ok { IfOk result (λ own. option_map (λ own. bodies.page_body page (shown own)) own
+        ≡ option_map (bodies.page_body page) (own_of store.old.office number)) }
+    ensures memory { IfErr result (λ e. e ≡ NoMemory) }
+    ensures same { store.new ≡ store.old }
 {
     match page {
-        Page::Seats => Desks::Shown,
-        Page::Clashes | Page::Appeals => Desks::Hidden,
+        Page::Seats => store.view_candidate(alloc, number),
+        Page::Clashes | Page::Appeals => store.view_without_desks(alloc, number),
     }
 }
 

@@ -26,7 +26,7 @@ pub use exam_laws::{
     repeated_lodging_changes_nothing, repeated_retraction_changes_nothing, untouched_session_stays,
 };
 pub use exam_views::{
-    AppealRow, AppealSource, Clash, Desks, ListedAppeals, Seat, SessionShortage, SessionView,
+    AppealRow, AppealSource, Clash, ListedAppeals, Seat, SessionShortage, SessionView,
 };
 pub use lending::part_for;
 pub use office::Office;

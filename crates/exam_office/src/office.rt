@@ -14,14 +14,14 @@ ghost use Rattle.exam_commands.specs.Orders.{IsInOrder};
 ghost use Rattle.exam_commands.specs.Own.{own_of, shown};
 ghost use Rattle.exam_rules.specs.Sessions.{IsSessionRefusal};
 ghost use Rattle.exam_commands.specs.State.{empty_state};
-ghost use Rattle.exam_views.specs.Desks.{rows_with};
+ghost use Rattle.exam_views.specs.Desks.{rows_without_desks};
 ghost use Rattle.exam_views.specs.Views.{IsViewOf};
 
 use exam_commands::{Own, Seats};
 use exam_judging::{first_bad_listed, limits};
 use exam_rules::{Facts, SessionLists, session_lists};
 use exam_types::{Number, Refusal, SessionCode};
-use exam_views::{Desks, SessionView, own_source, view_source};
+use exam_views::{SessionView, own_source, view_source};
 use std::alloc::Global;
 use std::collections::BTreeMap;
 use std::marker::Model;
@@ -101,13 +101,22 @@ impl Office {
     }
 
     /// The candidate with the number, with their sessions and their appeals, or none. The time depends on their own
-    /// rows and, if desks are shown, on how many sit in their sessions. Takes no memory for an unknown number.
-    pub fn own(&self, alloc: Global, number: Number, desks: Desks) -> Result<Option<Own>, Refusal>
-        ensures ok { IfOk result (λ own. option_map shown own
-            ≡ option_map (rows_with desks) (own_of self.now number)) }
+    /// rows and on how many sit in their sessions, since their desks are counted. Takes no memory for an unknown
+    /// number.
+    pub fn own(&self, alloc: Global, number: Number) -> Result<Option<Own>, Refusal>
+        ensures ok { IfOk result (λ own. option_map shown own ≡ own_of self.now number) }
         ensures memory { IfErr result (λ e. (e ≡ NoMemory) × IsSome (own_of self.now number)) }
     {
-        own_source::own_of(alloc, &self.facts, &self.lists, &self.seats, number, desks)
+        own_source::own_of(alloc, &self.facts, &self.lists, &self.seats, number)
+    }
+
+    /// What `own` shows but for the desks. Counts nobody: the time depends on the candidate's own rows.
+    pub fn own_without_desks(&self, alloc: Global, number: Number) -> Result<Option<Own>, Refusal>
+        ensures ok { IfOk result (λ own. option_map shown own
+            ≡ option_map rows_without_desks (own_of self.now number)) }
+        ensures memory { IfErr result (λ e. (e ≡ NoMemory) × IsSome (own_of self.now number)) }
+    {
+        own_source::own_without_desks(alloc, &self.facts, &self.seats, number)
     }
 
     /// Whether no session has more openings than `openings`, and no set of features a greater sum than `greatest_sum`:

@@ -12,7 +12,7 @@ ghost use Rattle.exam_commands.specs.Headline.{IsSeated};
 ghost use Rattle.exam_commands.specs.Orders.{IsInOrder};
 ghost use Rattle.exam_commands.specs.Own.{own_of, shown};
 ghost use Rattle.exam_commands.specs.State.{empty_state};
-ghost use Rattle.exam_views.specs.Desks.{rows_with};
+ghost use Rattle.exam_views.specs.Desks.{rows_without_desks};
 ghost use Rattle.exam_views.specs.Views.{IsViewOf};
 ghost use Rattle.exam_store.specs.Applied.{MayApply, FailsToApply, TurnsBy, Applies, AreApplied};
 ghost use Rattle.exam_tables.specs.Faults.{is_store_refusal};
@@ -28,7 +28,7 @@ ghost use Rattle.exam_tables.specs.Versions.{FailsToCreate, IsBlank};
 use crate::appeals::send_kept;
 use crate::loading::load_version;
 use crate::saving::save;
-use exam_office::{Command, Desks, Draft, Office, Own, Reply, SessionView};
+use exam_office::{Command, Draft, Office, Own, Reply, SessionView};
 use exam_tables::{AppealText, NEWEST, SendFault, is_blank, save_empty, version_of};
 use exam_types::{AccessCode, Day, Number, Refusal, SessionCode};
 use sqlite::{Alter, Connection, MemStore};
@@ -244,19 +244,28 @@ impl<S: Alter> Store<S> {
         Some(self.office.facts().candidates.get(&number)?.code)
     }
 
-    /// What the office shows of one candidate, or none if there is no such candidate.
-    pub fn view_candidate(
-        &mut self,
-        alloc: Global,
-        number: Number,
-        desks: Desks,
-    ) -> Result<Option<Own>, Refusal>
-        ensures ok { IfOk result (λ own. option_map shown own
-            ≡ option_map (rows_with desks) (own_of self.old.office number)) }
+    /// What the office shows of one candidate, or none if there is no such candidate. Their desks are counted over all
+    /// who sit in their sessions.
+    pub fn view_candidate(&mut self, alloc: Global, number: Number) -> Result<Option<Own>, Refusal>
+        ensures ok { IfOk result (λ own. option_map shown own ≡ own_of self.old.office number) }
         ensures memory { IfErr result (λ e. (e ≡ NoMemory) × IsSome (own_of self.old.office number)) }
         ensures same { self.new ≡ self.old }
     {
-        self.office.own(alloc, number, desks)
+        self.office.own(alloc, number)
+    }
+
+    /// What `view_candidate` shows but for the desks. Counts nobody.
+    pub fn view_without_desks(
+        &mut self,
+        alloc: Global,
+        number: Number,
+    ) -> Result<Option<Own>, Refusal>
+        ensures ok { IfOk result (λ own. option_map shown own
+            ≡ option_map rows_without_desks (own_of self.old.office number)) }
+        ensures memory { IfErr result (λ e. (e ≡ NoMemory) × IsSome (own_of self.old.office number)) }
+        ensures same { self.new ≡ self.old }
+    {
+        self.office.own_without_desks(alloc, number)
     }
 
     /// Sends the text of the session's appeals, by candidate and reference, each as soon as the database shows it, so

@@ -1,4 +1,5 @@
 pub mod Showing
 pub mod OwnSeats
 pub mod OwnRows
+pub mod OwnDesks
 pub mod OwnEntered

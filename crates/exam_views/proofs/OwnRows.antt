@@ -19,9 +19,8 @@ use Rattle.exam_commands.specs.declared.own.OwnAppeal.{OwnAppeal}
 use Rattle.exam_commands.specs.declared.own.OwnSession.{OwnSession}
 use Rattle.exam_commands.specs.Own.{OwnSessionRow, own_appeal, own_session, own_sessions, shown_session}
 use Rattle.exam_commands.specs.State.{State}
-use Rattle.exam_views.specs.Desks.{session_with}
+use Rattle.exam_views.specs.Desks.{session_without_desk}
 use Rattle.exam_views.proofs.OwnEntered.{known_row, rows_of, same_sessions, unknown_row}
-use Rattle.exam_views.specs.declared.own_source.Desks.{Desks}
 
 -- the candidate's appeals at the beginning of these rows
 abbrev pub appeals_left : Relations → ℕ → List ((ℕ × Code) × Appeal) → List OwnAppeal
@@ -36,10 +35,10 @@ appeal_turn r n k a copy marked rows rest before after whole own same bears spli
     (pushed ∙ ap (λ x. before ++ record { reference = k.1; appeal = x; standing = marked } ∷ []) same ∙ ap (λ m. before ++ record { reference = k.1; appeal = a; standing = m } ∷ []) bears)
     (ap (λ t. before ++ t) (sym first ∙ ap (appeals_left r n) (sym split)) ∙ so_far)
 
--- the candidate's sessions among these, with what is shown of their desks
-abbrev pub sessions_left : Desks → State → ℕ → List (Code × Session) → List OwnSessionRow
-sessions_left desks office c rows =
-    filter_map (λ (held : Code × Session). option_map (session_with desks) (own_session office c held))
+-- the candidate's sessions among these, but for the desks
+abbrev pub sessions_left : State → ℕ → List (Code × Session) → List OwnSessionRow
+sessions_left office c rows =
+    filter_map (λ (held : Code × Session). option_map session_without_desk (own_session office c held))
     (filter (λ (held : Code × Session). is_member office.relations held.0 c) rows)
 
 mapped : {A B C : Type 0} (f : B → C) (g : A → Option B) (xs : List A)
@@ -53,42 +52,42 @@ mapped {A} {B} f g (x ∷ xs) = ap (cons_option (option_map f (g x))) (mapped f 
     onto (Some y) = refl
 
 -- at first all of them are left
-pub all_left : (desks : Desks) (office : State) (c : ℕ) (held : List (Code × Vec Code Global)) → ((s : Code) → listed held s ≡ live_papers office.relations s c)
+pub all_left : (office : State) (c : ℕ) (held : List (Code × Vec Code Global)) → ((s : Code) → listed held s ≡ live_papers office.relations s c)
     → KeysRise code_cmp held → KeysRise code_cmp office.relations.sessions
-    → sessions_left desks office c (rows_of office.relations (keys_of held)) ≡ map (session_with desks) (own_sessions office c)
-all_left desks office c held are up rise =
-    ap (filter_map (λ (held : Code × Session). option_map (session_with desks) (own_session office c held))) (same_sessions office.relations c held are up rise)
-    ∙ mapped (session_with desks) (own_session office c) (filter (λ (held : Code × Session). is_member office.relations held.0 c) office.relations.sessions)
+    → sessions_left office c (rows_of office.relations (keys_of held)) ≡ map session_without_desk (own_sessions office c)
+all_left office c held are up rise =
+    ap (filter_map (λ (held : Code × Session). option_map session_without_desk (own_session office c held))) (same_sessions office.relations c held are up rise)
+    ∙ mapped session_without_desk (own_session office c) (filter (λ (held : Code × Session). is_member office.relations held.0 c) office.relations.sessions)
 
 -- after the row of a session of which the candidate is a member
-pub member_turn : (desks : Desks) (office : State) (c : ℕ) (held : Code × Session) (own : OwnSession) (rows rest : List (Code × Session)) (before after : List OwnSession) (whole : List OwnSessionRow)
-    → is_member office.relations held.0 c ≡ true → option_map (session_with desks) (own_session office c held) ≡ Some (shown_session own) → rows ≡ held ∷ rest → after ≡ before ++ own ∷ []
-    → map shown_session before ++ sessions_left desks office c rows ≡ whole → map shown_session after ++ sessions_left desks office c rest ≡ whole
-member_turn desks office c held own rows rest before after whole member shows split pushed so_far =
-    let first : sessions_left desks office c (held ∷ rest) ≡ shown_session own ∷ sessions_left desks office c rest = rw (member, shows) refl in
-    push_step (map shown_session before) (map shown_session after) (sessions_left desks office c rest) whole (shown_session own)
+pub member_turn : (office : State) (c : ℕ) (held : Code × Session) (own : OwnSession) (rows rest : List (Code × Session)) (before after : List OwnSession) (whole : List OwnSessionRow)
+    → is_member office.relations held.0 c ≡ true → option_map session_without_desk (own_session office c held) ≡ Some (shown_session own) → rows ≡ held ∷ rest → after ≡ before ++ own ∷ []
+    → map shown_session before ++ sessions_left office c rows ≡ whole → map shown_session after ++ sessions_left office c rest ≡ whole
+member_turn office c held own rows rest before after whole member shows split pushed so_far =
+    let first : sessions_left office c (held ∷ rest) ≡ shown_session own ∷ sessions_left office c rest = rw (member, shows) refl in
+    push_step (map shown_session before) (map shown_session after) (sessions_left office c rest) whole (shown_session own)
     (ap (map shown_session) pushed ∙ map-append shown_session before (own ∷ []))
-    (ap (λ t. map shown_session before ++ t) (sym first ∙ ap (sessions_left desks office c) (sym split)) ∙ so_far)
+    (ap (λ t. map shown_session before ++ t) (sym first ∙ ap (sessions_left office c) (sym split)) ∙ so_far)
 
 -- after a session of which the candidate is no member, or that does not exist
-pub absent_turn : (desks : Desks) (office : State) (c : ℕ) (k : Code) (ks : List Code) (before whole : List OwnSessionRow)
+pub absent_turn : (office : State) (c : ℕ) (k : Code) (ks : List Code) (before whole : List OwnSessionRow)
     → (is_member office.relations k c ≡ false) ⊎ (row_at code_cmp office.relations.sessions k ≡ None)
-    → before ++ sessions_left desks office c (rows_of office.relations (k ∷ ks)) ≡ whole → before ++ sessions_left desks office c (rows_of office.relations ks) ≡ whole
-absent_turn desks office c k ks before whole why so_far = ap (λ t. before ++ t) (sym (same why)) ∙ so_far
+    → before ++ sessions_left office c (rows_of office.relations (k ∷ ks)) ≡ whole → before ++ sessions_left office c (rows_of office.relations ks) ≡ whole
+absent_turn office c k ks before whole why so_far = ap (λ t. before ++ t) (sym (same why)) ∙ so_far
   where
     r : Relations
     r = office.relations
 
-    missing : row_at code_cmp r.sessions k ≡ None → sessions_left desks office c (rows_of r (k ∷ ks)) ≡ sessions_left desks office c (rows_of r ks)
-    missing at = ap (sessions_left desks office c) (unknown_row r k ks at)
+    missing : row_at code_cmp r.sessions k ≡ None → sessions_left office c (rows_of r (k ∷ ks)) ≡ sessions_left office c (rows_of r ks)
+    missing at = ap (sessions_left office c) (unknown_row r k ks at)
 
-    absent : (o : Option Session) → row_at code_cmp r.sessions k ≡ o → is_member r k c ≡ false → sessions_left desks office c (rows_of r (k ∷ ks)) ≡ sessions_left desks office c (rows_of r ks)
+    absent : (o : Option Session) → row_at code_cmp r.sessions k ≡ o → is_member r k c ≡ false → sessions_left office c (rows_of r (k ∷ ks)) ≡ sessions_left office c (rows_of r ks)
     absent None at no_member = missing at
     absent (Some row) at no_member =
-        let past : sessions_left desks office c ((k, row) ∷ rows_of r ks) ≡ sessions_left desks office c (rows_of r ks) = rw no_member refl in
-        ap (sessions_left desks office c) (known_row r k ks row at) ∙ past
+        let past : sessions_left office c ((k, row) ∷ rows_of r ks) ≡ sessions_left office c (rows_of r ks) = rw no_member refl in
+        ap (sessions_left office c) (known_row r k ks row at) ∙ past
 
-    same : (is_member r k c ≡ false) ⊎ (row_at code_cmp r.sessions k ≡ None) → sessions_left desks office c (rows_of r (k ∷ ks)) ≡ sessions_left desks office c (rows_of r ks)
+    same : (is_member r k c ≡ false) ⊎ (row_at code_cmp r.sessions k ≡ None) → sessions_left office c (rows_of r (k ∷ ks)) ≡ sessions_left office c (rows_of r ks)
     same (inl no_member) = absent (row_at code_cmp r.sessions k) refl no_member
     same (inr at) = missing at
 

@@ -7,5 +7,4 @@ mod view;
 pub mod view_source;
 
 pub use appeal_source::{AppealSource, ListedAppeals};
-pub use own_source::Desks;
 pub use view::{AppealRow, Clash, Seat, SessionShortage, SessionView};

@@ -15,7 +15,7 @@ ghost use Rattle.exam_rules.specs.Sessions as sessions;
 ghost use Rattle.exam_commands.specs.Good.{IsGood};
 ghost use Rattle.exam_commands.specs.Headline.{desk_of};
 ghost use Rattle.exam_commands.specs.Own as spec;
-ghost use Rattle.exam_views.specs.Desks.{desk_with, rows_with, session_with};
+ghost use Rattle.exam_views.specs.Desks.{rows_without_desks, session_without_desk};
 
 use exam_commands::{Own, OwnAppeal, OwnSession, Seats};
 use exam_rules::{
@@ -28,13 +28,6 @@ use std::alloc::Global;
 use std::collections::BTreeMap;
 use std::collections::btree_map::Range;
 
-/// Whether a candidate's desks are shown. To count them the office walks over all seats of the candidate's sessions.
-#[derive(Clone, Copy, Debug, PartialEq, Eq)]
-pub enum Desks {
-    Shown,
-    Hidden,
-}
-
 /// What the order of desks compares: the sitting paper, and then the number.
 type DeskKey = (Option<PaperCode>, Number);
 
@@ -46,25 +39,44 @@ struct Membership<'a> {
     papers: Vec<PaperCode>,
 }
 
-/// What a good office shows of the candidate with the number, or none. Where desks are hidden, no session has one, and
-/// nobody is counted. Takes no memory for an unknown number.
+/// What a good office shows of the candidate with the number, or none. It counts the desks over all seats of the
+/// candidate's sessions, and takes no memory for an unknown number.
 pub fn own_of(
     alloc: Global,
     facts: &Facts,
     lists: &SessionLists,
     seats: &Seats,
     number: Number,
-    desks: Desks,
 ) -> Result<Option<Own>, Refusal>
     requires lists { AreListsOf (relations_of facts.now) lists.now }
     requires good { IsGood (record { relations = relations_of facts.now; seats = seats.now.entries }) }
-    ensures ok { IfOk result (λ own. option_map spec.shown own ≡ option_map (rows_with desks)
+    ensures ok { IfOk result (λ own. option_map spec.shown own
+        ≡ spec.own_of (record { relations = relations_of facts.now; seats = seats.now.entries }) number) }
+    ensures memory { IfErr result (λ e. (e ≡ NoMemory) × IsSome
+        (spec.own_of (record { relations = relations_of facts.now; seats = seats.now.entries }) number)) }
+{
+    match facts.candidates.get(&number) {
+        Some(row) => Ok(Some(own_rows(alloc, facts, lists, seats, number, row)?)),
+        None => Ok(None),
+    }
+}
+
+/// What a good office shows of the candidate with the number but for the desks, or none. Counts nobody, and takes no
+/// memory for an unknown number.
+pub fn own_without_desks(
+    alloc: Global,
+    facts: &Facts,
+    seats: &Seats,
+    number: Number,
+) -> Result<Option<Own>, Refusal>
+    requires good { IsGood (record { relations = relations_of facts.now; seats = seats.now.entries }) }
+    ensures ok { IfOk result (λ own. option_map spec.shown own ≡ option_map rows_without_desks
         (spec.own_of (record { relations = relations_of facts.now; seats = seats.now.entries }) number)) }
     ensures memory { IfErr result (λ e. (e ≡ NoMemory) × IsSome
         (spec.own_of (record { relations = relations_of facts.now; seats = seats.now.entries }) number)) }
 {
     match facts.candidates.get(&number) {
-        Some(row) => Ok(Some(own_rows(alloc, facts, lists, seats, number, row, desks)?)),
+        Some(row) => Ok(Some(deskless_rows(alloc, facts, seats, number, row)?)),
         None => Ok(None),
     }
 }
@@ -76,12 +88,30 @@ fn own_rows(
     seats: &Seats,
     number: Number,
     row: &Candidate,
-    desks: Desks,
 ) -> Result<Own, Refusal>
     requires lists { AreListsOf (relations_of facts.now) lists.now }
     requires good { IsGood (record { relations = relations_of facts.now; seats = seats.now.entries }) }
     requires candidate { IsTrue (has_row nat_cmp facts.now.candidates.entries number) }
-    ensures ok { IfOk result (λ own. spec.shown own ≡ rows_with desks
+    ensures ok { IfOk result (λ own. spec.shown own
+        ≡ spec.own_rows (record { relations = relations_of facts.now; seats = seats.now.entries }) number
+        row.now) }
+    ensures memory { IfErr result (λ e. e ≡ NoMemory) }
+{
+    let mut own = deskless_rows(alloc, facts, seats, number, row)?;
+    show_desks(facts, lists, seats, number, &mut own.sessions);
+    Ok(own)
+}
+
+fn deskless_rows(
+    alloc: Global,
+    facts: &Facts,
+    seats: &Seats,
+    number: Number,
+    row: &Candidate,
+) -> Result<Own, Refusal>
+    requires good { IsGood (record { relations = relations_of facts.now; seats = seats.now.entries }) }
+    requires candidate { IsTrue (has_row nat_cmp facts.now.candidates.entries number) }
+    ensures ok { IfOk result (λ own. spec.shown own ≡ rows_without_desks
         (spec.own_rows (record { relations = relations_of facts.now; seats = seats.now.entries }) number
         row.now)) }
     ensures memory { IfErr result (λ e. e ≡ NoMemory) }
@@ -90,24 +120,42 @@ fn own_rows(
         number,
         name: row.name.copy()?,
         code: row.code,
-        sessions: own_sessions(alloc, facts, lists, seats, number, desks)?,
+        sessions: deskless_sessions(alloc, facts, seats, number)?,
         appeals: own_appeals(alloc, facts, number)?,
     })
 }
 
-/// The sessions of which the candidate is a member, by code.
-fn own_sessions(
-    alloc: Global,
+/// Gives each session the number of the candidate's desk in it, if they sit there.
+fn show_desks(
     facts: &Facts,
     lists: &SessionLists,
     seats: &Seats,
     number: Number,
-    desks: Desks,
-) -> Result<Vec<OwnSession>, Refusal>
+    sessions: &mut [OwnSession],
+)
     requires lists { AreListsOf (relations_of facts.now) lists.now }
     requires good { IsGood (record { relations = relations_of facts.now; seats = seats.now.entries }) }
     requires candidate { IsTrue (has_row nat_cmp facts.now.candidates.entries number) }
-    ensures ok { IfOk result (λ sessions. map spec.shown_session sessions.items ≡ map (session_with desks)
+    requires deskless { map spec.shown_session sessions.old ≡ map session_without_desk
+        (spec.own_sessions (record { relations = relations_of facts.now; seats = seats.now.entries }) number) }
+    ensures { map spec.shown_session sessions.new
+        ≡ spec.own_sessions (record { relations = relations_of facts.now; seats = seats.now.entries }) number }
+{
+    for own in sessions.iter_mut() {
+        own.desk = desk(facts, lists, seats, &own.session, number, &own.hall);
+    }
+}
+
+/// The sessions of which the candidate is a member, by code, but for the desks.
+fn deskless_sessions(
+    alloc: Global,
+    facts: &Facts,
+    seats: &Seats,
+    number: Number,
+) -> Result<Vec<OwnSession>, Refusal>
+    requires good { IsGood (record { relations = relations_of facts.now; seats = seats.now.entries }) }
+    requires candidate { IsTrue (has_row nat_cmp facts.now.candidates.entries number) }
+    ensures ok { IfOk result (λ sessions. map spec.shown_session sessions.items ≡ map session_without_desk
         (spec.own_sessions (record { relations = relations_of facts.now; seats = seats.now.entries })
         number)) }
     ensures memory { IfErr result (λ e. e ≡ NoMemory) }
@@ -117,7 +165,7 @@ fn own_sessions(
     let mut list = Vec::new(alloc);
     for (session, papers) in entered_papers(alloc, facts, number)? {
         if let Some(held) = membership_of(facts, session, papers) {
-            list.push(own_session(alloc, facts, lists, seats, number, held, desks)?)?;
+            list.push(deskless_session(alloc, facts, seats, number, held)?)?;
         }
     }
     Ok(list)
@@ -145,23 +193,20 @@ fn membership_of(
     })
 }
 
-/// The session as its member sees it.
-fn own_session(
+/// The session as its member sees it, but for the desk.
+fn deskless_session(
     alloc: Global,
     facts: &Facts,
-    lists: &SessionLists,
     seats: &Seats,
     number: Number,
     held: Membership<'_>,
-    desks: Desks,
 ) -> Result<OwnSession, Refusal>
-    requires lists { AreListsOf (relations_of facts.now) lists.now }
     requires good { IsGood (record { relations = relations_of facts.now; seats = seats.now.entries }) }
     requires known { row_at code_cmp facts.now.sessions.entries held.session ≡ Some held.row.now }
     requires candidate { IsTrue (has_row nat_cmp facts.now.candidates.entries number) }
     requires papers { held.papers.items ≡ sessions.live_papers (relations_of facts.now) held.session number }
     requires member { 0 < length held.papers.items }
-    ensures ok { IfOk result (λ own. option_map (session_with desks) (spec.own_session
+    ensures ok { IfOk result (λ own. option_map session_without_desk (spec.own_session
         (record { relations = relations_of facts.now; seats = seats.now.entries }) number
         (held.entry.session, held.entry.row.now)) ≡ Some (spec.shown_session own)) }
     ensures memory { IfErr result (λ e. e ≡ NoMemory) }
@@ -176,7 +221,6 @@ fn own_session(
     let arrangement = arrangement_in_force(facts, &session, number);
     let finish = finish_beside(facts, row, Some(sat), &arrangement).unwrap();
     let hall = seats.get(&(session, number)).copied();
-    let desk = desk(facts, lists, seats, &session, number, &hall, desks);
     Ok(OwnSession {
         session,
         day: row.day,
@@ -187,11 +231,11 @@ fn own_session(
         arrangement,
         finish,
         hall,
-        desk,
+        desk: None,
     })
 }
 
-/// The number of the candidate's desk in the hall in which they sit, if they do and desks are shown.
+/// The number of the candidate's desk in the hall in which they sit, if they do.
 fn desk(
     facts: &Facts,
     lists: &SessionLists,
@@ -199,22 +243,17 @@ fn desk(
     session: &SessionCode,
     number: Number,
     hall: &Option<HallCode>,
-    desks: Desks,
 ) -> Option<u32>
     requires lists { AreListsOf (relations_of facts.now) lists.now }
     requires good { IsGood (record { relations = relations_of facts.now; seats = seats.now.entries }) }
     requires known { IsTrue (has_row code_cmp facts.now.sessions.entries session.now) }
     requires somebody { 0 < length facts.now.candidates.entries }
     requires hall { hall.now ≡ plan_of seats.now.entries session.now number }
-    ensures { result ≡ desk_with desks
-        (desk_of (record { relations = relations_of facts.now; seats = seats.now.entries }) session.now number) }
+    ensures { result ≡ desk_of (record { relations = relations_of facts.now; seats = seats.now.entries })
+        session.now number }
 {
-    match (desks, hall) {
-        (Desks::Shown, Some(hall)) => {
-            Some(seated_before(facts, lists, seats, session, number, hall) + 1)
-        }
-        _ => None,
-    }
+    let hall = hall.as_ref()?;
+    Some(seated_before(facts, lists, seats, session, number, hall) + 1)
 }
 
 /// How many of those who sit in the hall come before the candidate in the order of desks.

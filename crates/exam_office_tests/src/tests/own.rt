@@ -1,7 +1,7 @@
 //! What a candidate sees of themselves: appeals, with whether each also holds for later sessions; and of each session
 //! the paper that they sit, its end in minutes, hall and desk, all their papers, and those that clash.
 use super::play;
-use exam_office::{Desks, Office, Own, OwnAppeal, OwnSession};
+use exam_office::{Office, Own, OwnAppeal, OwnSession};
 use exam_school::{OPENED, code_or_dash};
 use exam_types::{Number, PaperCode};
 use std::alloc::Global;
@@ -50,7 +50,7 @@ fn text_of(alloc: Global, own: &Own) -> Result<String, Fail> {
 
 /// What the candidate sees in the office.
 pub fn own_text(alloc: Global, office: &Office, number: Number) -> Result<String, Fail> {
-    match office.own(alloc, number, Desks::Shown)? {
+    match office.own(alloc, number)? {
         Some(own) => text_of(alloc, &own),
         None => Ok(String::from_str(alloc, "nobody")?),
     }

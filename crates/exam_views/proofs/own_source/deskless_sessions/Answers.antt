@@ -8,10 +8,10 @@ use Rattle.exam_rules.specs.Relations.{Code, code_cmp, relations_of, row_at}
 use Rattle.exam_rules.specs.Sessions.{is_member}
 use Rattle.exam_commands.specs.Own.{own_session, shown_session}
 use Rattle.exam_commands.specs.State.{State}
-use Rattle.exam_views.specs.Desks.{session_with}
+use Rattle.exam_views.specs.Desks.{session_without_desk}
 use Rattle.exam_views.proofs.OwnEntered.{AreEntered, are_entered, is_absent, is_present, known_row, rows_of}
 use Rattle.exam_views.proofs.OwnRows.{absent_turn, all_left, member_turn, sessions_left}
-use Rattle.exam_views.proofs.own_source.own_sessions.Goals as goal
+use Rattle.exam_views.proofs.own_source.deskless_sessions.Goals as goal
 
 pub loop-session-init : goal.loop-session-init
 loop-session-init c =
@@ -22,7 +22,7 @@ loop-session-init c =
       tt,
       tt,
       subst (AreEntered r c.args.number) (sym is) (are_entered r c.args.number held up (λ s there. c.in_ok-items.ensures.ok s)),
-      rw (c.new-list.ensures.items, is) (all_left c.args.desks (record { relations = r; seats = c.args.seats.now.entries }) c.args.number held c.in_ok-items.ensures.ok up c.show_order.ensures.sessions),
+      rw (c.new-list.ensures.items, is) (all_left (record { relations = r; seats = c.args.seats.now.entries }) c.args.number held c.in_ok-items.ensures.ok up c.show_order.ensures.sessions),
     )
 
 pub loop-session-preserved-in_ok-push : goal.loop-session-preserved-in_ok-push
@@ -35,9 +35,9 @@ loop-session-preserved-in_ok-push c =
       tt,
       tt,
       left.1,
-      member_turn c.args.desks office c.args.number (c.in-Some.session, row) c.in_ok-own_session.field-0 (rows_of r (keys_of c.loop-session.session-iterator)) (rows_of r (keys_of c.next.new.self))
+      member_turn office c.args.number (c.in-Some.session, row) c.in_ok-deskless_session.field-0 (rows_of r (keys_of c.loop-session.session-iterator)) (rows_of r (keys_of c.next.new.self))
           c.loop-session.list.items c.push.new.self.items _ (is_present r c.in-Some.session c.args.number c.in-Some.papers.items c.requires.candidate left.0 it.2)
-          (subst (λ s. option_map (session_with c.args.desks) (own_session office c.args.number (s, row)) ≡ Some (shown_session c.in_ok-own_session.field-0)) it.0 c.in_ok-own_session.ensures.ok)
+          (subst (λ s. option_map session_without_desk (own_session office c.args.number (s, row)) ≡ Some (shown_session c.in_ok-deskless_session.field-0)) it.0 c.in_ok-deskless_session.ensures.ok)
           (ap (λ (rows : List (Code × Vec Code Global)). rows_of r (keys_of rows)) c.in-Some.ensures.steps ∙ known_row r c.in-Some.session (keys_of c.next.new.self) row it.3)
           c.in_ok-push.ensures.items c.loop-session.invariant.3,
     )
@@ -55,6 +55,6 @@ loop-session-preserved c =
       tt,
       tt,
       left.1,
-      absent_turn c.args.desks office c.args.number c.in-Some.session (keys_of c.next.new.self) (map shown_session c.loop-session.list.items) _ why
-          (ap (λ (rows : List (Code × Vec Code Global)). map shown_session c.loop-session.list.items ++ sessions_left c.args.desks office c.args.number (rows_of r (keys_of rows))) (sym c.in-Some.ensures.steps) ∙ c.loop-session.invariant.3),
+      absent_turn office c.args.number c.in-Some.session (keys_of c.next.new.self) (map shown_session c.loop-session.list.items) _ why
+          (ap (λ (rows : List (Code × Vec Code Global)). map shown_session c.loop-session.list.items ++ sessions_left office c.args.number (rows_of r (keys_of rows))) (sym c.in-Some.ensures.steps) ∙ c.loop-session.invariant.3),
     )

@@ -4,7 +4,7 @@ use Rattle.exam_rules.specs.Sessions.{least_live_paper, sitting}
 use Rattle.exam_commands.proofs.Members.{member_sits, member_ends}
 use Rattle.exam_views.proofs.OwnEntered.{is_listed, least_of}
 use Rattle.exam_views.proofs.OwnRows.{ends}
-use Rattle.exam_views.proofs.own_source.own_session.Goals as goal
+use Rattle.exam_views.proofs.own_source.deskless_session.Goals as goal
 
 pub unwrap-sat-requires : goal.unwrap-sat-requires
 unwrap-sat-requires c =
