@@ -1,5 +1,5 @@
 -- A register that goes out line by line.
-use Rattle.std.proofs.Common.{◌≡◌, ◌⊎◌, ℕ, ◌+◌, ◌≤◌, Result, Ok, Err, OnOk, OnErr, List, [], ◌∷◌, ◌++◌, length, drop, Option, refl, ap, sym, subst, ◌∙◌, inl, inr, arith, append_assoc, append-nil}
+use Rattle.std.proofs.Common.{◌≡◌, ◌⊎◌, ℕ, ◌+◌, ◌<◌, ◌≤◌, Result, Ok, Err, OnOk, OnErr, List, [], ◌∷◌, ◌++◌, length, drop, Option, refl, ap, sym, subst, ◌∙◌, inl, inr, arith, append_assoc, append-nil}
 use Rattle.std.specs.List.{flat_map}
 use Rattle.std.proofs.Math.Seq.{drop-append_seam}
 use Rattle.std.proofs.lemmas.List.{length-append}
@@ -103,6 +103,23 @@ module _ (code : List ℕ) (count : ℕ) (all : List AppealRow) (old : Option (L
   pub left_after : (i : ℕ) (left : List AppealRow) (now : Option (List ℕ)) → i ≡ count → HasStreamed i left now → left ≡ drop count all
   left_after i left now end so_far =
       sym (drop-append_seam so_far.given left) ∙ ap (λ n. drop n (so_far.given ++ left)) (so_far.many ∙ end) ∙ ap (drop count) (sym so_far.rows)
+
+  -- so many rows were there
+  pub enough : (i : ℕ) (left : List AppealRow) (now : Option (List ℕ)) → count ≤ i → HasStreamed i left now → count ≤ length all
+  enough i left now end so_far =
+      let few = so_far.many in
+      let parted = length-append so_far.given left in
+      let rows : length all ≡ length (so_far.given ++ left) = ap (λ (xs : List AppealRow). length xs) so_far.rows in
+      omega (arith, few, parted, rows, end)
+
+  -- none is left, before so many came
+  pub too_few : (i : ℕ) (left : List AppealRow) (now : Option (List ℕ)) → i < count → left ≡ [] → HasStreamed i left now → length all < count
+  too_few i left now sooner none so_far =
+      let few = so_far.many in
+      let parted = length-append so_far.given left in
+      let empty : length left ≡ 0 = ap (λ (xs : List AppealRow). length xs) none in
+      let rows : length all ≡ length (so_far.given ++ left) = ap (λ (xs : List AppealRow). length xs) so_far.rows in
+      omega (arith, few, parted, empty, rows, sooner)
 
   -- the next did not come, or its line went out in part
   pub cut_off : (i : ℕ) (left after : List AppealRow) (now then : Option (List ℕ)) → length all ≡ count → HasStreamed i left now

@@ -1,5 +1,5 @@
 -- The text of an appeal register.
-use Rattle.std.specs.Prelude.{ℕ, Bool, true, List, ◌++◌, length, codes, Option, Result, Ok, Err}
+use Rattle.std.specs.Prelude.{◌≡◌, ◌⊎◌, ⊤, ℕ, IsTrue, List, ◌++◌, length, codes, Option, Result, Ok, Err}
 use Rattle.std.specs.Fmt.{decimal}
 use Rattle.std.specs.List.{flat_map}
 use Rattle.exam_views.specs.declared.view.AppealRow.{AppealRow}
@@ -8,6 +8,8 @@ use Rattle.exam_commands.specs.Words.{kind_word, state_word, subject_text}
 use Rattle.std.specs.Io.KnownBytes.{Appends}
 use Rattle.exam_send.specs.Sending.{AppendsBeginning}
 use Rattle.exam_views.specs.Sources.{is_source_refusal}
+use Rattle.exam_types.specs.declared.refusal.Refusal.{Refusal}
+use Rattle.exam_types.specs.declared.refusal.Refusal.TheVariants.{BadStore, NoMemory}
 use Rattle.exam_types.specs.Days.{day_text}
 use Rattle.exam_types.specs.Numbers.{number_text}
 use Rattle.exam_files.specs.Padding.{left_in}
@@ -38,7 +40,9 @@ abbrev pub Streams : {W : Type 0} → (W → Option (List ℕ)) → Result (Unit
 Streams contents (Ok done) old new text = Appends (contents old) (contents new) text
 Streams contents (Err fault) old new text = AppendsBeginning (contents old) (contents new) text
 
--- writing failed, the source failed, or memory ran out
-abbrev pub is_stream_fault : SheetFault → Bool
-is_stream_fault (faults.Refused e) = is_source_refusal e
-is_stream_fault faults.Write = true
+-- Why a register that is written line by line breaks off: writing failed, memory ran out, the source refused, or it
+-- ended before the count.
+abbrev pub BreaksOff : (Refusal → Type 0) → Type 0 → SheetFault → Type 0
+BreaksOff refuses ends faults.Write = ⊤
+BreaksOff refuses ends (faults.Refused e) =
+    (e ≡ NoMemory) ⊎ ((IsTrue (is_source_refusal e) × refuses e) ⊎ ((e ≡ BadStore) × ends))

@@ -1,5 +1,5 @@
 //! The appeal register of a session, from a source that gives the appeals one by one.
-ghost use Rattle.std.specs.Prelude.{◌≡◌, ◌⊎◌, ◌∷◌, ◌++◌, [], length, drop, IsTrue, OnOk, OnErr, IfErr};
+ghost use Rattle.std.specs.Prelude.{◌≡◌, ◌⊎◌, ◌∷◌, ◌++◌, ◌<◌, ◌≤◌, [], length, drop, OnOk, OnErr, IfErr};
 ghost use Rattle.std.specs.Io.KnownBytes.{Appends};
 ghost use Rattle.exam_send.specs.Sending.{AppendsBeginning};
 ghost use Rattle.exam_views.specs.declared.view.AppealRow.{AppealRow as Row};
@@ -14,8 +14,8 @@ use std::alloc::Global;
 use std::io::Write;
 
 /// Writes the register of a session with this count of appeals, each as soon as the source gives it. Asks for no more
-/// than the count, and refuses with `BadStore` if the source ends sooner. After a fault a beginning of the sheet may
-/// have been written.
+/// than the count, refuses with `BadStore` if the source ends sooner, and passes on what the source refuses. After a
+/// fault a beginning of the sheet may have been written.
 pub fn register_stream<A: AppealSource, W: Write>(
     alloc: Global,
     session: &SessionCode,
@@ -27,8 +27,11 @@ pub fn register_stream<A: AppealSource, W: Write>(
         → spec.Streams W.contents result writer.old writer.new
         (spec.register_text session.now (A.coming source.old)) }
     ensures rest { A.IsHonest source.new
-        → OnOk result (A.coming source.new ≡ drop count (A.coming source.old)) }
-    ensures fault { IfErr result (λ e. IsTrue (spec.is_stream_fault e)) }
+        → OnOk result ((A.coming source.new ≡ drop count (A.coming source.old))
+        × (count ≤ length (A.coming source.old))) }
+    ensures fault { IfErr result (spec.BreaksOff (A.Refuses source.new)
+        (A.IsHonest source.new → length (A.coming source.old) < count)) }
+    ensures stays { A.Stays source.old source.new }
 {
     send_heading(alloc, session, count, writer)?;
     for _place in 0..count {
@@ -46,7 +49,7 @@ fn send_heading<W: Write>(
 ) -> Result<(), SheetFault>
     ensures sent { spec.Streams W.contents result writer.old writer.new
         (spec.register_heading session.now count) }
-    ensures fault { IfErr result (λ e. IsTrue (spec.is_stream_fault e)) }
+    ensures fault { IfErr result (spec.BreaksOff (λ e. ⊥) ⊥) }
 {
     let mut text = Vec::new(alloc);
     push_heading(&mut text, *session, count as usize)?;
@@ -67,7 +70,9 @@ fn send_next<A: AppealSource, W: Write>(
         ⊎ ((row : Row) × (A.coming source.old ≡ row ∷ A.coming source.new)
         × AppendsBeginning (W.contents writer.old) (W.contents writer.new) (spec.appeal_line row))) }
     ensures honest { A.IsHonest source.new → A.IsHonest source.old }
-    ensures fault { IfErr result (λ e. IsTrue (spec.is_stream_fault e)) }
+    ensures fault { IfErr result (spec.BreaksOff (A.Refuses source.new)
+        (A.IsHonest source.new → A.coming source.old ≡ [])) }
+    ensures stays { A.Stays source.old source.new }
 {
     match source.next()? {
         Some(row) => send_row(alloc, &row, writer),
@@ -78,7 +83,7 @@ fn send_next<A: AppealSource, W: Write>(
 /// Writes the line of an appeal.
 fn send_row<W: Write>(alloc: Global, row: &AppealRow, writer: &mut W) -> Result<(), SheetFault>
     ensures sent { spec.Streams W.contents result writer.old writer.new (spec.appeal_line row.now) }
-    ensures fault { IfErr result (λ e. IsTrue (spec.is_stream_fault e)) }
+    ensures fault { IfErr result (spec.BreaksOff (λ e. ⊥) ⊥) }
 {
     let mut text = Vec::new(alloc);
     push_line(&mut text, row)?;

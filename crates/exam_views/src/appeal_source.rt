@@ -1,5 +1,6 @@
 //! Appeals that come one by one.
 ghost use Rattle.std.specs.Prelude.{◌≡◌, List, IsTrue, IfOk, IfErr};
+ghost use Rattle.exam_types.specs.declared.refusal.Refusal.{Refusal as Error};
 ghost use Rattle.exam_views.specs.declared.view.AppealRow.{AppealRow as Row};
 ghost use Rattle.exam_views.specs.Sources.{Gives, is_source_refusal};
 
@@ -14,15 +15,26 @@ pub trait AppealSource {
     /// Whether what it reads from, such as a disk, has returned what was written, so far.
     ghost IsHonest: { Self → Type 0 };
 
+    /// The refusals for which it has a reason, as it is after a call that refused.
+    ghost Refuses: { Self → Error → Type 0 };
+
+    /// What every call leaves as it is, from the source before to the source after.
+    ghost Stays: { Self → Self → Type 0 };
+
     /// The next row, or none after the last one. The contract speaks of a source that is honest after the call.
     fn next(&mut self) -> Result<Option<AppealRow>, Refusal>
         ensures row { Self.IsHonest self.new → IfOk result (λ row.
             Gives row (Self.coming self.old) (Self.coming self.new)) }
         ensures honest { Self.IsHonest self.new → Self.IsHonest self.old }
-        ensures refusal { IfErr result (λ e. IsTrue (is_source_refusal e)) };
+        ensures refusal { IfErr result (λ e. IsTrue (is_source_refusal e) × Self.Refuses self.new e) }
+        ensures stays { Self.Stays self.old self.new };
+
+    ghost stays_itself: { (a : Self) → Stays a a };
+
+    ghost stays_then: { (a b c : Self) → Stays a b → Stays b c → Stays a c };
 }
 
-/// Rows in memory.
+/// Rows in memory. Reading them refuses nothing.
 #[derive(Drop)]
 pub struct ListedAppeals<'a> {
     pub rows: &'a [AppealRow],
@@ -35,6 +47,10 @@ impl<'a> AppealSource for ListedAppeals<'a> {
 
     ghost IsHonest = { λ s. ⊤ };
 
+    ghost Refuses = { λ s e. ⊥ };
+
+    ghost Stays = { λ a b. ⊤ };
+
     fn next(&mut self) -> Result<Option<AppealRow>, Refusal> {
         match self.rows.split_first() {
             Some((row, rest)) => {
@@ -44,4 +60,8 @@ impl<'a> AppealSource for ListedAppeals<'a> {
             None => Ok(None),
         }
     }
+
+    ghost stays_itself = { λ a. tt };
+
+    ghost stays_then = { λ a b c first second. tt };
 }

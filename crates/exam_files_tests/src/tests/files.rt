@@ -114,7 +114,8 @@ fn a_file_without_its_header_is_refused(rt: HostRuntime) -> Result<(), Fail> {
     play(rt.alloc(), HEADERS)
 }
 
-/// Records with too few fields, with too many, and with a field that is no value of its column.
+/// Records with too few fields, with too many, and with a field that is no value of its column. Blank lines before
+/// them do not count.
 const RECORDS: &str = "\
 $ import candidates f
 number,name,code
@@ -135,6 +136,8 @@ number,paper
 0000001,MA-1
 0000000,MA-1,
 ! refused 1 record 2 column 0
+$ import entries f
+\n\nnumber,paper\n\n0000001,MA-1\n\r\n\n0000000,MA-1\n! refused 1 record 2 column 1
 $ import entries f
 number,paper
 0000000,ma-1

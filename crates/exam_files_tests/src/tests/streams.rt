@@ -17,7 +17,8 @@ enum End {
     Lost,
 }
 
-/// Gives one row so many times, whatever was counted, and then ends. Its contract says nothing of what it gives.
+/// Gives one row so many times, whatever was counted, and then ends. Its contract says nothing of what it gives nor of
+/// why it refuses.
 #[derive(Drop)]
 struct Careless {
     left: u32,
@@ -25,11 +26,15 @@ struct Careless {
 }
 
 impl AppealSource for Careless {
-    ghost use Rattle.std.specs.Prelude.{[]};
+    ghost use Rattle.std.specs.Prelude.{[], ⊤};
 
     ghost coming = { λ s. [] };
 
     ghost IsHonest = { λ s. ⊥ };
+
+    ghost Refuses = { λ s e. ⊤ };
+
+    ghost Stays = { λ a b. ⊤ };
 
     fn next(&mut self) -> Result<Option<AppealRow>, Refusal> {
         if self.left > 0 {
@@ -44,6 +49,10 @@ impl AppealSource for Careless {
             End::Lost => Err(Refusal::Store),
         }
     }
+
+    ghost stays_itself = { λ a. tt };
+
+    ghost stays_then = { λ a b c first second. tt };
 }
 
 fn row() -> Option<AppealRow> {

@@ -1,6 +1,6 @@
 use Rattle.std.proofs.Common.{rules, ◌≡◌, ◌≤◌, Err, arith}
 use Rattle.exam_files.specs.Registers.{register_text}
-use Rattle.exam_files.proofs.Streaming.{all_streamed, cut_off, fault_streams, heading_cut, left_after, none_streamed, one_streamed}
+use Rattle.exam_files.proofs.Streaming.{all_streamed, cut_off, enough, fault_streams, heading_cut, left_after, none_streamed, one_streamed}
 use Rattle.exam_files.proofs.streams.register_stream.Goals as goal
 
 pub returns-in_err-send_heading-clause-sheet : goal.returns-in_err-send_heading-clause-sheet
@@ -13,6 +13,7 @@ returns-in_err-send_heading-clause-sheet g c =
 
 pub loop-place-init : goal.loop-place-init
 loop-place-init g c = (
+  g.met.A.AppealSource.stays_itself c.args.source.now,
   λ honest. honest,
   λ honest. none_streamed c.args.session.now c.args.count (g.A.AppealSource.coming c.args.source.now) (g.W.Write.contents c.args.writer.now) (g.W.Write.contents c.send_heading.new.writer) c.in_ok-send_heading.ensures.sent,
 )
@@ -25,23 +26,27 @@ returns-in_err-send_next-clause-sheet g c =
     fault_streams g.W.Write.contents c.from_residual-in_err-send_next.result c.in_err-send_next.field-0.0 c.args.writer.now c.send_next.new.writer (register_text c.args.session.now all) is
     (cut_off c.args.session.now c.args.count all (g.W.Write.contents c.args.writer.now) c.loop-place._place (g.A.AppealSource.coming c.loop-place.source) (g.A.AppealSource.coming c.send_next.new.source)
     (g.W.Write.contents c.loop-place.writer) (g.W.Write.contents c.send_next.new.writer) many
-    (c.loop-place.invariant.1 (c.in_err-send_next.ensures.honest honest)) (c.in_err-send_next.ensures.err honest))
+    (c.loop-place.invariant.2 (c.in_err-send_next.ensures.honest honest)) (c.in_err-send_next.ensures.err honest))
 
 pub loop-place-preserved : goal.loop-place-preserved
 loop-place-preserved g c = (
-  λ honest. c.loop-place.invariant.0 (c.in_ok-send_next.ensures.honest honest),
+  g.met.A.AppealSource.stays_then c.args.source.now c.loop-place.source c.send_next.new.source c.loop-place.invariant.0 c.in_ok-send_next.ensures.stays,
+  λ honest. c.loop-place.invariant.1 (c.in_ok-send_next.ensures.honest honest),
   λ honest. one_streamed c.args.session.now c.args.count (g.A.AppealSource.coming c.args.source.now) (g.W.Write.contents c.args.writer.now) c.loop-place._place
       (g.A.AppealSource.coming c.loop-place.source) (g.A.AppealSource.coming c.send_next.new.source) (g.W.Write.contents c.loop-place.writer) (g.W.Write.contents c.send_next.new.writer)
-      (c.loop-place.invariant.1 (c.in_ok-send_next.ensures.honest honest)) (c.in_ok-send_next.ensures.ok honest),
+      (c.loop-place.invariant.2 (c.in_ok-send_next.ensures.honest honest)) (c.in_ok-send_next.ensures.ok honest),
 )
 
 pub returns-clause-sheet : goal.returns-clause-sheet
 returns-clause-sheet g c = λ honest many.
     let end : c.args.count ≤ c.loop-place._place = omega (arith, c.loop-place-test.false) in
     all_streamed c.args.session.now c.args.count (g.A.AppealSource.coming c.args.source.now) (g.W.Write.contents c.args.writer.now) c.loop-place._place
-    (g.A.AppealSource.coming c.loop-place.source) (g.W.Write.contents c.loop-place.writer) many end (c.loop-place.invariant.1 honest)
+    (g.A.AppealSource.coming c.loop-place.source) (g.W.Write.contents c.loop-place.writer) many end (c.loop-place.invariant.2 honest)
 
 pub returns-clause-rest : goal.returns-clause-rest
-returns-clause-rest g c = λ honest.
-    left_after c.args.session.now c.args.count (g.A.AppealSource.coming c.args.source.now) (g.W.Write.contents c.args.writer.now) c.loop-place._place
-    (g.A.AppealSource.coming c.loop-place.source) (g.W.Write.contents c.loop-place.writer) (omega (arith, c.loop-place-test.false, c.loop-place.auto._place-end)) (c.loop-place.invariant.1 honest)
+returns-clause-rest g c = λ honest. (
+  left_after c.args.session.now c.args.count (g.A.AppealSource.coming c.args.source.now) (g.W.Write.contents c.args.writer.now) c.loop-place._place
+      (g.A.AppealSource.coming c.loop-place.source) (g.W.Write.contents c.loop-place.writer) (omega (arith, c.loop-place-test.false, c.loop-place.auto._place-end)) (c.loop-place.invariant.2 honest),
+  enough c.args.session.now c.args.count (g.A.AppealSource.coming c.args.source.now) (g.W.Write.contents c.args.writer.now) c.loop-place._place
+      (g.A.AppealSource.coming c.loop-place.source) (g.W.Write.contents c.loop-place.writer) (omega (arith, c.loop-place-test.false)) (c.loop-place.invariant.2 honest),
+)
