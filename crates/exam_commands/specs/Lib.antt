@@ -27,7 +27,7 @@
 --   plan, the reply; who keeps a seat for certain, and which candidate a command names; a run over commands with their
 --   days, each of which may also run out of memory and change nothing
 -- - Orders: that the keys of every table and of the seats rise
--- - Touched: which sessions a command touches
+-- - Touched: which sessions a command reaches, whether or not they exist, and which it touches
 -- - Parts: the facts and the plans that one command reads, and the office with them put back
 -- - Words: the words for the kinds, the states and the subjects of appeals
 -- - Examples: worked plans, computed by the check

@@ -21,7 +21,7 @@ use Rattle.exam_commands.specs.Repairs.{IsRepaired}
 use Rattle.exam_commands.specs.Replies.{reply_of}
 use Rattle.exam_commands.specs.State.{Seats, State}
 use Rattle.exam_commands.specs.Steps.{change, first_seated}
-use Rattle.exam_commands.specs.Touched.{decision_touches, is_appeal_for, touches}
+use Rattle.exam_commands.specs.Touched.{is_appeal_for, touches}
 
 -- its facts and its plans
 abbrev pub state_of : Part → State
@@ -36,7 +36,8 @@ reads r (command.Reinstate c p) s = touches r (command.Reinstate c p) s
 reads r (command.CloseHall named h) s = touches r (command.CloseHall named h) s
 reads r (command.Lodge l) s = same_code l.session s
 reads r (command.Retract c reference) s = touches r (command.Retract c reference) s
-reads r (command.Decide d) s = is_appeal_for (appeal_at r d.number d.reference) s || decision_touches r d s
+reads r (command.Decide d) s =
+    is_appeal_for r (appeal_at r d.number d.reference) s || touches r (command.Decide d) s
 
 -- The part agrees with the office: it has its facts and its plans of the sessions that the command reads, and seats
 -- nobody in other sessions.

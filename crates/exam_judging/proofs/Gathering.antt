@@ -1,4 +1,4 @@
--- The sessions that a command touches, gathered row by row.
+-- The sessions that a command reaches, gathered row by row.
 use Rattle.std.proofs.Common.{◌≡◌, ℕ, ◌&&◌, ◌||◌, Bool, true, false, cond, List, [], ◌∷◌, filter, nat_eq, Some, is_some, refl, ap, sym, ◌∙◌}
 use Rattle.std.specs.List.{list_any}
 use Rattle.std.specs.BTreeMap.{is_at}
@@ -8,9 +8,12 @@ use Rattle.exam_rules.specs.declared.rows.Hall.{Hall}
 use Rattle.exam_rules.specs.declared.rows.Opening.{Opening}
 use Rattle.exam_rules.specs.Relations.{Code, Relations, code_cmp, opening_cmp, has_row, is_row_of, leading, row_at, same_code}
 use Rattle.exam_rules.specs.Sessions.{has_live_entry, is_live_entry, is_member, is_paper_of}
+use Rattle.std.proofs.lemmas.List.Elements.{All-head, All-tail}
+use Rattle.exam_commands.specs.Imports.{AreOfKind, kind_of}
+use Rattle.exam_commands.specs.declared.import_row.Kind.{Kind}
 use Rattle.exam_commands.specs.declared.import_row.Row.{Row}
 use Rattle.exam_commands.specs.declared.import_row.Row.TheVariants as row
-use Rattle.exam_commands.specs.Touched.{has_standing_member, is_session_row, names, names_hall, names_session, row_touches}
+use Rattle.exam_commands.specs.Touched.{has_standing_member, is_of_sessions, is_session_row, names, names_hall, names_session, row_reaches}
 use Rattle.exam_commands.proofs.ImportKeys.{code_flips}
 use Rattle.exam_judging.proofs.Writing.{then_eq}
 
@@ -105,16 +108,13 @@ swap_opened true true o n = refl
 swap_opened true false o n = refl
 swap_opened false h o n = refl
 
-swap_session : (b h g o n : Bool) → ((b || h) || ((g && h) || (o || n))) ≡ (h || (o || (b || n)))
-swap_session true true g o n = refl
-swap_session true false g true n = refl
-swap_session true false g false n = refl
-swap_session false true g o n = refl
-swap_session false false true o n = refl
-swap_session false false false o n = refl
+swap_session : (h g o n : Bool) → (h || ((g && h) || (o || n))) ≡ (h || (o || n))
+swap_session true g o n = refl
+swap_session false true o n = refl
+swap_session false false o n = refl
 
 module _ (r : Relations) (s : Code) where
-  -- rows of sessions touch those of members with standing grants
+  -- rows of sessions reach those of members with standing grants
   abbrev pub stand_in : List Row → Bool
   stand_in rows = list_any is_session_row rows && has_standing_member r s
 
@@ -124,20 +124,19 @@ module _ (r : Relations) (s : Code) where
   abbrev pub named_in : List Row → Bool
   named_in rows = list_any (λ (x : Row). names_session r x s) rows
 
-  abbrev Touches : List Row → Type 0
-  Touches rows = list_any (λ (x : Row). row_touches r x s) rows ≡ (stand_in rows || (opened_in rows || named_in rows))
+  abbrev Reaches : List Row → Type 0
+  Reaches rows = list_any (λ (x : Row). row_reaches r x s) rows ≡ (stand_in rows || (opened_in rows || named_in rows))
 
-  module _ (rows : List Row) (rest : Touches rows) where
-    other : (b : Bool) → (b || list_any (λ (x : Row). row_touches r x s) rows) ≡ (stand_in rows || (opened_in rows || (b || named_in rows)))
+  module _ (rows : List Row) (rest : Reaches rows) where
+    other : (b : Bool) → (b || list_any (λ (x : Row). row_reaches r x s) rows) ≡ (stand_in rows || (opened_in rows || (b || named_in rows)))
     other b = ap (λ t. b || t) rest ∙ swap_named b (stand_in rows) (opened_in rows) (named_in rows)
 
-    one_more : (x : Row) → Touches (x ∷ rows)
+    one_more : (x : Row) → Reaches (x ∷ rows)
     one_more (row.OfSession told z) =
-        ap (λ t. (same_code told s || has_standing_member r s) || t) rest
-        ∙ swap_session (same_code told s) (has_standing_member r s) (list_any is_session_row rows) (opened_in rows) (named_in rows)
+        ap (λ t. has_standing_member r s || t) rest ∙ swap_session (has_standing_member r s) (list_any is_session_row rows) (opened_in rows) (named_in rows)
     one_more (row.OfPaper p z) = other (is_paper_of r s p || names r z.session s)
     one_more (row.OfHall h z) =
-        ap (λ b. b || list_any (λ (x : Row). row_touches r x s) rows) (sym (opened_any s h r.openings))
+        ap (λ b. b || list_any (λ (x : Row). row_reaches r x s) rows) (sym (opened_any s h r.openings))
         ∙ ap (λ t. list_any (opens s h) r.openings || t) rest
         ∙ swap_opened (list_any (opens s h) r.openings) (stand_in rows) (opened_in rows) (named_in rows)
         ∙ ap (λ b. stand_in rows || (b || named_in rows)) (sym (more_opens s h z rows r.openings))
@@ -146,11 +145,47 @@ module _ (r : Relations) (s : Code) where
     one_more (row.OfEntry c p) = other (is_paper_of r s p)
     one_more (row.OfArrangement c z) = other (is_member r s c)
 
-  -- What rows touch is what they name, the sessions that open the halls that they name, and for rows of sessions those
+  -- What rows reach is what they name, the sessions that open the halls that they name, and for rows of sessions those
   -- of members with standing grants.
-  pub rows_touch : (rows : List Row) → Touches rows
-  rows_touch [] = sym (ap (λ b. b || false) (none_opens s r.openings))
-  rows_touch (x ∷ rows) = one_more rows (rows_touch rows) x
+  pub rows_reach : (rows : List Row) → Reaches rows
+  rows_reach [] = sym (ap (λ b. b || false) (none_opens s r.openings))
+  rows_reach (x ∷ rows) = one_more rows (rows_reach rows) x
+
+-- in an import a row of a session makes the kind that of sessions
+pub sessions_are_of_kind : (k : Kind) (rows : List Row) → AreOfKind k rows → list_any is_session_row rows ≡ true → is_of_sessions k ≡ true
+sessions_are_of_kind k [] of some = cc
+sessions_are_of_kind k (x ∷ rows) of some = inner x (All-head (λ y. kind_of y ≡ k) x rows of) some (sessions_are_of_kind k rows (All-tail (λ y. kind_of y ≡ k) x rows of))
+  where
+    inner : (y : Row) → kind_of y ≡ k → (is_session_row y || list_any is_session_row rows) ≡ true → (list_any is_session_row rows ≡ true → is_of_sessions k ≡ true) → is_of_sessions k ≡ true
+    inner (row.OfSession told z) is any rest = ap is_of_sessions (sym is)
+    inner (row.OfPaper p z) is any rest = rest any
+    inner (row.OfHall h z) is any rest = rest any
+    inner (row.OfOpening told h z) is any rest = rest any
+    inner (row.OfCandidate c z) is any rest = rest any
+    inner (row.OfEntry c p) is any rest = rest any
+    inner (row.OfArrangement c z) is any rest = rest any
+
+either_last : (o n w : Bool) → (o || (n || w)) ≡ (((o || n) || false) || w)
+either_last true n w = refl
+either_last false true w = refl
+either_last false false w = refl
+
+shown_last : (o n w : Bool) → true ≡ (((o || n) || true) || w)
+shown_last true n w = refl
+shown_last false true w = refl
+shown_last false false w = refl
+
+-- what the kind adds comes last
+pub dated_last : (t k d : Bool) → (t ≡ true → k ≡ true) → (o n w : Bool) → ((k && d) || (o || (n || w))) ≡ ((((t && d) || (o || n)) || (k && d)) || w)
+dated_last t true true so o n w = by t
+  where
+    by : (t : Bool) → true ≡ ((((t && true) || (o || n)) || true) || w)
+    by true = refl
+    by false = shown_last o n w
+dated_last true true false so o n w = either_last o n w
+dated_last false true false so o n w = either_last o n w
+dated_last true false d so o n w = absurd (let differ : false ≡ true = so refl in cc)
+dated_last false false d so o n w = either_last o n w
 
 -- ---- the entries of a candidate
 
@@ -167,3 +202,22 @@ module _ (r : Relations) (s : Code) (c : ℕ) where
   -- the first rows of these are all that the candidate has
   pub own_rows : (rows : List ((ℕ × Code) × Entry)) → leading (is_row_of c) rows ≡ filter (is_row_of c) r.entries → list_any (is_live_entry r s c) (leading (is_row_of c) rows) ≡ has_live_entry r s c
   own_rows rows is = ap (list_any (is_live_entry r s c)) is ∙ own_any r.entries
+
+-- ---- the codes that exist
+
+-- the set has a code that exists
+pub names_any : (r : Relations) (s : Code) (ks : List Code) → list_any (λ (k : Code). names r k s) ks ≡ (has_row code_cmp r.sessions s && list_any (is_at (code_cmp s)) ks)
+names_any r s [] = sym (and_none (has_row code_cmp r.sessions s))
+  where
+    and_none : (b : Bool) → (b && false) ≡ false
+    and_none true = refl
+    and_none false = refl
+names_any r s (k ∷ ks) =
+    ap (λ b. names r k s || b) (names_any r s ks)
+    ∙ ap (λ b. (b && has_row code_cmp r.sessions s) || (has_row code_cmp r.sessions s && list_any (is_at (code_cmp s)) ks)) (sym (code_flips s k) ∙ texts_ties s k)
+    ∙ inner (is_at (code_cmp s) k) (has_row code_cmp r.sessions s) (list_any (is_at (code_cmp s)) ks)
+  where
+    inner : (a e b : Bool) → ((a && e) || (e && b)) ≡ (e && (a || b))
+    inner true true b = refl
+    inner true false b = refl
+    inner false e b = refl

@@ -7,14 +7,14 @@ ghost use Rattle.std.specs.List.Sorted.{IsStrictlySortedBy};
 ghost use Rattle.exam_types.specs.declared.refusal.Refusal.TheVariants.{NoMemory};
 ghost use Rattle.exam_rules.specs.declared.rows.Appeal.{Appeal as AppealRow};
 ghost use Rattle.exam_rules.specs.declared.rows.Opening.{Opening as OpeningRow};
-ghost use Rattle.exam_rules.specs.Relations.{Code, code_cmp, relations_of, same_code};
+ghost use Rattle.exam_rules.specs.Relations.{Code, code_cmp, has_row, relations_of, same_code};
 ghost use Rattle.exam_rules.specs.Sessions.{has_live_entry, is_member, is_paper_of};
 ghost use Rattle.exam_commands.specs.Appeals.{appeal_at, bears_mark};
 ghost use Rattle.exam_commands.specs.declared.import_row.Row.{Row as ImportRow};
 ghost use Rattle.exam_commands.specs.Touched as spec;
 
 use exam_commands::granting::{self, ends_standing, is_grant};
-use exam_commands::{Command, Decision, Row};
+use exam_commands::{Command, Decision, Import, Kind, Row};
 use exam_rules::{Appeal, Facts, entries_from, is_standing};
 use exam_types::{HallCode, Number, PaperCode, Refusal, SessionCode};
 use std::alloc::Global;
@@ -24,32 +24,79 @@ use std::collections::BTreeSet;
 type Codes = BTreeSet<SessionCode>;
 
 /// The sessions that a command touches, over the facts before it, codes rising. An accepted command leaves every other
-/// session as it is. A reference to what does not exist gives no session.
+/// session as it is. A session that does not exist is among them only if the command imports it.
 pub fn touched(alloc: Global, facts: &Facts, command: &Command) -> Result<Vec<SessionCode>, Refusal>
     ensures rising { IfOk result (λ codes. IsStrictlySortedBy code_cmp codes.items) }
     ensures exact { IfOk result (λ codes. (s : Code)
         → Contains codes.items s ↔ IsTrue (spec.touches (relations_of facts.now) command.now s)) }
     ensures memory { IfErr result (λ e. e ≡ NoMemory) }
 {
+    let mut reached = BTreeSet::new(alloc);
+    add_reached(alloc, facts, command, &mut reached)?;
     let mut codes = BTreeSet::new(alloc);
-    add_touched(alloc, facts, command, &mut codes)?;
+    add_existing(facts, &reached, &mut codes)?;
+    add_set(command, &mut codes)?;
     let list = codes.iter().copied().collect(alloc)?;
     Ok(list)
 }
 
-/// Adds the sessions that a command touches.
-fn add_touched(
+/// Adds those of these sessions that exist.
+fn add_existing(facts: &Facts, reached: &Codes, codes: &mut Codes) -> Result<(), Refusal>
+    ensures ok { OnOk result ((s : Code) → contains code_cmp codes.new s
+        ≡ ((has_row code_cmp facts.now.sessions.entries s && contains code_cmp reached.now s)
+        || contains code_cmp codes.old s)) }
+    ensures memory { IfErr result (λ e. e ≡ NoMemory) }
+{
+    for code in reached {
+        add_known(facts, code, codes)?;
+    }
+    Ok(())
+}
+
+/// Adds the sessions that a command sets.
+fn add_set(command: &Command, codes: &mut Codes) -> Result<(), Refusal>
+    ensures ok { OnOk result ((s : Code) → contains code_cmp codes.new s
+        ≡ (spec.is_set_by command.now s || contains code_cmp codes.old s)) }
+    ensures memory { IfErr result (λ e. e ≡ NoMemory) }
+{
+    match command {
+        Command::Import(import) => add_imported(import.rows(), codes),
+        Command::Withdraw(_, _)
+        | Command::Reinstate(_, _)
+        | Command::CloseHall(_, _)
+        | Command::Lodge(_)
+        | Command::Retract(_, _)
+        | Command::Decide(_) => Ok(()),
+    }
+}
+
+/// Adds the sessions that these rows set.
+fn add_imported(rows: &[Row], codes: &mut Codes) -> Result<(), Refusal>
+    ensures ok { OnOk result ((s : Code) → contains code_cmp codes.new s
+        ≡ (list_any (spec.sets_session s) rows.now || contains code_cmp codes.old s)) }
+    ensures memory { IfErr result (λ e. e ≡ NoMemory) }
+{
+    for row in rows {
+        if let Row::OfSession(session, _) = row {
+            add_session(session, codes)?;
+        }
+    }
+    Ok(())
+}
+
+/// Adds the sessions that a command reaches, of which some may not exist.
+fn add_reached(
     alloc: Global,
     facts: &Facts,
     command: &Command,
     codes: &mut Codes,
 ) -> Result<(), Refusal>
     ensures ok { OnOk result ((s : Code) → contains code_cmp codes.new s
-        ≡ (spec.touches (relations_of facts.now) command.now s || contains code_cmp codes.old s)) }
+        ≡ (spec.reaches (relations_of facts.now) command.now s || contains code_cmp codes.old s)) }
     ensures memory { IfErr result (λ e. e ≡ NoMemory) }
 {
     match command {
-        Command::Import(import) => add_import(alloc, facts, import.rows(), codes),
+        Command::Import(import) => add_import(alloc, facts, import, codes),
         Command::Withdraw(_, paper) | Command::Reinstate(_, paper) => {
             add_paper(facts, paper, codes)
         }
@@ -59,47 +106,41 @@ fn add_touched(
     }
 }
 
-/// Adds the sessions that these rows touch. The openings are walked once for all halls that they name, and the
+/// Adds the sessions that an import reaches. The openings are walked once for all halls that its rows name, and the
 /// appeals once for all sessions.
-fn add_import(alloc: Global, facts: &Facts, rows: &[Row], codes: &mut Codes) -> Result<(), Refusal>
+fn add_import(
+    alloc: Global,
+    facts: &Facts,
+    import: &Import,
+    codes: &mut Codes,
+) -> Result<(), Refusal>
     ensures ok { OnOk result ((s : Code) → contains code_cmp codes.new s
-        ≡ (list_any (λ (x : ImportRow). spec.row_touches (relations_of facts.now) x s) rows.now
-        || contains code_cmp codes.old s)) }
+        ≡ (spec.import_reaches (relations_of facts.now) import.now s || contains code_cmp codes.old s)) }
     ensures memory { IfErr result (λ e. e ≡ NoMemory) }
 {
+    let rows = import.rows();
     add_rows(facts, rows, codes)?;
     let halls = named_halls(alloc, rows)?;
     add_opened(facts, &halls, codes)?;
-    add_dated(facts, rows, codes)
+    add_dated(facts, import.kind(), codes)
 }
 
-/// If one of these rows is a session, whose date may change, adds the sessions that have a member with a standing
-/// grant.
-fn add_dated(facts: &Facts, rows: &[Row], codes: &mut Codes) -> Result<(), Refusal>
+/// If an import of this kind may change dates, adds the sessions that have a member with a standing grant.
+fn add_dated(facts: &Facts, kind: Kind, codes: &mut Codes) -> Result<(), Refusal>
     ensures ok { OnOk result ((s : Code) → contains code_cmp codes.new s
-        ≡ ((list_any spec.is_session_row rows.now && spec.has_standing_member (relations_of facts.now) s)
+        ≡ ((spec.is_of_sessions kind && spec.has_standing_member (relations_of facts.now) s)
         || contains code_cmp codes.old s)) }
     ensures memory { IfErr result (λ e. e ≡ NoMemory) }
 {
-    if has_session(rows) {
-        add_standing(facts, codes)
-    } else {
-        Ok(())
+    match kind {
+        Kind::Sessions => add_standing(facts, codes),
+        Kind::Papers
+        | Kind::Halls
+        | Kind::Openings
+        | Kind::Candidates
+        | Kind::Entries
+        | Kind::Arrangements => Ok(()),
     }
-}
-
-/// Whether one of these rows is a session.
-fn has_session(rows: &[Row]) -> bool
-    ensures { result ≡ list_any spec.is_session_row rows.now }
-{
-    rows.iter().any(|row| is_session(row))
-}
-
-/// Whether the row is a session.
-fn is_session(row: &Row) -> bool
-    ensures { result ≡ spec.is_session_row row.now }
-{
-    matches!(row, Row::OfSession(_, _))
 }
 
 /// Adds the sessions that have a member with a standing grant.
@@ -116,7 +157,7 @@ fn add_standing(facts: &Facts, codes: &mut Codes) -> Result<(), Refusal>
     Ok(())
 }
 
-/// Adds the sessions that these rows touch in other ways than by naming a hall.
+/// Adds the sessions that these rows reach in other ways than by naming a hall.
 fn add_rows(facts: &Facts, rows: &[Row], codes: &mut Codes) -> Result<(), Refusal>
     ensures ok { OnOk result ((s : Code) → contains code_cmp codes.new s
         ≡ (list_any (λ (x : ImportRow). spec.names_session (relations_of facts.now) x s) rows.now
@@ -129,17 +170,16 @@ fn add_rows(facts: &Facts, rows: &[Row], codes: &mut Codes) -> Result<(), Refusa
     Ok(())
 }
 
-/// Adds the sessions that a row touches in other ways than by naming a hall.
+/// Adds the sessions that a row reaches in other ways than by naming a hall.
 fn add_row(facts: &Facts, row: &Row, codes: &mut Codes) -> Result<(), Refusal>
     ensures ok { OnOk result ((s : Code) → contains code_cmp codes.new s
         ≡ (spec.names_session (relations_of facts.now) row.now s || contains code_cmp codes.old s)) }
     ensures memory { IfErr result (λ e. e ≡ NoMemory) }
 {
     match row {
-        Row::OfSession(session, _) => add_session(session, codes),
         Row::OfPaper(code, paper) => add_both(facts, code, &paper.session, codes),
         Row::OfOpening(session, _, _) => add_known(facts, session, codes),
-        Row::OfHall(_, _) | Row::OfCandidate(_, _) => Ok(()),
+        Row::OfSession(_, _) | Row::OfHall(_, _) | Row::OfCandidate(_, _) => Ok(()),
         Row::OfEntry(_, paper) => add_paper(facts, paper, codes),
         Row::OfArrangement(number, _) => add_candidate(facts, *number, codes),
     }
@@ -208,7 +248,7 @@ fn add_known(facts: &Facts, session: &SessionCode, codes: &mut Codes) -> Result<
     }
 }
 
-/// Adds the session of a paper, if the paper and the session exist.
+/// Adds the session of a paper, if the paper exists.
 fn add_paper(facts: &Facts, paper: &PaperCode, codes: &mut Codes) -> Result<(), Refusal>
     ensures ok { OnOk result ((s : Code) → contains code_cmp codes.new s
         ≡ (is_paper_of (relations_of facts.now) s paper.now || contains code_cmp codes.old s)) }
@@ -220,7 +260,7 @@ fn add_paper(facts: &Facts, paper: &PaperCode, codes: &mut Codes) -> Result<(), 
     }
 }
 
-/// Adds the session of a paper, and its new one, if they exist.
+/// Adds the session of a paper, if the paper exists, and its new one, if that exists.
 fn add_both(
     facts: &Facts,
     paper: &PaperCode,
@@ -281,10 +321,10 @@ fn add_entered(facts: &Facts, number: Number, codes: &mut Codes) -> Result<(), R
     Ok(())
 }
 
-/// Adds the sessions that a decision touches.
+/// Adds the sessions that a decision reaches.
 fn add_decision(facts: &Facts, decision: &Decision, codes: &mut Codes) -> Result<(), Refusal>
     ensures ok { OnOk result ((s : Code) → contains code_cmp codes.new s
-        ≡ (spec.decision_touches (relations_of facts.now) decision.now s || contains code_cmp codes.old s)) }
+        ≡ (spec.decision_reaches (relations_of facts.now) decision.now s || contains code_cmp codes.old s)) }
     ensures memory { IfErr result (λ e. e ≡ NoMemory) }
 {
     if is_grant(decision.outcome) {
@@ -294,10 +334,10 @@ fn add_decision(facts: &Facts, decision: &Decision, codes: &mut Codes) -> Result
     }
 }
 
-/// Adds the sessions that a grant of the appeal touches, if the appeal exists.
+/// Adds the sessions that a grant of the appeal reaches, if the appeal exists.
 fn add_appeal(facts: &Facts, decision: &Decision, codes: &mut Codes) -> Result<(), Refusal>
     ensures ok { OnOk result ((s : Code) → contains code_cmp codes.new s
-        ≡ (option_map_or (λ (a : AppealRow). spec.grant_touches (relations_of facts.now) decision.now a s)
+        ≡ (option_map_or (λ (a : AppealRow). spec.grant_reaches (relations_of facts.now) decision.now a s)
         (appeal_at (relations_of facts.now) decision.now.number decision.now.reference) false
         || contains code_cmp codes.old s)) }
     ensures memory { IfErr result (λ e. e ≡ NoMemory) }
@@ -316,7 +356,7 @@ fn add_appellant(
     codes: &mut Codes,
 ) -> Result<(), Refusal>
     ensures ok { OnOk result ((s : Code) → contains code_cmp codes.new s
-        ≡ (spec.grant_touches (relations_of facts.now) decision.now appeal.now s
+        ≡ (spec.grant_reaches (relations_of facts.now) decision.now appeal.now s
         || contains code_cmp codes.old s)) }
     ensures memory { IfErr result (λ e. e ≡ NoMemory) }
 {

@@ -13,6 +13,7 @@ pub mod OwnFacts
 pub mod OwnRetracting
 pub mod OwnLodging
 pub mod OwnView
+pub mod Reaching
 pub mod Untouched
 pub mod Parting
 pub mod FactsMade

@@ -5,11 +5,12 @@ use Rattle.exam_types.specs.declared.refusal.Refusal.{Refusal}
 use Rattle.exam_types.specs.declared.refusal.Refusal.TheVariants.{NoMemory}
 use Rattle.exam_rules.specs.declared.rows.Appeal.{Appeal}
 use Rattle.exam_rules.specs.Orders.{AreInOrder}
-use Rattle.exam_rules.specs.Relations.{Code, Relations, same_code}
+use Rattle.exam_rules.specs.Relations.{Code, Relations, code_cmp, has_row, same_code}
 use Rattle.exam_rules.specs.Sessions.{is_member}
 use Rattle.exam_rules.specs.Seatings.{plan_of}
 use Rattle.exam_commands.specs.declared.command.Command.{Command}
 use Rattle.exam_commands.specs.declared.command.Command.TheVariants as command
+use Rattle.exam_commands.specs.declared.command.Decision.{Decision}
 use Rattle.exam_commands.specs.declared.command.Outcome.{Outcome}
 use Rattle.exam_commands.specs.declared.command.Outcome.TheVariants as outcome
 use Rattle.exam_commands.specs.declared.command.Reply.TheVariants as reply
@@ -29,8 +30,9 @@ use Rattle.exam_commands.specs.Repairs.{IsRepaired}
 use Rattle.exam_commands.specs.Replies.{reply_of, reply_to}
 use Rattle.exam_commands.specs.State.{Seats, State}
 use Rattle.exam_commands.specs.Steps.{Step, change, first_seated}
-use Rattle.exam_commands.specs.Touched.{ends_standing, grant_touches, is_appeal_for, touches}
+use Rattle.exam_commands.specs.Touched.{ends_standing, grant_reaches, is_appeal_for, touches}
 use Rattle.exam_laws.proofs.FactsMade.{early_is_change, made_is_change, past_limit}
+use Rattle.exam_laws.proofs.Reaching.{and_none}
 use Rattle.exam_laws.proofs.Parting.{change_same, lodging_refusal_same}
 use Rattle.exam_laws.proofs.Stepping.{refused_step}
 use Rattle.exam_rules.proofs.Naming.{same_code_itself}
@@ -65,14 +67,25 @@ none_touched (command.Import import) r s keeps = absurd (let differ : false ≡ 
 none_touched (command.Withdraw c p) r s keeps = absurd (let differ : false ≡ true = keeps in cc)
 none_touched (command.Reinstate c p) r s keeps = absurd (let differ : false ≡ true = keeps in cc)
 none_touched (command.CloseHall named h) r s keeps = absurd (let differ : false ≡ true = keeps in cc)
-none_touched (command.Lodge l) r s keeps = refl
-none_touched (command.Retract c reference) r s keeps = refl
-none_touched (command.Decide d) r s keeps = inner d.outcome keeps
+none_touched (command.Lodge l) r s keeps = and_none (has_row code_cmp r.sessions s)
+none_touched (command.Retract c reference) r s keeps = and_none (has_row code_cmp r.sessions s)
+none_touched (command.Decide d) r s keeps = ap (λ b. has_row code_cmp r.sessions s && b) (inner d.outcome keeps) ∙ and_none (has_row code_cmp r.sessions s)
   where
-    inner : (o : Outcome) → refuses o ≡ true → (is_grant o && option_map_or (λ (a : Appeal). grant_touches r d a s) (appeal_at r d.number d.reference) false) ≡ false
+    inner : (o : Outcome) → refuses o ≡ true → (is_grant o && option_map_or (λ (a : Appeal). grant_reaches r d a s) (appeal_at r d.number d.reference) false) ≡ false
     inner outcome.Grant grants = absurd (let differ : false ≡ true = grants in cc)
     inner outcome.Standing grants = absurd (let differ : false ≡ true = grants in cc)
     inner outcome.Refuse grants = refl
+
+among : (a e b : Bool) → ((a && e) || (e && (a || b))) ≡ (e && (a || b))
+among true true b = refl
+among true false b = refl
+among false e b = refl
+
+-- a grant touches the session of the appeal, if that exists
+pub grant_is_for : (r : Relations) (d : Decision) (s : Code) (o : Option Appeal)
+    → (is_appeal_for r o s || (has_row code_cmp r.sessions s && option_map_or (λ (a : Appeal). grant_reaches r d a s) o false)) ≡ (has_row code_cmp r.sessions s && option_map_or (λ (a : Appeal). grant_reaches r d a s) o false)
+grant_is_for r d s None = refl
+grant_is_for r d s (Some a) = among (same_code a.session s) (has_row code_cmp r.sessions s) ((bears_mark d.outcome || ends_standing r d.number a) && is_member r s d.number)
 
 -- any other reads those that it touches
 read_touched : (done : Command) (r : Relations) (s : Code) → keeps_plans done ≡ false → reads r done s ≡ touches r done s
@@ -84,19 +97,11 @@ read_touched (command.Lodge l) r s changes = absurd (let differ : true ≡ false
 read_touched (command.Retract c reference) r s changes = refl
 read_touched (command.Decide d) r s changes = inner d.outcome changes
   where
-    twice : (a b : Bool) → (a || (a || b)) ≡ (a || b)
-    twice true b = refl
-    twice false b = refl
-
-    of : (o : Option Appeal) → (is_appeal_for o s || option_map_or (λ (a : Appeal). grant_touches r d a s) o false) ≡ option_map_or (λ (a : Appeal). grant_touches r d a s) o false
-    of None = refl
-    of (Some a) = twice (same_code a.session s) ((bears_mark d.outcome || ends_standing r d.number a) && is_member r s d.number)
-
     inner : (o : Outcome) → refuses o ≡ false
-        → (is_appeal_for (appeal_at r d.number d.reference) s || (is_grant o && option_map_or (λ (a : Appeal). grant_touches r d a s) (appeal_at r d.number d.reference) false))
-        ≡ (is_grant o && option_map_or (λ (a : Appeal). grant_touches r d a s) (appeal_at r d.number d.reference) false)
-    inner outcome.Grant grants = of (appeal_at r d.number d.reference)
-    inner outcome.Standing grants = of (appeal_at r d.number d.reference)
+        → (is_appeal_for r (appeal_at r d.number d.reference) s || (has_row code_cmp r.sessions s && (is_grant o && option_map_or (λ (a : Appeal). grant_reaches r d a s) (appeal_at r d.number d.reference) false)))
+        ≡ (has_row code_cmp r.sessions s && (is_grant o && option_map_or (λ (a : Appeal). grant_reaches r d a s) (appeal_at r d.number d.reference) false))
+    inner outcome.Grant grants = grant_is_for r d s (appeal_at r d.number d.reference)
+    inner outcome.Standing grants = grant_is_for r d s (appeal_at r d.number d.reference)
     inner outcome.Refuse grants = absurd (let differ : true ≡ false = grants in cc)
 
 -- ---- the reply

@@ -19,7 +19,7 @@ use Rattle.exam_rules.specs.declared.rows.Appeal.{Appeal}
 use Rattle.exam_rules.specs.declared.rows.Subject.{Subject}
 use Rattle.exam_rules.specs.declared.rows.Subject.TheVariants as subject
 use Rattle.exam_rules.specs.Orders.{KeysRise}
-use Rattle.exam_rules.specs.Relations.{Code, Relations, row_at, same_code, seat_cmp}
+use Rattle.exam_rules.specs.Relations.{Code, Relations, code_cmp, has_row, row_at, same_code, seat_cmp}
 use Rattle.exam_rules.specs.Names.{ListsRise}
 use Rattle.exam_rules.specs.Seatings.{plan_of, seating}
 use Rattle.exam_rules.specs.Sessions.{option_filter}
@@ -42,7 +42,8 @@ use Rattle.exam_commands.specs.Repairs.{IsRepaired}
 use Rattle.exam_commands.specs.Replies.{import_reply, reply_of, reply_to}
 use Rattle.exam_commands.specs.State.{Seats, State}
 use Rattle.exam_commands.specs.Steps.{MayStep, SeatsOn, Step, change, first_seated}
-use Rattle.exam_commands.specs.Touched.{decision_touches, is_appeal_for, touches}
+use Rattle.exam_laws.proofs.Reaching.{and_none, appeal_is_for}
+use Rattle.exam_commands.specs.Touched.{is_appeal_for, touches}
 use Rattle.exam_laws.proofs.AppealSteps.{all_stay}
 use Rattle.exam_laws.proofs.Commanding.{ArePlansRepaired, DoListsRise, others_seated}
 use Rattle.exam_laws.proofs.DecisionSteps as decisions
@@ -157,11 +158,11 @@ touched_read (command.Import import) r s is = is
 touched_read (command.Withdraw c p) r s is = is
 touched_read (command.Reinstate c p) r s is = is
 touched_read (command.CloseHall named h) r s is = is
-touched_read (command.Lodge l) r s is = absurd (let differ : false ≡ true = is in cc)
+touched_read (command.Lodge l) r s is = absurd (let differ : false ≡ true = sym (and_none (has_row code_cmp r.sessions s)) ∙ is in cc)
 touched_read (command.Retract c reference) r s is = is
-touched_read (command.Decide d) r s is = inner (is_appeal_for (appeal_at r d.number d.reference) s)
+touched_read (command.Decide d) r s is = inner (is_appeal_for r (appeal_at r d.number d.reference) s)
   where
-    inner : (b : Bool) → (b || decision_touches r d s) ≡ true
+    inner : (b : Bool) → (b || touches r (command.Decide d) s) ≡ true
     inner true = refl
     inner false = is
 
@@ -181,9 +182,9 @@ kept_on (command.Reinstate c p) today office after t good up is rising plans s =
     (others_seated office good c p true after (subst (λ (u : Relations). ArePlansRepaired u office after) (sym new) plans) s)
 kept_on (command.CloseHall named h) today office after t good up is rising plans s = kept_stays (seating t s) None (plan_of office.seats s) (plan_of after.seats s) (plans s).repair
 kept_on (command.Lodge l) today office after t good up is rising plans s =
-    all_stay office after good t (λ q. spared office good up today q (command.Lodge l) t is refl) rising plans (λ c. l.number ≡ c) s
+    all_stay office after good t (λ q. spared office good up today q (command.Lodge l) t is (and_none (has_row code_cmp office.relations.sessions q))) rising plans (λ c. l.number ≡ c) s
 kept_on (command.Retract c reference) today office after t good up is rising plans s =
-    all_stay office after good t (λ q. spared office good up today q (command.Retract c reference) t is refl) rising plans (λ d. c ≡ d) s
+    all_stay office after good t (λ q. spared office good up today q (command.Retract c reference) t is (and_none (has_row code_cmp office.relations.sessions q))) rising plans (λ d. c ≡ d) s
 kept_on (command.Decide d) today office after t good up is rising plans s =
     let r = office.relations in
     let new : with_decision r d ≡ t = made (decision_refusal r today d) (with_decision r d) t is in
@@ -227,7 +228,7 @@ module _ (today : ℕ) (office part after : State) (good : IsGood office) (up : 
         inner : (o : Option Appeal) → appeal_at office.relations d.number d.reference ≡ o → reply_to part new d o ≡ reply_to office after d o
         inner None none = refl
         inner (Some a) at =
-            let here : reads office.relations (command.Decide d) a.session ≡ true = ap (λ b. b || decision_touches office.relations d a.session) (ap (λ o. is_appeal_for o a.session) at ∙ same_code_itself a.session) in
+            let here : reads office.relations (command.Decide d) a.session ≡ true = ap (λ b. b || touches office.relations (command.Decide d) a.session) (ap (λ o. is_appeal_for office.relations o a.session) at ∙ appeal_is_for office.relations good.refer (d.number, d.reference) a at (same_code_itself a.session)) in
             ap (λ (r : Relations). cond (is_made r d a) reply.Unchanged (reply.Decided (stored_state new.relations d.number d.reference) (plan_of new.seats a.session d.number) (moved part.seats new.seats d.number))) agrees.facts
             ∙ ap (λ (r : Relations). cond (is_made office.relations d a) reply.Unchanged (reply.Decided (stored_state r d.number d.reference) (plan_of new.seats a.session d.number) (moved part.seats new.seats d.number))) (sym put.facts)
             ∙ ap (λ (o : Option Code). cond (is_made office.relations d a) reply.Unchanged (reply.Decided (stored_state after.relations d.number d.reference) o (moved part.seats new.seats d.number))) (sym (put.read a.session here d.number))

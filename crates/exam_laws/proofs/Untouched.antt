@@ -24,6 +24,7 @@ use Rattle.exam_rules.specs.Orders.{KeysRise}
 use Rattle.exam_rules.specs.Relations.{Code, Relations, appeal_cmp, code_cmp, entry_cmp, opening_cmp, has_row, put_row, row_at, same_code}
 use Rattle.exam_rules.specs.Sessions.{arrangement_by, barred_halls, granted_arrangement, granted_subjects, has_live_entry, is_granted, is_granted_appeal, is_live_entry, is_marked, is_member, is_paper_of, is_standing, session_day, standing_grant, standing_grants}
 use Rattle.exam_rules.specs.Seatings.{fits, opened_room, plan_of, seating, sitting_terms, suits_opened}
+use Rattle.exam_laws.proofs.Reaching.{untouched_is_unreached, untouched_is_unset}
 use Rattle.exam_rules.proofs.Naming.{same_code_exact, same_code_itself}
 use Rattle.exam_commands.specs.declared.command.Command.{Command}
 use Rattle.exam_commands.specs.declared.command.Command.TheVariants as command
@@ -41,7 +42,7 @@ use Rattle.exam_commands.specs.Lodgings as lodgings
 use Rattle.exam_commands.specs.Orders.{IsInOrder}
 use Rattle.exam_commands.specs.State.{State}
 use Rattle.exam_commands.specs.Steps.{SameSeating, Step, StepTo, change}
-use Rattle.exam_commands.specs.Touched.{decision_touches, ends_standing, grant_touches, has_standing_member, names, row_touches, stands_in, touches}
+use Rattle.exam_commands.specs.Touched.{decision_reaches, ends_standing, grant_reaches, has_standing_member, is_of_sessions, is_set_by, names, reaches, row_reaches, sets_session, stands_in, touches}
 use Rattle.exam_commands.proofs.Alike.{SpeakAlike, alike_itself, alike_seating}
 use Rattle.exam_commands.proofs.AppealKeys.{appeals_exact, openings_exact}
 use Rattle.exam_laws.proofs.Appealing.{fits_same, never_marked, not_granted, put_seating_same, seating_by, with_appeals, with_decisions}
@@ -125,8 +126,8 @@ module _ (r0 : Relations) (refer : refers r0 ≡ true) (s : Code) where
   known : (c : ℕ) → has_live_entry r0 s c ≡ true → has_row nat_cmp r0.candidates c ≡ true
   known = entered_known r0 (parted r0 refer).entries s
 
-  spared_row : (r : Relations) → IsSpared r → (x : Row) → row_touches r0 x s ≡ false → first_refusal (row_checks r0 x) ≡ None → SpeakAlike r0 (with_row r x) s
-  spared_row r so (row.OfSession named x) away ok = record {
+  spared_row : (r : Relations) → IsSpared r → (x : Row) → sets_session s x ≡ false → row_reaches r0 x s ≡ false → first_refusal (row_checks r0 x) ≡ None → SpeakAlike r0 (with_row r x) s
+  spared_row r so (row.OfSession named x) unset away ok = record {
     session = session_same;
     papers = so.alike.papers;
     paper_rows = so.alike.paper_rows;
@@ -141,11 +142,8 @@ module _ (r0 : Relations) (refer : refers r0 ≡ true) (s : Code) where
     granted = so.alike.granted;
   }
     where
-      apart : (same_code named s ≡ false) × (has_standing_member r0 s ≡ false)
-      apart = neither_any (same_code named s) (has_standing_member r0 s) away
-
       kept : row_at code_cmp (put_row code_cmp r.sessions named x) s ≡ row_at code_cmp r.sessions s
-      kept = put_elsewhere code_cmp exact_bytes r.sessions named s x (key_apart code_cmp exact_bytes s named (other_code s named apart.0))
+      kept = put_elsewhere code_cmp exact_bytes r.sessions named s x (key_apart code_cmp exact_bytes s named (other_code s named unset))
 
       session_same : row_at code_cmp (put_row code_cmp r.sessions named x) s ≡ row_at code_cmp r0.sessions s
       session_same = kept ∙ so.alike.session
@@ -157,10 +155,10 @@ module _ (r0 : Relations) (refer : refers r0 ≡ true) (s : Code) where
           let none : filter (is_standing r c) r.appeals ≡ [] =
           ap (λ (rows : List ((ℕ × Code) × Appeal)). filter (is_standing r c) rows) so.appeals
           ∙ ap (λ (marks : List ((ℕ × Code) × Unit {0})). filter (λ (a : (ℕ × Code) × Appeal). (a.0.0 == c) && (is_granted a.1.status && has_row appeal_cmp marks a.0)) r0.appeals) so.standing
-          ∙ none_standing r0 s c member r0.appeals apart.1 in
+          ∙ none_standing r0 s c member r0.appeals away in
           ap (filter_map (λ (a : (ℕ × Code) × Appeal). standing_grant (with_row r (row.OfSession named x)) a.1)) none
           ∙ sym (ap (filter_map (λ (a : (ℕ × Code) × Appeal). standing_grant r a.1)) none)
-  spared_row r so (row.OfPaper p x) away ok = record {
+  spared_row r so (row.OfPaper p x) unset away ok = record {
     session = so.alike.session;
     papers = λ q. papers q (is_at (code_cmp q) p) refl;
     paper_rows = λ q of. put_elsewhere code_cmp exact_bytes r.papers p q x (key_apart code_cmp exact_bytes q p (other q of)) ∙ so.alike.paper_rows q of;
@@ -194,7 +192,7 @@ module _ (r0 : Relations) (refer : refers r0 ≡ true) (s : Code) where
           ap (λ z. option_map_or (λ (paper : Paper). same_code paper.session s) (row_at code_cmp (put_row code_cmp r.papers p x) z) false) same
           ∙ ap (λ (o : Option Paper). option_map_or (λ (paper : Paper). same_code paper.session s) o false) (put_found code_cmp nat_list_cmp_total r.papers p x) ∙ moved ∙ sym parts.0 ∙ ap (is_paper_of r0 s) (sym same)
       papers q false at = ap (λ (o : Option Paper). option_map_or (λ (paper : Paper). same_code paper.session s) o false) (put_elsewhere code_cmp exact_bytes r.papers p q x at) ∙ so.alike.papers q
-  spared_row r so (row.OfHall h x) away ok = record {
+  spared_row r so (row.OfHall h x) unset away ok = record {
     session = so.alike.session;
     papers = so.alike.papers;
     paper_rows = so.alike.paper_rows;
@@ -205,7 +203,7 @@ module _ (r0 : Relations) (refer : refers r0 ≡ true) (s : Code) where
     in_force = so.alike.in_force;
     granted = so.alike.granted;
   }
-  spared_row r so (row.OfOpening named h x) away ok = record {
+  spared_row r so (row.OfOpening named h x) unset away ok = record {
     session = so.alike.session;
     papers = so.alike.papers;
     paper_rows = so.alike.paper_rows;
@@ -224,7 +222,7 @@ module _ (r0 : Relations) (refer : refers r0 ≡ true) (s : Code) where
       other same =
           let one : same_code named s ≡ true = ap (λ z. same_code named z) same ∙ same_code_itself named in
           let differ : true ≡ false = sym (ap (λ b. b && has_row code_cmp r0.sessions s) one ∙ ap (has_row code_cmp r0.sessions) same ∙ there_is) ∙ away in cc
-  spared_row r so (row.OfCandidate c x) away ok = record {
+  spared_row r so (row.OfCandidate c x) unset away ok = record {
     session = so.alike.session;
     papers = so.alike.papers;
     paper_rows = so.alike.paper_rows;
@@ -245,7 +243,7 @@ module _ (r0 : Relations) (refer : refers r0 ≡ true) (s : Code) where
           there_at None some = absurd (let differ : false ≡ true = some in cc)
           there_at (Some a) some = (a, refl)
       candidates false out = numbers_filtered (has_live_entry r0 s) r.candidates c x out
-  spared_row r so (row.OfEntry c p) away ok = inner (has_row entry_cmp r.entries (c, p))
+  spared_row r so (row.OfEntry c p) unset away ok = inner (has_row entry_cmp r.entries (c, p))
     where
       inner : (b : Bool) → SpeakAlike r0 (cond b r (record r { entries = put_row entry_cmp r.entries (c, p) (record { live = true }) })) s
       inner true = so.alike
@@ -260,7 +258,7 @@ module _ (r0 : Relations) (refer : refers r0 ≡ true) (s : Code) where
         in_force = so.alike.in_force;
         granted = so.alike.granted;
       }
-  spared_row r so (row.OfArrangement c x) away ok = record {
+  spared_row r so (row.OfArrangement c x) unset away ok = record {
     session = so.alike.session;
     papers = so.alike.papers;
     paper_rows = so.alike.paper_rows;
@@ -292,22 +290,23 @@ module _ (r0 : Relations) (refer : refers r0 ≡ true) (s : Code) where
       inner false = up
   spared_rises r up (row.OfArrangement c x) = up
 
-  spared_rows : (r : Relations) → IsSpared r → (rows : List Row) → list_any (λ (x : Row). row_touches r0 x s) rows ≡ false → rows_refusal r0 rows ≡ None → SpeakAlike r0 (with_rows r rows) s
-  spared_rows r so [] away ok = so.alike
-  spared_rows r so (x ∷ rows) away ok =
-      let apart = neither_any (row_touches r0 x s) (list_any (λ (x : Row). row_touches r0 x s) rows) away in
+  spared_rows : (r : Relations) → IsSpared r → (rows : List Row) → list_any (sets_session s) rows ≡ false → list_any (λ (x : Row). row_reaches r0 x s) rows ≡ false → rows_refusal r0 rows ≡ None → SpeakAlike r0 (with_rows r rows) s
+  spared_rows r so [] unset away ok = so.alike
+  spared_rows r so (x ∷ rows) unset away ok =
+      let others = neither_any (sets_session s x) (list_any (sets_session s) rows) unset in
+      let apart = neither_any (row_reaches r0 x s) (list_any (λ (x : Row). row_reaches r0 x s) rows) away in
       let checked = neither (first_refusal (row_checks r0 x)) (rows_refusal r0 rows) ok in
       let next : IsSpared (with_row r x) = record {
-        alike = spared_row r so x apart.0 checked.0;
+        alike = spared_row r so x others.0 apart.0 checked.0;
         grows = grows_both r0 r (with_row r x) so.grows (grows_row r x);
         rising = spared_rises r so.rising x;
         appeals = appeals_row r x ∙ so.appeals;
         standing = standing_row r x ∙ so.standing;
       } in
-      spared_rows (with_row r x) next rows apart.1 checked.1
+      spared_rows (with_row r x) next rows others.1 apart.1 checked.1
 
-  pub import_spares : KeysRise nat_cmp r0.candidates → (rows : List Row) → list_any (λ (x : Row). row_touches r0 x s) rows ≡ false → rows_refusal r0 rows ≡ None → SpeakAlike r0 (with_rows r0 rows) s
-  import_spares up rows away ok = spared_rows r0 (record { alike = alike_itself r0 s; grows = grows_none r0; rising = up; appeals = refl; standing = refl }) rows away ok
+  pub import_spares : KeysRise nat_cmp r0.candidates → (rows : List Row) → list_any (sets_session s) rows ≡ false → list_any (λ (x : Row). row_reaches r0 x s) rows ≡ false → rows_refusal r0 rows ≡ None → SpeakAlike r0 (with_rows r0 rows) s
+  import_spares up rows unset away ok = spared_rows r0 (record { alike = alike_itself r0 s; grows = grows_none r0; rising = up; appeals = refl; standing = refl }) rows unset away ok
 
 -- ---- entries and openings
 
@@ -476,7 +475,7 @@ module _ (r : Relations) (refer : refers r ≡ true) (stand : marks_were_granted
       never g = ap (λ m. nat_eq d.number d.number && (g && m)) unmarked ∙ not_granted (nat_eq d.number d.number) g
 
   -- a grant, which sets or ends a standing one or neither, leaves the seating of a session that it does not touch
-  grant_seating : (o : Outcome) → d.outcome ≡ o → is_grant o ≡ true → grant_touches r d a s ≡ false
+  grant_seating : (o : Outcome) → d.outcome ≡ o → is_grant o ≡ true → grant_reaches r d a s ≡ false
       → SameSeating (seating r s) (seating (with_decisions r (put_row appeal_cmp given_rows key granted_row) (with_mark d r.standing)) s)
   grant_seating o is grants untouched = seating_by r (put_row appeal_cmp given_rows key granted_row) (with_mark d r.standing) s (λ n h. by_number n h (nat_eq d.number n) refl)
     where
@@ -526,7 +525,7 @@ module _ (r : Relations) (refer : refers r ≡ true) (stand : marks_were_granted
           fits_same r (put_row appeal_cmp given_rows key granted_row) (with_mark d r.standing) s n (granted_same n)
           (ap (λ u. standing_grants u n) (sym made_is) ∙ others_standing_grants r d a n other) h
 
-  outcome_spares : (o : Outcome) → d.outcome ≡ o → (is_grant o && grant_touches r d a s) ≡ false → SameSeating (seating r s) (seating (with_outcome r d a) s)
+  outcome_spares : (o : Outcome) → d.outcome ≡ o → (is_grant o && grant_reaches r d a s) ≡ false → SameSeating (seating r s) (seating (with_outcome r d a) s)
   outcome_spares outcome.Grant is away = subst (λ (u : Relations). SameSeating (seating r s) (seating u s)) (sym (made_as outcome.Grant is)) (grant_seating outcome.Grant is refl away)
     where
       made_as : (o : Outcome) → d.outcome ≡ o → with_outcome r d a ≡ with_decisions r (put_row appeal_cmp (with_superseded d.number a o r.appeals) key (record a { status = decided o d.answer })) (with_mark d r.standing)
@@ -545,7 +544,7 @@ module _ (r : Relations) (refer : refers r ≡ true) (stand : marks_were_granted
           ∙ ap (with_decisions r (put_row appeal_cmp r.appeals key (record a { status = status.Refused d.answer }))) (unmarked_same r.standing key unmarked)
 
 module _ (r : Relations) (refer : refers r ≡ true) (stand : marks_were_granted r ≡ true) (today : ℕ) (d : Decision) (s : Code) where
-  pub decision_spares : decision_refusal r today d ≡ None → decision_touches r d s ≡ false → SameSeating (seating r s) (seating (with_decision r d) s)
+  pub decision_spares : decision_refusal r today d ≡ None → decision_reaches r d s ≡ false → SameSeating (seating r s) (seating (with_decision r d) s)
   decision_spares ok away = inner (appeal_at r d.number d.reference) refl ok
     where
       same : SameSeating (seating r s) (seating r s)
@@ -556,7 +555,7 @@ module _ (r : Relations) (refer : refers r ≡ true) (stand : marks_were_granted
       by_case a at false checked =
           outcome_spares r refer stand d s a at
           (there (is_open a.status) refusal.NotOpenAppeal ((is_too_late r a.session today, refusal.TooLate) ∷ not_arrangement a d.outcome ∷ grant_checks r d.number a d.outcome) checked) d.outcome refl
-          (ap (λ o. is_grant d.outcome && option_map_or (λ (x : Appeal). grant_touches r d x s) o false) (sym at) ∙ away)
+          (ap (λ o. is_grant d.outcome && option_map_or (λ (x : Appeal). grant_reaches r d x s) o false) (sym at) ∙ away)
 
       inner : (o : Option Appeal) → appeal_at r d.number d.reference ≡ o → first_refusal (decision_checks r today d o) ≡ None → SameSeating (seating r s) (seating (with_decided r d o) s)
       inner None none checked = same
@@ -565,22 +564,23 @@ module _ (r : Relations) (refer : refers r ≡ true) (stand : marks_were_granted
 -- ---- any command
 
 module _ (before : State) (good : IsGood before) (up : IsInOrder before) (today : ℕ) (s : Code) where
-  pub spared : (done : Command) (t : Relations) → change done today before ≡ Ok t → touches before.relations done s ≡ false → SameSeating (seating before.relations s) (seating t s)
-  spared (command.Import import) t is away =
+  spared_by : (done : Command) (t : Relations) → change done today before ≡ Ok t → is_set_by done s ≡ false → reaches before.relations done s ≡ false → SameSeating (seating before.relations s) (seating t s)
+  spared_by (command.Import import) t is unset away =
       let r = before.relations in
       let none = unrefused (import_refusal r import.rows) (with_rows r import.rows) t is in
       let checked = neither (rows_refusal r import.rows) (first_refusal (too_many (with_rows r import.rows) ∷ [])) none in
       subst (λ u. SameSeating (seating r s) (seating u s)) (made (import_refusal r import.rows) (with_rows r import.rows) t is)
-      (alike_seating r (with_rows r import.rows) s (import_spares r good.refer s up.tables.candidates import.rows away checked.0))
-  spared (command.Withdraw c p) t is away =
+      (alike_seating r (with_rows r import.rows) s (import_spares r good.refer s up.tables.candidates import.rows unset
+      (neither_any (list_any (λ (x : Row). row_reaches r x s) import.rows) (is_of_sessions import.kind && has_standing_member r s) away).0 checked.0))
+  spared_by (command.Withdraw c p) t is unset away =
       let r = before.relations in
       subst (λ u. SameSeating (seating r s) (seating u s)) (made (withdrawal_refusal r c p) (with_live r c p false) t is)
       (alike_seating r (with_live r c p false) s (live_spares r c p false s away))
-  spared (command.Reinstate c p) t is away =
+  spared_by (command.Reinstate c p) t is unset away =
       let r = before.relations in
       subst (λ u. SameSeating (seating r s) (seating u s)) (made (reinstatement_refusal r c p) (with_live r c p true) t is)
       (alike_seating r (with_live r c p true) s (live_spares r c p true s away))
-  spared (command.CloseHall named h) t is away =
+  spared_by (command.CloseHall named h) t is unset away =
       let r = before.relations in
       let none = unrefused (closing_refusal r named h) (without_opening r named h) t is in
       let known : has_row code_cmp r.sessions named ≡ true = there (has_row code_cmp r.sessions named) refusal.UnknownSession (no_hall r h ∷ not_opened r named h ∷ []) none in
@@ -591,22 +591,26 @@ module _ (before : State) (good : IsGood before) (up : IsInOrder before) (today 
       unnamed r known true same out =
           absurd (let differ : true ≡ false = sym (ap (λ b. b && has_row code_cmp r.sessions s) same ∙ ap (has_row code_cmp r.sessions) (sym (same_code_exact named s same)) ∙ known) ∙ out in cc)
       unnamed r known false same out = refl
-  spared (command.Lodge l) t is away =
+  spared_by (command.Lodge l) t is unset away =
       let r = before.relations in
       let refused = lodgings.lodging_refusal r before.seats today l in
       let none = unrefused refused (lodgings.with_lodging r today l) t is in
       let standing = neither (lodgings.lodging_refusal_but_limits r before.seats today l) (first_refusal (lodgings.one_too_many r today l ∷ [])) none in
       (lodging_settled before good today l t standing.0 (sym (made refused (lodgings.with_lodging r today l) t is))).seated s
-  spared (command.Retract c reference) t is away =
+  spared_by (command.Retract c reference) t is unset away =
       let r = before.relations in
       let refused = lodgings.retraction_refusal r c reference in
       let none = unrefused refused (lodgings.with_retraction r c reference) t is in
       (retraction_settled before good c reference t up.tables none (sym (made refused (lodgings.with_retraction r c reference) t is))).seated s
-  spared (command.Decide d) t is away =
+  spared_by (command.Decide d) t is unset away =
       let r = before.relations in
       let none = unrefused (decision_refusal r today d) (with_decision r d) t is in
       subst (λ u. SameSeating (seating r s) (seating u s)) (made (decision_refusal r today d) (with_decision r d) t is)
       (decision_spares r good.refer good.marks today d s none away)
+
+  pub spared : (done : Command) (t : Relations) → change done today before ≡ Ok t → touches before.relations done s ≡ false → SameSeating (seating before.relations s) (seating t s)
+  spared done t is away =
+      spared_by done t is (untouched_is_unset before.relations good.refer s done away) (untouched_is_unreached before.relations good.refer s done away)
 
   -- and its plan
   pub untouched_stays : (done : Command) (after : State) (reply : Reply) → Step done today before (Ok reply) after → touches before.relations done s ≡ false

@@ -29,7 +29,7 @@ use Rattle.exam_commands.specs.FactsMade.{WasMade}
 use Rattle.exam_commands.specs.Good.{refers}
 use Rattle.exam_commands.specs.Imports.{AreOfKind, ImportRows, kind_of}
 use Rattle.exam_office.specs.Relisting.{EntersRows, is_unlisted}
-use Rattle.exam_commands.specs.Touched.{row_touches}
+use Rattle.exam_commands.specs.Touched.{row_reaches, sets_session}
 use Rattle.exam_changes.specs.Undoing.{ChangesOnly}
 use Rattle.exam_changes.proofs.Undoing.{import_only}
 use Rattle.exam_laws.proofs.Untouched.{import_spares}
@@ -43,14 +43,30 @@ parted h p none (c ∷ cs) = inner (p c) refl (parted h p none cs)
     inner true is rest = ap (cons_option (h c)) rest
     inner false is rest = ap (λ o. cons_option o (filter_map h cs)) (none c is) ∙ rest
 
--- candidates touch no session
-none_touches : (r : Relations) (s : Code) (rows : List Row) → AreOfKind kind.Candidates rows → list_any (λ (x : Row). row_touches r x s) rows ≡ false
-none_touches r s [] of = refl
-none_touches r s (x ∷ rows) of =
-    ap (λ b. b || list_any (λ (y : Row). row_touches r y s) rows) (inner x (All-head (λ y. kind_of y ≡ kind.Candidates) x rows of))
-    ∙ none_touches r s rows (All-tail (λ y. kind_of y ≡ kind.Candidates) x rows of)
+-- candidates set no session
+none_set : (s : Code) (rows : List Row) → AreOfKind kind.Candidates rows → list_any (sets_session s) rows ≡ false
+none_set s [] of = refl
+none_set s (x ∷ rows) of =
+    ap (λ b. b || list_any (sets_session s) rows) (inner x (All-head (λ y. kind_of y ≡ kind.Candidates) x rows of))
+    ∙ none_set s rows (All-tail (λ y. kind_of y ≡ kind.Candidates) x rows of)
   where
-    inner : (y : Row) → kind_of y ≡ kind.Candidates → row_touches r y s ≡ false
+    inner : (y : Row) → kind_of y ≡ kind.Candidates → sets_session s y ≡ false
+    inner (row.OfCandidate c v) is = refl
+    inner (row.OfSession named v) is = cc
+    inner (row.OfPaper p v) is = refl
+    inner (row.OfHall h v) is = refl
+    inner (row.OfOpening named h v) is = refl
+    inner (row.OfEntry c p) is = refl
+    inner (row.OfArrangement c v) is = refl
+
+-- and reach none
+none_reached : (r : Relations) (s : Code) (rows : List Row) → AreOfKind kind.Candidates rows → list_any (λ (x : Row). row_reaches r x s) rows ≡ false
+none_reached r s [] of = refl
+none_reached r s (x ∷ rows) of =
+    ap (λ b. b || list_any (λ (y : Row). row_reaches r y s) rows) (inner x (All-head (λ y. kind_of y ≡ kind.Candidates) x rows of))
+    ∙ none_reached r s rows (All-tail (λ y. kind_of y ≡ kind.Candidates) x rows of)
+  where
+    inner : (y : Row) → kind_of y ≡ kind.Candidates → row_reaches r y s ≡ false
     inner (row.OfCandidate c v) is = refl
     inner (row.OfSession named v) is = cc
     inner (row.OfPaper p v) is = cc
@@ -100,7 +116,7 @@ module _ (r : Relations) (lists : SessionLists) (are : AreListsOf r lists) where
       inner kind.Openings keeps of only = absurd (let differ : false ≡ true = keeps in cc)
       inner kind.Candidates keeps of only =
           subst (λ (t : Relations). AreListsOf t lists) (sym only)
-          (with_candidates (with_rows r rows).candidates (λ s. (import_spares r refer s up.candidates rows (none_touches r s rows of) known).candidates))
+          (with_candidates (with_rows r rows).candidates (λ s. (import_spares r refer s up.candidates rows (none_set s rows of) (none_reached r s rows of) known).candidates))
       inner kind.Entries keeps of only = absurd (let differ : false ≡ true = keeps in cc)
       inner kind.Arrangements keeps of only = subst (λ (t : Relations). AreListsOf t lists) (sym only) (with_others r.sessions r.halls (with_rows r rows).arrangements)
 

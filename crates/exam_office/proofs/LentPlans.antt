@@ -20,11 +20,12 @@ use Rattle.exam_commands.specs.declared.command.Command.TheVariants as command
 use Rattle.exam_commands.specs.declared.command.Decision.{Decision}
 use Rattle.exam_commands.specs.declared.command.Lodging.{Lodging}
 use Rattle.exam_commands.specs.Good.{IsGood}
-use Rattle.exam_commands.specs.Appeals.{appeal_at, bears_mark, is_grant}
-use Rattle.exam_commands.specs.Touched.{ends_standing, grant_touches, is_appeal_for, touches}
+use Rattle.exam_commands.specs.Appeals.{appeal_at, is_grant}
+use Rattle.exam_commands.specs.Touched.{grant_reaches, is_appeal_for, touches}
 use Rattle.exam_commands.specs.Parts.{Agrees, is_listed, reads}
 use Rattle.exam_commands.specs.State.{Seats, State}
 use Rattle.exam_commands.proofs.ImportKeys.{number_flips}
+use Rattle.exam_laws.proofs.Making.{grant_is_for}
 use Rattle.exam_commands.proofs.SameSeats.{codes_decide}
 
 or_false : (b : Bool) → (b || false) ≡ b
@@ -125,12 +126,7 @@ reads_touched (command.Decide d) no_lodging no_decision r s = absurd (no_decisio
 pub grant_reads : (r : Relations) (d : Decision) (s : Code) → is_grant d.outcome ≡ true → reads r (command.Decide d) s ≡ touches r (command.Decide d) s
 grant_reads r d s grants = inner (is_grant d.outcome) grants (appeal_at r d.number d.reference)
   where
-    within : (here more : Bool) → (here || (here || more)) ≡ (here || more)
-    within true more = refl
-    within false more = refl
-
     inner : (b : Bool) → b ≡ true → (o : Option Appeal)
-        → (is_appeal_for o s || (b && option_map_or (λ a. grant_touches r d a s) o false)) ≡ (b && option_map_or (λ a. grant_touches r d a s) o false)
-    inner true is None = refl
-    inner true is (Some a) = within (same_code a.session s) ((bears_mark d.outcome || ends_standing r d.number a) && is_member r s d.number)
+        → (is_appeal_for r o s || (has_row code_cmp r.sessions s && (b && option_map_or (λ a. grant_reaches r d a s) o false))) ≡ (has_row code_cmp r.sessions s && (b && option_map_or (λ a. grant_reaches r d a s) o false))
+    inner true is o = grant_is_for r d s o
     inner false is o = absurd (let differ : false ≡ true = is in cc)

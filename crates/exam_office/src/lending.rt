@@ -111,19 +111,22 @@ fn read_sessions(
     }
 }
 
-/// The session of the appeal that is decided, if there is such an appeal.
+/// The session of the appeal that is decided, if the appeal and the session exist.
 fn appeal_session(
     alloc: Global,
     facts: &Facts,
     decision: &Decision,
 ) -> Result<Vec<SessionCode>, Refusal>
     ensures exact { IfOk result (λ codes. (s : Code) → Contains codes.items s
-        ↔ IsTrue (is_appeal_for (appeal_at (relations_of facts.now) decision.now.number decision.now.reference) s)) }
+        ↔ IsTrue (is_appeal_for (relations_of facts.now)
+        (appeal_at (relations_of facts.now) decision.now.number decision.now.reference) s)) }
     ensures memory { IfErr result (λ e. e ≡ NoMemory) }
 {
     match facts.appeals.get(&(decision.number, decision.reference)) {
-        Some(appeal) => one_session(alloc, appeal.session),
-        None => Ok(Vec::new(alloc)),
+        Some(appeal) if facts.sessions.contains_key(&appeal.session) => {
+            one_session(alloc, appeal.session)
+        }
+        _ => Ok(Vec::new(alloc)),
     }
 }
 
