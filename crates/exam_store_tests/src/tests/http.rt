@@ -36,6 +36,17 @@ macro_rules! answered {
     };
 }
 
+/// The answer to a method that the route does not have, with those that it has.
+macro_rules! not_allowed {
+    ($methods:literal) => {
+        concat!(
+            "HTTP/1.1 405 Method Not Allowed\r\nContent-Type: application/json\r\nContent-Length: 12\r\nAllow: ",
+            $methods,
+            "\r\nConnection: close\r\n\r\n{\"error\":38}"
+        )
+    };
+}
+
 mod client;
 mod cuts;
 mod exchanges;

@@ -118,6 +118,56 @@ fn a_candidate_sees_their_seat_and_nobody_elses(rt: HostRuntime) -> Result<(), F
     exchange(&rt, ONE_SITS, SEATS)
 }
 
+/// The first candidate sits one of two papers at the same time.
+const TWO_PAPERS: &str = "\
+INSERT INTO paper VALUES ('PH-2', 'Physics', 'S1', 60, 16);
+INSERT INTO entry VALUES (1, 'MA-1', 1), (1, 'PH-2', 1);
+INSERT INTO seat VALUES ('S1', 1, 'A')";
+
+const CLASHES: &[Exchange<'_>] = &[(
+    LAST_DAY,
+    &[(asked!("GET /candidates/0000001/clashes"), 1)],
+    answered!(
+        "200 OK",
+        62,
+        "{\"clashes\":[{\"paper\":\"PH-2\",\"session\":\"S1\",\"sitting\":\"MA-1\"}]}"
+    ),
+)];
+
+#[test]
+fn a_candidate_sees_which_papers_clash(rt: HostRuntime) -> Result<(), Fail> {
+    exchange(&rt, TWO_PAPERS, CLASHES)
+}
+
+/// Each route with a method that it does not have.
+const OTHER_METHODS: &[Exchange<'_>] = &[
+    (
+        LAST_DAY,
+        &[(asked!("HEAD /candidates/0000001/seats"), 1)],
+        not_allowed!("GET"),
+    ),
+    (
+        LAST_DAY,
+        &[(asked!("HEAD /candidates/0000001/clashes"), 1)],
+        not_allowed!("GET"),
+    ),
+    (
+        LAST_DAY,
+        &[(asked!("HEAD /candidates/0000001/appeals"), 1)],
+        not_allowed!("GET, POST"),
+    ),
+    (
+        LAST_DAY,
+        &[(asked!("POST /candidates/0000001/appeals/HA1"), 1)],
+        not_allowed!("DELETE"),
+    ),
+];
+
+#[test]
+fn each_route_tells_its_methods(rt: HostRuntime) -> Result<(), Fail> {
+    exchange(&rt, ONE_SITS, OTHER_METHODS)
+}
+
 pub const AGAINST_B: &str = posted!(
     65,
     "{\"hall\":\"B\",\"kind\":\"hall\",\"reason\":\"\",\"ref\":\"HA1\",\"session\":\"S1\"}"
@@ -163,7 +213,7 @@ const APPEALS: &[Exchange<'_>] = &[
     (
         DAY_AFTER,
         &[(asked!("PUT /candidates/0000001/appeals"), 1)],
-        "HTTP/1.1 405 Method Not Allowed\r\nContent-Type: application/json\r\nContent-Length: 12\r\nAllow: GET, POST\r\nConnection: close\r\n\r\n{\"error\":38}",
+        not_allowed!("GET, POST"),
     ),
     (
         DAY_AFTER,
