@@ -17,10 +17,8 @@ pub use clashing::{clashes, clashes_among};
 pub use facts::Facts;
 pub use fit::{finish, finish_beside, finish_by_entries, fits};
 pub use laws::{
-    certificates_by_name, chains_by_index, chains_by_name, contested_by_name, desk_numbers_by_name,
-    desks_are_of_their_own, kept_parts_by_name, last_standing_grant_counts, lists_are_plans,
-    lists_rise, plans_by_index, plans_by_name, repair_is_one, repairs_by_index, repairs_by_name,
-    sweeps_by_index, sweeps_by_name,
+    certificates_by_name, desks_are_of_their_own, last_standing_grant_counts, plans_by_name,
+    repair_is_one,
 };
 pub use lists::{
     BySession, Entrant, SessionLists, append_by_session, entered_session, session_lists,

@@ -1,8 +1,0 @@
-use Rattle.exam_rules.specs.Names.{naming}
-use Rattle.exam_rules.proofs.Naming.{renames}
-use Rattle.exam_rules.proofs.Following.{follows}
-use Rattle.exam_plan.proofs.KeptNames.{IsRepair-named}
-use Rattle.exam_rules.proofs.laws.repairs_by_name.Goals as goal
-
-pub returns : goal.returns
-returns c = λ r s first before after up. IsRepair-named (naming r s) (renames r s up) (follows r s up) first before after
