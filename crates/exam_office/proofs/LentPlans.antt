@@ -11,7 +11,7 @@ use Rattle.std.proofs.lemmas.Bool.Decides.{Decides-eqb}
 use Rattle.std.proofs.lemmas.Map.Made.{is_member-Decides}
 use Rattle.exam_rules.specs.declared.lists.SessionLists.{SessionLists}
 use Rattle.exam_rules.specs.Lists.{AreListsOf, listed}
-use Rattle.exam_rules.specs.Relations.{Code, Relations, same_code}
+use Rattle.exam_rules.specs.Relations.{Code, Relations, code_cmp, has_row, same_code}
 use Rattle.exam_rules.specs.Seatings.{plan_of}
 use Rattle.exam_rules.specs.Sessions.{is_member, members}
 use Rattle.exam_rules.proofs.Naming.{same_code_exact}
