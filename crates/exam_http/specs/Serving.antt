@@ -1,5 +1,5 @@
 -- One request, read and answered.
-use Rattle.std.specs.Prelude.{◌≡◌, ⊤, ℕ, List, Option, Result, Ok, Err}
+use Rattle.std.specs.Prelude.{◌≡◌, ◌⊎◌, ⊤, ℕ, List, [], ◌∷◌, Option, Result, Ok, Err}
 use Rattle.std.specs.Io.KnownBytes.{Appends}
 use Rattle.sqlite_trees.specs.declared.store.Store.{Ghosts}
 use Rattle.exam_store.specs.Stores.{OfficeIn}
@@ -48,3 +48,21 @@ Serves g contents today input rest old before (Err Read) new after =
 Serves g contents today input rest old before (Err Write) new after =
     (told : Told) × Tells g today input rest old told new
     × AppendsPart (contents before) (contents after) (answer_text told)
+
+-- ---- which day it is
+
+-- A request is answered on this day and changes nothing but by its answer, or none could be read and nothing changes.
+abbrev pub ServedOn : {S : Type 0} → Ghosts S → ℕ → OfficeIn S → OfficeIn S → Type 0
+ServedOn g today old new =
+    (new ≡ old) ⊎ ((asked : Result Request Fault) × (told : Told) × AnswersAsked g today old asked told new)
+
+-- what was asked is answered in turn, all of it on this day, and nothing else changes anything
+abbrev pub AnsweredInTurn : {S : Type 0} → Ghosts S → ℕ → OfficeIn S → List (Result Request Fault) → OfficeIn S → Type 0
+AnsweredInTurn g today old [] new = new ≡ old
+AnsweredInTurn {S} g today old (asked ∷ rest) new =
+    (told : Told) × (between : OfficeIn S) × AnswersAsked g today old asked told between
+    × AnsweredInTurn g today between rest new
+
+-- some requests are answered in turn, all of them on this day, and nothing else changes anything
+abbrev pub AreServedOn : {S : Type 0} → Ghosts S → ℕ → OfficeIn S → OfficeIn S → Type 0
+AreServedOn g today old new = (asked : List (Result Request Fault)) × AnsweredInTurn g today old asked new

@@ -47,6 +47,7 @@ pub fn serve_one<S: Alter, R: Read, W: Write>(
 ) -> Result<(), HttpFault>
     ensures serves { spec.Serves S.Store W.contents today (R.remaining reader.old) (R.remaining reader.new)
         store.old writer.old result store.new writer.new }
+    ensures served { spec.ServedOn S.Store today store.old store.new }
     ensures headline { (s : Code) → IsSeated store.new.office s }
 {
     let mut buffer = [0; MOST_REQUEST];
