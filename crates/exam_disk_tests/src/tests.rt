@@ -2,6 +2,7 @@
 mod connections;
 mod disks;
 mod lines;
+mod logs;
 mod refusing;
 mod reopening;
 mod stopping;

@@ -1,5 +1,5 @@
 -- What a line of the program does to the office in a store, and what it prints.
-use Rattle.std.specs.Prelude.{◌≡◌, ◌⊎◌, ℕ, List, Option, Result, Ok, Err, codes}
+use Rattle.std.specs.Prelude.{◌≡◌, ◌⊎◌, ℕ, List, Option, Result, Ok, Err}
 use Rattle.sqlite_trees.specs.declared.store.Store.{Ghosts}
 use Rattle.sqlite.specs.Held.{state}
 use Rattle.exam_types.specs.declared.refusal.Refusal.{Refusal}
@@ -72,12 +72,10 @@ pub data ImportsFile {S W : Type 0} (g : Ghosts S) (contents : W → Option (Lis
 
 -- ---- lines
 
--- What a line's job does. `init` has nothing to do after the store was opened. `serve`, `migrate` and `check` do
--- nothing here: the program itself does them. Only an import reads the reader.
+-- What a line's job does. `init`, `migrate`, `check` and `serve` do nothing here: the program itself does them. Only an
+-- import reads the reader.
 abbrev pub Does : {S W : Type 0} → Ghosts S → (W → Option (List ℕ)) → Job → ℕ → Option (List ℕ)
     → Option (List ℕ) → OfficeIn S → W → Result (Unit {0}) JobFault → OfficeIn S → W → Type 0
-Does g contents line.init today input rest old before result new after =
-    (rest ≡ input) × (new ≡ old) × Prints contents (codes "ready\n") before result after
 Does g contents (line.import kind file) today input rest old before result new after =
     ImportsFile g contents kind today input rest old before result new after
 Does g contents (line.apply done) today input rest old before result new after =

@@ -1,19 +1,33 @@
 -- What the command `migrate` does, which brings an office of an earlier version to the newest, and what it prints.
-use Rattle.std.specs.Prelude.{◌≡◌, ℕ, List, Option, Result, Ok, Err, IfErr}
+use Rattle.std.specs.Prelude.{◌≡◌, ◌∷◌, ℕ, List, Option, Result, Ok, Err, IfOk, IfErr}
 use Rattle.sqlite_trees.specs.declared.store.Store.{Ghosts}
 use Rattle.sqlite.specs.Held.{Held, state}
-use Rattle.sqlite.specs.State.{HasCleanDisk}
+use Rattle.sqlite.specs.State.{HasCleanDisk, IsUnchanged, Survives}
 use Rattle.exam_types.specs.declared.refusal.Refusal.{Refusal}
+use Rattle.exam_sql.specs.Made.{ContainsMade}
+use Rattle.exam_sql.specs.Texts.{load_office as office_text}
+use Rattle.exam_tables.specs.Loaded.{AreUnderstood}
 use Rattle.exam_tables.specs.Transactions.{Commits}
-use Rattle.exam_store.specs.Found.{FailsToMigrate}
+use Rattle.exam_tables.specs.Versions.{IsVersion, version}
+use Rattle.exam_store.specs.Found.{FailsToMigrate, HoldsGood, version_texts}
 use Rattle.exam_store.specs.Kept as store
 use Rattle.exam_job.specs.Printed.{Prints, migration_text}
 use Rattle.exam_job.specs.declared.report.JobFault.{JobFault}
 use Rattle.exam_job.specs.declared.report.JobFault.TheVariants.{Refused}
 
--- the database keeps the office in the newest version, in one transaction or not at all; why this is refused
+-- What is done with an office of an earlier version or of the newest one. The versions before and after are those of the
+-- tables, which held a good office; the database keeps it in the newest version, in one transaction or not at all; over
+-- an office of the newest version nothing is written; why this is refused.
 pub record IsMigrated {S : Type 0} (g : Ghosts S) (old : Held S) (answered : Result (ℕ × ℕ) Refusal) (new : Held S)
     : Type 0 where
+  pub versions : IfOk answered (λ v. IsVersion v.0 × (v.1 ≡ version))
+  pub found : HasCleanDisk (state g new) → IfOk answered (λ v. (all : _)
+      → ContainsMade (state g old).now all → HoldsGood v.0 (state g old).now all)
+  pub understood : HasCleanDisk (state g new) → IfOk answered (λ v.
+      AreUnderstood (state g old).now (office_text ∷ version_texts v.0))
+  pub newest : IfOk answered (λ v. v.0 ≡ version
+      → (HasCleanDisk (state g new) → IsUnchanged (state g old) (state g new))
+      × Survives (state g old) (state g new) (λ _. ⊥))
   pub made : Commits (state g old) (state g new) answered store.Migrates
   pub refusal : HasCleanDisk (state g new) → IfErr answered (FailsToMigrate g old new)
 

@@ -17,6 +17,7 @@ use Rattle.exam_line.specs.declared.line.LineFault.{LineFault}
 use Rattle.exam_line.specs.declared.line.LineFault.TheVariants as line
 use Rattle.exam_tables.specs.declared.send_fault.SendFault.{SendFault}
 use Rattle.exam_tables.specs.declared.send_fault.SendFault.TheVariants as sent
+use Rattle.exam_tables.specs.Versions.{version}
 use Rattle.exam_send.specs.Sending.{AppendsBeginning, AppendsPart}
 use Rattle.exam_job.specs.declared.report.JobFault.{JobFault}
 use Rattle.exam_job.specs.declared.report.JobFault.TheVariants as fault
@@ -78,6 +79,10 @@ fault_text fault.File = codes "file fault\n"
 fault_text fault.Write = codes "write fault\n"
 fault_text fault.Net = codes "net fault\n"
 
+-- the line for an office that was opened or made
+abbrev pub ready_text : List ℕ
+ready_text = codes "ready\n"
+
 -- the line for an office that has the version already
 abbrev pub already_text : ℕ → List ℕ
 already_text version = codes "already " ++ decimal version ++ codes "\n"
@@ -95,6 +100,10 @@ serving_text port = codes "serving 127.0.0.1 " ++ decimal port ++ codes "\n"
 -- the line for a connection that ended in the fault with this number
 abbrev pub connection_fault_text : ℕ → List ℕ
 connection_fault_text number = codes "fault " ++ decimal number ++ codes "\n"
+
+-- the version of the program, and that of its tables
+abbrev pub version_text : List ℕ
+version_text = codes "examoffice 1.0.0, tables of version " ++ decimal version ++ codes "\n"
 
 -- the line for words that are not understood
 abbrev pub not_understood_text : List ℕ
@@ -141,16 +150,18 @@ Reports contents (Err failed) before status after =
 abbrev pub Contents : Type 0 → Type 0
 Contents W = W → Option (List ℕ)
 
--- the exit status of a request for help, whose text goes to standard output; a fault is reported like any other
-abbrev pub ReportsHelp : {O E : Type 0} → Contents O → Contents E → List ℕ → O → E → ℕ → O → E → Type 0
-ReportsHelp contents errors text before untold status after told =
+-- the exit status of a request, whose text goes to standard output; a fault is reported like any other
+abbrev pub ReportsText : {O E : Type 0} → Contents O → Contents E → List ℕ → O → E → ℕ → O → E → Type 0
+ReportsText contents errors text before untold status after told =
     (result : Result (Unit {0}) JobFault) × Prints contents text before result after
     × Reports errors result untold status told
 
--- the exit status of words that are not understood, and what is printed for them
+-- the exit status of words that are no line, and what is printed for them
 abbrev pub ReportsNoLine : {O E : Type 0} → Contents O → Contents E → LineFault → O → E → ℕ → O → E → Type 0
 ReportsNoLine contents errors (line.Help text) before untold status after told =
-    ReportsHelp contents errors (string_bytes text) before untold status after told
+    ReportsText contents errors (string_bytes text) before untold status after told
+ReportsNoLine contents errors line.Version before untold status after told =
+    ReportsText contents errors version_text before untold status after told
 ReportsNoLine contents errors line.NotUnderstood before untold status after told =
     (after ≡ before) × (status ≡ 2) × IsTold errors not_understood_text untold told
 ReportsNoLine contents errors line.NoMemory before untold status after told =

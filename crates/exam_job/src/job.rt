@@ -16,18 +16,20 @@ use exam_types::{Day, Refusal};
 use sqlite::Alter;
 use std::alloc::Global;
 use std::io::{Read, Write};
+use std::slice;
 
 /// Carries out the line's job over the store, and returns the exit status. The reader is the import file; the writers
-/// are standard output and standard error. Whatever becomes of the line, every session is seated as promised.
+/// are standard output and standard error. `init`, `migrate`, `check` and `serve` do nothing here: the program itself
+/// does them. Whatever becomes of the line, every session is seated as promised.
 pub fn run_job<S: Alter, R: Read, O: Write, E: Write>(
     alloc: Global,
-    line: Line<'_>,
+    line: &Line<'_>,
     store: &mut Store<S>,
     reader: &mut R,
     out: &mut O,
     err: &mut E,
 ) -> u8
-    ensures runs { spec.Runs S.Store O.contents E.contents (shown line.entry) (R.remaining reader.old)
+    ensures runs { spec.Runs S.Store O.contents E.contents (shown line.now) (R.remaining reader.old)
         (R.remaining reader.new) store.old out.old err.old result store.new out.new err.new }
     ensures headline { (s : Code) → IsSeated store.new.office s }
 {
@@ -41,12 +43,12 @@ pub fn run_job<S: Alter, R: Read, O: Write, E: Write>(
 /// written whole. Whatever it answers, every session is seated as promised.
 pub fn carry_out<S: Alter, R: Read, O: Write>(
     alloc: Global,
-    line: Line<'_>,
+    line: &Line<'_>,
     store: &mut Store<S>,
     reader: &mut R,
     out: &mut O,
 ) -> Result<(), JobFault>
-    ensures does { spec.Does S.Store O.contents (job_shown line.entry.job) line.entry.today (R.remaining reader.old)
+    ensures does { spec.Does S.Store O.contents (job_shown line.now.job) line.now.today (R.remaining reader.old)
         (R.remaining reader.new) store.old out.old result store.new out.new }
     ensures headline { (s : Code) → IsSeated store.new.office s }
 {
@@ -58,27 +60,23 @@ pub fn carry_out<S: Alter, R: Read, O: Write>(
 /// Carries out the line's job over the store.
 fn carry_out_job<S: Alter, R: Read, O: Write>(
     alloc: Global,
-    line: Line<'_>,
+    line: &Line<'_>,
     store: &mut Store<S>,
     reader: &mut R,
     out: &mut O,
 ) -> Result<(), JobFault>
-    ensures { spec.Does S.Store O.contents (job_shown line.entry.job) line.entry.today (R.remaining reader.old)
+    ensures { spec.Does S.Store O.contents (job_shown line.now.job) line.now.today (R.remaining reader.old)
         (R.remaining reader.new) store.old out.old result store.new out.new }
 {
-    let Line { today, job, .. } = line;
-    match job {
-        // The store is open, so there is nothing left to do.
-        Job::Init => print(out, b"ready\n"),
-        Job::Import { kind, .. } => import(alloc, store, kind, today, reader, out),
-        Job::Apply(command) => carry_out_command(alloc, store, command, today, out),
-        // The program itself does these: it serves over sockets, and it migrates and checks before the office is open.
-        // Over this store there is nothing to do.
-        Job::Serve { .. } | Job::Migrate | Job::Check => Ok(()),
-        Job::Sheet { session, sheet } => match &sheet {
-            Sheet::Appeals => print_appeals(alloc, store, &session, out),
-            which => print_sheet(alloc, store, &session, which, out),
+    match &line.job {
+        Job::Import { kind, .. } => import(alloc, store, *kind, line.today, reader, out),
+        Job::Apply(dated) => carry_out_command(alloc, store, dated, out),
+        Job::Sheet { session, sheet } => match sheet {
+            Sheet::Appeals => print_appeals(alloc, store, session, out),
+            which => print_sheet(alloc, store, session, which, out),
         },
+        // The program itself makes, migrates and checks the file, before an office is open, and serves over sockets.
+        Job::Init | Job::Migrate | Job::Check | Job::Serve { .. } => Ok(()),
     }
 }
 
@@ -95,21 +93,19 @@ fn import<S: Alter, R: Read, O: Write>(
         store.old out.old result store.new out.new }
 {
     let import = read_import_file(alloc, kind, reader)?;
-    carry_out_command(alloc, store, Command::Import(import), today, out)
+    carry_out_command(alloc, store, &(Command::Import(import), today), out)
 }
 
-/// Carries out a command of the office as a list of one, and prints what it answers.
+/// Carries out a command of the office on its day, as a list of one, and prints what it answers.
 fn carry_out_command<S: Alter, O: Write>(
     alloc: Global,
     store: &mut Store<S>,
-    command: Command,
-    today: Day,
+    dated: &(Command, Day),
     out: &mut O,
 ) -> Result<(), JobFault>
-    ensures { spec.Commands S.Store O.contents command today store.old out.old result store.new out.new }
+    ensures { spec.Commands S.Store O.contents dated.now.0 dated.now.1 store.old out.old result store.new out.new }
 {
-    let commands = [(command, today)];
-    let mut answers = store.apply_all(alloc, &commands)?;
+    let mut answers = store.apply_all(alloc, slice::from_ref(dated))?;
     // The list has one answer, that of the one command.
     tell(answers.pop().unwrap(), out)
 }

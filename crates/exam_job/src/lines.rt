@@ -5,7 +5,9 @@ ghost use Rattle.exam_job.specs.Printed as spec;
 
 use crate::report::JobFault;
 use arrayvec::ArrayVec;
+use exam_line::VERSION;
 use exam_office::{AppealState, Reply, state_word};
+use exam_tables::NEWEST;
 use exam_types::{Day, HallCode, Refusal};
 use itoa::{Buffer, Integer};
 
@@ -151,6 +153,18 @@ fn already_line(version: u8) -> ShortLine
 {
     let mut line = line_of(b"already ");
     put_number(&mut line, version);
+    put(&mut line, b"\n");
+    line
+}
+
+/// The version of the program, and that of its tables.
+pub fn version_line() -> ShortLine
+    ensures { result.items ≡ spec.version_text }
+{
+    let mut line = line_of(b"examoffice ");
+    put(&mut line, VERSION.as_bytes());
+    put(&mut line, b", tables of version ");
+    put_number(&mut line, NEWEST.number);
     put(&mut line, b"\n");
     line
 }

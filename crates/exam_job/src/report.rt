@@ -6,7 +6,7 @@ ghost use Rattle.exam_send.specs.Sending.{AppendsPart};
 ghost use Rattle.exam_job.specs.Printed as spec;
 ghost use Rattle.exam_job.specs.declared.report.JobFault.TheVariants.{Refused};
 
-use crate::lines::fault_line;
+use crate::lines::{fault_line, version_line};
 use exam_files::SheetFault;
 use exam_line::LineFault;
 use exam_send::{WriteFailed, send};
@@ -73,6 +73,13 @@ pub fn print<O: Write>(out: &mut O, line: &[u8]) -> Result<(), JobFault>
     flush(out)
 }
 
+/// Prints that the office is there, since it was opened or made.
+pub fn print_ready<O: Write>(out: &mut O) -> Result<(), JobFault>
+    ensures { spec.Prints O.contents spec.ready_text out.old result out.new }
+{
+    print(out, b"ready\n")
+}
+
 /// Passes on what standard output may still hold.
 pub fn flush<O: Write>(out: &mut O) -> Result<(), JobFault>
     ensures { spec.Flushes O.contents out.old result out.new }
@@ -89,12 +96,13 @@ pub fn print_fault<E: Write>(fault: &JobFault, err: &mut E) -> u8
     FAILED
 }
 
-/// Prints why words are not understood, and returns the exit status. The text of help goes to standard output.
+/// Prints why words are no line, and returns the exit status. Help and the version go to standard output.
 pub fn print_line_fault<O: Write, E: Write>(fault: &LineFault, out: &mut O, err: &mut E) -> u8
     ensures { spec.ReportsNoLine O.contents E.contents fault.now out.old err.old result out.new err.new }
 {
     match fault {
-        LineFault::Help(text) => print_help(text.as_bytes(), out, err),
+        LineFault::Help(text) => print_text(text.as_bytes(), out, err),
+        LineFault::Version => print_text(version_line().as_slice(), out, err),
         LineFault::NotUnderstood => {
             let _ = print_error(err, b"line not understood\n");
             NOT_UNDERSTOOD
@@ -103,9 +111,9 @@ pub fn print_line_fault<O: Write, E: Write>(fault: &LineFault, out: &mut O, err:
     }
 }
 
-/// Prints the text of help, and returns the exit status.
-fn print_help<O: Write, E: Write>(text: &[u8], out: &mut O, err: &mut E) -> u8
-    ensures { spec.ReportsHelp O.contents E.contents text.now out.old err.old result out.new err.new }
+/// Prints the text that was asked for, and returns the exit status.
+fn print_text<O: Write, E: Write>(text: &[u8], out: &mut O, err: &mut E) -> u8
+    ensures { spec.ReportsText O.contents E.contents text.now out.old err.old result out.new err.new }
 {
     match print(out, text) {
         Ok(()) => DONE,

@@ -7,11 +7,11 @@ use Rattle.clap.specs.declared.error.kind.ErrorKind.{ErrorKind}
 use Rattle.clap.specs.declared.error.kind.ErrorKind.TheVariants as kind
 use Rattle.clap.proofs.OnLiterals.{clap_on_literals}
 use Rattle.exam_line.specs.Grammar.{grammar}
-use Rattle.exam_line.proofs.HelpAlone.{help_alone}
-use Rattle.exam_line.specs.Lines.{Answers, GivesLine, Said, Tells, rows, said, said_in}
+use Rattle.exam_line.proofs.RequestAlone.{IsRequest, request_alone}
+use Rattle.exam_line.specs.Lines.{Answers, AsksNothing, GivesLine, Said, Tells, rows, said, said_in}
 use Rattle.exam_line.specs.declared.line.Line.{Line}
 use Rattle.exam_line.specs.declared.line.LineFault.{LineFault}
-use Rattle.exam_line.specs.declared.line.LineFault.TheVariants.{Help, NoMemory, NotUnderstood}
+use Rattle.exam_line.specs.declared.line.LineFault.TheVariants.{Help, NoMemory, NotUnderstood, Version}
 
 pub simple : is_simple grammar ≡ true
 unfolding clap_on_literals
@@ -26,19 +26,23 @@ accepted (Ok line) answer words none same given = (none, sym same ∙ given)
 accepted (Err NoMemory) answer words none same given = tt
 accepted (Err NotUnderstood) answer words none same given = inl (none, sym same ∙ given)
 accepted (Err (Help text)) answer words none same given = absurd given
+accepted (Err Version) answer words none same given = absurd given
 
--- beside another kind no request for help is found
-no_help : (k : ErrorKind) (words : List Text) → k ≢ kind.DisplayHelp → IsAmong k (fault_of grammar words) → IsAmong kind.DisplayHelp (fault_of grammar words) → ⊥
-no_help k words other among help =
-    let single : IsAmong k (kind.DisplayHelp ∷ []) = subst (IsAmong k) (help_alone words help) among in
+-- beside another kind no request is found
+no_request : (k asked : ErrorKind) (words : List Text) → IsRequest asked → k ≢ asked → IsAmong k (fault_of grammar words) → IsAmong asked (fault_of grammar words) → ⊥
+no_request k asked words is other among found =
+    let single : IsAmong k (asked ∷ []) = subst (IsAmong k) (request_alone words asked is found) among in
     elim single [ inl e ↦ other e | inr further ↦ absurd further ]
 
 told : (f : LineFault) (k : ErrorKind) (words : List Text) → Tells f k → (k ≡ kind.OutOfMemory) ⊎ IsAmong k (fault_of grammar words) → Answers (Err f) words
 told NoMemory k words tells from = tt
-told NotUnderstood k words tells (inl e) = absurd (tells.1 e)
-told NotUnderstood k words tells (inr among) = inr (k, among, no_help k words tells.0 among)
+told NotUnderstood k words tells (inl e) = absurd (tells.2 e)
+told NotUnderstood k words tells (inr among) =
+    inr (k, among, (no_request k kind.DisplayHelp words (inl refl) tells.0 among, no_request k kind.DisplayVersion words (inr refl) tells.1 among))
 told (Help text) k words tells (inl e) = cc (tells, e)
 told (Help text) k words tells (inr among) = subst (λ x. IsAmong x (fault_of grammar words)) tells among
+told Version k words tells (inl e) = cc (tells, e)
+told Version k words tells (inr among) = subst (λ x. IsAmong x (fault_of grammar words)) tells among
 
 -- what clap says of a command is said of the program's
 matched : (a : App) (words : List Text) (m : ArgMatches) → a ≡ grammar → HasMatchesOf a words m → (rows_of (found_of m) ≡ matches_of grammar words) × (subcommand_rows_of m ≡ subcommand_of grammar words)

@@ -23,10 +23,10 @@ job_app name words = record { top = job_shape name words; subs = [] }
 abbrev pub with_job : App → Text × List Text → App
 with_job app job = with_subcommand app (job_shape job.0 job.1)
 
--- a command must be given, and `help` is no command
+-- a command must be given, `help` is no command, and the version may be asked for
 abbrev pub program_app : App
 program_app =
-    on_top (λ shape. record shape { subcommand_required = true; disable_help_subcommand = true })
+    on_top (λ shape. record shape { has_version = true; subcommand_required = true; disable_help_subcommand = true })
     (new_app (codes "examoffice"))
 
 -- the options, which come before the command

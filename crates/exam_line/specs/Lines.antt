@@ -24,7 +24,7 @@ use Rattle.exam_line.specs.declared.line.Job as coded
 use Rattle.exam_line.specs.declared.line.Job.TheVariants as job
 use Rattle.exam_line.specs.declared.line.Line.{Line}
 use Rattle.exam_line.specs.declared.line.LineFault.{LineFault}
-use Rattle.exam_line.specs.declared.line.LineFault.TheVariants.{Help, NoMemory, NotUnderstood}
+use Rattle.exam_line.specs.declared.line.LineFault.TheVariants.{Help, NoMemory, NotUnderstood, Version}
 use Rattle.exam_line.specs.declared.line.Sheet.{Sheet}
 use Rattle.exam_line.specs.declared.line.Sheet.TheVariants.{DoorList, Attendance, Clashes, Shortage, Appeals, Export}
 
@@ -51,7 +51,7 @@ job_shown job.Init = init
 job_shown job.Migrate = migrate
 job_shown job.Check = check
 job_shown (job.Import kind file) = import kind file.now
-job_shown (job.Apply command) = apply command
+job_shown (job.Apply dated) = apply dated.0
 job_shown (job.Serve port) = serve port
 job_shown (job.Sheet session sheet) = print session sheet
 
@@ -193,16 +193,20 @@ said_in words command =
 abbrev pub said : List Text → Option Said
 said words = said_in (matches_of grammar words) (subcommand_of grammar words)
 
--- What a call answers for words. The line that they say, if `clap` accepts them; help, only if `clap` finds a request
--- for help; not understood, if it finds faults and no such request, or if they say nothing.
+-- no request is among the kinds of faults
+abbrev pub AsksNothing : List ErrorKind → Type 0
+AsksNothing kinds = (IsAmong kind.DisplayHelp kinds → ⊥) × (IsAmong kind.DisplayVersion kinds → ⊥)
+
+-- What a call answers for words. The line that they say, if `clap` accepts them; help or the version, only if `clap`
+-- finds a request for it; not understood, if it finds faults and no such request, or if they say nothing.
 abbrev pub Answers : Result Line LineFault → List Text → Type 0
 Answers (Ok line) words = (fault_of grammar words ≡ []) × (said words ≡ Some (shown line))
 Answers (Err NoMemory) words = ⊤
 Answers (Err (Help text)) words = IsAmong kind.DisplayHelp (fault_of grammar words)
+Answers (Err Version) words = IsAmong kind.DisplayVersion (fault_of grammar words)
 Answers (Err NotUnderstood) words =
     ((fault_of grammar words ≡ []) × (said words ≡ None))
-    ⊎ ((k : ErrorKind) × IsAmong k (fault_of grammar words)
-    × (IsAmong kind.DisplayHelp (fault_of grammar words) → ⊥))
+    ⊎ ((k : ErrorKind) × IsAmong k (fault_of grammar words) × AsksNothing (fault_of grammar words))
 
 -- ---- for the functions that the call is made of
 
@@ -212,9 +216,11 @@ GivesLine (Ok line) answer = answer ≡ Some (shown line)
 GivesLine (Err NoMemory) answer = IsSome answer
 GivesLine (Err NotUnderstood) answer = answer ≡ None
 GivesLine (Err (Help text)) answer = ⊥
+GivesLine (Err Version) answer = ⊥
 
 -- the fault of an error of `clap`; the text of help may run out of memory too
 abbrev pub Tells : LineFault → ErrorKind → Type 0
 Tells NoMemory k = (k ≡ kind.OutOfMemory) ⊎ (k ≡ kind.DisplayHelp)
-Tells NotUnderstood k = (k ≢ kind.DisplayHelp) × (k ≢ kind.OutOfMemory)
+Tells NotUnderstood k = (k ≢ kind.DisplayHelp) × (k ≢ kind.DisplayVersion) × (k ≢ kind.OutOfMemory)
 Tells (Help text) k = k ≡ kind.DisplayHelp
+Tells Version k = k ≡ kind.DisplayVersion

@@ -63,13 +63,14 @@ fn with_sheets<'a>(alloc: Global, command: Command<'a>) -> Result<Command<'a>, A
     with_job(alloc, command, "export", help::EXPORT, &session)
 }
 
-/// The options, which come before the command. `help` is no command, so a request for help is never another fault as
-/// well.
+/// The options, which come before the command. `help` is no command, so a request for help or for the version is never
+/// another fault as well.
 fn top_command<'a>(alloc: Global) -> Result<Command<'a>, AllocError>
     ensures { IfOk result (λ c. app_of c ≡ spec.options) }
 {
     Command::new(alloc, "examoffice")
         .about(help::PROGRAM)
+        .version(help::VERSION)
         .after_help(help::STATUSES)
         .subcommand_required(true)
         .disable_help_subcommand(true)

@@ -4,6 +4,9 @@
 mod grammar;
 mod help;
 mod line;
+mod parsing;
 mod values;
 
-pub use line::{Job, Line, LineFault, Sheet, parse_line};
+pub use help::VERSION;
+pub use line::{Job, Line, LineFault, Sheet};
+pub use parsing::parse_line;

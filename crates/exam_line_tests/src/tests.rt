@@ -41,7 +41,7 @@ fn job_name(job: &Job<'_>) -> &'static str {
         Job::Migrate => "migrate",
         Job::Check => "check",
         Job::Import { .. } => "import",
-        Job::Apply(command) => command_name(command),
+        Job::Apply((command, _)) => command_name(command),
         Job::Serve { .. } => "serve",
         Job::Sheet { sheet, .. } => sheet_name(sheet),
     }
@@ -53,6 +53,7 @@ fn told(alloc: Global, line: &str) -> Result<&'static str, AllocError> {
     match parse_line(alloc, words.as_slice()) {
         Ok(line) => Ok(job_name(&line.job)),
         Err(LineFault::Help(_)) => Ok("help"),
+        Err(LineFault::Version) => Ok("version"),
         Err(LineFault::NotUnderstood) => Ok("none"),
         Err(LineFault::NoMemory) => Ok("no memory"),
     }
@@ -87,6 +88,9 @@ const UNDERSTOOD: &[(&str, &str)] = &[
     (given!("export|S1"), "export"),
     (given!("export|--|-1"), "export"),
     ("--help", "help"),
+    ("--version", "version"),
+    ("-V", "version"),
+    ("--db|office.db|--version", "version"),
 ];
 
 /// Words that are not understood.
@@ -116,6 +120,9 @@ const NOT_UNDERSTOOD: &[&str] = &[
     "help|import",
     given!("help"),
     given!("help|import"),
+    "version",
+    "--version=1",
+    given!("init|--version"),
 ];
 
 #[test]

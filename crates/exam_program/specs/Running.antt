@@ -16,9 +16,10 @@ use Rattle.exam_store.specs.Stores.{OfficeIn}
 use Rattle.exam_check.specs.Refused.{is_check_refusal}
 use Rattle.exam_check.specs.declared.tables.Table.{Table}
 use Rattle.exam_check.specs.declared.tables.Table.TheVariants.{Office}
+use Rattle.exam_http.specs.Serving.{AreServedOn}
 use Rattle.exam_job.specs.Jobs.{Does}
 use Rattle.exam_job.specs.Migrations.{Migrates}
-use Rattle.exam_job.specs.Printed.{Contents, Prints, Reports, ReportsNoLine, serving_text}
+use Rattle.exam_job.specs.Printed.{Contents, Prints, Reports, ReportsNoLine, ready_text, serving_text}
 use Rattle.exam_job.specs.declared.report.JobFault.{JobFault}
 use Rattle.exam_job.specs.declared.report.JobFault.TheVariants.{Net, Refused}
 use Rattle.exam_program.specs.Checking.{FoundIn, TellsTable, status_of}
@@ -26,24 +27,28 @@ use Rattle.exam_program.specs.Opening.{IsOver, MakesIn, OpensIn}
 
 -- ---- over an open office
 
--- what serving ends in after its line: nothing, unless the network failed; or the fault of that line
-abbrev pub ServesAfter : Result (Unit {0}) JobFault → Result (Unit {0}) JobFault → Type 0
-ServesAfter (Ok printed) result = IfErr result (λ fault. fault ≡ Net)
-ServesAfter (Err fault) result = result ≡ Err fault
+-- What serving ends in after its line: nothing, unless the network failed; or the fault of that line. Requests were
+-- answered in turn on this day, and nothing else changed the store.
+abbrev pub ServesAfter : {S : Type 0} → Ghosts S → ℕ → OfficeIn S → Result (Unit {0}) JobFault
+    → Result (Unit {0}) JobFault → OfficeIn S → Type 0
+ServesAfter g today old (Ok printed) result new = IfErr result (λ fault. fault ≡ Net) × AreServedOn g today old new
+ServesAfter g today old (Err fault) result new = (result ≡ Err fault) × (new ≡ old)
 
--- The port cannot be bound, and nothing is printed. Or it is bound, and a line says so. Nothing is said here of the
--- connections.
-abbrev pub ServesOn : {O : Type 0} → Contents O → ℕ → O → Result (Unit {0}) JobFault → O → Type 0
-ServesOn contents port before result after =
-    ((result ≡ Err Net) × (after ≡ before))
+-- The port cannot be bound, and nothing is printed. Or it is bound, a line says so, and requests are answered.
+abbrev pub ServesOn : {S O : Type 0} → Ghosts S → Contents O → ℕ → ℕ → OfficeIn S → O → Result (Unit {0}) JobFault
+    → OfficeIn S → O → Type 0
+ServesOn g contents port today old before result new after =
+    ((result ≡ Err Net) × (new ≡ old) × (after ≡ before))
     ⊎ ((printed : Result (Unit {0}) JobFault) × Prints contents (serving_text port) before printed after
-    × ServesAfter printed result)
+    × ServesAfter g today old printed result new)
 
--- what a job does over an open office; an import, on the bytes of some file
+-- what a job does over an open office: `init` prints that it is ready; an import, on the bytes of some file
 abbrev pub CarriesOut : {S O E : Type 0} → Ghosts S → Contents O → Job → ℕ → OfficeIn S → O → E
     → Result (Unit {0}) JobFault → OfficeIn S → O → E → Type 0
+CarriesOut g contents line.init today old before untold result new after told =
+    (told ≡ untold) × (new ≡ old) × Prints contents ready_text before result after
 CarriesOut g contents (line.serve port) today old before untold result new after told =
-    ServesOn contents port before result after
+    ServesOn g contents port today old before result new after
 CarriesOut g contents job today old before untold result new after told =
     (told ≡ untold)
     × ((input : Option (List ℕ)) × (rest : Option (List ℕ))

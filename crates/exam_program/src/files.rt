@@ -133,7 +133,7 @@ pub fn check_file<S: Start, O: Write>(
 }
 
 /// Opens the database at the path. Refused with `BadStore` if there is no file, an empty one, or one that is no
-/// database. An empty file stays empty: opened, it would be a new database, and so be filled.
+/// database. An empty file stays empty: opened, it would be a new database, and so be filled, whatever its log holds.
 fn open_present<S: Start>(
     rt: &HostRuntime,
     path: &str,
@@ -142,7 +142,7 @@ fn open_present<S: Start>(
     ensures found { IfOk result (λ conn. IsOver over_files (image_at S.Start) conn conn) }
     ensures told { IfErr result (λ refusal. IsTrue (is_store_refusal refusal)) }
 {
-    if !has_file(rt, path)? || !has_bytes(rt, path)? {
+    if !has_file(rt, path)? || length_of(rt, path)? == 0 {
         return Err(Refusal::BadStore);
     }
     open_database(rt, path, start)
@@ -205,14 +205,6 @@ fn has_file(rt: &HostRuntime, path: &str) -> Result<bool, Refusal>
         Err(error) if error.kind() == ErrorKind::NotFound => Ok(false),
         Err(error) => Err(file_refusal(error.kind())),
     }
-}
-
-/// Whether the file at the path has bytes, or the log beside it, from which a stopped program's commits are taken over.
-fn has_bytes(rt: &HostRuntime, path: &str) -> Result<bool, Refusal>
-    ensures { IfErr result (λ refusal. IsTrue (is_store_refusal refusal)) }
-{
-    let log = format!(in rt.alloc(); "{path}-wal")?;
-    Ok(length_of(rt, path)? > 0 || length_of(rt, log.as_str())? > 0)
 }
 
 /// The length in bytes of the file at the path, 0 if there is none.

@@ -7,7 +7,7 @@ ghost use Rattle.exam_program.specs.Running as spec;
 
 use crate::files::{OfficeFile, check_file, create_office, migrate_file, open_import, open_office};
 use crate::serving::serve;
-use exam_job::{DONE, JobFault, carry_out, print_fault, print_line_fault};
+use exam_job::{DONE, JobFault, carry_out, print_fault, print_line_fault, print_ready};
 use exam_line::{Job, Line, LineFault, parse_line};
 use exam_store::Store;
 use sqlite::{Alter, Connection, Start};
@@ -46,7 +46,7 @@ fn run_words<S: Start, O: Write, E: Write>(
         (map string_bytes words.now) out.old err.old result out.new err.new }
 {
     match parse_line(rt.alloc(), words) {
-        Ok(line) => run_line(rt, line, start, out, err),
+        Ok(line) => run_line(rt, &line, start, out, err),
         Err(fault) => print_line_fault(&fault, out, err),
     }
 }
@@ -54,13 +54,13 @@ fn run_words<S: Start, O: Write, E: Write>(
 /// Carries the line out over the file that it names, and returns the exit status.
 fn run_line<S: Start, O: Write, E: Write>(
     rt: &HostRuntime,
-    line: Line<'_>,
+    line: &Line<'_>,
     start: S,
     out: &mut O,
     err: &mut E,
 ) -> u8
     ensures { spec.RunsLine ⟦<OfficeFile<S> as Trees>⟧ (image_at S.Start) O.contents E.contents
-        (shown line.entry) out.old err.old result out.new err.new }
+        (shown line.now) out.old err.old result out.new err.new }
 {
     match run_job(rt, line, start, out, err) {
         Ok(status) => status,
@@ -72,13 +72,13 @@ fn run_line<S: Start, O: Write, E: Write>(
 /// first bad table.
 fn run_job<S: Start, O: Write, E: Write>(
     rt: &HostRuntime,
-    line: Line<'_>,
+    line: &Line<'_>,
     start: S,
     out: &mut O,
     err: &mut E,
 ) -> Result<u8, JobFault>
-    ensures { spec.RunsJob ⟦<OfficeFile<S> as Trees>⟧ (image_at S.Start) O.contents (shown line.entry)
-        (job_shown line.entry.job) out.old err.old result out.new err.new }
+    ensures { spec.RunsJob ⟦<OfficeFile<S> as Trees>⟧ (image_at S.Start) O.contents (shown line.now)
+        (job_shown line.now.job) out.old err.old result out.new err.new }
 {
     match line.job {
         Job::Migrate => {
@@ -96,12 +96,12 @@ fn run_job<S: Start, O: Write, E: Write>(
 /// Opens what the line names, or makes it; carries the line out; and closes the office.
 fn run_open<S: Start, O: Write, E: Write>(
     rt: &HostRuntime,
-    line: Line<'_>,
+    line: &Line<'_>,
     start: S,
     out: &mut O,
     err: &mut E,
 ) -> Result<(), JobFault>
-    ensures { spec.RunsOpened ⟦<OfficeFile<S> as Trees>⟧ (image_at S.Start) O.contents (shown line.entry)
+    ensures { spec.RunsOpened ⟦<OfficeFile<S> as Trees>⟧ (image_at S.Start) O.contents (shown line.now)
         out.old err.old result out.new err.new }
 {
     let store = match line.job {
@@ -117,12 +117,12 @@ fn run_open<S: Start, O: Write, E: Write>(
 /// Carries the line out over the office, and gives its database back.
 fn run_over<S: Alter, O: Write, E: Write>(
     rt: &HostRuntime,
-    line: Line<'_>,
+    line: &Line<'_>,
     mut store: Store<S>,
     out: &mut O,
     err: &mut E,
 ) -> (Result<(), JobFault>, Connection<S>)
-    ensures { spec.RunsOver S.Store O.contents (shown line.entry) store out.old err.old result.0 out.new err.new }
+    ensures { spec.RunsOver S.Store O.contents (shown line.now) store out.old err.old result.0 out.new err.new }
 {
     let done = carry_over(rt, line, &mut store, out, err);
     store.show_seated();
@@ -132,12 +132,12 @@ fn run_over<S: Alter, O: Write, E: Write>(
 /// Carries the line out over the office.
 fn carry_over<S: Alter, O: Write, E: Write>(
     rt: &HostRuntime,
-    line: Line<'_>,
+    line: &Line<'_>,
     store: &mut Store<S>,
     out: &mut O,
     err: &mut E,
 ) -> Result<(), JobFault>
-    ensures { spec.CarriesOut S.Store O.contents (job_shown line.entry.job) line.entry.today store.old out.old err.old
+    ensures { spec.CarriesOut S.Store O.contents (job_shown line.now.job) line.now.today store.old out.old err.old
         result store.new out.new err.new }
 {
     match line.job {
@@ -145,6 +145,7 @@ fn carry_over<S: Alter, O: Write, E: Write>(
             let mut file = open_import(rt, file)?;
             carry_out(rt.alloc(), line, store, &mut file, out)
         }
+        Job::Init => print_ready(out),
         Job::Serve { port } => serve(rt, store, line.today, port, out, err),
         _ => carry_out(rt.alloc(), line, store, &mut empty(), out),
     }

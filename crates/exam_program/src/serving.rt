@@ -1,5 +1,6 @@
 //! The office on a port of this machine.
 ghost use Rattle.std.specs.Prelude.{◌≡◌, IfErr};
+ghost use Rattle.exam_http.specs.Serving.{AreServedOn, ServedOn};
 ghost use Rattle.exam_job.specs.declared.report.JobFault.TheVariants.{Net};
 ghost use Rattle.exam_program.specs.Running.{ServesOn};
 
@@ -92,7 +93,7 @@ pub fn serve<S: Alter, O: Write, E: Write>(
     out: &mut O,
     err: &mut E,
 ) -> Result<(), JobFault>
-    ensures { ServesOn O.contents port out.old result out.new }
+    ensures { ServesOn S.Store O.contents port today store.old out.old result store.new out.new }
 {
     let address = SocketAddrV4::new(Ipv4Addr::LOCALHOST, port);
     let Ok(listener) = TcpListener::bind(rt, address) else {
@@ -102,7 +103,8 @@ pub fn serve<S: Alter, O: Write, E: Write>(
     serve_each(rt, store, today, &listener, err)
 }
 
-/// Serves one connection after the other, until one cannot be accepted, or until it has served as many as it may.
+/// Serves one connection after the other, until one cannot be accepted, or until it has served as many as it may. Only
+/// the requests change the store, and today is the day of each.
 pub fn serve_each<S: Alter, E: Write>(
     rt: &HostRuntime,
     store: &mut Store<S>,
@@ -110,9 +112,10 @@ pub fn serve_each<S: Alter, E: Write>(
     listener: &TcpListener,
     err: &mut E,
 ) -> Result<(), JobFault>
-    ensures { IfErr result (λ fault. fault ≡ Net) }
+    ensures fault { IfErr result (λ fault. fault ≡ Net) }
+    ensures served { AreServedOn S.Store today store.old store.new }
 {
-    for stream in listener.incoming().take(MOST_CONNECTIONS) {
+    'connections: for stream in listener.incoming().take(MOST_CONNECTIONS) {
         match stream {
             Ok(stream) => serve_connection(rt, store, today, &stream, err),
             Err(_) => return Err(JobFault::Net),
@@ -128,7 +131,9 @@ fn serve_connection<S: Alter, E: Write>(
     today: Day,
     stream: &TcpStream,
     err: &mut E,
-) {
+)
+    ensures { ServedOn S.Store today store.old store.new }
+{
     let served = match Instant::now(rt) {
         Ok(since) => serve_timed(rt, store, today, stream, since),
         Err(_) => Err(HttpFault::Read),
@@ -148,7 +153,9 @@ fn serve_timed<S: Alter>(
     today: Day,
     stream: &TcpStream,
     since: Instant,
-) -> Result<(), HttpFault> {
+) -> Result<(), HttpFault>
+    ensures { ServedOn S.Store today store.old store.new }
+{
     let mut reader = Timed { stream, rt, since };
     let mut writer = Timed { stream, rt, since };
     serve_one(rt.alloc(), store, today, &mut reader, &mut writer)

@@ -49,7 +49,7 @@ fn run_line<S: Alter>(
     out: &mut Output,
     err: &mut Vec<u8>,
 ) -> u8 {
-    run_job(alloc, line, store, source, out, err)
+    run_job(alloc, &line, store, source, out, err)
 }
 
 /// Runs the command of these words. Gives what it printed.
@@ -83,7 +83,7 @@ pub fn run<S: Alter>(
 }
 
 /// What a command printed, behind the mark that a text has for its status and its two outputs.
-fn marked(alloc: Global, status: u8, out: &[u8], err: &[u8]) -> Result<String, Fail> {
+pub fn marked(alloc: Global, status: u8, out: &[u8], err: &[u8]) -> Result<String, Fail> {
     let mark = match (status, out.is_empty(), err.is_empty()) {
         (0, _, true) => ">",
         (1, true, false) => "!",

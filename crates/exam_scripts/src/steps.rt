@@ -1,8 +1,9 @@
 //! Steps at a closed office.
-use crate::commands::run;
+use crate::commands::{marked, run};
 use crate::requests::ask;
 use crate::tables::{all_shown, shown};
-use exam_store::{Store, migrate};
+use exam_job::{DONE, JobFault, migrate_office, print_fault, print_ready};
+use exam_store::Store;
 use exam_types::Refusal;
 use sqlite::{Alter, Connection};
 use std::alloc::Global;
@@ -27,17 +28,31 @@ pub fn answer_to<S: Alter>(
 
 /// Brings the office over a connection to the newest version. Gives what the program prints.
 fn migrated<S: Alter>(alloc: Global, conn: &mut Connection<S>) -> Result<String, Fail> {
-    match migrate(alloc, conn) {
-        Ok((old, new)) if old == new => Ok(format!(in alloc; "> already {new}\n")?),
-        Ok((old, new)) => Ok(format!(in alloc; "> migrated {old} to {new}\n")?),
-        Err(refusal) => refused(alloc, refusal),
-    }
+    let mut out = Vec::new(alloc);
+    let done = migrate_office(alloc, conn, &mut out);
+    reported(alloc, done, out.as_slice())
+}
+
+/// What the program prints of an office that it opened or made.
+fn ready(alloc: Global) -> Result<String, Fail> {
+    let mut out = Vec::new(alloc);
+    let done = print_ready(&mut out);
+    reported(alloc, done, out.as_slice())
+}
+
+/// What the program prints of a job that ended so.
+fn reported(alloc: Global, done: Result<(), JobFault>, out: &[u8]) -> Result<String, Fail> {
+    let mut err = Vec::new(alloc);
+    let status = match done {
+        Ok(()) => DONE,
+        Err(fault) => print_fault(&fault, &mut err),
+    };
+    marked(alloc, status, out, err.as_slice())
 }
 
 /// What the program prints of a refusal to open the office.
 fn refused(alloc: Global, refusal: Refusal) -> Result<String, Fail> {
-    let number = refusal.number();
-    Ok(format!(in alloc; "! refused {number}\n")?)
+    reported(alloc, Err(JobFault::Refused(refusal)), b"")
 }
 
 /// Opens the office over a connection, or makes it there, as the command asks.
@@ -84,6 +99,9 @@ fn printed<S: Alter>(
     line: &str,
     file: &[u8],
 ) -> Result<String, Fail> {
+    if line == "init" {
+        return ready(alloc);
+    }
     if line.contains("/candidates/") {
         return ask(alloc, store, line, str::from_utf8(file)?);
     }

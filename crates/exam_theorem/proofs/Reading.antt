@@ -11,7 +11,7 @@ use Rattle.exam_line.specs.Lines as lines
 use Rattle.exam_line.specs.Lines.{Answers, Said, said}
 use Rattle.exam_line.specs.declared.line.Line.{Line}
 use Rattle.exam_line.specs.declared.line.LineFault.{LineFault}
-use Rattle.exam_line.specs.declared.line.LineFault.TheVariants.{Help, NoMemory, NotUnderstood}
+use Rattle.exam_line.specs.declared.line.LineFault.TheVariants.{Help, NoMemory, NotUnderstood, Version}
 use Rattle.exam_theorem.specs.Following.{FollowsCommand, FollowsLine, FollowsWords, LineEnd}
 use Rattle.exam_theorem.specs.Orders.{command_of, line_of, said_unless}
 use Rattle.exam_theorem.specs.declared.orders.LineStop.TheVariants as stop
@@ -29,6 +29,7 @@ pub no_line : (words : List Text) (f : LineFault) → Answers (Err f) words → 
 unfolding line_of
 no_line words NoMemory h = inl refl
 no_line words (Help text) h = inr (nothing_said (fault_of grammar words) _ (said words) h)
+no_line words Version h = inr (nothing_said (fault_of grammar words) _ (said words) h)
 no_line words NotUnderstood (inl h) = inr (ap (λ faults. said_unless faults (said words)) h.0 ∙ h.1)
 no_line words NotUnderstood (inr h) = inr (nothing_said (fault_of grammar words) h.0 (said words) h.1)
 

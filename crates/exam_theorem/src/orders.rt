@@ -143,7 +143,7 @@ fn follow_line<S: Alter>(
     one_step_has_one_result();
     offices_have_days();
     let _ = line.today.number();
-    told(carry_out(alloc, line, store, &mut file, &mut io::sink()))
+    told(carry_out(alloc, &line, store, &mut file, &mut io::sink()))
 }
 
 /// What became of a line that was read.

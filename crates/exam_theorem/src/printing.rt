@@ -104,7 +104,7 @@ fn print_line<S: Alter, O: Write>(
     ensures kept { KeepsOn S.Store store.old store.new }
 {
     if is_sheet(&line) {
-        told(carry_out(alloc, line, store, &mut io::empty(), out))
+        told(carry_out(alloc, &line, store, &mut io::empty(), out))
     } else {
         Err(LineStop::NoLine(LineFault::NotUnderstood))
     }

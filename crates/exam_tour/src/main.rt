@@ -84,5 +84,5 @@ fn run_over<R: Read>(
 ) -> u8 {
     let mut out = rt.stdout();
     let mut faults = rt.stdout();
-    run_job(rt.alloc(), line, store, file, &mut out, &mut faults)
+    run_job(rt.alloc(), &line, store, file, &mut out, &mut faults)
 }

@@ -1,17 +1,32 @@
 //! Connections within this machine, served one after the other.
+use super::refusing::INIT;
+use super::{PEOPLE, TIMETABLE};
 use exam_job::JobFault;
 use exam_program::serve_each;
+use exam_scripts::{Step, answer_to, expect_same};
 use exam_store::Store;
 use exam_types::Day;
+use sqlite::{Connection, MemStore};
+use std::alloc::Global;
 use std::io::{self, Write};
 use std::net::{Ipv4Addr, SocketAddrV4, TcpListener, TcpStream};
 use std::test::Fail;
+
+/// The last day on which an appeal against a hall can be lodged.
+const LAST_DAY: &str = "2027-05-30";
+
+const ENTERED: &str = "\
+$ import entries f
+number,paper
+0000001,MA-1
+> added 1 changed 0 same 0
+";
 
 /// What a client sends, how many bytes follow that nobody reads, and what it gets. The first one sends nothing.
 const CLIENTS: &[(&str, usize, &str)] = &[
     ("", 0, ""),
     (
-        "GET /candidates/0000001/seats HTTP/1.1\r\nHost: 127.0.0.1\r\nExam-Code: CODE0001\r\n\r\n",
+        "GET /candidates/0000009/seats HTTP/1.1\r\nHost: 127.0.0.1\r\nExam-Code: CODE0009\r\n\r\n",
         12_288,
         "HTTP/1.1 404 Not Found\r\nContent-Type: application/json\r\nContent-Length: 11\r\n\
 Connection: close\r\n\r\n{\"error\":6}",
@@ -22,26 +37,84 @@ Connection: close\r\n\r\n{\"error\":6}",
         "HTTP/1.1 404 Not Found\r\nContent-Type: application/json\r\nContent-Length: 12\r\n\
 Connection: close\r\n\r\n{\"error\":37}",
     ),
+    (
+        "POST /candidates/0000001/appeals HTTP/1.1\r\nHost: 127.0.0.1\r\nExam-Code: CODE0001\r\n\
+Content-Length: 145\r\n\r\n\
+{\"hall\":\"A\",\"kind\":\"hall\",\"reason\":\"The lamp above the desk flickers, and nobody \
+could mend it in time for the exam.\",\"ref\":\"HA1\",\"session\":\"S1\"}",
+        0,
+        "HTTP/1.1 200 OK\r\nContent-Type: application/json\r\nContent-Length: 16\r\n\
+Connection: close\r\n\r\n{\"state\":\"open\"}",
+    ),
+    (
+        SHOW_APPEALS,
+        0,
+        "HTTP/1.1 200 OK\r\nContent-Type: application/json\r\nContent-Length: 230\r\n\
+Connection: close\r\n\r\n\
+{\"appeals\":[{\"answer\":null,\"kind\":\"hall\",\"lodged\":\"2027-05-30\",\"reason\":\"\
+The lamp above the desk flickers, and nobody could mend it in time for the exam.\",\"ref\":\"HA1\",\"session\":\"S1\",\"standing\":false,\"state\":\"open\",\"subject\":\"A\"}]}",
+    ),
 ];
 
-/// The listener does not wait, so serving ends after the last client.
+/// Its answer goes out in two writes.
+const SHOW_APPEALS: &str =
+    "GET /candidates/0000001/appeals HTTP/1.1\r\nHost: 127.0.0.1\r\nExam-Code: CODE0001\r\n\r\n";
+
+/// Plays a day over the office that the connection has.
+fn played(
+    alloc: Global,
+    conn: Connection<MemStore>,
+    day: &str,
+) -> Result<Connection<MemStore>, Fail> {
+    let mut conn = conn;
+    for part in day.split("$ ").skip(1) {
+        let step = Step::parse(part).ok_or("step")?;
+        let (left, told) = answer_to(alloc, conn, step.line, step.file.as_bytes());
+        expect_same(told?.as_str(), step.answer, step.line)?;
+        conn = left;
+    }
+    Ok(conn)
+}
+
+/// An office in memory, in which one candidate sits.
+fn office(alloc: Global) -> Result<Store<MemStore>, Fail> {
+    let mut conn = Connection::open_in_memory(alloc).ok().ok_or("open")?;
+    for day in [INIT, TIMETABLE, PEOPLE, ENTERED] {
+        conn = played(alloc, conn, day)?;
+    }
+    Ok(Store::open(alloc, conn).ok().ok_or("office")?)
+}
+
+/// A client that sends a request, and bytes behind it that nobody reads.
+fn client_of(
+    rt: &HostRuntime,
+    listener: &TcpListener,
+    request: &str,
+    more: usize,
+) -> Result<TcpStream, Fail> {
+    let mut client = TcpStream::connect(rt, listener.local_addr()?)?;
+    client.write_all(request.as_bytes())?;
+    client.write_all(vec![in rt.alloc(); b'x'; more]?.as_slice())?;
+    Ok(client)
+}
+
+/// The listener does not wait, so serving ends after the last client, who has left before the answer. The day of each
+/// request is the one that is handed in.
 #[test]
 fn each_client_is_served(rt: HostRuntime) -> Result<(), Fail> {
-    let mut store = Store::in_memory(rt.alloc())?;
-    let today = Day::parse(b"2027-05-01").ok_or("day")?;
+    let mut store = office(rt.alloc())?;
+    let today = Day::parse(LAST_DAY.as_bytes()).ok_or("day")?;
     let listener = TcpListener::bind(&rt, SocketAddrV4::new(Ipv4Addr::LOCALHOST, 0))?;
     listener.set_nonblocking(true)?;
     let mut clients = Vec::new(rt.alloc());
     for (request, more, _) in CLIENTS {
-        let mut client = TcpStream::connect(&rt, listener.local_addr()?)?;
-        client.write_all(request.as_bytes())?;
-        client.write_all(vec![in rt.alloc(); b'x'; *more]?.as_slice())?;
-        clients.push(client)?;
+        clients.push(client_of(&rt, &listener, request, *more)?)?;
     }
+    drop(client_of(&rt, &listener, SHOW_APPEALS, 0)?);
     let mut told = Vec::new(rt.alloc());
     let served = serve_each(&rt, &mut store, today, &listener, &mut told);
     assert!(rt; served == Err(JobFault::Net));
-    assert!(rt; told.as_slice() == b"fault 41\n".as_slice());
+    assert!(rt; told.as_slice() == b"fault 41\nfault 42\n".as_slice());
     for (client, (_, _, wanted)) in clients.into_iter().zip(CLIENTS) {
         let answer = io::read_to_string(rt.alloc(), client)?;
         assert!(rt; answer.as_str() == *wanted, "{wanted}");

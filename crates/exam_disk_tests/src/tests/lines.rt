@@ -10,17 +10,20 @@ use std::test::Fail;
 const FOLDER: &str = "examoffice_lines";
 
 /// What a line ends with: its exit status, and what it prints on standard output and on standard error.
-type End = (u8, &'static str, &'static str);
+pub type End = (u8, &'static str, &'static str);
 
 /// A database, a command over it, and how the line ends.
 const LINES: &[(&str, &str, End)] = &[
     ("none.db", "export S1", (1, "", "refused 24\n")),
     ("none.db", "migrate", (1, "", "refused 24\n")),
     ("none.db", "check", (1, "bad office\n", "")),
+    ("none.db", "export s1", (2, "", "line not understood\n")),
+    (
+        "none.db",
+        "import sessions none.csv",
+        (1, "", "refused 24\n"),
+    ),
     ("sessions.csv", "check", (1, "bad office\n", "")),
-    ("empty.db", "export S1", (1, "", "refused 24\n")),
-    ("empty.db", "migrate", (1, "", "refused 24\n")),
-    ("empty.db", "check", (1, "bad office\n", "")),
     ("a.db", "init", (0, "ready\n", "")),
     (
         "a.db",
@@ -48,10 +51,9 @@ const LINES: &[(&str, &str, End)] = &[
     ("folder.db", "check", (1, "", "refused 23\n")),
 ];
 
-fn words_of(alloc: Global, database: &str, command: &str) -> Result<Vec<String>, AllocError> {
-    let path = format!(in alloc; "{FOLDER}/{database}")?;
+fn words_of(alloc: Global, path: &str, command: &str) -> Result<Vec<String>, AllocError> {
     let mut words = Vec::new(alloc);
-    for word in ["examoffice", "--db", path.as_str(), "--today", "2027-05-01"] {
+    for word in ["examoffice", "--db", path, "--today", "2027-05-01"] {
         words.push(String::from_str(alloc, word)?)?;
     }
     for word in command.split(' ') {
@@ -60,10 +62,10 @@ fn words_of(alloc: Global, database: &str, command: &str) -> Result<Vec<String>,
     Ok(words)
 }
 
-/// Whether the line ends like this.
-fn ends(rt: &HostRuntime, database: &str, command: &str, end: End) -> Result<bool, AllocError> {
+/// Whether a command over the database at the path ends like this.
+pub fn ends(rt: &HostRuntime, path: &str, command: &str, end: End) -> Result<bool, AllocError> {
     let (status, out, err) = end;
-    let words = words_of(rt.alloc(), database, command)?;
+    let words = words_of(rt.alloc(), path, command)?;
     let mut printed = Vec::new(rt.alloc());
     let mut told = Vec::new(rt.alloc());
     let ended = run(rt, Ok(words), Unknown, &mut printed, &mut told);
@@ -80,20 +82,28 @@ fn lines_end_as_they_should(rt: HostRuntime) -> Result<(), Fail> {
         "examoffice_lines/sessions.csv",
         "session,date,start\nS1,2027-06-01,09:00\n",
     )?;
-    fs::write(&rt, "examoffice_lines/empty.db", "")?;
     for (database, command, end) in LINES {
-        assert!(rt; ends(&rt, database, command, *end)?, "{database} {command}");
+        let path = format!(in rt.alloc(); "{FOLDER}/{database}")?;
+        assert!(rt;
+            ends(&rt, path.as_str(), command, *end)?,
+            "{path} {command}"
+        );
     }
     let listener = TcpListener::bind(&rt, SocketAddrV4::new(Ipv4Addr::LOCALHOST, 0))?;
     let port = listener.local_addr()?.port();
     let command = format!(in rt.alloc(); "serve {port}")?;
-    assert!(rt; ends(&rt, "a.db", command.as_str(), (1, "", "net fault\n"))?);
+    assert!(rt;
+        ends(
+            &rt,
+            "examoffice_lines/a.db",
+            command.as_str(),
+            (1, "", "net fault\n")
+        )?
+    );
     for name in ["examoffice_lines/a.db", "examoffice_lines/a.db-wal"] {
         assert!(rt; fs::metadata(&rt, name)?.mode() & 0o777 == 0o600, "{name}");
     }
     assert!(rt; fs::metadata(&rt, "examoffice_lines/none.db").is_err());
-    assert!(rt; fs::metadata(&rt, "examoffice_lines/empty.db")?.len() == 0);
-    assert!(rt; fs::metadata(&rt, "examoffice_lines/empty.db-wal").is_err());
     fs::remove_dir_all(&rt, FOLDER)?;
     Ok(())
 }

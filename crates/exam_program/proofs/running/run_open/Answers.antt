@@ -11,14 +11,14 @@ pub returns : goal.returns
 returns g c = elim c.match-line.branch [
   | in-Init+in_ok-store-in-Init w ↦ inr (
     c.match-line.store,
-    subst (OpensFor over_files (image_at g.S.Start) (job_shown c.args.line.job)) (sym w.store-is)
-        (for_init over_files (image_at g.S.Start) w.in_ok-store-in-Init.store c.args.line.job w.in-Init.is w.in_ok-store-in-Init.ensures.found),
+    subst (OpensFor over_files (image_at g.S.Start) (job_shown c.args.line.now.job)) (sym w.store-is)
+        (for_init over_files (image_at g.S.Start) w.in_ok-store-in-Init.store c.args.line.now.job w.in-Init.is w.in_ok-store-in-Init.ensures.found),
     c.run_over-done.ensures,
   )
   | in_default+in_ok-store-in_default w ↦ inr (
     c.match-line.store,
-    subst (OpensFor over_files (image_at g.S.Start) (job_shown c.args.line.job)) (sym w.store-is)
-        (for_other over_files (image_at g.S.Start) w.in_ok-store-in_default.store c.args.line.job w.in_default.not-Init w.in_ok-store-in_default.ensures.found),
+    subst (OpensFor over_files (image_at g.S.Start) (job_shown c.args.line.now.job)) (sym w.store-is)
+        (for_other over_files (image_at g.S.Start) w.in_ok-store-in_default.store c.args.line.now.job w.in_default.not-Init w.in_ok-store-in_default.ensures.found),
     c.run_over-done.ensures,
   )
 ]

@@ -25,6 +25,8 @@ fn words_that_are_no_line_are_answered(rt: HostRuntime) -> Result<(), Fail> {
     let text = "how to use it\n";
     let help = LineFault::Help(String::from_str(rt.alloc(), text)?);
     expect_printed(&rt, &help, 0, text, "")?;
+    let version = "examoffice 1.0.0, tables of version 3\n";
+    expect_printed(&rt, &LineFault::Version, 0, version, "")?;
     expect_printed(&rt, &LineFault::NoMemory, 1, "", "refused 22\n")?;
     expect_printed(
         &rt,

@@ -1,5 +1,5 @@
 use Rattle.exam_line.proofs.Answering.{fault, read}
-use Rattle.exam_line.proofs.line.parse_line.Goals as goal
+use Rattle.exam_line.proofs.parsing.parse_line.Goals as goal
 
 pub returns-in-Ok-try_get_matches_from : goal.returns-in-Ok-try_get_matches_from
 returns-in-Ok-try_get_matches_from c =
