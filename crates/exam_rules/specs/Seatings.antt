@@ -120,7 +120,7 @@ fitting_places r s c halls = positions (fits r s c) 0 halls
 abbrev pub rank : Relations → Code → ℕ → ℕ
 rank r s c = count_by (λ d. comes_before r s d c) (members r s)
 
--- The same with candidates and halls as indices: the i-th member, and the j-th open hall.
+-- The session's seating with indices for candidates and halls: i is the i-th member, and j the j-th open hall.
 abbrev pub problem_of : Relations → Code → Problem
 problem_of r s = record {
   desk_counts = map (desks r s) (open_halls r s);
