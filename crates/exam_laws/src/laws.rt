@@ -97,7 +97,7 @@ pub fn repeated_lodging_changes_nothing()
 {}
 
 /// After an accepted retraction, the same retraction at any later moment, on any day and after any commands between,
-/// changes nothing and answers again that the appeal is retracted.
+/// changes nothing and answers again that the appeal is retracted. Every `Office` is in order (`Office::show_order`).
 pub fn repeated_retraction_changes_nothing()
     ensures { (number : ℕ) (reference : Code) (day later : ℕ) (before mid late after : State) (first : Reply)
         (done : List (Command × ℕ)) (replies : List (Result Reply Refusal)) (second : Result Reply Refusal)
@@ -110,7 +110,7 @@ pub fn repeated_retraction_changes_nothing()
 
 /// After an accepted decision, the same decision at any later moment, on any day and after any commands between,
 /// changes nothing. It answers that nothing has changed or, if a later grant has superseded the appeal, that it is not
-/// open.
+/// open. Every `Office` is in order (`Office::show_order`).
 pub fn repeated_decision_changes_nothing()
     ensures { (decision : Decision) (day later : ℕ) (before mid late after : State) (first : Reply)
         (done : List (Command × ℕ)) (replies : List (Result Reply Refusal)) (second : Result Reply Refusal)
