@@ -52,11 +52,11 @@ Told text old new e = (error : Error) × (e ≡ refusal_of error) × FailsToQuer
 abbrev pub IsMadeHere : Database → Type 0
 IsMadeHere db = (all : Trees) × ContainsMade db all
 
--- Why the query fails. If the tables hold any such rows, the refusal is not `BadStore`.
+-- The refusal reports the query's error. If the database held any such tables, the refusal is not `BadStore`.
 abbrev pub FailsToLoadFrom : (Database → Trees → Type 0) → List ℕ → State → State → Refusal → Type 0
 FailsToLoadFrom Holds text old new e = Told text old new e × ((all : Trees) × Holds old.now all → e ≢ BadStore)
 
--- why a query of the tables of some version fails
+-- The refusal reports the query's error. If the database held the tables of some version, it is not `BadStore`.
 abbrev pub FailsToLoad : List ℕ → State → State → Refusal → Type 0
 FailsToLoad = FailsToLoadFrom ContainsMade
 
@@ -82,7 +82,7 @@ FailsThenFrom {S} Holds g old new e =
     (mid : Held S) × IsStill (state g old) (state g mid)
     × (text : List ℕ) × Contains load_texts text × FailsToLoadFrom Holds text (state g mid) (state g new) e
 
--- a load from the tables of some version reads, and then a query fails
+-- while the database still had the tables of some version, the query that loads one of them failed
 abbrev pub FailsThen : {S : Type 0} → Ghosts S → Held S → Held S → Refusal → Type 0
 FailsThen = FailsThenFrom ContainsMade
 
