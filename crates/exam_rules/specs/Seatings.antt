@@ -136,7 +136,7 @@ indexed_seating r s = seating_of (problem_of r s)
 abbrev pub IsTooLarge : Relations → Code → Type 0
 IsTooLarge r s = (most_members < length (members r s)) ⊎ (most_halls < length (open_halls r s))
 
--- the refusals of every call on a session, and that for a known session with more members or open halls than any may have
+-- the refusals of every call on a session, and `TooMany` for a known session with too many members or open halls
 abbrev pub IsProblemRefusal : Relations → Code → Refusal → Type 0
 IsProblemRefusal r s e =
     IsSessionRefusal r s e ⊎ ((e ≡ TooMany) × IsTooLarge r s × (has_row code_cmp r.sessions s ≡ true))
