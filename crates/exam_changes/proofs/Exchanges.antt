@@ -98,7 +98,7 @@ module _ {K X : Type 0} (cmp : K → K → Ordering) (total : IsTotalOrder cmp) 
       inner true at = ap (has_row cmp old) (sym (same_key cmp exact k q at)) ∙ was
       inner false away = is
 
-  -- rows of which one is put: it is there, and so are the others
+  -- one of the rows is put: it is there, and so are the others
   pub has_first : (e : K × X) (es : List (K × X)) → has_row cmp (e ∷ es) e.0 ≡ true
   has_first e es = ap (λ r. is_some (cond (is_eq r) (Some e.1) (row_at cmp es e.0))) (tied_itself total e.0)
 

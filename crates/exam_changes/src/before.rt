@@ -10,12 +10,12 @@ use std::collections::BTreeMap;
 /// What a table was before a command.
 #[derive(Drop)]
 pub enum Before<'a, K: Ord, V> {
-    /// The same as after the command.
+    /// The table as it is after the command.
     Same,
-    /// The same, except for the row at this key, which the table has after the command.
+    /// The table as it is after the command, except for the row at this key. The table has that row after the command.
     Row(&'a K),
-    /// The same, except for the rows at these keys, all of which the table has after the command. Before it each key
-    /// had this row, or none.
+    /// The table as it is after the command, except for the rows at these keys. The table has them all after the
+    /// command. Before it each key had this row, or none.
     Rows(&'a BTreeMap<K, Option<V>>),
     /// This table.
     Table(&'a BTreeMap<K, V>),
@@ -57,7 +57,7 @@ impl TablesBefore<'_> {
 /// What the plans were before a command.
 #[derive(Drop)]
 pub enum PlansBefore<'a> {
-    /// The same as after the command.
+    /// The plans as they are after the command.
     Same,
     /// The plans of the sessions that the command reads: first as they were before it, and then as they are after it.
     Plans(&'a Seats, &'a Seats),

@@ -366,7 +366,7 @@ fn status_of(outcome: Outcome, answer: &Reason) -> Result<Status, Refusal>
     }
 }
 
-/// The same appeal with another status.
+/// A copy of the appeal with this status.
 pub fn with_status(appeal: &Appeal, status: Status) -> Result<Appeal, Refusal>
     ensures ok { IfOk result (λ changed. changed ≡ record appeal.now { status = status }) }
     ensures memory { IfErr result (λ e. e ≡ NoMemory) }

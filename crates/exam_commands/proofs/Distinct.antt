@@ -1,4 +1,4 @@
--- Keys of which no two are equal, one key at a time.
+-- Keys that all differ, one key at a time.
 use Rattle.std.proofs.Common.{◌≡◌, ◌||◌, Bool, true, false, cond, List, [], ◌∷◌, ◌++◌, refl, ap, sym, ◌∙◌}
 use Rattle.std.specs.List.{list_any, IsDistinct, AllByRecursion}
 use Rattle.std.specs.Cmp.{IsTotalOrder}

@@ -1,5 +1,5 @@
--- Rows some of which have a value that no other may have, when one is put or each is changed at its place: the keys
--- stay, and the values stay distinct.
+-- Some rows have a value that no other row may have. If one row is put, or each is changed at its place, the keys stay,
+-- and the values stay distinct.
 use Rattle.std.proofs.Common.{◌≡◌, ◌⊎◌, inl, inr, Bool, true, false, cond, List, [], ◌∷◌, map, filter, Option, None, Some, refl, ap, sym, ◌∙◌}
 use Rattle.std.specs.Cmp.{IsTotalOrder, tied_itself}
 use Rattle.std.specs.List.{AllByRecursion, IsDistinct, cons_option, filter_map, find}

@@ -79,8 +79,8 @@ pub record IsGood (office : State) : Type 0 where
 
 -- ---- by tables
 
--- The rows of the table refer to what exists, and the limits that belong to it hold. Of appeals, a candidate has only
--- once what they may have only once; the appeal of each mark may bear it; of seats, every session's plan is best.
+-- The rows of the table refer to what exists, and the limits that belong to it hold. Appeals: a candidate has only once
+-- what they may have only once. Marks: the appeal of each may bear it. Seats: every session's plan is best.
 abbrev pub IsTableGood : State → Table → Type 0
 IsTableGood office table.Sessions = IsTrue (limits.sessions_within office.relations)
 IsTableGood office table.Papers =

@@ -9,12 +9,12 @@
 -- - Singles: what a candidate may have only once for a session: a granted clash or arrangement appeal, and an open
 --   appeal of each kind
 -- - Good: a good office: references, limits, appeals that a candidate may have only once, every session's plan best;
---   the same table by table, and the first table that is bad
+--   a good office table by table, and the first table that is bad
 -- - Changes: the checks of a command in their order, the first refusal, the facts after it
 -- - Appeals: kinds, closing days and states of appeals; what is stored of one; whether one of a
 --   kind is open
 -- - Lodgings: the checks of a lodging and of a retraction in their order, and the facts after them
--- - Decisions: the same for a decision: which grants it supersedes, and who is seated first
+-- - Decisions: the checks of a decision and the facts after it: which grants it supersedes, and who is seated first
 -- - NextPlans: the plans and the reply that a command makes, from its change of the facts on
 -- - Exchanges: how rows replace others, key by key, and how they are taken back
 -- - FactsMade: for each command, the facts before the limits are tested, and the refusal by the checks on the facts as
@@ -25,7 +25,7 @@
 -- - Repairs: the new plan of a session: the repair of the old one for the new facts, and best
 -- - Steps: one command and its change: either the facts change or the refusal says why not, every session has its next
 --   plan, the reply; who keeps a seat for certain, and which candidate a command names; a run over commands with their
---   days, each of which may also run out of memory and change nothing
+--   days, where each may also run out of memory and change nothing
 -- - Orders: that the keys of every table and of the seats rise
 -- - Touched: which sessions a command reaches, whether or not they exist, and which it touches
 -- - Parts: the facts and the plans that one command reads, and the office with them put back

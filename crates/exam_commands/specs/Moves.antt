@@ -10,7 +10,7 @@ abbrev pub is_elsewhere : Seats → (Code × ℕ) × Code → Bool
 is_elsewhere after seat =
     option_map_or (λ h. not (same_code h seat.1)) (plan_of after seat.0.0 seat.0.1) false
 
--- the same for a candidate other than this one
+-- a candidate other than this one sits, in the session of the seat, in another hall
 abbrev pub is_move : Seats → ℕ → (Code × ℕ) × Code → Bool
 is_move after c seat = not (seat.0.1 == c) && is_elsewhere after seat
 

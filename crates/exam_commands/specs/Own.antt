@@ -30,7 +30,7 @@ pub record OwnSessionRow : Type 0 where
   pub hall : Option Code
   pub desk : Option ℕ
 
--- a candidate as they see themselves: their row, the sessions of which they are a member, and their appeals
+-- a candidate as they see themselves: their row, the sessions that they are a member of, and their appeals
 pub record OwnRows : Type 0 where
   pub number : ℕ
   pub name : List ℕ
@@ -61,7 +61,7 @@ own_session office c held =
     option_and_then (λ paper. option_map (session_row office c held paper) (finish office.relations held.0 c))
     (sitting office.relations held.0 c)
 
--- the sessions of which the candidate is a member, by code
+-- the sessions that the candidate is a member of, by code
 abbrev pub own_sessions : State → ℕ → List OwnSessionRow
 own_sessions office c =
     filter_map (own_session office c)

@@ -18,6 +18,6 @@ pub record IsRepaired (r : Relations) (first : Option ℕ) (before after : Seats
 abbrev pub place_of : Seats → Code → List Code → ℕ → Option ℕ
 place_of seats s halls c = option_and_then (λ h. position (same_code h) halls) (plan_of seats s c)
 
--- the same for each of these candidates
+-- the place of each of these candidates' halls
 abbrev pub places_of : Seats → Code → List Code → List ℕ → List (Option ℕ)
 places_of seats s halls numbers = map (place_of seats s halls) numbers

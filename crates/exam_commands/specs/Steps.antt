@@ -26,7 +26,7 @@ change (command.Lodge l) today before = lodged before.relations before.seats tod
 change (command.Retract c reference) today before = retracted before.relations c reference
 change (command.Decide d) today before = decision_made before.relations today d
 
--- the candidate whom a command names
+-- the candidate that a command names
 abbrev pub IsNamed : Command → ℕ → Type 0
 IsNamed (command.Import import) c = ⊥
 IsNamed (command.Withdraw d p) c = d ≡ c
@@ -48,7 +48,7 @@ SeatsOn (command.Retract d reference) g before after =
     Keeps (IsNamed (command.Retract d reference)) g before after
 SeatsOn (command.Decide d) g before after = Keeps (IsNamed (command.Decide d)) g before after
 
--- the same members, fits and desks
+-- both seatings have equal members, fits and desks
 pub record SameSeating (a b : Seating ℕ Code) : Type 0 where
   pub members : a.members ≡ b.members
   pub fits : (c : ℕ) (h : Code) → a.fits c h ≡ b.fits c h
@@ -86,7 +86,7 @@ StepTo done before reply after (Ok r) =
 abbrev pub Step : Command → ℕ → State → Result Reply Refusal → State → Type 0
 Step done today before reply after = StepTo done before reply after (change done today before)
 
--- the same, or memory ran out and nothing has changed
+-- what `Step` says, or memory ran out and nothing has changed
 abbrev pub MayStep : Command → ℕ → State → Result Reply Refusal → State → Type 0
 MayStep done today before reply after =
     ((reply ≡ Err NoMemory) × (after ≡ before)) ⊎ Step done today before reply after

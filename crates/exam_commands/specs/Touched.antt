@@ -30,10 +30,10 @@ sets_session s (row.OfCandidate c x) = false
 sets_session s (row.OfEntry c p) = false
 sets_session s (row.OfArrangement c x) = false
 
--- ---- what a command reaches, of which some may not exist
+-- ---- the sessions that a command reaches; some may not exist
 
 -- a row of an import names the session of its opening; the old and the new session of its paper; the session of the
--- paper of its entry; or the sessions of which the candidate of its arrangement is a member
+-- paper of its entry; or the sessions that the candidate of its arrangement is a member of
 abbrev pub names_session : Relations → Row → Code → Bool
 names_session r (row.OfSession named x) s = false
 names_session r (row.OfPaper p x) s = is_paper_of r s p || names r x.session s
@@ -73,7 +73,7 @@ has_standing_member r s = list_any (stands_in r s) r.appeals
 
 -- A row of a session reaches, since the session's date may change, each session with a member who has a standing
 -- grant. A row reaches the old and the new session of its paper, the sessions that open its hall, the session of the
--- paper of its entry, and those of which the candidate of its arrangement is a member.
+-- paper of its entry, and those that the candidate of its arrangement is a member of.
 abbrev pub row_reaches : Relations → Row → Code → Bool
 row_reaches r (row.OfSession named x) s = has_standing_member r s
 row_reaches r (row.OfPaper p x) s = is_paper_of r s p || names r x.session s
@@ -107,8 +107,8 @@ abbrev pub ends_standing : Relations → ℕ → Appeal → Bool
 ends_standing r c a =
     list_any (λ (e : (ℕ × Code) × Appeal). is_earlier c a.session a.subject e && is_marked r e.0) r.appeals
 
--- A grant reaches the session of the appeal; if it sets or ends a standing grant, also each session of which the
--- appellant is a member.
+-- A grant reaches the session of the appeal. If it sets or ends a standing grant, it also reaches each session that the
+-- appellant is a member of.
 abbrev pub grant_reaches : Relations → Decision → Appeal → Code → Bool
 grant_reaches r d a s =
     same_code a.session s
@@ -118,7 +118,7 @@ abbrev pub decision_reaches : Relations → Decision → Code → Bool
 decision_reaches r d s =
     is_grant d.outcome && option_map_or (λ a. grant_reaches r d a s) (appeal_at r d.number d.reference) false
 
--- Withdrawing or reinstating an entry reaches the session of its paper. The closing of a hall reaches the session named.
+-- Withdrawing or reinstating an entry reaches the session of its paper. Closing a hall reaches the session named.
 -- A lodging and a retraction reach none.
 abbrev pub reaches : Relations → Command → Code → Bool
 reaches r (command.Import import) s = import_reaches r import s

@@ -26,7 +26,7 @@ pub struct OwnAppeal {
     pub standing: bool,
 }
 
-/// A session of which the candidate is a member.
+/// A session that the candidate is a member of.
 #[derive(Drop)]
 pub struct OwnSession {
     pub session: SessionCode,

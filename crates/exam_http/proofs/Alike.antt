@@ -1,4 +1,4 @@
--- The same own rows give the same answer.
+-- Two offices with equal own rows of a candidate give equal answers.
 use Rattle.std.proofs.Common.{◌≡◌, ◌⊎◌, ◌∙◌, ℕ, List, Option, None, Some, true, false, refl, sym, subst, inl, inr}
 use Rattle.std.specs.Prelude.{Result, Ok, Err, IsTrue, IsSomeAnd}
 use Rattle.std.specs.Option.{option_map}
@@ -35,12 +35,12 @@ failed refusal.Store told is tells = inr (inl tells)
 failed refusal.BadStore told is tells = inr (inr tells)
 failed e told is tells = absurd (let differ : false ≡ true = is in cc)
 
--- the same body over the same rows
+-- equal rows have equal bodies
 shown : (body : OwnRows → List ℕ) (own : Option OwnRows) (first second : Told) → IsSomeAnd own (λ rows. first ≡ ok_told (body rows)) → IsSomeAnd own (λ rows. second ≡ ok_told (body rows)) → AreAlike first second
 shown body None first second a b = absurd a
 shown body (Some rows) first second a b = inr (inr (a ∙ sym b))
 
--- the same reply
+-- equal replies have equal answers
 replied : (a : Result Reply Refusal) (first second : Told) → TellsReply a first → TellsReply a second → AreAlike first second
 replied (Ok r) first second a b = inr (inr (a ∙ sym b))
 replied (Err e) first second a b = inr (inr (a ∙ sym b))
@@ -57,7 +57,7 @@ stepped done today before after (Err e) (same, inr is) = inr (e, refl, is)
 told_failure : (a : Result Reply Refusal) (e : Refusal) (told : Told) → a ≡ Err e → IsTrue (is_store_refusal e) → TellsReply a told → IsFailure told
 told_failure a e told at is tells = failed e told is (subst (λ r. TellsReply r told) at tells)
 
--- the same at an equal number
+-- own rows are equal at an equal number
 at_number : (one other : State) (candidate number : ℕ) → candidate ≡ number → own_of one number ≡ own_of other number → own_of one candidate ≡ own_of other candidate
 at_number one other candidate number is same = subst (λ c. own_of one c ≡ own_of other c) (sym is) same
 
@@ -86,7 +86,7 @@ module _ {S T : Type 0} (g : Ghosts S) (h : Ghosts T) (today : ℕ) (request : R
   commanded done same a b =
       applied one.office other.office done today a.0 b.0 one_after.office other_after.office first second same a.1.step b.1.step a.2 b.2
 
-  -- a choice for a number of which both show the same
+  -- a choice for a number for which both show the same
   own_chosen : (c : Choice) (number : ℕ) → IsBy number c → own_of one.office number ≡ own_of other.office number
       → Does g today one c first one_after → Does h today other c second other_after → AreAlike first second
   own_chosen (choice.Fault fault) number is same a b = absurd is

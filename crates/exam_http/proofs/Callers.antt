@@ -33,7 +33,7 @@ own_numbered office request rows is = by (candidate_named request) is
     by None e = absurd (let differ : None ≡ Some rows = e in cc)
     by (Some c) e = ap (own_of office) (numbered office c rows e) ∙ e
 
--- the rows of the candidate for whom the choice is made, and whose code the request shows
+-- the rows of the candidate that the choice is for; the request shows their code
 pub record Caller (office : State) (request : Request) (chosen : Choice) : Type 0 where
   pub rows : OwnRows
   pub named : own_named office request ≡ Some rows
@@ -83,7 +83,7 @@ pub found : {S : Type 0} (g : Ghosts S) (today : ℕ) (old : OfficeIn S) (reques
 found g today old request chosen told new is (inl busy) = inl (shows_code old.office request chosen is busy.0, busy.1)
 found g today old request chosen told new is (inr does) = inr (subst (λ c. Does g today old c told new) is does)
 
--- the candidate whom the target names is the one whom the request names
+-- the target and the request name one candidate
 pub named_is : (office : State) (request : Request) (named : Option Named) (target : Option Target)
     → named ≡ option_map named_as (option_and_then (own_of office) (number_named target)) → target ≡ reading request.target → named ≡ named_in office request
 named_is office request named target is at = is ∙ ap (λ t. option_map named_as (option_and_then (own_of office) (number_named t))) at

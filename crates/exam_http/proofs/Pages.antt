@@ -38,7 +38,7 @@ pub named_at : (office : State) (number : ℕ) (code : Option Code) → code ≡
     → option_map (with_code number) code ≡ option_map named_as (own_of office number)
 named_at office number code is = ap (option_map (with_code number)) is ∙ known office number (row_at nat_cmp office.relations.candidates number)
 
--- the same, at the number that a target names
+-- the code of the number that a target names, if the office has a candidate of it
 pub named_by : (office : State) (target : Option ℕ) (number : ℕ) (code : Option Code) → Some number ≡ target → code ≡ option_map (λ (own : OwnRows). own.code) (own_of office number)
     → option_map (with_code number) code ≡ option_map named_as (option_and_then (own_of office) target)
 named_by office target number code at is = named_at office number code is ∙ ap (λ n. option_map named_as (option_and_then (own_of office) n)) at

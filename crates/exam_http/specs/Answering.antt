@@ -1,4 +1,4 @@
--- The answer to a request, and what becomes of the office.
+-- The answer to a request, and the office after it.
 use Rattle.std.specs.Prelude.{◌≡◌, ◌⊎◌, ⊤, ℕ, Option, IsSome, IsSomeAnd, Result, Ok, Err, option_and_then, option_map}
 use Rattle.sqlite_trees.specs.declared.store.Store.{Ghosts}
 use Rattle.exam_types.specs.declared.refusal.Refusal.{Refusal}
@@ -23,7 +23,7 @@ use Rattle.exam_request.specs.declared.choice.Choice.TheVariants as choice
 use Rattle.exam_request.specs.declared.choice.Named.{Named}
 use Rattle.exam_request.specs.declared.fault.Fault.{Fault}
 
--- what the office shows of the candidate whom a request names, if there is one
+-- what the office shows of the candidate that a request names, if there is one
 abbrev pub own_named : State → Request → Option OwnRows
 own_named office request = option_and_then (own_of office) (candidate_named request)
 
@@ -31,7 +31,7 @@ own_named office request = option_and_then (own_of office) (candidate_named requ
 abbrev pub named_as : OwnRows → Named
 named_as own = record { number = own.number; code = own.code }
 
--- the candidate whom a request names, if there is one
+-- the candidate that a request names, if there is one
 abbrev pub named_in : State → Request → Option Named
 named_in office request = option_map named_as (own_named office request)
 
@@ -51,7 +51,7 @@ TellsReply (Err refusal) told = told ≡ refusal_told refusal
 
 -- ---- for any way in which a command is applied
 
--- a way to apply commands: it relates each to what it answers and to what holds the office afterwards
+-- A way to apply commands: for each command, its reply or refusal and what holds the office afterwards.
 abbrev pub Applying : Type 0 → Type 1
 Applying O = Command → Result Reply Refusal → O → Type 0
 
@@ -60,8 +60,8 @@ abbrev pub DoesCommandBy : {O : Type 0} → Applying O → Command → Told → 
 DoesCommandBy Applies command told new =
     (answered : Result Reply Refusal) × Applies command answered new × TellsReply answered told
 
--- The answer to a choice over this office, and what becomes of what holds it: a lodging and a retraction are applied;
--- any other choice leaves it as it is.
+-- How the program answers a choice over this office, and what holds the office afterwards. A lodging and a retraction
+-- are applied. Any other choice changes nothing.
 abbrev pub DoesBy : {O : Type 0} → Applying O → State → O → Choice → Told → O → Type 0
 DoesBy Applies office old (choice.Fault fault) told new = (told ≡ error_told (fault_number fault)) × (new ≡ old)
 DoesBy Applies office old (choice.OtherMethod route) told new = (told ≡ method_told route) × (new ≡ old)
@@ -76,7 +76,7 @@ DoesBy Applies office old (choice.Retract number reference) told new =
 abbrev pub IsBusy : {O : Type 0} → O → Told → O → Type 0
 IsBusy old told new = (told ≡ refusal_told NoMemory) × (new ≡ old)
 
--- the answer to a request, by what it asks and what the office shows of the candidate whom it names
+-- the answer to a request, by what it asks and what the office shows of the candidate that it names
 abbrev pub AnswersBy : {O : Type 0} → Applying O → State → O → Request → Told → O → Type 0
 AnswersBy Applies office old request told new =
     IsBusy old told new ⊎ DoesBy Applies office old (choice_in office request) told new
@@ -96,7 +96,7 @@ AppliesIn g today old command answered new = IsApplied g command today old answe
 abbrev pub DoesCommand : {S : Type 0} → Ghosts S → ℕ → OfficeIn S → Command → Told → OfficeIn S → Type 0
 DoesCommand g today old = DoesCommandBy (AppliesIn g today old)
 
--- the answer to a choice, and what becomes of the office
+-- the answer to a choice, and the office after it
 abbrev pub Does : {S : Type 0} → Ghosts S → ℕ → OfficeIn S → Choice → Told → OfficeIn S → Type 0
 Does g today old = DoesBy (AppliesIn g today old) old.office old
 

@@ -75,7 +75,7 @@ fn answer_found<S: Alter>(
     }
 }
 
-/// The candidate whom a target names, if there is one.
+/// The candidate that a target names, if there is one.
 fn named_by<S: Alter>(store: &Store<S>, found: &Option<Found<'_>>) -> Option<Named>
     ensures { result ≡ option_map spec.named_as (option_and_then (own_of store.now.office)
         (number_named (option_map targets.shown found.now))) }

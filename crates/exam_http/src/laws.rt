@@ -10,8 +10,8 @@ ghost use Rattle.exam_http.specs.Answering.{Answers, AnswersFound, named_in, own
 use exam_store::Store;
 use sqlite::Alter;
 
-/// If two offices show the same of the candidate whom a request names, they answer the request the same on a day,
-/// unless one of them fails. So the bytes of an answer tell nobody anything about another candidate.
+/// If two offices show the same of the candidate that a request names, they answer the request the same on a day,
+/// unless one of them fails. So the bytes of an answer show nobody anything about another candidate.
 pub fn own_rows_decide_an_answer<S: Alter, T: Alter>(one: &Store<S>, other: &Store<T>)
     ensures { (today : ℕ) (request : Request) (one_after : OfficeIn S) (other_after : OfficeIn T)
         (first second : Told) → own_named one.now.office request ≡ own_named other.now.office request
@@ -22,7 +22,7 @@ pub fn own_rows_decide_an_answer<S: Alter, T: Alter>(one: &Store<S>, other: &Sto
     other.show_good();
 }
 
-/// A stranger's request does not show the code of the candidate whom it names, or there is no such candidate. Once the
+/// A stranger's request does not show the code of the candidate that it names, or there is no such candidate. Once the
 /// routes are made, its answer depends on the request alone, not on what the office holds or on the day; nothing
 /// changes, and it takes no memory. Before that, memory may run out for the routes.
 pub fn strangers_are_answered_alike<S: Alter, T: Alter>()

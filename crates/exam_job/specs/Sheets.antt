@@ -43,7 +43,7 @@ IsSheetOf office s sheet.Shortage text = IsShortageSheet office s (row_at code_c
 IsSheetOf office s sheet.Appeals text = text ≡ register_of office s
 IsSheetOf office s sheet.Export text = text ≡ export_of office s
 
--- the same for what is shown of a session
+-- the sheet's text by the view of its session
 abbrev pub IsSheetOfView : View → Sheet → Result (List ℕ) Refusal → Type 0
 IsSheetOfView view (sheet.DoorList hall) text = text ≡ door_list view hall
 IsSheetOfView view (sheet.Attendance paper) text = text ≡ attendance view paper

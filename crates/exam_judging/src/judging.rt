@@ -32,7 +32,7 @@ pub fn first_bad_table(
     first_bad_listed(alloc, facts, &lists, seats)
 }
 
-/// The same, from the lists of the members and the open halls of all sessions.
+/// Finds the first bad table by the lists of the members and the open halls of all sessions.
 pub fn first_bad_listed(
     alloc: Global,
     facts: &Facts,

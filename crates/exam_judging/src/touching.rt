@@ -84,7 +84,7 @@ fn add_imported(rows: &[Row], codes: &mut Codes) -> Result<(), Refusal>
     Ok(())
 }
 
-/// Adds the sessions that a command reaches, of which some may not exist.
+/// Adds the sessions that a command reaches. Some may not exist.
 fn add_reached(
     alloc: Global,
     facts: &Facts,
@@ -291,7 +291,7 @@ fn add_opened(facts: &Facts, halls: &BTreeSet<HallCode>, codes: &mut Codes) -> R
     Ok(())
 }
 
-/// Adds the sessions of which a candidate is a member.
+/// Adds the sessions that a candidate is a member of.
 fn add_candidate(facts: &Facts, number: Number, codes: &mut Codes) -> Result<(), Refusal>
     ensures ok { OnOk result ((s : Code) → contains code_cmp codes.new s
         ≡ (is_member (relations_of facts.now) s number || contains code_cmp codes.old s)) }
@@ -364,7 +364,7 @@ fn add_appellant(
     add_session(&appeal.session, codes)
 }
 
-/// If a grant of the appeal sets or ends a standing one, adds the sessions of which the appellant is a member.
+/// If a grant of the appeal sets or ends a standing one, adds the sessions that the appellant is a member of.
 fn add_others(
     facts: &Facts,
     decision: &Decision,

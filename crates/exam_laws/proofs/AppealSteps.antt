@@ -50,7 +50,7 @@ use Rattle.exam_laws.proofs.Stepping.{accepted_step, refused_step, same_seating}
 one_value : (x y : SingleKey) → Some x ≡ Some y → x ≡ y
 one_value x y is = cc
 
--- what becomes of good facts is good, and every session has the seating that it had
+-- good facts stay good, and every session has the seating that it had
 pub record IsSettled (r t : Relations) : Type 0 where
   pub refer : refers t ≡ true
   pub single : AreSingle t

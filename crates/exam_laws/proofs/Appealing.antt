@@ -52,7 +52,7 @@ module _ (r : Relations) (appeals : Appeals) (marks : Marks) (s : Code) where
         && (suits_opened (option_and_then (λ (session : Session). option_map (λ (paper : Paper). terms_of session paper (in_force_by asked grants)) (option_and_then (row_at code_cmp r.papers) (sitting_by asked))) (row_at code_cmp r.sessions s)) (opened_room r s h)
         && not (list_any (same_code h) (filter_map asked_hall asked)))
 
-    -- the same halls fit the candidate
+    -- a hall fits the candidate exactly if it did
     pub fits_same : (h : Code) → fits (with_decisions r appeals marks) s c h ≡ fits r s c h
     fits_same h = ap (fits_by h (granted_subjects appeals s c)) stand ∙ ap (λ asked. fits_by h asked (standing_grants r c)) same
 

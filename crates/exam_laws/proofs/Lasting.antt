@@ -46,7 +46,7 @@ use Rattle.exam_commands.proofs.Referring.{import_appeals, import_candidates, im
 use Rattle.exam_commands.proofs.Repeating.{put_found, put_stays, same_rows}
 use Rattle.exam_commands.proofs.SameSeats.{seats_exact, seats_total}
 
--- ---- an appeal and what becomes of it
+-- ---- the later states of an appeal
 
 -- decided so, with this answer and with the mark or without it, or superseded since
 abbrev IsSettled : Outcome → List ℕ → Bool → Status → Type 0

@@ -32,7 +32,7 @@ use Rattle.exam_laws.proofs.RepeatedImports.{accepted, stored_reply}
 use Rattle.exam_laws.proofs.Stepping.{import_accepted}
 use Rattle.exam_commands.proofs.Stored.{IsStored, rows_again, rows_stored}
 
--- ---- the rows of imports and what becomes of them
+-- ---- the rows of imports, and the facts that keep them
 
 -- every row is there still, of an entry with any live mark
 record Holds (r t : Relations) : Type 0 where
@@ -121,7 +121,7 @@ change_holds (command.Retract c reference) day before t leaves is =
 change_holds (command.Decide d) day before t leaves is =
     subst (Holds before.relations) (made (decision_refusal before.relations day d) (with_decision before.relations d) t is) (decision_holds before.relations d)
 
--- the same of offices, which stay in order
+-- what a command keeps of an office's facts; an office in order stays in order
 record GoesOn (before after : State) : Type 0 where
   holds : Holds before.relations after.relations
   order : IsInOrder before → IsInOrder after

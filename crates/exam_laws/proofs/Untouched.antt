@@ -64,7 +64,7 @@ neither_any : (a b : Bool) → (a || b) ≡ false → (a ≡ false) × (b ≡ fa
 neither_any true b e = absurd (let differ : true ≡ false = e in cc)
 neither_any false b e = (refl, e)
 
--- numbers of which the new one does not pass
+-- the new number does not pass the filter
 numbers_filtered : {X : Type 0} (p : ℕ → Bool) (rows : List (ℕ × X)) (c : ℕ) (x : X) → p c ≡ false → filter p (keys_of (put_row nat_cmp rows c x)) ≡ filter p (keys_of rows)
 numbers_filtered p [] c x out = ap (λ b. cond b (c ∷ []) []) out
 numbers_filtered {X} p (e ∷ es) c x out = inner (nat_cmp c e.0) (numbers_filtered p es c x out)

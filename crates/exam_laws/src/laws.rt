@@ -60,8 +60,8 @@ pub fn repeated_import_makes_the_same_facts()
         × (import_reply t rows ≡ reply.Imported 0 0 (length (distinct_rows rows))) }
 {}
 
-/// The same for two steps, on any days: the second one leaves the office as it is. Every `Office` is in order
-/// (`Office::show_order`), and the rows of every `Import` agree (`Import::rows`).
+/// After an accepted import, the same import as the next command, on any day, changes nothing. Every `Office` is in
+/// order (`Office::show_order`), and the rows of every `Import` agree (`Import::rows`).
 pub fn repeated_import_changes_nothing()
     ensures { (import : ImportRows) (day later : ℕ) (before mid after : State) (first : Reply)
         (second : Result Reply Refusal)
@@ -71,8 +71,8 @@ pub fn repeated_import_changes_nothing()
         → (second ≡ Ok (reply.Imported 0 0 (length (distinct_rows import.rows)))) × (after ≡ mid) }
 {}
 
-/// The same at any later moment, on any day and after any commands between, if none of them is an import or the closing
-/// of a hall. Every `Office` is good (`Office::show_good`).
+/// After an accepted import, the same import at any later moment, on any day, changes nothing, if no command between is
+/// an import or the closing of a hall. Every `Office` is good (`Office::show_good`).
 pub fn import_repeated_later_changes_nothing()
     ensures { (import : ImportRows) (day later : ℕ) (before mid late after : State) (first : Reply)
         (done : List (Command × ℕ)) (replies : List (Result Reply Refusal)) (second : Result Reply Refusal)
@@ -96,7 +96,8 @@ pub fn repeated_lodging_changes_nothing()
         × (after ≡ late) }
 {}
 
-/// The same for a retraction, which answers again that the appeal is retracted.
+/// After an accepted retraction, the same retraction at any later moment, on any day and after any commands between,
+/// changes nothing and answers again that the appeal is retracted. Every `Office` is in order (`Office::show_order`).
 pub fn repeated_retraction_changes_nothing()
     ensures { (number : ℕ) (reference : Code) (day later : ℕ) (before mid late after : State) (first : Reply)
         (done : List (Command × ℕ)) (replies : List (Result Reply Refusal)) (second : Result Reply Refusal)
@@ -107,8 +108,9 @@ pub fn repeated_retraction_changes_nothing()
         → (second ≡ Ok reply.Retracted) × (after ≡ late) }
 {}
 
-/// The same for a decision, which answers that nothing has changed or, if a later grant has superseded the appeal, that
-/// it is not open.
+/// After an accepted decision, the same decision at any later moment, on any day and after any commands between,
+/// changes nothing. It answers that nothing has changed or, if a later grant has superseded the appeal, that it is not
+/// open. Every `Office` is in order (`Office::show_order`).
 pub fn repeated_decision_changes_nothing()
     ensures { (decision : Decision) (day later : ℕ) (before mid late after : State) (first : Reply)
         (done : List (Command × ℕ)) (replies : List (Result Reply Refusal)) (second : Result Reply Refusal)

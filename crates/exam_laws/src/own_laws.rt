@@ -14,7 +14,7 @@ ghost use Rattle.exam_commands.specs.State.{State};
 ghost use Rattle.exam_commands.specs.Steps.{Step};
 
 /// Two offices that show a candidate the same give the same answer to a lodging of theirs, and show them the same after
-/// it: both accept it, or both refuse it for the same reason, whatever they hold about others. So lodging tells a
+/// it: both accept it, or both refuse it for the same reason, whatever they hold about others. So lodging shows a
 /// candidate nothing about others beyond what they are shown already.
 pub fn own_rows_decide_a_lodging()
     ensures refusal { (lodging : Lodging) (day : ℕ) (one other : State)
@@ -38,7 +38,8 @@ pub fn own_rows_decide_a_lodging()
         → own_of one_after lodging.number ≡ own_of other_after lodging.number }
 {}
 
-/// The same for a retraction, on any days.
+/// Two offices that show a candidate the same give the same answer to a retraction of theirs, on any days, and show
+/// them the same after it.
 pub fn own_rows_decide_a_retraction()
     ensures refusal { (number : ℕ) (reference : Code) (one other : State)
         → IsGood one → IsGood other → own_of one number ≡ own_of other number

@@ -34,7 +34,7 @@ use Rattle.exam_changes.specs.Undoing.{ChangesOnly}
 use Rattle.exam_changes.proofs.Undoing.{import_only}
 use Rattle.exam_laws.proofs.Untouched.{import_spares}
 
--- elements of which nothing is made may be left out before
+-- elements that make nothing may be left out before
 parted : (h : ℕ → Option Entrant) (p : ℕ → Bool) → ((c : ℕ) → p c ≡ false → h c ≡ None) → (cs : List ℕ) → filter_map h cs ≡ filter_map h (filter p cs)
 parted h p none [] = refl
 parted h p none (c ∷ cs) = inner (p c) refl (parted h p none cs)
@@ -84,7 +84,7 @@ module _ (r : Relations) (lists : SessionLists) (are : AreListsOf r lists) where
     rising = λ s. record { numbers = (are.rising s).numbers; codes = (are.rising s).codes };
   }
 
-  -- the same have live entries
+  -- other candidates, if the numbers with live entries stay
   with_candidates : (candidates : List (ℕ × Candidate)) → ((s : Code) → filter (has_live_entry r s) (keys_of candidates) ≡ filter (has_live_entry r s) (keys_of r.candidates)) → AreListsOf (record r { candidates = candidates }) lists
   with_candidates candidates same = record {
     numbers = entrants_are_members (record r { candidates = candidates });

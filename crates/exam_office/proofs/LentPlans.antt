@@ -36,7 +36,7 @@ or_false false = refl
 pub any_more : {A : Type 0} (p : A → Bool) (xs ys : List A) (x : A) → ys ≡ xs ++ x ∷ [] → list_any p ys ≡ (list_any p xs || p x)
 any_more p xs ys x is = ap (list_any p) is ∙ list_any-append p xs (x ∷ []) ∙ ap (λ b. list_any p xs || b) (or_false (p x))
 
--- a session of which the members so far are copied, and one more is
+-- the members of a session so far are copied, and one more is
 pub copied_step : (here now before : Bool) (mine first old new : Option Code) → old ≡ cond (here && before) (option_or mine first) first
     → new ≡ cond (here && now) (option_or mine old) old → new ≡ cond (here && (before || now)) (option_or mine first) first
 copied_step true true true None first old new was is = is ∙ was

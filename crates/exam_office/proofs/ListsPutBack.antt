@@ -54,7 +54,7 @@ none_kept before lists none = record {
   halls = λ s. refl;
 }
 
--- the same is kept, of lists that are the same
+-- another record of equal entries puts equal lists back
 pub same_back : (before kept : Kept) (lists new was : SessionLists) → kept.entries ≡ before.entries → SameLists lists new
     → ((s : Code) → IsTrue (has_row code_cmp lists.members.entries s) → IsTrue (has_row code_cmp new.members.entries s)) → ListsBack (undo.Several before) lists was → ListsBack (undo.Several kept) new was
 same_back before kept lists new was is same stay back = record {

@@ -39,8 +39,7 @@ abbrev pub HasOld : Option Plans → Seats → Type 0
 HasOld None seats = ⊤
 HasOld (Some old) seats = (k : Code × ℕ) → IsTrue (has_row seat_cmp old.entries k) → IsTrue (has_row seat_cmp seats k)
 
--- The seats are those of the new plans at their keys, and at the other keys of the old plans those of the old
--- ones.
+-- Whoever the new plans seat has the seat that they give. Whoever only the old plans seat has the seat that those give.
 pub record MixesPlans (old new seats : Seats) : Type 0 where
   pub put : (k : Code × ℕ) → has_row seat_cmp new k ≡ true → row_at seat_cmp seats k ≡ row_at seat_cmp new k
   pub kept : (k : Code × ℕ) → has_row seat_cmp new k ≡ false → has_row seat_cmp old k ≡ true

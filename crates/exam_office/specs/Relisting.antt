@@ -53,7 +53,7 @@ HasList (undo.Halls t list) lists = IsTrue (has_row code_cmp lists.halls.entries
 HasList (undo.AllHalls halls) lists = ⊤
 HasList (undo.Whole old) lists = ⊤
 
--- the same lists
+-- both give each session equal lists of members and of halls
 pub record SameLists (a b : SessionLists) : Type 0 where
   pub members : (s : Code) → listed b.members.entries s ≡ listed a.members.entries s
   pub halls : (s : Code) → listed b.halls.entries s ≡ listed a.halls.entries s

@@ -29,7 +29,7 @@ pub fn put_seats(seats: &mut Seats, new: &Seats) -> Result<(), Refusal>
     Ok(())
 }
 
-/// Puts everybody whom the new plans seat back to where the old plans seat them, or takes their seat away if the old
+/// Puts everybody that the new plans seat back to where the old plans seat them, or takes their seat away if the old
 /// plans have none.
 pub fn take_back_seats(seats: &mut Seats, old: &Seats, new: &Seats)
     requires { (k : Code × ℕ) → IsTrue (has_row seat_cmp old.now.entries k)

@@ -1,4 +1,4 @@
--- What is so by indices is so by names, for two seatings of which one renames the other.
+-- What is so by indices is so by names, for two seatings, one a renaming of the other.
 use Rattle.std.proofs.Common.{◌≡◌, ℕ, ◌+◌, ◌<◌, ◌≤◌, Bool, IsTrue, List, [], ◌∷◌, length, map, filter, get_or, Contains, count_by, sum_by, Option, None, Some, IfSome, is_none, refl, sym, ap, subst, ◌∙◌, arith}
 use Rattle.std.specs.declared.cmp.Ordering.{Ordering}
 use Rattle.std.specs.declared.cmp.Ordering.TheVariants.{Less}

@@ -1,4 +1,4 @@
--- Augmenting chains by indices are those by names, for two seatings of which one renames the other.
+-- Augmenting chains by indices are those by names, for two seatings, one a renaming of the other.
 use Rattle.std.proofs.Common.{◌≡◌, ◌≢◌, ◌↔◌, ℕ, ◌<◌, true, IsTrue, List, [], ◌∷◌, ◌++◌, length, map, filter, get_or, Contains, Option, None, Some, IfSome, refl, sym, ap, subst, ◌∙◌, arith}
 use Rattle.std.specs.Prelude.{AllPairs}
 use Rattle.std.specs.declared.cmp.Ordering.TheVariants.{Greater}

@@ -1,4 +1,4 @@
--- The closed set of a best plan, found in the logic: whom some best plan leaves out, and their halls, are a
+-- The closed set of a best plan, found in the logic: those that some best plan leaves out, and their halls, are a
 -- certificate of every best plan.
 use Rattle.std.proofs.Common.{◌≡◌, ◌⊎◌, ℕ, zero, suc, ◌<◌, ◌≤◌, ◌↔◌, Bool, true, false, not, ◌&&◌, ◌||◌, IsTrue, List, map, length, get_or, count_by, refl, sym, ap, ◌∙◌, inl, inr, subst, arith}
 use Rattle.std.specs.Prelude.{Contains, filter}
@@ -29,7 +29,7 @@ abbrev pub marks_of : List Bool → ℕ → Bool
 marks_of marks h = get_or marks h false
 
 module _ (p : Problem) (good : IsProblem p) (q : Plan ℕ ℕ) where
-  -- a candidate who is drawn in by the marks, and whom the hall fits
+  -- a candidate that the marks draw in and the hall fits
   abbrev draws_in : List Bool → ℕ → ℕ → Bool
   draws_in marks h c = is_drawn (marks_of marks) (q c) && (seating_of p).fits c h
 

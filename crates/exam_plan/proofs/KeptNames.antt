@@ -1,4 +1,4 @@
--- What stays of a plan, and its repair, by indices are those by names, for two seatings of which one renames the other.
+-- What stays of a plan, and its repair, by indices are those by names, for two seatings, one a renaming of the other.
 use Rattle.std.proofs.Common.{◌≡◌, ℕ, Bool, true, false, cond, ◌&&◌, IsTrue, nat_eq, Contains, count_by, Option, None, Some, IsSome, IfSome, is_some, eq-eqb, refl, sym, ap, subst, ◌∙◌}
 use Rattle.std.specs.Prelude.{nat_lt}
 use Rattle.std.specs.Ordering.{is_lt}
@@ -37,7 +37,7 @@ module _ {C H : Type 0} (name : Naming C H) (r : Renames name) (f : Follows name
       let w = member_index name r c (Contains-from_any (λ x y. (f.same_b x y).0) c name.of_names.members t) in
       let e : None ≡ Some w.0 = sym at ∙ w.1 in cc)
 
-  -- ---- those whom their hall fits
+  -- ---- candidates that their hall fits
 
   -- where the hall of a member is read by indices
   pub seat_index : (q : Plan C H) (c : C) (i : ℕ) → name.candidate_index c ≡ Some i → by_index q i ≡ option_and_then name.hall_index (q c)
@@ -100,7 +100,7 @@ module _ {C H : Type 0} (name : Naming C H) (r : Renames name) (f : Follows name
   fitting_part-known : (p : Plan ℕ ℕ) → Known (fitting_part name.of_indices p)
   fitting_part-known p i = IfSome_then (fitting_part name.of_indices p i) (fitting_part-fits p i) (r.known_hall i)
 
-  -- ---- those for whom there is a desk
+  -- ---- candidates that have a desk
 
   lesser-named : (p : Plan ℕ ℕ) → Known p → (i k : ℕ) → Contains name.of_indices.members i → name.hall_index (name.hall k) ≡ Some k → lesser_occupants name.of_names (by_name p) (name.candidate i) (name.hall k) ≡ lesser_occupants name.of_indices p i k
   lesser-named p known i k m at =

@@ -37,7 +37,7 @@ unmarked-lt (true ∷ xs) (true ∷ ys) e w n =
     omega (arith, count_by-cons not true xs, count_by-cons not true ys, unmarked-lt xs ys (omega arith) (wider-tail true true xs ys w) (λ t. n (ap (λ z. true ∷ z) t)))
 unmarked-lt (true ∷ xs) (false ∷ ys) e w n = absurd (let z : false ≡ true = w 0 refl in cc)
 
--- what a test of two lists of marks has told
+-- what a test of two lists of marks answers
 pub marks_differ : (xs ys : List Bool) → pointwise beq xs ys ≡ false → xs ≢ ys
 marks_differ xs ys e same = let t : pointwise beq xs ys ≡ true = (slice_eq-Decides booleans_Decides xs ys _ refl).1 same in let z : false ≡ true = sym e ∙ t in cc
 

@@ -13,7 +13,7 @@ abbrev pub drawn_in : (ℕ → Bool) → Option ℕ → Bool
 drawn_in D None = true
 drawn_in D (Some h) = D h
 
--- the halls of the set have no free desk, and fit all whom they hold and all who are unseated
+-- the halls of the set have no free desk, and fit all their occupants and all who are unseated
 pub record IsClosedSet (p : Problem) (q : Plan ℕ ℕ) (D : ℕ → Bool) : Type 0 where
   pub full : (h : ℕ) → h < length p.desk_counts → D h ≡ true → get_or p.desk_counts h 0 ≤ length (occupants (seating_of p) q h)
   pub stays : (c k : ℕ) → drawn_in D (q c) ≡ true → IsTrue ((seating_of p).fits c k) → D k ≡ true

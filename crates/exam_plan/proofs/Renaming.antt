@@ -37,7 +37,7 @@ module _ {C H : Type 0} (name : Naming C H) (r : Renames name) where
       ∙ count_same (λ c. is_some (named_plan name p c)) (λ i. is_some (p i)) name.candidate name.of_indices.members
       (of_members _ name.of_indices.members (λ i h. ap is_some (named_member p (name.candidate i) i (r.known i h)) ∙ is_some-map name.hall (p i)))
 
-  -- the same hall by names and by indices
+  -- names agree on a hall exactly if indices do
   same_hall-known : (g h : H) (j k : ℕ) → name.hall_index g ≡ Some j → name.hall_index h ≡ Some k → name.of_names.same_hall g h ≡ name.of_indices.same_hall j k
   same_hall-known g h j k at at' = both_ways _ _
       (λ t. (r.same_a j k).1 (same_Some j k (sym at ∙ ap name.hall_index ((r.same_b g h).0 t) ∙ at')))

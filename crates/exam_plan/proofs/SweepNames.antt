@@ -1,4 +1,4 @@
--- Turns and sweeps by indices are those by names, and the other way round, for two seatings of which one renames the
+-- Turns and sweeps by indices are those by names, and the other way round, for two seatings, one a renaming of the
 -- other.
 use Rattle.std.proofs.Common.{◌≡◌, ℕ, Bool, true, false, cond, not, List, [], ◌∷◌, ◌++◌, map, filter, Contains, Option, None, Some, IfSome, inl, inr, refl, sym, ap, subst, ◌∙◌}
 use Rattle.std.specs.List.{AllByRecursion}
@@ -33,7 +33,7 @@ module _ {C H : Type 0} (name : Naming C H) (r : Renames name) (f : Follows name
 
   -- ---- the plan after a chain
 
-  -- the same candidate by names and by indices
+  -- names agree on a candidate exactly if indices do
   same-named : (b c : C) (i k : ℕ) → name.candidate_index b ≡ Some i → name.candidate_index c ≡ Some k → name.of_names.same_candidate b c ≡ name.of_indices.same_candidate i k
   same-named b c i k at at' = both_ways _ _
       (λ t. (f.same_a i k).1 (same_Some i k (sym at ∙ ap name.candidate_index ((f.same_b b c).0 t) ∙ at')))

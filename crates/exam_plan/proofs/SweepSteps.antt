@@ -7,7 +7,7 @@ use Rattle.exam_plan.specs.Repair.{ListsDead, SweepsDead}
 use Rattle.exam_plan.specs.Searches.{IsKept, IsNextTurn}
 use Rattle.exam_plan.proofs.Sweeping.{IsSwept, SweepsDead-push, done, done_more, done_same, first_done, swept_none, swept_first, swept_more, swept_skip}
 
--- a sweep of which so many turns are over
+-- a sweep after so many turns
 pub record IsUnderWay (p : Problem) (first : Option ℕ) (before : List (Option ℕ)) (sweep : Progress) (i : ℕ) : Type 0 where
   pub kept : IsKept p sweep
   pub swept : IsSwept p first (plan_at before) (plan_at sweep.plan.items) (holds sweep.dead) i

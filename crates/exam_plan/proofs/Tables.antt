@@ -90,7 +90,7 @@ module _ (p : Problem) where
   pub onward_of : (m : List (Option ℕ)) (table : Onward) → length m ≡ length p.fit → IsOnward p (plan_at m) table → table.is_noted ≡ true → AreOnward p (plan_at m) table.sets.items
   onward_of m table whole t noted = table_onward m table whole (subst (λ (b : Bool). IsTable p (plan_at m) (cond b (length p.fit) 0) table) noted t)
 
-  -- the same the other way round
+  -- the inward sets of the table
   pub inward_of : (m : List (Option ℕ)) (table : Onward) → IsPlan p m → IsOnward p (plan_at m) table → table.is_noted ≡ true → AreInward p (plan_at m) table.inward.items
   inward_of m table plan t noted h k l =
       let o = onward_of m table plan.whole t noted in (

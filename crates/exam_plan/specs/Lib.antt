@@ -8,7 +8,7 @@
 -- - Repair: who stays (by fit, then the least numbers within the desks); a turn takes the least of
 --   all chains, if there is one; the sweep's turns, and the halls that each turn without a chain
 --   adds to the dead ones
--- - Problems: the same at indices: lists of desks, fits and ranks, and the plan that a list is
+-- - Problems: seatings at indices: lists of desks, fits and ranks, and the plan that a list is
 -- - Naming: a seating by indices beside one by names: the name of each index and the index of each
 --   name; plans and chains by indices read by names, and plans by names read by indices
 -- - HallSets: a set of halls as a number, and its halls below a bound

@@ -11,7 +11,7 @@ module _ {C H : Type 0} where
   abbrev pub is_member : Seating C H → C → Bool
   is_member g c = list_any (g.same_candidate c) g.members
 
-  -- the hall, where the candidate is a member whom it fits
+  -- the hall, if the candidate is a member and the hall fits them; otherwise none
   abbrev pub where_fitting : Seating C H → C → Option H → Option H
   where_fitting g c None = None
   where_fitting g c (Some h) = if is_member g c && g.fits c h then Some h else None

@@ -52,7 +52,7 @@ module _ (p : Problem) (plan : Plan ℕ ℕ) where
       (h k : ℕ) → h < length p.desk_counts → IsMarked (holds (slice_index sets h)) k
       ↔ ((d : ℕ) × (plan d ≡ Some h) × IsTrue ((seating_of p).fits d k))
 
-  -- the set of each hall holds the halls with an occupant whom it fits
+  -- the set of each hall holds the halls with an occupant that it fits
   abbrev pub AreInward : List ℕ → Type 0
   AreInward sets =
       (h k : ℕ) → k < length p.desk_counts → IsMarked (holds (slice_index sets k)) h
@@ -89,7 +89,7 @@ module _ (p : Problem) (plan : Plan ℕ ℕ) where
       × ((j : ℕ) → j < hops → CanReach j c → ⊥)
   IsFound layers c None = (j h : ℕ) → LeadsTo (seating_of p) plan c j h → HasFreeDesk (seating_of p) plan h → ⊥
 
-  -- the halls of the set are full, and fit whom they hold only among themselves
+  -- the halls of the set are full, and no other hall fits their occupants
   pub record AreClosed (dead : ℕ → Bool) : Type 0 where
     pub full : (h : ℕ) → IsMarked dead h → HasFreeDesk (seating_of p) plan h → ⊥
     pub stays : (d h k : ℕ) → plan d ≡ Some h → IsMarked dead h → IsTrue ((seating_of p).fits d k)

@@ -29,7 +29,7 @@ pub fn keep_lawful(problem: &Problem, mut plan: Plan) -> Result<Plan, Refusal>
 
 /// Gives each unseated candidate one turn, the first candidate first and then numbers rising: a turn moves
 /// everybody along the least chain to a free desk, where there is a chain. Beside the plan there are the dead
-/// halls: those that fit the candidates whom some best plan leaves out, turn by turn, and rising for each turn.
+/// halls: those that fit the candidates that some best plan leaves out, turn by turn, and rising for each turn.
 pub fn sweep_dead(
     alloc: Global,
     problem: &Problem,
@@ -86,7 +86,7 @@ pub fn sweep(
     Ok(swept)
 }
 
-/// The candidates whom some best plan leaves out, with all halls that fit any of them.
+/// The candidates that some best plan leaves out, with all halls that fit any of them.
 pub fn shortage(alloc: Global, problem: &Problem, plan: &Plan) -> Result<Shortage, Refusal>
     requires plan { IsPlan problem.now plan.now.items }
     requires best { IsBest (seating_of problem.now) (plan_at plan.now.items) }

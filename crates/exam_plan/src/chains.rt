@@ -106,7 +106,7 @@ pub fn search_chain(
     )
 }
 
-/// The halls to which the candidate leads, those aside that are known to be dead.
+/// The halls that the candidate leads to, without the known dead ones.
 pub fn led_to(
     problem: &Problem,
     plan: &Plan,
@@ -138,7 +138,8 @@ pub fn led_to(
     }
 }
 
-/// The first occupant of the hall whom a hall of the set fits, where none stands before the number.
+/// The first occupant of the hall, from this number on, that some hall of the set fits. The hall has no occupant before
+/// the number.
 fn first_mover(
     problem: &Problem,
     plan: &Plan,

@@ -19,7 +19,7 @@ pub struct Onward {
     tallies: Vec<Tally>,
     /// The halls that fit some occupant of each hall.
     pub sets: Vec<HallSet>,
-    /// The same the other way round: the halls with an occupant whom each hall fits.
+    /// For each hall, the halls with an occupant that it fits.
     pub inward: Vec<HallSet>,
     /// A number for each hall that no occupant stands before.
     pub firsts: Vec<usize>,

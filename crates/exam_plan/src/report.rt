@@ -7,6 +7,6 @@ pub struct Shortage {
     pub unseated: usize,
     /// The halls that fit any of the candidates, rising.
     pub halls: Vec<usize>,
-    /// The candidates whom some best plan leaves out, rising.
+    /// The candidates that some best plan leaves out, rising.
     pub candidates: Vec<usize>,
 }

@@ -117,7 +117,7 @@ fn still_free(problem: &Problem, free: HallSet, hall: usize, count: usize) -> Ha
     }
 }
 
-/// One turn of the sweep. A candidate whom no hall fits but dead ones needs no search.
+/// One turn of the sweep. If only dead halls fit the candidate, there is nothing to search.
 pub fn take_turn(problem: &Problem, sweep: &mut Progress, candidate: usize)
     requires kept { IsKept problem.now sweep.old }
     requires candidate { candidate < length problem.now.fit }

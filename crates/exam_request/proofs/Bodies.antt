@@ -63,7 +63,7 @@ no_body old new bytes n said h j less end few =
 bad_head : (old new : Option (List ℕ)) (bytes : List ℕ) (n : ℕ) (e : Fault) → HeadRead old new bytes n → Judges (take n bytes) (Err e) → (rest : List ℕ) → Asks (bytes ++ rest) (Err e)
 bad_head old new bytes n e h j rest = let head = h.head rest in rw head (Err e, j, refl)
 
--- the same, of a buffer
+-- the head in a buffer is at fault
 pub bad_head_in : (old new : Option (List ℕ)) (buf : List ℕ) (n filled : ℕ) (e : Fault) (r : Result Message Stop) → HeadRead old new (take filled buf) n → Judges (take n buf) (Err e)
     → filled ≤ most_head → r ≡ Err (Faulty e) → FindsMessage old new buf r
 bad_head_in old new buf n filled e r h j few is =

@@ -1,4 +1,4 @@
--- What is done for a stranger, and for whom a choice is made.
+-- What is done for a stranger, and which candidate a choice is for.
 use Rattle.std.proofs.Common.{◌≡◌, ◌∙◌, ℕ, List, Option, Some, None, Bool, true, false, cond, refl, sym, inl, inr}
 use Rattle.std.specs.Prelude.{◌⊎◌, bytes_eq, codes}
 use Rattle.exam_types.specs.Codes.{is_reference}

@@ -30,7 +30,7 @@ request_with said body = record {
   body = body;
 }
 
--- the body is the next bytes, of which there must be as many as the head says
+-- the body is the next bytes; there must be as many as the head says
 abbrev pub asked_with : List ℕ → Result Said Fault → Result Request Fault
 asked_with rest (Err fault) = Err fault
 asked_with rest (Ok said) =

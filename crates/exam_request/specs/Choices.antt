@@ -18,11 +18,11 @@ use Rattle.exam_request.specs.declared.posted.Posted.{Posted}
 use Rattle.exam_request.specs.declared.routes.Route.{Route}
 use Rattle.exam_request.specs.declared.routes.Route.TheVariants.{Appeal, Appeals, Clashes, Seats}
 
--- the candidate whom a target names, if its number is one
+-- the candidate that a target names, if its number is one
 abbrev pub number_named : Option Target → Option ℕ
 number_named target = option_and_then (λ t. number_in t.number) target
 
--- the candidate whom a request names
+-- the candidate that a request names
 abbrev pub candidate_named : Request → Option ℕ
 candidate_named request = number_named (reading request.target)
 
@@ -64,7 +64,7 @@ done_at Appeals request number reference =
     else choice.Show number page.Appeals
 done_at Appeal request number reference = retraction number reference
 
--- the same, by the target
+-- what is done for a candidate's own request, by its target
 abbrev pub choice_own : Request → ℕ → Target → Choice
 choice_own request number target = done_at target.route request number target.reference
 
@@ -90,7 +90,7 @@ abbrev pub choice_by : Request → Option Named → Option Target → Choice
 choice_by request named None = choice.Fault fault.Route
 choice_by request named (Some target) = choice_at request named target
 
--- what is done for a request, by the candidate whom it names, if there is one
+-- what is done for a request, by the candidate that it names, if there is one
 abbrev pub choice_of : Request → Option Named → Choice
 choice_of request named = choice_by request named (reading request.target)
 

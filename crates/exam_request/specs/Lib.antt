@@ -5,7 +5,7 @@
 --   request asks
 -- - Posted: what the body of a posting lodges
 -- - Targets, Table: how a target is read, and the table of routes for it
--- - Methods, Choices: the methods of each route; what is done for a request, by the candidate whom it names and their
+-- - Methods, Choices: the methods of each route; what is done for a request, by the candidate that it names and their
 --   access code
 -- - Json, Bodies: how members are written; the bodies that show a candidate their rows
 -- - Faults, Answer: the numbers of faults; the status, head and body of each answer

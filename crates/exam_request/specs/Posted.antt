@@ -29,7 +29,7 @@ members_written text = option_map count_of (option_and_then json_find.as_object 
 abbrev pub text_at : List ℕ → Data → Option (List ℕ)
 text_at name value = option_and_then as_str (get name value)
 
--- the same, if it has the form of its value
+-- the text that the member of that name is, if it has the form of its value
 abbrev pub value_at : (List ℕ → Bool) → List ℕ → Data → Option (List ℕ)
 value_at is_value name value =
     option_and_then (λ text. if is_value text then Some text else None) (text_at name value)

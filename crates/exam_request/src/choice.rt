@@ -1,4 +1,4 @@
-//! What is done for a request, by what it asks and the candidate whom it names.
+//! What is done for a request, by what it asks and the candidate that it names.
 ghost use Rattle.std.specs.Prelude.{◌≡◌, IfOk, IfErr, IfSome, option_map};
 ghost use Rattle.exam_types.specs.declared.refusal.Refusal.TheVariants.{NoMemory};
 ghost use Rattle.exam_request.specs.Asked.{request_of};
@@ -20,7 +20,7 @@ use std::alloc::Global;
 /// What the code of a request is compared with if there is no such candidate. Showing it lets nobody in.
 const CODE_OF_NOBODY: &[u8] = b"00000000";
 
-/// The candidate whom a request names, and the code that lets them in.
+/// The candidate that a request names, and the code that lets them in.
 #[derive(Clone, Copy)]
 pub struct Named {
     pub number: Number,
@@ -44,7 +44,7 @@ pub enum Choice {
     Retract(Number, Reference),
 }
 
-/// The candidate whom a target names, whether the office has one of this number or not.
+/// The candidate that a target names, whether the office has one of this number or not.
 pub fn candidate_of(found: &Option<Found<'_>>) -> Option<Number>
     ensures { result ≡ spec.number_named (option_map targets.shown found.now) }
 {
@@ -54,7 +54,7 @@ pub fn candidate_of(found: &Option<Found<'_>>) -> Option<Number>
     }
 }
 
-/// What is done for a request, by the candidate whom it names, if there is one; `found` is what its target says.
+/// What is done for a request, by the candidate that it names, if there is one; `found` is what its target says.
 /// Refused if memory runs out, which only a text that is posted with the candidate's code can cause.
 pub fn choose(
     alloc: Global,

@@ -12,7 +12,7 @@ pub fn requests_ask_one_thing()
 {}
 
 /// What is done for a stranger depends on the request alone, whether there is such a candidate or not. A stranger's
-/// request does not show the code of the candidate whom it names.
+/// request does not show the code of the candidate that it names.
 pub fn strangers_are_told_alike()
     ensures { (request : Request) (one other : Option Named)
         → spec.IsStranger request one → spec.IsStranger request other
@@ -25,7 +25,7 @@ pub fn texts_of_strangers_are_not_read()
         → spec.ReadsText request named → ⊥ }
 {}
 
-/// Only the candidate whom the request names, and whose code it shows, sees a page, lodges an appeal or takes one back.
+/// Only the candidate that the request names, and whose code it shows, sees a page, lodges an appeal or takes one back.
 pub fn choices_are_of_who_shows_the_code()
     ensures { (request : Request) (named : Option Named)
         → spec.IsOwnChoice request named (spec.choice_of request named) }

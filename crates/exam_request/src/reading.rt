@@ -155,8 +155,8 @@ fn head_length(bytes: &[u8], seen: usize) -> Option<usize>
     None
 }
 
-/// Makes one read into the space after the bytes that are there, and returns how many are there then; at the end of the
-/// input as many as before.
+/// Reads once, behind the bytes already read. Returns how many there are now; at the end of the input this is the old
+/// count.
 fn read_more<R: Read>(
     reader: &mut R,
     buffer: &mut [u8],

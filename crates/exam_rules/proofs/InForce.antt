@@ -20,8 +20,8 @@ Appeals = List ((ℕ × Code) × Appeal)
 abbrev pub is_granted_arrangement : ℕ → (ℕ × Code) × Appeal → Bool
 is_granted_arrangement c a = (a.0.0 == c) && (is_granted a.1.status && is_some (asked_arrangement a.1.subject))
 
--- The facts t say what the facts r say of the candidate's granted arrangement appeals, of which of these bear the
--- mark, of the dates of the sessions of those that do, of the session's own date, and of the imported arrangement.
+-- The facts t agree with the facts r on the candidate's granted arrangement appeals and their marks, on the session's
+-- date and the dates of the marked appeals' sessions, and on the imported arrangement.
 pub record SameGrounds (r t : Relations) (s : Code) (c : ℕ) : Type 0 where
   pub grants : filter (is_granted_arrangement c) t.appeals ≡ filter (is_granted_arrangement c) r.appeals
   pub marks : AllByRecursion (λ a. is_marked t a.0 ≡ is_marked r a.0) (filter (is_granted_arrangement c) r.appeals)
@@ -31,7 +31,7 @@ pub record SameGrounds (r t : Relations) (s : Code) (c : ℕ) : Type 0 where
 
 -- ---- lists
 
--- elements of which nothing is made may be left out
+-- elements that make nothing may be left out
 left_out : {X Y : Type 0} (p q : X → Bool) (made : X → Option Y) → ((x : X) → p x ≡ false → q x ≡ true → made x ≡ None)
     → (xs : List X) → filter_map made (filter q (filter p xs)) ≡ filter_map made (filter q xs)
 left_out p q made none [] = refl
@@ -143,7 +143,7 @@ module _ (r t : Relations) (c : ℕ) where
   by_dates (a ∷ rows) dates =
       ap (λ date. cons_option (given a.1 date (wanted_in a)) (given_by t rows)) dates.0 ∙ ap (cons_option (standing_grant r a.1)) (by_dates rows dates.1)
 
-  -- the same appeals are standing grants, and their sessions have the same dates
+  -- equal standing appeals, whose sessions have equal dates, give equal standing grants
   pub same_standing : filter (is_standing t c) t.appeals ≡ filter (is_standing r c) r.appeals → SameDates (filter (is_standing r c) r.appeals) → standing_grants t c ≡ standing_grants r c
   same_standing same dates = ap (given_by t) same ∙ by_dates (filter (is_standing r c) r.appeals) dates
 
@@ -154,7 +154,7 @@ module _ (r t : Relations) (c : ℕ) where
       ∙ ap (λ standing. cond (is_standing r c a) (a ∷ standing) standing) (by_marks rows marks.1)
 
   module _ (s : Code) where
-    -- the same was granted for the session and is imported, the standing grants are the same, and so is the date
+    -- equal grants for the session, dates, standing grants and imported rows put one arrangement in force
     pub in_force_by : granted_arrangement t s c ≡ granted_arrangement r s c → session_day t s ≡ session_day r s → standing_grants t c ≡ standing_grants r c → row_at nat_cmp t.arrangements c ≡ row_at nat_cmp r.arrangements c
         → arrangement_in_force t s c ≡ arrangement_in_force r s c
     in_force_by granted date standing imported =

@@ -11,7 +11,7 @@ pub flat_step : {A Y : Type 0} (f : A → List Y) (xs : List A) (i : ℕ) (d : A
 flat_step f xs i d before after whole below pushed so_far =
     rw (pushed, append_assoc, add-one) (ap (λ t. before ++ flat_map f t) (sym (drop-cons xs i d below)) ∙ so_far)
 
--- the same, if one element has been appended
+-- after one element has been appended
 pub push_step : {Y : Type 0} (before after rest whole : List Y) (y : Y) → after ≡ before ++ y ∷ [] → before ++ y ∷ rest ≡ whole → after ++ rest ≡ whole
 push_step before after rest whole y pushed so_far = rw (pushed, append_assoc) so_far
 

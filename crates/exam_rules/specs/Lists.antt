@@ -32,7 +32,7 @@ with_last e entrants = if ends_with entrants e.number then entrants else entrant
 abbrev pub entrant : ℕ → Code → Entrant
 entrant n p = record { number = n; paper = p }
 
--- the same if there is such a paper; otherwise the list unchanged
+-- the list with the candidate and this paper as its last; with no paper, the list unchanged
 abbrev pub with_member : ℕ → Option Code → List Entrant → List Entrant
 with_member n paper entrants = option_map_or (λ p. with_last (entrant n p) entrants) paper entrants
 

@@ -120,7 +120,7 @@ fitting_places r s c halls = positions (fits r s c) 0 halls
 abbrev pub rank : Relations → Code → ℕ → ℕ
 rank r s c = count_by (λ d. comes_before r s d c) (members r s)
 
--- The same with candidates and halls as indices: the i-th member, and the j-th open hall.
+-- The session's seating with indices for candidates and halls: i is the i-th member, and j the j-th open hall.
 abbrev pub problem_of : Relations → Code → Problem
 problem_of r s = record {
   desk_counts = map (desks r s) (open_halls r s);
@@ -136,7 +136,7 @@ indexed_seating r s = seating_of (problem_of r s)
 abbrev pub IsTooLarge : Relations → Code → Type 0
 IsTooLarge r s = (most_members < length (members r s)) ⊎ (most_halls < length (open_halls r s))
 
--- the refusals of every call on a session, and that for a known session with more members or open halls than any may have
+-- the refusals of every call on a session, and `TooMany` for a known session with too many members or open halls
 abbrev pub IsProblemRefusal : Relations → Code → Refusal → Type 0
 IsProblemRefusal r s e =
     IsSessionRefusal r s e ⊎ ((e ≡ TooMany) × IsTooLarge r s × (has_row code_cmp r.sessions s ≡ true))

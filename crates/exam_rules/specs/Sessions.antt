@@ -108,7 +108,7 @@ granted_paper_in appeals s c = head_of (filter_map asked_paper (granted_subjects
 abbrev pub granted_arrangement_in : List ((ℕ × Code) × Appeal) → Code → ℕ → Option Arrangement
 granted_arrangement_in appeals s c = head_of (filter_map asked_arrangement (granted_subjects appeals s c))
 
--- the paper of the granted clash appeal, of which there is at most one
+-- the paper of the granted clash appeal; a candidate has at most one for a session
 abbrev pub granted_paper : Relations → Code → ℕ → Option Code
 granted_paper r s c = granted_paper_in r.appeals s c
 

@@ -52,7 +52,7 @@ fn is_special(arrangement: &Arrangement) -> bool
     !Features::none().holds(arrangement.needs) || arrangement.extra.get() > 0
 }
 
-/// The same as a time.
+/// What `end_of` returns, as a `Minute`.
 fn end_minute(session: &Session, paper: &Paper, arrangement: &Arrangement) -> Minute
     ensures { result ≡ spec.end_of session.now paper.now arrangement.now }
 {

@@ -15,8 +15,8 @@ ghost use Rattle.exam_rules.specs.Names.{ListsRise, SeatsInOpenHalls, named_plan
 ghost use Rattle.exam_rules.specs.Names.{number_at, hall_at};
 
 /// A lawful plan of the problem seats candidates only in open halls. Read by numbers and codes it is a lawful plan of
-/// the session that seats as many, a best one is a best one, and the unseated are the same. Read by indices again it is
-/// the same plan.
+/// the session that seats as many, a best one is a best one, and the unseated are the same. If it is read by indices
+/// again, the plan is the first one.
 pub fn plans_by_name()
     ensures lawful { (r : Relations) (s : Code) (p : Plan ℕ ℕ) → ListsRise r s
         → IsLawful (indexed_seating r s) p → IsLawful (seating r s) (named_plan r s p) }

@@ -135,7 +135,7 @@ pub fn entered_session(facts: &Facts, paper: &PaperCode, entry: &Entry) -> Optio
     Some(row.session)
 }
 
-/// Appends the candidate to the list of each session of which they are a member.
+/// Appends the candidate to the list of each session that they are a member of.
 fn append_member(
     alloc: Global,
     facts: &Facts,
@@ -525,8 +525,8 @@ impl SessionLists {
         let _ = exchange(&mut self.members, session, list);
     }
 
-    /// Takes this hall, whose opening for the session has been taken away, out of the session's list. Returns the list
-    /// as it was, which `put_halls` puts back. After a refusal the lists are as they were.
+    /// Removes the hall from the session's list. Returns the list as it was, which `put_halls` puts back. The lists are
+    /// then those of the facts without the hall's opening for the session. After a refusal they are as they were.
     pub fn close(
         &mut self,
         alloc: Global,

@@ -139,7 +139,7 @@ pub fn sitting_by_entries(facts: &Facts, session: &SessionCode, number: Number) 
     }
 }
 
-/// What [`sitting_by_entries`] finds for a candidate whose least live paper there is this one.
+/// The paper that a candidate sits, if `least` is their least live paper in the session. Does not search for `least`.
 pub fn sitting_beside(
     facts: &Facts,
     session: &SessionCode,

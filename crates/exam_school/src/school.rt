@@ -1,4 +1,4 @@
-//! The school: one session with one paper, two halls of which A is step-free, and five candidates.
+//! The school: one session with one paper, two halls (A is step-free), and five candidates.
 
 /// As facts. Nobody is entered, and no hall is opened.
 pub const SCHOOL: &str = "\

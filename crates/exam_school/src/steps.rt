@@ -37,7 +37,7 @@ pub fn expect_same(found: &str, wanted: &str, place: &str) -> Result<(), Fail> {
     Err(Fail::new(format_args!("{place}: {found} in place of {wanted}")))
 }
 
-/// The same for the answer to a question, in which `-` stands for no word at all.
+/// Compares the answer to a question with the one of its text, where `-` stands for no word at all.
 pub fn expect_answer(found: &str, wanted: &str, asked: &str) -> Result<(), Fail> {
     match found.trim_end() {
         "" => expect_same("-", wanted, asked),

@@ -1,4 +1,4 @@
-//! Import files and standard outputs, some of which fail.
+//! Import files and standard outputs; some fail.
 use std::alloc::Global;
 use std::io::{self, ErrorKind, Read, Write};
 

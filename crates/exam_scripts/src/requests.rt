@@ -50,7 +50,7 @@ fn body_of(answer: &[u8]) -> Option<&str> {
     Some(body)
 }
 
-/// The same behind the mark of what is printed.
+/// The body of an answer, behind the mark of printed lines.
 fn marked_body(alloc: Global, answer: &[u8]) -> Result<String, Fail> {
     let body = body_of(answer).ok_or("body")?;
     Ok(format!(in alloc; "> {body}\n")?)

@@ -2,8 +2,7 @@
 use Rattle.std.specs.Prelude.{◌≤◌, ℕ, List, length, Option, IfSome}
 use Rattle.std.specs.Io.KnownBytes.{Consumes}
 
--- What the bytes of a reader say, of which it gave at most so many: the bytes that it gave say this, and so does its
--- whole input if that is known.
+-- The reader gave at most `most` bytes. `Says` holds of them, and of the reader's whole input if that is known.
 pub record Gave (most : ℕ) (old new : Option (List ℕ)) (Says : List ℕ → Type 0) : Type 0 where
   pub given : List ℕ
   pub few : length given ≤ most

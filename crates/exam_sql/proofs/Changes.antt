@@ -15,7 +15,7 @@ use Rattle.exam_sql.specs.Content.{places, Holds, ContainsIn, put, delete, same_
 use Rattle.exam_sql.specs.Changes.{put_all, delete_all, with_puts, with_deletes, is_among, AreApart}
 use Rattle.exam_sql.proofs.RowLemmas.{twice}
 
--- the same rows in another order
+-- a database holds its rows in any order
 pub contains_same : (schema : Schema) (db : Database) (all more : Trees) → ContainsIn schema db all → AllByRecursion (λ t. IsPermutation (all t.tree) (more t.tree)) schema.tables → ContainsIn schema db more
 contains_same schema db all more was same = record { schema_is = was.schema_is; rows = each schema.tables was.rows same }
   where

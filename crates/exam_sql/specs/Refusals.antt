@@ -39,7 +39,7 @@ written_table (InsertOr at way from clauses) = Some at
 written_table (Delete at q) = Some at
 written_table _ = None
 
--- The same, while it writes the rows: no foreign key is tested before they are written.
+-- The command is refused while it writes the rows. No foreign key is tested before they are written.
 abbrev pub RefusesRows : Option ℕ → Database → List ℕ → Row → Type 0
 RefusesRows limit db text params =
     (c : Compiled) × (understood db.schema text ≡ Ok c) × (stop : Option Error)

@@ -43,7 +43,7 @@ one_version v w all a b = let same : (Null ∷ version_row v) ∷ [] ≡ (Null �
 pub of_newest : (db : Database) (all : Trees) → Contains db all → ContainsOf version db all
 of_newest db all was = (was, λ none. absurd (let e : true ≡ false = none in cc))
 
--- a version has the marks as its number tells
+-- a version's number says whether it has the marks
 pub known_marks : (v : Version) → IsKnown v → v.has_marks ≡ marks_since v.number
 known_marks v known = ap (λ (w : Version). w.has_marks) known.1
 

@@ -54,7 +54,7 @@ none_good v all (inl none) = inl none
 none_good v all (inr (inl none)) = inr (inl none)
 none_good v all (inr (inr (office, held, wrong))) = inr (inr (office, held, λ good. wrong good.0))
 
--- what a version can hold is told by its number
+-- a version's number says what it can hold
 pub within_as : (v : Version) (office : Office) → IsKnown v → IsTrue (is_within v office) → IsTrue (is_within (version_at v.number) office)
 within_as v office known within = subst (λ w. IsTrue (is_within w office)) known.1 within
 

@@ -55,7 +55,7 @@ FailsInStore (Err e) = IsTrue (is_store_refusal e)
 abbrev pub NoneFails : List (Result Reply Refusal) → Type 0
 NoneFails replies = All (λ reply. FailsInStore reply → ⊥) replies
 
--- the same answer for an office that is only in memory: a refusal by the store becomes one because memory ran out
+-- the answer of an office that is only in memory: it says that memory ran out where the store refused
 abbrev pub in_memory : Result Reply Refusal → Result Reply Refusal
 in_memory (Ok reply) = Ok reply
 in_memory (Err e) = Err (if is_store_refusal e then NoMemory else e)

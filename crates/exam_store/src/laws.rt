@@ -68,7 +68,9 @@ pub fn repeated_lodging_is_applied_once()
         × (after ≡ late) }
 {}
 
-/// The same for a retraction, which answers again that the appeal is retracted.
+/// After an accepted retraction in a store, the same retraction at any later moment, on any day and after any commands
+/// between, answered or refused, changes nothing. It answers again that the appeal is retracted, unless the store
+/// refuses it. The office of a store is in order (`Store::show_good`).
 pub fn repeated_retraction_is_applied_once()
     ensures { (number : ℕ) (reference : Code) (day later : ℕ) (before mid late after : State) (first : Reply)
         (done : List (Command × ℕ)) (replies : List (Result Reply Refusal)) (second : Result Reply Refusal)
@@ -79,8 +81,10 @@ pub fn repeated_retraction_is_applied_once()
         → ((second ≡ Ok reply.Retracted) ⊎ FailsInStore second) × (after ≡ late) }
 {}
 
-/// The same for a decision, which answers that nothing has changed or, if a later grant has superseded the appeal, that
-/// it is not open.
+/// After an accepted decision in a store, the same decision at any later moment, on any day and after any commands
+/// between, answered or refused, changes nothing. It answers that nothing has changed or, if a later grant has
+/// superseded the appeal, that it is not open, unless the store refuses it. The office of a store is in order
+/// (`Store::show_good`).
 pub fn repeated_decision_is_applied_once()
     ensures { (decision : Decision) (day later : ℕ) (before mid late after : State) (first : Reply)
         (done : List (Command × ℕ)) (replies : List (Result Reply Refusal)) (second : Result Reply Refusal)

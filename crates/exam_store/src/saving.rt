@@ -131,7 +131,7 @@ fn row_put<'a, K: Ord, V: PartialEq>(
     })
 }
 
-/// The difference that puts the rows at these keys, all of which the table has.
+/// The difference that puts the rows at these keys. The table has them all.
 fn rows_put<'a, K: Ord, V: PartialEq>(
     alloc: Global,
     was: &'a BTreeMap<K, Option<V>>,

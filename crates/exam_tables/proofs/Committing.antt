@@ -84,14 +84,14 @@ commits_weaker old new (Err e) T U more c = record {
   survives = survives_weaker old new _ _ (λ clean trees it. (it.0, more _ _ it.1, it.2)) c.survives;
 }
 
--- the same for another answer that says as much
+-- a commit that returns one value at `Ok` is one that returns another
 pub commits_ok : {A B E : Type 0} (old new : State) (a : A) (b : B) (T : Database → Database → Type 0) → Commits {E = E} old new (Ok a) T → Commits {E = E} old new (Ok b) T
 commits_ok old new a b T c = record { turned = c.turned; same = c.same; was_open = c.was_open; settled = c.settled; survives = c.survives }
 
 pub commits_err : {A B E F : Type 0} (old new : State) (e : E) (f : F) (T : Database → Database → Type 0) → Commits {A = A} old new (Err e) T → Commits {A = B} old new (Err f) T
 commits_err old new e f T c = record { turned = c.turned; same = c.same; was_open = c.was_open; settled = c.settled; survives = c.survives }
 
--- the same after a call that has only read
+-- a commit after a call that has only read
 pub then_commits : {A : Type 0} (old mid new : State) (result : Result A Refusal) (T : Database → Database → Type 0) → (HasCleanDisk mid → IsUnchanged old mid) → Survives old mid (λ _. ⊥) → Commits mid new result T → Commits old new result T
 then_commits {A} old mid new result T same before c = record {
   turned = λ clean. turned_by result (c.turned clean) (same (early clean));

@@ -144,7 +144,7 @@ blank_is_empty db is = record { schema_is = is; rows = tt }
 pub first_is_empty : (db : Database) → HasNoRows (made 10) db → HasFirst (λ tree. []) db
 first_is_empty db was = (subst (λ s. HasNoRows s db) first_is was, refl)
 
--- the same of states
+-- of states in place of databases
 pub leads_from : (before after earlier later : Database → Type 0) (old new : State) (result : Result (Unit {0}) Refusal) → (earlier old.now → before old.now) → (after new.now → later new.now) → Leads before after old new result → Leads earlier later old new result
 leads_from before after earlier later old new (Ok u) first last a = record { made = λ clean going. let h = a.made clean going in (λ was. last (h.0 (first was)), h.1); failed = λ clean going was. tt; kept = a.kept; survives = a.survives; told = a.told }
 leads_from before after earlier later old new (Err e) first last a = record { made = λ clean going. tt; failed = λ clean going was. a.failed clean going (first was); kept = a.kept; survives = a.survives; told = a.told }

@@ -176,7 +176,7 @@ one_first : {P : Type 0} (l : List P) (d e : P) → 0 < length l → get_or l 0 
 one_first [] d e some = absurd (omega arith)
 one_first (x ∷ l) d e some = refl
 
--- the same steps, of what references point to
+-- the steps over the values that references point to
 module _ {K X : Type 0} {cmp : K → K → Ordering} (total : IsTotalOrder cmp) (same : X → X → Bool) (old new : List (K × X)) (old_left new_left puts more : List (Bor K × Bor X)) (deletes fewer : List (Bor K)) (x : Bor K × Bor X) where
   abbrev pub Walked : List (Bor K × Bor X) → List (Bor K × Bor X) → List (Bor K × Bor X) → List (Bor K) → Type 0
   Walked o n p d = IsWalked cmp same old new (map deref_pair o) (map deref_pair n) (map deref_pair p) (map (λ key. key.now) d)

@@ -76,7 +76,7 @@ pub fails_to_load_from : {V : Type 0} (Holds : Database → Trees → Type 0) (t
 fails_to_load_from Holds text known old new (Ok value) failed = tt
 fails_to_load_from Holds text known old new (Err e) failed = (failed, λ there. not_bad_store e failed.0 failed.1 (known old new there.0 there.1 failed.0 failed.2))
 
--- the same where the tables are there
+-- a query that fails, where the tables of some version exist
 pub fails_to_load : {V : Type 0} (text : List ℕ) → ((old new : State) (has_marks : Bool) → old.now.schema ≡ made_schema has_marks → (error : Error) → FailsToQuery text [] old new error → (error ≡ SqliteFailure OutOfMemory) ⊎ IsTrue (is_failure error)) → (old new : State) (result : Result V Refusal)
     → IfErr result (λ e. (error : Error) × (e ≡ refusal_of error) × FailsToQuery text [] old new error) → IfErr result (FailsToLoad text old new)
 fails_to_load text known = fails_to_load_from ContainsMade text (λ old new all was. known old new was.has_marks was.contains.schema_is)

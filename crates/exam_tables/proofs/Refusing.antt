@@ -102,7 +102,7 @@ rows_shown {K} {X} {cmp} {IsRow} {row} rows meant entries shown holds = record {
     bare [] = refl
     bare (r ∷ rows) = ap (λ l. r ∷ l) (bare rows)
 
--- and what has their rows, of which a query shows the table, is held by it
+-- the table holds the entries that have the rows which a query shows
 pub rows_held : {K X : Type 0} {cmp : K → K → Ordering} {IsRow : K → X → Type 0} {row : K → X → Row} (rows meant : List Row) (entries : List (K × X)) → IsPermutation meant (map (λ r. Null ∷ r) rows)
     → AreRowsOf cmp IsRow row rows entries → HoldsTable cmp IsRow row entries meant
 rows_held {K} {X} {cmp} {IsRow} {row} rows meant entries shown read = record { rises = read.rises; forms = read.forms; same = shown_entries (λ (e : K × X). row e.0 e.1) meant rows entries shown read.same }

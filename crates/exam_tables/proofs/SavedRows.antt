@@ -71,7 +71,7 @@ module _ {K X : Type 0} {cmp : K → K → Ordering} {key : List ℕ} {row : K �
         let made : IsPermutation (news ++ kept_rows) (map stored new) = subst (λ l. IsPermutation l (map stored new)) (map-append stored puts (filter (stays puts) old)) (IsPermutation-map stored _ _ turns.made) in
         differs_by key rows (map stored new) news gone (apart puts turns.rises) (spared puts turns.spared) (IsPermutation-trans _ _ _ (IsPermutation-append_right news _ _ kept) made)
 
-  -- the same where the rows are those of references, and none is deleted
+  -- puts through references, where no row is deleted
   pub table_put : (old new : List (K × X)) (puts : List (Bor K × Bor X)) (rows : List Row) → Turns cmp old new (map deref_pair puts) [] → HoldsRows row old rows
       → HoldsRows row new (put_all key (map (λ r. Null ∷ row r.0.now r.1.now) puts) rows)
   table_put old new puts rows turns holds =

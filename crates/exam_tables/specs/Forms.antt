@@ -108,7 +108,7 @@ row_put form k x = inside.put_of form.put form.tree form.places (form.row k x)
 abbrev pub with_put : {K X : Type 0} → Form K X → List (Bor K × Bor X) → List inside.Write
 with_put form rows = map (λ r. row_put form r.0.now r.1.now) rows
 
--- What the texts of this product's tables have in common. Keys are told apart as in SQL. The text that puts a row does
+-- What the texts of this product's tables have in common. Keys differ as in SQL. The text that puts a row does
 -- that and no more. The one that loads is one of the eleven, and shows the rows also of the newest tables.
 pub record IsOurTable {K X : Type 0} (cmp : K → K → Ordering) (form : Form K X) : Type 0 where
   pub keys : KeysMatch cmp form.places form.row

@@ -16,7 +16,7 @@ HoldsRows row entries meant = IsPermutation meant (map (λ e. Null ∷ row e.0 e
 abbrev pub HasRows : {K X : Type 0} → Form K X → List (K × X) → Trees → Type 0
 HasRows form entries all = HoldsRows form.row entries (all form.tree)
 
--- the same for entries whose keys rise and whose values have the forms of the table
+-- the table has the rows of these entries, whose keys rise and whose values have the forms of the table
 abbrev pub HasTable : {K X : Type 0} → Form K X → List (K × X) → Trees → Type 0
 HasTable form entries all = HoldsTable form.cmp form.IsRow form.row entries (all form.tree)
 

@@ -56,7 +56,7 @@ RefusesOne writes limit db =
     (done : List Write) × (next : Write) × (rest : List Write) × (writes ≡ done ++ next ∷ rest)
     × (at : Database) × AreRun limit done db at × Becomes done db at × Refuses limit at next.sql next.params
 
--- the same, while it writes the rows of that one: no foreign key is the reason
+-- the database refuses one of the writes while it writes that one's rows, so no foreign key is the reason
 abbrev pub RefusesOneRow : List Write → Option ℕ → Database → Type 0
 RefusesOneRow writes limit db =
     (done : List Write) × (next : Write) × (rest : List Write) × (writes ≡ done ++ next ∷ rest)
@@ -67,7 +67,7 @@ RefusesOneRow writes limit db =
 abbrev pub FailsFor : Type 0 → State → State → Refusal → Type 0
 FailsFor Against old new e = (e ≡ NoMemory) ⊎ ((e ≡ Store) × (IsDown old new ⊎ Against))
 
--- the same for writes, of which the database may refuse one
+-- why the writes are not made: the database may refuse one of them
 abbrev pub FailsToWrite : List Write → State → State → Refusal → Type 0
 FailsToWrite writes old new = FailsFor (RefusesOne writes old.step_limit old.now) old new
 

@@ -32,7 +32,7 @@ pub record AreRowsOf {K X : Type 0} (cmp : K → K → Ordering) (IsRow : K → 
   pub forms : AllByRecursion (λ e. IsRow e.0 e.1) entries
   pub same : IsPermutation rows (map (λ e. row e.0 e.1) entries)
 
--- the same for rows read by columns, with NULL in the place of the rowid
+-- the rows of these entries, read by columns, with NULL in the place of the rowid
 abbrev pub HoldsTable : {K X : Type 0} → (K → K → Ordering) → (K → X → Type 0) → (K → X → Row) → List (K × X)
     → List Row → Type 0
 HoldsTable cmp IsRow row entries meant = AreRowsOf cmp IsRow (λ k x. Null ∷ row k x) meant entries
@@ -52,11 +52,11 @@ Told text old new e = (error : Error) × (e ≡ refusal_of error) × FailsToQuer
 abbrev pub IsMadeHere : Database → Type 0
 IsMadeHere db = (all : Trees) × ContainsMade db all
 
--- the same; and if the tables have any such rows, the refusal is not `BadStore`
+-- The refusal reports the query's error. If the database held any such tables, the refusal is not `BadStore`.
 abbrev pub FailsToLoadFrom : (Database → Trees → Type 0) → List ℕ → State → State → Refusal → Type 0
 FailsToLoadFrom Holds text old new e = Told text old new e × ((all : Trees) × Holds old.now all → e ≢ BadStore)
 
--- the same for the tables of some version
+-- The refusal reports the query's error. If the database held the tables of some version, it is not `BadStore`.
 abbrev pub FailsToLoad : List ℕ → State → State → Refusal → Type 0
 FailsToLoad = FailsToLoadFrom ContainsMade
 
@@ -82,7 +82,7 @@ FailsThenFrom {S} Holds g old new e =
     (mid : Held S) × IsStill (state g old) (state g mid)
     × (text : List ℕ) × Contains load_texts text × FailsToLoadFrom Holds text (state g mid) (state g new) e
 
--- the same for the tables of some version
+-- while the database still had the tables of some version, the query that loads one of them failed
 abbrev pub FailsThen : {S : Type 0} → Ghosts S → Held S → Held S → Refusal → Type 0
 FailsThen = FailsThenFrom ContainsMade
 

@@ -37,7 +37,7 @@ table_part {K} {X} cmp form = record {
   Understands = λ db. IsUnderstood db form.load;
 }
 
--- the marks, of which version 1 has no table
+-- the marks; version 1 has no table for them
 abbrev pub marks_part : Part (BTreeMap (ℕ × Code) (Unit {0}))
 marks_part = record (table_part standing.cmp standing) {
   may_lack = true;

@@ -12,7 +12,7 @@ abbrev pub Reads : {V W : Type 0} → (V → Type 0) → (V → W) → W → Res
 Reads IsOne stored shown (Ok value) = IsOne value × (shown ≡ stored value)
 Reads IsOne stored shown (Err e) = (e ≡ BadStore) × ((value : _) → IsOne value → shown ≡ stored value → ⊥)
 
--- the same, unless memory runs out
+-- what `Reads` says, or memory ran out
 abbrev pub MayRead : {V W : Type 0} → (V → Type 0) → (V → W) → W → Result V Refusal → Type 0
 MayRead IsOne stored shown result = (result ≡ Err NoMemory) ⊎ Reads IsOne stored shown result
 
@@ -21,7 +21,7 @@ abbrev pub WantsMemoryOf : {V : Type 0} → (List ℕ → Bool) → Value → Re
 WantsMemoryOf has_form shown result =
     IfErr result (λ e. e ≡ NoMemory → (text : List ℕ) × IsTrue (has_form text) × (shown ≡ Text text))
 
--- the same for a row: one of its columns is such a text, a name or a reason
+-- memory runs out only for a row with a column that is a name or a reason, which the reader must copy
 abbrev pub WantsMemoryOfRow : {V : Type 0} → Row → Result V Refusal → Type 0
 WantsMemoryOfRow row result = IfErr result (λ e. e ≡ NoMemory
     → (at : ℕ) × (text : List ℕ) × (IsTrue (is_name text) ⊎ IsTrue (is_reason text)) × (column row at ≡ Text text))

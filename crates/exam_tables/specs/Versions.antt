@@ -87,7 +87,7 @@ IsMade db = Contains db new_tables
 abbrev pub FailsToMake : State → State → Refusal → Type 0
 FailsToMake old new = FailsFor (IsSome old.step_limit) old new
 
--- the same, or a transaction is under way
+-- Why nothing is created: the tables are not made, or a transaction is under way.
 abbrev pub FailsToCreate : State → State → Refusal → Type 0
 FailsToCreate old new e = FailsToMake old new e ⊎ ((e ≡ Store) × IsTrue old.in_transaction)
 

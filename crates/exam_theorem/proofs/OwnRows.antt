@@ -36,11 +36,11 @@ use Rattle.exam_theorem.specs.declared.orders.Outcome.{Outcome}
 use Rattle.exam_theorem.specs.declared.orders.Outcome.TheVariants as outcome
 use Rattle.exam_theorem.proofs.OneOffice.{OneAsked}
 
--- a page, a lodging or a retraction is that of the candidate whom the request names
+-- a page, a lodging or a retraction is that of the candidate that the request names
 abbrev pub OwnChoices : Type 0
 OwnChoices = (request : Request) (named : Option Named) → IsOwnChoice request named (choice_of request named)
 
--- ---- the candidate whom a request names
+-- ---- the candidate that a request names
 
 -- what a mapped value is made of
 made_of : {A B : Type 0} (f : A → B) (o : Option A) (b : B) → option_map f o ≡ Some b → (a : A) × (f a ≡ b)
@@ -78,7 +78,7 @@ failed refusal.Store told is tells = inr (inl tells)
 failed refusal.BadStore told is tells = inr (inr tells)
 failed e told is tells = absurd cc
 
--- the same reply
+-- equal replies have equal answers
 replied : (a : Result Reply Refusal) (first second : Told) → TellsReply a first → TellsReply a second → AreAlike first second
 replied (Ok r) first second a b = inr (inr (a ∙ sym b))
 replied (Err e) first second a b = inr (inr (a ∙ sym b))
@@ -95,11 +95,11 @@ stepped done today before after (Err e) (same, inr is) = inr (e, refl, is)
 told_failure : (a : Result Reply Refusal) (e : Refusal) (told : Told) → a ≡ Err e → IsTrue (is_store_refusal e) → TellsReply a told → IsFailureTold told
 told_failure a e told at is tells = failed e told is (subst (λ r. TellsReply r told) at tells)
 
--- the same at an equal number
+-- own rows are equal at an equal number
 at_number : (one other : State) (candidate number : ℕ) → candidate ≡ number → own_of one number ≡ own_of other number → own_of one candidate ≡ own_of other candidate
 at_number one other candidate number is same = subst (λ c. own_of one c ≡ own_of other c) (sym is) same
 
--- the same page over the same rows
+-- equal rows have equal pages
 shown : (body : OwnRows → List ℕ) (own : Option OwnRows) (first second : Told) → IsSomeAnd own (λ rows. first ≡ ok_told (body rows)) → IsSomeAnd own (λ rows. second ≡ ok_told (body rows)) → AreAlike first second
 shown body None first second a b = absurd a
 shown body (Some rows) first second a b = inr (inr (a ∙ sym b))
@@ -117,7 +117,7 @@ module _ (own_choice : OwnChoices) (today : ℕ) (one other one_after other_afte
       joined done a b (same a b) tells told (stepped done today one one_after a may) (stepped done today other other_after b might)
 
   module _ (good : IsGood one) (up : IsInOrder one) (sound : IsGood other) (rise : IsInOrder other) where
-    -- a choice for a number of which both show the same
+    -- a choice for a number for which both show the same
     own_chosen : (c : Choice) (number : ℕ) → IsBy number c → own_of one number ≡ own_of other number → Does today one c first one_after → Does today other c second other_after → AreAlike first second
     own_chosen (choice.Fault fault) number is same a b = absurd is
     own_chosen (choice.OtherMethod route) number is same a b = absurd is

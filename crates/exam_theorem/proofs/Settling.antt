@@ -53,7 +53,7 @@ module _ {S : Type 0} (g : Ghosts S) where
   unfolding KeepsIt
   at_rest it rest = record { is_open = rest.is_open; committed = rest.kept.1; has = rest_has it rest }
 
-  -- the same office, kept on
+  -- the office is as it was, and is kept on
   still : (old new : OfficeIn S) → new.office ≡ old.office → KeepsOn g old new → IsAtRest g old → IsSound (state g new.database) → IsAtRest g new
   still old new same on rest sound = record {
     is_open = sound.1;

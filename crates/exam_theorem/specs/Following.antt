@@ -82,13 +82,13 @@ FollowsLine None words file before end after = IsNoLine words before end after
 FollowsLine (Some said) words file before end after =
     FollowsCommand (command_of said.job file) said.today before end after
 
--- what becomes of the words of a command line, with the file that it imports
+-- how the words of a command line end, with the file that it imports, and the office after them
 abbrev pub FollowsWords : List Text → List ℕ → State → LineEnd → State → Type 0
 FollowsWords words file before end after = FollowsLine (line_of words) words file before end after
 
 -- ---- orders
 
--- what becomes of an order
+-- the outcome of an order, and the office after it
 abbrev pub Follows : Given → State → Outcome → State → Type 0
 Follows (of_line words file) before (outcome.Line end) after = FollowsWords words file before end after
 Follows (of_request bytes today) before (outcome.Request answered) after =
@@ -110,7 +110,7 @@ AreFollowed = AreEach Follows
 
 -- ---- seats that are kept
 
--- in each session everybody who sat and is still a member sits, except those whom the order may cost a seat
+-- in each session everybody who sat and is still a member sits, except those who may lose a seat by the order
 abbrev pub Spares : Given → State → State → Type 0
 Spares order before after = (s : Code) → Keeps (MayUnseat order) (seating after.relations s)
     (plan_of before.seats s) (plan_of after.seats s)

@@ -40,12 +40,12 @@ abbrev pub answer_of : Outcome → List ℕ
 answer_of (outcome.Request answered) = answered.answer.items
 answer_of (outcome.Line end) = []
 
--- both offices show the same of the candidate whom the bytes of a request name
+-- both offices show the same of the candidate that the bytes of a request name
 abbrev pub ShowSame : List ℕ → State → State → Type 0
 ShowSame bytes one other =
     (request : Request) → Asks bytes (Ok request) → own_named one request ≡ own_named other request
 
--- Any other office that shows the same of the candidate whom the request names answers it that day with the same bytes,
+-- Any other office that shows the same of the candidate that the request names answers it that day with the same bytes,
 -- unless one of them meets a failure. (Every office of a store is good and in order.)
 abbrev pub OwnRowsDecide : Given → State → Outcome → Type 0
 OwnRowsDecide (of_line words file) before outcome = ⊤
@@ -54,7 +54,7 @@ OwnRowsDecide (of_request bytes today) before outcome =
     → Follows (of_request bytes today) other second after → (IsFailure outcome → ⊥) → (IsFailure second → ⊥)
     → answer_of outcome ≡ answer_of second
 
--- what becomes of an office in a store by an order
+-- the outcome of an order over an office in a store, and the office after it
 pub record Passes {S : Type 0} (g : Ghosts S) (order : Given) (old : OfficeIn S) (outcome : Outcome)
     (new : OfficeIn S) : Type 0 where
   pub follows : Follows order old.office outcome new.office

@@ -55,9 +55,9 @@ sheet_of other = None
 abbrev pub sheet_asked : List Text → Option (Code × Sheet)
 sheet_asked words = option_and_then (λ s. sheet_of s.job) (line_of words)
 
--- ---- whom an order may cost a seat
+-- ---- who may lose a seat by an order
 
--- an import and the closing of a hall may cost anybody a seat; any other command only the candidate whom it names
+-- an import and the closing of a hall may cost anybody a seat; any other command only the candidate that it names
 abbrev pub CommandMayUnseat : Command → ℕ → Type 0
 CommandMayUnseat (command.Import import) c = ⊤
 CommandMayUnseat (command.CloseHall session hall) c = ⊤

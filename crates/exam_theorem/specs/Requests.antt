@@ -47,7 +47,7 @@ Serves bytes today before (Err Read) answer after = (answer ≡ []) × (after �
 Serves bytes today before (Err Write) answer after =
     (told : Told) × Tells bytes today before told after × IsPart answer (answer_text told)
 
--- what becomes of a request
+-- the answer to a request, and the office after it
 abbrev pub FollowsRequest : List ℕ → ℕ → State → Answered → State → Type 0
 FollowsRequest bytes today before outcome after =
     Serves bytes today before outcome.served outcome.answer.items after

@@ -16,6 +16,6 @@ is_digit b = nat_le 48 b && nat_le b 57
 abbrev pub digits_value : List ℕ → ℕ
 digits_value bytes = fold (λ n b. n * 10 + (b - 48)) 0 bytes
 
--- the same, or none if a byte is no digit
+-- the number that the digits spell, or none if a byte is no digit
 abbrev pub number_of : List ℕ → Option ℕ
 number_of bytes = if list_all is_digit bytes then Some (digits_value bytes) else None

@@ -100,7 +100,7 @@ features_sum f = sum_among feature_names f
 abbrev pub greatest_sum : ℕ
 greatest_sum = 2 ^ length feature_names - 1
 
--- the same features are in both
+-- both have equal features
 abbrev pub same_features : Features → Features → Bool
 same_features a b = features_sum a == features_sum b
 

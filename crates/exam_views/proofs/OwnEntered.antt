@@ -1,4 +1,4 @@
--- A candidate's live papers by session: what they are, and of which sessions the candidate is therefore a member.
+-- A candidate's live papers by session: what they are, and the sessions that they make the candidate a member of.
 use Rattle.std.proofs.Common.{◌≡◌, ◌∙◌, ℕ, ◌<◌, List, [], ◌∷◌, ◌++◌, map, filter, length, Option, None, Some, Bool, true, false, cond, is_some, nat_eq, arith, refl, ap, subst, sym, Vec}
 use Rattle.std.specs.Prelude.{Contains, IsTrue, ◌&&◌, ◌||◌, slice_index_or}
 use Rattle.std.specs.BTreeMap.{is_at}
@@ -191,7 +191,7 @@ module _ (r : Relations) (s : Code) (c : ℕ) (papers : List Code) (there : IsTr
       first [] e = absurd (omega (arith, e))
       first (p ∷ ps) e = refl
 
--- ---- the sessions of which the candidate is a member are among those that have lists
+-- ---- the sessions that the candidate is a member of are among those that have lists
 
 module _ (r : Relations) (c : ℕ) (held : List (Code × Vec Code Global)) (are : (s : Code) → listed held s ≡ live_papers r s c) where
   abbrev pub belongs : Code → Bool

@@ -59,7 +59,7 @@ all_left office c held are up rise =
     ap (filter_map (λ (held : Code × Session). option_map session_without_desk (own_session office c held))) (same_sessions office.relations c held are up rise)
     ∙ mapped session_without_desk (own_session office c) (filter (λ (held : Code × Session). is_member office.relations held.0 c) office.relations.sessions)
 
--- after the row of a session of which the candidate is a member
+-- after the row of a session that the candidate is a member of
 pub member_turn : (office : State) (c : ℕ) (held : Code × Session) (own : OwnSession) (rows rest : List (Code × Session)) (before after : List OwnSession) (whole : List OwnSessionRow)
     → is_member office.relations held.0 c ≡ true → option_map session_without_desk (own_session office c held) ≡ Some (shown_session own) → rows ≡ held ∷ rest → after ≡ before ++ own ∷ []
     → map shown_session before ++ sessions_left office c rows ≡ whole → map shown_session after ++ sessions_left office c rest ≡ whole
@@ -69,7 +69,7 @@ member_turn office c held own rows rest before after whole member shows split pu
     (ap (map shown_session) pushed ∙ map-append shown_session before (own ∷ []))
     (ap (λ t. map shown_session before ++ t) (sym first ∙ ap (sessions_left office c) (sym split)) ∙ so_far)
 
--- after a session of which the candidate is no member, or that does not exist
+-- after a session that the candidate is no member of, or that does not exist
 pub absent_turn : (office : State) (c : ℕ) (k : Code) (ks : List Code) (before whole : List OwnSessionRow)
     → (is_member office.relations k c ≡ false) ⊎ (row_at code_cmp office.relations.sessions k ≡ None)
     → before ++ sessions_left office c (rows_of office.relations (k ∷ ks)) ≡ whole → before ++ sessions_left office c (rows_of office.relations ks) ≡ whole

@@ -83,7 +83,7 @@ seat_at view i member =
     seat_in member (option_map (hall_of view) (plan_at view.plan i))
     (desk_number (seating_of view.problem) (ranks_before view.problem) (plan_at view.plan) i)
 
--- the seats of these members, the first of whom is the i-th
+-- the seats of these members; the first is member i
 abbrev pub seats_from : View → ℕ → List Member → List Seat
 seats_from view i [] = []
 seats_from view i (member ∷ rest) = seat_at view i member ∷ seats_from view (i + 1) rest

@@ -31,7 +31,7 @@ use std::collections::btree_map::Range;
 /// What the order of desks compares: the sitting paper, and then the number.
 type DeskKey = (Option<PaperCode>, Number);
 
-/// A session of which the candidate is a member, and their live papers in it, by code.
+/// A session that the candidate is a member of, and their live papers in it, by code.
 #[derive(Drop)]
 struct Membership<'a> {
     session: SessionCode,
@@ -146,7 +146,7 @@ fn show_desks(
     }
 }
 
-/// The sessions of which the candidate is a member, by code, but for the desks.
+/// The sessions that the candidate is a member of, by code, but for the desks.
 fn deskless_sessions(
     alloc: Global,
     facts: &Facts,

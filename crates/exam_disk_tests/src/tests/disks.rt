@@ -11,7 +11,7 @@ pub type Fused = Fuse<Memory>;
 /// More calls than a test makes.
 pub const UNLIMITED: u64 = 1_000_000;
 
-/// What was told of a step, and the files.
+/// The answer to a step, and the files after it.
 #[derive(Drop)]
 pub struct Left<D: Disk> {
     pub told: String,
@@ -79,7 +79,7 @@ fn taken_over<D: Disk + Drop>(
 pub struct Seen {
     /// The rows of all tables.
     pub rows: String,
-    /// What is told of a step that is taken then.
+    /// The answer to a step that is taken over them afterwards.
     pub again: String,
 }
 
@@ -152,7 +152,7 @@ fn blank(alloc: Global) -> Result<Files<Fused>, Fail> {
     Ok(Files { log, db })
 }
 
-/// Files with the bytes of others, of which the log or else the database fails after so many calls.
+/// Files with the bytes of others. Either the log or the database fails after so many calls.
 pub fn copied(
     alloc: Global,
     files: &Files<Fused>,

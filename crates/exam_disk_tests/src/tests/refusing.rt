@@ -1,4 +1,4 @@
-//! Each command over files of which a call and all later ones fail: it is carried out whole or not at all.
+//! Each command over files where a call and all later ones fail: the program carries it out whole or not at all.
 use super::disks::{
     Fused, Left, Seen, Unsynced, are_same, are_whole, copied, files_after, files_left, remains_of,
     same, seen_in, taken,
@@ -29,7 +29,7 @@ fn rows_of(alloc: Global, files: &Files<Fused>) -> Result<String, Fail> {
     Ok(taken(alloc, files, "tables", "")?.told)
 }
 
-/// The files after the step, which is told of as its text says.
+/// The files after the step, which answers as its text says.
 fn files_behind(
     alloc: Global,
     files: &Files<Fused>,
@@ -135,7 +135,7 @@ fn expect_each(
     Ok(())
 }
 
-/// Takes the step over files of which one fails after so many calls.
+/// Takes the step over files where one fails after so many calls.
 fn left_after(
     alloc: Global,
     course: &Course,
@@ -157,7 +157,7 @@ fn place_of(
     Ok(format!(in alloc; "{line}, log {is_of_log}, {calls} calls")?)
 }
 
-/// Takes the step over files of which one fails after so many calls, and looks at what is left in each of these ways.
+/// Takes the step over files where one fails after so many calls, and looks at what is left in each of these ways.
 /// Says whether no call failed.
 fn refuse_after(
     alloc: Global,
@@ -173,7 +173,7 @@ fn refuse_after(
     Ok(is_whole)
 }
 
-/// Takes the step over files of which one fails after 0, 1, 2 .. calls, until no call fails.
+/// Takes the step over files where one fails after 0, 1, 2 .. calls, until no call fails.
 fn refuse_each(
     alloc: Global,
     course: &Course,
@@ -321,7 +321,7 @@ number,paper
 > added 1 changed 0 same 0
 ";
 
-/// The same file again leaves the entry withdrawn.
+/// An import of the file again leaves the entry withdrawn.
 const LEFT: &str = "\
 $ withdraw 0000001 MA-1
 > withdrawn
@@ -377,7 +377,7 @@ $ decide 0000001 AR1 standing ok on 2027-05-22
 > decided granted hall B moved 0
 "#;
 
-/// Two sheets, of which the second is read from the files, and the view of a candidate.
+/// Two sheets, the second one read from the files, and the view of a candidate.
 const READ: &str = r#"$ door-list S1 A
 > DOOR LIST session S1 hall A
 date 2027-06-01 start 09:00 desks 1 seated 1

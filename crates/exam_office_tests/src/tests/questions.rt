@@ -19,7 +19,7 @@ fn text_of(alloc: Global, answer: &Result<Reply, Refusal>) -> Result<String, Fai
     }
 }
 
-/// Whether everybody whom the part seats sits in the same hall in the office.
+/// Whether everybody that the part seats sits in the same hall in the office.
 fn are_seated(office: &Office, part: &Part) -> bool {
     part.plans
         .iter()

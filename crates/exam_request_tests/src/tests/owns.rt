@@ -89,8 +89,8 @@ fn words(alloc: Global, text: &[u8]) -> Result<Reason, Fail> {
     Ok(Reason::parse(alloc, text)?.ok_or("reason")?)
 }
 
-/// The same candidate, with three appeals of which none is open: for an arrangement, once granted for later sessions
-/// too, for a paper, and against a hall.
+/// The candidate of `own_rows` with three appeals, none open: for an arrangement, once granted for later sessions too,
+/// for a paper, and against a hall.
 pub fn decided_rows(alloc: Global) -> Result<Own, Fail> {
     let mut own = own_rows(alloc, None, "")?;
     own.appeals = Vec::new(alloc);

@@ -81,7 +81,7 @@ fn masked_problem(alloc: Global, halls: usize, masks: &[Mask]) -> Result<Problem
     Problem::from_masks(alloc, desks, rows, ranks)
 }
 
-/// The same where each candidate has the same mask.
+/// A problem in which each hall has one desk and each candidate has this mask.
 fn equal_problem(
     alloc: Global,
     halls: usize,
@@ -137,7 +137,7 @@ fn put(
     Ok(())
 }
 
-/// The same for a list in which each is a number.
+/// Appends the word and the numbers.
 fn put_all(alloc: Global, told: &mut String, word: &str, numbers: &[usize]) -> Result<(), Fail> {
     told.push_str(word)?;
     for number in numbers {
@@ -313,7 +313,7 @@ fn seated_in(plan: usize) -> usize {
         .count()
 }
 
-/// How many the best of all plans seats, and whom some best plan leaves out.
+/// How many the best of all plans seats, and who is left out by some best plan.
 fn tried(desks: &[u32; 3], fits: &[[bool; 3]; 3]) -> (usize, [bool; 3]) {
     let mut most = 0;
     let mut left_out = [false; 3];
@@ -334,7 +334,7 @@ fn tried(desks: &[u32; 3], fits: &[[bool; 3]; 3]) -> (usize, [bool; 3]) {
     (most, left_out)
 }
 
-/// Whether the dead halls are those that fit a candidate whom some best plan of the candidates so far leaves out,
+/// Whether the dead halls are those that fit a candidate that some best plan of the candidates so far leaves out,
 /// once the first has had a turn, then the second, then the third: each turn's new halls rising.
 fn are_dead(desks: &[u32; 3], fits: &[[bool; 3]; 3], dead: &[usize]) -> bool {
     let mut so_far = [[false; 3]; 3];

@@ -99,7 +99,7 @@ fn bad_appeals_and_marks_are_found(rt: HostRuntime) -> Result<(), Fail> {
 }
 
 /// A plan without a seat that a sweep would give, a seat for nobody, two seats at one desk, a hall that does not fit;
-/// and several bad tables, the first of which is found.
+/// and several bad tables; the check finds the first.
 const SEATS: &str = "\
 bad seat: DELETE FROM seat WHERE number = 1
 bad seat: INSERT INTO seat VALUES ('S1', 3, 'B')

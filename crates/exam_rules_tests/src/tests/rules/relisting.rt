@@ -51,7 +51,7 @@ fn relist_and_back(
     Ok(())
 }
 
-/// The same, and the list is then as it was before.
+/// Lists the candidate again, puts the list back, and expects the list as it was before.
 fn relist_unseen(
     alloc: Global,
     facts: &Facts,

@@ -146,7 +146,7 @@ fn who_fits_no_hall_is_short_beside_who_finds_no_desk(rt: HostRuntime) -> Result
     play(&rt, &[TWO_ARE_SHORT])
 }
 
-/// Three halls, of which any two have a feature in common.
+/// Three halls; any two have a feature in common.
 const THREE_HALLS: &str = "\
 $ import halls f
 hall,title,features

@@ -100,7 +100,7 @@ fn followed(
     Ok(print_after(alloc, store, slice::from_ref(order), asked.as_slice(), out)?)
 }
 
-/// Follows an order, compares what becomes of it, and returns the door list; nothing if it is refused.
+/// Follows an order, compares its outcome, and returns the door list; nothing if it is refused.
 fn expect(
     alloc: Global,
     store: &mut Store<MemStore>,

@@ -124,7 +124,7 @@ INSERT INTO appeal VALUES (1, 'R1', 'S1', 3, '', 1, 0, '', 4, NULL, '2027-05-01'
 INSERT INTO appeal VALUES (1, 'R1', 'S1', 2, 'MA-1', 0, 0, '', 5, 'Yes', '2027-05-01')
 ";
 
-/// The same appeal under another reference.
+/// Copies each appeal under another reference.
 const AGAIN: &str = "\
 INSERT INTO appeal
 SELECT number, 'R2', session, kind, target, needs, extra, reason, state, answer, '2027-05-02' FROM appeal";
