@@ -1,5 +1,7 @@
 -- Counting the distinct rows of an import, row by row.
-use Rattle.std.proofs.Common.{◌≡◌, ℕ, suc, ◌+◌, ◌<◌, ◌≤◌, ◌||◌, ◌&&◌, not, Bool, true, false, cond, List, [], ◌∷◌, ◌++◌, length, filter, Option, None, is_none, nat_eq, get_or, take, drop, Some, eq-eqb, refl, ap, sym, ◌∙◌, arith, add-one, drop-cons}
+use Rattle.std.proofs.Common.{◌≡◌, ℕ, suc, ◌+◌, ◌<◌, ◌≤◌, ◌||◌, ◌&&◌, not, Bool, true, false, cond, List, [], ◌∷◌, ◌++◌}
+use Rattle.std.proofs.Common.{length, filter, Option, None, is_none, nat_eq, get_or, take, drop, Some, eq-eqb, refl, ap}
+use Rattle.std.proofs.Common.{sym, ◌∙◌, arith, add-one, drop-cons}
 use Rattle.std.proofs.Math.ListN.{drop_of_length-le}
 use Rattle.std.proofs.Math.Seq.{take-suc}
 use Rattle.std.proofs.lemmas.List.{length-take-le, take-append-drop}
@@ -62,7 +64,10 @@ module _ (before : List Row) (row : Row) (rest : List Row) where
   -- a row with a new key
   pub count_fresh : (p : Row → Bool) (n m all : ℕ) → is_fresh before row ≡ true → n + length (filter p (left before (row ∷ rest))) ≡ all → m ≡ n + cond (p row) 1 0
       → m + length (filter p (left (before ++ row ∷ []) rest)) ≡ all
-  count_fresh p n m all fresh so_far step = inner (p row) (sym (ap (λ rows. n + length (filter p rows)) (left_more ∙ ap (λ b. cond b (row ∷ left (before ++ row ∷ []) rest) (left (before ++ row ∷ []) rest)) fresh)) ∙ so_far) step
+  count_fresh p n m all fresh so_far step =
+      inner (p row) (sym (ap (λ rows. n + length (filter p rows))
+      (left_more ∙ ap (λ b. cond b (row ∷ left (before ++ row ∷ []) rest) (left (before ++ row ∷ []) rest)) fresh))
+      ∙ so_far) step
     where
       inner : (b : Bool) → n + length (cond b (row ∷ filter p (left (before ++ row ∷ []) rest)) (filter p (left (before ++ row ∷ []) rest))) ≡ all → m ≡ n + cond b 1 0
           → m + length (filter p (left (before ++ row ∷ []) rest)) ≡ all
@@ -70,7 +75,9 @@ module _ (before : List Row) (row : Row) (rest : List Row) where
       inner false e f = omega arith
 
   -- a row with an earlier one's key
-  pub count_repeated : (p : Row → Bool) (n all : ℕ) → is_fresh before row ≡ false → n + length (filter p (left before (row ∷ rest))) ≡ all → n + length (filter p (left (before ++ row ∷ []) rest)) ≡ all
+  pub count_repeated : (p : Row → Bool) (n all : ℕ) → is_fresh before row ≡ false
+      → n + length (filter p (left before (row ∷ rest))) ≡ all
+      → n + length (filter p (left (before ++ row ∷ []) rest)) ≡ all
   count_repeated p n all old so_far = sym (ap (λ rows. n + length (filter p rows)) (left_more ∙ ap (λ b. cond b (row ∷ left (before ++ row ∷ []) rest) (left (before ++ row ∷ []) rest)) old)) ∙ so_far
 
 -- the first place with a key is the row's own if no row before has the key
@@ -129,7 +136,9 @@ module _ (r : Relations) (rows : List Row) (place : ℕ) (counts : Counts) (row 
   split : (p : Row → Bool) (n all : ℕ) → n + length (filter p (left (take place rows) (drop place rows))) ≡ all → n + length (filter p (left (take place rows) (row ∷ drop (place + 1) rows))) ≡ all
   split p n all e = ap (λ rest. n + length (filter p (left (take place rows) rest))) (sym (drop_here place rows row here is)) ∙ e
 
-  join : (p : Row → Bool) (n all : ℕ) → n + length (filter p (left (take place rows ++ row ∷ []) (drop (place + 1) rows))) ≡ all → n + length (filter p (left (take (place + 1) rows) (drop (place + 1) rows))) ≡ all
+  join : (p : Row → Bool) (n all : ℕ)
+      → n + length (filter p (left (take place rows ++ row ∷ []) (drop (place + 1) rows))) ≡ all
+      → n + length (filter p (left (take (place + 1) rows) (drop (place + 1) rows))) ≡ all
   join p n all e = ap (λ before. n + length (filter p (left before (drop (place + 1) rows)))) (take_here place rows row here is) ∙ e
 
   pub counted_repeated : is_fresh (take place rows) row ≡ false → AreCounted r rows place counts → AreCounted r rows (place + 1) counts

@@ -148,7 +148,9 @@ module _ {K X : Type 0} (cmp : K → K → Ordering) (total : IsTotalOrder cmp) 
       either true o = refl
       either false o = refl
 
-      inner : (b : Bool) → is_at (cmp q) e.0 ≡ b → cond (has_row cmp es q) (row_at cmp old q) (cond b (row_at cmp old e.0) (row_at cmp rows q)) ≡ cond (is_some (cond b (Some e.1) (row_at cmp es q))) (row_at cmp old q) (row_at cmp rows q)
+      inner : (b : Bool) → is_at (cmp q) e.0 ≡ b
+          → cond (has_row cmp es q) (row_at cmp old q) (cond b (row_at cmp old e.0) (row_at cmp rows q))
+          ≡ cond (is_some (cond b (Some e.1) (row_at cmp es q))) (row_at cmp old q) (row_at cmp rows q)
       inner true at = ap (λ k. cond (has_row cmp es q) (row_at cmp old q) (row_at cmp old k)) (sym (same_key cmp exact e.0 q at)) ∙ either (has_row cmp es q) (row_at cmp old q)
       inner false away = refl
 
@@ -160,7 +162,9 @@ module _ {K X : Type 0} (cmp : K → K → Ordering) (total : IsTotalOrder cmp) 
       inner true = up
       inner false = removed_rises rows e.0 up
 
-  pub without_old_at : (old new rows : List (K × X)) (q : K) → KeysRise cmp rows → row_at cmp (without_old cmp rows old new) q ≡ cond (has_row cmp old q && not (has_row cmp new q)) None (row_at cmp rows q)
+  pub without_old_at : (old new rows : List (K × X)) (q : K) → KeysRise cmp rows
+      → row_at cmp (without_old cmp rows old new) q
+      ≡ cond (has_row cmp old q && not (has_row cmp new q)) None (row_at cmp rows q)
   without_old_at [] new rows q up = refl
   without_old_at (e ∷ es) new rows q up =
       without_old_at es new (next (has_row cmp new e.0)) q (rises (has_row cmp new e.0))
@@ -197,7 +201,8 @@ module _ {K X : Type 0} (cmp : K → K → Ordering) (total : IsTotalOrder cmp) 
       → ((q : K) → has_row cmp new q ≡ true → row_at cmp old q ≡ row_at cmp rows q)
       → ((q : K) → has_row cmp new q ≡ false → row_at cmp changed q ≡ row_at cmp rows q) → taken_back cmp changed old new ≡ rows
   back_again old new rows changed up up_changed was elsewhere =
-      same_rows cmp total exact (taken_back cmp changed old new) rows (taken_back_rises old new changed up_changed) up (λ q. taken_back_at old new changed q up_changed ∙ inner q (has_row cmp new q) refl)
+      same_rows cmp total exact (taken_back cmp changed old new) rows (taken_back_rises old new changed up_changed) up
+      (λ q. taken_back_at old new changed q up_changed ∙ inner q (has_row cmp new q) refl)
     where
       inner : (q : K) (b : Bool) → has_row cmp new q ≡ b → cond b (row_at cmp old q) (row_at cmp changed q) ≡ row_at cmp rows q
       inner q true here = was q here

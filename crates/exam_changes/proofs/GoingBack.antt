@@ -27,7 +27,8 @@ module _ {K X : Type 0} (cmp : K → K → Ordering) (total : IsTotalOrder cmp) 
   put_back_rises [] rows up = up
   put_back_rises (e ∷ es) rows up = put_back_rises es (set_row cmp rows e.0 e.1) (set_rises cmp total exact rows e.0 e.1 up)
 
-  pub put_back_at : (was : List (K × Option X)) (rows : List (K × X)) (q : K) → KeysRise cmp was → KeysRise cmp rows → row_at cmp (put_back cmp rows was) q ≡ or_row (row_at cmp was q) (row_at cmp rows q)
+  pub put_back_at : (was : List (K × Option X)) (rows : List (K × X)) (q : K) → KeysRise cmp was → KeysRise cmp rows
+      → row_at cmp (put_back cmp rows was) q ≡ or_row (row_at cmp was q) (row_at cmp rows q)
   put_back_at [] rows q up_was up = refl
   put_back_at (e ∷ es) rows q up_was up =
       put_back_at es (set_row cmp rows e.0 e.1) q (sorted_tail cmp e.0 (keys_of es) up_was) (set_rises cmp total exact rows e.0 e.1 up)
@@ -38,7 +39,8 @@ module _ {K X : Type 0} (cmp : K → K → Ordering) (total : IsTotalOrder cmp) 
       inner false away = refl
 
   -- past a row that is put back the later ones are there still
-  pub there_later : (e : K × Option X) (es : List (K × Option X)) (rows : List (K × X)) → KeysRise cmp (e ∷ es) → KeysRise cmp rows → HasRows cmp (e ∷ es) rows → HasRows cmp es (set_row cmp rows e.0 e.1)
+  pub there_later : (e : K × Option X) (es : List (K × Option X)) (rows : List (K × X)) → KeysRise cmp (e ∷ es)
+      → KeysRise cmp rows → HasRows cmp (e ∷ es) rows → HasRows cmp es (set_row cmp rows e.0 e.1)
   there_later e es rows up_was up there q has = ap is_some (set_at cmp total exact rows e.0 q e.1 up) ∙ inner (is_at (cmp q) e.0) refl
     where
       was : (b : Bool) → is_some (cond b (Some e.1) (row_at cmp es q)) ≡ true
@@ -88,7 +90,8 @@ module _ {K X : Type 0} (cmp : K → K → Ordering) (total : IsTotalOrder cmp) 
     changed_first new = record {
       there = λ q has. ap is_some (put_at cmp total exact rows k q x) ∙ there q (is_at (cmp q) k) (sym (ap is_some (put_at cmp total exact was k q (row_at cmp rows k))) ∙ has);
       back =
-          same_rows cmp total exact (put_back cmp (put_row cmp rows k x) (put_row cmp was k (row_at cmp rows k))) first (put_back_rises (put_row cmp was k (row_at cmp rows k)) (put_row cmp rows k x) up_put) up_first
+          same_rows cmp total exact (put_back cmp (put_row cmp rows k x) (put_row cmp was k (row_at cmp rows k))) first
+          (put_back_rises (put_row cmp was k (row_at cmp rows k)) (put_row cmp rows k x) up_put) up_first
           (λ q.
           put_back_at (put_row cmp was k (row_at cmp rows k)) (put_row cmp rows k x) q (put_rises cmp total was k (row_at cmp rows k) up_was) up_put
           ∙ ap (λ o. or_row o (row_at cmp (put_row cmp rows k x) q)) (put_at cmp total exact was k q (row_at cmp rows k))
@@ -118,7 +121,9 @@ module _ {K X : Type 0} (cmp : K → K → Ordering) (total : IsTotalOrder cmp) 
   pub set_again : (rows : List (K × X)) (k : K) (x : X) → KeysRise cmp rows → set_row cmp (put_row cmp rows k x) k (row_at cmp rows k) ≡ rows
   set_again rows k x up =
       same_rows cmp total exact (set_row cmp (put_row cmp rows k x) k (row_at cmp rows k)) rows (set_rises cmp total exact (put_row cmp rows k x) k (row_at cmp rows k) up_put) up
-      (λ q. set_at cmp total exact (put_row cmp rows k x) k q (row_at cmp rows k) up_put ∙ ap (cond (is_at (cmp q) k) (row_at cmp rows k)) (put_at cmp total exact rows k q x) ∙ at q (is_at (cmp q) k) refl)
+      (λ q. set_at cmp total exact (put_row cmp rows k x) k q (row_at cmp rows k) up_put
+      ∙ ap (cond (is_at (cmp q) k) (row_at cmp rows k)) (put_at cmp total exact rows k q x)
+      ∙ at q (is_at (cmp q) k) refl)
     where
       up_put : KeysRise cmp (put_row cmp rows k x)
       up_put = put_rises cmp total rows k x up

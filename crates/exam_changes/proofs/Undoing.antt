@@ -95,9 +95,12 @@ none_back kept r none = record {
 }
 
 -- table by table
-pub all_back : {kept : KeptRows} {t r : Relations} → GoBack code_cmp kept.sessions.entries t.sessions r.sessions → GoBack code_cmp kept.papers.entries t.papers r.papers → GoBack code_cmp kept.halls.entries t.halls r.halls
+pub all_back : {kept : KeptRows} {t r : Relations} → GoBack code_cmp kept.sessions.entries t.sessions r.sessions
+    → GoBack code_cmp kept.papers.entries t.papers r.papers → GoBack code_cmp kept.halls.entries t.halls r.halls
     → GoBack opening_cmp kept.openings.entries t.openings r.openings → GoBack nat_cmp kept.candidates.entries t.candidates r.candidates → GoBack entry_cmp kept.entries.entries t.entries r.entries
-    → GoBack nat_cmp kept.arrangements.entries t.arrangements r.arrangements → GoBack appeal_cmp kept.appeals.entries t.appeals r.appeals → GoBack appeal_cmp kept.standing.entries t.standing r.standing
+    → GoBack nat_cmp kept.arrangements.entries t.arrangements r.arrangements
+    → GoBack appeal_cmp kept.appeals.entries t.appeals r.appeals
+    → GoBack appeal_cmp kept.standing.entries t.standing r.standing
     → RowsGoBack kept t r
 all_back sessions papers halls openings candidates entries arrangements appeals standing = record {
   sessions = sessions;

@@ -53,7 +53,8 @@ none_first found first = first
 
 -- The first of the bad table that is found among what was read, and of the first that could not be read, is the first
 -- bad one of the tables.
-pub first_in : (all : Trees) (o : State) (bad unread found : Option Table) (n : ℕ) (ts : List Table) → ArePlaced n ts → AreRead all o ts None unread → IsFirstBadOf o ts bad → IsFirstOf bad unread found → IsFirstBadIn all o ts found
+pub first_in : (all : Trees) (o : State) (bad unread found : Option Table) (n : ℕ) (ts : List Table) → ArePlaced n ts
+    → AreRead all o ts None unread → IsFirstBadOf o ts bad → IsFirstOf bad unread found → IsFirstBadIn all o ts found
 first_in all o bad unread found n [] placed read is first = none_first found (subst (λ b. IsFirstOf b None found) is (subst (λ u. IsFirstOf bad u found) read first))
 first_in all o bad unread found n (t ∷ ts) placed (mid, inr (none, same), more) is first =
     let noted : unread ≡ Some t = stays all o t ts unread (subst (λ m. AreRead all o ts m unread) same more) in

@@ -30,7 +30,9 @@ in_load_order db version (session, (paper, (hall, (opening, (candidate, (entry, 
 
 -- a table that was read, or that is noted since its rows are those of no entries, and so of no office
 pub noted_as : {K X : Type 0} (form : Form K X) (t : OfficeTable) (all : Trees) (rows : Option (BTreeMap K X)) (made : BTreeMap K X) (before after : Option OfficeTable) {HoldsNone : Type 0}
-    → MatchOption rows (after ≡ Some (first_unread before t)) (λ table. (made ≡ table) × (after ≡ before)) → (read_part form.cmp form).Has rows all → (((entries : List (K × X)) → HasTable form entries all → ⊥) → HoldsNone)
+    → MatchOption rows (after ≡ Some (first_unread before t)) (λ table. (made ≡ table) × (after ≡ before))
+    → (read_part form.cmp form).Has rows all
+    → (((entries : List (K × X)) → HasTable form entries all → ⊥) → HoldsNone)
     → IsReadAs t before after (HasTable form made.entries all) HoldsNone
 noted_as {K} {X} form t all None made before after told is none = inr (none is, told)
 noted_as {K} {X} form t all (Some table) made before after told is none = inl (subst (λ (m : BTreeMap K X). HasTable form m.entries all) (sym told.0) is, told.1)

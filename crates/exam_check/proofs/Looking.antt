@@ -25,7 +25,8 @@ use Rattle.exam_check.specs.Refused.{FailsToCheck}
 
 -- a call that reads, after one that succeeded
 
-fails_later : {S : Type 0} (g : Ghosts S) (old mid new : Held S) → IsUnchanged (state g old) (state g mid) → (e : Refusal) → (e ≡ BadStore) ⊎ FailsToCheck g mid new e → (e ≡ BadStore) ⊎ FailsToCheck g old new e
+fails_later : {S : Type 0} (g : Ghosts S) (old mid new : Held S) → IsUnchanged (state g old) (state g mid)
+    → (e : Refusal) → (e ≡ BadStore) ⊎ FailsToCheck g mid new e → (e ≡ BadStore) ⊎ FailsToCheck g old new e
 fails_later g old mid new same e (inl bad) = inl bad
 fails_later g old mid new same e (inr (inl lacks)) = inr (inl lacks)
 fails_later g old mid new same e (inr (inr (inl ((at, still, text, loads, fails), store)))) =
@@ -75,14 +76,16 @@ one_of _ told = absurd cc
 
 module _ {S : Type 0} (g : Ghosts S) (old new : Held S) where
   -- why a query fails that is refused as a failure
-  fails_as : (text : List ℕ) → lists.Contains load_texts text → (e : Refusal) → Told text (state g old) (state g new) e → (e ≡ BadStore) ⊎ ((e ≡ NoMemory) ⊎ (e ≡ Store)) → (e ≡ BadStore) ⊎ FailsToCheck g old new e
+  fails_as : (text : List ℕ) → lists.Contains load_texts text → (e : Refusal) → Told text (state g old) (state g new) e
+      → (e ≡ BadStore) ⊎ ((e ≡ NoMemory) ⊎ (e ≡ Store)) → (e ≡ BadStore) ⊎ FailsToCheck g old new e
   fails_as text loads e told (inl bad) = inl bad
   fails_as text loads e told (inr (inl lacks)) = inr (inl lacks)
   fails_as text loads e told (inr (inr store)) =
       inr (inr (inl ((old, still_itself (state g old), text, loads, (told, λ there bad. let same : Store ≡ BadStore = sym store ∙ bad in absurd cc)), store)))
 
   -- the query that shows a table
-  pub query_looks : {A : Type 0} (text : List ℕ) (Holds : Database → Trees → Type 0) (result : Result A Refusal) → lists.Contains load_texts text → ((db : Database) (all : Trees) → Contains db all → Holds db all)
+  pub query_looks : {A : Type 0} (text : List ℕ) (Holds : Database → Trees → Type 0) (result : Result A Refusal)
+      → lists.Contains load_texts text → ((db : Database) (all : Trees) → Contains db all → Holds db all)
       → (HasCleanDisk (state g new) → HasCleanDisk (state g old)) → Survives (state g old) (state g new) (λ _. ⊥) → (HasCleanDisk (state g new) → OnlyReads (state g old) (state g new) result)
       → (HasCleanDisk (state g new) → IfErr result (FailsToLoadFrom Holds text (state g old) (state g new))) → IfErr result (λ e. IsTrue (is_store_refusal e)) → Looks g old new result
   query_looks text Holds result loads newest early survives left failed told = record {
@@ -99,20 +102,30 @@ module _ {S : Type 0} (g : Ghosts S) (old new : Held S) where
       both (Ok x) f p q = tt
       both (Err e) f p q = f e p q
 
-  no_version : (e : Refusal) → IsLoadRefusal (FailsToLoad load_office (state g old) (state g new)) ((all : Trees) → ContainsMade (state g old).now all → (v : ℕ) → IsVersion v → HasVersion v all → ⊥) e → e ≡ BadStore → (all : Trees) → HasGoodVersion (state g old).now all → ⊥
+  no_version : (e : Refusal)
+      → IsLoadRefusal (FailsToLoad load_office (state g old) (state g new))
+      ((all : Trees) → ContainsMade (state g old).now all → (v : ℕ) → IsVersion v → HasVersion v all → ⊥) e
+      → e ≡ BadStore → (all : Trees) → HasGoodVersion (state g old).now all → ⊥
   no_version e (inl lacks) bad all good = let same : NoMemory ≡ BadStore = sym lacks ∙ bad in absurd cc
   no_version e (inr (inl fails)) bad all good = fails.1 (all, made_of version (state g old).now all good.0) bad
   no_version e (inr (inr (is, none))) bad all good = none all (made_of version (state g old).now all good.0) version (inr refl) good.1
 
-  unread_version : (e : Refusal) → IsLoadRefusal (FailsToLoad load_office (state g old) (state g new)) ((all : Trees) → ContainsMade (state g old).now all → (v : ℕ) → IsVersion v → HasVersion v all → ⊥) e → IsTrue (is_store_refusal e) → (e ≡ BadStore) ⊎ FailsToCheck g old new e
+  unread_version : (e : Refusal)
+      → IsLoadRefusal (FailsToLoad load_office (state g old) (state g new))
+      ((all : Trees) → ContainsMade (state g old).now all → (v : ℕ) → IsVersion v → HasVersion v all → ⊥) e
+      → IsTrue (is_store_refusal e) → (e ≡ BadStore) ⊎ FailsToCheck g old new e
   unread_version e (inl lacks) named = inr (inl lacks)
   unread_version e (inr (inl fails)) named = fails_as load_office office_loads e fails.0 (one_of e named)
   unread_version e (inr (inr (is, none))) named = inl is
 
   -- the version that could not be read
-  pub version_looks : {A : Type 0} (e : Refusal) → (HasCleanDisk (state g new) → HasCleanDisk (state g old)) → Survives (state g old) (state g new) (λ _. ⊥) → (HasCleanDisk (state g new) → OnlyReads {A = A} (state g old) (state g new) (Err e))
+  pub version_looks : {A : Type 0} (e : Refusal) → (HasCleanDisk (state g new) → HasCleanDisk (state g old))
+      → Survives (state g old) (state g new) (λ _. ⊥)
+      → (HasCleanDisk (state g new) → OnlyReads {A = A} (state g old) (state g new) (Err e))
       → (HasCleanDisk (state g new) → e ≡ BadStore → IsUnchanged (state g old) (state g new))
-      → (HasCleanDisk (state g new) → IsLoadRefusal (FailsToLoad load_office (state g old) (state g new)) ((all : Trees) → ContainsMade (state g old).now all → (v : ℕ) → IsVersion v → HasVersion v all → ⊥) e)
+      → (HasCleanDisk (state g new)
+      → IsLoadRefusal (FailsToLoad load_office (state g old) (state g new))
+      ((all : Trees) → ContainsMade (state g old).now all → (v : ℕ) → IsVersion v → HasVersion v all → ⊥) e)
       → IsTrue (is_store_refusal e) → Looks {A = A} g old new (Err e)
   version_looks e early survives left unchanged none told = record {
     early = early;
@@ -124,11 +137,15 @@ module _ {S : Type 0} (g : Ghosts S) (old new : Held S) where
   }
 
   -- what was read
-  pub looks_ok : {A : Type 0} (x : A) → (HasCleanDisk (state g new) → HasCleanDisk (state g old)) → Survives (state g old) (state g new) (λ _. ⊥) → (HasCleanDisk (state g new) → IsUnchanged (state g old) (state g new)) → Looks {A = A} g old new (Ok x)
+  pub looks_ok : {A : Type 0} (x : A) → (HasCleanDisk (state g new) → HasCleanDisk (state g old))
+      → Survives (state g old) (state g new) (λ _. ⊥)
+      → (HasCleanDisk (state g new) → IsUnchanged (state g old) (state g new)) → Looks {A = A} g old new (Ok x)
   looks_ok x early survives left = record { early = early; survives = survives; left = left; bad = λ clean. tt; refused = λ clean. tt; told = tt }
 
   -- the office of an older version
-  pub looks_old : {A : Type 0} → (HasCleanDisk (state g new) → HasCleanDisk (state g old)) → Survives (state g old) (state g new) (λ _. ⊥) → (HasCleanDisk (state g new) → IsUnchanged (state g old) (state g new))
+  pub looks_old : {A : Type 0} → (HasCleanDisk (state g new) → HasCleanDisk (state g old))
+      → Survives (state g old) (state g new) (λ _. ⊥)
+      → (HasCleanDisk (state g new) → IsUnchanged (state g old) (state g new))
       → (HasCleanDisk (state g new) → (all : Trees) → ContainsMade (state g old).now all → (v : ℕ) × IsOlder v × HasVersion v all) → Looks {A = A} g old new (Err OldSchema)
   looks_old early survives left first = record {
     early = early;

@@ -17,7 +17,9 @@ use Rattle.exam_rules.specs.declared.rows.Paper.{Paper}
 use Rattle.exam_rules.specs.declared.rows.Session.{Session}
 use Rattle.exam_rules.specs.declared.rows.Subject.{Subject}
 use Rattle.exam_rules.specs.Relations.{Code, Relations, code_cmp, entry_cmp, opening_cmp, has_row, row_at, same_code}
-use Rattle.exam_rules.specs.Sessions.{arrangement_in_force, asked_hall, asked_paper, granted_subjects, has_live_entry, head_of, is_live, is_live_entry, is_live_paper, is_paper_of, least_live_paper, live_papers, members, option_filter, sitting, sitting_row}
+use Rattle.exam_rules.specs.Sessions.{arrangement_in_force, asked_hall, asked_paper, granted_subjects, has_live_entry}
+use Rattle.exam_rules.specs.Sessions.{head_of, is_live, is_live_entry, is_live_paper, is_paper_of, least_live_paper}
+use Rattle.exam_rules.specs.Sessions.{live_papers, members, option_filter, sitting, sitting_row}
 use Rattle.exam_rules.specs.Seatings.{desks, fits, opened_room, room_of, seating, suits_opened, terms_of}
 use Rattle.exam_commands.specs.Steps.{SameSeating}
 use Rattle.exam_commands.proofs.Keeping.{filtered}

@@ -86,7 +86,8 @@ unknown_fits r s unknown c h = none (has_live_entry r s c) (not (list_any (same_
     none true b t e = ap (λ t. suits_opened t (opened_room r s h) && b) e
     none false b t e = refl
 
-pub unknown_repaired : (r : Relations) (first : Option ℕ) (before after : Seats) (s : Code) → has_row code_cmp r.sessions s ≡ false → ((c : ℕ) → plan_of after s c ≡ None) → IsRepaired r first before after s
+pub unknown_repaired : (r : Relations) (first : Option ℕ) (before after : Seats) (s : Code)
+    → has_row code_cmp r.sessions s ≡ false → ((c : ℕ) → plan_of after s c ≡ None) → IsRepaired r first before after s
 unknown_repaired r first before after s unknown none =
     let same : (λ c. None) ≡ plan_of after s = sym (fun_ext none) in
     record {

@@ -36,6 +36,7 @@ module _ (c : ℕ) (s : Code) (asked : Subject) where
 
 -- the earlier grants with a mark are among the candidate's own appeals
 pub marked_among : (r : Relations) (c : ℕ) (s : Code) (asked : Subject) (rows : List ((ℕ × Code) × Appeal))
-    → list_any (λ (e : (ℕ × Code) × Appeal). is_earlier c s asked e && is_marked r e.0) (filter (is_row_of c) rows) ≡ list_any (λ (e : (ℕ × Code) × Appeal). is_earlier c s asked e && is_marked r e.0) rows
+    → list_any (λ (e : (ℕ × Code) × Appeal). is_earlier c s asked e && is_marked r e.0) (filter (is_row_of c) rows)
+    ≡ list_any (λ (e : (ℕ × Code) × Appeal). is_earlier c s asked e && is_marked r e.0) rows
 marked_among r c s asked = any_among (λ (e : (ℕ × Code) × Appeal). is_earlier c s asked e && is_marked r e.0) (is_row_of c)
     (λ a away. ap (λ b. ((b && (same_code a.1.session s && supersedes asked a.1.subject)) && is_granted a.1.status) && is_marked r a.0) away)

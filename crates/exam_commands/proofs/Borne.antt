@@ -129,6 +129,7 @@ pub removed_mark : (marks : Borne) (k : ℕ × Code) → KeysRise appeal_cmp mar
 removed_mark [] k up = refl
 removed_mark (m ∷ ms) k up = inner (is_at (appeal_cmp k) m.0) refl (removed_mark ms k (sorted_tail appeal_cmp m.0 (keys_of ms) up))
   where
-    inner : (b : Bool) → is_at (appeal_cmp k) m.0 ≡ b → remove_row appeal_cmp ms k ≡ without_mark k ms → cond b ms (m ∷ remove_row appeal_cmp ms k) ≡ cond (not b) (m ∷ without_mark k ms) (without_mark k ms)
+    inner : (b : Bool) → is_at (appeal_cmp k) m.0 ≡ b → remove_row appeal_cmp ms k ≡ without_mark k ms
+        → cond b ms (m ∷ remove_row appeal_cmp ms k) ≡ cond (not b) (m ∷ without_mark k ms) (without_mark k ms)
     inner true at rest = sym (unmarked_same ms k (ap is_some (past_all appeal_cmp appeals_total m.0 k ms ((Equal-is (appeal_cmp k m.0)).0 at) (sorted_head appeal_cmp m.0 (keys_of ms) up))))
     inner false at rest = ap (λ t. m ∷ t) rest

@@ -28,7 +28,9 @@ pub conflicts-none : (row : Row) (rows : List Row) → find (has_key (key_of row
 conflicts-none row [] e = refl
 conflicts-none row (r ∷ rows) e = step (has_key (key_of row) r) (conflicts-none row rows) e
   where
-    step : (b : Bool) → (find (has_key (key_of row)) rows ≡ None → conflicts row rows ≡ false) → cond b (Some r) (find (has_key (key_of row)) rows) ≡ None → ((b && not (same_row r row)) || conflicts row rows) ≡ false
+    step : (b : Bool) → (find (has_key (key_of row)) rows ≡ None → conflicts row rows ≡ false)
+        → cond b (Some r) (find (has_key (key_of row)) rows) ≡ None
+        → ((b && not (same_row r row)) || conflicts row rows) ≡ false
     step true more e = cc e
     step false more e = more e
 
@@ -36,7 +38,9 @@ pub conflicts-other : (row first : Row) (rows : List Row) → find (has_key (key
 conflicts-other row first [] e other = cc e
 conflicts-other row first (r ∷ rows) e other = step (has_key (key_of row) r) (λ h. conflicts-other row first rows h other) e
   where
-    step : (b : Bool) → (find (has_key (key_of row)) rows ≡ Some first → conflicts row rows ≡ true) → cond b (Some r) (find (has_key (key_of row)) rows) ≡ Some first → ((b && not (same_row r row)) || conflicts row rows) ≡ true
+    step : (b : Bool) → (find (has_key (key_of row)) rows ≡ Some first → conflicts row rows ≡ true)
+        → cond b (Some r) (find (has_key (key_of row)) rows) ≡ Some first
+        → ((b && not (same_row r row)) || conflicts row rows) ≡ true
     step true more e = let same : first ≡ r = cc in let differs : same_row r row ≡ false = subst (λ x. same_row x row ≡ false) same other in rw differs refl
     step false more e = more e
 
@@ -48,7 +52,9 @@ pub conflicts-same : (row first : Row) (rows : List Row) → is_consistent rows 
 conflicts-same row first [] good e same = cc e
 conflicts-same row first (r ∷ rows) good e same = step (has_key (key_of row) r) (λ h. conflicts-same row first rows (and_parts _ _ good).1 h same) e
   where
-    step : (b : Bool) → (find (has_key (key_of row)) rows ≡ Some first → conflicts row rows ≡ false) → cond b (Some r) (find (has_key (key_of row)) rows) ≡ Some first → ((b && not (same_row r row)) || conflicts row rows) ≡ false
+    step : (b : Bool) → (find (has_key (key_of row)) rows ≡ Some first → conflicts row rows ≡ false)
+        → cond b (Some r) (find (has_key (key_of row)) rows) ≡ Some first
+        → ((b && not (same_row r row)) || conflicts row rows) ≡ false
     step true more e =
         let is_first : first ≡ r = cc in
         let equal : r ≡ row = subst (λ x. x ≡ row) is_first (row_exact first row same) in

@@ -40,7 +40,11 @@ sessions a b x y e =
     ∙ ap (λ (d : ℕ). row.OfSession b (record { day = d; start = x.start })) (numbers _ _ (and_parts _ _ r).0)
     ∙ ap (λ (t : ℕ). row.OfSession b (record { day = y.day; start = t })) (numbers _ _ (and_parts _ _ r).1)
 
-papers : (a b : List ℕ) (x y : Paper) → (pointwise nat_eq a b && (pointwise nat_eq x.title y.title && (pointwise nat_eq x.session y.session && (nat_eq x.minutes y.minutes && same_features x.required y.required)))) ≡ true
+papers : (a b : List ℕ) (x y : Paper)
+    → (pointwise nat_eq a b
+    && (pointwise nat_eq x.title y.title
+    && (pointwise nat_eq x.session y.session && (nat_eq x.minutes y.minutes && same_features x.required y.required))))
+    ≡ true
     → row.OfPaper a x ≡ row.OfPaper b y
 papers a b x y e =
     let r = (and_parts _ _ e).1 in

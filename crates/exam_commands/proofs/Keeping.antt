@@ -1,5 +1,7 @@
 -- Who stays if only one candidate's fits have changed: everybody else who was seated and is still a member.
-use Rattle.std.proofs.Common.{◌≡◌, ℕ, ◌<◌, ◌≤◌, ◌&&◌, ◌||◌, Bool, true, false, cond, List, [], ◌∷◌, filter, length, nat_eq, Contains, Option, None, Some, IsSome, IfSome, IsTrue, is_some, refl, ap, sym, subst, ◌∙◌, arith}
+use Rattle.std.proofs.Common.{◌≡◌, ℕ, ◌<◌, ◌≤◌, ◌&&◌, ◌||◌, Bool, true, false, cond, List, [], ◌∷◌, filter, length}
+use Rattle.std.proofs.Common.{nat_eq, Contains, Option, None, Some, IsSome, IfSome, IsTrue, is_some, refl, ap, sym}
+use Rattle.std.proofs.Common.{subst, ◌∙◌, arith}
 use Rattle.std.specs.List.{list_any}
 use Rattle.std.specs.Map.{keys_of}
 use Rattle.std.specs.Ordering.{nat_cmp, is_lt}
@@ -23,7 +25,9 @@ pub filtered : {A : Type 0} (m p : A → Bool) (xs : List A) → filter p (filte
 filtered m p [] = refl
 filtered m p (x ∷ xs) = inner (m x) (filtered m p xs)
   where
-    inner : (b : Bool) → filter p (filter m xs) ≡ filter (λ x. m x && p x) xs → filter p (cond b (x ∷ filter m xs) (filter m xs)) ≡ cond (b && p x) (x ∷ filter (λ x. m x && p x) xs) (filter (λ x. m x && p x) xs)
+    inner : (b : Bool) → filter p (filter m xs) ≡ filter (λ x. m x && p x) xs
+        → filter p (cond b (x ∷ filter m xs) (filter m xs))
+        ≡ cond (b && p x) (x ∷ filter (λ x. m x && p x) xs) (filter (λ x. m x && p x) xs)
     inner true rest = ap (λ ys. cond (p x) (x ∷ ys) ys) rest
     inner false rest = rest
 
@@ -81,7 +85,10 @@ module _ (r t : Relations) (s : Code) (d : ℕ) (same_candidates : t.candidates 
 
     lesser_sat : (c : ℕ) (h : Code) (e : ℕ) → (has_live_entry t s e && lesser c h e) ≡ true → (has_live_entry r s e && sits_at h e) ≡ true
     lesser_sat c h e both =
-        let at : is_hall (seating r s) h (plan e) ≡ true = sat e h (plan e) (and_parts (is_lt (nat_cmp e c)) (is_hall (seating t s) h (fitting_part (seating t s) plan e)) (and_parts (has_live_entry t s e) (lesser c h e) both).1).1 in
+        let at : is_hall (seating r s) h (plan e) ≡ true =
+        sat e h (plan e) (and_parts (is_lt (nat_cmp e c))
+        (is_hall (seating t s) h (fitting_part (seating t s) plan e))
+        (and_parts (has_live_entry t s e) (lesser c h e) both).1).1 in
         and_from (has_live_entry r s e) (sits_at h e) (listed_member r s e (lawful.members e (sits h (plan e) at))) at
 
     lesser_few : (c : ℕ) (h : Code) → plan c ≡ Some h → lesser_occupants (seating t s) (fitting_part (seating t s) plan) c h < length (occupants (seating r s) plan h)
@@ -92,7 +99,9 @@ module _ (r t : Relations) (s : Code) (d : ℕ) (same_candidates : t.candidates 
         let less = fewer (λ e. has_live_entry t s e && lesser c h e) (λ e. has_live_entry r s e && sits_at h e) (lesser_sat c h) c
         (and_right (has_live_entry t s c) (lesser c h c) itself) (and_from (has_live_entry r s c) (sits_at h c) (listed_member r s c member) here)
         (keys_of r.candidates) (listed_in (keys_of r.candidates) c (kept_from (has_live_entry r s) (keys_of r.candidates) c member)) in
-        let old : length (occupants (seating r s) plan h) ≡ length (filter (λ e. has_live_entry r s e && sits_at h e) (keys_of r.candidates)) = ap length (filtered (has_live_entry r s) (sits_at h) (keys_of r.candidates)) in
+        let old : length (occupants (seating r s) plan h)
+        ≡ length (filter (λ e. has_live_entry r s e && sits_at h e) (keys_of r.candidates)) =
+        ap length (filtered (has_live_entry r s) (sits_at h) (keys_of r.candidates)) in
         let new : lesser_occupants (seating t s) (fitting_part (seating t s) plan) c h ≡ length (filter (λ e. has_live_entry t s e && lesser c h e) (keys_of r.candidates)) =
         sym (length-filter (lesser c h) (members t s)) ∙ ap length (filtered (has_live_entry t s) (lesser c h) (keys_of t.candidates))
         ∙ ap (λ rows. length (filter (λ e. has_live_entry t s e && lesser c h e) (keys_of rows))) same_candidates in

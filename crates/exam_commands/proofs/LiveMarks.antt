@@ -16,7 +16,9 @@ use Rattle.exam_rules.specs.declared.rows.Entry.{Entry}
 use Rattle.exam_rules.specs.declared.rows.Session.{Session}
 use Rattle.exam_rules.specs.declared.rows.Paper.{Paper}
 use Rattle.exam_rules.specs.Relations.{Code, Relations, code_cmp, same_code, entry_cmp, row_at, put_row}
-use Rattle.exam_rules.specs.Sessions.{members, has_live_entry, is_live, is_live_entry, is_live_paper, is_paper_of, live_papers, granted_paper, head_of, option_filter, sitting, arrangement_in_force, barred_halls}
+use Rattle.exam_rules.specs.Sessions.{members, has_live_entry, is_live, is_live_entry, is_live_paper, is_paper_of}
+use Rattle.exam_rules.specs.Sessions.{live_papers, granted_paper, head_of, option_filter, sitting, arrangement_in_force}
+use Rattle.exam_rules.specs.Sessions.{barred_halls}
 use Rattle.exam_rules.specs.Seatings.{fits, suits_opened, terms_of, opened_room}
 use Rattle.exam_rules.proofs.Sitters.{members_sit}
 use Rattle.exam_commands.specs.Changes.{with_live}
@@ -107,7 +109,9 @@ module _ (r : Relations) (d : ℕ) (p : Code) (live : Bool) (s : Code) where
     -- whether a hall fits a member or not who sits this paper
     abbrev fits_with : Code → Bool → Option Code → Bool
     fits_with h member paper = member
-        && (suits_opened (option_and_then (λ (session : Session). option_map (λ (row : Paper). terms_of session row (arrangement_in_force r s c)) (option_and_then (row_at code_cmp r.papers) paper)) (row_at code_cmp r.sessions s)) (opened_room r s h)
+        && (suits_opened (option_and_then
+        (λ (session : Session). option_map (λ (row : Paper). terms_of session row (arrangement_in_force r s c))
+        (option_and_then (row_at code_cmp r.papers) paper)) (row_at code_cmp r.sessions s)) (opened_room r s h)
         && not (list_any (same_code h) (barred_halls r s c)))
 
     pub fits_same : (h : Code) → fits (with_live r d p live) s c h ≡ fits r s c h
@@ -125,7 +129,9 @@ module _ (r : Relations) (d : ℕ) (p : Code) where
   members_still_within : members_within r ≡ true → members_within (with_live r d p false) ≡ true
   members_still_within within =
       all_more (λ s. nat_le (length (members r s)) most_members) (λ s. nat_le (length (members (with_live r d p false) s)) most_members) (keys_of r.sessions)
-      (λ s most. let few = leb-true (length (members r s)) most_members most in let fewer = members_fewer s in le-leb (length (members (with_live r d p false) s)) most_members (omega (arith, few, fewer)))
+      (λ s most. let few = leb-true (length (members r s)) most_members most in let fewer =
+      members_fewer s in le-leb (length (members (with_live r d p false) s)) most_members
+      (omega (arith, few, fewer)))
       within
 
   -- it passes no limit

@@ -7,7 +7,9 @@ pub first_passed : (xs ys : List (Bool × Refusal)) → first_refusal xs ≡ Non
 first_passed [] ys ok = refl
 first_passed (x ∷ xs) ys ok = inner x.0 ok (first_passed xs ys)
   where
-    inner : (b : Bool) → cond b (Some x.1) (first_refusal xs) ≡ None → (first_refusal xs ≡ None → first_refusal (xs ++ ys) ≡ first_refusal ys) → cond b (Some x.1) (first_refusal (xs ++ ys)) ≡ first_refusal ys
+    inner : (b : Bool) → cond b (Some x.1) (first_refusal xs) ≡ None
+        → (first_refusal xs ≡ None → first_refusal (xs ++ ys) ≡ first_refusal ys)
+        → cond b (Some x.1) (first_refusal (xs ++ ys)) ≡ first_refusal ys
     inner true failed rest = absurd (let differ : Some x.1 ≡ None = failed in cc)
     inner false passed rest = rest passed
 

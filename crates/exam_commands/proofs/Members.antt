@@ -13,7 +13,10 @@ use Rattle.exam_rules.specs.declared.rows.Entry.{Entry}
 use Rattle.exam_rules.specs.declared.rows.Paper.{Paper}
 use Rattle.exam_rules.specs.declared.rows.Session.{Session}
 use Rattle.exam_rules.specs.Relations.{Code, Relations, code_cmp, same_code, row_at, has_row}
-use Rattle.exam_rules.specs.Sessions.{members, has_live_entry, sitting, finish, sitting_row, end_of, arrangement_in_force, is_paper_of, is_live, is_live_paper, is_live_entry, live_papers_in, granted_paper, least_live_paper, head_of, option_filter, clashes, clashes_of, clash_papers}
+use Rattle.exam_rules.specs.Sessions.{members, has_live_entry, sitting, finish, sitting_row, end_of}
+use Rattle.exam_rules.specs.Sessions.{arrangement_in_force, is_paper_of, is_live, is_live_paper, is_live_entry}
+use Rattle.exam_rules.specs.Sessions.{live_papers_in, granted_paper, least_live_paper, head_of, option_filter, clashes}
+use Rattle.exam_rules.specs.Sessions.{clashes_of, clash_papers}
 use Rattle.exam_rules.proofs.Sitters.{members_sit}
 
 none_some : {A : Type 0} (x : A) → None ≡ Some x → ⊥
@@ -36,7 +39,11 @@ module _ (r : Relations) (s : Code) where
   least_of c p [] e = absurd (none_some p e)
   least_of c p (entry ∷ es) e = inner (is_live_entry r s c entry) refl (least_of c p es) e
     where
-      inner : (b : Bool) → is_live_entry r s c entry ≡ b → (head_of (live_papers_in r es s c) ≡ Some p → is_paper_of r s p ≡ true) → head_of (map (λ (x : (ℕ × Code) × Entry). x.0.1) (cond b (entry ∷ filter (is_live_entry r s c) es) (filter (is_live_entry r s c) es))) ≡ Some p → is_paper_of r s p ≡ true
+      inner : (b : Bool) → is_live_entry r s c entry ≡ b
+          → (head_of (live_papers_in r es s c) ≡ Some p → is_paper_of r s p ≡ true)
+          → head_of (map (λ (x : (ℕ × Code) × Entry). x.0.1)
+          (cond b (entry ∷ filter (is_live_entry r s c) es) (filter (is_live_entry r s c) es))) ≡ Some p
+          → is_paper_of r s p ≡ true
       inner true live rest is =
           let same : entry.0.1 ≡ p = cc in
           ap (is_paper_of r s) (sym same) ∙ (and_parts entry.1.live (is_paper_of r s entry.0.1) (and_parts (entry.0.0 == c) (entry.1.live && is_paper_of r s entry.0.1) live).1).1
@@ -93,7 +100,10 @@ module _ (r : Relations) (s : Code) where
       row_there None is e = absurd (no_true e)
       row_there (Some p) is e = paper_row p (sitting_paper c p is)
 
-      with_session : (o : Option Session) → IsSome o → IsSome (option_and_then (λ (session : Session). option_map (λ (paper : Paper). end_of session paper (arrangement_in_force r s c)) (sitting_row r s c)) o)
+      with_session : (o : Option Session) → IsSome o
+          → IsSome (option_and_then
+          (λ (session : Session). option_map (λ (paper : Paper). end_of session paper (arrangement_in_force r s c))
+          (sitting_row r s c)) o)
       with_session None e = absurd (no_true e)
       with_session (Some session) e = with_paper session (sitting_row r s c) (row_there (sitting r s c) refl (member_sits c m))
 

@@ -52,7 +52,9 @@ module _ {K X : Type 0} (cmp : K → K → Ordering) (o : IsTotalOrder cmp) (q :
   count_replaced [] k v x up at = absurd (let no_row : None ≡ Some x = at in cc)
   count_replaced (e ∷ es) k v x up at = inner (cmp k e.0) refl (count_replaced es k v x (sorted_tail cmp e.0 (keys_of es) up))
     where
-      here : (b : Bool) → length (filter (λ (e : K × X). q e.0) es) ≡ length (filter (λ (e : K × X). q e.0) es) → length (cond b ((e.0, v) ∷ filter (λ (e : K × X). q e.0) es) (filter (λ (e : K × X). q e.0) es)) ≡ length (cond b (e ∷ filter (λ (e : K × X). q e.0) es) (filter (λ (e : K × X). q e.0) es))
+      here : (b : Bool) → length (filter (λ (e : K × X). q e.0) es) ≡ length (filter (λ (e : K × X). q e.0) es)
+          → length (cond b ((e.0, v) ∷ filter (λ (e : K × X). q e.0) es) (filter (λ (e : K × X). q e.0) es))
+          ≡ length (cond b (e ∷ filter (λ (e : K × X). q e.0) es) (filter (λ (e : K × X). q e.0) es))
       here true same = refl
       here false same = refl
 

@@ -80,7 +80,8 @@ module _ {A : Type 0} (same : A → A → Bool) where
 
 module _ {K X A : Type 0} (cmp : K → K → Ordering) (exact : CmpEqualImpliesEq cmp) (f : K × X → Option A) (same : A → A → Bool) where
   -- a row with another value
-  put_apart : (x : A) (rows : List (K × X)) (k : K) (v : X) → ((y : A) → f (k, v) ≡ Some y → same x y ≡ false) → IsApartFrom same x (filter_map f rows) → IsApartFrom same x (filter_map f (put_row cmp rows k v))
+  put_apart : (x : A) (rows : List (K × X)) (k : K) (v : X) → ((y : A) → f (k, v) ≡ Some y → same x y ≡ false)
+      → IsApartFrom same x (filter_map f rows) → IsApartFrom same x (filter_map f (put_row cmp rows k v))
   put_apart x [] k v other apart = apart_more same x (f (k, v)) [] other tt
   put_apart x (e ∷ es) k v other apart = inner (cmp k e.0) refl (put_apart x es k v other (apart_less same x (f e) (filter_map f es) apart))
     where
@@ -101,7 +102,10 @@ module _ {K X A : Type 0} (cmp : K → K → Ordering) (exact : CmpEqualImpliesE
             → IsDistinct same (filter_map f (match_ordering r ((k, v) ∷ e ∷ es) ((e.0, v) ∷ es) (e ∷ insert_entry cmp es k v)))
         inner Less is rest = distinct_more same (f (k, v)) (filter_map f (e ∷ es)) fresh distinct
         inner Equal is rest =
-            distinct_more same (f (e.0, v)) (filter_map f es) (λ y at. apart_less same y (f e) (filter_map f es) (fresh y (ap (λ q. f (q, v)) (exact k e.0 is) ∙ at))) (distinct_less same (f e) (filter_map f es) distinct)
+            distinct_more same (f (e.0, v)) (filter_map f es)
+            (λ y at. apart_less same y (f e) (filter_map f es)
+            (fresh y (ap (λ q. f (q, v)) (exact k e.0 is) ∙ at)))
+            (distinct_less same (f e) (filter_map f es) distinct)
         inner Greater is rest =
             distinct_more same (f e) (filter_map f (put_row cmp es k v))
             (λ z at. put_apart z es k v (λ y here. flips z y ∙ apart_here same y z (f e) (filter_map f es) at (fresh y here)) (distinct_here same (f e) (filter_map f es) distinct z at)) rest
@@ -133,12 +137,15 @@ module _ {R A : Type 0} (f : R → Option A) (same : A → A → Bool) (g : R �
         inner (inr kept) rest = distinct_more same (f (g d)) (filter_map f (map g ds)) (λ y at. apart_still y ds (distinct_here same (f d) (filter_map f ds) distinct y (sym kept ∙ at))) rest
 
 -- rows that pass are the same, if the others change among themselves
-pub mapped_filtered : {R : Type 0} (p : R → Bool) (g : R → R) → ((row : R) → p row ≡ true → g row ≡ row) → ((row : R) → p row ≡ false → p (g row) ≡ false) → (rows : List R) → filter p (map g rows) ≡ filter p rows
+pub mapped_filtered : {R : Type 0} (p : R → Bool) (g : R → R) → ((row : R) → p row ≡ true → g row ≡ row)
+    → ((row : R) → p row ≡ false → p (g row) ≡ false) → (rows : List R) → filter p (map g rows) ≡ filter p rows
 mapped_filtered p g kept out [] = refl
 mapped_filtered {R} p g kept out (d ∷ ds) = inner (p d) refl (mapped_filtered p g kept out ds)
   where
     inner : (b : Bool) → p d ≡ b → filter p (map g ds) ≡ filter p ds → cond (p (g d)) (g d ∷ filter p (map g ds)) (filter p (map g ds)) ≡ cond b (d ∷ filter p ds) (filter p ds)
-    inner true is rest = ap (λ (z : R). cond (p z) (z ∷ filter p (map g ds)) (filter p (map g ds))) (kept d is) ∙ ap (λ b. cond b (d ∷ filter p (map g ds)) (filter p (map g ds))) is ∙ ap (λ t. d ∷ t) rest
+    inner true is rest =
+        ap (λ (z : R). cond (p z) (z ∷ filter p (map g ds)) (filter p (map g ds))) (kept d is)
+        ∙ ap (λ b. cond b (d ∷ filter p (map g ds)) (filter p (map g ds))) is ∙ ap (λ t. d ∷ t) rest
     inner false is rest = ap (λ b. cond b (g d ∷ filter p (map g ds)) (filter p (map g ds))) (out d is) ∙ rest
 
 pub mapped_keys : {K X : Type 0} (g : K × X → K × X) → ((row : K × X) → (g row).0 ≡ row.0) → (rows : List (K × X)) → keys_of (map g rows) ≡ keys_of rows
@@ -183,4 +190,6 @@ module _ {K X : Type 0} (cmp : K → K → Ordering) (o : IsTotalOrder cmp) (p :
             ∙ ap (λ r. match_ordering r ((e.0, v) ∷ d ∷ ds) ((d.0, v) ∷ ds) (d ∷ insert_entry cmp ds e.0 v)) (sym (ap (λ (z : K × X). cmp z.0 d.0) (sym one) ∙ tied_itself o d.0))
         inner false away is rest =
             ap (λ z. z ∷ map g ds) (kept d away) ∙ ap (λ t. d ∷ t) (rest is now)
-            ∙ ap (λ r. match_ordering r ((e.0, v) ∷ d ∷ ds) ((d.0, v) ∷ ds) (d ∷ insert_entry cmp ds e.0 v)) (sym (o.antisymm e.0 d.0 ∙ ap ordering_reverse (found_above cmp o p d.0 e ds is (sorted_head cmp d.0 (keys_of ds) up))))
+            ∙ ap (λ r. match_ordering r ((e.0, v) ∷ d ∷ ds) ((d.0, v) ∷ ds) (d ∷ insert_entry cmp ds e.0 v))
+            (sym (o.antisymm e.0 d.0
+            ∙ ap ordering_reverse (found_above cmp o p d.0 e ds is (sorted_head cmp d.0 (keys_of ds) up))))

@@ -35,7 +35,9 @@ module _ {K X : Type 0} (cmp : K → K → Ordering) where
       kept true h = refl
       kept false h = h
 
-      later : (c : Bool) → is_some (cond c (Some e.1) (lookup (is_at (cmp q)) es)) ≡ true → (has_row cmp es q ≡ true → has_row cmp (put_row cmp es k v) q ≡ true) → is_some (cond c (Some e.1) (lookup (is_at (cmp q)) (insert_entry cmp es k v))) ≡ true
+      later : (c : Bool) → is_some (cond c (Some e.1) (lookup (is_at (cmp q)) es)) ≡ true
+          → (has_row cmp es q ≡ true → has_row cmp (put_row cmp es k v) q ≡ true)
+          → is_some (cond c (Some e.1) (lookup (is_at (cmp q)) (insert_entry cmp es k v))) ≡ true
       later true h rest = refl
       later false h rest = rest h
 
@@ -125,11 +127,21 @@ subject_more t u grows (subject.Arrangement a) e = refl
 refers_more : (t u r : Relations) → Grows t u → RefersIn t r → RefersIn u r
 refers_more t u r grows p = record {
   papers = all_more _ _ r.papers (λ x. grows.sessions x.1.session) p.papers;
-  openings = all_more _ _ r.openings (λ x. both_more (has_row code_cmp t.sessions x.0.0) (has_row code_cmp t.halls x.0.1) (has_row code_cmp u.sessions x.0.0) (has_row code_cmp u.halls x.0.1) (grows.sessions x.0.0) (grows.halls x.0.1)) p.openings;
-  entries = all_more _ _ r.entries (λ x. both_more (has_row nat_cmp t.candidates x.0.0) (has_row code_cmp t.papers x.0.1) (has_row nat_cmp u.candidates x.0.0) (has_row code_cmp u.papers x.0.1) (grows.candidates x.0.0) (grows.papers x.0.1)) p.entries;
+  openings = all_more _ _ r.openings
+      (λ x. both_more (has_row code_cmp t.sessions x.0.0) (has_row code_cmp t.halls x.0.1)
+      (has_row code_cmp u.sessions x.0.0) (has_row code_cmp u.halls x.0.1) (grows.sessions x.0.0) (grows.halls x.0.1))
+      p.openings;
+  entries = all_more _ _ r.entries
+      (λ x. both_more (has_row nat_cmp t.candidates x.0.0) (has_row code_cmp t.papers x.0.1)
+      (has_row nat_cmp u.candidates x.0.0) (has_row code_cmp u.papers x.0.1) (grows.candidates x.0.0)
+      (grows.papers x.0.1)) p.entries;
   arrangements = all_more _ _ r.arrangements (λ x. grows.candidates x.0) p.arrangements;
-  appeals = all_more _ _ r.appeals (λ x. both_more (has_row nat_cmp t.candidates x.0.0) (good.appeal_refers t x.1) (has_row nat_cmp u.candidates x.0.0) (good.appeal_refers u x.1) (grows.candidates x.0.0)
-      (both_more (has_row code_cmp t.sessions x.1.session) (good.subject_refers t x.1.subject) (has_row code_cmp u.sessions x.1.session) (good.subject_refers u x.1.subject) (grows.sessions x.1.session) (subject_more t u grows x.1.subject))) p.appeals;
+  appeals = all_more _ _ r.appeals
+      (λ x. both_more (has_row nat_cmp t.candidates x.0.0) (good.appeal_refers t x.1)
+      (has_row nat_cmp u.candidates x.0.0) (good.appeal_refers u x.1) (grows.candidates x.0.0)
+      (both_more (has_row code_cmp t.sessions x.1.session) (good.subject_refers t x.1.subject)
+      (has_row code_cmp u.sessions x.1.session) (good.subject_refers u x.1.subject) (grows.sessions x.1.session)
+      (subject_more t u grows x.1.subject))) p.appeals;
 }
 
 -- ---- a checked row
@@ -155,7 +167,14 @@ refers_row r0 r (row.OfSession s x) grows p ok =
 refers_row r0 r (row.OfPaper k x) grows p ok =
     let q = with_self r (with_row r (row.OfPaper k x)) (grows_row r (row.OfPaper k x)) p in
     let known : has_row code_cmp r0.sessions x.session ≡ true = there (has_row code_cmp r0.sessions x.session) refusal.UnknownSession [] ok in
-    record { papers = all_put code_cmp exact_bytes _ r.papers k x q.papers (grows.sessions x.session known); openings = q.openings; entries = q.entries; arrangements = q.arrangements; appeals = q.appeals }
+    record {
+      papers = all_put code_cmp exact_bytes _ r.papers k x q.papers (grows.sessions x.session known);
+      openings =
+          q.openings;
+      entries = q.entries;
+      arrangements = q.arrangements;
+      appeals = q.appeals;
+    }
 refers_row r0 r (row.OfHall h x) grows p ok =
     let q = with_self r (with_row r (row.OfHall h x)) (grows_row r (row.OfHall h x)) p in
     record { papers = q.papers; openings = q.openings; entries = q.entries; arrangements = q.arrangements; appeals = q.appeals }
@@ -166,7 +185,9 @@ refers_row r0 r (row.OfOpening s h x) grows p ok =
     let hall : has_row code_cmp r0.halls h ≡ true = there (has_row code_cmp r0.halls h) refusal.UnknownHall [] first.1 in
     record {
       papers = q.papers;
-      openings = all_put opening_cmp (exact_pairs code_cmp code_cmp exact_bytes exact_bytes) _ r.openings (s, h) x q.openings (and_from (has_row code_cmp r.sessions s) (has_row code_cmp r.halls h) (grows.sessions s session) (grows.halls h hall));
+      openings = all_put opening_cmp (exact_pairs code_cmp code_cmp exact_bytes exact_bytes) _ r.openings
+          (s, h) x q.openings (and_from (has_row code_cmp r.sessions s) (has_row code_cmp r.halls h)
+          (grows.sessions s session) (grows.halls h hall));
       entries = q.entries;
       arrangements = q.arrangements;
       appeals = q.appeals;
@@ -176,7 +197,9 @@ refers_row r0 r (row.OfCandidate c x) grows p ok =
     record { papers = q.papers; openings = q.openings; entries = q.entries; arrangements = q.arrangements; appeals = q.appeals }
 refers_row r0 r (row.OfEntry c k) grows p ok = inner (has_row entry_cmp r.entries (c, k))
   where
-    inner : (b : Bool) → RefersIn (cond b r (record r { entries = put_row entry_cmp r.entries (c, k) (record { live = true }) })) (cond b r (record r { entries = put_row entry_cmp r.entries (c, k) (record { live = true }) }))
+    inner : (b : Bool) → RefersIn
+        (cond b r (record r { entries = put_row entry_cmp r.entries (c, k) (record { live = true }) }))
+        (cond b r (record r { entries = put_row entry_cmp r.entries (c, k) (record { live = true }) }))
     inner true = p
     inner false =
         let first = passed (not (has_row nat_cmp r0.candidates c)) refusal.UnknownCandidate (no_paper r0 k ∷ []) ok in
@@ -185,14 +208,26 @@ refers_row r0 r (row.OfEntry c k) grows p ok = inner (has_row entry_cmp r.entrie
         record {
           papers = p.papers;
           openings = p.openings;
-          entries = all_put entry_cmp (exact_pairs nat_cmp code_cmp exact_unsigned exact_bytes) (λ e. has_row nat_cmp r.candidates e.0.0 && has_row code_cmp r.papers e.0.1) r.entries (c, k) (record { live = true }) p.entries (and_from (has_row nat_cmp r.candidates c) (has_row code_cmp r.papers k) (grows.candidates c candidate) (grows.papers k paper));
+          entries = all_put entry_cmp (exact_pairs nat_cmp code_cmp exact_unsigned exact_bytes)
+              (λ e. has_row nat_cmp r.candidates e.0.0 && has_row code_cmp r.papers e.0.1) r.entries (c, k)
+              (record { live = true }) p.entries
+              (and_from (has_row nat_cmp r.candidates c) (has_row code_cmp r.papers k) (grows.candidates c candidate)
+              (grows.papers k paper));
           arrangements = p.arrangements;
           appeals = p.appeals;
         }
 refers_row r0 r (row.OfArrangement c x) grows p ok =
     let q = with_self r (with_row r (row.OfArrangement c x)) (grows_row r (row.OfArrangement c x)) p in
     let known : has_row nat_cmp r0.candidates c ≡ true = there (has_row nat_cmp r0.candidates c) refusal.UnknownCandidate [] ok in
-    record { papers = q.papers; openings = q.openings; entries = q.entries; arrangements = all_put nat_cmp exact_unsigned _ r.arrangements c x q.arrangements (grows.candidates c known); appeals = q.appeals }
+    record {
+      papers = q.papers;
+      openings = q.openings;
+      entries = q.entries;
+      arrangements =
+          all_put nat_cmp exact_unsigned _ r.arrangements c x q.arrangements (grows.candidates c known);
+      appeals =
+          q.appeals;
+    }
 
 refers_rows : (r0 r : Relations) (rows : List Row) → Grows r0 r → RefersIn r r → rows_refusal r0 rows ≡ None → RefersIn (with_rows r rows) (with_rows r rows)
 refers_rows r0 r [] grows p ok = p
@@ -205,7 +240,9 @@ pub import_refers : (r : Relations) (rows : List Row) → good.refers r ≡ true
 import_refers r rows every ok = joined (with_rows r rows) (refers_rows r r rows (grows_none r) (parted r every) ok)
 
 -- the references of an entry are known when it is made live or withdrawn
-pub live_refers : (r : Relations) (c : ℕ) (p : Code) (live : Bool) (more : List (Bool × Refusal)) → good.refers r ≡ true → first_refusal (no_candidate r c ∷ no_paper r p ∷ more) ≡ None → good.refers (with_live r c p live) ≡ true
+pub live_refers : (r : Relations) (c : ℕ) (p : Code) (live : Bool) (more : List (Bool × Refusal))
+    → good.refers r ≡ true → first_refusal (no_candidate r c ∷ no_paper r p ∷ more) ≡ None
+    → good.refers (with_live r c p live) ≡ true
 live_refers r c p live more every ok =
     let first = passed (not (has_row nat_cmp r.candidates c)) refusal.UnknownCandidate (no_paper r p ∷ more) ok in
     let candidate : has_row nat_cmp r.candidates c ≡ true = not-false (has_row nat_cmp r.candidates c) first.0 in
@@ -214,7 +251,9 @@ live_refers r c p live more every ok =
     joined (with_live r c p live) (record {
       papers = q.papers;
       openings = q.openings;
-      entries = all_put entry_cmp (exact_pairs nat_cmp code_cmp exact_unsigned exact_bytes) _ r.entries (c, p) (record { live = live }) q.entries (and_from (has_row nat_cmp r.candidates c) (has_row code_cmp r.papers p) candidate paper);
+      entries = all_put entry_cmp (exact_pairs nat_cmp code_cmp exact_unsigned exact_bytes) _ r.entries (c, p)
+          (record { live = live }) q.entries
+          (and_from (has_row nat_cmp r.candidates c) (has_row code_cmp r.papers p) candidate paper);
       arrangements = q.arrangements;
       appeals = q.appeals;
     })

@@ -49,7 +49,9 @@ module _ {K X : Type 0} (cmp : K → K → Ordering) (o : IsTotalOrder cmp) wher
   put_found [] k v = ap (λ r. cond (is_eq r) (Some v) None) (tied_itself o k)
   put_found (e ∷ es) k v = inner (cmp k e.0) refl (put_found es k v)
     where
-      inner : (r : Ordering) → cmp k e.0 ≡ r → row_at cmp (put_row cmp es k v) k ≡ Some v → lookup (is_at (cmp k)) (match_ordering r ((k, v) ∷ e ∷ es) ((e.0, v) ∷ es) (e ∷ insert_entry cmp es k v)) ≡ Some v
+      inner : (r : Ordering) → cmp k e.0 ≡ r → row_at cmp (put_row cmp es k v) k ≡ Some v
+          → lookup (is_at (cmp k)) (match_ordering r ((k, v) ∷ e ∷ es) ((e.0, v) ∷ es) (e ∷ insert_entry cmp es k v))
+          ≡ Some v
       inner Less is rest = ap (λ r. cond (is_eq r) (Some v) (row_at cmp (e ∷ es) k)) (tied_itself o k)
       inner Equal is rest = ap (λ r. cond (is_eq r) (Some v) (row_at cmp es k)) is
       inner Greater is rest = ap (λ r. cond (is_eq r) (Some e.1) (row_at cmp (put_row cmp es k v) k)) is ∙ rest
@@ -67,7 +69,9 @@ module _ {K X : Type 0} (cmp : K → K → Ordering) (o : IsTotalOrder cmp) wher
       instead true here is was = ap Some (agrees (ap is_eq (o.congr k e.0 q is) ∙ flips cmp o e.0 q ∙ here))
       instead false here is was = was
 
-      later : (b : Bool) → cond b (Some e.1) (row_at cmp es q) ≡ Some x → (row_at cmp es q ≡ Some x → row_at cmp (put_row cmp es k v) q ≡ Some x) → cond b (Some e.1) (row_at cmp (put_row cmp es k v) q) ≡ Some x
+      later : (b : Bool) → cond b (Some e.1) (row_at cmp es q) ≡ Some x
+          → (row_at cmp es q ≡ Some x → row_at cmp (put_row cmp es k v) q ≡ Some x)
+          → cond b (Some e.1) (row_at cmp (put_row cmp es k v) q) ≡ Some x
       later true was rest = was
       later false was rest = rest was
 
@@ -94,7 +98,9 @@ module _ {K X : Type 0} (cmp : K → K → Ordering) (o : IsTotalOrder cmp) wher
       above : AllByRecursion (λ y. cmp e.0 y ≡ Less) (keys_of es)
       above = sorted_head cmp e.0 (keys_of es) up
 
-      inner : (r : Ordering) → cmp k e.0 ≡ r → IsStrictlySortedBy cmp (keys_of (put_row cmp es k v)) → IsStrictlySortedBy cmp (keys_of (match_ordering r ((k, v) ∷ e ∷ es) ((e.0, v) ∷ es) (e ∷ insert_entry cmp es k v)))
+      inner : (r : Ordering) → cmp k e.0 ≡ r → IsStrictlySortedBy cmp (keys_of (put_row cmp es k v))
+          → IsStrictlySortedBy cmp
+          (keys_of (match_ordering r ((k, v) ∷ e ∷ es) ((e.0, v) ∷ es) (e ∷ insert_entry cmp es k v)))
       inner Less is rest = sorted_from cmp k (e.0 ∷ keys_of es) (is, all_below cmp o k e.0 (keys_of es) is above) up
       inner Equal is rest = up
       inner Greater is rest = sorted_from cmp e.0 (keys_of (put_row cmp es k v)) (all_keys_put (λ y. cmp e.0 y ≡ Less) es k v above (o.antisymm e.0 k ∙ ap ordering_reverse is)) rest

@@ -33,7 +33,8 @@ pub keys_decide : (x y : Code × ℕ) → Decides (same_code x.0 y.0 && nat_eq x
 keys_decide x y = let both = Decides-and (same_code x.0 y.0) (nat_eq x.1 y.1) (codes_decide x.0 y.0) (Decides-eqb x.1 y.1) in
     (λ e. let w = both.0 e in ap (λ s. (s, x.1)) w.0 ∙ ap (λ c. (y.0, c)) w.1, λ e. both.1 (ap (λ (z : Code × ℕ). z.0) e, ap (λ (z : Code × ℕ). z.1) e))
 
-pub seats_from_plans : (one other : BTreeMap (Code × ℕ) Code) → IsOrdered seat_cmp one → IsOrdered seat_cmp other → ((s : Code) (c : ℕ) → plan_of one.entries s c ≡ plan_of other.entries s c) → one.entries ≡ other.entries
+pub seats_from_plans : (one other : BTreeMap (Code × ℕ) Code) → IsOrdered seat_cmp one → IsOrdered seat_cmp other
+    → ((s : Code) (c : ℕ) → plan_of one.entries s c ≡ plan_of other.entries s c) → one.entries ≡ other.entries
 seats_from_plans one other s t same = btree_map_from_get seats_total one other s t (λ q. same q.0 q.1) seats_exact
 
 -- what holds of all keys holds of one that is among them

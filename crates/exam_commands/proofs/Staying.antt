@@ -15,7 +15,8 @@ use Rattle.exam_plan.proofs.KeptNames.{IsRepair-indexed, IsRepair-named, name_of
 use Rattle.exam_plan.proofs.Carrying.{IsBest-indexed}
 
 -- the repair of a best plan is that plan
-pub best_stays : (r : Relations) (s : Code) → ListsRise r s → (first : Option ℕ) (before after : Plan ℕ Code) → IsBest (seating r s) before → IsRepair (seating r s) first before after → SamePlan after before
+pub best_stays : (r : Relations) (s : Code) → ListsRise r s → (first : Option ℕ) (before after : Plan ℕ Code)
+    → IsBest (seating r s) before → IsRepair (seating r s) first before after → SamePlan after before
 best_stays r s up first before after best repair =
     let back = IsRepair-indexed (naming r s) (renames r s up) (follows r s up) first before after repair in
     let indexed : IsBest (indexed_seating r s) (indexed_plan r s before) = IsBest-indexed (naming r s) (renames r s up) before best in

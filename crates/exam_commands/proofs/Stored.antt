@@ -55,17 +55,37 @@ in_order r sessions papers halls openings candidates entries arrangements appeal
 }
 
 row_in_order : (r : Relations) (x : Row) → AreInOrder r → AreInOrder (with_row r x)
-row_in_order r (row.OfSession s x) up = in_order (with_row r (row.OfSession s x)) (put_rises code_cmp nat_list_cmp_total r.sessions s x up.sessions) up.papers up.halls up.openings up.candidates up.entries up.arrangements up.appeals up.standing
-row_in_order r (row.OfPaper p x) up = in_order (with_row r (row.OfPaper p x)) up.sessions (put_rises code_cmp nat_list_cmp_total r.papers p x up.papers) up.halls up.openings up.candidates up.entries up.arrangements up.appeals up.standing
-row_in_order r (row.OfHall h x) up = in_order (with_row r (row.OfHall h x)) up.sessions up.papers (put_rises code_cmp nat_list_cmp_total r.halls h x up.halls) up.openings up.candidates up.entries up.arrangements up.appeals up.standing
-row_in_order r (row.OfOpening s h x) up = in_order (with_row r (row.OfOpening s h x)) up.sessions up.papers up.halls (put_rises opening_cmp opening_total r.openings (s, h) x up.openings) up.candidates up.entries up.arrangements up.appeals up.standing
-row_in_order r (row.OfCandidate c x) up = in_order (with_row r (row.OfCandidate c x)) up.sessions up.papers up.halls up.openings (put_rises nat_cmp nat_cmp_total r.candidates c x up.candidates) up.entries up.arrangements up.appeals up.standing
+row_in_order r (row.OfSession s x) up =
+    in_order (with_row r (row.OfSession s x))
+    (put_rises code_cmp nat_list_cmp_total r.sessions s x up.sessions) up.papers up.halls up.openings up.candidates
+    up.entries up.arrangements up.appeals up.standing
+row_in_order r (row.OfPaper p x) up =
+    in_order (with_row r (row.OfPaper p x)) up.sessions
+    (put_rises code_cmp nat_list_cmp_total r.papers p x up.papers) up.halls up.openings up.candidates up.entries
+    up.arrangements up.appeals up.standing
+row_in_order r (row.OfHall h x) up =
+    in_order (with_row r (row.OfHall h x)) up.sessions up.papers
+    (put_rises code_cmp nat_list_cmp_total r.halls h x up.halls) up.openings up.candidates up.entries up.arrangements
+    up.appeals up.standing
+row_in_order r (row.OfOpening s h x) up =
+    in_order (with_row r (row.OfOpening s h x)) up.sessions up.papers up.halls
+    (put_rises opening_cmp opening_total r.openings (s, h) x up.openings) up.candidates up.entries up.arrangements
+    up.appeals up.standing
+row_in_order r (row.OfCandidate c x) up =
+    in_order (with_row r (row.OfCandidate c x)) up.sessions up.papers up.halls up.openings
+    (put_rises nat_cmp nat_cmp_total r.candidates c x up.candidates) up.entries up.arrangements up.appeals up.standing
 row_in_order r (row.OfEntry c p) up = inner (has_row entry_cmp r.entries (c, p))
   where
     inner : (b : Bool) → AreInOrder (cond b r (record r { entries = put_row entry_cmp r.entries (c, p) (record { live = true }) }))
     inner true = up
-    inner false = in_order (record r { entries = put_row entry_cmp r.entries (c, p) (record { live = true }) }) up.sessions up.papers up.halls up.openings up.candidates (put_rises entry_cmp entry_total r.entries (c, p) (record { live = true }) up.entries) up.arrangements up.appeals up.standing
-row_in_order r (row.OfArrangement c x) up = in_order (with_row r (row.OfArrangement c x)) up.sessions up.papers up.halls up.openings up.candidates up.entries (put_rises nat_cmp nat_cmp_total r.arrangements c x up.arrangements) up.appeals up.standing
+    inner false = in_order
+        (record r { entries = put_row entry_cmp r.entries (c, p) (record { live = true }) }) up.sessions up.papers
+        up.halls up.openings up.candidates
+        (put_rises entry_cmp entry_total r.entries (c, p) (record { live = true }) up.entries) up.arrangements
+        up.appeals up.standing
+row_in_order r (row.OfArrangement c x) up =
+    in_order (with_row r (row.OfArrangement c x)) up.sessions up.papers up.halls up.openings up.candidates up.entries
+    (put_rises nat_cmp nat_cmp_total r.arrangements c x up.arrangements) up.appeals up.standing
 
 pub rows_in_order : (r : Relations) (rows : List Row) → AreInOrder r → AreInOrder (with_rows r rows)
 rows_in_order r [] up = up
@@ -78,20 +98,42 @@ found_same agree x exact None e = absurd (let differ : None ≡ Some true = e in
 found_same agree x exact (Some y) e = let same : agree x y ≡ true = cc in ap Some (sym (exact y same))
 
 pub stored_same : (r : Relations) (x : Row) → is_stored r x ≡ Some true → IsStored r x
-stored_same r (row.OfSession s x) e = found_same same_session x (λ y same. let one : row.OfSession s x ≡ row.OfSession s y = row_exact (row.OfSession s x) (row.OfSession s y) (and_from _ _ (same_code_itself s) same) in cc) (row_at code_cmp r.sessions s) e
-stored_same r (row.OfPaper p x) e = found_same same_paper x (λ y same. let one : row.OfPaper p x ≡ row.OfPaper p y = row_exact (row.OfPaper p x) (row.OfPaper p y) (and_from _ _ (same_code_itself p) same) in cc) (row_at code_cmp r.papers p) e
-stored_same r (row.OfHall h x) e = found_same same_hall x (λ y same. let one : row.OfHall h x ≡ row.OfHall h y = row_exact (row.OfHall h x) (row.OfHall h y) (and_from _ _ (same_code_itself h) same) in cc) (row_at code_cmp r.halls h) e
+stored_same r (row.OfSession s x) e =
+    found_same same_session x
+    (λ y same. let one : row.OfSession s x ≡ row.OfSession s y =
+    row_exact (row.OfSession s x) (row.OfSession s y) (and_from _ _ (same_code_itself s) same) in cc)
+    (row_at code_cmp r.sessions s) e
+stored_same r (row.OfPaper p x) e =
+    found_same same_paper x
+    (λ y same. let one : row.OfPaper p x ≡ row.OfPaper p y =
+    row_exact (row.OfPaper p x) (row.OfPaper p y) (and_from _ _ (same_code_itself p) same) in cc)
+    (row_at code_cmp r.papers p) e
+stored_same r (row.OfHall h x) e =
+    found_same same_hall x
+    (λ y same. let one : row.OfHall h x ≡ row.OfHall h y =
+    row_exact (row.OfHall h x) (row.OfHall h y) (and_from _ _ (same_code_itself h) same) in cc)
+    (row_at code_cmp r.halls h) e
 stored_same r (row.OfOpening s h x) e =
     found_same same_opening x
-    (λ y same. let one : row.OfOpening s h x ≡ row.OfOpening s h y = row_exact (row.OfOpening s h x) (row.OfOpening s h y) (and_from _ _ (same_code_itself s) (and_from _ _ (same_code_itself h) same)) in cc)
+    (λ y same. let one : row.OfOpening s h x ≡ row.OfOpening s h y =
+    row_exact (row.OfOpening s h x) (row.OfOpening s h y)
+    (and_from _ _ (same_code_itself s) (and_from _ _ (same_code_itself h) same)) in cc)
     (row_at opening_cmp r.openings (s, h)) e
-stored_same r (row.OfCandidate c x) e = found_same same_candidate x (λ y same. let one : row.OfCandidate c x ≡ row.OfCandidate c y = row_exact (row.OfCandidate c x) (row.OfCandidate c y) (and_from _ _ (eq-eqb c c refl) same) in cc) (row_at nat_cmp r.candidates c) e
+stored_same r (row.OfCandidate c x) e =
+    found_same same_candidate x
+    (λ y same. let one : row.OfCandidate c x ≡ row.OfCandidate c y =
+    row_exact (row.OfCandidate c x) (row.OfCandidate c y) (and_from _ _ (eq-eqb c c refl) same) in cc)
+    (row_at nat_cmp r.candidates c) e
 stored_same r (row.OfEntry c p) e = inner (row_at entry_cmp r.entries (c, p)) e
   where
     inner : (o : Option Entry) → option_map (λ _. true) o ≡ Some true → is_some o ≡ true
     inner None e = absurd (let differ : None ≡ Some true = e in cc)
     inner (Some x) e = refl
-stored_same r (row.OfArrangement c x) e = found_same same_arrangement x (λ y same. let one : row.OfArrangement c x ≡ row.OfArrangement c y = row_exact (row.OfArrangement c x) (row.OfArrangement c y) (and_from _ _ (eq-eqb c c refl) same) in cc) (row_at nat_cmp r.arrangements c) e
+stored_same r (row.OfArrangement c x) e =
+    found_same same_arrangement x
+    (λ y same. let one : row.OfArrangement c x ≡ row.OfArrangement c y =
+    row_exact (row.OfArrangement c x) (row.OfArrangement c y) (and_from _ _ (eq-eqb c c refl) same) in cc)
+    (row_at nat_cmp r.arrangements c) e
 
 -- ---- a stored row put again
 
@@ -118,7 +160,9 @@ row_stored r (row.OfOpening s h x) = put_found opening_cmp opening_total r.openi
 row_stored r (row.OfCandidate c x) = put_found nat_cmp nat_cmp_total r.candidates c x
 row_stored r (row.OfEntry c p) = inner (has_row entry_cmp r.entries (c, p)) refl
   where
-    inner : (b : Bool) → has_row entry_cmp r.entries (c, p) ≡ b → has_row entry_cmp (cond b r (record r { entries = put_row entry_cmp r.entries (c, p) (record { live = true }) })).entries (c, p) ≡ true
+    inner : (b : Bool) → has_row entry_cmp r.entries (c, p) ≡ b
+        → has_row entry_cmp (cond b r
+        (record r { entries = put_row entry_cmp r.entries (c, p) (record { live = true }) })).entries (c, p) ≡ true
     inner true has = has
     inner false has = ap is_some (put_found entry_cmp entry_total r.entries (c, p) (record { live = true }))
 row_stored r (row.OfArrangement c x) = put_found nat_cmp nat_cmp_total r.arrangements c x
@@ -138,9 +182,13 @@ row_keeps r (row.OfEntry c p) x agrees at = inner (has_row entry_cmp r.entries (
 row_keeps r (row.OfSession s v) (row.OfSession t x) agrees at = put_stays code_cmp nat_list_cmp_total r.sessions s t v x (λ e. let same : row.OfSession s v ≡ row.OfSession t x = agrees e in cc) at
 row_keeps r (row.OfPaper s v) (row.OfPaper t x) agrees at = put_stays code_cmp nat_list_cmp_total r.papers s t v x (λ e. let same : row.OfPaper s v ≡ row.OfPaper t x = agrees e in cc) at
 row_keeps r (row.OfHall s v) (row.OfHall t x) agrees at = put_stays code_cmp nat_list_cmp_total r.halls s t v x (λ e. let same : row.OfHall s v ≡ row.OfHall t x = agrees e in cc) at
-row_keeps r (row.OfOpening s h v) (row.OfOpening t k x) agrees at = put_stays opening_cmp opening_total r.openings (s, h) (t, k) v x (λ e. let same : row.OfOpening s h v ≡ row.OfOpening t k x = agrees e in cc) at
+row_keeps r (row.OfOpening s h v) (row.OfOpening t k x) agrees at =
+    put_stays opening_cmp opening_total r.openings (s, h) (t, k) v x
+    (λ e. let same : row.OfOpening s h v ≡ row.OfOpening t k x = agrees e in cc) at
 row_keeps r (row.OfCandidate s v) (row.OfCandidate t x) agrees at = put_stays nat_cmp nat_cmp_total r.candidates s t v x (λ e. let same : row.OfCandidate s v ≡ row.OfCandidate t x = agrees e in cc) at
-row_keeps r (row.OfArrangement s v) (row.OfArrangement t x) agrees at = put_stays nat_cmp nat_cmp_total r.arrangements s t v x (λ e. let same : row.OfArrangement s v ≡ row.OfArrangement t x = agrees e in cc) at
+row_keeps r (row.OfArrangement s v) (row.OfArrangement t x) agrees at =
+    put_stays nat_cmp nat_cmp_total r.arrangements s t v x
+    (λ e. let same : row.OfArrangement s v ≡ row.OfArrangement t x = agrees e in cc) at
 row_keeps r y x agrees at = at
 
 rows_keep : (r : Relations) (x : Row) (rows : List Row) → conflicts x rows ≡ false → IsStored r x → IsStored (with_rows r rows) x

@@ -66,7 +66,8 @@ superseded_same (status.Refused answer) e = refl
 superseded_same status.Retracted e = refl
 superseded_same (status.Superseded answer) e = refl
 
-same_place : (t : Code) (asked other : Subject) (st : Status) (kind : Single) → supersedes asked other ≡ true → is_granted st ≡ true → single_as (status.Granted t) asked ≡ Some kind → single_as st other ≡ Some kind
+same_place : (t : Code) (asked other : Subject) (st : Status) (kind : Single) → supersedes asked other ≡ true
+    → is_granted st ≡ true → single_as (status.Granted t) asked ≡ Some kind → single_as st other ≡ Some kind
 same_place t (subject.Hall h) other st kind way granted is = cc
 same_place t (subject.Clash p) (subject.Clash q) (status.Granted u) kind way granted is = is
 same_place t (subject.Arrangement a) (subject.Arrangement b) (status.Granted u) kind way granted is = is
@@ -116,14 +117,17 @@ module _ (c : ℕ) (s : Code) (asked : Subject) where
   given_fewer row = inner (gives_way c s asked row)
     where
       at : (st : Status) → (option_map {U = SingleKey} (λ kind. (row.1.session, row.0.0, kind)) (single_as (superseded st) row.1.subject) ≡ None)
-          ⊎ (option_map {U = SingleKey} (λ kind. (row.1.session, row.0.0, kind)) (single_as (superseded st) row.1.subject) ≡ option_map {U = SingleKey} (λ kind. (row.1.session, row.0.0, kind)) (single_as st row.1.subject))
+          ⊎ (option_map {U = SingleKey} (λ kind. (row.1.session, row.0.0, kind))
+          (single_as (superseded st) row.1.subject)
+          ≡ option_map {U = SingleKey} (λ kind. (row.1.session, row.0.0, kind)) (single_as st row.1.subject))
       at status.Pending = inr refl
       at (status.Granted answer) = inl refl
       at (status.Refused answer) = inr refl
       at status.Retracted = inr refl
       at (status.Superseded answer) = inr refl
 
-      inner : (b : Bool) → (single_key (cond b (row.0, record row.1 { status = superseded row.1.status }) row) ≡ None) ⊎ (single_key (cond b (row.0, record row.1 { status = superseded row.1.status }) row) ≡ single_key row)
+      inner : (b : Bool) → (single_key (cond b (row.0, record row.1 { status = superseded row.1.status }) row) ≡ None)
+          ⊎ (single_key (cond b (row.0, record row.1 { status = superseded row.1.status }) row) ≡ single_key row)
       inner true = at row.1.status
       inner false = inr refl
 
@@ -167,10 +171,14 @@ module _ (c : ℕ) (s : Code) (asked : Subject) where
     pub places_apart : (rows : List ((ℕ × Code) × Appeal)) → IsApartFrom same_single_key place (filter_map single_key (map given rows))
     places_apart = mapped_apart single_key same_single_key given place given_apart
 
-    earlier_given : (rows : List ((ℕ × Code) × Appeal)) (e : (ℕ × Code) × Appeal) → KeysRise appeal_cmp rows → IsDistinct same_single_key (filter_map single_key rows) → find (is_earlier c s asked) rows ≡ Some e → is_earlier c s asked e ≡ true
+    earlier_given : (rows : List ((ℕ × Code) × Appeal)) (e : (ℕ × Code) × Appeal) → KeysRise appeal_cmp rows
+        → IsDistinct same_single_key (filter_map single_key rows) → find (is_earlier c s asked) rows ≡ Some e
+        → is_earlier c s asked e ≡ true
         → map given rows ≡ put_row appeal_cmp rows e.0 (record e.1 { status = superseded e.1.status })
     earlier_given rows e up distinct found here =
-        one_changed appeal_cmp appeals_total (is_earlier c s asked) given given_kept single_key same_single_key place (key_itself place) earlier_stands rows e (record e.1 { status = superseded e.1.status }) up distinct found (given_now e here)
+        one_changed appeal_cmp appeals_total (is_earlier c s asked) given given_kept single_key same_single_key place
+        (key_itself place) earlier_stands rows e (record e.1 { status = superseded e.1.status }) up distinct found
+        (given_now e here)
 
 found_passes : {A : Type 0} (p : A → Bool) (xs : List A) (e : A) → find p xs ≡ Some e → p e ≡ true
 found_passes p [] e is = absurd (let differ : None ≡ Some e = is in cc)
@@ -187,8 +195,12 @@ none_given c s asked = none_changed appeal_cmp appeals_total (is_earlier c s ask
 -- if one is found, only this one is superseded
 pub one_given : (c : ℕ) (s : Code) (asked : Subject) (rows : List ((ℕ × Code) × Appeal)) (e : (ℕ × Code) × Appeal) → KeysRise appeal_cmp rows → IsDistinct same_single_key (filter_map single_key rows)
     → find (is_earlier c s asked) rows ≡ Some e → map (giving_way c s asked) rows ≡ put_row appeal_cmp rows e.0 (record e.1 { status = superseded e.1.status })
-one_given c s (subject.Clash p) rows e up distinct found = earlier_given c s (subject.Clash p) [] single.GrantedClash refl rows e up distinct found (found_passes (is_earlier c s (subject.Clash p)) rows e found)
-one_given c s (subject.Arrangement a) rows e up distinct found = earlier_given c s (subject.Arrangement a) [] single.GrantedArrangement refl rows e up distinct found (found_passes (is_earlier c s (subject.Arrangement a)) rows e found)
+one_given c s (subject.Clash p) rows e up distinct found =
+    earlier_given c s (subject.Clash p) [] single.GrantedClash refl rows e up distinct found
+    (found_passes (is_earlier c s (subject.Clash p)) rows e found)
+one_given c s (subject.Arrangement a) rows e up distinct found =
+    earlier_given c s (subject.Arrangement a) [] single.GrantedArrangement refl rows e up distinct found
+    (found_passes (is_earlier c s (subject.Arrangement a)) rows e found)
 one_given c s (subject.Hall h) rows e up distinct found =
     let here = found_passes (is_earlier c s (subject.Hall h)) rows e found in
     let way = and_parts (gives_way c s (subject.Hall h) e) (is_granted e.1.status) here in

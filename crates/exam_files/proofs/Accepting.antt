@@ -1,5 +1,7 @@
 -- The rows of an accepted file, from its records and back.
-use Rattle.std.proofs.Common.{◌≡◌, ◌↔◌, ◌∙◌, ◌+◌, ◌<◌, ◌&&◌, ℕ, List, [], ◌∷◌, ◌++◌, length, get_or, map, Bool, true, false, cond, not, AllPairs, Result, Ok, Err, refl, sym, ap, subst, arith, append_assoc, append-nil, length-append, inl, inr}
+use Rattle.std.proofs.Common.{◌≡◌, ◌↔◌, ◌∙◌, ◌+◌, ◌<◌, ◌&&◌, ℕ, List, [], ◌∷◌, ◌++◌, length, get_or, map, Bool, true}
+use Rattle.std.proofs.Common.{false, cond, not, AllPairs, Result, Ok, Err, refl, sym, ap, subst, arith, append_assoc}
+use Rattle.std.proofs.Common.{append-nil, length-append, inl, inr}
 use Rattle.std.proofs.lemmas.Bool.{cases_Bool}
 use Rattle.std.proofs.lemmas.List.{get_or_append_left}
 use Rattle.std.proofs.lemmas.List.Elements.{All-from_get_or}
@@ -106,13 +108,16 @@ adds kind first before (fields ∷ rest) rows e agree = by_row (row_of kind firs
       agree = w.agree;
     }
 
-    by_conflict : (row : Row) → row_of kind first fields ≡ Ok row → (b : Bool) → conflicts row before ≡ b → cond b (Err (RowConflict first)) (rows_from kind (first + 1) (before ++ row ∷ []) rest) ≡ import kind rows
+    by_conflict : (row : Row) → row_of kind first fields ≡ Ok row → (b : Bool) → conflicts row before ≡ b
+        → cond b (Err (RowConflict first)) (rows_from kind (first + 1) (before ++ row ∷ []) rest) ≡ import kind rows
         → (rows_from kind (first + 1) (before ++ row ∷ []) rest ≡ import kind rows → AllPairs AgreeOnKey (before ++ row ∷ []) → Adds kind (first + 1) (before ++ row ∷ []) rest rows)
         → Adds kind first before (fields ∷ rest) rows
     by_conflict row is true clash e next = cc e
     by_conflict row is false none e next = more row is (next e (one_more row before none agree))
 
-    by_row : (r : Result Row Refusal) → row_of kind first fields ≡ r → and_then r (λ row. cond (conflicts row before) (Err (RowConflict first)) (rows_from kind (first + 1) (before ++ row ∷ []) rest)) ≡ import kind rows
+    by_row : (r : Result Row Refusal) → row_of kind first fields ≡ r
+        → and_then r (λ row. cond (conflicts row before) (Err (RowConflict first))
+        (rows_from kind (first + 1) (before ++ row ∷ []) rest)) ≡ import kind rows
         → ((row : Row) → rows_from kind (first + 1) (before ++ row ∷ []) rest ≡ import kind rows → AllPairs AgreeOnKey (before ++ row ∷ []) → Adds kind (first + 1) (before ++ row ∷ []) rest rows)
         → Adds kind first before (fields ∷ rest) rows
     by_row (Err x) is e next = cc e

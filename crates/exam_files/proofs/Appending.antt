@@ -14,7 +14,9 @@ more_spaces s all i n below is =
     append_assoc s (32 ∷ []) (replicate (n - (i + 1)) 32) ∙ ap (λ k. s ++ replicate k 32) (sym left) ∙ is
 
 -- one more of n numbers from a first on
-pub more_numbers : {X : Type 0} (f : ℕ → List X) (first i n : ℕ) → i < n → flat_map f (range_with_len (first + i) (n - i)) ≡ f (first + i) ++ flat_map f (range_with_len (first + (i + 1)) (n - (i + 1)))
+pub more_numbers : {X : Type 0} (f : ℕ → List X) (first i n : ℕ) → i < n
+    → flat_map f (range_with_len (first + i) (n - i)) ≡ f (first + i)
+    ++ flat_map f (range_with_len (first + (i + 1)) (n - (i + 1)))
 more_numbers f first i n below =
     let left : n - i ≡ suc (n - (i + 1)) = omega arith in
     let next : first + (i + 1) ≡ first + i + 1 = omega arith in

@@ -63,7 +63,10 @@ shrinks s fields field (c ∷ rest) p e = one (is_end (step default_config s c).
     one : (b : Bool) → is_end (step default_config s c).1 ≡ b
         → cond b (Some (fields_after (step default_config s c).1 fields field, (step default_config s c).0, rest))
         (next_record default_config (step default_config s c).0 (fields_after (step default_config s c).1 fields field) (field_after (step default_config s c).1 c field) rest) ≡ Some p
-        → (next_record default_config (step default_config s c).0 (fields_after (step default_config s c).1 fields field) (field_after (step default_config s c).1 c field) rest ≡ Some p → most p.1 p.2 < most (step default_config s c).0 rest)
+        → (next_record default_config (step default_config s c).0
+        (fields_after (step default_config s c).1 fields field)
+        (field_after (step default_config s c).1 c field) rest ≡ Some p
+        → most p.1 p.2 < most (step default_config s c).0 rest)
         → most p.1 p.2 < length (c ∷ rest) + cond (ends_at_end s) 1 0
     one true h e more =
         let q : p ≡ (fields_after (step default_config s c).1 fields field, (step default_config s c).0, rest) = cc in

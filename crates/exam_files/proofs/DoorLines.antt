@@ -1,5 +1,7 @@
 -- The lines of a door list are those of the hall's occupants, by desk.
-use Rattle.std.proofs.Common.{◌≡◌, ◌∙◌, ◌+◌, ◌<◌, ◌≤◌, ℕ, zero, suc, Bool, true, false, cond, List, [], ◌∷◌, ◌++◌, length, get_or, map, filter, count_by, nat_eq, ◌≢◌, Contains, Option, Some, None, Ok, Err, refl, sym, ap, arith, inl, inr}
+use Rattle.std.proofs.Common.{◌≡◌, ◌∙◌, ◌+◌, ◌<◌, ◌≤◌, ℕ, zero, suc, Bool, true, false, cond, List, [], ◌∷◌, ◌++◌}
+use Rattle.std.proofs.Common.{length, get_or, map, filter, count_by, nat_eq, ◌≢◌, Contains, Option, Some, None, Ok, Err}
+use Rattle.std.proofs.Common.{refl, sym, ap, arith, inl, inr}
 use Rattle.std.specs.List.{AllByRecursion, flat_map, list_any, range_with_len}
 use Rattle.std.specs.List.Sorted.{IsStrictlySortedBy}
 use Rattle.std.specs.Option.{option_map, option_map_or, ok_or}
@@ -148,7 +150,9 @@ module _ (office : State) (s h : Code) (good : IsGood office) (up : AreInOrder o
       let same : sits c ≡ sits_in h seat = tested (hall_at c) ∙ ap (is_in h) (sym (seat_is c seat parts.0).hall) in
       rw same (step (sits_in h seat) (as_many seats cs parts.1))
     where
-      step : (b : Bool) → length (filter sits cs) ≡ length (filter (sits_in h) seats) → length (cond b (c ∷ filter sits cs) (filter sits cs)) ≡ length (cond b (seat ∷ filter (sits_in h) seats) (filter (sits_in h) seats))
+      step : (b : Bool) → length (filter sits cs) ≡ length (filter (sits_in h) seats)
+          → length (cond b (c ∷ filter sits cs) (filter sits cs))
+          ≡ length (cond b (seat ∷ filter (sits_in h) seats) (filter (sits_in h) seats))
       step true more = ap suc more
       step false more = more
 

@@ -1,5 +1,7 @@
 -- A list, laid out by the numbers of its elements.
-use Rattle.std.proofs.Common.{◌≡◌, ◌∙◌, ◌+◌, ◌<◌, ◌≤◌, ◌==◌, ◌&&◌, ℕ, zero, suc, Bool, true, false, cond, List, [], ◌∷◌, ◌++◌, length, map, filter, Option, Some, None, refl, sym, ap, subst, arith, inl, inr, IsPermutation}
+use Rattle.std.proofs.Common.{◌≡◌, ◌∙◌, ◌+◌, ◌<◌, ◌≤◌, ◌==◌, ◌&&◌, ℕ, zero, suc, Bool, true, false, cond, List, [], ◌∷◌}
+use Rattle.std.proofs.Common.{◌++◌, length, map, filter, Option, Some, None, refl, sym, ap, subst, arith, inl, inr}
+use Rattle.std.proofs.Common.{IsPermutation}
 use Rattle.std.specs.Prelude.{⊤}
 use Rattle.std.specs.List.{AllByRecursion, flat_map, list_any, range_with_len}
 use Rattle.std.proofs.lemmas.Bool.{cases_Bool, cases_eq, eq-eqb, eqb-true, ne_eqb}
@@ -55,7 +57,9 @@ no_gap P a (suc k) m long all = step (P a) long all (no_gap P (a + 1) k)
 
     step : (b : Bool) → length (cond b (a ∷ filter P (range_with_len (a + 1) k)) (filter P (range_with_len (a + 1) k))) ≡ m
         → AllByRecursion (λ n. n < a + m) (cond b (a ∷ filter P (range_with_len (a + 1) k)) (filter P (range_with_len (a + 1) k)))
-        → ((j : ℕ) → length (filter P (range_with_len (a + 1) k)) ≡ j → AllByRecursion (λ n. n < a + 1 + j) (filter P (range_with_len (a + 1) k)) → filter P (range_with_len (a + 1) k) ≡ range_with_len (a + 1) j)
+        → ((j : ℕ) → length (filter P (range_with_len (a + 1) k)) ≡ j
+        → AllByRecursion (λ n. n < a + 1 + j) (filter P (range_with_len (a + 1) k))
+        → filter P (range_with_len (a + 1) k) ≡ range_with_len (a + 1) j)
         → cond b (a ∷ filter P (range_with_len (a + 1) k)) (filter P (range_with_len (a + 1) k)) ≡ range_with_len a m
     step true long all next =
         let j = length (filter P (range_with_len (a + 1) k)) in
@@ -146,7 +150,9 @@ module _ {X : Type 0} (keeps : X → Bool) (number : X → Option ℕ) where
   numbers xs apart [] = refl
   numbers xs apart (n ∷ ns) = map-append number (at xs n) (laid_out xs ns) ∙ rw (single n xs apart, numbers xs apart ns) (joined (list_any (has n) xs))
     where
-      joined : (b : Bool) → cond b (Some n ∷ []) [] ++ map (λ n. Some n) (filter (λ n. list_any (has n) xs) ns) ≡ map (λ n. Some n) (cond b (n ∷ filter (λ n. list_any (has n) xs) ns) (filter (λ n. list_any (has n) xs) ns))
+      joined : (b : Bool) → cond b (Some n ∷ []) []
+          ++ map (λ n. Some n) (filter (λ n. list_any (has n) xs) ns)
+          ≡ map (λ n. Some n) (cond b (n ∷ filter (λ n. list_any (has n) xs) ns) (filter (λ n. list_any (has n) xs) ns))
       joined true = refl
       joined false = refl
 

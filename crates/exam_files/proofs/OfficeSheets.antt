@@ -95,7 +95,10 @@ tied s x = sym (texts_ties s x) ∙ flipped s x
 
 -- the row of the hall's opening, among those of the session
 opened_row : (s h : Code) (rows : List ((Code × Code) × Opening))
-    → option_map (λ (opened : Code × Opening). opened.1) (find (λ (opened : Code × Opening). same_code opened.0 h) (map (λ (o : (Code × Code) × Opening). (o.0.1, o.1)) (filter (λ (o : (Code × Code) × Opening). same_code o.0.0 s) rows)))
+    → option_map (λ (opened : Code × Opening). opened.1)
+    (find (λ (opened : Code × Opening). same_code opened.0 h)
+    (map (λ (o : (Code × Code) × Opening). (o.0.1, o.1))
+    (filter (λ (o : (Code × Code) × Opening). same_code o.0.0 s) rows)))
     ≡ row_at opening_cmp rows (s, h)
 opened_row s h [] = refl
 opened_row s h (o ∷ rows) = by_session (same_code o.0.0 s) test (opened_row s h rows)
@@ -109,7 +112,9 @@ opened_row s h (o ∷ rows) = by_session (same_code o.0.0 s) test (opened_row s 
     rest = map (λ (x : (Code × Code) × Opening). (x.0.1, x.1)) (filter (λ (x : (Code × Code) × Opening). same_code x.0.0 s) rows)
 
     by_hall : (t b : Bool) → t ≡ b → option_map (λ (opened : Code × Opening). opened.1) (find (λ (opened : Code × Opening). same_code opened.0 h) rest) ≡ row_at opening_cmp rows (s, h)
-        → option_map (λ (opened : Code × Opening). opened.1) (cond b (Some (o.0.1, o.1)) (find (λ (opened : Code × Opening). same_code opened.0 h) rest)) ≡ cond t (Some o.1) (row_at opening_cmp rows (s, h))
+        → option_map (λ (opened : Code × Opening). opened.1)
+        (cond b (Some (o.0.1, o.1)) (find (λ (opened : Code × Opening). same_code opened.0 h) rest))
+        ≡ cond t (Some o.1) (row_at opening_cmp rows (s, h))
     by_hall true true e later = refl
     by_hall false false e later = later
     by_hall true false e later = cc
@@ -117,7 +122,11 @@ opened_row s h (o ∷ rows) = by_session (same_code o.0.0 s) test (opened_row s 
 
     by_session : (a : Bool) → is_eq (opening_cmp (s, h) o.0) ≡ (a && same_code o.0.1 h)
         → option_map (λ (opened : Code × Opening). opened.1) (find (λ (opened : Code × Opening). same_code opened.0 h) rest) ≡ row_at opening_cmp rows (s, h)
-        → option_map (λ (opened : Code × Opening). opened.1) (find (λ (opened : Code × Opening). same_code opened.0 h) (map (λ (x : (Code × Code) × Opening). (x.0.1, x.1)) (cond a (o ∷ filter (λ (x : (Code × Code) × Opening). same_code x.0.0 s) rows) (filter (λ (x : (Code × Code) × Opening). same_code x.0.0 s) rows))))
+        → option_map (λ (opened : Code × Opening). opened.1)
+        (find (λ (opened : Code × Opening). same_code opened.0 h)
+        (map (λ (x : (Code × Code) × Opening). (x.0.1, x.1))
+        (cond a (o ∷ filter (λ (x : (Code × Code) × Opening). same_code x.0.0 s) rows)
+        (filter (λ (x : (Code × Code) × Opening). same_code x.0.0 s) rows))))
         ≡ cond (is_eq (opening_cmp (s, h) o.0)) (Some o.1) (row_at opening_cmp rows (s, h))
     by_session true e later = by_hall (is_eq (opening_cmp (s, h) o.0)) (same_code o.0.1 h) e later
     by_session false e later = later ∙ sym (ap (λ t. cond t (Some o.1) (row_at opening_cmp rows (s, h))) e)
@@ -157,7 +166,9 @@ module _ (office : State) (s : Code) (view : View) (is : IsViewOf office s view)
   attendance_is p =
       ap (λ (code : Code). sheet_if (λ (found : Unit {0}). attendance_text code view.session p (seats_of view)) (paper_in view p)) is.code
       ∙ ap (λ (seats : List Seat). sheet_if (λ (found : Unit {0}). attendance_text s view.session p seats) (paper_in view p)) seats_are
-      ∙ ap (λ (papers : List Code). sheet_if (λ (found : Unit {0}). attendance_text s view.session p (seats_in office s)) (cond (list_any (λ code. same_code code p) papers) (Ok tt) (Err UnknownPaper))) is.papers
+      ∙ ap (λ (papers : List Code). sheet_if
+      (λ (found : Unit {0}). attendance_text s view.session p (seats_in office s))
+      (cond (list_any (λ code. same_code code p) papers) (Ok tt) (Err UnknownPaper))) is.papers
       ∙ sym (ap (of_known (λ (session : Session). sheet_if (λ (found : Unit {0}). attendance_text s session p (seats_in office s)) (paper_for office.relations s p))) is.session)
 
   pub clash_list_is : Ok (clash_list view) ≡ clash_list_of office s
@@ -180,7 +191,9 @@ module _ (office : State) (s : Code) (view : View) (is : IsViewOf office s view)
 
 -- ---- the shortage
 
-module _ (facts : Relations) (seats others : Seats) (s : Code) (one two : Report) (first : IsShortageOf (record { relations = facts; seats = seats }) s one) (second : IsShortageOf (record { relations = facts; seats = others }) s two) where
+module _ (facts : Relations) (seats others : Seats) (s : Code) (one two : Report)
+    (first : IsShortageOf (record { relations = facts; seats = seats }) s one)
+    (second : IsShortageOf (record { relations = facts; seats = others }) s two) where
   same_candidates : one.candidates ≡ two.candidates
   same_candidates = same_rising nat_cmp_total exact_unsigned one.candidates two.candidates first.certificate.rising second.certificate.rising
       (λ c. (λ m. (second.contested c).1 ((first.contested c).0 m), λ m. (first.contested c).1 ((second.contested c).0 m)))
@@ -202,8 +215,12 @@ module _ (facts : Relations) (seats others : Seats) (s : Code) (one two : Report
   same_count =
       let long : length one.candidates ≡ length two.candidates = ap length same_candidates in
       let sums : sum_by (desks facts s) (keys_of one.halls) ≡ sum_by (desks facts s) (keys_of two.halls) = ap (sum_by (desks facts s)) same_codes in
-      let left : length one.candidates ≡ sum_by (desks facts s) (keys_of one.halls) + one.unseated = first.certificate.excess ∙ ap (λ (n : ℕ). sum_by (desks facts s) (keys_of one.halls) + n) (sym first.unseated) in
-      let right : length two.candidates ≡ sum_by (desks facts s) (keys_of two.halls) + two.unseated = second.certificate.excess ∙ ap (λ (n : ℕ). sum_by (desks facts s) (keys_of two.halls) + n) (sym second.unseated) in
+      let left : length one.candidates ≡ sum_by (desks facts s) (keys_of one.halls) + one.unseated =
+      first.certificate.excess
+      ∙ ap (λ (n : ℕ). sum_by (desks facts s) (keys_of one.halls) + n) (sym first.unseated) in
+      let right : length two.candidates ≡ sum_by (desks facts s) (keys_of two.halls) + two.unseated =
+      second.certificate.excess
+      ∙ ap (λ (n : ℕ). sum_by (desks facts s) (keys_of two.halls) + n) (sym second.unseated) in
       omega (arith, long, sums, left, right)
 
   report : ℕ → List (Code × ℕ) → List ℕ → Report

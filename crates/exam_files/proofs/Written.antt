@@ -18,7 +18,9 @@ written contents (Err (Refused e)) old new text sheet is ok err fault = cc fault
 written contents (Err Write) old new text sheet is ok err fault = (text, is, err)
 
 -- there was not enough memory for the text
-pub unsent : {W : Type 0} (contents : W → Option (List ℕ)) (w : W) (r : Result (Unit {0}) SheetFault) (refusal : Refusal) (text : List ℕ) (sheet : Result (List ℕ) Refusal) → IsErrAnd r (λ fault. fault ≡ Refused refusal) → refusal ≡ NoMemory → sheet ≡ Ok text
+pub unsent : {W : Type 0} (contents : W → Option (List ℕ)) (w : W) (r : Result (Unit {0}) SheetFault)
+    (refusal : Refusal) (text : List ℕ) (sheet : Result (List ℕ) Refusal)
+    → IsErrAnd r (λ fault. fault ≡ Refused refusal) → refusal ≡ NoMemory → sheet ≡ Ok text
     → Writes contents r w w sheet
 unsent contents w (Ok done) refusal text sheet given memory is = absurd given
 unsent contents w (Err fault) refusal text sheet given memory is = subst (λ (f : SheetFault). Writes contents (Err f) w w sheet) (sym given) (refl, inl (memory, (text, is)))

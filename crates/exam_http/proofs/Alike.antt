@@ -36,7 +36,9 @@ failed refusal.BadStore told is tells = inr (inr tells)
 failed e told is tells = absurd (let differ : false ≡ true = is in cc)
 
 -- equal rows have equal bodies
-shown : (body : OwnRows → List ℕ) (own : Option OwnRows) (first second : Told) → IsSomeAnd own (λ rows. first ≡ ok_told (body rows)) → IsSomeAnd own (λ rows. second ≡ ok_told (body rows)) → AreAlike first second
+shown : (body : OwnRows → List ℕ) (own : Option OwnRows) (first second : Told)
+    → IsSomeAnd own (λ rows. first ≡ ok_told (body rows)) → IsSomeAnd own (λ rows. second ≡ ok_told (body rows))
+    → AreAlike first second
 shown body None first second a b = absurd a
 shown body (Some rows) first second a b = inr (inr (a ∙ sym b))
 
@@ -82,7 +84,9 @@ module _ (one other : State) where
 
 module _ {S T : Type 0} (g : Ghosts S) (h : Ghosts T) (today : ℕ) (request : Request) (one one_after : OfficeIn S) (other other_after : OfficeIn T) (first second : Told)
     (good : IsGood one.office) (up : IsInOrder one.office) (sound : IsGood other.office) (rise : IsInOrder other.office) where
-  commanded : (done : Command) → AnswersSame one.office other.office done today → DoesCommand g today one done first one_after → DoesCommand h today other done second other_after → AreAlike first second
+  commanded : (done : Command) → AnswersSame one.office other.office done today
+      → DoesCommand g today one done first one_after → DoesCommand h today other done second other_after
+      → AreAlike first second
   commanded done same a b =
       applied one.office other.office done today a.0 b.0 one_after.office other_after.office first second same a.1.step b.1.step a.2 b.2
 
@@ -101,7 +105,8 @@ module _ {S T : Type 0} (g : Ghosts S) (h : Ghosts T) (today : ℕ) (request : R
       a b
   own_chosen (choice.Retract candidate reference) number is same a b =
       commanded (command.Retract candidate reference)
-      (λ x y end last step next. same_retraction_answer one.office other.office end last candidate reference today today x y good sound (at_number one.office other.office candidate number is same) step next)
+      (λ x y end last step next. same_retraction_answer one.office other.office end last candidate reference today
+      today x y good sound (at_number one.office other.office candidate number is same) step next)
       a b
 
   idle_chosen : (c : Choice) → IsIdle c → Does g today one c first one_after → Does h today other c second other_after → AreAlike first second

@@ -90,7 +90,9 @@ deskless_viewed shows which (Ok own) rows is = whole_viewed shows (Ok own) (opti
     by which None = refl
     by which (Some rows) = ap Some (same which rows)
 
-pub page_told : (own : Option OwnRows) (page : Page) (body : List ℕ) (told : Told) → IsSomeAnd own (λ r. body ≡ page_body page r) → told ≡ ok_told body → IsSomeAnd own (λ r. told ≡ ok_told (page_body page r))
+pub page_told : (own : Option OwnRows) (page : Page) (body : List ℕ) (told : Told)
+    → IsSomeAnd own (λ r. body ≡ page_body page r) → told ≡ ok_told body
+    → IsSomeAnd own (λ r. told ≡ ok_told (page_body page r))
 page_told None page body told is tells = absurd is
 page_told (Some rows) page body told is tells = tells ∙ ap ok_told is
 

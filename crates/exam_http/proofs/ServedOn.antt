@@ -10,7 +10,9 @@ use Rattle.exam_http.specs.declared.serving.HttpFault.{HttpFault}
 use Rattle.exam_http.specs.declared.serving.HttpFault.TheVariants.{Read, Write}
 
 -- whoever replies to a request serves it
-pub replied_on : {S W : Type 0} (g : Ghosts S) (contents : W → Option (List ℕ)) (today : ℕ) (asked : Result Request Fault) (old : OfficeIn S) (before : W) (result : Result (Unit {0}) HttpFault) (new : OfficeIn S) (after : W)
+pub replied_on : {S W : Type 0} (g : Ghosts S) (contents : W → Option (List ℕ)) (today : ℕ)
+    (asked : Result Request Fault) (old : OfficeIn S) (before : W) (result : Result (Unit {0}) HttpFault)
+    (new : OfficeIn S) (after : W)
     → Replies g contents today asked old before result new after → ServedOn g today old new
 replied_on g contents today asked old before (Ok done) new after h = inr (asked, h.0, h.1)
 replied_on g contents today asked old before (Err Read) new after h = absurd h

@@ -34,7 +34,9 @@ module _ {S : Type 0} (g : Ghosts S) (done : Command) (today : ℕ) (old new : O
       → answers ≡ rest ++ option_to_list popped → popped ≡ Some answer → IsCarriedOut g done today old answer new
   carried answers rest popped answer each kept split is =
       let one = one_answer answers each in
-      let last : one.0 ∷ [] ≡ rest ++ answer ∷ [] = subst (λ (o : Option (Result Reply Refusal)). one.0 ∷ [] ≡ rest ++ option_to_list o) is (subst (λ (l : List (Result Reply Refusal)). l ≡ rest ++ option_to_list popped) one.1 split) in
+      let last : one.0 ∷ [] ≡ rest ++ answer ∷ [] =
+      subst (λ (o : Option (Result Reply Refusal)). one.0 ∷ [] ≡ rest ++ option_to_list o) is
+      (subst (λ (l : List (Result Reply Refusal)). l ≡ rest ++ option_to_list popped) one.1 split) in
       record {
         applied = subst (λ (a : Result Reply Refusal). IsApplied g done today old a new) (last_of_one answer one.0 rest last) one.2;
         kept = kept;

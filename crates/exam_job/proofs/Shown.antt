@@ -30,7 +30,9 @@ sheet_of_office office s view sheet.Appeals text v is = is ∙ register_is offic
 sheet_of_office office s view sheet.Export text v is = is ∙ export_is office s view v
 
 -- what goes out at once may go out line by line
-by_lines : {W : Type 0} (contents : W → Option (List ℕ)) (text : Result (List ℕ) Refusal) (before : W) (result : Result (Unit {0}) JobFault) (after : W) → Sends contents text before result after → Streams contents text before result after
+by_lines : {W : Type 0} (contents : W → Option (List ℕ)) (text : Result (List ℕ) Refusal) (before : W)
+    (result : Result (Unit {0}) JobFault) (after : W) → Sends contents text before result after
+    → Streams contents text before result after
 by_lines contents (Ok text) before (Ok done) after (bytes, is, sent) = let same : bytes ≡ text = cc in subst (Appends (contents before) (contents after)) same sent
 by_lines contents (Ok text) before (Err Write) after (bytes, is, sent) = let same : bytes ≡ text = cc in (refl, subst (AppendsBeginning (contents before) (contents after)) same sent)
 by_lines contents (Ok text) before (Err (Refused refusal)) after (is, same) = absurd cc
@@ -42,7 +44,9 @@ by_lines contents (Ok text) before (Err Net) after sent = absurd sent
 by_lines contents (Err refusal) before (Err File) after sent = absurd sent
 by_lines contents (Err refusal) before (Err Net) after sent = absurd sent
 
-sends : {W : Type 0} (contents : W → Option (List ℕ)) (which : Sheet) (text : Result (List ℕ) Refusal) (before : W) (result : Result (Unit {0}) JobFault) (after : W) → Sends contents text before result after → SendsSheet contents which text before result after
+sends : {W : Type 0} (contents : W → Option (List ℕ)) (which : Sheet) (text : Result (List ℕ) Refusal) (before : W)
+    (result : Result (Unit {0}) JobFault) (after : W) → Sends contents text before result after
+    → SendsSheet contents which text before result after
 sends contents sheet.Appeals text before result after sent = by_lines contents text before result after sent
 sends contents which text before result after sent = sent
 

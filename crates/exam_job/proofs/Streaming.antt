@@ -98,7 +98,8 @@ told (Ok done) fault is = absurd is
 told (Err f) fault is = ap Err is
 
 -- a flush that failed is a failed write
-pub flush_fault : {W : Type 0} (contents : W → Option (List ℕ)) (mid : W) (result : Result (Unit {0}) JobFault) (after : W) → Flushes contents mid result after → IfErr result (λ f. IsTrue (is_break f) ⊎ (f ≡ Refused BadStore))
+pub flush_fault : {W : Type 0} (contents : W → Option (List ℕ)) (mid : W) (result : Result (Unit {0}) JobFault)
+    (after : W) → Flushes contents mid result after → IfErr result (λ f. IsTrue (is_break f) ⊎ (f ≡ Refused BadStore))
 flush_fault contents mid (Ok done) after held = tt
 flush_fault contents mid (Err e) after held = subst (λ (f : JobFault). IsTrue (is_break f) ⊎ (f ≡ Refused BadStore)) (sym held.0) (inl refl)
 

@@ -39,7 +39,8 @@ flipped s t e = by (same_code t s) refl
     by true k = let both : true ≡ false = sym (same_code_itself s) ∙ ap (same_code s) (sym (same_code_exact t s k)) ∙ e in cc
     by false k = refl
 
-module _ {X : Type 0} (chosen : List Code) (r : Relations) (first : Option ℕ) (before old : Seats) (s : Code) (x : X) (rest : List (Code × X)) (so_far : IsRepairedAmong chosen r first before old ((s, x) ∷ rest)) where
+module _ {X : Type 0} (chosen : List Code) (r : Relations) (first : Option ℕ) (before old : Seats) (s : Code) (x : X)
+    (rest : List (Code × X)) (so_far : IsRepairedAmong chosen r first before old ((s, x) ∷ rest)) where
   apart : (t : Code) → is_among t rest ≡ true → same_code s t ≡ false
   apart t among = by (same_code s t) refl
     where
@@ -61,7 +62,9 @@ module _ {X : Type 0} (chosen : List Code) (r : Relations) (first : Option ℕ) 
   was t left e among = so_far.settled t (ap (λ b. b || is_among t rest) (flipped s t e) ∙ left) among
 
   -- it is repaired
-  pub one_chosen : (new : Seats) → Contains chosen s → IsRepaired r first before new s → ((t : Code) (c : ℕ) → same_code s t ≡ false → plan_of new t c ≡ plan_of old t c) → IsRepairedAmong chosen r first before new rest
+  pub one_chosen : (new : Seats) → Contains chosen s → IsRepaired r first before new s
+      → ((t : Code) (c : ℕ) → same_code s t ≡ false → plan_of new t c ≡ plan_of old t c)
+      → IsRepairedAmong chosen r first before new rest
   one_chosen new here done others = record {
     rising = sorted_tail code_cmp s (keys_of rest) so_far.rising;
     waiting = λ t c among. others t c (apart t among) ∙ still_waits t c among;

@@ -79,7 +79,8 @@ more_opens : (s h : Code) (x : Hall) (rows : List Row) (os : List ((Code × Code
 more_opens s h x rows [] = refl
 more_opens s h x rows (o ∷ os) =
     ap (λ t. opens_named (row.OfHall h x ∷ rows) s o || t) (more_opens s h x rows os)
-    ∙ inner (same_code o.0.0 s) (same_code h o.0.1) (same_code o.0.1 h) (code_flips h o.0.1) (list_any (λ (y : Row). names_hall y o.0.1) rows) (list_any (opens s h) os) (list_any (opens_named rows s) os)
+    ∙ inner (same_code o.0.0 s) (same_code h o.0.1) (same_code o.0.1 h) (code_flips h o.0.1)
+    (list_any (λ (y : Row). names_hall y o.0.1) rows) (list_any (opens s h) os) (list_any (opens_named rows s) os)
   where
     inner : (a b c : Bool) → b ≡ c → (d p q : Bool) → ((a && (b || d)) || (p || q)) ≡ (((a && c) || p) || ((a && d) || q))
     inner a true true e d p q = by a d p q

@@ -30,7 +30,9 @@ from_right false b c = refl
 key_cmp : (x y : SingleKey) → eq_by_cmp single_cmp x y ≡ same_single_key x y
 key_cmp x y =
     both (ordering_then (code_cmp x.0 y.0) (nat_cmp x.1 y.1)) (singles.ghosts.cmp x.2 y.2)
-    ∙ ap (λ b. b && is_eq (singles.ghosts.cmp x.2 y.2)) (both (code_cmp x.0 y.0) (nat_cmp x.1 y.1) ∙ ap (λ b. b && is_eq (nat_cmp x.1 y.1)) (text_cmp x.0 y.0) ∙ ap (λ b. same_code x.0 y.0 && b) (number_cmp x.1 y.1))
+    ∙ ap (λ b. b && is_eq (singles.ghosts.cmp x.2 y.2))
+    (both (code_cmp x.0 y.0) (nat_cmp x.1 y.1) ∙ ap (λ b. b && is_eq (nat_cmp x.1 y.1)) (text_cmp x.0 y.0)
+    ∙ ap (λ b. same_code x.0 y.0 && b) (number_cmp x.1 y.1))
     ∙ ap (λ b. (same_code x.0 y.0 && nat_eq x.1 y.1) && b) (kind_cmp x.2 y.2) ∙ from_right (same_code x.0 y.0) (nat_eq x.1 y.1) (same_single x.2 y.2)
 
 pub compared_same : eq_by_cmp single_cmp ≡ same_single_key

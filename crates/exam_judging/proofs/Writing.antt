@@ -32,7 +32,9 @@ module _ (r : Relations) (s : Code) (plan : List (Option ℕ)) where
   pub written_all : (i : ℕ) → length (members r s) ≤ i → (c : ℕ) → written i c ≡ named_plan r s (plan_at plan) c
   written_all i past c = inner (index_of r s c) refl
     where
-      inner : (o : Option ℕ) → index_of r s c ≡ o → option_and_then (λ k. cond (nat_lt k i) (option_map (hall_at r s) (plan_at plan k)) None) o ≡ option_and_then (λ k. option_map (hall_at r s) (plan_at plan k)) o
+      inner : (o : Option ℕ) → index_of r s c ≡ o
+          → option_and_then (λ k. cond (nat_lt k i) (option_map (hall_at r s) (plan_at plan k)) None) o
+          ≡ option_and_then (λ k. option_map (hall_at r s) (plan_at plan k)) o
       inner None e = refl
       inner (Some k) e = let below : k < length (members r s) = index_below r s c k e in ap (λ t. cond t (option_map (hall_at r s) (plan_at plan k)) None) (lt-ltb k i (omega arith))
 
@@ -48,7 +50,9 @@ module _ (r : Relations) (s : Code) (plan : List (Option ℕ)) where
       is_index e = ap (index_of r s) (sym (exact_unsigned_eq (number_at r s i) c e)) ∙ index_known r s up i below
 
       none_yet : index_of r s c ≡ Some i → old ≡ None
-      none_yet e = is ∙ ap (option_and_then (λ k. cond (nat_lt k i) (option_map (hall_at r s) (plan_at plan k)) None)) e ∙ ap (λ t. cond t (option_map (hall_at r s) (plan_at plan i)) None) (le-ltb i i (omega arith))
+      none_yet e = is ∙ ap
+          (option_and_then (λ k. cond (nat_lt k i) (option_map (hall_at r s) (plan_at plan k)) None)) e
+          ∙ ap (λ t. cond t (option_map (hall_at r s) (plan_at plan i)) None) (le-ltb i i (omega arith))
 
       at : (o : Option ℕ) → index_of r s c ≡ o → written (i + 1) c ≡ option_and_then (λ k. cond (nat_lt k (i + 1)) (option_map (hall_at r s) (plan_at plan k)) None) o
       at o e = ap (option_and_then (λ k. cond (nat_lt k (i + 1)) (option_map (hall_at r s) (plan_at plan k)) None)) e
@@ -62,7 +66,8 @@ module _ (r : Relations) (s : Code) (plan : List (Option ℕ)) where
 
       -- the next member is another
       passed : (o : Option ℕ) → index_of r s c ≡ o → nat_eq (number_at r s i) c ≡ false
-          → option_and_then (λ k. cond (nat_lt k i) (option_map (hall_at r s) (plan_at plan k)) None) o ≡ option_and_then (λ k. cond (nat_lt k (i + 1)) (option_map (hall_at r s) (plan_at plan k)) None) o
+          → option_and_then (λ k. cond (nat_lt k i) (option_map (hall_at r s) (plan_at plan k)) None) o
+          ≡ option_and_then (λ k. cond (nat_lt k (i + 1)) (option_map (hall_at r s) (plan_at plan k)) None) o
       passed None e away = refl
       passed (Some k) e away = ap (λ t. cond t (option_map (hall_at r s) (plan_at plan k)) None) (same k apart)
         where

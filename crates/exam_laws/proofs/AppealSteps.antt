@@ -1,5 +1,7 @@
 -- A lodging and a retraction are steps, and seat nobody elsewhere.
-use Rattle.std.proofs.Common.{◌≡◌, ℕ, ◌==◌, ◌&&◌, not, Bool, true, false, cond, [], ◌∷◌, ◌++◌, length, nat_le, Option, None, Some, Ok, Err, is_some, is_none, IsSome, IfSome, IsTrue, refl, ap, sym, subst, ◌∙◌, ◌⊎◌, inl, inr}
+use Rattle.std.proofs.Common.{◌≡◌, ℕ, ◌==◌, ◌&&◌, not, Bool, true, false, cond, [], ◌∷◌, ◌++◌, length, nat_le, Option}
+use Rattle.std.proofs.Common.{None, Some, Ok, Err, is_some, is_none, IsSome, IfSome, IsTrue, refl, ap, sym, subst, ◌∙◌}
+use Rattle.std.proofs.Common.{◌⊎◌, inl, inr}
 use Rattle.std.specs.List.{list_all, list_any, filter_map}
 use Rattle.std.specs.Map.{keys_of}
 use Rattle.std.specs.Option.{option_and_then, option_map_or, option_or}
@@ -102,7 +104,9 @@ module _ (before : State) (good : IsGood before) (today : ℕ) (l : Lodging) whe
           let c = l.number in
           let barred = not (list_any (same_code k) (barred_halls r s c)) in
           let fitting : fits r s c k ≡ true = subst (λ (o : Option Code). IfSome o (λ k. IsTrue (fits r s c k))) is ((good.best s).lawful.fitting c) in
-          let suits = and_parts (suits_opened (sitting_terms r s c) (opened_room r s k)) barred (and_parts (has_live_entry r s c) (suits_opened (sitting_terms r s c) (opened_room r s k) && barred) fitting).1 in
+          let suits = and_parts (suits_opened (sitting_terms r s c) (opened_room r s k)) barred
+          (and_parts (has_live_entry r s c)
+          (suits_opened (sitting_terms r s c) (opened_room r s k) && barred) fitting).1 in
           let room : is_some (opened_room r s k) ≡ true = suits_some (sitting_terms r s c) (opened_room r s k) suits.0 in
           ap (λ q. has_row code_cmp r.halls q) (same_code_exact h k here) ∙ known_first _ (row_at code_cmp r.halls k) room
 
@@ -112,7 +116,9 @@ module _ (before : State) (good : IsGood before) (today : ℕ) (l : Lodging) whe
       let r = before.relations in
       let sits : Bool × Refusal = (option_map_or (same_code p) (sitting r l.session l.number) false, refusal.NothingToChange) in
       let live : Bool × Refusal = (not (is_live_paper r l.session l.number p), refusal.NoEntry) in
-      paper_known r l.session l.number p (there (is_live_paper r l.session l.number p) refusal.NoEntry (sits ∷ []) (passed (length (clash_papers r l.session l.number) == 0) refusal.NoClash (live ∷ sits ∷ []) ok).1)
+      paper_known r l.session l.number p
+      (there (is_live_paper r l.session l.number p) refusal.NoEntry (sits ∷ [])
+      (passed (length (clash_papers r l.session l.number) == 0) refusal.NoClash (live ∷ sits ∷ []) ok).1)
   subject_known (subject.Arrangement a) ok = refl
 
   session_known : (o : Option Session) → (spec.closing_check l.subject today o).0 ≡ false → is_some o ≡ true
@@ -187,7 +193,9 @@ module _ (before : State) (good : IsGood before) (today : ℕ) (l : Lodging) whe
   pub within_as : (b : Bool) → within_limits (spec.with_lodging before.relations today l) ≡ b → (spec.one_too_many before.relations today l).0 ≡ not b
   within_as b within = inner stored refl b within
     where
-      inner : (o : Option Appeal) → stored ≡ o → (b : Bool) → within_limits (spec.with_lodging before.relations today l) ≡ b → (is_none stored && not (within_limits (spec.with_appeal before.relations today l))) ≡ not b
+      inner : (o : Option Appeal) → stored ≡ o → (b : Bool)
+          → within_limits (spec.with_lodging before.relations today l) ≡ b
+          → (is_none stored && not (within_limits (spec.with_appeal before.relations today l))) ≡ not b
       inner None none b within =
           ap (λ o. is_none o && not (within_limits (spec.with_appeal before.relations today l))) none
           ∙ ap not (sym (ap within_limits (new_facts none)) ∙ within)
@@ -195,7 +203,8 @@ module _ (before : State) (good : IsGood before) (today : ℕ) (l : Lodging) whe
           ap (λ o. is_none o && not (within_limits (spec.with_appeal before.relations today l))) at
           ∙ ap not (sym good.limits ∙ sym (ap within_limits (same_facts a at)) ∙ within)
 
-  pub lodging_accepted : (after : State) (t : Relations) (told : AppealState) → IsChecked → within_limits t ≡ true → t ≡ spec.with_lodging before.relations today l → after.relations ≡ t → IsInOrder after
+  pub lodging_accepted : (after : State) (t : Relations) (told : AppealState) → IsChecked → within_limits t ≡ true
+      → t ≡ spec.with_lodging before.relations today l → after.relations ≡ t → IsInOrder after
       → told ≡ stored_state t l.number l.reference → DoListsRise t → ArePlansRepaired t before after → Step (command.Lodge l) today before (Ok (reply.Lodged told)) after
   lodging_accepted after t told ok within is facts order says up plans =
       let new : Relations = spec.with_lodging before.relations today l in
@@ -215,7 +224,8 @@ module _ (before : State) (good : IsGood before) (today : ℕ) (l : Lodging) whe
       refused_step (command.Lodge l) today before refusal.TooMany (ap (λ o. unless o new) some)
 
   -- if it goes no further, memory ran out or a limit was passed
-  pub lodging_limited : (t : Relations) → IsChecked → t ≡ spec.with_lodging before.relations today l → (e : Refusal) → IsLimitRefusal t e → (e ≡ refusal.NoMemory) ⊎ Step (command.Lodge l) today before (Err e) before
+  pub lodging_limited : (t : Relations) → IsChecked → t ≡ spec.with_lodging before.relations today l → (e : Refusal)
+      → IsLimitRefusal t e → (e ≡ refusal.NoMemory) ⊎ Step (command.Lodge l) today before (Err e) before
   lodging_limited t ok is e (inl memory) = inl memory
   lodging_limited t ok is e (inr past) = inr (subst (λ (x : Refusal). Step (command.Lodge l) today before (Err x) before) (sym past.0) (lodging_past t ok past.1 is))
 
@@ -223,8 +233,14 @@ module _ (before : State) (good : IsGood before) (today : ℕ) (l : Lodging) whe
 
 count_same : (r : Relations) (k : ℕ × Code) (a b : Appeal) → AreInOrder r → row_at appeal_cmp r.appeals k ≡ Some b → within_limits (with_appeals r (put_row appeal_cmp r.appeals k a)) ≡ within_limits r
 count_same r k a b up at =
-    let counts : appeal_count (with_appeals r (put_row appeal_cmp r.appeals k a)) ≡ appeal_count r = fun_ext (λ c. count_replaced appeal_cmp appeals_total (λ (key : ℕ × Code). key.0 == c) r.appeals k a b up.appeals at) in
-    ap (λ (count : ℕ → ℕ). sessions_within r && (papers_within r && (halls_within r && (openings_within r && (candidates_within r && (members_within r && list_all (λ c. nat_le (count c) most_appeals) (keys_of r.candidates))))))) counts
+    let counts : appeal_count (with_appeals r (put_row appeal_cmp r.appeals k a)) ≡ appeal_count r =
+    fun_ext (λ c. count_replaced appeal_cmp appeals_total
+    (λ (key : ℕ × Code). key.0 == c) r.appeals k a b up.appeals at) in
+    ap (λ (count : ℕ → ℕ). sessions_within r
+    && (papers_within r &&
+    (halls_within r && (openings_within r
+    && (candidates_within r
+    && (members_within r && list_all (λ c. nat_le (count c) most_appeals) (keys_of r.candidates))))))) counts
 
 pub closed_granted : (st : Status) → (not (is_open st) && not (is_retracted st)) ≡ false → is_granted st ≡ false
 closed_granted status.Pending ok = refl
@@ -244,20 +260,30 @@ module _ (before : State) (good : IsGood before) (c : ℕ) (reference : Code) wh
     pub settled : IsSettled before.relations t
     pub within : within_limits t ≡ true
 
-  put_settled : AreInOrder before.relations → (a : Appeal) → there_is ≡ Some a → (not (is_open a.status) && not (is_retracted a.status)) ≡ false → IsSettledWithin (spec.with_retracted_appeal before.relations c reference a)
+  put_settled : AreInOrder before.relations → (a : Appeal) → there_is ≡ Some a
+      → (not (is_open a.status) && not (is_retracted a.status)) ≡ false
+      → IsSettledWithin (spec.with_retracted_appeal before.relations c reference a)
   put_settled up a at closed =
       let r = before.relations in
       let k : ℕ × Code = (c, reference) in
       let new : Appeal = record a { status = status.Retracted } in
-      let known : (has_row nat_cmp r.candidates c && appeal_refers r a) ≡ true = all_at_row appeal_cmp appeals_exact (λ x. has_row nat_cmp r.candidates x.0.0 && appeal_refers r x.1) r.appeals k a (stored_refer r good.refer) at in
+      let known : (has_row nat_cmp r.candidates c && appeal_refers r a) ≡ true =
+      all_at_row appeal_cmp appeals_exact
+      (λ x. has_row nat_cmp r.candidates x.0.0 && appeal_refers r x.1) r.appeals k a
+      (stored_refer r good.refer) at in
       record {
         settled = record {
           refer = appeals_refer_so r (put_row appeal_cmp r.appeals k new) good.refer
               (all_put appeal_cmp appeals_exact (λ x. has_row nat_cmp r.candidates x.0.0 && appeal_refers r x.1) r.appeals k new (stored_refer r good.refer) known);
-          single = put_distinct appeal_cmp appeals_exact single_key same_single_key single_flips r.appeals k new (λ x is. absurd (let none : Option SingleKey = None in let differ : none ≡ Some x = is in cc)) good.single;
+          single = put_distinct appeal_cmp appeals_exact single_key same_single_key single_flips r.appeals k new
+              (λ x is. absurd (let none : Option SingleKey = None in let differ : none ≡ Some x = is in cc))
+              good.single;
           marks = put_borne r.appeals k new r.standing
               (unborne r.appeals r.standing k good.marks (ap (λ o. option_map_or may_bear o false) at ∙ closed_unborne a.status (is_some (asked_arrangement a.subject)) closed)) good.marks;
-          seated = put_seating_same r k new refl (λ b is. let same : a ≡ b = (let both : Some a ≡ Some b = sym at ∙ is in cc) in ap (λ (x : Appeal). is_granted x.status) (sym same) ∙ closed_granted a.status closed);
+          seated = put_seating_same r k new refl
+              (λ b is. let same : a ≡ b =
+              (let both : Some a ≡ Some b = sym at ∙ is in cc) in
+              ap (λ (x : Appeal). is_granted x.status) (sym same) ∙ closed_granted a.status closed);
         };
         within = count_same r k new a up at ∙ good.limits;
       }

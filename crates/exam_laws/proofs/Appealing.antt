@@ -13,7 +13,10 @@ use Rattle.exam_rules.specs.declared.rows.Subject.{Subject}
 use Rattle.exam_rules.specs.declared.rows.Subject.TheVariants as subject
 use Rattle.exam_rules.specs.Relations.{Code, Relations, appeal_cmp, code_cmp, put_row, row_at, same_code}
 use Rattle.exam_rules.specs.declared.standing.StandingGrant.{StandingGrant}
-use Rattle.exam_rules.specs.Sessions.{arrangement_by, asked_arrangement, asked_hall, asked_paper, granted_subjects, has_live_entry, head_of, is_granted, is_granted_appeal, is_live_paper, is_marked, is_standing, least_live_paper, option_filter, session_day, standing_grant, standing_grants}
+use Rattle.exam_rules.specs.Sessions.{arrangement_by, asked_arrangement, asked_hall, asked_paper, granted_subjects}
+use Rattle.exam_rules.specs.Sessions.{has_live_entry, head_of, is_granted, is_granted_appeal, is_live_paper, is_marked}
+use Rattle.exam_rules.specs.Sessions.{is_standing, least_live_paper, option_filter, session_day, standing_grant}
+use Rattle.exam_rules.specs.Sessions.{standing_grants}
 use Rattle.exam_rules.specs.Seatings.{fits, opened_room, seating, suits_opened, terms_of}
 use Rattle.exam_commands.specs.declared.single.Single.{Single}
 use Rattle.exam_commands.specs.declared.single.Single.TheVariants as single
@@ -49,7 +52,10 @@ module _ (r : Relations) (appeals : Appeals) (marks : Marks) (s : Code) where
 
     abbrev fits_by : Code → List Subject → List StandingGrant → Bool
     fits_by h asked grants = has_live_entry r s c
-        && (suits_opened (option_and_then (λ (session : Session). option_map (λ (paper : Paper). terms_of session paper (in_force_by asked grants)) (option_and_then (row_at code_cmp r.papers) (sitting_by asked))) (row_at code_cmp r.sessions s)) (opened_room r s h)
+        && (suits_opened (option_and_then
+        (λ (session : Session). option_map (λ (paper : Paper). terms_of session paper (in_force_by asked grants))
+        (option_and_then (row_at code_cmp r.papers) (sitting_by asked))) (row_at code_cmp r.sessions s))
+        (opened_room r s h)
         && not (list_any (same_code h) (filter_map asked_hall asked)))
 
     -- a hall fits the candidate exactly if it did

@@ -45,7 +45,9 @@ module _ (r : Relations) (s : Code) (h : Code) where
   openings_still_within : openings_within r ≡ true → openings_within (without_opening r s h) ≡ true
   openings_still_within within =
       all_more (λ t. nat_le (length (open_halls r t)) most_halls) (λ t. nat_le (length (open_halls (without_opening r s h) t)) most_halls) (keys_of r.sessions)
-      (λ t most. let few = leb-true (length (open_halls r t)) most_halls most in let fewer = halls_fewer t in le-leb (length (open_halls (without_opening r s h) t)) most_halls (omega (arith, few, fewer)))
+      (λ t most. let few = leb-true (length (open_halls r t)) most_halls most in let fewer =
+      halls_fewer t in le-leb (length (open_halls (without_opening r s h) t)) most_halls
+      (omega (arith, few, fewer)))
       within
 
   -- it passes no limit

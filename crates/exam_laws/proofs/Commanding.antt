@@ -47,7 +47,9 @@ module _ (before : State) (good : IsGood before) (c : ℕ) (p : Code) where
   pub others_seated : (live : Bool) (after : State) → ArePlansRepaired (with_live before.relations c p live) before after
       → (s : Code) → SeatsOn (command.Withdraw c p) (seating (with_live before.relations c p live) s) (plan_of before.seats s) (plan_of after.seats s)
   others_seated live after plans s =
-      others_stay before.relations (with_live before.relations c p live) s c refl (λ h. refl) (fits_same before.relations c p live s) None (plan_of before.seats s) (plan_of after.seats s) (good.best s).lawful (plans s).repair
+      others_stay before.relations (with_live before.relations c p live) s c refl (λ h. refl)
+      (fits_same before.relations c p live s) None (plan_of before.seats s) (plan_of after.seats s)
+      (good.best s).lawful (plans s).repair
 
   -- ---- a withdrawal
 
@@ -67,13 +69,17 @@ module _ (before : State) (good : IsGood before) (c : ℕ) (p : Code) where
 
   -- ---- a reinstatement
 
-  pub limits_refusal : (b : Bool) → within_limits (with_live before.relations c p true) ≡ b → reinstatement_refusal before.relations c p ≡ option_or (revival_refusal before.relations c p) (cond (not b) (Some refusal.TooMany) None)
+  pub limits_refusal : (b : Bool) → within_limits (with_live before.relations c p true) ≡ b
+      → reinstatement_refusal before.relations c p
+      ≡ option_or (revival_refusal before.relations c p) (cond (not b) (Some refusal.TooMany) None)
   limits_refusal b e = ap (λ x. option_or (revival_refusal before.relations c p) (cond (not x) (Some refusal.TooMany) None)) e
 
   pub reinstatement_refers : (t : Relations) → revival_refusal before.relations c p ≡ None → IsMarked before c p true t → refers t ≡ true
   reinstatement_refers t ok is = ap refers is ∙ live_refers before.relations c p true (no_entry before.relations c p ∷ (is_live before.relations c p, refusal.NotWithdrawn) ∷ []) good.refer ok
 
-  pub reinstatement_accepted : (today : ℕ) (after : State) (t : Relations) → revival_refusal before.relations c p ≡ None → within_limits t ≡ true → IsMarked before c p true t → after.relations ≡ t → IsInOrder after
+  pub reinstatement_accepted : (today : ℕ) (after : State) (t : Relations)
+      → revival_refusal before.relations c p ≡ None → within_limits t ≡ true → IsMarked before c p true t
+      → after.relations ≡ t → IsInOrder after
       → DoListsRise t → ArePlansRepaired t before after → Step (command.Reinstate c p) today before (Ok reply.Reinstated) after
   reinstatement_accepted today after t ok within is facts order up plans =
       let new : Relations = with_live before.relations c p true in

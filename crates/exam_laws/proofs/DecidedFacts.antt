@@ -27,7 +27,9 @@ use Rattle.exam_commands.specs.declared.command.Outcome.TheVariants as outcome
 use Rattle.exam_commands.specs.declared.single.Single.{Single}
 use Rattle.exam_commands.specs.Appeals.{appeal_at, bears_mark, decided, is_open, superseded, supersedes}
 use Rattle.exam_commands.specs.Changes.{first_refusal}
-use Rattle.exam_commands.specs.Decisions.{decision_checks, decision_refusal, gives_way, giving_way, grant_checks, is_made, is_too_late, not_arrangement, open_checks, with_decision, with_decided, with_mark, with_outcome, with_superseded, without_mark}
+use Rattle.exam_commands.specs.Decisions.{decision_checks, decision_refusal, gives_way, giving_way, grant_checks}
+use Rattle.exam_commands.specs.Decisions.{is_made, is_too_late, not_arrangement, open_checks, with_decision}
+use Rattle.exam_commands.specs.Decisions.{with_decided, with_mark, with_outcome, with_superseded, without_mark}
 use Rattle.exam_commands.specs.Good as good
 use Rattle.exam_commands.specs.Limits.{most_appeals, within_limits, sessions_within, papers_within, halls_within, openings_within, candidates_within, members_within}
 use Rattle.exam_commands.specs.Singles.{AreSingle, SingleKey, same_single_key, single_as, single_key}
@@ -48,14 +50,18 @@ all_mapped p g same [] = refl
 all_mapped p g same (d ∷ ds) = ap (λ b. b && list_all p (map g ds)) (same d) ∙ ap (λ b. p d && b) (all_mapped p g same ds)
 
 -- a key that was there is there
-mapped_there : {K X : Type 0} (cmp : K → K → Ordering) (g : K × X → K × X) → ((row : K × X) → (g row).0 ≡ row.0) → (rows : List (K × X)) (k : K) (x : X) → row_at cmp rows k ≡ Some x → (y : X) × (row_at cmp (map g rows) k ≡ Some y)
+mapped_there : {K X : Type 0} (cmp : K → K → Ordering) (g : K × X → K × X) → ((row : K × X) → (g row).0 ≡ row.0)
+    → (rows : List (K × X)) (k : K) (x : X) → row_at cmp rows k ≡ Some x
+    → (y : X) × (row_at cmp (map g rows) k ≡ Some y)
 mapped_there cmp g keyed [] k x at = absurd (let differ : None ≡ Some x = at in cc)
 mapped_there {K} {X} cmp g keyed (d ∷ ds) k x at = inner (is_at (cmp k) d.0) refl at (mapped_there cmp g keyed ds k x)
   where
     head : (b : Bool) → is_at (cmp k) d.0 ≡ b → row_at cmp (g d ∷ map g ds) k ≡ cond b (Some (g d).1) (row_at cmp (map g ds) k)
     head b is = ap (λ q. cond (is_at (cmp k) q) (Some (g d).1) (row_at cmp (map g ds) k)) (keyed d) ∙ ap (λ t. cond t (Some (g d).1) (row_at cmp (map g ds) k)) is
 
-    inner : (b : Bool) → is_at (cmp k) d.0 ≡ b → cond b (Some d.1) (row_at cmp ds k) ≡ Some x → (row_at cmp ds k ≡ Some x → (y : X) × (row_at cmp (map g ds) k ≡ Some y)) → (y : X) × (row_at cmp (g d ∷ map g ds) k ≡ Some y)
+    inner : (b : Bool) → is_at (cmp k) d.0 ≡ b → cond b (Some d.1) (row_at cmp ds k) ≡ Some x
+        → (row_at cmp ds k ≡ Some x → (y : X) × (row_at cmp (map g ds) k ≡ Some y))
+        → (y : X) × (row_at cmp (g d ∷ map g ds) k ≡ Some y)
     inner true here is rest = ((g d).1, head true here)
     inner false away is rest = let later = rest is in (later.0, head false away ∙ later.1)
 
@@ -65,7 +71,9 @@ count_keys c [] = refl
 count_keys {B} {X} c (d ∷ ds) = inner (d.0.0 == c) (count_keys c ds)
   where
     inner : (b : Bool) → length (filter (is_row_of c) ds) ≡ length (filter (λ (k : ℕ × B). k.0 == c) (keys_of ds))
-        → length (cond b (d ∷ filter (is_row_of c) ds) (filter (is_row_of c) ds)) ≡ length (cond b (d.0 ∷ filter (λ (k : ℕ × B). k.0 == c) (keys_of ds)) (filter (λ (k : ℕ × B). k.0 == c) (keys_of ds)))
+        → length (cond b (d ∷ filter (is_row_of c) ds) (filter (is_row_of c) ds))
+        ≡ length (cond b (d.0 ∷ filter (λ (k : ℕ × B). k.0 == c) (keys_of ds))
+        (filter (λ (k : ℕ × B). k.0 == c) (keys_of ds)))
     inner true rest = omega (arith, rest)
     inner false rest = rest
 
@@ -135,10 +143,13 @@ module _ (r : Relations) (c : ℕ) (a : Appeal) where
   -- appeals of another candidate stay
   module _ (s : Code) (n : ℕ) (other : nat_eq c n ≡ false) where
     apart : (row : (ℕ × Code) × Appeal) → (row.0.0 == n) ≡ true → given row ≡ row
-    apart row own = ap (λ b. cond (b && (same_code row.1.session a.session && supersedes a.subject row.1.subject)) (row.0, record row.1 { status = superseded row.1.status }) row) (away (row.0.0 == c) refl)
+    apart row own = ap (λ b. cond (b && (same_code row.1.session a.session && supersedes a.subject row.1.subject))
+        (row.0, record row.1 { status = superseded row.1.status }) row) (away (row.0.0 == c) refl)
       where
         away : (b : Bool) → (row.0.0 == c) ≡ b → b ≡ false
-        away true here = absurd (let is : c ≡ n = sym (eqb-true row.0.0 c here) ∙ eqb-true row.0.0 n own in let differ : true ≡ false = sym (subst (λ m. nat_eq m n ≡ true) (eqb-true row.0.0 c here) own) ∙ other in cc)
+        away true here = absurd
+            (let is : c ≡ n = sym (eqb-true row.0.0 c here) ∙ eqb-true row.0.0 n own in let differ : true ≡ false =
+            sym (subst (λ m. nat_eq m n ≡ true) (eqb-true row.0.0 c here) own) ∙ other in cc)
         away false e = refl
 
     given_filtered : filter (is_granted_appeal s n) (map given r.appeals) ≡ filter (is_granted_appeal s n) r.appeals
@@ -245,7 +256,9 @@ module _ (r : Relations) (d : Decision) where
   mapped_borne : (c : ℕ) (a : Appeal) (rows : List ((ℕ × Code) × Appeal)) (m : (ℕ × Code) × Unit {0}) → borne_in (map (giving_way c a.session a.subject) rows) m ≡ borne_in rows m
   mapped_borne c a [] m = refl
   mapped_borne c a (row ∷ rows) m =
-      ap (λ k. option_map_or good.may_bear (cond (is_at (appeal_cmp m.0) k) (Some (giving_way c a.session a.subject row).1) (row_at appeal_cmp (map (giving_way c a.session a.subject) rows) m.0)) false) (given_keyed r c a row)
+      ap (λ k. option_map_or good.may_bear
+      (cond (is_at (appeal_cmp m.0) k) (Some (giving_way c a.session a.subject row).1)
+      (row_at appeal_cmp (map (giving_way c a.session a.subject) rows) m.0)) false) (given_keyed r c a row)
       ∙ inner (is_at (appeal_cmp m.0) row.0) (mapped_borne c a rows m)
     where
       inner : (b : Bool) → borne_in (map (giving_way c a.session a.subject) rows) m ≡ borne_in rows m
@@ -277,8 +290,14 @@ module _ (r : Relations) (d : Decision) where
       asked (Some wanted) off = refl
 
       inner : (o : Outcome) → d.outcome ≡ o → (bears_mark o && is_none (asked_arrangement a.subject)) ≡ false → good.marks_were_granted (with_outcome r d a) ≡ true
-      inner outcome.Grant is fits_mark = ap (λ o. list_all after (cond (bears_mark o) (put_row appeal_cmp r.standing key tt) (without_mark key r.standing))) is ∙ ap (list_all after) (unmarked_same r.standing key (unmarked_open a stand at open_yet)) ∙ old
-      inner outcome.Refuse is fits_mark = ap (λ o. list_all after (cond (bears_mark o) (put_row appeal_cmp r.standing key tt) (without_mark key r.standing))) is ∙ ap (list_all after) (unmarked_same r.standing key (unmarked_open a stand at open_yet)) ∙ old
+      inner outcome.Grant is fits_mark =
+          ap (λ o. list_all after
+          (cond (bears_mark o) (put_row appeal_cmp r.standing key tt) (without_mark key r.standing))) is
+          ∙ ap (list_all after) (unmarked_same r.standing key (unmarked_open a stand at open_yet)) ∙ old
+      inner outcome.Refuse is fits_mark =
+          ap (λ o. list_all after
+          (cond (bears_mark o) (put_row appeal_cmp r.standing key tt) (without_mark key r.standing))) is
+          ∙ ap (list_all after) (unmarked_same r.standing key (unmarked_open a stand at open_yet)) ∙ old
       inner outcome.Standing is fits_mark =
           ap (λ o. list_all after (cond (bears_mark o) (put_row appeal_cmp r.standing key tt) (without_mark key r.standing))) is
           ∙ all_put appeal_cmp appeals_exact after r.standing key tt old
@@ -288,10 +307,14 @@ module _ (r : Relations) (d : Decision) where
   pub decision_marks : (today : ℕ) → good.marks_were_granted r ≡ true → decision_refusal r today d ≡ None → good.marks_were_granted (with_decision r d) ≡ true
   decision_marks today stand ok = inner (appeal_at r d.number d.reference) refl ok
     where
-      by_case : (a : Appeal) → appeal_at r d.number d.reference ≡ Some a → (b : Bool) → first_refusal (cond b [] (open_checks r today d a)) ≡ None → good.marks_were_granted (cond b r (with_outcome r d a)) ≡ true
+      by_case : (a : Appeal) → appeal_at r d.number d.reference ≡ Some a → (b : Bool)
+          → first_refusal (cond b [] (open_checks r today d a)) ≡ None
+          → good.marks_were_granted (cond b r (with_outcome r d a)) ≡ true
       by_case a at true checked = stand
       by_case a at false checked =
-          let opened = passed (not (is_open a.status)) refusal.NotOpenAppeal ((is_too_late r a.session today, refusal.TooLate) ∷ not_arrangement a d.outcome ∷ grant_checks r d.number a d.outcome) checked in
+          let opened = passed (not (is_open a.status)) refusal.NotOpenAppeal
+          ((is_too_late r a.session today, refusal.TooLate) ∷ not_arrangement a d.outcome
+          ∷ grant_checks r d.number a d.outcome) checked in
           let timely = passed (is_too_late r a.session today) refusal.TooLate (not_arrangement a d.outcome ∷ grant_checks r d.number a d.outcome) opened.1 in
           let suited = passed (not_arrangement a d.outcome).0 refusal.NotArrangement (grant_checks r d.number a d.outcome) timely.1 in
           marks_after a stand at (not-false (is_open a.status) opened.0) d.outcome refl suited.0
@@ -345,7 +368,11 @@ module _ (r : Relations) (d : Decision) where
           put_keys appeal_cmp appeals_total rows (d.number, d.reference) v there.0 (subst (λ ks. IsStrictlySortedBy appeal_cmp ks) (sym keyed) up) there.1 ∙ keyed in
           let counts : (c : ℕ) → appeal_count (with_outcome r d a) c ≡ appeal_count r c =
           λ c. count_keys c (put_row appeal_cmp rows (d.number, d.reference) v) ∙ ap (λ ks. length (filter (λ (k : ℕ × Code). k.0 == c) ks)) keys ∙ sym (count_keys c r.appeals) in
-          ap (λ (n : ℕ → ℕ). sessions_within r && (papers_within r && (halls_within r && (openings_within r && (candidates_within r && (members_within r && list_all (λ c. nat_le (n c) most_appeals) (keys_of r.candidates)))))))
+          ap (λ (n : ℕ → ℕ). sessions_within r
+          && (papers_within r &&
+          (halls_within r && (openings_within r
+          && (candidates_within r
+          && (members_within r && list_all (λ c. nat_le (n c) most_appeals) (keys_of r.candidates)))))))
           (fun_ext counts)
 
   pub decision_single : AreSingle r → AreSingle (with_decision r d)
@@ -353,7 +380,9 @@ module _ (r : Relations) (d : Decision) where
     where
       anew : (a : Appeal) → appeal_at r d.number d.reference ≡ Some a → AreSingle (with_outcome r d a)
       anew a stored =
-          put_distinct appeal_cmp appeals_exact single_key same_single_key single_flips (with_superseded d.number a d.outcome r.appeals) (d.number, d.reference) (record a { status = decided d.outcome d.answer })
+          put_distinct appeal_cmp appeals_exact single_key same_single_key single_flips
+          (with_superseded d.number a d.outcome r.appeals) (d.number, d.reference)
+          (record a { status = decided d.outcome d.answer })
           (rows_fresh r d.number a d.outcome d.answer) (rows_distinct r d.number a d.outcome distinct)
 
   pub decision_fits : (s : Code) (c : ℕ) → nat_eq d.number c ≡ false → (h : Code) → fits (with_decision r d) s c h ≡ fits r s c h
@@ -365,7 +394,9 @@ module _ (r : Relations) (d : Decision) where
           let v : Appeal = record a { status = decided d.outcome d.answer } in
           fits_same r (put_row appeal_cmp rows (d.number, d.reference) v) (with_mark d r.standing) s c
           (ap (map (λ (x : (ℕ × Code) × Appeal). x.1.subject))
-          (put_filtered appeal_cmp appeals_exact (is_granted_appeal s c) rows (d.number, d.reference) v (λ w. ap (λ b. b && (same_code w.session s && is_granted w.status)) other) ∙ rows_filtered r d.number a s c other d.outcome))
+          (put_filtered appeal_cmp appeals_exact (is_granted_appeal s c) rows (d.number, d.reference) v
+          (λ w. ap (λ b. b && (same_code w.session s && is_granted w.status)) other)
+          ∙ rows_filtered r d.number a s c other d.outcome))
           (others_standing_grants r d a c other) h
 
   pub decision_desks : (s h : Code) → desks (with_decision r d) s h ≡ desks r s h

@@ -41,7 +41,8 @@ module _ (today : ℕ) (before : State) (good : IsGood before) (up : AreInOrder 
   made_is_change (command.Decide d) ok within = ap (λ o. unless o (with_decision before.relations d)) ok
 
   -- past a limit the command is refused
-  pub past_limit : (done : Command) → may_pass_limit done ≡ true → early_refusal done today before ≡ None → within_limits (facts_made done today before) ≡ false → change done today before ≡ Err refusal.TooMany
+  pub past_limit : (done : Command) → may_pass_limit done ≡ true → early_refusal done today before ≡ None
+      → within_limits (facts_made done today before) ≡ false → change done today before ≡ Err refusal.TooMany
   past_limit (command.Import import) may ok past =
       ap (λ o. unless (option_or o (first_refusal (too_many (with_rows before.relations import.rows) ∷ []))) (with_rows before.relations import.rows)) ok
       ∙ ap (λ o. unless o (with_rows before.relations import.rows)) (limits_refusal before.relations import.rows false past)

@@ -18,7 +18,9 @@ use Rattle.exam_commands.specs.declared.import_row.Row.{Row}
 use Rattle.exam_commands.specs.declared.import_row.Row.TheVariants as row
 use Rattle.exam_commands.specs.Appeals.{appeal_at, is_open, is_retracted, superseded}
 use Rattle.exam_commands.specs.Changes.{closing_refusal, first_refusal, import_refusal, reinstatement_refusal, with_live, with_row, with_rows, withdrawal_refusal, without_opening}
-use Rattle.exam_commands.specs.Decisions.{decision_checks, decision_refusal, gives_way, giving_way, grant_checks, is_made, is_too_late, not_arrangement, open_checks, with_decided, with_decision, with_outcome, with_superseded}
+use Rattle.exam_commands.specs.Decisions.{decision_checks, decision_refusal, gives_way, giving_way, grant_checks}
+use Rattle.exam_commands.specs.Decisions.{is_made, is_too_late, not_arrangement, open_checks, with_decided}
+use Rattle.exam_commands.specs.Decisions.{with_decision, with_outcome, with_superseded}
 use Rattle.exam_commands.specs.Good as good
 use Rattle.exam_commands.specs.Good.{IsGood}
 use Rattle.exam_commands.specs.KeptRows.{KeepsKeys, KeepsOpenings, KeepsRows}
@@ -45,23 +47,78 @@ keeps_itself r = record {
 -- one more row of an import
 keeps_row : (r : Relations) (x : Row) → Keeps r (with_row r x)
 keeps_row r (row.OfSession s x) = let same = (keeps_itself r).rows in record {
-  rows = record { sessions = λ k h. has_put code_cmp r.sessions s k x h; papers = same.papers; halls = same.halls; candidates = same.candidates; entries = same.entries; arrangements = same.arrangements; appeals = same.appeals; standing = same.standing };
+  rows = record {
+    sessions = λ k h. has_put code_cmp r.sessions s k x h;
+    papers = same.papers;
+    halls =
+        same.halls;
+    candidates = same.candidates;
+    entries = same.entries;
+    arrangements = same.arrangements;
+    appeals =
+        same.appeals;
+    standing = same.standing;
+  };
   openings = λ k h. h;
 }
 keeps_row r (row.OfPaper p x) = let same = (keeps_itself r).rows in record {
-  rows = record { sessions = same.sessions; papers = λ k h. has_put code_cmp r.papers p k x h; halls = same.halls; candidates = same.candidates; entries = same.entries; arrangements = same.arrangements; appeals = same.appeals; standing = same.standing };
+  rows = record {
+    sessions = same.sessions;
+    papers = λ k h. has_put code_cmp r.papers p k x h;
+    halls =
+        same.halls;
+    candidates = same.candidates;
+    entries = same.entries;
+    arrangements = same.arrangements;
+    appeals =
+        same.appeals;
+    standing = same.standing;
+  };
   openings = λ k h. h;
 }
 keeps_row r (row.OfHall j x) = let same = (keeps_itself r).rows in record {
-  rows = record { sessions = same.sessions; papers = same.papers; halls = λ k h. has_put code_cmp r.halls j k x h; candidates = same.candidates; entries = same.entries; arrangements = same.arrangements; appeals = same.appeals; standing = same.standing };
+  rows = record {
+    sessions = same.sessions;
+    papers = same.papers;
+    halls =
+        λ k h. has_put code_cmp r.halls j k x h;
+    candidates = same.candidates;
+    entries = same.entries;
+    arrangements =
+        same.arrangements;
+    appeals = same.appeals;
+    standing = same.standing;
+  };
   openings = λ k h. h;
 }
 keeps_row r (row.OfOpening s j x) = let same = (keeps_itself r).rows in record {
-  rows = record { sessions = same.sessions; papers = same.papers; halls = same.halls; candidates = same.candidates; entries = same.entries; arrangements = same.arrangements; appeals = same.appeals; standing = same.standing };
+  rows = record {
+    sessions = same.sessions;
+    papers = same.papers;
+    halls = same.halls;
+    candidates =
+        same.candidates;
+    entries = same.entries;
+    arrangements = same.arrangements;
+    appeals = same.appeals;
+    standing =
+        same.standing;
+  };
   openings = λ k h. has_put opening_cmp r.openings (s, j) k x h;
 }
 keeps_row r (row.OfCandidate c x) = let same = (keeps_itself r).rows in record {
-  rows = record { sessions = same.sessions; papers = same.papers; halls = same.halls; candidates = λ k h. has_put nat_cmp r.candidates c k x h; entries = same.entries; arrangements = same.arrangements; appeals = same.appeals; standing = same.standing };
+  rows = record {
+    sessions = same.sessions;
+    papers = same.papers;
+    halls = same.halls;
+    candidates =
+        λ k h. has_put nat_cmp r.candidates c k x h;
+    entries = same.entries;
+    arrangements = same.arrangements;
+    appeals =
+        same.appeals;
+    standing = same.standing;
+  };
   openings = λ k h. h;
 }
 keeps_row r (row.OfEntry c p) = inner (has_row entry_cmp r.entries (c, p))
@@ -69,11 +126,34 @@ keeps_row r (row.OfEntry c p) = inner (has_row entry_cmp r.entries (c, p))
     inner : (b : Bool) → Keeps r (cond b r (record r { entries = put_row entry_cmp r.entries (c, p) (record { live = true }) }))
     inner true = keeps_itself r
     inner false = let same = (keeps_itself r).rows in record {
-      rows = record { sessions = same.sessions; papers = same.papers; halls = same.halls; candidates = same.candidates; entries = λ k h. has_put entry_cmp r.entries (c, p) k (record { live = true }) h; arrangements = same.arrangements; appeals = same.appeals; standing = same.standing };
+      rows = record {
+        sessions = same.sessions;
+        papers = same.papers;
+        halls = same.halls;
+        candidates =
+            same.candidates;
+        entries =
+            λ k h. has_put entry_cmp r.entries (c, p) k (record { live = true }) h;
+        arrangements =
+            same.arrangements;
+        appeals = same.appeals;
+        standing = same.standing;
+      };
       openings = λ k h. h;
     }
 keeps_row r (row.OfArrangement c x) = let same = (keeps_itself r).rows in record {
-  rows = record { sessions = same.sessions; papers = same.papers; halls = same.halls; candidates = same.candidates; entries = same.entries; arrangements = λ k h. has_put nat_cmp r.arrangements c k x h; appeals = same.appeals; standing = same.standing };
+  rows = record {
+    sessions = same.sessions;
+    papers = same.papers;
+    halls = same.halls;
+    candidates =
+        same.candidates;
+    entries = same.entries;
+    arrangements = λ k h. has_put nat_cmp r.arrangements c k x h;
+    appeals =
+        same.appeals;
+    standing = same.standing;
+  };
   openings = λ k h. h;
 }
 
@@ -99,14 +179,35 @@ keeps_rows r (x ∷ rows) = keeps_both r (with_row r x) (with_rows (with_row r x
 -- entries, or appeals and marks, keep their keys, and the rest stays
 keeps_entries : (r : Relations) (c : ℕ) (p : Code) (live : Bool) → Keeps r (with_live r c p live)
 keeps_entries r c p live = let same = (keeps_itself r).rows in record {
-  rows = record { sessions = same.sessions; papers = same.papers; halls = same.halls; candidates = same.candidates; entries = λ k h. has_put entry_cmp r.entries (c, p) k (record { live = live }) h; arrangements = same.arrangements; appeals = same.appeals; standing = same.standing };
+  rows = record {
+    sessions = same.sessions;
+    papers = same.papers;
+    halls = same.halls;
+    candidates =
+        same.candidates;
+    entries = λ k h. has_put entry_cmp r.entries (c, p) k (record { live = live }) h;
+    arrangements =
+        same.arrangements;
+    appeals = same.appeals;
+    standing = same.standing;
+  };
   openings = λ k h. h;
 }
 
 keeps_appeals : (r : Relations) (appeals : List ((ℕ × Code) × Appeal)) (marks : List ((ℕ × Code) × Unit {0})) → KeepsKeys appeal_cmp r.appeals appeals → KeepsKeys appeal_cmp r.standing marks
     → Keeps r (record r { appeals = appeals; standing = marks })
 keeps_appeals r appeals marks stay bear = let same = (keeps_itself r).rows in record {
-  rows = record { sessions = same.sessions; papers = same.papers; halls = same.halls; candidates = same.candidates; entries = same.entries; arrangements = same.arrangements; appeals = stay; standing = bear };
+  rows = record {
+    sessions = same.sessions;
+    papers = same.papers;
+    halls = same.halls;
+    candidates =
+        same.candidates;
+    entries = same.entries;
+    arrangements = same.arrangements;
+    appeals = stay;
+    standing = bear;
+  };
   openings = λ k h. h;
 }
 
@@ -156,12 +257,17 @@ decision_keeps : (r : Relations) (day : ℕ) (d : Decision) → good.marks_were_
 decision_keeps r day d stand ok = inner (appeal_at r d.number d.reference) refl
   where
     was_open : (a : Appeal) → first_refusal (open_checks r day d a) ≡ None → is_open a.status ≡ true
-    was_open a none = not-false (is_open a.status) (passed (not (is_open a.status)) refusal.NotOpenAppeal ((is_too_late r a.session day, refusal.TooLate) ∷ not_arrangement a d.outcome ∷ grant_checks r d.number a d.outcome) none).0
+    was_open a none = not-false (is_open a.status)
+        (passed (not (is_open a.status)) refusal.NotOpenAppeal
+        ((is_too_late r a.session day, refusal.TooLate) ∷ not_arrangement a d.outcome
+        ∷ grant_checks r d.number a d.outcome) none).0
 
     by_case : (a : Appeal) → appeal_at r d.number d.reference ≡ Some a → (b : Bool) → first_refusal (cond b [] (open_checks r day d a)) ≡ None → Keeps r (cond b r (with_outcome r d a))
     by_case a at true none = keeps_itself r
     by_case a at false none =
-        keeps_appeals r (with_outcome r d a).appeals (with_outcome r d a).standing (λ k h. has_put appeal_cmp (with_superseded d.number a d.outcome r.appeals) (d.number, d.reference) k _ (superseding_keeps d.number a d.outcome r.appeals k h))
+        keeps_appeals r (with_outcome r d a).appeals (with_outcome r d a).standing
+        (λ k h. has_put appeal_cmp (with_superseded d.number a d.outcome r.appeals) (d.number, d.reference) k _
+        (superseding_keeps d.number a d.outcome r.appeals k h))
         (λ k h. marked_still r d k (λ same. let differ : true ≡ false = sym h ∙ ap (has_row appeal_cmp r.standing) same ∙ unmarked_open r d a stand at (was_open a none) in cc) ∙ h)
 
     inner : (o : Option Appeal) → appeal_at r d.number d.reference ≡ o → Keeps r (with_decided r d o)
@@ -174,21 +280,50 @@ all_stay done r t keeps = (keeps.rows, λ k apart. keeps.openings k)
 
 change_keeps : (done : Command) (day : ℕ) (before : State) (t : Relations) → IsGood before → change done day before ≡ Ok t → KeepsRows before.relations t × KeepsOpenings done before.relations t
 change_keeps (command.Import import) day before t fine is =
-    all_stay (command.Import import) before.relations t (subst (Keeps before.relations) (made (import_refusal before.relations import.rows) (with_rows before.relations import.rows) t is) (keeps_rows before.relations import.rows))
+    all_stay (command.Import import) before.relations t
+    (subst (Keeps before.relations)
+    (made (import_refusal before.relations import.rows) (with_rows before.relations import.rows) t is)
+    (keeps_rows before.relations import.rows))
 change_keeps (command.Withdraw c p) day before t fine is =
-    all_stay (command.Withdraw c p) before.relations t (subst (Keeps before.relations) (made (withdrawal_refusal before.relations c p) (with_live before.relations c p false) t is) (keeps_entries before.relations c p false))
+    all_stay (command.Withdraw c p) before.relations t
+    (subst (Keeps before.relations)
+    (made (withdrawal_refusal before.relations c p) (with_live before.relations c p false) t is)
+    (keeps_entries before.relations c p false))
 change_keeps (command.Reinstate c p) day before t fine is =
-    all_stay (command.Reinstate c p) before.relations t (subst (Keeps before.relations) (made (reinstatement_refusal before.relations c p) (with_live before.relations c p true) t is) (keeps_entries before.relations c p true))
+    all_stay (command.Reinstate c p) before.relations t
+    (subst (Keeps before.relations)
+    (made (reinstatement_refusal before.relations c p) (with_live before.relations c p true) t is)
+    (keeps_entries before.relations c p true))
 change_keeps (command.CloseHall s h) day before t fine is =
     let r = before.relations in
     let new = made (closing_refusal r s h) (without_opening r s h) t is in (
-      subst (KeepsRows r) new (record { sessions = λ k i. i; papers = λ k i. i; halls = λ k i. i; candidates = λ k i. i; entries = λ k i. i; arrangements = λ k i. i; appeals = λ k i. i; standing = λ k i. i }),
-      subst (KeepsOpenings (command.CloseHall s h) r) new (λ k apart has. ap is_some (removed_elsewhere opening_cmp openings_exact r.openings (s, h) k (key_apart opening_cmp openings_exact k (s, h) apart)) ∙ has),
+      subst (KeepsRows r) new
+          (record {
+            sessions = λ k i. i;
+            papers = λ k i. i;
+            halls = λ k i. i;
+            candidates = λ k i. i;
+            entries =
+                λ k i. i;
+            arrangements = λ k i. i;
+            appeals = λ k i. i;
+            standing = λ k i. i;
+          }),
+      subst (KeepsOpenings (command.CloseHall s h) r) new
+          (λ k apart has. ap is_some
+          (removed_elsewhere opening_cmp openings_exact r.openings (s, h) k
+          (key_apart opening_cmp openings_exact k (s, h) apart)) ∙ has),
     )
 change_keeps (command.Lodge l) day before t fine is =
-    all_stay (command.Lodge l) before.relations t (subst (Keeps before.relations) (made (spec.lodging_refusal before.relations before.seats day l) (spec.with_lodging before.relations day l) t is) (lodging_keeps before.relations day l))
+    all_stay (command.Lodge l) before.relations t
+    (subst (Keeps before.relations)
+    (made (spec.lodging_refusal before.relations before.seats day l)
+    (spec.with_lodging before.relations day l) t is) (lodging_keeps before.relations day l))
 change_keeps (command.Retract c reference) day before t fine is =
-    all_stay (command.Retract c reference) before.relations t (subst (Keeps before.relations) (made (spec.retraction_refusal before.relations c reference) (spec.with_retraction before.relations c reference) t is) (retraction_keeps before.relations c reference))
+    all_stay (command.Retract c reference) before.relations t
+    (subst (Keeps before.relations)
+    (made (spec.retraction_refusal before.relations c reference)
+    (spec.with_retraction before.relations c reference) t is) (retraction_keeps before.relations c reference))
 change_keeps (command.Decide d) day before t fine is =
     all_stay (command.Decide d) before.relations t (subst (Keeps before.relations) (made (decision_refusal before.relations day d) (with_decision before.relations d) t is)
     (decision_keeps before.relations day d fine.marks (unrefused (decision_refusal before.relations day d) (with_decision before.relations d) t is)))

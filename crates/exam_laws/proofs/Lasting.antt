@@ -31,7 +31,9 @@ use Rattle.exam_commands.specs.Appeals.{appeal_at, bears_mark, decided, is_decid
 use Rattle.exam_commands.specs.Moves.{moved}
 use Rattle.exam_commands.specs.Replies.{reply_to}
 use Rattle.exam_commands.specs.declared.command.AppealState.TheVariants as state
-use Rattle.exam_commands.specs.Decisions.{decision_checks, decision_refusal, gives_way, giving_way, grant_checks, is_made, is_too_late, not_arrangement, open_checks, with_decided, with_decision, with_outcome, with_superseded}
+use Rattle.exam_commands.specs.Decisions.{decision_checks, decision_refusal, gives_way, giving_way, grant_checks}
+use Rattle.exam_commands.specs.Decisions.{is_made, is_too_late, not_arrangement, open_checks, with_decided}
+use Rattle.exam_commands.specs.Decisions.{with_decision, with_outcome, with_superseded}
 use Rattle.exam_commands.specs.Changes.{closing_refusal, first_refusal, import_refusal, reinstatement_refusal, unless, with_live, with_rows, without_opening, withdrawal_refusal}
 use Rattle.exam_commands.specs.Good.{IsGood}
 use Rattle.exam_commands.specs.Limits.{within_limits}
@@ -141,7 +143,9 @@ carries_both r t u one two = record {
       two.marks k first.then first.stored (first.continues.closed closed) ∙ one.marks k a at closed;
 }
 
-carries_put : (r : Relations) (k : ℕ × Code) (new : Appeal) → ((a : Appeal) → row_at appeal_cmp r.appeals k ≡ Some a → Continues a new) → Carries r (record r { appeals = put_row appeal_cmp r.appeals k new })
+carries_put : (r : Relations) (k : ℕ × Code) (new : Appeal)
+    → ((a : Appeal) → row_at appeal_cmp r.appeals k ≡ Some a → Continues a new)
+    → Carries r (record r { appeals = put_row appeal_cmp r.appeals k new })
 carries_put r k new continues = record { candidates = λ c has. has; appeals = λ q a at. inner q a at (is_at (appeal_cmp k) q) refl; marks = λ q a at closed. refl }
   where
     inner : (q : ℕ × Code) (a : Appeal) → row_at appeal_cmp r.appeals q ≡ Some a → (b : Bool) → is_at (appeal_cmp k) q ≡ b → GoesOn (record r { appeals = put_row appeal_cmp r.appeals k new }) q a
@@ -193,7 +197,9 @@ retracting_open (status.Superseded stored) not_so ok = absurd (let differ : Some
 retraction_carries : (r : Relations) (c : ℕ) (reference : Code) → spec.retraction_refusal r c reference ≡ None → Carries r (spec.with_retraction r c reference)
 retraction_carries r c reference ok = inner (appeal_at r c reference) refl
   where
-    by_status : (a : Appeal) → appeal_at r c reference ≡ Some a → (is_retracted a.status ≡ false → is_open a.status ≡ true) → (b : Bool) → is_retracted a.status ≡ b → Carries r (cond b r (spec.with_retracted_appeal r c reference a))
+    by_status : (a : Appeal) → appeal_at r c reference ≡ Some a
+        → (is_retracted a.status ≡ false → is_open a.status ≡ true) → (b : Bool) → is_retracted a.status ≡ b
+        → Carries r (cond b r (spec.with_retracted_appeal r c reference a))
     by_status a at opens true was = carries_itself r
     by_status a at opens false was = carries_put r (c, reference) (record a { status = status.Retracted }) (λ b is.
         let both : Some a ≡ Some b = sym at ∙ is in
@@ -262,11 +268,14 @@ record GoesOnAmong (rows : List ((ℕ × Code) × Appeal)) (k : ℕ × Code) (a 
   stored : row_at appeal_cmp rows k ≡ Some then
   continues : Continues a then
 
-mapped_goes_on : (c : ℕ) (s : Code) (asked : Subject) (rows : List ((ℕ × Code) × Appeal)) (k : ℕ × Code) (a : Appeal) → row_at appeal_cmp rows k ≡ Some a → GoesOnAmong (map (giving_way c s asked) rows) k a
+mapped_goes_on : (c : ℕ) (s : Code) (asked : Subject) (rows : List ((ℕ × Code) × Appeal)) (k : ℕ × Code) (a : Appeal)
+    → row_at appeal_cmp rows k ≡ Some a → GoesOnAmong (map (giving_way c s asked) rows) k a
 mapped_goes_on c s asked [] k a at = absurd (let differ : None ≡ Some a = at in cc)
 mapped_goes_on c s asked (d ∷ ds) k a at = inner (is_at (appeal_cmp k) d.0) refl at (mapped_goes_on c s asked ds k a)
   where
-    head : (b : Bool) → is_at (appeal_cmp k) d.0 ≡ b → row_at appeal_cmp (map (giving_way c s asked) (d ∷ ds)) k ≡ cond b (Some (giving_way c s asked d).1) (row_at appeal_cmp (map (giving_way c s asked) ds) k)
+    head : (b : Bool) → is_at (appeal_cmp k) d.0 ≡ b
+        → row_at appeal_cmp (map (giving_way c s asked) (d ∷ ds)) k
+        ≡ cond b (Some (giving_way c s asked d).1) (row_at appeal_cmp (map (giving_way c s asked) ds) k)
     head b is = ap (λ q. cond (is_at (appeal_cmp k) q) (Some (giving_way c s asked d).1) (row_at appeal_cmp (map (giving_way c s asked) ds) k)) (giving_way_keyed c s asked d)
         ∙ ap (λ t. cond t (Some (giving_way c s asked d).1) (row_at appeal_cmp (map (giving_way c s asked) ds) k)) is
 
@@ -331,7 +340,10 @@ decision_carries : (r : Relations) (day : ℕ) (d : Decision) → decision_refus
 decision_carries r day d ok = inner (appeal_at r d.number d.reference) refl
   where
     was_open : (a : Appeal) → first_refusal (open_checks r day d a) ≡ None → is_open a.status ≡ true
-    was_open a none = not-false (is_open a.status) (passed (not (is_open a.status)) refusal.NotOpenAppeal ((is_too_late r a.session day, refusal.TooLate) ∷ not_arrangement a d.outcome ∷ grant_checks r d.number a d.outcome) none).0
+    was_open a none = not-false (is_open a.status)
+        (passed (not (is_open a.status)) refusal.NotOpenAppeal
+        ((is_too_late r a.session day, refusal.TooLate) ∷ not_arrangement a d.outcome
+        ∷ grant_checks r d.number a d.outcome) none).0
 
     by_case : (a : Appeal) → appeal_at r d.number d.reference ≡ Some a → (b : Bool) → first_refusal (cond b [] (open_checks r day d a)) ≡ None → Carries r (cond b r (with_outcome r d a))
     by_case a at true none = carries_itself r
@@ -344,13 +356,22 @@ decision_carries r day d ok = inner (appeal_at r d.number d.reference) refl
 change_carries : (done : Command) (day : ℕ) (before : State) (t : Relations) → change done day before ≡ Ok t → Carries before.relations t
 change_carries (command.Import import) day before t is =
     let new = made (import_refusal before.relations import.rows) (with_rows before.relations import.rows) t is in
-    subst (Carries before.relations) new (carries_import before.relations (with_rows before.relations import.rows) (import_candidates before.relations import.rows) (import_appeals before.relations import.rows) (import_standing before.relations import.rows))
+    subst (Carries before.relations) new
+    (carries_import before.relations (with_rows before.relations import.rows)
+    (import_candidates before.relations import.rows) (import_appeals before.relations import.rows)
+    (import_standing before.relations import.rows))
 change_carries (command.Withdraw c p) day before t is =
-    subst (Carries before.relations) (made (withdrawal_refusal before.relations c p) (with_live before.relations c p false) t is) (carries_import before.relations (with_live before.relations c p false) (λ d has. has) refl refl)
+    subst (Carries before.relations)
+    (made (withdrawal_refusal before.relations c p) (with_live before.relations c p false) t is)
+    (carries_import before.relations (with_live before.relations c p false) (λ d has. has) refl refl)
 change_carries (command.Reinstate c p) day before t is =
-    subst (Carries before.relations) (made (reinstatement_refusal before.relations c p) (with_live before.relations c p true) t is) (carries_import before.relations (with_live before.relations c p true) (λ d has. has) refl refl)
+    subst (Carries before.relations)
+    (made (reinstatement_refusal before.relations c p) (with_live before.relations c p true) t is)
+    (carries_import before.relations (with_live before.relations c p true) (λ d has. has) refl refl)
 change_carries (command.CloseHall s h) day before t is =
-    subst (Carries before.relations) (made (closing_refusal before.relations s h) (without_opening before.relations s h) t is) (carries_import before.relations (without_opening before.relations s h) (λ d has. has) refl refl)
+    subst (Carries before.relations)
+    (made (closing_refusal before.relations s h) (without_opening before.relations s h) t is)
+    (carries_import before.relations (without_opening before.relations s h) (λ d has. has) refl refl)
 change_carries (command.Lodge l) day before t is =
     subst (Carries before.relations) (made (spec.lodging_refusal before.relations before.seats day l) (spec.with_lodging before.relations day l) t is) (lodging_carries before.relations day l)
 change_carries (command.Retract c reference) day before t is =
@@ -387,7 +408,8 @@ new_facts done day before answer after step = inner (change done day before) ref
     inner (Ok t) is to = ap Ok (sym to.0)
     inner (Err e) is to = absurd (let differ : Ok answer ≡ Err e = to.0 in cc)
 
-pub same_office : (done : Command) (before : State) (answer : Result Reply Refusal) (after : State) → IsInOrder before → IsInOrder after → StepTo done before answer after (Ok before.relations) → after ≡ before
+pub same_office : (done : Command) (before : State) (answer : Result Reply Refusal) (after : State) → IsInOrder before
+    → IsInOrder after → StepTo done before answer after (Ok before.relations) → after ≡ before
 same_office done before answer after up up_after to =
     let same : after.seats ≡ before.seats = same_rows seat_cmp seats_total seats_exact after.seats before.seats up_after.seats up.seats
     (λ q. (to.1 q.0).untouched (record { members = refl; fits = λ c h. refl; desks = λ h. refl }) q.1) in
@@ -425,7 +447,9 @@ module _ (l : Lodging) where
     where
       inner : (o : Option Appeal) → appeal_at before.relations l.number l.reference ≡ o → IsLodged (spec.with_lodging before.relations day l) l
       inner None none =
-          let first = passed (not (has_row nat_cmp before.relations.candidates l.number)) refusal.UnknownCandidate (spec.lodging_checks before.relations before.seats day l (appeal_at before.relations l.number l.reference)) ok in
+          let first = passed (not (has_row nat_cmp before.relations.candidates l.number)) refusal.UnknownCandidate
+          (spec.lodging_checks before.relations before.seats day l
+          (appeal_at before.relations l.number l.reference)) ok in
           let new : Appeal = record { session = l.session; subject = l.subject; reason = l.reason; status = status.Pending; lodged = day } in
           subst (λ t. IsLodged t l) (sym (ap (λ o. cond (is_none o) (spec.with_appeal before.relations day l) before.relations) none))
           (record {
@@ -435,8 +459,11 @@ module _ (l : Lodging) where
             same = and_from _ _ (same_code_itself l.session) (and_from _ _ (subject_itself l.subject) (same_code_itself l.reason));
           })
       inner (Some a) at =
-          let first = passed (not (has_row nat_cmp before.relations.candidates l.number)) refusal.UnknownCandidate (spec.lodging_checks before.relations before.seats day l (appeal_at before.relations l.number l.reference)) ok in
-          let checks : first_refusal (spec.lodging_checks before.relations before.seats day l (Some a)) ≡ None = ap (λ o. first_refusal (spec.lodging_checks before.relations before.seats day l o)) (sym at) ∙ first.1 in
+          let first = passed (not (has_row nat_cmp before.relations.candidates l.number)) refusal.UnknownCandidate
+          (spec.lodging_checks before.relations before.seats day l
+          (appeal_at before.relations l.number l.reference)) ok in
+          let checks : first_refusal (spec.lodging_checks before.relations before.seats day l (Some a)) ≡ None =
+          ap (λ o. first_refusal (spec.lodging_checks before.relations before.seats day l o)) (sym at) ∙ first.1 in
           subst (λ t. IsLodged t l) (sym (ap (λ o. cond (is_none o) (spec.with_appeal before.relations day l) before.relations) at))
           (record {
             candidate = not-false (has_row nat_cmp before.relations.candidates l.number) first.0;
@@ -449,7 +476,10 @@ module _ (l : Lodging) where
   lodged_again day late is =
       let r = late.relations in
       let limit = first_refusal (spec.one_too_many r day l ∷ []) in
-      ap (λ b. unless (option_or (cond (not b) (Some refusal.UnknownCandidate) (first_refusal (spec.lodging_checks r late.seats day l (appeal_at r l.number l.reference)))) limit) (spec.with_lodging r day l)) is.candidate
+      ap (λ b. unless (option_or
+      (cond (not b) (Some refusal.UnknownCandidate)
+      (first_refusal (spec.lodging_checks r late.seats day l (appeal_at r l.number l.reference)))) limit)
+      (spec.with_lodging r day l)) is.candidate
       ∙ ap (λ o. unless (option_or (first_refusal (spec.lodging_checks r late.seats day l o)) limit) (spec.with_lodging r day l)) is.stored
       ∙ ap (λ b. unless (option_or (cond (not b) (Some refusal.RefTaken) None) limit) (spec.with_lodging r day l)) is.same
       ∙ by_stored r (appeal_at r l.number l.reference) is.stored
@@ -510,18 +540,25 @@ module _ (c : ℕ) (reference : Code) where
   retracted_again day late is =
       let r = late.relations in
       ap (λ o. unless (first_refusal (spec.retraction_checks o)) (spec.with_retracted r c reference o)) is.stored
-      ∙ ap (λ st. unless (cond (not (is_open st) && not (is_retracted st)) (Some refusal.NotOpenAppeal) None) (cond (is_retracted st) r (spec.with_retracted_appeal r c reference is.appeal))) is.retracted
+      ∙ ap (λ st. unless (cond (not (is_open st) && not (is_retracted st)) (Some refusal.NotOpenAppeal) None)
+      (cond (is_retracted st) r (spec.with_retracted_appeal r c reference is.appeal))) is.retracted
 
-pub repeated_retraction : (c : ℕ) (reference : Code) (day later : ℕ) (before mid late after : State) (first : Reply) (done : List (Command × ℕ)) (replies : List (Result Reply Refusal)) (second : Result Reply Refusal)
+pub repeated_retraction : (c : ℕ) (reference : Code) (day later : ℕ) (before mid late after : State) (first : Reply)
+    (done : List (Command × ℕ)) (replies : List (Result Reply Refusal)) (second : Result Reply Refusal)
     → IsInOrder late → IsInOrder after → Step (command.Retract c reference) day before (Ok first) mid → Run done mid replies late → Step (command.Retract c reference) later late second after
     → (second ≡ Ok reply.Retracted) × (after ≡ late)
 repeated_retraction c reference day later before mid late after first done replies second up up_after one run two =
     let changed = new_facts (command.Retract c reference) day before first mid one in
     let refused = spec.retraction_refusal before.relations c reference in
     let none = unrefused refused (spec.with_retraction before.relations c reference) mid.relations changed in
-    let there : IsRetractedAt mid.relations c reference = subst (λ t. IsRetractedAt t c reference) (made refused (spec.with_retraction before.relations c reference) mid.relations changed) (retracted_then c reference before.relations none) in
+    let there : IsRetractedAt mid.relations c reference =
+    subst (λ t. IsRetractedAt t c reference)
+    (made refused (spec.with_retraction before.relations c reference) mid.relations changed)
+    (retracted_then c reference before.relations none) in
     let still = retracted_still c reference mid.relations late.relations (run_carries done mid replies late run) there in
-    let to : StepTo (command.Retract c reference) late second after (Ok late.relations) = subst (StepTo (command.Retract c reference) late second after) (retracted_again c reference later late still) two in
+    let to : StepTo (command.Retract c reference) late second after (Ok late.relations) =
+    subst (StepTo (command.Retract c reference) late second after)
+    (retracted_again c reference later late still) two in
     (to.2, same_office (command.Retract c reference) late second after up up_after to)
 
 -- ---- deciding once more
@@ -585,19 +622,22 @@ module _ (d : Decision) where
       inner (Some a) at = subst (λ t. IsDecidedAt t d) (sym (ap (with_decided r d) at)) (by_case a at (is_made r d a) refl)
 
   -- decided so still
-  again_unchanged : (day : ℕ) (late : State) (a : Appeal) → appeal_at late.relations d.number d.reference ≡ Some a → is_made late.relations d a ≡ true → change (command.Decide d) day late ≡ Ok late.relations
+  again_unchanged : (day : ℕ) (late : State) (a : Appeal) → appeal_at late.relations d.number d.reference ≡ Some a
+      → is_made late.relations d a ≡ true → change (command.Decide d) day late ≡ Ok late.relations
   again_unchanged day late a at is =
       let r = late.relations in
       ap (λ o. unless (first_refusal (decision_checks r day d o)) (with_decided r d o)) at
       ∙ ap (λ b. unless (first_refusal (cond b [] (open_checks r day d a))) (cond b r (with_outcome r d a))) is
 
   -- superseded since
-  again_refused : (day : ℕ) (late : State) (a : Appeal) → appeal_at late.relations d.number d.reference ≡ Some a → state_of a.status ≡ state.Superseded → change (command.Decide d) day late ≡ Err refusal.NotOpenAppeal
+  again_refused : (day : ℕ) (late : State) (a : Appeal) → appeal_at late.relations d.number d.reference ≡ Some a
+      → state_of a.status ≡ state.Superseded → change (command.Decide d) day late ≡ Err refusal.NotOpenAppeal
   again_refused day late a at over =
       ap (λ o. unless (first_refusal (decision_checks late.relations day d o)) (with_decision late.relations d)) at
       ∙ ap (λ o. unless o (with_decision late.relations d)) (over_refused late.relations d day a over)
 
-pub repeated_decision : (d : Decision) (day later : ℕ) (before mid late after : State) (first : Reply) (done : List (Command × ℕ)) (replies : List (Result Reply Refusal)) (second : Result Reply Refusal)
+pub repeated_decision : (d : Decision) (day later : ℕ) (before mid late after : State) (first : Reply)
+    (done : List (Command × ℕ)) (replies : List (Result Reply Refusal)) (second : Result Reply Refusal)
     → IsInOrder late → IsInOrder after → Step (command.Decide d) day before (Ok first) mid → Run done mid replies late → Step (command.Decide d) later late second after
     → ((second ≡ Ok reply.Unchanged) ⊎ ((stored_state late.relations d.number d.reference ≡ state.Superseded) × (second ≡ Err refusal.NotOpenAppeal))) × (after ≡ late)
 repeated_decision d day later before mid late after first done replies second up up_after one run two =
@@ -612,7 +652,10 @@ repeated_decision d day later before mid late after first done replies second up
         → ((second ≡ Ok reply.Unchanged) ⊎ ((stored_state late.relations d.number d.reference ≡ state.Superseded) × (second ≡ Err refusal.NotOpenAppeal))) × (after ≡ late)
     inner a at (inl is) =
         let to : StepTo (command.Decide d) late second after (Ok late.relations) = subst (StepTo (command.Decide d) late second after) (again_unchanged d later late a at is) two in (
-          inl (to.2 ∙ ap (λ o. Ok (reply_to late after d o)) at ∙ ap (λ b. Ok (cond b reply.Unchanged (reply.Decided (stored_state after.relations d.number d.reference) (plan_of after.seats a.session d.number) (moved late.seats after.seats d.number)))) is),
+          inl (to.2 ∙ ap (λ o. Ok (reply_to late after d o)) at
+              ∙ ap (λ b. Ok (cond b reply.Unchanged
+              (reply.Decided (stored_state after.relations d.number d.reference)
+              (plan_of after.seats a.session d.number) (moved late.seats after.seats d.number)))) is),
           same_office (command.Decide d) late second after up up_after to,
         )
     inner a at (inr over) =
@@ -626,7 +669,9 @@ same_seats : (done : Command) (before : State) (answer : Result Reply Refusal) (
 same_seats done before answer after t same up up_after to =
     same_rows seat_cmp seats_total seats_exact after.seats before.seats up_after.seats up.seats (λ q. (to.1 q.0).untouched (same q.0) q.1)
 
-pub lodging_moves_nobody : (l : Lodging) (day : ℕ) (before after : State) (first : Reply) → IsGood before → IsInOrder before → IsInOrder after → Step (command.Lodge l) day before (Ok first) after → after.seats ≡ before.seats
+pub lodging_moves_nobody : (l : Lodging) (day : ℕ) (before after : State) (first : Reply) → IsGood before
+    → IsInOrder before → IsInOrder after → Step (command.Lodge l) day before (Ok first) after
+    → after.seats ≡ before.seats
 lodging_moves_nobody l day before after first good up up_after step =
     let changed = new_facts (command.Lodge l) day before first after step in
     let refused = spec.lodging_refusal before.relations before.seats day l in
@@ -635,7 +680,9 @@ lodging_moves_nobody l day before after first good up up_after step =
     let settled = lodging_settled before good day l after.relations standing.0 (sym (made refused (spec.with_lodging before.relations day l) after.relations changed)) in
     same_seats (command.Lodge l) before (Ok first) after after.relations settled.seated up up_after (subst (StepTo (command.Lodge l) before (Ok first) after) changed step)
 
-pub retraction_moves_nobody : (c : ℕ) (reference : Code) (day : ℕ) (before after : State) (first : Reply) → IsGood before → IsInOrder before → IsInOrder after → Step (command.Retract c reference) day before (Ok first) after → after.seats ≡ before.seats
+pub retraction_moves_nobody : (c : ℕ) (reference : Code) (day : ℕ) (before after : State) (first : Reply)
+    → IsGood before → IsInOrder before → IsInOrder after
+    → Step (command.Retract c reference) day before (Ok first) after → after.seats ≡ before.seats
 retraction_moves_nobody c reference day before after first good up up_after step =
     let changed = new_facts (command.Retract c reference) day before first after step in
     let refused = spec.retraction_refusal before.relations c reference in

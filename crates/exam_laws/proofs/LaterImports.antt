@@ -117,7 +117,9 @@ change_holds (command.CloseHall s h) day before t leaves is = absurd (let differ
 change_holds (command.Lodge l) day before t leaves is =
     subst (Holds before.relations) (made (spec.lodging_refusal before.relations before.seats day l) (spec.with_lodging before.relations day l) t is) (lodging_holds before.relations day l)
 change_holds (command.Retract c reference) day before t leaves is =
-    subst (Holds before.relations) (made (spec.retraction_refusal before.relations c reference) (spec.with_retraction before.relations c reference) t is) (retraction_holds before.relations c reference)
+    subst (Holds before.relations)
+    (made (spec.retraction_refusal before.relations c reference)
+    (spec.with_retraction before.relations c reference) t is) (retraction_holds before.relations c reference)
 change_holds (command.Decide d) day before t leaves is =
     subst (Holds before.relations) (made (decision_refusal before.relations day d) (with_decision before.relations d) t is) (decision_holds before.relations d)
 
@@ -185,7 +187,8 @@ module _ (r t : Relations) (holds : Holds r t) where
 stored_import : (r : Relations) (rows : List Row) → rows_refusal r rows ≡ None → within_limits r ≡ true → with_rows r rows ≡ r → imported r rows ≡ Ok r
 stored_import r rows refer limits same = import_accepted r rows refer (ap within_limits same ∙ limits) ∙ ap Ok same
 
-pub repeated_later : (import : ImportRows) (day later : ℕ) (before mid late after : State) (first : Reply) (done : List (Command × ℕ)) (replies : List (Result Reply Refusal)) (second : Result Reply Refusal)
+pub repeated_later : (import : ImportRows) (day later : ℕ) (before mid late after : State) (first : Reply)
+    (done : List (Command × ℕ)) (replies : List (Result Reply Refusal)) (second : Result Reply Refusal)
     → IsGood late → is_consistent import.rows ≡ true → NoneImportsOrCloses done
     → Step (command.Import import) day before (Ok first) mid → Run done mid replies late → Step (command.Import import) later late second after
     → (second ≡ Ok (reply.Imported 0 0 (length (distinct_rows import.rows)))) × (after ≡ late)
@@ -200,5 +203,7 @@ repeated_later import day later before mid late after first done replies second 
     let refer = rows_refer_still mid.relations late.relations import.rows (grows_still mid.relations late.relations on.holds) referred_then in
     let up : IsInOrder late = on.order (in_order_then (command.Import import) day before first mid one) in
     let same = rows_again late.relations import.rows up.tables stored in
-    let to : StepTo (command.Import import) late second after (Ok late.relations) = subst (StepTo (command.Import import) late second after) (stored_import late.relations import.rows refer good.limits same) two in
+    let to : StepTo (command.Import import) late second after (Ok late.relations) =
+    subst (StepTo (command.Import import) late second after)
+    (stored_import late.relations import.rows refer good.limits same) two in
     (to.2 ∙ ap Ok (stored_reply late.relations import.rows stored), same_office (command.Import import) late second after up to.3 to)

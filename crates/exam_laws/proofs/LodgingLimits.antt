@@ -47,7 +47,9 @@ module _ (r : Relations) (within : within_limits r ≡ true) where
 
   module _ (seats : Seats) (today : ℕ) (l : Lodging) (ok : lodgings.lodging_refusal_but_limits r seats today l ≡ None) where
     known : has_row nat_cmp r.candidates l.number ≡ true
-    known = not-false (has_row nat_cmp r.candidates l.number) (passed (not (has_row nat_cmp r.candidates l.number)) refusal.UnknownCandidate (lodgings.lodging_checks r seats today l (appeal_at r l.number l.reference)) ok).0
+    known = not-false (has_row nat_cmp r.candidates l.number)
+        (passed (not (has_row nat_cmp r.candidates l.number)) refusal.UnknownCandidate
+        (lodgings.lodging_checks r seats today l (appeal_at r l.number l.reference)) ok).0
 
     pub lodging_within : within_limits (lodgings.with_lodging r today l) ≡ nat_le (appeal_count (lodgings.with_lodging r today l) l.number) most_appeals
     lodging_within = inner (appeal_at r l.number l.reference) refl
@@ -59,5 +61,7 @@ module _ (r : Relations) (within : within_limits r ≡ true) where
         by None none = within_told r today l none within known ∙ ap (λ n. nat_le n most_appeals) (sym (own_more r today l none))
         by (Some a) at = within ∙ sym (few_appeals l.number known)
 
-        inner : (o : Option Appeal) → appeal_at r l.number l.reference ≡ o → within_limits (facts (appeal_at r l.number l.reference)) ≡ nat_le (appeal_count (facts (appeal_at r l.number l.reference)) l.number) most_appeals
+        inner : (o : Option Appeal) → appeal_at r l.number l.reference ≡ o
+            → within_limits (facts (appeal_at r l.number l.reference))
+            ≡ nat_le (appeal_count (facts (appeal_at r l.number l.reference)) l.number) most_appeals
         inner o is = ap (λ x. within_limits (facts x)) is ∙ by o is ∙ ap (λ x. nat_le (appeal_count (facts x) l.number) most_appeals) (sym is)

@@ -23,7 +23,9 @@ use Rattle.exam_commands.specs.Good.{IsGood}
 use Rattle.exam_commands.specs.Limits.{within_limits}
 use Rattle.exam_commands.specs.Lodgings as lodgings
 use Rattle.exam_commands.specs.Moves.{moved}
-use Rattle.exam_commands.specs.NextPlans.{AreNext, ArePut, IsLimitRefusal, Plans, PlansBack, after_plans, decided_session, first_reply, keeps_plans, last_reply, newly_decided, refuses, reply_unless_repeated}
+use Rattle.exam_commands.specs.NextPlans.{AreNext, ArePut, IsLimitRefusal, Plans, PlansBack, after_plans}
+use Rattle.exam_commands.specs.NextPlans.{decided_session, first_reply, keeps_plans, last_reply, newly_decided, refuses}
+use Rattle.exam_commands.specs.NextPlans.{reply_unless_repeated}
 use Rattle.exam_commands.specs.Orders.{IsInOrder}
 use Rattle.exam_commands.specs.Parts.{Agrees, IsMadeIn, IsRefusedIn, reads}
 use Rattle.exam_commands.specs.Repairs.{IsRepaired}
@@ -83,7 +85,9 @@ among false e b = refl
 
 -- a grant touches the session of the appeal, if that exists
 pub grant_is_for : (r : Relations) (d : Decision) (s : Code) (o : Option Appeal)
-    → (is_appeal_for r o s || (has_row code_cmp r.sessions s && option_map_or (λ (a : Appeal). grant_reaches r d a s) o false)) ≡ (has_row code_cmp r.sessions s && option_map_or (λ (a : Appeal). grant_reaches r d a s) o false)
+    → (is_appeal_for r o s ||
+    (has_row code_cmp r.sessions s && option_map_or (λ (a : Appeal). grant_reaches r d a s) o false))
+    ≡ (has_row code_cmp r.sessions s && option_map_or (λ (a : Appeal). grant_reaches r d a s) o false)
 grant_is_for r d s None = refl
 grant_is_for r d s (Some a) = among (same_code a.session s) (has_row code_cmp r.sessions s) ((bears_mark d.outcome || ends_standing r d.number a) && is_member r s d.number)
 
@@ -98,7 +102,10 @@ read_touched (command.Retract c reference) r s changes = refl
 read_touched (command.Decide d) r s changes = inner d.outcome changes
   where
     inner : (o : Outcome) → refuses o ≡ false
-        → (is_appeal_for r (appeal_at r d.number d.reference) s || (has_row code_cmp r.sessions s && (is_grant o && option_map_or (λ (a : Appeal). grant_reaches r d a s) (appeal_at r d.number d.reference) false)))
+        → (is_appeal_for r (appeal_at r d.number d.reference) s ||
+        (has_row code_cmp r.sessions s
+        && (is_grant o && option_map_or (λ (a : Appeal). grant_reaches r d a s)
+        (appeal_at r d.number d.reference) false)))
         ≡ (has_row code_cmp r.sessions s && (is_grant o && option_map_or (λ (a : Appeal). grant_reaches r d a s) (appeal_at r d.number d.reference) false))
     inner outcome.Grant grants = grant_is_for r d s (appeal_at r d.number d.reference)
     inner outcome.Standing grants = grant_is_for r d s (appeal_at r d.number d.reference)
@@ -106,7 +113,9 @@ read_touched (command.Decide d) r s changes = inner d.outcome changes
 
 -- ---- the reply
 
-replied : (done : Command) (part new : State) → last_reply done (newly_decided part.relations done) (first_reply done part.relations new.relations) new.relations part.seats new.seats ≡ reply_of done part new
+replied : (done : Command) (part new : State)
+    → last_reply done (newly_decided part.relations done)
+    (first_reply done part.relations new.relations) new.relations part.seats new.seats ≡ reply_of done part new
 replied (command.Import import) part new = refl
 replied (command.Withdraw c p) part new = refl
 replied (command.Reinstate c p) part new = refl
@@ -184,7 +193,9 @@ pub put_after : (o : Option Plans) (old new : Seats) (given : Option Plans) → 
 put_after None old new given put = put.0
 put_after (Some next) old new given put = put.0
 
-pub plans_back : (done : Command) (r t : Relations) (sessions : List Code) (old new : Seats) → ((s : Code) → Contains sessions s ↔ IsTrue (touches r done s)) → (o : Option Plans) → AreNext done t sessions old o
+pub plans_back : (done : Command) (r t : Relations) (sessions : List Code) (old new : Seats)
+    → ((s : Code) → Contains sessions s ↔ IsTrue (touches r done s)) → (o : Option Plans)
+    → AreNext done t sessions old o
     → (given : Option Plans) → ArePut o old new given → PlansBack done r given new old
 plans_back done r t sessions old new exact None keeps given put = subst (λ (g : Option Plans). PlansBack done r g new old) (sym put.1) (put.0, keeps)
 plans_back done r t sessions old new exact (Some next) found None put = absurd put.1

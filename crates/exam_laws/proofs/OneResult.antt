@@ -23,7 +23,9 @@ use Rattle.exam_commands.proofs.SameSeats.{seats_exact, seats_total}
 one_plan : (r : Relations) (done : Command) (before one other : State) (s : Code) → IsRepair (seating r s) (first_seated done) (plan_of before.seats s) (plan_of one.seats s)
     → IsRepair (seating r s) (first_seated done) (plan_of before.seats s) (plan_of other.seats s) → SamePlan (plan_of one.seats s) (plan_of other.seats s)
 one_plan r done before one other s here there =
-    one_repair (seating r s) nat_cmp_total nat_list_cmp_total nat_cmp-IsAntisymmetric (slice_cmp-IsAntisymmetric nat_cmp-IsAntisymmetric) (first_seated done) (plan_of before.seats s) (plan_of one.seats s) (plan_of other.seats s) here there
+    one_repair (seating r s) nat_cmp_total nat_list_cmp_total nat_cmp-IsAntisymmetric
+    (slice_cmp-IsAntisymmetric nat_cmp-IsAntisymmetric) (first_seated done) (plan_of before.seats s)
+    (plan_of one.seats s) (plan_of other.seats s) here there
 
 module _ (done : Command) (before one other : State) (first second : Result Reply Refusal) where
   one_outcome : (o : Result Relations Refusal) → StepTo done before first one o → StepTo done before second other o → (first ≡ second) × (one ≡ other)
@@ -38,7 +40,8 @@ module _ (done : Command) (before one other : State) (first second : Result Repl
   pub one_result : (today : ℕ) → Step done today before first one → Step done today before second other → (first ≡ second) × (one ≡ other)
   one_result today here there = one_outcome (change done today before) here there
 
-with_memory : (done : Command) (today : ℕ) (before : State) (answer : Result Reply Refusal) (after : State) → answer ≢ Err NoMemory → MayStep done today before answer after → Step done today before answer after
+with_memory : (done : Command) (today : ℕ) (before : State) (answer : Result Reply Refusal) (after : State)
+    → answer ≢ Err NoMemory → MayStep done today before answer after → Step done today before answer after
 with_memory done today before answer after not_lacking (inl lacking) = absurd (not_lacking lacking.0)
 with_memory done today before answer after not_lacking (inr step) = step
 

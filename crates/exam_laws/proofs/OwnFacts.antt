@@ -31,7 +31,8 @@ use Rattle.exam_commands.proofs.Stored.{entry_total}
 -- ---- looking up
 
 -- none of the rows above a key has it
-pub none_past : {K X : Type 0} (cmp : K → K → Ordering) → IsTotalOrder cmp → (k q : K) (es : List (K × X)) → cmp q k ≡ Equal → AllByRecursion (λ y. cmp k y ≡ Less) (keys_of es) → row_at cmp es q ≡ None
+pub none_past : {K X : Type 0} (cmp : K → K → Ordering) → IsTotalOrder cmp → (k q : K) (es : List (K × X))
+    → cmp q k ≡ Equal → AllByRecursion (λ y. cmp k y ≡ Less) (keys_of es) → row_at cmp es q ≡ None
 none_past cmp o k q [] tied above = refl
 none_past cmp o k q (e ∷ es) tied above = ap (λ r. cond (is_eq r) (Some e.1) (row_at cmp es q)) (o.congr q k e.0 tied ∙ above.0) ∙ none_past cmp o k q es tied above.1
 
@@ -163,7 +164,10 @@ module _ (q : Code → Bool) (f : Code × Session → Option OwnSessionRow) (nam
       skipped None is other = refl
       skipped (Some own) is other = ap (λ b. cond b (Some own) (session_at s (listed es))) (ap (same_code s) (named e own is) ∙ other)
 
-      away : (b : Bool) → same_code s e.0 ≡ false → session_at s (filter_map f (cond b (e ∷ filter (λ (held : Code × Session). q held.0) es) (filter (λ (held : Code × Session). q held.0) es))) ≡ session_at s (listed es)
+      away : (b : Bool) → same_code s e.0 ≡ false
+          → session_at s (filter_map f
+          (cond b (e ∷ filter (λ (held : Code × Session). q held.0) es)
+          (filter (λ (held : Code × Session). q held.0) es))) ≡ session_at s (listed es)
       away true other = skipped (f e) refl other
       away false other = refl
 
@@ -176,7 +180,9 @@ module _ (q : Code → Bool) (f : Code × Session → Option OwnSessionRow) (nam
       here true same none = first (f e) refl same none
       here false same none = none
 
-      inner : (b : Bool) → is_at (code_cmp s) e.0 ≡ b → rest_is (row_at code_cmp es s) → session_at s (listed (e ∷ es)) ≡ option_and_then (λ x. cond (q s) (f (s, x)) None) (cond b (Some e.1) (row_at code_cmp es s))
+      inner : (b : Bool) → is_at (code_cmp s) e.0 ≡ b → rest_is (row_at code_cmp es s)
+          → session_at s (listed (e ∷ es))
+          ≡ option_and_then (λ x. cond (q s) (f (s, x)) None) (cond b (Some e.1) (row_at code_cmp es s))
       inner true at rest =
           let tied : code_cmp s e.0 ≡ Equal = (Equal-is (code_cmp s e.0)).0 at in
           let key : s ≡ e.0 = exact_bytes s e.0 tied in

@@ -1,5 +1,7 @@
 -- The candidate's own rows and the day decide what a lodging is answered.
-use Rattle.std.proofs.Common.{◌≡◌, ℕ, suc, ◌-◌, ◌==◌, ◌&&◌, not, Bool, true, false, cond, List, [], ◌∷◌, ◌++◌, filter, length, map, nat_eq, nat_le, nat_lt, Option, None, Some, Result, Ok, IsSome, is_none, is_some, eq-eqb, refl, ap, sym, ◌∙◌}
+use Rattle.std.proofs.Common.{◌≡◌, ℕ, suc, ◌-◌, ◌==◌, ◌&&◌, not, Bool, true, false, cond, List, [], ◌∷◌, ◌++◌, filter}
+use Rattle.std.proofs.Common.{length, map, nat_eq, nat_le, nat_lt, Option, None, Some, Result, Ok, IsSome, is_none}
+use Rattle.std.proofs.Common.{is_some, eq-eqb, refl, ap, sym, ◌∙◌}
 use Rattle.std.specs.List.{list_all, list_any}
 use Rattle.std.specs.Map.{keys_of}
 use Rattle.std.specs.Option.{option_and_then, option_map, option_map_or, option_or}
@@ -98,7 +100,9 @@ module _ (r : Relations) (today : ℕ) (l : Lodging) (none : appeal_at r l.numbe
   counted : (d : ℕ) (b : Bool) → nat_eq d l.number ≡ b → nat_le (appeal_count more d) most_appeals ≡ cond b is_below (nat_le (appeal_count r d) most_appeals)
   counted d true own = ap (λ n. nat_le (appeal_count more n) most_appeals) (exact_unsigned_eq d l.number own) ∙ ap (λ n. nat_le n most_appeals) own_more
   counted d false other =
-      ap (λ (rows : List ((ℕ × Code) × Appeal)). nat_le (length rows) most_appeals) (put_passed_over appeal_cmp appeals_exact (is_row_of d) r.appeals (l.number, l.reference) _ (number_flips d l.number other)
+      ap (λ (rows : List ((ℕ × Code) × Appeal)). nat_le (length rows) most_appeals)
+      (put_passed_over appeal_cmp appeals_exact (is_row_of d) r.appeals (l.number, l.reference) _
+      (number_flips d l.number other)
       (λ b at. absurd (let differ : None ≡ Some b = sym none ∙ at in cc)))
 
   pub within_told : within_limits r ≡ true → has_row nat_cmp r.candidates l.number ≡ true → within_limits more ≡ is_below
@@ -131,7 +135,8 @@ module _ (office : State) (c : ℕ) where
     sits : sitting office.relations s c ≡ Some paper
     made : own_session office c (s, x) ≡ Some (session_row office c (s, x) paper end)
 
-  member_sees : (s : Code) (x : Session) → has_row nat_cmp office.relations.candidates c ≡ true → row_at code_cmp office.relations.sessions s ≡ Some x → has_live_entry office.relations s c ≡ true → IsSeen s x
+  member_sees : (s : Code) (x : Session) → has_row nat_cmp office.relations.candidates c ≡ true
+      → row_at code_cmp office.relations.sessions s ≡ Some x → has_live_entry office.relations s c ≡ true → IsSeen s x
   member_sees s x there held live =
       let r = office.relations in
       let listed = (known_listed r s c (has_row nat_cmp r.candidates c) (has_live_entry r s c) refl there refl).0 live in
@@ -169,7 +174,9 @@ module _ (office : State) (today : ℕ) (l : Lodging) (good : IsGood office) (up
   subject_told x seen (subject.Clash p) =
       ap (λ (b : Bool). (length (clash_papers r s c) == 0, refusal.NoClash) ∷ (not b, refusal.NoEntry) ∷ (option_map_or (same_code p) (sitting r s c) false, refusal.NothingToChange) ∷ [])
       (live_found r s c p r.entries up.tables.entries)
-      ∙ ap (λ (o : Option Code). (length (clash_papers r s c) == 0, refusal.NoClash) ∷ (not (list_any (same_code p) (live_papers r s c)), refusal.NoEntry) ∷ (option_map_or (same_code p) o false, refusal.NothingToChange) ∷ [])
+      ∙ ap (λ (o : Option Code). (length (clash_papers r s c) == 0, refusal.NoClash)
+      ∷ (not (list_any (same_code p) (live_papers r s c)), refusal.NoEntry)
+      ∷ (option_map_or (same_code p) o false, refusal.NothingToChange) ∷ [])
       seen.sits
   subject_told x seen (subject.Arrangement a) = refl
 
@@ -182,7 +189,9 @@ module _ (office : State) (today : ℕ) (l : Lodging) (good : IsGood office) (up
   abbrev seen_by : Bool → Option Session → Option OwnSessionRow
   seen_by member held = option_and_then (λ (x : Session). cond member (own_session office c (s, x)) None) held
 
-  new_told : has_row nat_cmp r.candidates c ≡ true → appeal_at r c l.reference ≡ None → new_by (is_member r s c) (row_at code_cmp r.sessions s) ≡ new_shown l today (own_among c r.appeals) (session_at s (own_sessions office c))
+  new_told : has_row nat_cmp r.candidates c ≡ true → appeal_at r c l.reference ≡ None
+      → new_by (is_member r s c) (row_at code_cmp r.sessions s)
+      ≡ new_shown l today (own_among c r.appeals) (session_at s (own_sessions office c))
   new_told there none =
       inner (is_member r s c) refl (row_at code_cmp r.sessions s) refl
       ∙ ap (new_shown l today (own_among c r.appeals)) (sym (session_found (λ (t : Code). is_member r t c) (own_session office c) (session_named office c) s r.sessions up.tables.sessions))
@@ -216,7 +225,9 @@ module _ (office : State) (today : ℕ) (l : Lodging) (good : IsGood office) (up
           ∙ ap (λ rows. new_shown l today rows (session_at s (own_sessions office c))) (sym (pairs_own r c))
       by_stored row there (Some a) at = refl
 
-      inner : (o : Option Candidate) → row_at nat_cmp r.candidates c ≡ o → refusal_by (row_at nat_cmp r.candidates c) (appeal_at r c l.reference) ≡ refusal_shown l today (option_map (own_rows office c) o)
+      inner : (o : Option Candidate) → row_at nat_cmp r.candidates c ≡ o
+          → refusal_by (row_at nat_cmp r.candidates c) (appeal_at r c l.reference)
+          ≡ refusal_shown l today (option_map (own_rows office c) o)
       inner None away = ap (λ (o : Option Candidate). refusal_by o (appeal_at r c l.reference)) away
       inner (Some row) there =
           ap (λ (o : Option Candidate). refusal_by o (appeal_at r c l.reference)) there
@@ -256,5 +267,7 @@ pub same_lodging_answer : (one other one_after other_after : State) (day : ℕ) 
 same_lodging_answer one other one_after other_after day l first second good up sound rise same step again =
     lodging_answered one one_after day l first step
     ∙ ap (λ (o : Option Refusal). answer_or (Ok (reply.Lodged (state_after (appeal_at one.relations l.number l.reference)))) o) (same_lodging_refusal one other day l good up sound rise same)
-    ∙ ap (λ (stored : Option Appeal). answer_or (Ok (reply.Lodged (state_after stored))) (spec.lodging_refusal other.relations other.seats day l)) (same_appeal one other l.number l.reference good sound same)
+    ∙ ap (λ (stored : Option Appeal). answer_or (Ok (reply.Lodged (state_after stored)))
+    (spec.lodging_refusal other.relations other.seats day l))
+    (same_appeal one other l.number l.reference good sound same)
     ∙ sym (lodging_answered other other_after day l second again)

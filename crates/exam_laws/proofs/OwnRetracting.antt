@@ -33,14 +33,17 @@ appeal_told office c reference good = inner (row_at nat_cmp office.relations.can
     none_stored : row_at nat_cmp office.relations.candidates c ≡ None → (o : Option Appeal) → appeal_at office.relations c reference ≡ o → o ≡ None
     none_stored away None at = refl
     none_stored away (Some a) at =
-        let refers = all_at_row appeal_cmp appeals_exact (λ x. has_row nat_cmp office.relations.candidates x.0.0 && appeal_refers office.relations x.1) office.relations.appeals (c, reference) a (stored_refer office.relations good.refer) at in
+        let refers = all_at_row appeal_cmp appeals_exact
+        (λ x. has_row nat_cmp office.relations.candidates x.0.0 && appeal_refers office.relations x.1)
+        office.relations.appeals (c, reference) a (stored_refer office.relations good.refer) at in
         absurd (let differ : false ≡ true = sym (ap (λ o. is_some o) away) ∙ (and_parts (has_row nat_cmp office.relations.candidates c) (appeal_refers office.relations a) refers).0 in cc)
 
     inner : (o : Option Candidate) → row_at nat_cmp office.relations.candidates c ≡ o → appeal_at office.relations c reference ≡ shown_appeal reference (option_map (own_rows office c) o)
     inner None away = none_stored away (appeal_at office.relations c reference) refl
     inner (Some row) there = appeal_found c reference office.relations.appeals ∙ ap (λ rows. row_at code_cmp rows reference) (sym (pairs_own office.relations c))
 
-pub same_appeal : (one other : State) (c : ℕ) (reference : Code) → IsGood one → IsGood other → own_of one c ≡ own_of other c → appeal_at one.relations c reference ≡ appeal_at other.relations c reference
+pub same_appeal : (one other : State) (c : ℕ) (reference : Code) → IsGood one → IsGood other
+    → own_of one c ≡ own_of other c → appeal_at one.relations c reference ≡ appeal_at other.relations c reference
 same_appeal one other c reference good sound same = appeal_told one c reference good ∙ ap (shown_appeal reference) same ∙ sym (appeal_told other c reference sound)
 
 pub same_retraction_refusal : (one other : State) (c : ℕ) (reference : Code) → IsGood one → IsGood other → own_of one c ≡ own_of other c
@@ -60,7 +63,8 @@ retraction_answered office after c reference day answer = inner (retraction_refu
     inner None step = step.2
     inner (Some e) step = step.0
 
-pub same_retraction_answer : (one other one_after other_after : State) (c : ℕ) (reference : Code) (day later : ℕ) (first second : Result Reply Refusal) → IsGood one → IsGood other → own_of one c ≡ own_of other c
+pub same_retraction_answer : (one other one_after other_after : State) (c : ℕ) (reference : Code) (day later : ℕ)
+    (first second : Result Reply Refusal) → IsGood one → IsGood other → own_of one c ≡ own_of other c
     → Step (command.Retract c reference) day one first one_after → Step (command.Retract c reference) later other second other_after → first ≡ second
 same_retraction_answer one other one_after other_after c reference day later first second good sound same step again =
     retraction_answered one one_after c reference day first step

@@ -1,6 +1,8 @@
 -- What a candidate sees after a lodging or a retraction: if the appeal is their own, it is put among theirs; otherwise
 -- all is as it was.
-use Rattle.std.proofs.Common.{◌≡◌, ℕ, ◌+◌, ◌<◌, ◌&&◌, not, Bool, true, false, cond, List, [], ◌∷◌, count_by, filter, map, nat_eq, Option, None, Some, Result, is_none, is_some, eq-eqb, refl, ap, sym, subst, ◌∙◌, arith}
+use Rattle.std.proofs.Common.{◌≡◌, ℕ, ◌+◌, ◌<◌, ◌&&◌, not, Bool, true, false, cond, List, [], ◌∷◌, count_by, filter}
+use Rattle.std.proofs.Common.{map, nat_eq, Option, None, Some, Result, is_none, is_some, eq-eqb, refl, ap, sym, subst}
+use Rattle.std.proofs.Common.{◌∙◌, arith}
 use Rattle.std.specs.List.{filter_map, AllByRecursion}
 use Rattle.std.specs.BTreeMap.{insert_entry}
 use Rattle.std.specs.Map.{keys_of}
@@ -26,7 +28,9 @@ use Rattle.exam_rules.specs.declared.rows.Subject.{Subject}
 use Rattle.exam_rules.specs.Orders.{KeysRise}
 use Rattle.exam_rules.specs.Relations.{Code, Relations, appeal_cmp, code_cmp, is_row_of, put_row, row_at, same_code}
 use Rattle.exam_rules.specs.declared.standing.StandingGrant.{StandingGrant}
-use Rattle.exam_rules.specs.Sessions.{arrangement_by, asked_arrangement, asked_paper, end_of, granted_subjects, head_of, is_clash, is_granted, is_granted_appeal, is_live_paper, is_marked, is_member, least_live_paper, live_papers, option_filter, session_day, standing_grants}
+use Rattle.exam_rules.specs.Sessions.{arrangement_by, asked_arrangement, asked_paper, end_of, granted_subjects, head_of}
+use Rattle.exam_rules.specs.Sessions.{is_clash, is_granted, is_granted_appeal, is_live_paper, is_marked, is_member}
+use Rattle.exam_rules.specs.Sessions.{least_live_paper, live_papers, option_filter, session_day, standing_grants}
 use Rattle.exam_rules.specs.Seatings.{desk_cmp, plan_of, seating}
 use Rattle.exam_commands.specs.declared.command.Command.TheVariants as command
 use Rattle.exam_commands.specs.declared.command.Lodging.{Lodging}
@@ -221,7 +225,8 @@ module _ (r : Relations) (seats : Seats) (k : ℕ × Code) (a : Appeal) (put : I
   one_put up =
       sym (map_twice (shown_under r k.0) (λ (e : Code × OwnAppeal). e.1) (filter (is_row_of k.0) (put_row appeal_cmp r.appeals k a)))
       ∙ ap (map (λ (e : Code × OwnAppeal). e.1)) (own_put r k.0 k.1 a r.appeals up)
-      ∙ ap (λ shown. map (λ (e : Code × OwnAppeal). e.1) (put_row code_cmp shown k.1 (own_appeal r (k, a)))) (sym (map_twice (own_appeal r) (λ (x : OwnAppeal). (x.reference, x)) (filter (is_row_of k.0) r.appeals)))
+      ∙ ap (λ shown. map (λ (e : Code × OwnAppeal). e.1) (put_row code_cmp shown k.1 (own_appeal r (k, a))))
+      (sym (map_twice (own_appeal r) (λ (x : OwnAppeal). (x.reference, x)) (filter (is_row_of k.0) r.appeals)))
       ∙ ap (λ marked. put_appeal (record { reference = k.1; appeal = a; standing = marked }) (shown_among k.0 r.appeals)) put.unmarked
 
   -- to its candidate the appeal is put among theirs
@@ -292,9 +297,13 @@ module _ (office : State) (day : ℕ) (l : Lodging) (good : IsGood office) where
     lodging_led : (c : ℕ) → own_of after c ≡ view_or (own_of lodged_office c) (own_of office c) (spec.lodging_refusal office.relations office.seats day l)
     lodging_led c = inner (spec.lodging_refusal office.relations office.seats day l) step
       where
-        inner : (o : Option Refusal) → StepTo (command.Lodge l) office answer after (unless o (spec.with_lodging office.relations day l)) → own_of after c ≡ view_or (own_of lodged_office c) (own_of office c) o
+        inner : (o : Option Refusal)
+            → StepTo (command.Lodge l) office answer after (unless o (spec.with_lodging office.relations day l))
+            → own_of after c ≡ view_or (own_of lodged_office c) (own_of office c) o
         inner None to =
-            let seats : after.seats ≡ office.seats = lodging_moves_nobody l day office after _ good up up_after (subst (λ (told : Result Reply Refusal). Step (command.Lodge l) day office told after) to.2 step) in
+            let seats : after.seats ≡ office.seats =
+            lodging_moves_nobody l day office after _ good up up_after
+            (subst (λ (told : Result Reply Refusal). Step (command.Lodge l) day office told after) to.2 step) in
             ap (λ (t : Relations). own_of (state_of t after.seats) c) to.0 ∙ ap (λ (places : Seats). own_of (state_of (spec.with_lodging office.relations day l) places) c) seats
         inner (Some e) to = ap (λ (x : State). own_of x c) to.1
 
@@ -316,7 +325,9 @@ pub same_lodging_view : (one other one_after other_after : State) (day : ℕ) (l
     → Step (command.Lodge l) day one first one_after → Step (command.Lodge l) day other second other_after → own_of one_after l.number ≡ own_of other_after l.number
 same_lodging_view one other one_after other_after day l first second good up sound rise up_after rise_after same step again =
     lodging_shown one day l good one_after first up up_after step
-    ∙ ap (λ (stored : Option Appeal). view_or (lodged_view l day stored (own_of one l.number)) (own_of one l.number) (spec.lodging_refusal one.relations one.seats day l)) (same_appeal one other l.number l.reference good sound same)
+    ∙ ap (λ (stored : Option Appeal). view_or (lodged_view l day stored (own_of one l.number)) (own_of one l.number)
+    (spec.lodging_refusal one.relations one.seats day l))
+    (same_appeal one other l.number l.reference good sound same)
     ∙ ap (λ (v : Option OwnRows). view_or (lodged_view l day (appeal_at other.relations l.number l.reference) v) v (spec.lodging_refusal one.relations one.seats day l)) same
     ∙ ap (view_or (lodged_view l day (appeal_at other.relations l.number l.reference) (own_of other l.number)) (own_of other l.number)) (same_lodging_refusal one other day l good up sound rise same)
     ∙ sym (lodging_shown other day l sound other_after second rise rise_after again)
@@ -359,7 +370,9 @@ module _ (office : State) (c : ℕ) (reference : Code) (good : IsGood office) wh
       by_status a at true = refl
       by_status a at false = put_own office.relations office.seats (c, reference) (retracted_one a) (retraction_put ok a at) up.tables.appeals
 
-      inner : (o : Option Appeal) → appeal_at office.relations c reference ≡ o → own_of (state_of (spec.with_retracted office.relations c reference o) office.seats) c ≡ retracted_view reference o (own_of office c)
+      inner : (o : Option Appeal) → appeal_at office.relations c reference ≡ o
+          → own_of (state_of (spec.with_retracted office.relations c reference o) office.seats) c
+          ≡ retracted_view reference o (own_of office c)
       inner None none = refl
       inner (Some a) at = by_status a at (is_retracted a.status)
 
@@ -377,13 +390,19 @@ module _ (office : State) (c : ℕ) (reference : Code) (good : IsGood office) wh
 
   module _ (day : ℕ) (after : State) (answer : Result Reply Refusal) (up : IsInOrder office) (up_after : IsInOrder after) (step : Step (command.Retract c reference) day office answer after) where
     -- what is shown to anybody after it, by what is shown if it is accepted
-    retraction_led : (d : ℕ) (v : Option OwnRows) → (IsRetractable → own_of retracted_office d ≡ v) → own_of after d ≡ view_or v (own_of office d) (spec.retraction_refusal office.relations c reference)
+    retraction_led : (d : ℕ) (v : Option OwnRows) → (IsRetractable → own_of retracted_office d ≡ v)
+        → own_of after d ≡ view_or v (own_of office d) (spec.retraction_refusal office.relations c reference)
     retraction_led d v then = inner (spec.retraction_refusal office.relations c reference) refl step
       where
-        inner : (o : Option Refusal) → spec.retraction_refusal office.relations c reference ≡ o → StepTo (command.Retract c reference) office answer after (unless o (spec.with_retraction office.relations c reference))
+        inner : (o : Option Refusal) → spec.retraction_refusal office.relations c reference ≡ o
+            → StepTo (command.Retract c reference) office answer after
+            (unless o (spec.with_retraction office.relations c reference))
             → own_of after d ≡ view_or v (own_of office d) o
         inner None ok to =
-            let seats : after.seats ≡ office.seats = retraction_moves_nobody c reference day office after _ good up up_after (subst (λ (told : Result Reply Refusal). Step (command.Retract c reference) day office told after) to.2 step) in
+            let seats : after.seats ≡ office.seats =
+            retraction_moves_nobody c reference day office after _ good up up_after
+            (subst (λ (told : Result Reply Refusal). Step (command.Retract c reference) day office told after) to.2
+            step) in
             ap (λ (t : Relations). own_of (state_of t after.seats) d) to.0 ∙ ap (λ (places : Seats). own_of (state_of (spec.with_retraction office.relations c reference) places) d) seats ∙ then ok
         inner (Some e) ok to = ap (λ (x : State). own_of x d) to.1
 
@@ -395,15 +414,19 @@ module _ (office : State) (c : ℕ) (reference : Code) (good : IsGood office) wh
         either None = refl
         either (Some e) = refl
 
-    retraction_shown : own_of after c ≡ view_or (retracted_view reference (appeal_at office.relations c reference) (own_of office c)) (own_of office c) (spec.retraction_refusal office.relations c reference)
+    retraction_shown : own_of after c
+        ≡ view_or (retracted_view reference (appeal_at office.relations c reference) (own_of office c))
+        (own_of office c) (spec.retraction_refusal office.relations c reference)
     retraction_shown = retraction_led c (retracted_view reference (appeal_at office.relations c reference) (own_of office c)) (retracted_own up)
 
-pub same_retraction_view : (one other one_after other_after : State) (c : ℕ) (reference : Code) (day later : ℕ) (first second : Result Reply Refusal) → IsGood one → IsInOrder one → IsGood other → IsInOrder other
+pub same_retraction_view : (one other one_after other_after : State) (c : ℕ) (reference : Code) (day later : ℕ)
+    (first second : Result Reply Refusal) → IsGood one → IsInOrder one → IsGood other → IsInOrder other
     → IsInOrder one_after → IsInOrder other_after → own_of one c ≡ own_of other c
     → Step (command.Retract c reference) day one first one_after → Step (command.Retract c reference) later other second other_after → own_of one_after c ≡ own_of other_after c
 same_retraction_view one other one_after other_after c reference day later first second good up sound rise up_after rise_after same step again =
     retraction_shown one c reference good day one_after first up up_after step
-    ∙ ap (λ (stored : Option Appeal). view_or (retracted_view reference stored (own_of one c)) (own_of one c) (spec.retraction_refusal one.relations c reference)) (same_appeal one other c reference good sound same)
+    ∙ ap (λ (stored : Option Appeal). view_or (retracted_view reference stored (own_of one c)) (own_of one c)
+    (spec.retraction_refusal one.relations c reference)) (same_appeal one other c reference good sound same)
     ∙ ap (λ (v : Option OwnRows). view_or (retracted_view reference (appeal_at other.relations c reference) v) v (spec.retraction_refusal one.relations c reference)) same
     ∙ ap (view_or (retracted_view reference (appeal_at other.relations c reference) (own_of other c)) (own_of other c)) (same_retraction_refusal one other c reference good sound same)
     ∙ sym (retraction_shown other c reference sound later other_after second rise rise_after again)

@@ -131,11 +131,15 @@ asked_same r a b s c same (subject.Hall h) = ap (λ (o : Option Code). (not (opt
 asked_same r a b s c same (subject.Clash p) = refl
 asked_same r a b s c same (subject.Arrangement x) = refl
 
-pub lodging_refusal_same : (r : Relations) (a b : Seats) (today : ℕ) (l : Lodging) → plan_of a l.session l.number ≡ plan_of b l.session l.number → lodgings.lodging_refusal_but_limits r a today l ≡ lodgings.lodging_refusal_but_limits r b today l
+pub lodging_refusal_same : (r : Relations) (a b : Seats) (today : ℕ) (l : Lodging)
+    → plan_of a l.session l.number ≡ plan_of b l.session l.number
+    → lodgings.lodging_refusal_but_limits r a today l ≡ lodgings.lodging_refusal_but_limits r b today l
 lodging_refusal_same r a b today l same = ap (λ checks. first_refusal (no_candidate r l.number ∷ checks)) (checks_same (appeal_at r l.number l.reference))
   where
     checks_same : (o : Option Appeal) → lodgings.lodging_checks r a today l o ≡ lodgings.lodging_checks r b today l o
-    checks_same None = ap (λ checks. lodgings.not_member r l.session l.number ∷ lodgings.past_closing r l.session l.subject today ∷ checks ++ lodgings.appeal_is_open r l ∷ []) (asked_same r a b l.session l.number same l.subject)
+    checks_same None = ap
+        (λ checks. lodgings.not_member r l.session l.number ∷ lodgings.past_closing r l.session l.subject today
+        ∷ checks ++ lodgings.appeal_is_open r l ∷ []) (asked_same r a b l.session l.number same l.subject)
     checks_same (Some x) = refl
 
 lodged_same : (r : Relations) (a b : Seats) (today : ℕ) (l : Lodging) → plan_of a l.session l.number ≡ plan_of b l.session l.number → lodgings.lodged r a today l ≡ lodgings.lodged r b today l
@@ -228,11 +232,23 @@ module _ (today : ℕ) (office part after : State) (good : IsGood office) (up : 
         inner : (o : Option Appeal) → appeal_at office.relations d.number d.reference ≡ o → reply_to part new d o ≡ reply_to office after d o
         inner None none = refl
         inner (Some a) at =
-            let here : reads office.relations (command.Decide d) a.session ≡ true = ap (λ b. b || touches office.relations (command.Decide d) a.session) (ap (λ o. is_appeal_for office.relations o a.session) at ∙ appeal_is_for office.relations good.refer (d.number, d.reference) a at (same_code_itself a.session)) in
-            ap (λ (r : Relations). cond (is_made r d a) reply.Unchanged (reply.Decided (stored_state new.relations d.number d.reference) (plan_of new.seats a.session d.number) (moved part.seats new.seats d.number))) agrees.facts
-            ∙ ap (λ (r : Relations). cond (is_made office.relations d a) reply.Unchanged (reply.Decided (stored_state r d.number d.reference) (plan_of new.seats a.session d.number) (moved part.seats new.seats d.number))) (sym put.facts)
-            ∙ ap (λ (o : Option Code). cond (is_made office.relations d a) reply.Unchanged (reply.Decided (stored_state after.relations d.number d.reference) o (moved part.seats new.seats d.number))) (sym (put.read a.session here d.number))
-            ∙ ap (λ (n : ℕ). cond (is_made office.relations d a) reply.Unchanged (reply.Decided (stored_state after.relations d.number d.reference) (plan_of after.seats a.session d.number) n)) (sym moves)
+            let here : reads office.relations (command.Decide d) a.session ≡ true =
+            ap (λ b. b || touches office.relations (command.Decide d) a.session)
+            (ap (λ o. is_appeal_for office.relations o a.session) at
+            ∙ appeal_is_for office.relations good.refer (d.number, d.reference) a at (same_code_itself a.session))
+            in
+            ap (λ (r : Relations). cond (is_made r d a) reply.Unchanged
+            (reply.Decided (stored_state new.relations d.number d.reference) (plan_of new.seats a.session d.number)
+            (moved part.seats new.seats d.number))) agrees.facts
+            ∙ ap (λ (r : Relations). cond (is_made office.relations d a) reply.Unchanged
+            (reply.Decided (stored_state r d.number d.reference) (plan_of new.seats a.session d.number)
+            (moved part.seats new.seats d.number))) (sym put.facts)
+            ∙ ap (λ (o : Option Code). cond (is_made office.relations d a) reply.Unchanged
+            (reply.Decided (stored_state after.relations d.number d.reference) o
+            (moved part.seats new.seats d.number))) (sym (put.read a.session here d.number))
+            ∙ ap (λ (n : ℕ). cond (is_made office.relations d a) reply.Unchanged
+            (reply.Decided (stored_state after.relations d.number d.reference)
+            (plan_of after.seats a.session d.number) n)) (sym moves)
 
     -- changed, it leaves the office after the command
     pub made_back : (done : Command) (told : Reply) → Agrees done office part → IsPutBack done office new after → IsMadeIn done today part new told → Step done today office (Ok told) after

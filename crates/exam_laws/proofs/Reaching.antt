@@ -71,7 +71,9 @@ module _ (r : Relations) (refer : refers r ≡ true) (s : Code) where
       inner None at some = cc
       inner (Some x) at some =
           (and_parts (has_row code_cmp r.sessions s) (has_row code_cmp r.halls h)
-          (all_at_row opening_cmp openings_exact (λ (e : (Code × Code) × Opening). has_row code_cmp r.sessions e.0.0 && has_row code_cmp r.halls e.0.1) r.openings (s, h) x (parted r refer).openings at)).0
+          (all_at_row opening_cmp openings_exact
+          (λ (e : (Code × Code) × Opening). has_row code_cmp r.sessions e.0.0 && has_row code_cmp r.halls e.0.1)
+          r.openings (s, h) x (parted r refer).openings at)).0
 
   of_standing : (rows : List ((ℕ × Code) × Appeal)) → list_any (stands_in r s) rows ≡ true → Exists
   of_standing [] some = cc

@@ -105,12 +105,15 @@ module _ (r : Relations) where
 
   all_same : (rows : List Row) → AllByRecursion (IsStored r) rows → filter (is_same r) rows ≡ rows
   all_same [] every = refl
-  all_same (x ∷ rows) every = ap (λ o. cond (option_map_or (λ same. same) o false) (x ∷ filter (is_same r) rows) (filter (is_same r) rows)) (row_same r x every.0) ∙ ap (λ xs. x ∷ xs) (all_same rows every.1)
+  all_same (x ∷ rows) every =
+      ap (λ o. cond (option_map_or (λ same. same) o false) (x ∷ filter (is_same r) rows) (filter (is_same r) rows))
+      (row_same r x every.0) ∙ ap (λ xs. x ∷ xs) (all_same rows every.1)
 
   pub stored_reply : (rows : List Row) → AllByRecursion (IsStored r) rows → import_reply r rows ≡ reply.Imported 0 0 (length (distinct_rows rows))
   stored_reply rows every =
       let distinct : AllByRecursion (IsStored r) (distinct_rows rows) = all_distinct (IsStored r) rows every in
-      ap (λ (xs : List Row). reply.Imported (length xs) (length (filter (is_changed r) (distinct_rows rows))) (length (filter (is_same r) (distinct_rows rows)))) (none_new (distinct_rows rows) distinct)
+      ap (λ (xs : List Row). reply.Imported (length xs) (length (filter (is_changed r) (distinct_rows rows)))
+      (length (filter (is_same r) (distinct_rows rows)))) (none_new (distinct_rows rows) distinct)
       ∙ ap (λ (xs : List Row). reply.Imported 0 (length xs) (length (filter (is_same r) (distinct_rows rows)))) (none_changed (distinct_rows rows) distinct)
       ∙ ap (λ (xs : List Row). reply.Imported 0 0 (length xs)) (all_same (distinct_rows rows) distinct)
 
@@ -142,7 +145,9 @@ repeated_import r t rows up agree is =
 
 -- ---- on steps
 
-new_facts : (import : ImportRows) (day : ℕ) (before after : State) (answer : Reply) → Step (command.Import import) day before (Ok answer) after → imported before.relations import.rows ≡ Ok after.relations
+new_facts : (import : ImportRows) (day : ℕ) (before after : State) (answer : Reply)
+    → Step (command.Import import) day before (Ok answer) after
+    → imported before.relations import.rows ≡ Ok after.relations
 new_facts import day before after answer step = inner (imported before.relations import.rows) refl step
   where
     inner : (o : Result Relations Refusal) → imported before.relations import.rows ≡ o → StepTo (command.Import import) before (Ok answer) after o → o ≡ Ok after.relations

@@ -31,7 +31,9 @@ pub limits_refusal : (r : Relations) (rows : List Row) (b : Bool) → within_lim
 limits_refusal r rows b e = ap (λ t. cond (not t) (Some refusal.TooMany) None) e
 
 pub import_accepted : (r : Relations) (rows : List Row) → rows_refusal r rows ≡ None → within_limits (with_rows r rows) ≡ true → imported r rows ≡ Ok (with_rows r rows)
-import_accepted r rows ok within = ap (λ o. unless (option_or o (first_refusal (too_many (with_rows r rows) ∷ []))) (with_rows r rows)) ok ∙ ap (λ o. unless o (with_rows r rows)) (limits_refusal r rows true within)
+import_accepted r rows ok within =
+    ap (λ o. unless (option_or o (first_refusal (too_many (with_rows r rows) ∷ []))) (with_rows r rows)) ok
+    ∙ ap (λ o. unless o (with_rows r rows)) (limits_refusal r rows true within)
 
 -- ---- the plans
 
@@ -56,7 +58,9 @@ next_plan done r t s before after up best made kept = record {
 
 -- ---- any command
 
-pub accepted_step : (done : Command) (today : ℕ) (before after : State) (t : Relations) → change done today before ≡ Ok t → after.relations ≡ t → IsInOrder after → ((s : Code) → ListsRise t s) → IsGood before
+pub accepted_step : (done : Command) (today : ℕ) (before after : State) (t : Relations)
+    → change done today before ≡ Ok t → after.relations ≡ t → IsInOrder after → ((s : Code) → ListsRise t s)
+    → IsGood before
     → ((s : Code) → IsRepaired t (first_seated done) before.seats after.seats s) → ((s : Code) → SeatsOn done (seating t s) (plan_of before.seats s) (plan_of after.seats s))
     → Step done today before (Ok (reply_of done before after)) after
 accepted_step done today before after t accepted facts order up good plans kept =

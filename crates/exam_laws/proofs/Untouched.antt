@@ -22,7 +22,9 @@ use Rattle.exam_rules.specs.declared.rows.Status.TheVariants as status
 use Rattle.exam_rules.specs.declared.rows.Subject.{Subject}
 use Rattle.exam_rules.specs.Orders.{KeysRise}
 use Rattle.exam_rules.specs.Relations.{Code, Relations, appeal_cmp, code_cmp, entry_cmp, opening_cmp, has_row, put_row, row_at, same_code}
-use Rattle.exam_rules.specs.Sessions.{arrangement_by, barred_halls, granted_arrangement, granted_subjects, has_live_entry, is_granted, is_granted_appeal, is_live_entry, is_marked, is_member, is_paper_of, is_standing, session_day, standing_grant, standing_grants}
+use Rattle.exam_rules.specs.Sessions.{arrangement_by, barred_halls, granted_arrangement, granted_subjects}
+use Rattle.exam_rules.specs.Sessions.{has_live_entry, is_granted, is_granted_appeal, is_live_entry, is_marked}
+use Rattle.exam_rules.specs.Sessions.{is_member, is_paper_of, is_standing, session_day, standing_grant, standing_grants}
 use Rattle.exam_rules.specs.Seatings.{fits, opened_room, plan_of, seating, sitting_terms, suits_opened}
 use Rattle.exam_laws.proofs.Reaching.{untouched_is_unreached, untouched_is_unset}
 use Rattle.exam_rules.proofs.Naming.{same_code_exact, same_code_itself}
@@ -35,8 +37,12 @@ use Rattle.exam_commands.specs.declared.command.Reply.{Reply}
 use Rattle.exam_commands.specs.declared.import_row.Row.{Row}
 use Rattle.exam_commands.specs.declared.import_row.Row.TheVariants as row
 use Rattle.exam_commands.specs.Appeals.{appeal_at, bears_mark, decided, is_grant, is_open, superseded, supersedes}
-use Rattle.exam_commands.specs.Changes.{closing_refusal, first_refusal, import_refusal, no_hall, not_opened, reinstatement_refusal, row_checks, rows_refusal, too_many, with_live, with_row, with_rows, withdrawal_refusal, without_opening}
-use Rattle.exam_commands.specs.Decisions.{decision_checks, decision_refusal, gives_way, giving_way, grant_checks, is_earlier, is_made, is_too_late, not_arrangement, open_checks, with_decided, with_decision, with_mark, with_outcome, with_superseded, without_mark}
+use Rattle.exam_commands.specs.Changes.{closing_refusal, first_refusal, import_refusal, no_hall, not_opened}
+use Rattle.exam_commands.specs.Changes.{reinstatement_refusal, row_checks, rows_refusal, too_many, with_live, with_row}
+use Rattle.exam_commands.specs.Changes.{with_rows, withdrawal_refusal, without_opening}
+use Rattle.exam_commands.specs.Decisions.{decision_checks, decision_refusal, gives_way, giving_way, grant_checks}
+use Rattle.exam_commands.specs.Decisions.{is_earlier, is_made, is_too_late, not_arrangement, open_checks, with_decided}
+use Rattle.exam_commands.specs.Decisions.{with_decision, with_mark, with_outcome, with_superseded, without_mark}
 use Rattle.exam_commands.specs.Good.{IsGood, marks_were_granted, refers}
 use Rattle.exam_commands.specs.Lodgings as lodgings
 use Rattle.exam_commands.specs.Orders.{IsInOrder}
@@ -86,13 +92,20 @@ module _ (r : Relations) (good : list_all (λ (x : (ℕ × Code) × Entry). has_
       → list_any (is_live_entry r s c) es ≡ true → has_row nat_cmp r.candidates c ≡ true
   entered_among c [] every some = absurd (let differ : false ≡ true = some in cc)
   entered_among c (e ∷ es) every some =
-      let both = and_parts (has_row nat_cmp r.candidates e.0.0 && has_row code_cmp r.papers e.0.1) (list_all (λ (x : (ℕ × Code) × Entry). has_row nat_cmp r.candidates x.0.0 && has_row code_cmp r.papers x.0.1) es) every in
+      let both = and_parts (has_row nat_cmp r.candidates e.0.0 && has_row code_cmp r.papers e.0.1)
+      (list_all (λ (x : (ℕ × Code) × Entry). has_row nat_cmp r.candidates x.0.0 && has_row code_cmp r.papers x.0.1)
+      es) every in
       inner (is_live_entry r s c e) refl some (entered_among c es both.1)
     where
-      inner : (b : Bool) → is_live_entry r s c e ≡ b → (b || list_any (is_live_entry r s c) es) ≡ true → (list_any (is_live_entry r s c) es ≡ true → has_row nat_cmp r.candidates c ≡ true) → has_row nat_cmp r.candidates c ≡ true
+      inner : (b : Bool) → is_live_entry r s c e ≡ b → (b || list_any (is_live_entry r s c) es) ≡ true
+          → (list_any (is_live_entry r s c) es ≡ true → has_row nat_cmp r.candidates c ≡ true)
+          → has_row nat_cmp r.candidates c ≡ true
       inner true is any rest =
           let known : has_row nat_cmp r.candidates e.0.0 ≡ true =
-          (and_parts (has_row nat_cmp r.candidates e.0.0) (has_row code_cmp r.papers e.0.1) (and_parts (has_row nat_cmp r.candidates e.0.0 && has_row code_cmp r.papers e.0.1) (list_all (λ (x : (ℕ × Code) × Entry). has_row nat_cmp r.candidates x.0.0 && has_row code_cmp r.papers x.0.1) es) every).0).0 in
+          (and_parts (has_row nat_cmp r.candidates e.0.0) (has_row code_cmp r.papers e.0.1)
+          (and_parts (has_row nat_cmp r.candidates e.0.0 && has_row code_cmp r.papers e.0.1)
+          (list_all (λ (x : (ℕ × Code) × Entry). has_row nat_cmp r.candidates x.0.0
+          && has_row code_cmp r.papers x.0.1) es) every).0).0 in
           ap (has_row nat_cmp r.candidates) (sym (eqb-true e.0.0 c (and_parts (nat_eq e.0.0 c) (e.1.live && is_paper_of r s e.0.1) is).0)) ∙ known
       inner false is any rest = rest any
 
@@ -136,7 +149,9 @@ module _ (r0 : Relations) (refer : refers r0 ≡ true) (s : Code) where
     halls = so.alike.halls;
     candidates = so.alike.candidates;
     in_force = λ c entered.
-        ap (λ day. arrangement_by (granted_arrangement r s c) day (standing_grants (with_row r (row.OfSession named x)) c) (row_at nat_cmp r.arrangements c)) (ap (option_map (λ (y : Session). y.day)) kept)
+        ap (λ day. arrangement_by (granted_arrangement r s c) day
+        (standing_grants (with_row r (row.OfSession named x)) c) (row_at nat_cmp r.arrangements c))
+        (ap (option_map (λ (y : Session). y.day)) kept)
         ∙ ap (λ grants. arrangement_by (granted_arrangement r s c) (session_day r s) grants (row_at nat_cmp r.arrangements c)) (none_stands c entered)
         ∙ so.alike.in_force c entered;
     granted = so.alike.granted;
@@ -182,15 +197,21 @@ module _ (r0 : Relations) (refer : refers r0 ≡ true) (s : Code) where
         where
           inner : (b : Bool) → same_code x.session s ≡ b → b ≡ false
           inner true same =
-              let there_is : has_row code_cmp r0.sessions s ≡ true = ap (has_row code_cmp r0.sessions) (sym (same_code_exact x.session s same)) ∙ there (has_row code_cmp r0.sessions x.session) refusal.UnknownSession [] ok in
+              let there_is : has_row code_cmp r0.sessions s ≡ true =
+              ap (has_row code_cmp r0.sessions) (sym (same_code_exact x.session s same))
+              ∙ there (has_row code_cmp r0.sessions x.session) refusal.UnknownSession [] ok in
               absurd (let differ : true ≡ false = sym (ap (λ b. b && has_row code_cmp r0.sessions s) same ∙ there_is) ∙ parts.1 in cc)
           inner false same = refl
 
-      papers : (q : Code) (b : Bool) → is_at (code_cmp q) p ≡ b → option_map_or (λ (paper : Paper). same_code paper.session s) (row_at code_cmp (put_row code_cmp r.papers p x) q) false ≡ is_paper_of r0 s q
+      papers : (q : Code) (b : Bool) → is_at (code_cmp q) p ≡ b
+          → option_map_or (λ (paper : Paper). same_code paper.session s)
+          (row_at code_cmp (put_row code_cmp r.papers p x) q) false ≡ is_paper_of r0 s q
       papers q true at =
           let same : q ≡ p = exact_bytes q p ((Equal-is (code_cmp q p)).0 at) in
           ap (λ z. option_map_or (λ (paper : Paper). same_code paper.session s) (row_at code_cmp (put_row code_cmp r.papers p x) z) false) same
-          ∙ ap (λ (o : Option Paper). option_map_or (λ (paper : Paper). same_code paper.session s) o false) (put_found code_cmp nat_list_cmp_total r.papers p x) ∙ moved ∙ sym parts.0 ∙ ap (is_paper_of r0 s) (sym same)
+          ∙ ap (λ (o : Option Paper). option_map_or (λ (paper : Paper). same_code paper.session s) o false)
+          (put_found code_cmp nat_list_cmp_total r.papers p x) ∙ moved ∙ sym parts.0
+          ∙ ap (is_paper_of r0 s) (sym same)
       papers q false at = ap (λ (o : Option Paper). option_map_or (λ (paper : Paper). same_code paper.session s) o false) (put_elsewhere code_cmp exact_bytes r.papers p q x at) ∙ so.alike.papers q
   spared_row r so (row.OfHall h x) unset away ok = record {
     session = so.alike.session;
@@ -198,7 +219,10 @@ module _ (r0 : Relations) (refer : refers r0 ≡ true) (s : Code) where
     paper_rows = so.alike.paper_rows;
     entries = so.alike.entries;
     openings = so.alike.openings;
-    halls = λ k opened. put_elsewhere code_cmp exact_bytes r.halls h k x (key_apart code_cmp exact_bytes k h (λ same. let differ : true ≡ false = sym opened ∙ ap (λ z. has_row opening_cmp r0.openings (s, z)) same ∙ away in cc)) ∙ so.alike.halls k opened;
+    halls = λ k opened. put_elsewhere code_cmp exact_bytes r.halls h k x
+        (key_apart code_cmp exact_bytes k h
+        (λ same. let differ : true ≡ false =
+        sym opened ∙ ap (λ z. has_row opening_cmp r0.openings (s, z)) same ∙ away in cc)) ∙ so.alike.halls k opened;
     candidates = so.alike.candidates;
     in_force = so.alike.in_force;
     granted = so.alike.granted;
@@ -208,7 +232,9 @@ module _ (r0 : Relations) (refer : refers r0 ≡ true) (s : Code) where
     papers = so.alike.papers;
     paper_rows = so.alike.paper_rows;
     entries = so.alike.entries;
-    openings = λ k. put_elsewhere opening_cmp openings_exact r.openings (named, h) (s, k) x (key_apart opening_cmp openings_exact (s, k) (named, h) (λ same. other (ap (λ (z : Code × Code). z.0) same))) ∙ so.alike.openings k;
+    openings = λ k. put_elsewhere opening_cmp openings_exact r.openings (named, h) (s, k) x
+        (key_apart opening_cmp openings_exact (s, k) (named, h) (λ same. other (ap (λ (z : Code × Code). z.0) same)))
+        ∙ so.alike.openings k;
     halls = so.alike.halls;
     candidates = so.alike.candidates;
     in_force = so.alike.in_force;
@@ -267,7 +293,9 @@ module _ (r0 : Relations) (refer : refers r0 ≡ true) (s : Code) where
     halls = so.alike.halls;
     candidates = so.alike.candidates;
     in_force = λ d entered.
-        ap (arrangement_by (granted_arrangement r s d) (session_day r s) (standing_grants r d)) (put_elsewhere nat_cmp exact_unsigned r.arrangements c d x (key_apart nat_cmp exact_unsigned d c (other d entered)))
+        ap (arrangement_by (granted_arrangement r s d) (session_day r s) (standing_grants r d))
+        (put_elsewhere nat_cmp exact_unsigned r.arrangements c d x
+        (key_apart nat_cmp exact_unsigned d c (other d entered)))
         ∙ so.alike.in_force d entered;
     granted = so.alike.granted;
   }
@@ -290,7 +318,9 @@ module _ (r0 : Relations) (refer : refers r0 ≡ true) (s : Code) where
       inner false = up
   spared_rises r up (row.OfArrangement c x) = up
 
-  spared_rows : (r : Relations) → IsSpared r → (rows : List Row) → list_any (sets_session s) rows ≡ false → list_any (λ (x : Row). row_reaches r0 x s) rows ≡ false → rows_refusal r0 rows ≡ None → SpeakAlike r0 (with_rows r rows) s
+  spared_rows : (r : Relations) → IsSpared r → (rows : List Row) → list_any (sets_session s) rows ≡ false
+      → list_any (λ (x : Row). row_reaches r0 x s) rows ≡ false → rows_refusal r0 rows ≡ None
+      → SpeakAlike r0 (with_rows r rows) s
   spared_rows r so [] unset away ok = so.alike
   spared_rows r so (x ∷ rows) unset away ok =
       let others = neither_any (sets_session s x) (list_any (sets_session s) rows) unset in
@@ -305,7 +335,9 @@ module _ (r0 : Relations) (refer : refers r0 ≡ true) (s : Code) where
       } in
       spared_rows (with_row r x) next rows others.1 apart.1 checked.1
 
-  pub import_spares : KeysRise nat_cmp r0.candidates → (rows : List Row) → list_any (sets_session s) rows ≡ false → list_any (λ (x : Row). row_reaches r0 x s) rows ≡ false → rows_refusal r0 rows ≡ None → SpeakAlike r0 (with_rows r0 rows) s
+  pub import_spares : KeysRise nat_cmp r0.candidates → (rows : List Row) → list_any (sets_session s) rows ≡ false
+      → list_any (λ (x : Row). row_reaches r0 x s) rows ≡ false → rows_refusal r0 rows ≡ None
+      → SpeakAlike r0 (with_rows r0 rows) s
   import_spares up rows unset away ok = spared_rows r0 (record { alike = alike_itself r0 s; grows = grows_none r0; rising = up; appeals = refl; standing = refl }) rows unset away ok
 
 -- ---- entries and openings
@@ -392,7 +424,10 @@ module _ (c : ℕ) (own s : Code) (asked : Subject) (away : same_code own s ≡ 
   -- what is stored at the key is for the same session
   still_for : (rows : List ((ℕ × Code) × Appeal)) (k : ℕ × Code) (a b : Appeal) → row_at appeal_cmp rows k ≡ Some a → row_at appeal_cmp (map given rows) k ≡ Some b → b.session ≡ a.session
   still_for [] k a b at then = absurd (let differ : None ≡ Some a = at in cc)
-  still_for (row ∷ rows) k a b at then = inner (is_at (appeal_cmp k) row.0) at (ap (λ q. cond (is_at (appeal_cmp k) q) (Some (given row).1) (row_at appeal_cmp (map given rows) k)) (sym (given_keyed row)) ∙ then) (still_for rows k a b)
+  still_for (row ∷ rows) k a b at then =
+      inner (is_at (appeal_cmp k) row.0) at
+      (ap (λ q. cond (is_at (appeal_cmp k) q) (Some (given row).1) (row_at appeal_cmp (map given rows) k))
+      (sym (given_keyed row)) ∙ then) (still_for rows k a b)
     where
       inner : (here : Bool) → cond here (Some row.1) (row_at appeal_cmp rows k) ≡ Some a → cond here (Some (given row).1) (row_at appeal_cmp (map given rows) k) ≡ Some b
           → (row_at appeal_cmp rows k ≡ Some a → row_at appeal_cmp (map given rows) k ≡ Some b → b.session ≡ a.session) → b.session ≡ a.session
@@ -452,7 +487,8 @@ module _ (r : Relations) (c : ℕ) (own : Code) (asked : Subject) where
 unentered_fits : (r : Relations) (s : Code) (c : ℕ) (h : Code) → has_live_entry r s c ≡ false → fits r s c h ≡ false
 unentered_fits r s c h out = ap (λ b. b && (suits_opened (sitting_terms r s c) (opened_room r s h) && not (list_any (same_code h) (barred_halls r s c)))) out
 
-module _ (r : Relations) (refer : refers r ≡ true) (stand : marks_were_granted r ≡ true) (d : Decision) (s : Code) (a : Appeal) (at : appeal_at r d.number d.reference ≡ Some a) (open_yet : is_open a.status ≡ true) where
+module _ (r : Relations) (refer : refers r ≡ true) (stand : marks_were_granted r ≡ true) (d : Decision) (s : Code)
+    (a : Appeal) (at : appeal_at r d.number d.reference ≡ Some a) (open_yet : is_open a.status ≡ true) where
   abbrev key : ℕ × Code
   key = (d.number, d.reference)
 
@@ -528,11 +564,17 @@ module _ (r : Relations) (refer : refers r ≡ true) (stand : marks_were_granted
   outcome_spares : (o : Outcome) → d.outcome ≡ o → (is_grant o && grant_reaches r d a s) ≡ false → SameSeating (seating r s) (seating (with_outcome r d a) s)
   outcome_spares outcome.Grant is away = subst (λ (u : Relations). SameSeating (seating r s) (seating u s)) (sym (made_as outcome.Grant is)) (grant_seating outcome.Grant is refl away)
     where
-      made_as : (o : Outcome) → d.outcome ≡ o → with_outcome r d a ≡ with_decisions r (put_row appeal_cmp (with_superseded d.number a o r.appeals) key (record a { status = decided o d.answer })) (with_mark d r.standing)
+      made_as : (o : Outcome) → d.outcome ≡ o
+          → with_outcome r d a
+          ≡ with_decisions r (put_row appeal_cmp (with_superseded d.number a o r.appeals) key
+          (record a { status = decided o d.answer })) (with_mark d r.standing)
       made_as o e = ap (λ (u : Outcome). with_decisions r (put_row appeal_cmp (with_superseded d.number a u r.appeals) key (record a { status = decided u d.answer })) (with_mark d r.standing)) e
   outcome_spares outcome.Standing is away = subst (λ (u : Relations). SameSeating (seating r s) (seating u s)) (sym (made_as outcome.Standing is)) (grant_seating outcome.Standing is refl away)
     where
-      made_as : (o : Outcome) → d.outcome ≡ o → with_outcome r d a ≡ with_decisions r (put_row appeal_cmp (with_superseded d.number a o r.appeals) key (record a { status = decided o d.answer })) (with_mark d r.standing)
+      made_as : (o : Outcome) → d.outcome ≡ o
+          → with_outcome r d a
+          ≡ with_decisions r (put_row appeal_cmp (with_superseded d.number a o r.appeals) key
+          (record a { status = decided o d.answer })) (with_mark d r.standing)
       made_as o e = ap (λ (u : Outcome). with_decisions r (put_row appeal_cmp (with_superseded d.number a u r.appeals) key (record a { status = decided u d.answer })) (with_mark d r.standing)) e
   outcome_spares outcome.Refuse is away =
       subst (λ (u : Relations). SameSeating (seating r s) (seating u s)) (sym made_as)
@@ -540,7 +582,9 @@ module _ (r : Relations) (refer : refers r ≡ true) (stand : marks_were_granted
       (λ b there_is. let same : a ≡ b = (let both : Some a ≡ Some b = sym at ∙ there_is in cc) in ap (λ (x : Appeal). is_granted x.status) (sym same) ∙ open_ungranted a.status open_yet) s)
     where
       made_as : with_outcome r d a ≡ with_appeals r (put_row appeal_cmp r.appeals key (record a { status = status.Refused d.answer }))
-      made_as = ap (λ (u : Outcome). with_decisions r (put_row appeal_cmp (with_superseded d.number a u r.appeals) key (record a { status = decided u d.answer })) (cond (bears_mark u) (put_row appeal_cmp r.standing key tt) (without_mark key r.standing))) is
+      made_as = ap (λ (u : Outcome). with_decisions r
+          (put_row appeal_cmp (with_superseded d.number a u r.appeals) key (record a { status = decided u d.answer }))
+          (cond (bears_mark u) (put_row appeal_cmp r.standing key tt) (without_mark key r.standing))) is
           ∙ ap (with_decisions r (put_row appeal_cmp r.appeals key (record a { status = status.Refused d.answer }))) (unmarked_same r.standing key unmarked)
 
 module _ (r : Relations) (refer : refers r ≡ true) (stand : marks_were_granted r ≡ true) (today : ℕ) (d : Decision) (s : Code) where
@@ -550,7 +594,9 @@ module _ (r : Relations) (refer : refers r ≡ true) (stand : marks_were_granted
       same : SameSeating (seating r s) (seating r s)
       same = record { members = refl; fits = λ c h. refl; desks = λ h. refl }
 
-      by_case : (a : Appeal) → appeal_at r d.number d.reference ≡ Some a → (b : Bool) → first_refusal (cond b [] (open_checks r today d a)) ≡ None → SameSeating (seating r s) (seating (cond b r (with_outcome r d a)) s)
+      by_case : (a : Appeal) → appeal_at r d.number d.reference ≡ Some a → (b : Bool)
+          → first_refusal (cond b [] (open_checks r today d a)) ≡ None
+          → SameSeating (seating r s) (seating (cond b r (with_outcome r d a)) s)
       by_case a at true checked = same
       by_case a at false checked =
           outcome_spares r refer stand d s a at
@@ -564,7 +610,8 @@ module _ (r : Relations) (refer : refers r ≡ true) (stand : marks_were_granted
 -- ---- any command
 
 module _ (before : State) (good : IsGood before) (up : IsInOrder before) (today : ℕ) (s : Code) where
-  spared_by : (done : Command) (t : Relations) → change done today before ≡ Ok t → is_set_by done s ≡ false → reaches before.relations done s ≡ false → SameSeating (seating before.relations s) (seating t s)
+  spared_by : (done : Command) (t : Relations) → change done today before ≡ Ok t → is_set_by done s ≡ false
+      → reaches before.relations done s ≡ false → SameSeating (seating before.relations s) (seating t s)
   spared_by (command.Import import) t is unset away =
       let r = before.relations in
       let none = unrefused (import_refusal r import.rows) (with_rows r import.rows) t is in

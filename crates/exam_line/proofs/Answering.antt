@@ -45,13 +45,15 @@ told Version k words tells (inl e) = cc (tells, e)
 told Version k words tells (inr among) = subst (λ x. IsAmong x (fault_of grammar words)) tells among
 
 -- what clap says of a command is said of the program's
-matched : (a : App) (words : List Text) (m : ArgMatches) → a ≡ grammar → HasMatchesOf a words m → (rows_of (found_of m) ≡ matches_of grammar words) × (subcommand_rows_of m ≡ subcommand_of grammar words)
+matched : (a : App) (words : List Text) (m : ArgMatches) → a ≡ grammar → HasMatchesOf a words m
+    → (rows_of (found_of m) ≡ matches_of grammar words) × (subcommand_rows_of m ≡ subcommand_of grammar words)
 matched a words m e h = let P : App → Type 0 = λ b. HasMatchesOf b words m in subst P e h simple
 
 no_fault : (a : App) (words : List Text) → a ≡ grammar → (is_simple_and_free a ≡ true → fault_of a words ≡ []) → fault_of grammar words ≡ []
 no_fault a words e h = let P : App → Type 0 = λ b. is_simple_and_free b ≡ true → fault_of b words ≡ [] in subst P e h free
 
-pub fault : (a : App) (words : List Text) (f : LineFault) (k : ErrorKind) → a ≡ grammar → Tells f k → (is_simple_and_free a ≡ true → (k ≡ kind.OutOfMemory) ⊎ IsAmong k (fault_of a words)) → Answers (Err f) words
+pub fault : (a : App) (words : List Text) (f : LineFault) (k : ErrorKind) → a ≡ grammar → Tells f k
+    → (is_simple_and_free a ≡ true → (k ≡ kind.OutOfMemory) ⊎ IsAmong k (fault_of a words)) → Answers (Err f) words
 fault a words f k e tells h = let P : App → Type 0 = λ b. is_simple_and_free b ≡ true → (k ≡ kind.OutOfMemory) ⊎ IsAmong k (fault_of b words) in told f k words tells (subst P e h free)
 
 pub read : (r : Result Line LineFault) (a : App) (words : List Text) (m : ArgMatches) → a ≡ grammar → HasMatchesOf a words m → (is_simple_and_free a ≡ true → fault_of a words ≡ [])

@@ -21,5 +21,6 @@ job_more name ws i d h =
 pub and_job : (a b so_far : App) (name : Text) (words : List Text) → b ≡ with_job a (name, words) → a ≡ so_far → b ≡ with_job so_far (name, words)
 and_job a b so_far name words one before = one ∙ ap (λ x. with_job x (name, words)) before
 
-pub last_job : {E : Type 0} (r : Result Command E) (a so_far : App) (name : Text) (words : List Text) → a ≡ so_far → IfOk r (λ c. app_of c ≡ with_job a (name, words)) → IfOk r (λ c. app_of c ≡ with_job so_far (name, words))
+pub last_job : {E : Type 0} (r : Result Command E) (a so_far : App) (name : Text) (words : List Text) → a ≡ so_far
+    → IfOk r (λ c. app_of c ≡ with_job a (name, words)) → IfOk r (λ c. app_of c ≡ with_job so_far (name, words))
 last_job r a so_far name words before one = subst (λ x. IfOk r (λ c. app_of c ≡ with_job x (name, words))) before one

@@ -6,10 +6,17 @@ use Rattle.std.specs.Str.{bytes_eq, chars}
 use Rattle.clap.specs.Lexer.{long_of, short_of}
 use Rattle.clap.specs.Facts.{unwrap_or_range}
 use Rattle.clap.specs.ValueTests.{accepts}
-use Rattle.clap.specs.Walk.{Held, Names, Row, Rule, Step, Text, Waiting, Walk, action_of, answers_to, arg_by_id, arg_by_index, arg_by_long, arg_by_short, attached_value, idle, most_values, next, nothing_held, option, positional, reacted, settled, subcommand, subcommand_met, takes_values, trailing, value, values_or_missing, walk, walk_from, walked, with_default, word_met}
+use Rattle.clap.specs.Walk.{Held, Names, Row, Rule, Step, Text, Waiting, Walk, action_of, answers_to, arg_by_id}
+use Rattle.clap.specs.Walk.{arg_by_index, arg_by_long, arg_by_short, attached_value, idle, most_values, next}
+use Rattle.clap.specs.Walk.{nothing_held, option, positional, reacted, settled, subcommand, subcommand_met}
+use Rattle.clap.specs.Walk.{takes_values, trailing, value, values_or_missing, walk, walk_from, walked, with_default}
+use Rattle.clap.specs.Walk.{word_met}
 use Rattle.clap.specs.Simple.{App, Shape, argument_words, built, entered, label_of, names_of}
 use Rattle.clap.specs.Kinds.{IsAmong, Kinds, check_kinds, or_else, range_kinds, request_kinds, values_kinds}
-use Rattle.clap.specs.Faults.{action_fault, built_fault, bundle_step_fault, count_fault, defaults_fault, entered_fault, fault_of, flag_word_fault, flags_fault, level_fault, long_fault, option_fault, other_fault, react_fault, set_fault, settle_fault, short_fault, step_fault, stray_fault, turn_fault, use_fault, walk_fault}
+use Rattle.clap.specs.Faults.{action_fault, built_fault, bundle_step_fault, count_fault, defaults_fault, entered_fault}
+use Rattle.clap.specs.Faults.{fault_of, flag_word_fault, flags_fault, level_fault, long_fault, option_fault}
+use Rattle.clap.specs.Faults.{other_fault, react_fault, set_fault, settle_fault, short_fault, step_fault, stray_fault}
+use Rattle.clap.specs.Faults.{turn_fault, use_fault, walk_fault}
 use Rattle.clap.specs.declared.builder.action.ArgAction.{ArgAction}
 use Rattle.clap.specs.declared.builder.action.ArgAction.TheVariants as action
 use Rattle.clap.specs.declared.builder.value_parser.ValueParser.{ValueParser}
@@ -114,7 +121,8 @@ of_short c again None rest h after alone = one _
 of_short c again (Some a) rest h after alone =
     either (takes_values a) _ _ (of_option c again a (attached_value rest) h) (first _ _ (of_react c again a [] h) (alone (reacted c a [] h)))
 
-of_bundle_step : (c : List Rule) (again : Bool) (x : Option ℕ) (flags : Text) (skip : ℕ) (h : Held) (after : Text → ℕ → Held → Kinds) → ((rest : Text) (skip : ℕ) (h : Held) → RequestAlone (after rest skip h))
+of_bundle_step : (c : List Rule) (again : Bool) (x : Option ℕ) (flags : Text) (skip : ℕ) (h : Held)
+    (after : Text → ℕ → Held → Kinds) → ((rest : Text) (skip : ℕ) (h : Held) → RequestAlone (after rest skip h))
     → RequestAlone (bundle_step_fault c again x flags skip h after)
 of_bundle_step c again None flags skip h after alone = none
 of_bundle_step c again (Some x) flags zero h after alone =
@@ -193,7 +201,9 @@ of_defaults [] rows = none
 of_defaults (a ∷ rest) rows =
     first _ _ (either _ _ _ none (first _ _ (of_request (action_of a)) (of_values _ _ a.defaults))) (of_defaults rest (with_default rows a))
 
-of_level : (s : Shape) (names : Names) → Quiet s names → (h : Held) (words : List Text) (has_subcommand : Bool) (below : Kinds) → RequestAlone below → RequestAlone (level_fault s names h words has_subcommand below)
+of_level : (s : Shape) (names : Names) → Quiet s names
+    → (h : Held) (words : List Text) (has_subcommand : Bool) (below : Kinds) → RequestAlone below
+    → RequestAlone (level_fault s names h words has_subcommand below)
 of_level s names quiet h words has_subcommand below alone =
     let end = (walk s.rules names h words).held in
     first _ _ (of_walk s names quiet words (walk_from h))

@@ -131,8 +131,12 @@ module _ (done : Command) (office part : State) (up : IsInOrder office) (agrees 
       facts = refl;
       read = λ s here c.
           seat_after old (s, c)
-          ∙ ap (λ (o : Option Code). cond (is_some o && not (has_row seat_cmp new (s, c))) None (option_or (row_at seat_cmp new (s, c)) (row_at seat_cmp office.seats (s, c)))) (ap (λ (seats : Seats). row_at seat_cmp seats (s, c)) back.0)
-          ∙ ap (λ (o : Option Code). cond (is_some (row_at seat_cmp part.seats (s, c)) && not (has_row seat_cmp new (s, c))) None (option_or (row_at seat_cmp new (s, c)) o)) (sym (agrees.read s here c))
+          ∙ ap (λ (o : Option Code). cond (is_some o && not (has_row seat_cmp new (s, c))) None
+          (option_or (row_at seat_cmp new (s, c)) (row_at seat_cmp office.seats (s, c))))
+          (ap (λ (seats : Seats). row_at seat_cmp seats (s, c)) back.0)
+          ∙ ap (λ (o : Option Code). cond
+          (is_some (row_at seat_cmp part.seats (s, c)) && not (has_row seat_cmp new (s, c))) None
+          (option_or (row_at seat_cmp new (s, c)) o)) (sym (agrees.read s here c))
           ∙ read_at (row_at seat_cmp part.seats (s, c)) (row_at seat_cmp new (s, c));
       others = λ s out c.
           let none_old : row_at seat_cmp old.entries (s, c) ≡ None = ap (λ (seats : Seats). row_at seat_cmp seats (s, c)) back.0 ∙ agrees.others s out c in
@@ -154,7 +158,9 @@ old_stay None seats later has stays = tt
 old_stay (Some old) seats later has stays = λ k was. stays k (has k was)
 
 -- an accepted command leaves a good office
-good_after : (done : Command) (today : ℕ) (office after : State) (told : Reply) (old : Relations) → WasMade done old after.relations → IsTrue (within_limits after.relations) → Step done today office (Ok told) after → IsGood after
+good_after : (done : Command) (today : ℕ) (office after : State) (told : Reply) (old : Relations)
+    → WasMade done old after.relations → IsTrue (within_limits after.relations)
+    → Step done today office (Ok told) after → IsGood after
 good_after done today office after told old was within step = record {
   refer = ap refers was.made ∙ made_refers was.today was.office was.good order done was.early;
   limits = within;

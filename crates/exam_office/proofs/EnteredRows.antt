@@ -88,7 +88,9 @@ module _ (r t : Relations) (c : ℕ) (p : Code) (later : List Row) (enters : Ent
   by_has b has = ap (λ b. cond b r (record r { entries = put_row entry_cmp r.entries (c, p) (record { live = true }) })) has
 
   new_live : has_row entry_cmp r.entries (c, p) ≡ false → row_at entry_cmp t.entries (c, p) ≡ Some (record { live = true })
-  new_live none = at_last (record { live = true }) (ap (λ (u : Relations). row_at entry_cmp u.entries (c, p)) (by_has false none) ∙ put_found entry_cmp entry_total r.entries (c, p) (record { live = true }))
+  new_live none = at_last (record { live = true })
+      (ap (λ (u : Relations). row_at entry_cmp u.entries (c, p)) (by_has false none)
+      ∙ put_found entry_cmp entry_total r.entries (c, p) (record { live = true }))
 
   old_stays : (e : Entry) → row_at entry_cmp r.entries (c, p) ≡ Some e → row_at entry_cmp t.entries (c, p) ≡ Some e
   old_stays e at = at_last e (ap (λ (u : Relations). row_at entry_cmp u.entries (c, p)) (by_has true (ap is_some at)) ∙ at)
@@ -97,7 +99,8 @@ module _ (r t : Relations) (c : ℕ) (p : Code) (later : List Row) (enters : Ent
   entries_put : (s : Code) → live_session t c p ≡ Some s → (with_row r (row.OfEntry c p)).entries ≡ put_row entry_cmp r.entries (c, p) (record { live = true })
   entries_put s counts = inner (row_at entry_cmp r.entries (c, p)) refl
     where
-      live_then : (e : Entry) (b : Bool) → e.live ≡ b → row_at entry_cmp r.entries (c, p) ≡ Some e → (with_row r (row.OfEntry c p)).entries ≡ put_row entry_cmp r.entries (c, p) (record { live = true })
+      live_then : (e : Entry) (b : Bool) → e.live ≡ b → row_at entry_cmp r.entries (c, p) ≡ Some e
+          → (with_row r (row.OfEntry c p)).entries ≡ put_row entry_cmp r.entries (c, p) (record { live = true })
       live_then e true live at =
           ap (λ (u : Relations). u.entries) (by_has true (ap is_some at))
           ∙ sym (put_same entry_cmp entry_total r.entries (c, p) (record { live = true }) enters.order.entries (at ∙ ap (λ (b : Bool). Some (record { live = b })) live))

@@ -76,7 +76,8 @@ none_reached r s (x ∷ rows) of =
     inner (row.OfArrangement c v) is = cc
 
 module _ (r : Relations) (lists : SessionLists) (are : AreListsOf r lists) where
-  with_others : (sessions : List (Code × Session)) (halls : List (Code × Hall)) (arrangements : List (ℕ × Arrangement)) → AreListsOf (record r { sessions = sessions; halls = halls; arrangements = arrangements }) lists
+  with_others : (sessions : List (Code × Session)) (halls : List (Code × Hall)) (arrangements : List (ℕ × Arrangement))
+      → AreListsOf (record r { sessions = sessions; halls = halls; arrangements = arrangements }) lists
   with_others sessions halls arrangements = record {
     numbers = are.numbers;
     members = are.members;
@@ -85,7 +86,9 @@ module _ (r : Relations) (lists : SessionLists) (are : AreListsOf r lists) where
   }
 
   -- other candidates, if the numbers with live entries stay
-  with_candidates : (candidates : List (ℕ × Candidate)) → ((s : Code) → filter (has_live_entry r s) (keys_of candidates) ≡ filter (has_live_entry r s) (keys_of r.candidates)) → AreListsOf (record r { candidates = candidates }) lists
+  with_candidates : (candidates : List (ℕ × Candidate))
+      → ((s : Code) → filter (has_live_entry r s) (keys_of candidates)
+      ≡ filter (has_live_entry r s) (keys_of r.candidates)) → AreListsOf (record r { candidates = candidates }) lists
   with_candidates candidates same = record {
     numbers = entrants_are_members (record r { candidates = candidates });
     members = λ s. are.members s ∙ sym (same_entrants s);

@@ -1,5 +1,7 @@
 -- The plans that a command reads, copied seat by seat.
-use Rattle.std.proofs.Common.{◌≡◌, ◌≤◌, ℕ, zero, suc, ◌&&◌, ◌||◌, Bool, true, false, cond, IsTrue, List, [], ◌∷◌, ◌++◌, map, length, take, nat_eq, Contains, Option, None, Some, IsSome, refl, ap, sym, subst, ◌∙◌, arith}
+use Rattle.std.proofs.Common.{◌≡◌, ◌≤◌, ℕ, zero, suc, ◌&&◌, ◌||◌, Bool, true, false, cond, IsTrue, List, [], ◌∷◌, ◌++◌}
+use Rattle.std.proofs.Common.{map, length, take, nat_eq, Contains, Option, None, Some, IsSome, refl, ap, sym, subst}
+use Rattle.std.proofs.Common.{◌∙◌, arith}
 use Rattle.std.specs.Prelude.{◌↔◌}
 use Rattle.std.specs.List.{list_any}
 use Rattle.std.specs.Option.{option_map_or, option_or}
@@ -86,7 +88,8 @@ plans_agree done office plans sessions exact copied = record {
     none s out false any = refl
 
 -- who is not listed among the members does not sit
-pub unlisted : (office : State) (lists : SessionLists) → IsGood office → AreListsOf office.relations lists → (t s : Code) (c : ℕ) → same_code t s ≡ true → is_listed lists t c ≡ false → plan_of office.seats s c ≡ None
+pub unlisted : (office : State) (lists : SessionLists) → IsGood office → AreListsOf office.relations lists
+    → (t s : Code) (c : ℕ) → same_code t s ≡ true → is_listed lists t c ≡ false → plan_of office.seats s c ≡ None
 unlisted office lists good are t s c same away = inner (plan_of office.seats s c) refl
   where
     numbers : map (λ (e : Entrant). e.number) (listed lists.members.entries s) ≡ members office.relations s
@@ -98,7 +101,10 @@ unlisted office lists good are t s c same away = inner (plan_of office.seats s c
     listed_if : (es : List Entrant) → Contains (map (λ (e : Entrant). e.number) es) c → list_any (λ (e : Entrant). nat_eq e.number c) es ≡ true
     listed_if es among = any_number es (is_member-Decides (λ a b. Decides-eqb a b) (map (λ (e : Entrant). e.number) es) c) among
       where
-        any_number : (xs : List Entrant) → Decides (list_any (nat_eq c) (map (λ (e : Entrant). e.number) xs)) (Contains (map (λ (e : Entrant). e.number) xs) c) → Contains (map (λ (e : Entrant). e.number) xs) c → list_any (λ (e : Entrant). nat_eq e.number c) xs ≡ true
+        any_number : (xs : List Entrant)
+            → Decides (list_any (nat_eq c) (map (λ (e : Entrant). e.number) xs))
+            (Contains (map (λ (e : Entrant). e.number) xs) c) → Contains (map (λ (e : Entrant). e.number) xs) c
+            → list_any (λ (e : Entrant). nat_eq e.number c) xs ≡ true
         any_number xs decides among = sym (mapped xs) ∙ decides.1 among
           where
             mapped : (ys : List Entrant) → list_any (nat_eq c) (map (λ (e : Entrant). e.number) ys) ≡ list_any (λ (e : Entrant). nat_eq e.number c) ys
@@ -127,6 +133,8 @@ pub grant_reads : (r : Relations) (d : Decision) (s : Code) → is_grant d.outco
 grant_reads r d s grants = inner (is_grant d.outcome) grants (appeal_at r d.number d.reference)
   where
     inner : (b : Bool) → b ≡ true → (o : Option Appeal)
-        → (is_appeal_for r o s || (has_row code_cmp r.sessions s && (b && option_map_or (λ a. grant_reaches r d a s) o false))) ≡ (has_row code_cmp r.sessions s && (b && option_map_or (λ a. grant_reaches r d a s) o false))
+        → (is_appeal_for r o s ||
+        (has_row code_cmp r.sessions s && (b && option_map_or (λ a. grant_reaches r d a s) o false)))
+        ≡ (has_row code_cmp r.sessions s && (b && option_map_or (λ a. grant_reaches r d a s) o false))
     inner true is o = grant_is_for r d s o
     inner false is o = absurd (let differ : false ≡ true = is in cc)

@@ -56,7 +56,9 @@ none_kept before lists none = record {
 
 -- another record of equal entries puts equal lists back
 pub same_back : (before kept : Kept) (lists new was : SessionLists) → kept.entries ≡ before.entries → SameLists lists new
-    → ((s : Code) → IsTrue (has_row code_cmp lists.members.entries s) → IsTrue (has_row code_cmp new.members.entries s)) → ListsBack (undo.Several before) lists was → ListsBack (undo.Several kept) new was
+    → ((s : Code) → IsTrue (has_row code_cmp lists.members.entries s)
+    → IsTrue (has_row code_cmp new.members.entries s)) → ListsBack (undo.Several before) lists was
+    → ListsBack (undo.Several kept) new was
 same_back before kept lists new was is same stay back = record {
   there = λ s has. stay s (back.there s (ap (λ (rows : Rows). has_row code_cmp rows s) (sym is) ∙ has));
   members = λ s. ap (λ (rows : Rows). list_before rows new s) is ∙ ap (list_or (row_at code_cmp before.entries s)) (same.members s) ∙ back.members s;
@@ -65,7 +67,9 @@ same_back before kept lists new was is same stay back = record {
 
 -- one more is kept
 pub more_back : (before kept : Kept) (session : Code) (copy : Vec Entrant Global) (lists new was : SessionLists) → has_row code_cmp before.entries session ≡ false
-    → ((s : Code) → row_at code_cmp kept.entries s ≡ cond (is_at (code_cmp session) s) (Some copy) (row_at code_cmp before.entries s)) → copy.items ≡ listed new.members.entries session → SameLists lists new
+    → ((s : Code) → row_at code_cmp kept.entries s
+    ≡ cond (is_at (code_cmp session) s) (Some copy) (row_at code_cmp before.entries s))
+    → copy.items ≡ listed new.members.entries session → SameLists lists new
     → IsTrue (has_row code_cmp new.members.entries session) → ((s : Code) → IsTrue (has_row code_cmp lists.members.entries s) → IsTrue (has_row code_cmp new.members.entries s))
     → ListsBack (undo.Several before) lists was → ListsBack (undo.Several kept) new was
 more_back before kept session copy lists new was none put is same own stay back = record {
@@ -87,14 +91,18 @@ more_back before kept session copy lists new was none put is same own stay back 
 
     members : (s : Code) (b : Bool) → is_at (code_cmp session) s ≡ b → list_or (cond b (Some copy) (row_at code_cmp before.entries s)) (listed new.members.entries s) ≡ listed was.members.entries s
     members s true at =
-        let at_own : list_before before.entries lists session ≡ listed lists.members.entries session = ap (λ o. list_or o (listed lists.members.entries session)) (nothing (row_at code_cmp before.entries session) none) in
+        let at_own : list_before before.entries lists session ≡ listed lists.members.entries session =
+        ap (λ o. list_or o (listed lists.members.entries session))
+        (nothing (row_at code_cmp before.entries session) none) in
         is ∙ same.members session ∙ sym at_own ∙ back.members session ∙ ap (listed was.members.entries) (the_same s at)
     members s false at = ap (list_or (row_at code_cmp before.entries s)) (same.members s) ∙ back.members s
 
 -- the list of one session, which is kept, has changed
 pub changed_back : (before : Kept) (session : Code) (lists new was : SessionLists) → IsTrue (has_row code_cmp before.entries session)
     → ((s : Code) → same_code session s ≡ false → listed new.members.entries s ≡ listed lists.members.entries s) → new.halls.entries ≡ lists.halls.entries
-    → ((s : Code) → IsTrue (has_row code_cmp lists.members.entries s) → IsTrue (has_row code_cmp new.members.entries s)) → ListsBack (undo.Several before) lists was → ListsBack (undo.Several before) new was
+    → ((s : Code) → IsTrue (has_row code_cmp lists.members.entries s)
+    → IsTrue (has_row code_cmp new.members.entries s)) → ListsBack (undo.Several before) lists was
+    → ListsBack (undo.Several before) new was
 changed_back before session lists new was own others halls stay back = record {
   there = λ s has. stay s (back.there s has);
   members = λ s. members s (same_code session s) refl ∙ back.members s;
@@ -106,7 +114,9 @@ changed_back before session lists new was own others halls stay back = record {
     kept_is (Some list) a b has = refl
 
     members : (s : Code) (b : Bool) → same_code session s ≡ b → list_before before.entries new s ≡ list_before before.entries lists s
-    members s true same = kept_is (row_at code_cmp before.entries s) (listed new.members.entries s) (listed lists.members.entries s) (ap (has_row code_cmp before.entries) (sym (same_code_exact session s same)) ∙ own)
+    members s true same =
+        kept_is (row_at code_cmp before.entries s) (listed new.members.entries s) (listed lists.members.entries s)
+        (ap (has_row code_cmp before.entries) (sym (same_code_exact session s same)) ∙ own)
     members s false other = ap (list_or (row_at code_cmp before.entries s)) (others s other)
 
 -- lists that are the same are lists of the same

@@ -29,7 +29,10 @@ module _ (p : Problem) (good : IsProblem p) where
     full = λ h l t. elim (cases_lt (length (occupants (seating_of p) q h)) (get_or p.desk_counts h 0)) [
       | inl free ↦ (let m = below-member (length p.desk_counts) h l in
           let some : list_any (is_free q marks) (range_with_len 0 (length p.desk_counts)) ≡ true = list_any_at (is_free q marks) (range_with_len 0 (length p.desk_counts)) m.0 h m.1
-          (ap (is_free q marks) m.2 ∙ and_from (get_or marks h false) (nat_lt (length (occupants (seating_of p) q h)) (get_or p.desk_counts h 0)) t (lt-ltb (length (occupants (seating_of p) q h)) (get_or p.desk_counts h 0) free)) in
+          (ap (is_free q marks) m.2
+          ∙ and_from (get_or marks h false)
+          (nat_lt (length (occupants (seating_of p) q h)) (get_or p.desk_counts h 0)) t
+          (lt-ltb (length (occupants (seating_of p) q h)) (get_or p.desk_counts h 0) free)) in
           absurd (let z : false ≡ true = sym none ∙ some in cc))
       | inr k ↦ k
     ];
@@ -60,7 +63,15 @@ module _ (p : Problem) (good : IsProblem p) where
 
   -- so many more can be seated at most
   best_after : (rounds : ℕ) (q : Plan ℕ ℕ) → IsLawful (seating_of p) q → length p.fit ≤ size (seating_of p) q + rounds → (r : Plan ℕ ℕ) × IsBest (seating_of p) r
-  best_after zero q lawful few = (q, record { lawful = lawful; greatest = λ other also. (let s = size-count p other in let b = count_below-le-bound (λ c. is_some (other c)) (length p.fit) in omega (arith, s, b, few)) })
+  best_after zero q lawful few = (
+    q,
+    record {
+      lawful = lawful;
+      greatest =
+          λ other also. (let s = size-count p other in let b =
+          count_below-le-bound (λ c. is_some (other c)) (length p.fit) in omega (arith, s, b, few));
+    },
+  )
   best_after (suc rounds) q lawful few = elim (best_or_better q lawful) [
     | inl best ↦ (q, best)
     | inr w ↦ best_after rounds w.0 w.1.0 (let more = w.1.1 in omega (arith, more, few))
@@ -74,7 +85,10 @@ module _ (p : Problem) (good : IsProblem p) where
   nobody_lawful = record {
     members = λ c s. absurd (let z : false ≡ true = s in cc);
     fitting = λ c. tt;
-    within_desks = λ h. (let e = length-occupants p nobody h in let z = count_below-none (λ c. false) (length p.fit) (λ c. refl) in let s : count_below (λ c. sits_at h (nobody c)) (length p.fit) ≡ count_below (λ c. false) (length p.fit) = refl in omega (arith, e, z, s));
+    within_desks = λ h. (let e = length-occupants p nobody h in let z =
+        count_below-none (λ c. false) (length p.fit) (λ c. refl) in
+        let s : count_below (λ c. sits_at h (nobody c)) (length p.fit) ≡ count_below (λ c. false) (length p.fit) =
+        refl in omega (arith, e, z, s));
   }
 
   pub some_best_plan : (q : Plan ℕ ℕ) × IsBest (seating_of p) q

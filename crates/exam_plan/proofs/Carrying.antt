@@ -1,5 +1,6 @@
 -- What is so by indices is so by names, for two seatings, one a renaming of the other.
-use Rattle.std.proofs.Common.{◌≡◌, ℕ, ◌+◌, ◌<◌, ◌≤◌, Bool, IsTrue, List, [], ◌∷◌, length, map, filter, get_or, Contains, count_by, sum_by, Option, None, Some, IfSome, is_none, refl, sym, ap, subst, ◌∙◌, arith}
+use Rattle.std.proofs.Common.{◌≡◌, ℕ, ◌+◌, ◌<◌, ◌≤◌, Bool, IsTrue, List, [], ◌∷◌, length, map, filter, get_or, Contains}
+use Rattle.std.proofs.Common.{count_by, sum_by, Option, None, Some, IfSome, is_none, refl, sym, ap, subst, ◌∙◌, arith}
 use Rattle.std.specs.declared.cmp.Ordering.{Ordering}
 use Rattle.std.specs.declared.cmp.Ordering.TheVariants.{Less}
 use Rattle.std.specs.List.{AllByRecursion}
@@ -83,7 +84,14 @@ module _ {C H : Type 0} (name : Naming C H) (r : Renames name) where
 
   -- the contested candidates are the named_plan name contested ones
   pub IsContested-named : (c : C) (i : ℕ) → name.candidate_index c ≡ Some i → IsContested name.of_indices i → IsContested name.of_names c
-  IsContested-named c i e contested = ((r.named c i e).2, (named_plan name contested.1.0, IsBest-named name r contested.1.0 contested.1.1, named_member name r contested.1.0 c i e ∙ none_from name.hall (contested.1.0 i) contested.1.2))
+  IsContested-named c i e contested = (
+    (r.named c i e).2,
+    (
+      named_plan name contested.1.0,
+      IsBest-named name r contested.1.0 contested.1.1,
+      named_member name r contested.1.0 c i e ∙ none_from name.hall (contested.1.0 i) contested.1.2,
+    ),
+  )
 
   pub IsContested-indexed : (c : C) (i : ℕ) → name.candidate_index c ≡ Some i → IsContested name.of_names c → IsContested name.of_indices i
   IsContested-indexed c i e contested =
@@ -98,15 +106,28 @@ module _ {C H : Type 0} (name : Naming C H) (r : Renames name) where
       )
 
   -- a certificate by indices is one by names, where the names rise with the indices
-  pub IsCertificate-named : ((i j : ℕ) → Contains name.of_indices.members i → Contains name.of_indices.members j → name.of_indices.candidate_cmp i j ≡ Less → name.of_names.candidate_cmp (name.candidate i) (name.candidate j) ≡ Less)
+  pub IsCertificate-named :
+      ((i j : ℕ) → Contains name.of_indices.members i → Contains name.of_indices.members j
+      → name.of_indices.candidate_cmp i j ≡ Less
+      → name.of_names.candidate_cmp (name.candidate i) (name.candidate j) ≡ Less)
       → ((j k : ℕ) → name.hall_index (name.hall j) ≡ Some j → name.hall_index (name.hall k) ≡ Some k → name.of_indices.hall_cmp j k ≡ Less → name.of_names.hall_cmp (name.hall j) (name.hall k) ≡ Less)
-      → (p : Plan ℕ ℕ) (candidates halls : List ℕ) → IsCertificate name.of_indices p candidates halls → IsCertificate name.of_names (named_plan name p) (map name.candidate candidates) (map name.hall halls)
+      → (p : Plan ℕ ℕ) (candidates halls : List ℕ) → IsCertificate name.of_indices p candidates halls
+      → IsCertificate name.of_names (named_plan name p) (map name.candidate candidates) (map name.hall halls)
   IsCertificate-named candidates_rise halls_rise p candidates halls cert = record {
-    members = All-map (Contains name.of_names.members) name.candidate candidates (λ k d h. subst (λ t. Contains t (name.candidate (get_or candidates k d))) (sym r.members) (contains_map name.candidate name.of_indices.members (get_or candidates k d) (cert.members k d h)));
-    rising = sorted_map name.of_indices.candidate_cmp name.of_names.candidate_cmp name.candidate (Contains name.of_indices.members) candidates_rise candidates (recursion_from_All (Contains name.of_indices.members) candidates cert.members) cert.rising;
-    halls_rising = sorted_map name.of_indices.hall_cmp name.of_names.hall_cmp name.hall (λ j. name.hall_index (name.hall j) ≡ Some j) halls_rise halls (of_members _ halls hall_known) cert.halls_rising;
+    members = All-map (Contains name.of_names.members) name.candidate candidates
+        (λ k d h. subst (λ t. Contains t (name.candidate (get_or candidates k d))) (sym r.members)
+        (contains_map name.candidate name.of_indices.members (get_or candidates k d) (cert.members k d h)));
+    rising = sorted_map name.of_indices.candidate_cmp name.of_names.candidate_cmp name.candidate
+        (Contains name.of_indices.members) candidates_rise candidates
+        (recursion_from_All (Contains name.of_indices.members) candidates cert.members) cert.rising;
+    halls_rising = sorted_map name.of_indices.hall_cmp name.of_names.hall_cmp name.hall
+        (λ j. name.hall_index (name.hall j) ≡ Some j) halls_rise halls
+        (of_members _ halls hall_known) cert.halls_rising;
     halls_of = λ h. (found h, back h);
-    excess = length-map candidates name.candidate ∙ cert.excess ∙ ap (λ t. t + length (unseated name.of_indices p)) (sym desks_same) ∙ ap (λ t. sum_by name.of_names.desks (map name.hall halls) + t) (sym (ap length (unseated-named p) ∙ length-map (unseated name.of_indices p) name.candidate));
+    excess = length-map candidates name.candidate ∙ cert.excess
+        ∙ ap (λ t. t + length (unseated name.of_indices p)) (sym desks_same)
+        ∙ ap (λ t. sum_by name.of_names.desks (map name.hall halls) + t)
+        (sym (ap length (unseated-named p) ∙ length-map (unseated name.of_indices p) name.candidate));
   }
     where
       hall_known : (j : ℕ) → Contains halls j → name.hall_index (name.hall j) ≡ Some j
@@ -119,8 +140,12 @@ module _ {C H : Type 0} (name : Naming C H) (r : Renames name) where
       found h m =
           let w : (j : ℕ) × Contains halls j × (name.hall j ≡ h) = from_map name.hall halls h m in
           let v : (i : ℕ) × Contains candidates i × IsTrue (name.of_indices.fits i w.0) = (cert.halls_of w.0).0 w.1 in
-          let at : name.hall_index h ≡ Some w.0 = ap name.hall_index (sym w.2) ∙ hall_known w.0 w.1 in
-          (name.candidate v.0, contains_map name.candidate candidates v.0 v.1, r.fits (name.candidate v.0) h v.0 w.0 (r.known v.0 (All-contains (Contains name.of_indices.members) candidates v.0 cert.members v.1)) at ∙ v.2)
+          let at : name.hall_index h ≡ Some w.0 = ap name.hall_index (sym w.2) ∙ hall_known w.0 w.1 in (
+            name.candidate v.0,
+            contains_map name.candidate candidates v.0 v.1,
+            r.fits (name.candidate v.0) h v.0 w.0
+                (r.known v.0 (All-contains (Contains name.of_indices.members) candidates v.0 cert.members v.1)) at ∙ v.2,
+          )
 
       back : (h : H) → (c : C) × Contains (map name.candidate candidates) c × IsTrue (name.of_names.fits c h) → Contains (map name.hall halls) h
       back h u =
@@ -130,9 +155,14 @@ module _ {C H : Type 0} (name : Naming C H) (r : Renames name) where
           subst (Contains (map name.hall halls)) (r.halls h v.0 v.1) (contains_map name.hall halls v.0 ((cert.halls_of v.0).1 (w.0, w.1, sym (r.fits u.0 h w.0 v.0 at v.1) ∙ u.2)))
 
   -- desk numbers are the same, where names stand in the order of the indices' ranks
-  pub desk_number-named : (before_b : C → C → Bool) (before_a : ℕ → ℕ → Bool) → ((i j : ℕ) → Contains name.of_indices.members i → Contains name.of_indices.members j → before_b (name.candidate i) (name.candidate j) ≡ before_a i j)
-      → (p : Plan ℕ ℕ) → IsLawful name.of_indices p → (c : C) (i : ℕ) → name.candidate_index c ≡ Some i → desk_number name.of_names before_b (named_plan name p) c ≡ desk_number name.of_indices before_a p i
-  desk_number-named before_b before_a order p l c i at = ap (option_map (λ h. count_by (λ d. before_b d c) (occupants name.of_names (named_plan name p) h) + 1)) (named_member name r p c i at) ∙ inner (p i) (l.fitting i)
+  pub desk_number-named : (before_b : C → C → Bool) (before_a : ℕ → ℕ → Bool)
+      → ((i j : ℕ) → Contains name.of_indices.members i → Contains name.of_indices.members j
+      → before_b (name.candidate i) (name.candidate j) ≡ before_a i j)
+      → (p : Plan ℕ ℕ) → IsLawful name.of_indices p → (c : C) (i : ℕ) → name.candidate_index c ≡ Some i
+      → desk_number name.of_names before_b (named_plan name p) c ≡ desk_number name.of_indices before_a p i
+  desk_number-named before_b before_a order p l c i at =
+      ap (option_map (λ h. count_by (λ d. before_b d c) (occupants name.of_names (named_plan name p) h) + 1))
+      (named_member name r p c i at) ∙ inner (p i) (l.fitting i)
     where
       member : Contains name.of_indices.members i
       member = (r.named c i at).1
@@ -140,12 +170,23 @@ module _ {C H : Type 0} (name : Naming C H) (r : Renames name) where
       is : name.candidate i ≡ c
       is = (r.named c i at).0
 
-      inner : (o : Option ℕ) → IfSome o (λ k. IsTrue (name.of_indices.fits i k)) → option_map (λ h. count_by (λ d. before_b d c) (occupants name.of_names (named_plan name p) h) + 1) (option_map name.hall o) ≡ option_map (λ k. count_by (λ d. before_a d i) (occupants name.of_indices p k) + 1) o
+      inner : (o : Option ℕ) → IfSome o (λ k. IsTrue (name.of_indices.fits i k))
+          → option_map (λ h. count_by (λ d. before_b d c) (occupants name.of_names (named_plan name p) h) + 1)
+          (option_map name.hall o)
+          ≡ option_map (λ k. count_by (λ d. before_a d i) (occupants name.of_indices p k) + 1) o
       inner None fit = refl
       inner (Some k) fit =
           let sat : occupants name.of_names (named_plan name p) (name.hall k) ≡ map name.candidate (occupants name.of_indices p k) =
           ap (filter (λ c. is_hall name.of_names (name.hall k) (named_plan name p c))) r.members
           ∙ filter_same (λ c. is_hall name.of_names (name.hall k) (named_plan name p c)) (λ d. is_hall name.of_indices k (p d)) name.candidate name.of_indices.members
-          (of_members _ name.of_indices.members (λ d m. ap (is_hall name.of_names (name.hall k)) (named_member name r p (name.candidate d) d (r.known d m)) ∙ is_hall-known name r (name.hall k) k (p d) (r.known_hall i k fit) (IfSome_then (p d) (l.fitting d) (r.known_hall d)))) in
+          (of_members _ name.of_indices.members
+          (λ d m. ap (is_hall name.of_names (name.hall k))
+          (named_member name r p (name.candidate d) d (r.known d m))
+          ∙ is_hall-known name r (name.hall k) k (p d) (r.known_hall i k fit)
+          (IfSome_then (p d) (l.fitting d) (r.known_hall d)))) in
           ap (λ n. Some (n + 1)) (ap (count_by (λ d. before_b d c)) sat
-          ∙ count_same (λ d. before_b d c) (λ d. before_a d i) name.candidate (occupants name.of_indices p k) (all_filter (λ d. before_b (name.candidate d) c ≡ before_a d i) (λ d. is_hall name.of_indices k (p d)) name.of_indices.members (of_members _ name.of_indices.members (λ d m. ap (before_b (name.candidate d)) (sym is) ∙ order d i m member))))
+          ∙ count_same (λ d. before_b d c) (λ d. before_a d i) name.candidate (occupants name.of_indices p k)
+          (all_filter (λ d. before_b (name.candidate d) c ≡ before_a d i)
+          (λ d. is_hall name.of_indices k (p d)) name.of_indices.members
+          (of_members _ name.of_indices.members
+          (λ d m. ap (before_b (name.candidate d)) (sym is) ∙ order d i m member))))

@@ -17,7 +17,8 @@ use Rattle.exam_plan.proofs.Small.{filter_same, of_members, some_value, value_at
 
 -- the orders agree, candidates are told apart, and halls fit members alone
 pub record Follows {C H : Type 0} (name : Naming C H) : Type 0 where
-  pub candidates : (i j : ℕ) → Contains name.of_indices.members i → Contains name.of_indices.members j → name.of_names.candidate_cmp (name.candidate i) (name.candidate j) ≡ name.of_indices.candidate_cmp i j
+  pub candidates : (i j : ℕ) → Contains name.of_indices.members i → Contains name.of_indices.members j
+      → name.of_names.candidate_cmp (name.candidate i) (name.candidate j) ≡ name.of_indices.candidate_cmp i j
   pub halls : (j k : ℕ) → name.hall_index (name.hall j) ≡ Some j → name.hall_index (name.hall k) ≡ Some k → name.of_names.hall_cmp (name.hall j) (name.hall k) ≡ name.of_indices.hall_cmp j k
   pub same_a : (i j : ℕ) → (name.of_indices.same_candidate i j ≡ true) ↔ (i ≡ j)
   pub same_b : (c d : C) → (name.of_names.same_candidate c d ≡ true) ↔ (c ≡ d)
@@ -37,7 +38,9 @@ module _ {C H : Type 0} (name : Naming C H) (r : Renames name) (f : Follows name
   as_many p known j known_j =
       ap length (ap (filter (λ c. is_hall name.of_names (name.hall j) (named_plan name p c))) r.members
       ∙ filter_same (λ c. is_hall name.of_names (name.hall j) (named_plan name p c)) (λ i. is_hall name.of_indices j (p i)) name.candidate name.of_indices.members
-      (of_members _ name.of_indices.members (λ i m. ap (is_hall name.of_names (name.hall j)) (named_member name r p (name.candidate i) i (r.known i m)) ∙ is_hall-known name r (name.hall j) j (p i) known_j (known i))))
+      (of_members _ name.of_indices.members
+      (λ i m. ap (is_hall name.of_names (name.hall j)) (named_member name r p (name.candidate i) i (r.known i m))
+      ∙ is_hall-known name r (name.hall j) j (p i) known_j (known i))))
       ∙ length-map (occupants name.of_indices p j) name.candidate
 
   free-named : (p : Plan ℕ ℕ) → AreKnown p → (j : ℕ) → IsKnown j → HasFreeDesk name.of_indices p j → HasFreeDesk name.of_names (named_plan name p) (name.hall j)
@@ -73,7 +76,9 @@ module _ {C H : Type 0} (name : Naming C H) (r : Renames name) (f : Follows name
 
   -- ---- from indices to names
 
-  pub Leads-named : (p : Plan ℕ ℕ) → AreKnown p → (i : ℕ) (hops : List (ℕ × ℕ)) (last : ℕ) → Leads name.of_indices p i hops last → Leads name.of_names (named_plan name p) (name.candidate i) (map (named_hop name) hops) (name.hall last)
+  pub Leads-named : (p : Plan ℕ ℕ) → AreKnown p → (i : ℕ) (hops : List (ℕ × ℕ)) (last : ℕ)
+      → Leads name.of_indices p i hops last
+      → Leads name.of_names (named_plan name p) (name.candidate i) (map (named_hop name) hops) (name.hall last)
   Leads-named p known i [] last l =
       let at : IsKnown last = r.known_hall i last l.0 in
       (r.fits (name.candidate i) (name.hall last) i last (r.known i (f.fit_members i last l.0)) at ∙ l.0, free-named p known last at l.1)
@@ -99,9 +104,12 @@ module _ {C H : Type 0} (name : Naming C H) (r : Renames name) (f : Follows name
       let far : j < length xs = omega arith in
       let near : i < length xs = omega arith in
       apart i j 0 below far (same_Some (get_or xs i 0) (get_or xs j 0)
-      (sym (All-from_recursion IsKnown xs all i 0 near) ∙ ap name.hall_index (sym (get_or-map name.hall xs i 0 d near) ∙ e ∙ get_or-map name.hall xs j 0 d far) ∙ All-from_recursion IsKnown xs all j 0 far))
+      (sym (All-from_recursion IsKnown xs all i 0 near)
+      ∙ ap name.hall_index (sym (get_or-map name.hall xs i 0 d near) ∙ e ∙ get_or-map name.hall xs j 0 d far)
+      ∙ All-from_recursion IsKnown xs all j 0 far))
 
-  pub IsChain-named : (p : Plan ℕ ℕ) → AreKnown p → (i : ℕ) (chain : Chain ℕ ℕ) → IsChain name.of_indices p i chain → IsChain name.of_names (named_plan name p) (name.candidate i) (named_chain name chain)
+  pub IsChain-named : (p : Plan ℕ ℕ) → AreKnown p → (i : ℕ) (chain : Chain ℕ ℕ) → IsChain name.of_indices p i chain
+      → IsChain name.of_names (named_plan name p) (name.candidate i) (named_chain name chain)
   IsChain-named p known i chain is = record {
     leads = Leads-named p known i chain.hops chain.last is.leads;
     distinct = subst (AllPairs (λ (h k : H). h ≢ k)) (sym (halls-named chain.hops chain.last))
@@ -140,7 +148,9 @@ module _ {C H : Type 0} (name : Naming C H) (r : Renames name) (f : Follows name
       outer None e t = absurd (let z : None ≡ Some h = t in cc)
       outer (Some d) e t = (d, e, inner d (p d) refl t)
 
-  Leads-indexed : (p : Plan ℕ ℕ) → AreKnown p → (hops : List (H × C)) (i : ℕ) (last : H) → Contains name.of_indices.members i → Leads name.of_names (named_plan name p) (name.candidate i) hops last → Indexed p i hops last
+  Leads-indexed : (p : Plan ℕ ℕ) → AreKnown p → (hops : List (H × C)) (i : ℕ) (last : H)
+      → Contains name.of_indices.members i → Leads name.of_names (named_plan name p) (name.candidate i) hops last
+      → Indexed p i hops last
   Leads-indexed p known [] i last m l =
       let w : (j : ℕ) × (name.hall j ≡ last) × IsKnown j × IsTrue (name.of_indices.fits i j) = fitting_index i last m l.0 in
       record {
@@ -169,7 +179,9 @@ module _ {C H : Type 0} (name : Naming C H) (r : Renames name) (f : Follows name
       let near : i < length xs = omega arith in
       apart i j (name.hall d) below (omega arith) (get_or-map name.hall xs i d (name.hall d) near ∙ ap name.hall e ∙ sym (get_or-map name.hall xs j d (name.hall d) within))
 
-  pub IsChain-indexed : (p : Plan ℕ ℕ) → AreKnown p → (i : ℕ) (chain : Chain C H) → Contains name.of_indices.members i → IsChain name.of_names (named_plan name p) (name.candidate i) chain → (before : Chain ℕ ℕ) × (named_chain name before ≡ chain) × IsChain name.of_indices p i before
+  pub IsChain-indexed : (p : Plan ℕ ℕ) → AreKnown p → (i : ℕ) (chain : Chain C H) → Contains name.of_indices.members i
+      → IsChain name.of_names (named_plan name p) (name.candidate i) chain
+      → (before : Chain ℕ ℕ) × (named_chain name before ≡ chain) × IsChain name.of_indices p i before
   IsChain-indexed p known i chain m is =
       let w : Indexed p i chain.hops chain.last = Leads-indexed p known chain.hops i chain.last m is.leads in
       let before : Chain ℕ ℕ = record { hops = w.before; last = w.to } in
@@ -187,11 +199,15 @@ module _ {C H : Type 0} (name : Naming C H) (r : Renames name) (f : Follows name
   hops_cmp (x ∷ xs) [] k l = refl
   hops_cmp (x ∷ xs) (y ∷ ys) k l = λ t. ordering_then (ordering_then (f.halls x.0 y.0 k.0.0 l.0.0 t) (f.candidates x.1 y.1 k.0.1 l.0.1 t)) (hops_cmp xs ys k.1 l.1 t)
 
-  chain_cmp-named : (x y : Chain ℕ ℕ) → AllByRecursion IsKnownHop x.hops → AllByRecursion IsKnownHop y.hops → IsKnown x.last → IsKnown y.last → chain_cmp name.of_names (named_chain name x) (named_chain name y) ≡ chain_cmp name.of_indices x y
+  chain_cmp-named : (x y : Chain ℕ ℕ) → AllByRecursion IsKnownHop x.hops → AllByRecursion IsKnownHop y.hops
+      → IsKnown x.last → IsKnown y.last
+      → chain_cmp name.of_names (named_chain name x) (named_chain name y) ≡ chain_cmp name.of_indices x y
   chain_cmp-named x y k l m n = λ t.
       ordering_then (nat_cmp (length-map x.hops (named_hop name) t) (length-map y.hops (named_hop name) t)) (ordering_then (hops_cmp x.hops y.hops k l t) (f.halls x.last y.last m n t))
 
-  pub IsLeastChain-named : (p : Plan ℕ ℕ) → AreKnown p → (i : ℕ) (chain : Chain ℕ ℕ) → IsLeastChain name.of_indices p i chain → IsLeastChain name.of_names (named_plan name p) (name.candidate i) (named_chain name chain)
+  pub IsLeastChain-named : (p : Plan ℕ ℕ) → AreKnown p → (i : ℕ) (chain : Chain ℕ ℕ)
+      → IsLeastChain name.of_indices p i chain
+      → IsLeastChain name.of_names (named_plan name p) (name.candidate i) (named_chain name chain)
   IsLeastChain-named p known i chain least = record {
     is_chain = IsChain-named p known i chain least.is_chain;
     least = λ other is. inner other (IsChain-indexed p known i other (starts_at_member p i chain.hops chain.last least.is_chain.leads) is);
@@ -203,10 +219,13 @@ module _ {C H : Type 0} (name : Naming C H) (r : Renames name) (f : Follows name
           (last_known p i chain.hops chain.last least.is_chain.leads) (last_known p i w.0.hops w.0.last w.2.leads)) ∙ ap (chain_cmp name.of_names (named_chain name chain)) w.1 ∙ e)
 
   -- a least chain by names is one by indices
-  pub IsLeastChain-indexed : (p : Plan ℕ ℕ) → AreKnown p → (i : ℕ) (chain : Chain C H) → Contains name.of_indices.members i → IsLeastChain name.of_names (named_plan name p) (name.candidate i) chain → (before : Chain ℕ ℕ) × (named_chain name before ≡ chain) × IsLeastChain name.of_indices p i before
+  pub IsLeastChain-indexed : (p : Plan ℕ ℕ) → AreKnown p → (i : ℕ) (chain : Chain C H)
+      → Contains name.of_indices.members i → IsLeastChain name.of_names (named_plan name p) (name.candidate i) chain
+      → (before : Chain ℕ ℕ) × (named_chain name before ≡ chain) × IsLeastChain name.of_indices p i before
   IsLeastChain-indexed p known i chain m least = inner (IsChain-indexed p known i chain m least.is_chain)
     where
-      inner : (before : Chain ℕ ℕ) × (named_chain name before ≡ chain) × IsChain name.of_indices p i before → (before : Chain ℕ ℕ) × (named_chain name before ≡ chain) × IsLeastChain name.of_indices p i before
+      inner : (before : Chain ℕ ℕ) × (named_chain name before ≡ chain) × IsChain name.of_indices p i before
+          → (before : Chain ℕ ℕ) × (named_chain name before ≡ chain) × IsLeastChain name.of_indices p i before
       inner w = (
         w.0,
         w.1,
@@ -220,5 +239,7 @@ module _ {C H : Type 0} (name : Naming C H) (r : Renames name) (f : Follows name
       )
 
   -- where no chain starts by indices, none does by names
-  pub no_chain-named : (p : Plan ℕ ℕ) → AreKnown p → (i : ℕ) → Contains name.of_indices.members i → ((chain : Chain ℕ ℕ) → IsChain name.of_indices p i chain → ⊥) → (chain : Chain C H) → IsChain name.of_names (named_plan name p) (name.candidate i) chain → ⊥
+  pub no_chain-named : (p : Plan ℕ ℕ) → AreKnown p → (i : ℕ) → Contains name.of_indices.members i
+      → ((chain : Chain ℕ ℕ) → IsChain name.of_indices p i chain → ⊥) → (chain : Chain C H)
+      → IsChain name.of_names (named_plan name p) (name.candidate i) chain → ⊥
   no_chain-named p known i m none chain is = let w = IsChain-indexed p known i chain m is in none w.0 w.2

@@ -48,13 +48,17 @@ module _ (p : Problem) (good : IsProblem p) (q : Plan ℕ ℕ) where
     | inr g ↦ absurd (let z : false ≡ true = sym (get_or_past marks h false g) ∙ t in cc)
   ]
 
-  next_exact : (marks : List Bool) → length marks ≡ length p.desk_counts → MarksAll (marks_of (next_marks marks)) (λ h. IsMarked (marks_of marks) h ⊎ ((c : ℕ) × IsTrue (is_drawn (marks_of marks) (q c)) × IsTrue ((seating_of p).fits c h)))
+  next_exact : (marks : List Bool) → length marks ≡ length p.desk_counts
+      → MarksAll (marks_of (next_marks marks))
+      (λ h. IsMarked (marks_of marks) h
+      ⊎ ((c : ℕ) × IsTrue (is_drawn (marks_of marks) (q c)) × IsTrue ((seating_of p).fits c h)))
   next_exact marks long h = (
     (λ t. let many = length-map-range_with_len (is_next marks) 0 (length p.desk_counts) in
         let below = marked_below (next_marks marks) h t in
         elim (or_cases (get_or marks h false) (list_any (draws_in marks h) (range_with_len 0 (length p.fit))) (sym (next_at marks h (omega (arith, many, below))) ∙ t)) [
           | inl m ↦ inl m
-          | inr a ↦ inr (let w = Any-from_list_any (draws_in marks h) (range_with_len 0 (length p.fit)) a in let b = and_parts (is_drawn (marks_of marks) (q w.1)) ((seating_of p).fits w.1 h) w.4 in (w.1, b.0, b.1))
+          | inr a ↦ inr (let w = Any-from_list_any (draws_in marks h) (range_with_len 0 (length p.fit)) a in let b =
+              and_parts (is_drawn (marks_of marks) (q w.1)) ((seating_of p).fits w.1 h) w.4 in (w.1, b.0, b.1))
         ]),
     (λ s. elim s [
       | inl m ↦ next_at marks h (let l = marked_below marks h m in omega (arith, l, long)) ∙ or_left (get_or marks h false) (list_any (draws_in marks h) (range_with_len 0 (length p.fit))) m
@@ -76,7 +80,14 @@ module _ (p : Problem) (good : IsProblem p) (q : Plan ℕ ℕ) where
   AreReached marks = (h : ℕ) → IsMarked (marks_of marks) h → (j : ℕ) × Draws p q j h
 
   shut : (marks : List Bool) → length marks ≡ length p.desk_counts → AreReached marks → pointwise beq (next_marks marks) marks ≡ true → IsClosure marks
-  shut marks long drawn same = record { drawn = drawn; closed = closed_after p q (marks_of marks) (marks_of (next_marks marks)) (λ h t. ap (λ xs. get_or xs h false) (sym (marks_agree (next_marks marks) marks same)) ∙ t) (next_exact marks long) }
+  shut marks long drawn same =
+      record {
+        drawn = drawn;
+        closed =
+            closed_after p q (marks_of marks) (marks_of (next_marks marks))
+            (λ h t. ap (λ xs. get_or xs h false) (sym (marks_agree (next_marks marks) marks same)) ∙ t)
+            (next_exact marks long);
+      }
 
   long_next : (marks : List Bool) → length (next_marks marks) ≡ length p.desk_counts
   long_next marks = length-map-range_with_len (is_next marks) 0 (length p.desk_counts)
@@ -92,13 +103,17 @@ module _ (p : Problem) (good : IsProblem p) (q : Plan ℕ ℕ) where
   ]
   spread (suc rounds) marks long drawn few = elim (cases_Bool (pointwise beq (next_marks marks) marks)) [
     | inl same ↦ (marks, shut marks long drawn same)
-    | inr differ ↦ spread rounds (next_marks marks) (long_next marks) (draws_more p q (marks_of marks) (marks_of (next_marks marks)) drawn (next_exact marks long)) (let less = fewer_left marks long differ in omega (arith, less, few))
+    | inr differ ↦ spread rounds (next_marks marks) (long_next marks)
+        (draws_more p q (marks_of marks) (marks_of (next_marks marks)) drawn (next_exact marks long))
+        (let less = fewer_left marks long differ in omega (arith, less, few))
   ]
 
   pub closure : (found : List Bool) × IsClosure found
   closure =
       let none = replicate (length p.desk_counts) false in
-      spread (count_by not none) none (length-replicate (length p.desk_counts) false) (λ h t. absurd (let z : false ≡ true = sym (unmarked h (cases_lt h (length p.desk_counts))) ∙ t in cc)) (omega arith)
+      spread (count_by not none) none (length-replicate (length p.desk_counts) false)
+      (λ h t. absurd (let z : false ≡ true = sym (unmarked h (cases_lt h (length p.desk_counts))) ∙ t in cc))
+      (omega arith)
     where
       unmarked : (h : ℕ) → (h < length p.desk_counts) ⊎ (length p.desk_counts ≤ h) → get_or (replicate (length p.desk_counts) false) h false ≡ false
       unmarked h (inl l) = get_or-replicate (length p.desk_counts) h false false l
@@ -135,5 +150,8 @@ every_certificate p q candidates halls good best rising are halls_rising halls_a
     let one : w.0 ≡ candidates = rising_are_same w.0 candidates cert.rising rising (same_tests w.0 candidates (λ c m. (are c).1 ((w.2 c).0 m)) (λ c m. (w.2 c).1 ((are c).0 m))) in
     let R : List ℕ → Type 0 = λ xs. IsCertificate (seating_of p) q xs w.1 in
     let again = subst R one cert in
-    let two : w.1 ≡ halls = rising_are_same w.1 halls again.halls_rising halls_rising (same_tests w.1 halls (λ h m. (halls_are h).1 ((again.halls_of h).0 m)) (λ h m. (again.halls_of h).1 ((halls_are h).0 m))) in
+    let two : w.1 ≡ halls =
+    rising_are_same w.1 halls again.halls_rising halls_rising
+    (same_tests w.1 halls (λ h m. (halls_are h).1 ((again.halls_of h).0 m))
+    (λ h m. (again.halls_of h).1 ((halls_are h).0 m))) in
     subst (λ (hs : List ℕ). IsCertificate (seating_of p) q candidates hs) two again

@@ -1,5 +1,7 @@
 -- Candidates in the order of desks: as many of a hall come before one of them as have a lesser rank.
-use Rattle.std.proofs.Common.{◌≡◌, ℕ, zero, suc, ◌+◌, ◌<◌, ◌≤◌, Bool, true, false, ◌&&◌, List, [], ◌∷◌, length, get_or, set, take, replicate, map, count_by, Option, None, Some, IfSome, nat_eq, nat_lt, refl, sym, ap, ◌∙◌, inl, inr, arith, zero-add}
+use Rattle.std.proofs.Common.{◌≡◌, ℕ, zero, suc, ◌+◌, ◌<◌, ◌≤◌, Bool, true, false, ◌&&◌, List, [], ◌∷◌, length, get_or}
+use Rattle.std.proofs.Common.{set, take, replicate, map, count_by, Option, None, Some, IfSome, nat_eq, nat_lt, refl}
+use Rattle.std.proofs.Common.{sym, ap, ◌∙◌, inl, inr, arith, zero-add}
 use Rattle.std.specs.Prelude.{All, Contains, IsSorted}
 use Rattle.std.specs.List.{range_with_len}
 use Rattle.std.specs.List.Sorted.{IsPermutation}
@@ -37,7 +39,9 @@ module _ {X : Type 0} (P : X → Bool) where
 
   none_counted : (xs : List X) (d : X) → ((i : ℕ) → i < length xs → P (get_or xs i d) ≡ false) → count_by P xs ≡ 0
   none_counted [] d f = refl
-  none_counted (x ∷ xs) d f = let none : bit (P x) ≡ 0 = ap bit (f 0 (omega arith)) in let ih = none_counted xs d (λ i l. f (suc i) (omega arith)) in let more = count_by-cons P x xs in omega (arith, none, ih, more)
+  none_counted (x ∷ xs) d f = let none : bit (P x) ≡ 0 = ap bit (f 0 (omega arith)) in let ih =
+      none_counted xs d (λ i l. f (suc i) (omega arith)) in let more =
+      count_by-cons P x xs in omega (arith, none, ih, more)
 
 -- a test that agrees on a front and fails past it
 pub front_counted : {X : Type 0} (P Q : X → Bool) (xs : List X) (j : ℕ) (d : X) → ((i : ℕ) → i < j → i < length xs → P (get_or xs i d) ≡ Q (get_or xs i d))
@@ -55,7 +59,8 @@ front_counted P Q (x ∷ xs) (suc j) d same past =
 counted_map : {X : Type 0} (T : X → Bool) (f : ℕ → X) (n : ℕ) → count_by T (map f (range_with_len 0 n)) ≡ count_below (λ d. T (f d)) n
 counted_map T f zero = refl
 counted_map T f (suc n) =
-    let e : count_by T (map f (range_with_len 0 (suc n))) ≡ count_by T (map f (range_with_len 0 (n + 1))) = (let same : suc n ≡ n + 1 = omega arith in ap (λ k. count_by T (map f (range_with_len 0 k))) same) in
+    let e : count_by T (map f (range_with_len 0 (suc n))) ≡ count_by T (map f (range_with_len 0 (n + 1))) =
+    (let same : suc n ≡ n + 1 = omega arith in ap (λ k. count_by T (map f (range_with_len 0 k))) same) in
     let more : count_by T (map f (range_with_len 0 (n + 1))) ≡ count_by T (map f (range_with_len 0 n)) + bit (T (f n)) = sum_by-map-range_with_len_more (λ x. bit (T x)) f 0 n n (zero-add n) in
     let ih = counted_map T f n in omega (arith, e, more, ih)
 
@@ -124,7 +129,9 @@ module _ (p : Problem) (order : List (ℕ × ℕ)) (is : IsDeskOrder p order) wh
   candidate_below j l = (each j (0, 0) l).1
 
   rank_rises : (i j : ℕ) → i ≤ j → j < length order → (placed i).0 ≤ (placed j).0
-  rank_rises i j le l = not_less (placed j).0 (placed i).0 (nat_cmp (placed j).1 (placed i).1) (sorted_far (λ x y. is_lt (rank_cmp x y)) (ranks_by ranks_total (λ x. x)) order is.rising i j (0, 0) le l)
+  rank_rises i j le l =
+      not_less (placed j).0 (placed i).0 (nat_cmp (placed j).1 (placed i).1)
+      (sorted_far (λ x y. is_lt (rank_cmp x y)) (ranks_by ranks_total (λ x. x)) order is.rising i j (0, 0) le l)
 
   pub place_of : (c : ℕ) → c < length p.fit → (j : ℕ) × (j < length order) × ((placed j).1 ≡ c)
   place_of c l =
@@ -190,7 +197,12 @@ none_numbered p order q counts numbers n many blank room none = record {
   room = room;
   counted = none;
   numbered = λ j h l sits. absurd (omega arith);
-  nobody = λ c sits. ap (λ xs. get_or xs c None) blank ∙ elim (cases_lt c n) [ inl l ↦ get_or-replicate n c None None l | inr g ↦ get_or_past (replicate n None) c None (let long : length (replicate {A = Option ℕ} n None) ≡ n = length-replicate n None in omega (arith, long, g)) ];
+  nobody = λ c sits. ap (λ xs. get_or xs c None) blank
+      ∙ elim (cases_lt c n) [
+        | inl l ↦ get_or-replicate n c None None l
+        | inr g ↦ get_or_past (replicate n None) c None
+            (let long : length (replicate {A = Option ℕ} n None) ≡ n = length-replicate n None in omega (arith, long, g))
+      ];
 }
 
 -- the hall of the next one exists, and has at most as many so far as there were
@@ -221,7 +233,9 @@ module _ (p : Problem) (order : List (ℕ × ℕ)) (q : Plan ℕ ℕ) (i : ℕ) 
     nobody = before.nobody;
   }
 
-  pub given : (h : ℕ) → q here ≡ Some h → h < length p.desk_counts → IsNumberedUpTo p order q (i + 1) (set counts h (get_or counts h 0 + 1)) (set numbers here (Some (get_or (set counts h (get_or counts h 0 + 1)) h 0)))
+  pub given : (h : ℕ) → q here ≡ Some h → h < length p.desk_counts
+      → IsNumberedUpTo p order q (i + 1) (set counts h (get_or counts h 0 + 1))
+      (set numbers here (Some (get_or (set counts h (get_or counts h 0 + 1)) h 0)))
   given h sits exists =
       let new : get_or (set counts h (get_or counts h 0 + 1)) h 0 ≡ get_or counts h 0 + 1 = get_or-set_same counts h (get_or counts h 0 + 1) 0 (omega (arith, exists, before.room)) in
       let inside : here < length numbers = (let c = candidate_below p order is i below in omega (arith, c, before.long)) in
@@ -229,13 +243,16 @@ module _ (p : Problem) (order : List (ℕ × ℕ)) (q : Plan ℕ ℕ) (i : ℕ) 
         long = rw length-set before.long;
         room = rw length-set before.room;
         counted = one_counted (length p.desk_counts) h (get_or counts h 0) counts (λ k. met p order q k i) (λ k. met p order q k (i + 1)) before.room before.counted
-            (λ k. met_more p order q k i below ∙ ap (λ o. met p order q k i + bit (is_hall (seating_of p) k o)) sits) (get_or_default counts h 0 (get_or counts h 0) (omega (arith, exists, before.room)));
+            (λ k. met_more p order q k i below ∙ ap (λ o. met p order q k i + bit (is_hall (seating_of p) k o)) sits)
+            (get_or_default counts h 0 (get_or counts h 0) (omega (arith, exists, before.room)));
         numbered = λ j k l there. elim (cases_lt j i) [
           | inl m ↦ get_or-set_other numbers here (get_or order j (0, 0)).1 _ None (λ e. others p order is good j i m below e) ∙ before.numbered j k m there
           | inr m ↦ (let same : i ≡ j = omega arith in
               let halls : Some h ≡ Some k = sym sits ∙ ap (λ x. q (get_or order x (0, 0)).1) same ∙ there in
               let hall : h ≡ k = cc in
-              let count : get_or (set counts h (get_or counts h 0 + 1)) h 0 ≡ met p order q k j + 1 = new ∙ ap (λ x. x + 1) (before.counted h exists) ∙ ap (λ x. met p order q x i + 1) hall ∙ ap (λ x. met p order q k x + 1) same in
+              let count : get_or (set counts h (get_or counts h 0 + 1)) h 0 ≡ met p order q k j + 1 =
+              new ∙ ap (λ x. x + 1) (before.counted h exists) ∙ ap (λ x. met p order q x i + 1) hall
+              ∙ ap (λ x. met p order q k x + 1) same in
               ap (λ x. get_or (set numbers here (Some (get_or (set counts h (get_or counts h 0 + 1)) h 0))) (get_or order x (0, 0)).1 None) (sym same)
               ∙ get_or-set_same numbers here (Some (get_or (set counts h (get_or counts h 0 + 1)) h 0)) None inside ∙ ap Some count)
         ];

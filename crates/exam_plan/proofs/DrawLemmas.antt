@@ -1,5 +1,7 @@
 -- The steps of the search forwards from the unseated candidates.
-use Rattle.std.proofs.Common.{◌≡◌, ℕ, zero, suc, ◌+◌, ◌<◌, ◌≤◌, ◌↔◌, Bool, true, false, not, ◌||◌, cond, IsTrue, List, [], ◌∷◌, ◌++◌, length, get_or, Option, None, Some, is_some, is_none, ◌⊎◌, refl, sym, ap, ◌∙◌, inl, inr, subst, arith, append-nil}
+use Rattle.std.proofs.Common.{◌≡◌, ℕ, zero, suc, ◌+◌, ◌<◌, ◌≤◌, ◌↔◌, Bool, true, false, not, ◌||◌, cond, IsTrue, List}
+use Rattle.std.proofs.Common.{[], ◌∷◌, ◌++◌, length, get_or, Option, None, Some, is_some, is_none, ◌⊎◌, refl, sym, ap}
+use Rattle.std.proofs.Common.{◌∙◌, inl, inr, subst, arith, append-nil}
 use Rattle.std.specs.Prelude.{filter}
 use Rattle.std.specs.List.{range_with_len}
 use Rattle.std.proofs.lemmas.Bool.{cases_lt, or_cases, or_left, or_right}
@@ -46,7 +48,8 @@ module _ (p : Problem) (m : List (Option ℕ)) (marks : ℕ → Bool) where
       | inl a ↦ inl a
       | inr c ↦ elim (cases_lt c.0 i) [
         | inl l ↦ inr (c.0, l, c.2, c.3)
-        | inr g ↦ absurd (let l : c.0 < i + 1 = c.1 in let e : i ≡ c.0 = omega arith in let z : true ≡ false = sym c.2 ∙ ap (λ k. is_drawn marks (plan_at m k)) (sym e) ∙ at_place i b told ∙ fails in cc)
+        | inr g ↦ absurd (let l : c.0 < i + 1 = c.1 in let e : i ≡ c.0 = omega arith in let z : true ≡ false =
+            sym c.2 ∙ ap (λ k. is_drawn marks (plan_at m k)) (sym e) ∙ at_place i b told ∙ fails in cc)
       ]
     ])),
   )
@@ -60,7 +63,9 @@ spread_all p m marks next n all w h = (
 )
 
 -- the halls of a set, and those of a row
-pub union_marks : (p : Problem) (c next row after : ℕ) → ((h : ℕ) → holds row h ≡ (seating_of p).fits c h) → ((h : ℕ) → holds after h ≡ holds next h || holds row h) → MarksAll (holds after) (λ h. IsMarked (holds next) h ⊎ IsTrue ((seating_of p).fits c h))
+pub union_marks : (p : Problem) (c next row after : ℕ) → ((h : ℕ) → holds row h ≡ (seating_of p).fits c h)
+    → ((h : ℕ) → holds after h ≡ holds next h || holds row h)
+    → MarksAll (holds after) (λ h. IsMarked (holds next) h ⊎ IsTrue ((seating_of p).fits c h))
 union_marks p c next row after fits union h = (
   (λ t. elim (or_cases (holds next h) (holds row h) (sym (union h) ∙ t)) [ inl a ↦ inl a | inr r ↦ inr (sym (fits h) ∙ r) ]),
   (λ s. union h ∙ elim s [ inl a ↦ or_left (holds next h) (holds row h) a | inr f ↦ or_right (holds next h) (holds row h) (fits h ∙ f) ]),
@@ -79,7 +84,9 @@ module _ (p : Problem) (q : Plan ℕ ℕ) where
       at c None e d f = (suc 0, (c, inl e, f))
       at c (Some k) e d f = let r = drawn k (sym (ap (is_drawn marks) e) ∙ d) in (suc r.0, (c, inr (k, e, r.1), f))
 
-  pub closed_after : (marks next : ℕ → Bool) → ((h : ℕ) → next h ≡ true → marks h ≡ true) → MarksAll next (λ h. IsMarked marks h ⊎ ((c : ℕ) × IsTrue (is_drawn marks (q c)) × IsTrue ((seating_of p).fits c h)))
+  pub closed_after : (marks next : ℕ → Bool) → ((h : ℕ) → next h ≡ true → marks h ≡ true)
+      → MarksAll next (λ h. IsMarked marks h
+      ⊎ ((c : ℕ) × IsTrue (is_drawn marks (q c)) × IsTrue ((seating_of p).fits c h)))
       → (c h : ℕ) → IsTrue (is_drawn marks (q c)) → IsTrue ((seating_of p).fits c h) → IsMarked marks h
   closed_after marks next same wide c h d f = same h ((wide h).1 (inr (c, d, f)))
 
@@ -96,7 +103,10 @@ filter_leaves P i xs so_far e = so_far ∙ sym (append-nil (filter P (range_with
 
 pub length_next : (P : ℕ → Bool) (i n : ℕ) (b : Bool) → n ≡ length (filter P (range_with_len 0 i)) → P i ≡ b → n + bit b ≡ length (filter P (range_with_len 0 (i + 1)))
 length_next P i n true counted e = (let a : length (filter P (range_with_len 0 (i + 1))) ≡ length (filter P (range_with_len 0 i) ++ i ∷ []) = ap length (filter_next P i true e) in
-    let l : length (filter P (range_with_len 0 i) ++ i ∷ []) ≡ length (filter P (range_with_len 0 i)) + length (i ∷ []) = length-append (filter P (range_with_len 0 i)) (i ∷ []) in let one : length (i ∷ []) ≡ 1 = refl in omega (arith, a, l, one, counted))
+    let l : length (filter P (range_with_len 0 i) ++ i ∷ [])
+    ≡ length (filter P (range_with_len 0 i)) + length (i ∷ []) =
+    length-append (filter P (range_with_len 0 i)) (i ∷ []) in let one : length (i ∷ []) ≡ 1 =
+    refl in omega (arith, a, l, one, counted))
 length_next P i n false counted e = (let a : length (filter P (range_with_len 0 (i + 1))) ≡ length (filter P (range_with_len 0 i) ++ []) = ap length (filter_next P i false e) in
     let l : length (filter P (range_with_len 0 i) ++ []) ≡ length (filter P (range_with_len 0 i)) = ap length (append-nil (filter P (range_with_len 0 i))) in omega (arith, a, l, counted))
 

@@ -1,11 +1,15 @@
 -- What the operations on numbers do to the sets that the numbers are, and on two words to the set of both.
-use Rattle.std.proofs.Common.{◌≡◌, ◌≢◌, ℕ, zero, suc, ◌+◌, ◌-◌, ◌*◌, ◌/◌, ◌%◌, ◌^◌, ◌<◌, ◌≤◌, ◌↔◌, Option, None, Some, Bool, true, false, not, ◌&&◌, ◌||◌, cond, min, max, nat_eq, bit_and, bit_or, bit_xor, refl, sym, ap, ◌∙◌, inl, inr, arith}
+use Rattle.std.proofs.Common.{◌≡◌, ◌≢◌, ℕ, zero, suc, ◌+◌, ◌-◌, ◌*◌, ◌/◌, ◌%◌, ◌^◌, ◌<◌, ◌≤◌, ◌↔◌, Option, None, Some}
+use Rattle.std.proofs.Common.{Bool, true, false, not, ◌&&◌, ◌||◌, cond, min, max, nat_eq, bit_and, bit_or, bit_xor}
+use Rattle.std.proofs.Common.{refl, sym, ap, ◌∙◌, inl, inr, arith}
 use Rattle.std.specs.Prelude.{MatchOption, is_some}
 use Rattle.std.specs.Int.{bit_at, bit_not, trailing_zeros, w128}
 use Rattle.std.specs.Int.Bits.{and_le_l, or_lt}
 use Rattle.std.proofs.lemmas.Bool.{cases_eq, cases_lt, eq-eqb, ne_eqb, and_parts}
 use Rattle.std.proofs.lemmas.Nat.{one_shl}
-use Rattle.std.proofs.lemmas.Nat.Bits.{bit_at-lt, bit_at-zero, bit_at_lowest, bit_at-suc, bit_at_or, bit_at_and, bit_at_xor, bit_at_not, bit_at_above, bit_at-pow_same, bit_at-pow_other, shr_and_one, bit_at-trailing_zeros, bit_at_cat_low, bit_at_cat_high}
+use Rattle.std.proofs.lemmas.Nat.Bits.{bit_at-lt, bit_at-zero, bit_at_lowest, bit_at-suc, bit_at_or, bit_at_and}
+use Rattle.std.proofs.lemmas.Nat.Bits.{bit_at_xor, bit_at_not, bit_at_above, bit_at-pow_same, bit_at-pow_other}
+use Rattle.std.proofs.lemmas.Nat.Bits.{shr_and_one, bit_at-trailing_zeros, bit_at_cat_low, bit_at_cat_high}
 use Rattle.std.proofs.Math.Bool.{or_comm, and-false, and_self}
 use Rattle.exam_plan.specs.HallSets.{holds, IsLeast}
 
@@ -237,7 +241,9 @@ others_low low high h within some =
           ∙ ap (λ t. cond t false (holds (high * 2 ^ 128 + low) h)) (sym (ne_eqb h (trailing_zeros w128 low) (λ s. absurd (omega (arith, first.0)))))
     ]
 
-pub others_high : (low high h : ℕ) → low ≡ 0 → high < 2 ^ 128 → 0 < high → holds (bit_and high (high - 1) * 2 ^ 128 + 0) h ≡ cond (nat_eq h (128 + trailing_zeros w128 high)) false (holds (high * 2 ^ 128 + low) h)
+pub others_high : (low high h : ℕ) → low ≡ 0 → high < 2 ^ 128 → 0 < high
+    → holds (bit_and high (high - 1) * 2 ^ 128 + 0) h
+    ≡ cond (nat_eq h (128 + trailing_zeros w128 high)) false (holds (high * 2 ^ 128 + low) h)
 others_high low high h none within some =
     let less = bit_and high (high - 1) in
     elim (cases_lt h 128) [

@@ -23,7 +23,9 @@ row_read desks rows rank c set h are below read =
     let here : (k : ℕ) → holds set k ≡ true → k < length desks = subst (λ (z : ℕ). (k : ℕ) → holds z k ≡ true → k < length desks) (sym read) within in
     sym (any_passing (holds set) (length desks) h (here h)) ∙ ap (λ z. list_any (nat_eq h) (halls_below (length desks) z)) read ∙ ap (list_any (nat_eq h)) (sym at)
 
-pub row_within : (desks rows rank : List ℕ) (c set h : ℕ) → AreMasks desks rows rank → c < length (map (halls_below (length desks)) rows) → set ≡ get_or rows c set → holds set h ≡ true → h < length desks
+pub row_within : (desks rows rank : List ℕ) (c set h : ℕ) → AreMasks desks rows rank
+    → c < length (map (halls_below (length desks)) rows) → set ≡ get_or rows c set → holds set h ≡ true
+    → h < length desks
 row_within desks rows rank c set h are below read held =
     let long : length (map (halls_below (length desks)) rows) ≡ length rows = length-map rows (halls_below (length desks)) in
     All-get_or (λ row. (k : ℕ) → holds row k ≡ true → k < length desks) rows c set (omega arith) are.within h (ap (λ z. holds z h) (sym read) ∙ held)
@@ -45,7 +47,9 @@ rows_exist : (n : ℕ) (rows : List ℕ) → All (All (λ h. h < n)) (map (halls
 rows_exist n rows = All-from_get_or (λ hs. All (λ h. h < n) hs) (map (halls_below n) rows) [] (λ i l. let long : length (map (halls_below n) rows) ≡ length rows = length-map rows (halls_below n) in
     subst (λ hs. All (λ h. h < n) hs) (sym (get_or-map (halls_below n) rows i 0 [] (omega arith))) (All-filter (holds (get_or rows i 0)) (λ h. h < n) (range_with_len 0 n) (range_below n)))
 
-pub are_masks : (desks rows rank : List ℕ) → length desks ≤ most_halls → length rows ≤ most_members → length rank ≡ length rows → IsDistinct nat_eq rank → All (λ row. (h : ℕ) → holds row h ≡ true → h < length desks) rows → AreMasks desks rows rank
+pub are_masks : (desks rows rank : List ℕ) → length desks ≤ most_halls → length rows ≤ most_members
+    → length rank ≡ length rows → IsDistinct nat_eq rank
+    → All (λ row. (h : ℕ) → holds row h ≡ true → h < length desks) rows → AreMasks desks rows rank
 are_masks desks rows rank few_halls few ranked distinct exist =
     let long : length (map (halls_below (length desks)) rows) ≡ length rows = length-map rows (halls_below (length desks)) in
     record {
@@ -68,13 +72,15 @@ pub record AreSets (n : ℕ) (rows : List (List ℕ)) (sets : List ℕ) : Type 0
   pub within : All (λ row. (h : ℕ) → holds row h ≡ true → h < n) sets
 
 -- what holds of each row holds of the row that was read
-pub row_at : (Q : List ℕ → Type 0) (fits : List (Vec ℕ Global)) (i : ℕ) (row : Vec ℕ Global) → All Q (map (λ (r : Vec ℕ Global). r.items) fits) → i < length fits → row ≡ get_or fits i row → Q row.items
+pub row_at : (Q : List ℕ → Type 0) (fits : List (Vec ℕ Global)) (i : ℕ) (row : Vec ℕ Global)
+    → All Q (map (λ (r : Vec ℕ Global). r.items) fits) → i < length fits → row ≡ get_or fits i row → Q row.items
 row_at Q fits i row good below read =
     let long : length (map (λ (r : Vec ℕ Global). r.items) fits) ≡ length fits = length-map fits (λ (r : Vec ℕ Global). r.items) in
     let at : get_or (map (λ (r : Vec ℕ Global). r.items) fits) i [] ≡ (get_or fits i row).items = get_or-map (λ (r : Vec ℕ Global). r.items) fits i row [] below in
     subst Q (at ∙ ap (λ (r : Vec ℕ Global). r.items) (sym read)) (All-get_or Q (map (λ (r : Vec ℕ Global). r.items) fits) i [] (omega arith) good)
 
-pub row_known : (Q : List ℕ → Type 0) (fits shown : List (Vec ℕ Global)) (i : ℕ) (row : Vec ℕ Global) → shown ≡ fits → All Q (map (λ (r : Vec ℕ Global). r.items) fits) → i < length shown → row ≡ get_or shown i row → Q row.items
+pub row_known : (Q : List ℕ → Type 0) (fits shown : List (Vec ℕ Global)) (i : ℕ) (row : Vec ℕ Global) → shown ≡ fits
+    → All Q (map (λ (r : Vec ℕ Global). r.items) fits) → i < length shown → row ≡ get_or shown i row → Q row.items
 row_known Q fits shown i row same good below read =
     let P : List (Vec ℕ Global) → Type 0 = λ rows. All Q (map (λ (r : Vec ℕ Global). r.items) rows) in row_at Q shown i row (subst P (sym same) good) below read
 
@@ -92,8 +98,11 @@ sets_more n i fits row sets set are below read sorted exist tests =
       within = All-push (λ row. (h : ℕ) → holds row h ≡ true → h < n) sets set are.within (λ h held. listed_below n row.items h exist (sym (tests h) ∙ held));
     }
 
-pub sets_done : (desks rank sets : List ℕ) (n : ℕ) (fits : List (Vec ℕ Global)) → IsProblem (record { desk_counts = desks; fit = map (λ (r : Vec ℕ Global). r.items) fits; rank = rank }) → length desks ≤ most_halls
-    → length fits ≤ n → AreSets (length desks) (take n (map (λ (r : Vec ℕ Global). r.items) fits)) sets → AreMasks desks sets rank × (map (halls_below (length desks)) sets ≡ map (λ (r : Vec ℕ Global). r.items) fits)
+pub sets_done : (desks rank sets : List ℕ) (n : ℕ) (fits : List (Vec ℕ Global))
+    → IsProblem (record { desk_counts = desks; fit = map (λ (r : Vec ℕ Global). r.items) fits; rank = rank })
+    → length desks ≤ most_halls
+    → length fits ≤ n → AreSets (length desks) (take n (map (λ (r : Vec ℕ Global). r.items) fits)) sets
+    → AreMasks desks sets rank × (map (halls_below (length desks)) sets ≡ map (λ (r : Vec ℕ Global). r.items) fits)
 sets_done desks rank sets n fits good few all are =
     let long : length (map (λ (r : Vec ℕ Global). r.items) fits) ≡ length fits = length-map fits (λ (r : Vec ℕ Global). r.items) in
     let same : map (halls_below (length desks)) sets ≡ map (λ (r : Vec ℕ Global). r.items) fits = are.rows_are ∙ take_all n (map (λ (r : Vec ℕ Global). r.items) fits) (omega arith) in (

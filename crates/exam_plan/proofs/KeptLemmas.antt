@@ -1,5 +1,7 @@
 -- Who stays in a plan: the loops that put out, and that what stays is lawful.
-use Rattle.std.proofs.Common.{◌≡◌, ℕ, zero, suc, ◌+◌, ◌<◌, ◌≤◌, Bool, true, false, cond, ◌&&◌, IsTrue, List, length, get_or, set, Option, None, Some, IfSome, nat_lt, refl, sym, ap, ◌∙◌, inl, inr, subst, arith}
+use Rattle.std.proofs.Common.{◌≡◌, ℕ, zero, suc, ◌+◌, ◌<◌, ◌≤◌, Bool, true, false, cond, ◌&&◌, IsTrue, List, length}
+use Rattle.std.proofs.Common.{get_or, set, Option, None, Some, IfSome, nat_lt, refl, sym, ap, ◌∙◌, inl, inr, subst}
+use Rattle.std.proofs.Common.{arith}
 use Rattle.std.specs.Prelude.{All}
 use Rattle.std.specs.List.{range_with_len}
 use Rattle.std.specs.Ordering.{nat_cmp, is_lt}
@@ -135,14 +137,18 @@ pub kept_lawful : (p : Problem) (q : Plan ℕ ℕ) → IsLawful (seating_of p) (
 kept_lawful p q = record {
   members = λ c s. (let w = some_value (kept_part (seating_of p) q c) s in let r = room_some (seating_of p) (fitting_part (seating_of p) q) c w.0 (fitting_part (seating_of p) q c) w.1 in
       below-member (length p.fit) c (fitting_some p c w.0 (q c) r.0).0);
-  fitting = λ c. if_some (λ h. IsTrue ((seating_of p).fits c h)) (kept_part (seating_of p) q c) (λ h e. (let r = room_some (seating_of p) (fitting_part (seating_of p) q) c h (fitting_part (seating_of p) q c) e in
+  fitting = λ c. if_some (λ h. IsTrue ((seating_of p).fits c h)) (kept_part (seating_of p) q c)
+      (λ h e. (let r = room_some (seating_of p) (fitting_part (seating_of p) q) c h
+      (fitting_part (seating_of p) q c) e in
       (fitting_some p c h (q c) r.0).1));
   within_desks = λ h. (let o = length-occupants p (kept_part (seating_of p) q) h in
       let f = few_kept (λ c. sits_at h (fitting_part (seating_of p) q c)) (λ c. sits_at h (kept_part (seating_of p) q c)) (get_or p.desk_counts h 0) (length p.fit)
       (λ c l t. (let e : kept_part (seating_of p) q c ≡ Some h = sits_some h (kept_part (seating_of p) q c) t in
       let r = room_some (seating_of p) (fitting_part (seating_of p) q) c h (fitting_part (seating_of p) q c) e in (
         ap (sits_at h) r.0 ∙ eq-eqb h h refl,
-        (let k = lesser_count p (fitting_part (seating_of p) q) c h (omega arith) in let less : lesser_occupants (seating_of p) (fitting_part (seating_of p) q) c h < get_or p.desk_counts h 0 = r.1 in omega (arith, k, less)),
+        (let k = lesser_count p (fitting_part (seating_of p) q) c h (omega arith) in
+            let less : lesser_occupants (seating_of p) (fitting_part (seating_of p) q) c h < get_or p.desk_counts h 0 =
+            r.1 in omega (arith, k, less)),
       ))) in
       let g = f.0 in omega (arith, o, g));
 }
@@ -159,7 +165,8 @@ module _ (R : ℕ → Option ℕ → Option ℕ) (before m : List (Option ℕ)) 
   pub below_out_at : (i : ℕ) (o : Option ℕ) → i < length m → IsFilteredBelow R before m i → get_or m i None ≡ o → R i o ≡ None → IsFilteredBelow R before (set m i None) (i + 1)
   below_out_at i o inside f e r = below_out R before m i inside f (ap (R i) (below_read i o f e) ∙ r)
 
-pub kept_after : (p : Problem) (before mid after : Plan ℕ ℕ) → ((c : ℕ) → mid c ≡ fitting_part (seating_of p) before c) → ((c : ℕ) → after c ≡ room_part (seating_of p) mid c) → (c : ℕ) → after c ≡ kept_part (seating_of p) before c
+pub kept_after : (p : Problem) (before mid after : Plan ℕ ℕ) → ((c : ℕ) → mid c ≡ fitting_part (seating_of p) before c)
+    → ((c : ℕ) → after c ≡ room_part (seating_of p) mid c) → (c : ℕ) → after c ≡ kept_part (seating_of p) before c
 kept_after p before mid after fit room c =
     let same : mid ≡ fitting_part (seating_of p) before = λ i d. fit d i in
     room c ∙ ap (λ (q : Plan ℕ ℕ). room_part (seating_of p) q c) same

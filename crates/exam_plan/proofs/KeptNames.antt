@@ -45,7 +45,9 @@ module _ {C H : Type 0} (name : Naming C H) (r : Renames name) (f : Follows name
       let is : name.candidate i ≡ c = (r.named c i at).0 in
       indexed_member name r q i (ap name.candidate_index is ∙ at) ∙ ap (λ t. option_and_then name.hall_index (q t)) is
 
-  where_fitting-named : (c : C) (i : ℕ) → name.candidate_index c ≡ Some i → (o : Option H) → where_fitting name.of_names c o ≡ option_map name.hall (where_fitting name.of_indices i (option_and_then name.hall_index o))
+  where_fitting-named : (c : C) (i : ℕ) → name.candidate_index c ≡ Some i → (o : Option H)
+      → where_fitting name.of_names c o
+      ≡ option_map name.hall (where_fitting name.of_indices i (option_and_then name.hall_index o))
   where_fitting-named c i at None = refl
   where_fitting-named c i at (Some h) = outer (name.hall_index h) refl
     where
@@ -64,7 +66,10 @@ module _ {C H : Type 0} (name : Naming C H) (r : Renames name) (f : Follows name
 
       outer : (o : Option ℕ) → name.hall_index h ≡ o → where_fitting name.of_names c (Some h) ≡ option_map name.hall (where_fitting name.of_indices i (name.hall_index h))
       outer None e =
-          left ∙ ap (λ t. cond t (Some h) None) (false_from_ne_true (name.of_names.fits c h) (λ t. let z : IsSome (name.hall_index h) = r.known_fit c h t in let y : false ≡ true = sym (ap (λ u. is_some u) e) ∙ z in cc))
+          left ∙ ap (λ t. cond t (Some h) None)
+          (false_from_ne_true (name.of_names.fits c h)
+          (λ t. let z : IsSome (name.hall_index h) = r.known_fit c h t in let y : false ≡ true =
+          sym (ap (λ u. is_some u) e) ∙ z in cc))
           ∙ sym (ap (λ t. option_map name.hall (where_fitting name.of_indices i t)) e)
       outer (Some j) e =
           left ∙ ap (λ t. cond t (Some h) None) (r.fits c h i j at e) ∙ inner j (r.halls h j e) (name.of_indices.fits i j)
@@ -102,19 +107,30 @@ module _ {C H : Type 0} (name : Naming C H) (r : Renames name) (f : Follows name
 
   -- ---- candidates that have a desk
 
-  lesser-named : (p : Plan ℕ ℕ) → Known p → (i k : ℕ) → Contains name.of_indices.members i → name.hall_index (name.hall k) ≡ Some k → lesser_occupants name.of_names (by_name p) (name.candidate i) (name.hall k) ≡ lesser_occupants name.of_indices p i k
+  lesser-named : (p : Plan ℕ ℕ) → Known p → (i k : ℕ) → Contains name.of_indices.members i
+      → name.hall_index (name.hall k) ≡ Some k
+      → lesser_occupants name.of_names (by_name p) (name.candidate i) (name.hall k)
+      ≡ lesser_occupants name.of_indices p i k
   lesser-named p known i k m at =
       ap (count_by (λ d. is_lt (name.of_names.candidate_cmp d (name.candidate i)) && is_hall name.of_names (name.hall k) (by_name p d))) r.members
-      ∙ sum_same (λ d. cond (is_lt (name.of_names.candidate_cmp d (name.candidate i)) && is_hall name.of_names (name.hall k) (by_name p d)) 1 0) (λ d. cond (is_lt (name.of_indices.candidate_cmp d i) && is_hall name.of_indices k (p d)) 1 0) name.candidate name.of_indices.members
+      ∙ sum_same (λ d. cond
+      (is_lt (name.of_names.candidate_cmp d (name.candidate i))
+      && is_hall name.of_names (name.hall k) (by_name p d)) 1 0)
+      (λ d. cond (is_lt (name.of_indices.candidate_cmp d i) && is_hall name.of_indices k (p d)) 1 0) name.candidate
+      name.of_indices.members
       (of_members _ name.of_indices.members (λ d n. λ t. cond (is_lt (f.candidates d i n m t) && both d n t) 1 0))
     where
       both : (d : ℕ) → Contains name.of_indices.members d → is_hall name.of_names (name.hall k) (by_name p (name.candidate d)) ≡ is_hall name.of_indices k (p d)
       both d n = ap (is_hall name.of_names (name.hall k)) (named_member name r p (name.candidate d) d (r.known d n)) ∙ is_hall-known name r (name.hall k) k (p d) at (known d)
 
-  where_room-named : (p : Plan ℕ ℕ) → Known p → (i : ℕ) → Contains name.of_indices.members i → (o : Option ℕ) → IfSome o (λ j. name.hall_index (name.hall j) ≡ Some j) → where_room name.of_names (by_name p) (name.candidate i) (option_map name.hall o) ≡ option_map name.hall (where_room name.of_indices p i o)
+  where_room-named : (p : Plan ℕ ℕ) → Known p → (i : ℕ) → Contains name.of_indices.members i → (o : Option ℕ)
+      → IfSome o (λ j. name.hall_index (name.hall j) ≡ Some j)
+      → where_room name.of_names (by_name p) (name.candidate i) (option_map name.hall o)
+      ≡ option_map name.hall (where_room name.of_indices p i o)
   where_room-named p known i m None at = refl
   where_room-named p known i m (Some k) at =
-      (λ t. cond (nat_lt (lesser-named p known i k m at t) (r.desks (name.hall k) k at t)) (Some (name.hall k)) None) ∙ inner (nat_lt (lesser_occupants name.of_indices p i k) (name.of_indices.desks k))
+      (λ t. cond (nat_lt (lesser-named p known i k m at t) (r.desks (name.hall k) k at t)) (Some (name.hall k)) None)
+      ∙ inner (nat_lt (lesser_occupants name.of_indices p i k) (name.of_indices.desks k))
     where
       inner : (t : Bool) → cond t (Some (name.hall k)) None ≡ option_map name.hall (cond t (Some k) None)
       inner true = refl
@@ -211,12 +227,16 @@ module _ {C H : Type 0} (name : Naming C H) (r : Renames name) (f : Follows name
 
   -- ---- repairs
 
-  pub IsRepair-named : (first : Option C) (q : Plan C H) (after : Plan ℕ ℕ) → IsRepair name.of_indices (option_and_then name.candidate_index first) (by_index q) after → IsRepair name.of_names first q (by_name after)
+  pub IsRepair-named : (first : Option C) (q : Plan C H) (after : Plan ℕ ℕ)
+      → IsRepair name.of_indices (option_and_then name.candidate_index first) (by_index q) after
+      → IsRepair name.of_names first q (by_name after)
   IsRepair-named first q after repaired =
       subst (λ (p : Plan C H). IsSweep name.of_names first p (by_name after)) (sym (fun_ext (kept_part-named q)))
       (IsSweep-named name r f first (kept_part name.of_indices (by_index q)) after (kept_part-known (by_index q)) repaired)
 
-  pub IsRepair-indexed : (first : Option C) (q after : Plan C H) → IsRepair name.of_names first q after → (then : Plan ℕ ℕ) × IsRepair name.of_indices (option_and_then name.candidate_index first) (by_index q) then × SamePlan after (by_name then)
+  pub IsRepair-indexed : (first : Option C) (q after : Plan C H) → IsRepair name.of_names first q after
+      → (then : Plan ℕ ℕ) × IsRepair name.of_indices (option_and_then name.candidate_index first) (by_index q) then
+      × SamePlan after (by_name then)
   IsRepair-indexed first q after repaired =
       IsSweep-indexed name r f first (kept_part name.of_indices (by_index q)) after (kept_part-known (by_index q))
       (subst (λ (p : Plan C H). IsSweep name.of_names first p after) (fun_ext (kept_part-named q)) repaired)

@@ -1,5 +1,7 @@
 -- Laws of matchings that follow from the definitions.
-use Rattle.std.proofs.Common.{◌≡◌, ◌≢◌, ℕ, zero, suc, ◌+◌, ◌<◌, ◌≤◌, Bool, true, false, cond, ◌||◌, IsTrue, List, [], ◌∷◌, ◌++◌, map, length, get_or, Option, None, Some, is_some, is_none, nat_eq, refl, sym, ap, ◌∙◌, inl, inr, subst, arith}
+use Rattle.std.proofs.Common.{◌≡◌, ◌≢◌, ℕ, zero, suc, ◌+◌, ◌<◌, ◌≤◌, Bool, true, false, cond, ◌||◌, IsTrue, List, []}
+use Rattle.std.proofs.Common.{◌∷◌, ◌++◌, map, length, get_or, Option, None, Some, is_some, is_none, nat_eq, refl, sym}
+use Rattle.std.proofs.Common.{ap, ◌∙◌, inl, inr, subst, arith}
 use Rattle.std.specs.Prelude.{All, AllPairs, sum_by}
 use Rattle.std.specs.List.{list_any}
 use Rattle.std.specs.List.Sorted.{IsStrictlySortedBy}
@@ -73,7 +75,10 @@ room_all p q lawful c = at (q c) refl
         let fewer = count_below-reaches (λ d. sits_at h (q d)) c (length p.fit) below (ap (sits_at h) e ∙ eq-eqb h h refl) in
         let all = length-occupants p q h in
         let within : length (occupants (seating_of p) q h) ≤ get_or p.desk_counts h 0 = lawful.within_desks h in
-        ap (where_room (seating_of p) q c) e ∙ ap (λ b. cond b (Some h) None) (lt-ltb (lesser_occupants (seating_of p) q c h) (get_or p.desk_counts h 0) (omega (arith, lesser, fewer, all, within))) ∙ sym e
+        ap (where_room (seating_of p) q c) e
+        ∙ ap (λ b. cond b (Some h) None)
+        (lt-ltb (lesser_occupants (seating_of p) q c h) (get_or p.desk_counts h 0)
+        (omega (arith, lesser, fewer, all, within))) ∙ sym e
 
 kept_all : (p : Problem) (q : Plan ℕ ℕ) → IsLawful (seating_of p) q → kept_part (seating_of p) q ≡ q
 kept_all p q lawful =
@@ -94,7 +99,10 @@ sweep_stays p q best (c ∷ cs) r s =
     ]
 
 pub best_repaired : (p : Problem) (first : Option ℕ) (q r : Plan ℕ ℕ) → IsBest (seating_of p) q → IsRepair (seating_of p) first q r → SamePlan r q
-best_repaired p first q r best s = sweep_stays p q best (sweep_order (seating_of p) first) r (subst (λ (m : Plan ℕ ℕ). Sweeps (seating_of p) m (sweep_order (seating_of p) first) r) (kept_all p q best.lawful) s)
+best_repaired p first q r best s =
+    sweep_stays p q best (sweep_order (seating_of p) first) r
+    (subst (λ (m : Plan ℕ ℕ). Sweeps (seating_of p) m (sweep_order (seating_of p) first) r)
+    (kept_all p q best.lawful) s)
 
 sweeps_itself : (p : Problem) (q : Plan ℕ ℕ) → IsBest (seating_of p) q → (cs : List ℕ) → Sweeps (seating_of p) q cs q
 sweeps_itself p q best [] = λ c. refl
@@ -117,7 +125,8 @@ unfolding IsStrictlySortedBy
 listed_count n [] s a = sym (count_below-none (λ c. false) n (λ c. refl))
 listed_count n (x ∷ xs) s a =
     let rest = listed_count n xs s.1 (All-tail (λ y. y < n) x xs a) in
-    let o = count_below-point (λ c. list_any (nat_eq c) (x ∷ xs)) (λ c. list_any (nat_eq c) xs) n x (All-head (λ y. y < n) x xs a) (λ k l away. ap (λ b. bit (b || list_any (nat_eq k) xs)) (ne_eqb k x away)) in
+    let o = count_below-point (λ c. list_any (nat_eq c) (x ∷ xs)) (λ c. list_any (nat_eq c) xs) n x
+    (All-head (λ y. y < n) x xs a) (λ k l away. ap (λ b. bit (b || list_any (nat_eq k) xs)) (ne_eqb k x away)) in
     let f : bit (list_any (nat_eq x) xs) ≡ 0 = ap bit (later_all x xs s.0) in
     let t : bit (list_any (nat_eq x) (x ∷ xs)) ≡ 1 = ap (λ b. bit (b || list_any (nat_eq x) xs)) (eq-eqb x x refl) in
     omega (arith, rest, o, f, t)
@@ -133,16 +142,23 @@ nowhere (Some h) = refl
 one_more : (h : ℕ) (hs : List ℕ) (o : Option ℕ) → bit (sits_within (λ k. list_any (nat_eq k) (h ∷ hs)) o) ≤ bit (sits_at h o) + bit (sits_within (λ k. list_any (nat_eq k) hs) o)
 one_more h hs None = omega arith
 one_more h hs (Some k) = elim (cases_eq k h) [
-  | inl e ↦ (let a : bit (nat_eq k h || list_any (nat_eq k) hs) ≡ 1 = ap (λ b. bit (b || list_any (nat_eq k) hs)) (eq-eqb k h e) in let b : bit (nat_eq h k) ≡ 1 = ap bit (eq-eqb h k (sym e)) in omega (arith, a, b))
+  | inl e ↦ (let a : bit (nat_eq k h || list_any (nat_eq k) hs) ≡ 1 =
+      ap (λ b. bit (b || list_any (nat_eq k) hs)) (eq-eqb k h e) in let b : bit (nat_eq h k) ≡ 1 =
+      ap bit (eq-eqb h k (sym e)) in omega (arith, a, b))
   | inr n ↦ (let a : bit (nat_eq k h || list_any (nat_eq k) hs) ≡ bit (list_any (nat_eq k) hs) = ap (λ b. bit (b || list_any (nat_eq k) hs)) (ne_eqb k h n) in omega (arith, a))
 ]
 
 module _ (p : Problem) (other : Plan ℕ ℕ) (also : IsLawful (seating_of p) other) where
   within_listed : (hs : List ℕ) → count_below (λ c. sits_within (λ h. list_any (nat_eq h) hs) (other c)) (length p.fit) ≤ sum_by (seating_of p).desks hs
-  within_listed [] = let e = count_below-same (λ c. sits_within (λ h. false) (other c)) (λ c. false) (length p.fit) (λ c l. nowhere (other c)) in let z = count_below-none (λ c. false) (length p.fit) (λ c. refl) in omega (arith, e, z)
+  within_listed [] = let e =
+      count_below-same (λ c. sits_within (λ h. false) (other c)) (λ c. false) (length p.fit)
+      (λ c l. nowhere (other c)) in let z =
+      count_below-none (λ c. false) (length p.fit) (λ c. refl) in omega (arith, e, z)
   within_listed (h ∷ hs) =
       let rest = within_listed hs in
-      let s = count_below-split (λ c. sits_within (λ k. list_any (nat_eq k) (h ∷ hs)) (other c)) (λ c. sits_at h (other c)) (λ c. sits_within (λ k. list_any (nat_eq k) hs) (other c)) (length p.fit) (λ c l. one_more h hs (other c)) in
+      let s = count_below-split (λ c. sits_within (λ k. list_any (nat_eq k) (h ∷ hs)) (other c))
+      (λ c. sits_at h (other c)) (λ c. sits_within (λ k. list_any (nat_eq k) hs) (other c)) (length p.fit)
+      (λ c l. one_more h hs (other c)) in
       let o = length-occupants p other h in
       let w : length (occupants (seating_of p) other h) ≤ (seating_of p).desks h = also.within_desks h in
       let e : sum_by (seating_of p).desks (h ∷ hs) ≡ (seating_of p).desks h + sum_by (seating_of p).desks hs = sum_by-cons (seating_of p).desks h hs in
@@ -160,7 +176,9 @@ everybody p q =
 pub certified_best : (p : Problem) (q : Plan ℕ ℕ) (xs hs : List ℕ) → IsProblem p → IsLawful (seating_of p) q → IsCertificate (seating_of p) q xs hs → IsBest (seating_of p) q
 certified_best p q xs hs good lawful cert = record { lawful = lawful; greatest = λ other also. greatest other also }
   where
-    drawn_bit : (other : Plan ℕ ℕ) (also : IsLawful (seating_of p) other) (c : ℕ) (o : Option ℕ) (b : Bool) → other c ≡ o → list_any (nat_eq c) xs ≡ b → bit b ≤ bit (is_none o) + bit (sits_within (λ h. list_any (nat_eq h) hs) o)
+    drawn_bit : (other : Plan ℕ ℕ) (also : IsLawful (seating_of p) other) (c : ℕ) (o : Option ℕ) (b : Bool)
+        → other c ≡ o → list_any (nat_eq c) xs ≡ b
+        → bit b ≤ bit (is_none o) + bit (sits_within (λ h. list_any (nat_eq h) hs) o)
     drawn_bit other also c o false e t = omega arith
     drawn_bit other also c None true e t = omega arith
     drawn_bit other also c (Some h) true e t =
@@ -171,7 +189,9 @@ certified_best p q xs hs good lawful cert = record { lawful = lawful; greatest =
     greatest : (other : Plan ℕ ℕ) → IsLawful (seating_of p) other → size (seating_of p) other ≤ size (seating_of p) q
     greatest other also =
         let many = listed_count (length p.fit) xs cert.rising (λ k d l. member-below (length p.fit) (get_or xs k d) (cert.members k d l)) in
-        let split = count_below-split (λ c. list_any (nat_eq c) xs) (λ c. is_none (other c)) (λ c. sits_within (λ h. list_any (nat_eq h) hs) (other c)) (length p.fit) (λ c l. drawn_bit other also c (other c) (list_any (nat_eq c) xs) refl refl) in
+        let split = count_below-split (λ c. list_any (nat_eq c) xs) (λ c. is_none (other c))
+        (λ c. sits_within (λ h. list_any (nat_eq h) hs) (other c)) (length p.fit)
+        (λ c l. drawn_bit other also c (other c) (list_any (nat_eq c) xs) refl refl) in
         let within = within_listed p other also hs in
         let out = length-unseated p other in
         let a = everybody p other in

@@ -19,7 +19,8 @@ tied Less Greater e f g = absurd (g refl)
 tied Equal p e f g = refl
 tied Greater p e f g = absurd (f refl)
 
-module _ {C H : Type 0} (g : Seating C H) (candidates : IsTotalOrder g.candidate_cmp) (halls : IsTotalOrder g.hall_cmp) (exact_candidates : IsAntisymmetric g.candidate_cmp) (exact_halls : IsAntisymmetric g.hall_cmp) where
+module _ {C H : Type 0} (g : Seating C H) (candidates : IsTotalOrder g.candidate_cmp) (halls : IsTotalOrder g.hall_cmp)
+    (exact_candidates : IsAntisymmetric g.candidate_cmp) (exact_halls : IsAntisymmetric g.hall_cmp) where
   pub chain_cmp_total : IsTotalOrder (chain_cmp g)
   chain_cmp_total =
       then_total (on_total (λ (a : Chain C H). length a.hops) nat_cmp_total)

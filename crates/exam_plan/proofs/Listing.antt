@@ -28,7 +28,8 @@ none_below P n none = many_below P n ∙ count_below-none P n none
 
 -- ---- a list that goes on
 
-pub takes_more : (P : ℕ → Bool) (i : ℕ) (old so_far after : List ℕ) → so_far ≡ old ++ filter P (range_with_len 0 i) → after ≡ so_far ++ i ∷ [] → P i ≡ true → after ≡ old ++ filter P (range_with_len 0 (i + 1))
+pub takes_more : (P : ℕ → Bool) (i : ℕ) (old so_far after : List ℕ) → so_far ≡ old ++ filter P (range_with_len 0 i)
+    → after ≡ so_far ++ i ∷ [] → P i ≡ true → after ≡ old ++ filter P (range_with_len 0 (i + 1))
 takes_more P i old so_far after is more t =
     more ∙ ap (λ xs. xs ++ i ∷ []) is ∙ append_assoc old (filter P (range_with_len 0 i)) (i ∷ []) ∙ ap (λ xs. old ++ xs) (filter_takes P i (filter P (range_with_len 0 i)) refl t)
 
@@ -54,7 +55,10 @@ distinct_append : (xs ys : List ℕ) → IsDistinct nat_eq xs → IsDistinct nat
 unfolding IsDistinct
 distinct_append [] ys dx dy apart = dy
 distinct_append (x ∷ xs) ys dx dy apart = (
-  none_as_recursion x (xs ++ ys) (list_any-append (nat_eq x) xs ys ∙ or_from (list_any (nat_eq x) xs) (list_any (nat_eq x) ys) (recursion_as_none x xs dx.0) (apart x (or_left (nat_eq x x) (list_any (nat_eq x) xs) (eq-eqb x x refl)))),
+  none_as_recursion x (xs ++ ys)
+      (list_any-append (nat_eq x) xs ys
+      ∙ or_from (list_any (nat_eq x) xs) (list_any (nat_eq x) ys) (recursion_as_none x xs dx.0)
+      (apart x (or_left (nat_eq x x) (list_any (nat_eq x) xs) (eq-eqb x x refl)))),
   distinct_append xs ys dx.1 dy (λ h t. apart h (or_right (nat_eq h x) (list_any (nat_eq h) xs) t)),
 )
 
@@ -77,7 +81,9 @@ apart_bits true false apart = refl
 apart_bits false true apart = refl
 apart_bits false false apart = refl
 
-module _ (n dead led both : ℕ) (is : (h : ℕ) → holds both h ≡ holds dead h || holds led h) (apart : (h : ℕ) → IsMarked (holds led) h → IsMarked (holds dead) h → ⊥) (within : (h : ℕ) → IsMarked (holds led) h → h < n)
+module _ (n dead led both : ℕ) (is : (h : ℕ) → holds both h ≡ holds dead h || holds led h)
+    (apart : (h : ℕ) → IsMarked (holds led) h → IsMarked (holds dead) h → ⊥)
+    (within : (h : ℕ) → IsMarked (holds led) h → h < n)
     (listed after : List ℕ) (are : (h : ℕ) → Contains listed h ↔ IsMarked (holds dead) h) (after_is : after ≡ listed ++ halls_below n led) where
   any_after : (h : ℕ) → list_any (nat_eq h) after ≡ list_any (nat_eq h) listed || list_any (nat_eq h) (halls_below n led)
   any_after h = ap (list_any (nat_eq h)) after_is ∙ list_any-append (nat_eq h) listed (halls_below n led)

@@ -1,5 +1,7 @@
 -- What a move along a chain leaves: one more in the last hall, and as many as before in each other hall.
-use Rattle.std.proofs.Common.{◌≡◌, ◌≢◌, ℕ, ◌+◌, ◌<◌, ◌≤◌, Bool, cond, IsTrue, List, [], ◌∷◌, length, get_or, Option, None, Some, IsSome, IfSome, is_some, nat_eq, ◌⊎◌, refl, sym, ap, ◌∙◌, inl, inr, subst, arith}
+use Rattle.std.proofs.Common.{◌≡◌, ◌≢◌, ℕ, ◌+◌, ◌<◌, ◌≤◌, Bool, cond, IsTrue, List, [], ◌∷◌, length, get_or, Option}
+use Rattle.std.proofs.Common.{None, Some, IsSome, IfSome, is_some, nat_eq, ◌⊎◌, refl, sym, ap, ◌∙◌, inl, inr, subst}
+use Rattle.std.proofs.Common.{arith}
 use Rattle.std.proofs.lemmas.Bool.{cases_eq, eq-eqb, ne_eqb}
 use Rattle.std.proofs.lemmas.Option.{same_Some}
 use Rattle.exam_plan.specs.Matching.{Plan, occupants, size, IsLawful}
@@ -146,7 +148,9 @@ module _ (p : Problem) (q : Plan ℕ ℕ) where
       ];
       within_desks = λ h. elim (cases_eq h last) [
         | inl e ↦ (let o = occupants-moved h in let b : bit (nat_eq h last) ≡ 1 = ap bit (eq-eqb h last e) in
-            let f : length (occupants (seating_of p) q h) < get_or p.desk_counts h 0 = subst (λ (z : ℕ). length (occupants (seating_of p) q z) < get_or p.desk_counts z 0) (sym e) free in omega (arith, o, b, f))
+            let f : length (occupants (seating_of p) q h) < get_or p.desk_counts h 0 =
+            subst (λ (z : ℕ). length (occupants (seating_of p) q z) < get_or p.desk_counts z 0) (sym e) free in
+            omega (arith, o, b, f))
         | inr n ↦ (let o = occupants-moved h in let b : bit (nat_eq h last) ≡ 0 = ap bit (ne_eqb h last n) in
             let w : length (occupants (seating_of p) q h) ≤ get_or p.desk_counts h 0 = lawful.within_desks h in omega (arith, o, b, w))
       ];

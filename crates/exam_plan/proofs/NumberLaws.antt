@@ -64,26 +64,37 @@ module _ (p : Problem) (q : Plan ℕ ℕ) (h : ℕ) where
       let member : c < length p.fit = member-below (length p.fit) c (lawful.members c (ap is_some e)) in
       let is : count_by (λ d. nat_lt (get_or p.rank d 0) (get_or p.rank c 0)) (occupants (seating_of p) q h) + 1 ≡ n = same_Some _ n (sym (number_at c e) ∙ number) in
       let b = below_count (get_or p.rank c 0) in
-      let l = within_less (λ d. nat_lt (get_or p.rank d 0) (get_or p.rank c 0)) (λ d. is_hall (seating_of p) h (q d)) (length p.fit) c member (sits c e) (le-ltb (get_or p.rank c 0) (get_or p.rank c 0) (omega arith)) in
+      let l = within_less (λ d. nat_lt (get_or p.rank d 0) (get_or p.rank c 0)) (λ d. is_hall (seating_of p) h (q d))
+      (length p.fit) c member (sits c e) (le-ltb (get_or p.rank c 0) (get_or p.rank c 0) (omega arith)) in
       let o = length-occupants p q h in
       let s = count_below-same (λ d. is_hall (seating_of p) h (q d)) (λ d. sits_at h (q d)) (length p.fit) (λ d m. ap bit (is_hall-sits_at p h (q d))) in
       let w : length (occupants (seating_of p) q h) ≤ (seating_of p).desks h = lawful.within_desks h in
       omega (arith, is, b, l, o, s, w)
 
-  ranks_less : (c d : ℕ) → c < length p.fit → q c ≡ Some h → q d ≡ Some h → get_or p.rank c 0 < get_or p.rank d 0 → desk_number (seating_of p) (ranks_before p) q c ≢ desk_number (seating_of p) (ranks_before p) q d
+  ranks_less : (c d : ℕ) → c < length p.fit → q c ≡ Some h → q d ≡ Some h → get_or p.rank c 0 < get_or p.rank d 0
+      → desk_number (seating_of p) (ranks_before p) q c ≢ desk_number (seating_of p) (ranks_before p) q d
   ranks_less c d member ec ed less same =
       let is = same_Some _ _ (sym (number_at c ec) ∙ same ∙ number_at d ed) in
       let bc = below_count (get_or p.rank c 0) in
       let bd = below_count (get_or p.rank d 0) in
       let l = fewer_pass (λ k. nat_lt (get_or p.rank k 0) (get_or p.rank c 0)) (λ k. nat_lt (get_or p.rank k 0) (get_or p.rank d 0)) (λ k. is_hall (seating_of p) h (q k)) (length p.fit) c
-      (λ k. bit_le _ _ (λ t. lt-ltb (get_or p.rank k 0) (get_or p.rank d 0) (let a = ltb-true (get_or p.rank k 0) (get_or p.rank c 0) t in omega (arith, a, less)))) member (sits c ec) (le-ltb (get_or p.rank c 0) (get_or p.rank c 0) (omega arith)) (lt-ltb (get_or p.rank c 0) (get_or p.rank d 0) less) in
+      (λ k. bit_le _ _ (λ t. lt-ltb (get_or p.rank k 0) (get_or p.rank d 0)
+      (let a = ltb-true (get_or p.rank k 0) (get_or p.rank c 0) t in omega (arith, a, less)))) member (sits c ec)
+      (le-ltb (get_or p.rank c 0) (get_or p.rank c 0) (omega arith))
+      (lt-ltb (get_or p.rank c 0) (get_or p.rank d 0) less) in
       omega (arith, is, bc, bd, l)
 
-  pub numbers_differ : IsProblem p → (c d : ℕ) → c < length p.fit → d < length p.fit → q c ≡ Some h → q d ≡ Some h → desk_number (seating_of p) (ranks_before p) q c ≡ desk_number (seating_of p) (ranks_before p) q d → c ≡ d
+  pub numbers_differ : IsProblem p → (c d : ℕ) → c < length p.fit → d < length p.fit → q c ≡ Some h → q d ≡ Some h
+      → desk_number (seating_of p) (ranks_before p) q c ≡ desk_number (seating_of p) (ranks_before p) q d → c ≡ d
   numbers_differ good c d lc ld ec ed same = elim (cases_order (get_or p.rank c 0) (get_or p.rank d 0)) [
     | inl e ↦ elim (cases_order c d) [
       | inl is ↦ is
-      | inr s ↦ absurd (elim s [ inl l ↦ differ_at p.rank c d good.distinct l (omega (arith, ld, good.ranked)) e | inr l ↦ differ_at p.rank d c good.distinct l (omega (arith, lc, good.ranked)) (sym e) ])
+      | inr s ↦ absurd (elim s [
+        | inl l ↦ differ_at p.rank c d good.distinct l
+            (omega (arith, ld, good.ranked)) e
+        | inr l ↦ differ_at p.rank d c good.distinct l
+            (omega (arith, lc, good.ranked)) (sym e)
+      ])
     ]
     | inr s ↦ absurd (elim s [ inl l ↦ ranks_less c d lc ec ed l same | inr l ↦ ranks_less d c ld ed ec l (sym same) ])
   ]

@@ -8,7 +8,8 @@ use Rattle.exam_plan.specs.Chains.{Chain, augmented}
 use Rattle.exam_plan.specs.Repair.{TurnFrom, Sweeps, kept_part, sweep_order, IsRepair}
 use Rattle.exam_plan.proofs.LeastChains.{least_chain_is_one}
 
-module _ {C H : Type 0} (g : Seating C H) (candidates : IsTotalOrder g.candidate_cmp) (halls : IsTotalOrder g.hall_cmp) (exact_candidates : IsAntisymmetric g.candidate_cmp) (exact_halls : IsAntisymmetric g.hall_cmp) where
+module _ {C H : Type 0} (g : Seating C H) (candidates : IsTotalOrder g.candidate_cmp) (halls : IsTotalOrder g.hall_cmp)
+    (exact_candidates : IsAntisymmetric g.candidate_cmp) (exact_halls : IsAntisymmetric g.hall_cmp) where
   same_as : (p x y : Plan C H) → SamePlan x p → SamePlan y p → SamePlan x y
   same_as p x y u v c = u c ∙ sym (v c)
 

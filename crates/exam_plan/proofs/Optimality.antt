@@ -61,12 +61,15 @@ module _ (p : Problem) (good : IsProblem p) (q : Plan ℕ ℕ) (lawful : IsLawfu
 
     pub closed_is_greatest : size (seating_of p) other ≤ size (seating_of p) q
     closed_is_greatest =
-        let o = count_below-le (λ c. is_some (other c) && not (drawn_in D (q c))) (λ c. not (drawn_in D (q c))) (length p.fit) (λ c l. bit_le _ (not (drawn_in D (q c))) (λ t. (and_parts (is_some (other c)) _ t).1)) in
+        let o = count_below-le (λ c. is_some (other c) && not (drawn_in D (q c))) (λ c. not (drawn_in D (q c)))
+        (length p.fit) (λ c l. bit_le _ (not (drawn_in D (q c))) (λ t. (and_parts (is_some (other c)) _ t).1)) in
         omega (arith, o, halves, whole, inside, fewer_within)
 
     -- who sits outside the set is seated by every best plan
     pub closed_is_greater : (c : ℕ) → c < length p.fit → drawn_in D (q c) ≡ false → other c ≡ None → size (seating_of p) other < size (seating_of p) q
     closed_is_greater c below away none =
         let less : bit (is_some (other c) && not (drawn_in D (q c))) < bit (not (drawn_in D (q c))) = rw (none, away) (omega arith) in
-        let o = count_below-lt (λ c. is_some (other c) && not (drawn_in D (q c))) (λ c. not (drawn_in D (q c))) (length p.fit) c (λ c l. bit_le _ (not (drawn_in D (q c))) (λ t. (and_parts (is_some (other c)) _ t).1)) below less in
+        let o = count_below-lt (λ c. is_some (other c) && not (drawn_in D (q c))) (λ c. not (drawn_in D (q c)))
+        (length p.fit) c (λ c l. bit_le _ (not (drawn_in D (q c))) (λ t. (and_parts (is_some (other c)) _ t).1))
+        below less in
         omega (arith, o, halves, whole, inside, fewer_within)

@@ -1,5 +1,7 @@
 -- A plan by indices, read by names, is lawful and best where it was so by indices.
-use Rattle.std.proofs.Common.{◌≡◌, ℕ, ◌+◌, ◌≤◌, ◌↔◌, Bool, true, false, cond, IsTrue, length, map, count_by, Contains, Option, None, Some, IsSome, IfSome, is_some, nat_eq, eq-eqb, ◌⊎◌, inl, inr, refl, sym, ap, subst, ◌∙◌, arith, map-id}
+use Rattle.std.proofs.Common.{◌≡◌, ℕ, ◌+◌, ◌≤◌, ◌↔◌, Bool, true, false, cond, IsTrue, length, map, count_by, Contains}
+use Rattle.std.proofs.Common.{Option, None, Some, IsSome, IfSome, is_some, nat_eq, eq-eqb, ◌⊎◌, inl, inr, refl, sym, ap}
+use Rattle.std.proofs.Common.{subst, ◌∙◌, arith, map-id}
 use Rattle.std.specs.Option.{option_map, option_and_then}
 use Rattle.std.specs.Cmp.{both_ways}
 use Rattle.std.proofs.lemmas.List.Sums.{length-filter}
@@ -43,7 +45,9 @@ module _ {C H : Type 0} (name : Naming C H) (r : Renames name) where
       (λ t. (r.same_a j k).1 (same_Some j k (sym at ∙ ap name.hall_index ((r.same_b g h).0 t) ∙ at')))
       (λ t. (r.same_b g h).1 (sym (r.halls g j at) ∙ ap name.hall ((r.same_a j k).0 t) ∙ r.halls h k at'))
 
-  pub is_hall-known : (h : H) (j : ℕ) (o : Option ℕ) → name.hall_index h ≡ Some j → IfSome o (λ k. name.hall_index (name.hall k) ≡ Some k) → is_hall name.of_names h (option_map name.hall o) ≡ is_hall name.of_indices j o
+  pub is_hall-known : (h : H) (j : ℕ) (o : Option ℕ) → name.hall_index h ≡ Some j
+      → IfSome o (λ k. name.hall_index (name.hall k) ≡ Some k)
+      → is_hall name.of_names h (option_map name.hall o) ≡ is_hall name.of_indices j o
   is_hall-known h j None at known = refl
   is_hall-known h j (Some k) at known = same_hall-known h (name.hall k) j k at known
 
@@ -52,23 +56,33 @@ module _ {C H : Type 0} (name : Naming C H) (r : Renames name) where
   is_hall-unknown h i None at fit = refl
   is_hall-unknown h i (Some k) at fit = false_from_ne_true _ (λ t. let e : None ≡ Some k = sym at ∙ ap name.hall_index ((r.same_b h (name.hall k)).0 t) ∙ r.known_hall i k fit in cc)
 
-  occupied : (p : Plan ℕ ℕ) (l : IsLawful name.of_indices p) (h : H) (o : Option ℕ) → name.hall_index h ≡ o → count_by (λ c. is_hall name.of_names h (named_plan name p c)) name.of_names.members ≤ name.of_names.desks h
+  occupied : (p : Plan ℕ ℕ) (l : IsLawful name.of_indices p) (h : H) (o : Option ℕ) → name.hall_index h ≡ o
+      → count_by (λ c. is_hall name.of_names h (named_plan name p c)) name.of_names.members ≤ name.of_names.desks h
   occupied p l h (Some j) at =
       let e : count_by (λ c. is_hall name.of_names h (named_plan name p c)) name.of_names.members ≡ count_by (λ i. is_hall name.of_indices j (p i)) name.of_indices.members =
       ap (count_by (λ c. is_hall name.of_names h (named_plan name p c))) r.members
-      ∙ count_same _ (λ i. is_hall name.of_indices j (p i)) name.candidate name.of_indices.members (of_members _ name.of_indices.members (λ i m. ap (is_hall name.of_names h) (named_member p (name.candidate i) i (r.known i m)) ∙ is_hall-known h j (p i) at (IfSome_then (p i) (l.fitting i) (r.known_hall i)))) in
+      ∙ count_same _ (λ i. is_hall name.of_indices j (p i)) name.candidate name.of_indices.members
+      (of_members _ name.of_indices.members
+      (λ i m. ap (is_hall name.of_names h) (named_member p (name.candidate i) i (r.known i m))
+      ∙ is_hall-known h j (p i) at (IfSome_then (p i) (l.fitting i) (r.known_hall i)))) in
       let d : name.of_names.desks h ≡ name.of_indices.desks j = r.desks h j at in
-      let f : length (occupants name.of_indices p j) ≡ count_by (λ i. is_hall name.of_indices j (p i)) name.of_indices.members = length-filter (λ i. is_hall name.of_indices j (p i)) name.of_indices.members in
+      let f : length (occupants name.of_indices p j)
+      ≡ count_by (λ i. is_hall name.of_indices j (p i)) name.of_indices.members =
+      length-filter (λ i. is_hall name.of_indices j (p i)) name.of_indices.members in
       let w : length (occupants name.of_indices p j) ≤ name.of_indices.desks j = l.within_desks j in
       omega arith
   occupied p l h None at =
       let e : count_by (λ c. is_hall name.of_names h (named_plan name p c)) name.of_names.members ≡ count_by (λ (i : ℕ). false) name.of_indices.members =
       ap (count_by (λ c. is_hall name.of_names h (named_plan name p c))) r.members
-      ∙ count_same _ (λ (i : ℕ). false) name.candidate name.of_indices.members (of_members _ name.of_indices.members (λ i m. ap (is_hall name.of_names h) (named_member p (name.candidate i) i (r.known i m)) ∙ is_hall-unknown h i (p i) at (l.fitting i))) in
+      ∙ count_same _ (λ (i : ℕ). false) name.candidate name.of_indices.members
+      (of_members _ name.of_indices.members
+      (λ i m. ap (is_hall name.of_names h) (named_member p (name.candidate i) i (r.known i m))
+      ∙ is_hall-unknown h i (p i) at (l.fitting i))) in
       let z : count_by (λ (i : ℕ). false) name.of_indices.members ≡ 0 = fold_stays (λ (m i : ℕ). m + 0) 0 (λ i. refl) name.of_indices.members in
       omega arith
 
-  fitting-named : (p : Plan ℕ ℕ) (l : IsLawful name.of_indices p) (c : C) (o : Option ℕ) → name.candidate_index c ≡ o → IfSome (option_and_then (λ i. option_map name.hall (p i)) o) (λ h. IsTrue (name.of_names.fits c h))
+  fitting-named : (p : Plan ℕ ℕ) (l : IsLawful name.of_indices p) (c : C) (o : Option ℕ) → name.candidate_index c ≡ o
+      → IfSome (option_and_then (λ i. option_map name.hall (p i)) o) (λ h. IsTrue (name.of_names.fits c h))
   fitting-named p l c None at = tt
   fitting-named p l c (Some i) at = inner (p i) (l.fitting i)
     where
@@ -84,7 +98,9 @@ module _ {C H : Type 0} (name : Naming C H) (r : Renames name) where
   IsLawful-named p l = record {
     members = λ c. members-named p c (name.candidate_index c) refl;
     fitting = λ c. fitting-named p l c (name.candidate_index c) refl;
-    within_desks = λ h. let f : length (occupants name.of_names (named_plan name p) h) ≡ count_by (λ c. is_hall name.of_names h (named_plan name p c)) name.of_names.members = length-filter (λ c. is_hall name.of_names h (named_plan name p c)) name.of_names.members in
+    within_desks = λ h. let f : length (occupants name.of_names (named_plan name p) h)
+        ≡ count_by (λ c. is_hall name.of_names h (named_plan name p c)) name.of_names.members =
+        length-filter (λ c. is_hall name.of_names h (named_plan name p c)) name.of_names.members in
         let o = occupied p l h (name.hall_index h) refl in omega arith;
   }
 
@@ -100,7 +116,10 @@ module _ {C H : Type 0} (name : Naming C H) (r : Renames name) where
     where
       inner : (t : Bool) → nat_eq k i ≡ t → Contains name.of_indices.members i
       inner true e = subst (Contains name.of_indices.members) (exact_unsigned_eq k i e) (r.named (name.candidate i) k at).1
-      inner false e = absurd (let z : is_some (at_index name q i k) ≡ false = ap (λ t. is_some (cond t (option_and_then name.hall_index (q (name.candidate i))) None)) e in let y : false ≡ true = sym z ∙ seated in cc)
+      inner false e = absurd
+          (let z : is_some (at_index name q i k) ≡ false =
+          ap (λ t. is_some (cond t (option_and_then name.hall_index (q (name.candidate i))) None)) e in
+          let y : false ≡ true = sym z ∙ seated in cc)
 
   is_some-index : (c : C) (o : Option H) → IfSome o (λ h. IsTrue (name.of_names.fits c h)) → is_some (option_and_then name.hall_index o) ≡ is_some o
   is_some-index c None fit = refl
@@ -135,31 +154,51 @@ module _ {C H : Type 0} (name : Naming C H) (r : Renames name) where
       inner None = inr (λ e. cc)
       inner (Some k) = elim (cases_eq k j) [ inl e ↦ inl (ap Some e) | inr n ↦ inr (λ e. n (same_Some k j e)) ]
 
-  occupied-index : (q : Plan C H) → IsLawful name.of_names q → (j : ℕ) → (name.hall_index (name.hall j) ≡ Some j) ⊎ (name.hall_index (name.hall j) ≡ Some j → ⊥) → count_by (λ i. is_hall name.of_indices j (indexed_plan name q i)) name.of_indices.members ≤ name.of_indices.desks j
+  occupied-index : (q : Plan C H) → IsLawful name.of_names q → (j : ℕ)
+      → (name.hall_index (name.hall j) ≡ Some j) ⊎ (name.hall_index (name.hall j) ≡ Some j → ⊥)
+      → count_by (λ i. is_hall name.of_indices j (indexed_plan name q i)) name.of_indices.members ≤
+      name.of_indices.desks j
   occupied-index q l j (inl at) =
       let e : count_by (λ c. is_hall name.of_names (name.hall j) (q c)) name.of_names.members ≡ count_by (λ i. is_hall name.of_indices j (indexed_plan name q i)) name.of_indices.members =
       ap (count_by (λ c. is_hall name.of_names (name.hall j) (q c))) r.members
-      ∙ count_same _ (λ i. is_hall name.of_indices j (indexed_plan name q i)) name.candidate name.of_indices.members (of_members _ name.of_indices.members (λ i m. is_hall-index j at (q (name.candidate i)) ∙ sym (ap (is_hall name.of_indices j) (indexed_member q i (r.known i m))))) in
+      ∙ count_same _ (λ i. is_hall name.of_indices j (indexed_plan name q i)) name.candidate name.of_indices.members
+      (of_members _ name.of_indices.members
+      (λ i m. is_hall-index j at (q (name.candidate i))
+      ∙ sym (ap (is_hall name.of_indices j) (indexed_member q i (r.known i m))))) in
       let d : name.of_names.desks (name.hall j) ≡ name.of_indices.desks j = r.desks (name.hall j) j at in
-      let f : length (occupants name.of_names q (name.hall j)) ≡ count_by (λ c. is_hall name.of_names (name.hall j) (q c)) name.of_names.members = length-filter (λ c. is_hall name.of_names (name.hall j) (q c)) name.of_names.members in
+      let f : length (occupants name.of_names q (name.hall j))
+      ≡ count_by (λ c. is_hall name.of_names (name.hall j) (q c)) name.of_names.members =
+      length-filter (λ c. is_hall name.of_names (name.hall j) (q c)) name.of_names.members in
       let w : length (occupants name.of_names q (name.hall j)) ≤ name.of_names.desks (name.hall j) = l.within_desks (name.hall j) in
       omega arith
   occupied-index q l j (inr away) =
       let e : count_by (λ i. is_hall name.of_indices j (indexed_plan name q i)) (map (λ (i : ℕ). i) name.of_indices.members) ≡ count_by (λ (i : ℕ). false) name.of_indices.members =
-      count_same (λ i. is_hall name.of_indices j (indexed_plan name q i)) (λ (i : ℕ). false) (λ (i : ℕ). i) name.of_indices.members (of_members _ name.of_indices.members (λ i m. ap (is_hall name.of_indices j) (indexed_member q i (r.known i m)) ∙ is_hall-nowhere j away (q (name.candidate i)))) in
+      count_same (λ i. is_hall name.of_indices j (indexed_plan name q i)) (λ (i : ℕ). false)
+      (λ (i : ℕ). i) name.of_indices.members
+      (of_members _ name.of_indices.members
+      (λ i m. ap (is_hall name.of_indices j) (indexed_member q i (r.known i m))
+      ∙ is_hall-nowhere j away (q (name.candidate i)))) in
       let z : count_by (λ (i : ℕ). false) name.of_indices.members ≡ 0 = fold_stays (λ (m i : ℕ). m + 0) 0 (λ i. refl) name.of_indices.members in
-      let y : count_by (λ i. is_hall name.of_indices j (indexed_plan name q i)) (map (λ (i : ℕ). i) name.of_indices.members) ≡ count_by (λ i. is_hall name.of_indices j (indexed_plan name q i)) name.of_indices.members = ap (count_by (λ i. is_hall name.of_indices j (indexed_plan name q i))) (map-id name.of_indices.members) in
+      let y : count_by (λ i. is_hall name.of_indices j (indexed_plan name q i))
+      (map (λ (i : ℕ). i) name.of_indices.members)
+      ≡ count_by (λ i. is_hall name.of_indices j (indexed_plan name q i)) name.of_indices.members =
+      ap (count_by (λ i. is_hall name.of_indices j (indexed_plan name q i))) (map-id name.of_indices.members) in
       omega arith
 
-  fitting-index : (q : Plan C H) → IsLawful name.of_names q → (i : ℕ) → (o : Option ℕ) → name.candidate_index (name.candidate i) ≡ o → IfSome (option_and_then (at_index name q i) o) (λ j. IsTrue (name.of_indices.fits i j))
+  fitting-index : (q : Plan C H) → IsLawful name.of_names q → (i : ℕ) → (o : Option ℕ)
+      → name.candidate_index (name.candidate i) ≡ o
+      → IfSome (option_and_then (at_index name q i) o) (λ j. IsTrue (name.of_indices.fits i j))
   fitting-index q l i None at = tt
   fitting-index q l i (Some k) at = outer (nat_eq k i) refl
     where
-      inmost : (h : H) (o : Option ℕ) → name.hall_index h ≡ o → name.candidate_index (name.candidate i) ≡ Some i → IsTrue (name.of_names.fits (name.candidate i) h) → IfSome o (λ j. IsTrue (name.of_indices.fits i j))
+      inmost : (h : H) (o : Option ℕ) → name.hall_index h ≡ o → name.candidate_index (name.candidate i) ≡ Some i
+          → IsTrue (name.of_names.fits (name.candidate i) h) → IfSome o (λ j. IsTrue (name.of_indices.fits i j))
       inmost h None e m fit = tt
       inmost h (Some j) e m fit = sym (r.fits (name.candidate i) h i j m e) ∙ fit
 
-      inner : (o : Option H) → name.candidate_index (name.candidate i) ≡ Some i → IfSome o (λ h. IsTrue (name.of_names.fits (name.candidate i) h)) → IfSome (option_and_then name.hall_index o) (λ j. IsTrue (name.of_indices.fits i j))
+      inner : (o : Option H) → name.candidate_index (name.candidate i) ≡ Some i
+          → IfSome o (λ h. IsTrue (name.of_names.fits (name.candidate i) h))
+          → IfSome (option_and_then name.hall_index o) (λ j. IsTrue (name.of_indices.fits i j))
       inner None m fit = tt
       inner (Some h) m fit = inmost h (name.hall_index h) refl m fit
 
@@ -171,7 +210,9 @@ module _ {C H : Type 0} (name : Naming C H) (r : Renames name) where
   IsLawful-indexed q l = record {
     members = λ i. indexed_from q i (name.candidate_index (name.candidate i)) refl;
     fitting = λ i. fitting-index q l i (name.candidate_index (name.candidate i)) refl;
-    within_desks = λ j. let f : length (occupants name.of_indices (indexed_plan name q) j) ≡ count_by (λ i. is_hall name.of_indices j (indexed_plan name q i)) name.of_indices.members = length-filter (λ i. is_hall name.of_indices j (indexed_plan name q i)) name.of_indices.members in
+    within_desks = λ j. let f : length (occupants name.of_indices (indexed_plan name q) j)
+        ≡ count_by (λ i. is_hall name.of_indices j (indexed_plan name q i)) name.of_indices.members =
+        length-filter (λ i. is_hall name.of_indices j (indexed_plan name q i)) name.of_indices.members in
         let o = occupied-index q l j (is_index j) in omega arith;
   }
 

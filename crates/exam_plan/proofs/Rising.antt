@@ -18,7 +18,9 @@ use Rattle.exam_plan.proofs.Seatings.{listed_below}
 -- ---- the indices that pass
 
 pub range_below : (n : ℕ) → All (λ x. x < n) (range_with_len 0 n)
-range_below n = All-from_get_or (λ x. x < n) (range_with_len 0 n) 0 (λ i l. let long = length-range_with_len 0 n in let e = get_or-range_with_len 0 n i 0 (omega (arith, l, long)) in omega (arith, e, l, long))
+range_below n = All-from_get_or (λ x. x < n) (range_with_len 0 n) 0
+    (λ i l. let long = length-range_with_len 0 n in let e =
+    get_or-range_with_len 0 n i 0 (omega (arith, l, long)) in omega (arith, e, l, long))
 
 pub passing : (P : ℕ → Bool) (n x : ℕ) → Contains (filter P (range_with_len 0 n)) x → (x < n) × (P x ≡ true)
 passing P n x c = (
@@ -27,13 +29,19 @@ passing P n x c = (
 )
 
 pub next_filter : (P : ℕ → Bool) (n : ℕ) (b : Bool) → P n ≡ b → filter P (range_with_len 0 (suc n)) ≡ filter P (range_with_len 0 n) ++ cond b (n ∷ []) []
-next_filter P n b e = ap (filter P) (range_more 0 n ∙ ap (λ k. range_with_len 0 n ++ k ∷ []) (zero-add n)) ∙ filter-append P (range_with_len 0 n) (n ∷ []) ∙ ap (λ t. filter P (range_with_len 0 n) ++ cond t (n ∷ []) []) e
+next_filter P n b e =
+    ap (filter P) (range_more 0 n ∙ ap (λ k. range_with_len 0 n ++ k ∷ []) (zero-add n))
+    ∙ filter-append P (range_with_len 0 n) (n ∷ []) ∙ ap (λ t. filter P (range_with_len 0 n) ++ cond t (n ∷ []) []) e
 
 pub passes_in : (P : ℕ → Bool) (n x : ℕ) → x < n → P x ≡ true → Contains (filter P (range_with_len 0 n)) x
 passes_in P zero x l e = absurd (omega arith)
 passes_in P (suc n) x l e = elim (cases_eq x n) [
-  | inl s ↦ subst (λ (xs : List ℕ). Contains xs x) (sym (next_filter P n true (ap P (sym s) ∙ e))) (subst (λ (z : ℕ). Contains (filter P (range_with_len 0 n) ++ z ∷ []) x) s (Contains-push (filter P (range_with_len 0 n)) x))
-  | inr a ↦ subst (λ (xs : List ℕ). Contains xs x) (sym (next_filter P n (P n) refl)) (Contains-append_left (filter P (range_with_len 0 n)) (cond (P n) (n ∷ []) []) x (passes_in P n x (omega arith) e))
+  | inl s ↦ subst (λ (xs : List ℕ). Contains xs x) (sym (next_filter P n true (ap P (sym s) ∙ e)))
+      (subst (λ (z : ℕ). Contains (filter P (range_with_len 0 n) ++ z ∷ []) x) s
+      (Contains-push (filter P (range_with_len 0 n)) x))
+  | inr a ↦ subst (λ (xs : List ℕ). Contains xs x) (sym (next_filter P n (P n) refl))
+      (Contains-append_left (filter P (range_with_len 0 n)) (cond (P n) (n ∷ []) []) x
+      (passes_in P n x (omega arith) e))
 ]
 
 later : (a b n : ℕ) → a < b → AllByRecursion (λ y. nat_cmp a y ≡ Less) (range_with_len b n)
@@ -80,7 +88,8 @@ rising_are_same [] (y ∷ ys) s t same = absurd (let e : list_any (nat_eq y) (y 
 rising_are_same (x ∷ xs) [] s t same = absurd (let e : list_any (nat_eq x) (x ∷ xs) ≡ true = ap (λ b. b || list_any (nat_eq x) xs) (eq-eqb x x refl) in let z : true ≡ false = sym e ∙ same x in cc)
 rising_are_same (x ∷ xs) (y ∷ ys) s t same = elim (cases_eq x y) [
   | inl e ↦ ap (λ z. z ∷ xs) e ∙ ap (λ zs. y ∷ zs) (rising_are_same xs ys s.1 t.1 (λ z. elim (cases_eq z x) [
-    | inl at ↦ later_all z xs (subst (λ (w : ℕ). AllByRecursion (λ v. nat_cmp w v ≡ Less) xs) (sym at) s.0) ∙ sym (later_all z ys (subst (λ (w : ℕ). AllByRecursion (λ v. nat_cmp w v ≡ Less) ys) (sym e ∙ sym at) t.0))
+    | inl at ↦ later_all z xs (subst (λ (w : ℕ). AllByRecursion (λ v. nat_cmp w v ≡ Less) xs) (sym at) s.0)
+        ∙ sym (later_all z ys (subst (λ (w : ℕ). AllByRecursion (λ v. nat_cmp w v ≡ Less) ys) (sym e ∙ sym at) t.0))
     | inr n ↦ sym (ap (λ b. b || list_any (nat_eq z) xs) (ne_eqb z x n)) ∙ same z ∙ ap (λ b. b || list_any (nat_eq z) ys) (ne_eqb z y (λ w. n (w ∙ sym e)))
   ]))
   | inr n ↦ elim (cases_lt x y) [

@@ -1,5 +1,7 @@
 -- The closed set of a best plan: a deficiency certificate, and exactly the contested candidates.
-use Rattle.std.proofs.Common.{◌≡◌, ◌≢◌, ℕ, zero, suc, ◌+◌, ◌<◌, ◌≤◌, ◌↔◌, Bool, true, false, cond, IsTrue, List, [], ◌∷◌, ◌++◌, length, get_or, Option, None, Some, IsSome, IfSome, is_some, is_none, nat_eq, ◌⊎◌, refl, sym, ap, ◌∙◌, inl, inr, subst, arith, zero-add}
+use Rattle.std.proofs.Common.{◌≡◌, ◌≢◌, ℕ, zero, suc, ◌+◌, ◌<◌, ◌≤◌, ◌↔◌, Bool, true, false, cond, IsTrue, List, []}
+use Rattle.std.proofs.Common.{◌∷◌, ◌++◌, length, get_or, Option, None, Some, IsSome, IfSome, is_some, is_none, nat_eq}
+use Rattle.std.proofs.Common.{◌⊎◌, refl, sym, ap, ◌∙◌, inl, inr, subst, arith, zero-add}
 use Rattle.std.specs.Prelude.{Contains, filter, sum_by}
 use Rattle.std.specs.List.{range_with_len}
 use Rattle.std.specs.List.Sorted.{IsStrictlySortedBy}
@@ -197,7 +199,9 @@ module _ (p : Problem) (good : IsProblem p) (q : Plan ℕ ℕ) (best : IsBest (s
 
     xs_excess : length xs ≡ sum_by (seating_of p).desks hs + length (unseated (seating_of p) q)
     xs_excess =
-        let a : length xs ≡ count_below (λ c. is_drawn marks (q c)) (length p.fit) = ap length xs_is ∙ length-filter (λ c. is_drawn marks (q c)) (range_with_len 0 (length p.fit)) ∙ count_by-range (λ c. is_drawn marks (q c)) (length p.fit) in
+        let a : length xs ≡ count_below (λ c. is_drawn marks (q c)) (length p.fit) =
+        ap length xs_is ∙ length-filter (λ c. is_drawn marks (q c)) (range_with_len 0 (length p.fit))
+        ∙ count_by-range (λ c. is_drawn marks (q c)) (length p.fit) in
         let b = count_below-add (λ c. is_none (q c)) (λ c. sits_within marks (q c)) (λ c. is_drawn marks (q c)) (length p.fit) (λ c l. drawn_bits (q c)) in
         let s = set_desks p good q best.lawful marks closed_set in
         let f : sum_by (seating_of p).desks hs ≡ sum_below (λ h. get_or p.desk_counts h 0) marks (length p.desk_counts) =

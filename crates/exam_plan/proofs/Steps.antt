@@ -1,5 +1,7 @@
 -- The steps of the searches' loops.
-use Rattle.std.proofs.Common.{◌≡◌, ◌≢◌, ℕ, zero, suc, ◌+◌, ◌<◌, ◌≤◌, ◌↔◌, Bool, true, false, not, ◌&&◌, ◌||◌, cond, IsTrue, List, [], ◌∷◌, ◌++◌, length, get_or, set, Option, None, Some, IfSome, is_some, nat_eq, nat_lt, ◌⊎◌, refl, sym, ap, ◌∙◌, inl, inr, subst, arith}
+use Rattle.std.proofs.Common.{◌≡◌, ◌≢◌, ℕ, zero, suc, ◌+◌, ◌<◌, ◌≤◌, ◌↔◌, Bool, true, false, not, ◌&&◌, ◌||◌, cond}
+use Rattle.std.proofs.Common.{IsTrue, List, [], ◌∷◌, ◌++◌, length, get_or, set, Option, None, Some, IfSome, is_some}
+use Rattle.std.proofs.Common.{nat_eq, nat_lt, ◌⊎◌, refl, sym, ap, ◌∙◌, inl, inr, subst, arith}
 use Rattle.std.specs.Prelude.{All, MatchOption}
 use Rattle.std.proofs.lemmas.List.Elements.{All-get_or, All-set}
 use Rattle.std.specs.Option.{option_map_or}
@@ -76,8 +78,11 @@ pub is_free : (p : Problem) (m : List (Option ℕ)) (h a d : ℕ) → length m �
 is_free p m h a d whole counted desks =
     let o = length-occupants p (plan_at m) h in
     let e = count_at-below (plan_at m) h (length m) in
-    let f : count_below (λ c. sits_at h (plan_at m c)) (length m) ≡ count_below (λ c. sits_at h (plan_at m c)) (length p.fit) = ap (count_below (λ c. sits_at h (plan_at m c))) whole in
-    ((λ t. let l = ltb-true a d t in omega (arith, o, e, f, l)), (λ l. lt-ltb a d (let k : length (occupants (seating_of p) (plan_at m) h) < get_or p.desk_counts h 0 = l in omega (arith, o, e, f, k))))
+    let f : count_below (λ c. sits_at h (plan_at m c)) (length m) ≡ count_below (λ c. sits_at h (plan_at m c)) (length p.fit) = ap (count_below (λ c. sits_at h (plan_at m c))) whole in (
+      (λ t. let l = ltb-true a d t in omega (arith, o, e, f, l)),
+      (λ l. lt-ltb a d (let k : length (occupants (seating_of p) (plan_at m) h) < get_or p.desk_counts h 0 =
+          l in omega (arith, o, e, f, k))),
+    )
 
 -- ---- places
 
@@ -162,9 +167,13 @@ module _ (rest k less : ℕ) (is : (h : ℕ) → holds less h ≡ cond (nat_eq h
 
 -- the halls that a set has, and those of the sets of the fresh halls that are no longer to come
 abbrev pub IsUnited : List ℕ → ℕ → ℕ → ℕ → ℕ → Type 0
-IsUnited sets marked fresh rest next = (h : ℕ) → IsMarked (holds next) h ↔ (IsMarked (holds marked) h ⊎ ((k : ℕ) × IsMarked (holds fresh) k × (holds rest k ≡ false) × IsMarked (holds (get_or sets k 0)) h))
+IsUnited sets marked fresh rest next = (h : ℕ)
+    → IsMarked (holds next) h ↔
+    (IsMarked (holds marked) h
+    ⊎ ((k : ℕ) × IsMarked (holds fresh) k × (holds rest k ≡ false) × IsMarked (holds (get_or sets k 0)) h))
 
-pub united_more : (sets : List ℕ) (marked fresh rest next k one more less : ℕ) → IsUnited sets marked fresh rest next → IsMarked (holds fresh) k → one ≡ get_or sets k 0 → ((h : ℕ) → holds more h ≡ holds next h || holds one h)
+pub united_more : (sets : List ℕ) (marked fresh rest next k one more less : ℕ) → IsUnited sets marked fresh rest next
+    → IsMarked (holds fresh) k → one ≡ get_or sets k 0 → ((h : ℕ) → holds more h ≡ holds next h || holds one h)
     → ((h : ℕ) → holds less h ≡ cond (nat_eq h k) false (holds rest h)) → IsUnited sets marked fresh less more
 united_more sets marked fresh rest next k one more less w held read union gone h = (
   (λ t. elim (or_cases (holds next h) (holds one h) (sym (union h) ∙ t)) [
@@ -217,7 +226,9 @@ all_fresh sets marked = record {
   settled = λ k h t f m. let z : true ≡ false = sym t ∙ f in cc;
 }
 
-pub next_fresh : (sets : List ℕ) (marked fresh next after : ℕ) → IsFresh sets marked fresh → IsWidened sets marked fresh next → ((h : ℕ) → holds after h ≡ holds next h && not (holds marked h)) → IsFresh sets next after
+pub next_fresh : (sets : List ℕ) (marked fresh next after : ℕ) → IsFresh sets marked fresh
+    → IsWidened sets marked fresh next → ((h : ℕ) → holds after h ≡ holds next h && not (holds marked h))
+    → IsFresh sets next after
 next_fresh sets marked fresh next after was wide is = record {
   within = λ k t. (beyond next marked after k (is k) t).0;
   settled = λ k h t f m. elim (cases_Bool (holds marked k)) [
@@ -236,7 +247,9 @@ module _ (p : Problem) (q : Plan ℕ ℕ) where
   abbrev pub IsNext : (ℕ → Bool) → (ℕ → Bool) → Type 0
   IsNext marks next = MarksAll next (λ h. IsMarked marks h ⊎ ((d : ℕ) × (q d ≡ Some h) × IsTouching p marks d))
 
-  widened_next : (sets : List ℕ) (marked fresh next : ℕ) → AreInward p q sets → ((k : ℕ) → IsMarked (holds marked) k → k < length p.desk_counts) → IsFresh sets marked fresh → IsWidened sets marked fresh next → IsNext (holds marked) (holds next)
+  widened_next : (sets : List ℕ) (marked fresh next : ℕ) → AreInward p q sets
+      → ((k : ℕ) → IsMarked (holds marked) k → k < length p.desk_counts) → IsFresh sets marked fresh
+      → IsWidened sets marked fresh next → IsNext (holds marked) (holds next)
   widened_next sets marked fresh next inward exist was w h = (
     (λ t. elim ((w h).0 t) [
       | inl a ↦ inl a
@@ -295,13 +308,16 @@ module _ (p : Problem) (q : Plan ℕ ℕ) where
   pub layer_below : ((d h : ℕ) → q d ≡ Some h → h < length p.desk_counts) → (marks : ℕ → Bool) (j : ℕ) → MarksAll marks (Reaches p q j) → (k : ℕ) → IsMarked marks k → k < length p.desk_counts
   layer_below exist marks j layer k m = reaches_below exist j k ((layer k).0 m)
 
-  pub next_of : ((d h : ℕ) → q d ≡ Some h → h < length p.desk_counts) → (sets : List ℕ) (reached fresh next j : ℕ) → AreInward p q sets → MarksAll (holds reached) (Reaches p q j) → IsFresh sets reached fresh → IsWidened sets reached fresh next
+  pub next_of : ((d h : ℕ) → q d ≡ Some h → h < length p.desk_counts) → (sets : List ℕ) (reached fresh next j : ℕ)
+      → AreInward p q sets → MarksAll (holds reached) (Reaches p q j) → IsFresh sets reached fresh
+      → IsWidened sets reached fresh next
       → IsNext (holds reached) (holds next)
   next_of exist sets reached fresh next j inward layer was w = widened_next sets reached fresh next inward (layer_below exist (holds reached) j layer) was w
 
   -- a further hop widens by a hall that exists
   pub layer_grows : ((d h : ℕ) → q d ≡ Some h → h < length p.desk_counts) → (reached next rest j : ℕ) → MarksAll (holds reached) (Reaches p q j) → IsNext (holds reached) (holds next)
-      → ((h : ℕ) → holds rest h ≡ holds next h && not (holds reached h)) → (k : ℕ) → holds rest k ≡ true → count_below (holds reached) (length p.desk_counts) < count_below (holds next) (length p.desk_counts)
+      → ((h : ℕ) → holds rest h ≡ holds next h && not (holds reached h)) → (k : ℕ) → holds rest k ≡ true
+      → count_below (holds reached) (length p.desk_counts) < count_below (holds next) (length p.desk_counts)
   layer_grows exist reached next rest j layer wide is k held =
       let parts = beyond next reached rest k (is k) held in
       holds_more reached next (length p.desk_counts) k (λ h t. (wide h).1 (inl t))
@@ -354,7 +370,8 @@ module _ (p : Problem) (q : Plan ℕ ℕ) (c : ℕ) where
       | inr w ↦ (let r = leads w.0 (within w.0 w.1) in let o = (onward w.0 h (leads_below good r.0 w.0 r.1)).0 w.2 in (suc r.0, (w.0, r.1, o)))
     ]
 
-    pub more_fits : ((h : ℕ) → IsTrue ((seating_of p).fits c h) → IsMarked (holds led) h ⊎ IsMarked (holds dead) h) → (h : ℕ) → IsTrue ((seating_of p).fits c h) → IsMarked (holds more) h ⊎ IsMarked (holds dead) h
+    pub more_fits : ((h : ℕ) → IsTrue ((seating_of p).fits c h) → IsMarked (holds led) h ⊎ IsMarked (holds dead) h)
+        → (h : ℕ) → IsTrue ((seating_of p).fits c h) → IsMarked (holds more) h ⊎ IsMarked (holds dead) h
     more_fits fitting h f = elim (fitting h f) [ inl t ↦ inl (still_led h t) | inr d ↦ inr d ]
 
     pub more_grows : (k : ℕ) → holds rest k ≡ true → count_below (holds led) (length p.desk_counts) < count_below (holds more) (length p.desk_counts)
@@ -393,7 +410,9 @@ module _ (p : Problem) (q : Plan ℕ ℕ) where
   pub layer_at : (layers : List ℕ) (n j v : ℕ) → AreLayers p q n layers → j < n → j < length layers → v ≡ get_or layers j v → MarksAll (holds v) (Reaches p q j)
   layer_at layers n j v are below inside read = subst (λ (z : ℕ). MarksAll (holds z) (Reaches p q j)) (get_or_default layers j 0 v inside ∙ sym read) (are j below)
 
-  module _ (c row layer both j : ℕ) (fits : (h : ℕ) → holds row h ≡ (seating_of p).fits c h) (marks : MarksAll (holds layer) (Reaches p q j)) (common : (h : ℕ) → holds both h ≡ holds row h && holds layer h) where
+  module _ (c row layer both j : ℕ) (fits : (h : ℕ) → holds row h ≡ (seating_of p).fits c h)
+      (marks : MarksAll (holds layer) (Reaches p q j))
+      (common : (h : ℕ) → holds both h ≡ holds row h && holds layer h) where
     -- the least hall of both is the least that fits and reaches
     pub hall_found : (h : ℕ) → holds both h ≡ true → ((k : ℕ) → holds both k ≡ true → h ≤ k) → IsLeastHall p q j c h
     hall_found h held least =
@@ -428,7 +447,9 @@ module _ (p : Problem) (q : Plan ℕ ℕ) where
     λ d. plan_at-set m c d (Some h) below ∙ sym (ap (λ t. cond (nat_eq c d) (Some h) t) (whole d)),
   )
 
-  pub advanced_more : (m : List (Option ℕ)) (n j c h d last : ℕ) → n ≡ suc j → c < length m → IsLeastHall p q n c h → IsLeastMover p q j h d → IsAdvanced p q j d last (plan_at m) → IsAdvanced p q n c last (plan_at (set m c (Some h)))
+  pub advanced_more : (m : List (Option ℕ)) (n j c h d last : ℕ) → n ≡ suc j → c < length m → IsLeastHall p q n c h
+      → IsLeastMover p q j h d → IsAdvanced p q j d last (plan_at m)
+      → IsAdvanced p q n c last (plan_at (set m c (Some h)))
   advanced_more m n j c h d last e below least mover rest = subst (λ (z : ℕ). IsAdvanced p q z c last (plan_at (set m c (Some h)))) (sym e) (
     (h, d) ∷ rest.0,
     (subst (λ (z : ℕ). IsLeastHall p q z c h) e least, mover, rest.1),

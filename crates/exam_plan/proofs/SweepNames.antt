@@ -43,15 +43,21 @@ module _ {C H : Type 0} (name : Naming C H) (r : Renames name) (f : Follows name
   other-named : (i : ℕ) (c : C) → Contains name.of_indices.members i → name.candidate_index c ≡ None → name.of_names.same_candidate (name.candidate i) c ≡ false
   other-named i c m at = false_from_ne_true _ (λ t. let e : None ≡ Some i = sym at ∙ ap name.candidate_index (sym ((f.same_b (name.candidate i) c).0 t)) ∙ r.known i m in cc)
 
-  seated-named : (q : Plan ℕ ℕ) (after : Plan C H) → ((c : C) → by_name q c ≡ after c) → (i h : ℕ) → Contains name.of_indices.members i → (c : C) → by_name (seated name.of_indices q i h) c ≡ seated name.of_names after (name.candidate i) (name.hall h) c
+  seated-named : (q : Plan ℕ ℕ) (after : Plan C H) → ((c : C) → by_name q c ≡ after c) → (i h : ℕ)
+      → Contains name.of_indices.members i → (c : C)
+      → by_name (seated name.of_indices q i h) c ≡ seated name.of_names after (name.candidate i) (name.hall h) c
   seated-named q after same i h m c = outer (name.candidate_index c) refl
     where
       inner : (k : ℕ) (t : Bool) → option_map name.hall (cond t (Some h) (q k)) ≡ cond t (Some (name.hall h)) (option_map name.hall (q k))
       inner k true = refl
       inner k false = refl
 
-      outer : (o : Option ℕ) → name.candidate_index c ≡ o → option_and_then (λ k. option_map name.hall (seated name.of_indices q i h k)) (name.candidate_index c) ≡ cond (name.of_names.same_candidate (name.candidate i) c) (Some (name.hall h)) (after c)
-      outer None at = ap (option_and_then (λ k. option_map name.hall (seated name.of_indices q i h k))) at ∙ sym (ap (option_and_then (λ k. option_map name.hall (q k))) at) ∙ same c ∙ sym (ap (λ t. cond t (Some (name.hall h)) (after c)) (other-named i c m at))
+      outer : (o : Option ℕ) → name.candidate_index c ≡ o
+          → option_and_then (λ k. option_map name.hall (seated name.of_indices q i h k)) (name.candidate_index c)
+          ≡ cond (name.of_names.same_candidate (name.candidate i) c) (Some (name.hall h)) (after c)
+      outer None at = ap (option_and_then (λ k. option_map name.hall (seated name.of_indices q i h k))) at
+          ∙ sym (ap (option_and_then (λ k. option_map name.hall (q k))) at) ∙ same c
+          ∙ sym (ap (λ t. cond t (Some (name.hall h)) (after c)) (other-named i c m at))
       outer (Some k) at =
           ap (option_and_then (λ k. option_map name.hall (seated name.of_indices q i h k))) at
           ∙ inner k (name.of_indices.same_candidate i k)
@@ -74,14 +80,18 @@ module _ {C H : Type 0} (name : Naming C H) (r : Renames name) (f : Follows name
 
   augmented-known : (p before : Plan ℕ ℕ) (i : ℕ) (hops : List (ℕ × ℕ)) (last : ℕ) → Known p → Leads name.of_indices before i hops last → Known (augmented name.of_indices p i hops last)
   augmented-known p before i [] last known l = seated-known p i last known (r.known_hall i last l.0)
-  augmented-known p before i (hop ∷ hops) last known l = seated-known (augmented name.of_indices p hop.1 hops last) i hop.0 (augmented-known p before hop.1 hops last known l.3) (r.known_hall i hop.0 l.0)
+  augmented-known p before i (hop ∷ hops) last known l =
+      seated-known (augmented name.of_indices p hop.1 hops last) i hop.0
+      (augmented-known p before hop.1 hops last known l.3) (r.known_hall i hop.0 l.0)
 
   -- ---- turns
 
   same_plan-named : (p q : Plan ℕ ℕ) → SamePlan p q → SamePlan (by_name p) (by_name q)
   same_plan-named p q same c = λ t. option_and_then (λ i. option_map name.hall (same i t)) (name.candidate_index c)
 
-  TurnFrom-named : (p : Plan ℕ ℕ) → Known p → (i : ℕ) → Contains name.of_indices.members i → (o : Option ℕ) (after : Plan ℕ ℕ) → TurnFrom name.of_indices p i o after → TurnFrom name.of_names (by_name p) (name.candidate i) (option_map name.hall o) (by_name after)
+  TurnFrom-named : (p : Plan ℕ ℕ) → Known p → (i : ℕ) → Contains name.of_indices.members i
+      → (o : Option ℕ) (after : Plan ℕ ℕ) → TurnFrom name.of_indices p i o after
+      → TurnFrom name.of_names (by_name p) (name.candidate i) (option_map name.hall o) (by_name after)
   TurnFrom-named p known i m (Some h) after turn = same_plan-named after p turn
   TurnFrom-named p known i m None after (inl w) = inl (
     named_chain name w.0,
@@ -90,9 +100,11 @@ module _ {C H : Type 0} (name : Naming C H) (r : Renames name) (f : Follows name
   )
   TurnFrom-named p known i m None after (inr w) = inr (no_chain-named name r f p known i m w.0, same_plan-named after p w.1)
 
-  Turn-named : (p : Plan ℕ ℕ) → Known p → (i : ℕ) → Contains name.of_indices.members i → (after : Plan ℕ ℕ) → Turn name.of_indices p i after → Turn name.of_names (by_name p) (name.candidate i) (by_name after)
+  Turn-named : (p : Plan ℕ ℕ) → Known p → (i : ℕ) → Contains name.of_indices.members i → (after : Plan ℕ ℕ)
+      → Turn name.of_indices p i after → Turn name.of_names (by_name p) (name.candidate i) (by_name after)
   Turn-named p known i m after turn =
-      subst (λ (o : Option H). TurnFrom name.of_names (by_name p) (name.candidate i) o (by_name after)) (sym (named_member name r p (name.candidate i) i (r.known i m))) (TurnFrom-named p known i m (p i) after turn)
+      subst (λ (o : Option H). TurnFrom name.of_names (by_name p) (name.candidate i) o (by_name after))
+      (sym (named_member name r p (name.candidate i) i (r.known i m))) (TurnFrom-named p known i m (p i) after turn)
 
   known_as : (p q : Plan ℕ ℕ) → SamePlan q p → Known p → Known q
   known_as p q same known i = subst (λ (o : Option ℕ). IfSome o (λ j. name.hall_index (name.hall j) ≡ Some j)) (sym (same i)) (known i)
@@ -104,7 +116,8 @@ module _ {C H : Type 0} (name : Naming C H) (r : Renames name) (f : Follows name
 
   -- ---- sweeps
 
-  Sweeps-named : (cs : List ℕ) → AllByRecursion (Contains name.of_indices.members) cs → (p after : Plan ℕ ℕ) → Known p → Sweeps name.of_indices p cs after → Sweeps name.of_names (by_name p) (map name.candidate cs) (by_name after)
+  Sweeps-named : (cs : List ℕ) → AllByRecursion (Contains name.of_indices.members) cs → (p after : Plan ℕ ℕ) → Known p
+      → Sweeps name.of_indices p cs after → Sweeps name.of_names (by_name p) (map name.candidate cs) (by_name after)
   Sweeps-named [] all p after known same = same_plan-named after p same
   Sweeps-named (c ∷ cs) all p after known w = (by_name w.0, Turn-named p known c all.0 w.0 w.1, Sweeps-named cs all.1 w.0 after (turn_known p known c (p c) w.0 w.1) w.2)
 
@@ -115,27 +128,43 @@ module _ {C H : Type 0} (name : Naming C H) (r : Renames name) (f : Follows name
   order_members None = members_all
   order_members (Some i) =
       all_append (Contains name.of_indices.members) (filter (name.of_indices.same_candidate i) name.of_indices.members) (filter (λ d. not (name.of_indices.same_candidate i d)) name.of_indices.members)
-      (all_filter (Contains name.of_indices.members) (name.of_indices.same_candidate i) name.of_indices.members members_all) (all_filter (Contains name.of_indices.members) (λ d. not (name.of_indices.same_candidate i d)) name.of_indices.members members_all)
+      (all_filter (Contains name.of_indices.members)
+      (name.of_indices.same_candidate i) name.of_indices.members members_all)
+      (all_filter (Contains name.of_indices.members)
+      (λ d. not (name.of_indices.same_candidate i d)) name.of_indices.members members_all)
 
   -- the order of turns is the same by indices and by names
   order-named : (first : Option C) → sweep_order name.of_names first ≡ map name.candidate (sweep_order name.of_indices (option_and_then name.candidate_index first))
   order-named None = r.members
   order-named (Some c) = inner (name.candidate_index c) refl
     where
-      parts : (q : ℕ → Bool) → ((i : ℕ) → Contains name.of_indices.members i → name.of_names.same_candidate c (name.candidate i) ≡ q i) → sweep_order name.of_names (Some c) ≡ map name.candidate (filter q name.of_indices.members ++ filter (λ i. not (q i)) name.of_indices.members)
+      parts : (q : ℕ → Bool)
+          → ((i : ℕ) → Contains name.of_indices.members i → name.of_names.same_candidate c (name.candidate i) ≡ q i)
+          → sweep_order name.of_names (Some c)
+          ≡ map name.candidate (filter q name.of_indices.members ++ filter (λ i. not (q i)) name.of_indices.members)
       parts q same =
           ap (λ (ms : List C). filter (name.of_names.same_candidate c) ms ++ filter (λ d. not (name.of_names.same_candidate c d)) ms) r.members
-          ∙ ap (λ t. t ++ filter (λ d. not (name.of_names.same_candidate c d)) (map name.candidate name.of_indices.members)) (filter_same (name.of_names.same_candidate c) q name.candidate name.of_indices.members (of_members _ name.of_indices.members same))
-          ∙ ap (λ t. map name.candidate (filter q name.of_indices.members) ++ t) (filter_same (λ d. not (name.of_names.same_candidate c d)) (λ i. not (q i)) name.candidate name.of_indices.members (of_members _ name.of_indices.members (λ i m. ap not (same i m))))
+          ∙ ap (λ t. t ++ filter (λ d. not (name.of_names.same_candidate c d))
+          (map name.candidate name.of_indices.members))
+          (filter_same (name.of_names.same_candidate c) q name.candidate name.of_indices.members
+          (of_members _ name.of_indices.members same))
+          ∙ ap (λ t. map name.candidate (filter q name.of_indices.members) ++ t)
+          (filter_same (λ d. not (name.of_names.same_candidate c d))
+          (λ i. not (q i)) name.candidate name.of_indices.members
+          (of_members _ name.of_indices.members (λ i m. ap not (same i m))))
           ∙ sym (map-append name.candidate (filter q name.of_indices.members) (filter (λ i. not (q i)) name.of_indices.members))
 
       inner : (o : Option ℕ) → name.candidate_index c ≡ o → sweep_order name.of_names (Some c) ≡ map name.candidate (sweep_order name.of_indices o)
       inner None at =
           parts (λ (i : ℕ). false) (λ i m. false_from_ne_true _ (λ t. let e : None ≡ Some i = sym at ∙ ap name.candidate_index ((f.same_b c (name.candidate i)).0 t) ∙ r.known i m in cc))
-          ∙ ap (map name.candidate) (ap (λ t. t ++ filter (λ (i : ℕ). true) name.of_indices.members) (none_kept (λ (i : ℕ). false) name.of_indices.members (λ i. refl)) ∙ keeps_all name.of_indices.members)
+          ∙ ap (map name.candidate)
+          (ap (λ t. t ++ filter (λ (i : ℕ). true) name.of_indices.members)
+          (none_kept (λ (i : ℕ). false) name.of_indices.members (λ i. refl)) ∙ keeps_all name.of_indices.members)
       inner (Some k) at = parts (name.of_indices.same_candidate k) (λ i m. same-named c (name.candidate i) k i at (r.known i m))
 
-  pub IsSweep-named : (first : Option C) (p after : Plan ℕ ℕ) → Known p → IsSweep name.of_indices (option_and_then name.candidate_index first) p after → IsSweep name.of_names first (by_name p) (by_name after)
+  pub IsSweep-named : (first : Option C) (p after : Plan ℕ ℕ) → Known p
+      → IsSweep name.of_indices (option_and_then name.candidate_index first) p after
+      → IsSweep name.of_names first (by_name p) (by_name after)
   IsSweep-named first p after known swept =
       subst (λ (cs : List C). Sweeps name.of_names (by_name p) cs (by_name after)) (sym (order-named first))
       (Sweeps-named (sweep_order name.of_indices (option_and_then name.candidate_index first)) (order_members (option_and_then name.candidate_index first)) p after known swept)
@@ -143,7 +172,9 @@ module _ {C H : Type 0} (name : Naming C H) (r : Renames name) (f : Follows name
   -- ---- from names to indices
 
   -- the plan after a turn by names is one after that turn by indices
-  TurnFrom-indexed : (p : Plan ℕ ℕ) → Known p → (i : ℕ) → Contains name.of_indices.members i → (o : Option ℕ) (after : Plan C H) → TurnFrom name.of_names (by_name p) (name.candidate i) (option_map name.hall o) after
+  TurnFrom-indexed : (p : Plan ℕ ℕ) → Known p → (i : ℕ) → Contains name.of_indices.members i
+      → (o : Option ℕ) (after : Plan C H)
+      → TurnFrom name.of_names (by_name p) (name.candidate i) (option_map name.hall o) after
       → (then : Plan ℕ ℕ) × TurnFrom name.of_indices p i o then × SamePlan after (by_name then)
   TurnFrom-indexed p known i m (Some h) after turn = (p, λ c. refl, turn)
   TurnFrom-indexed p known i m None after (inl w) = inner (IsLeastChain-indexed name r f p known i w.0 m w.1)
@@ -157,7 +188,9 @@ module _ {C H : Type 0} (name : Naming C H) (r : Renames name) (f : Follows name
       )
   TurnFrom-indexed p known i m None after (inr w) = (p, inr (λ chain is. w.0 (named_chain name chain) (IsChain-named name r f p known i chain is), λ c. refl), w.1)
 
-  Turn-indexed : (p : Plan ℕ ℕ) → Known p → (i : ℕ) → Contains name.of_indices.members i → (after : Plan C H) → Turn name.of_names (by_name p) (name.candidate i) after → (then : Plan ℕ ℕ) × Turn name.of_indices p i then × SamePlan after (by_name then)
+  Turn-indexed : (p : Plan ℕ ℕ) → Known p → (i : ℕ) → Contains name.of_indices.members i → (after : Plan C H)
+      → Turn name.of_names (by_name p) (name.candidate i) after
+      → (then : Plan ℕ ℕ) × Turn name.of_indices p i then × SamePlan after (by_name then)
   Turn-indexed p known i m after turn =
       TurnFrom-indexed p known i m (p i) after (subst (λ (o : Option H). TurnFrom name.of_names (by_name p) (name.candidate i) o after) (named_member name r p (name.candidate i) i (r.known i m)) turn)
 

@@ -1,5 +1,7 @@
 -- A sweep so far, and at its end.
-use Rattle.std.proofs.Common.{◌≡◌, ℕ, zero, suc, ◌+◌, ◌<◌, ◌≤◌, Bool, true, false, not, cond, IsTrue, List, [], ◌∷◌, ◌++◌, length, get_or, Option, None, Some, IsSome, IfSome, is_some, nat_eq, refl, sym, ap, ◌∙◌, inl, inr, subst, arith, append-nil, append_assoc}
+use Rattle.std.proofs.Common.{◌≡◌, ℕ, zero, suc, ◌+◌, ◌<◌, ◌≤◌, Bool, true, false, not, cond, IsTrue, List, [], ◌∷◌}
+use Rattle.std.proofs.Common.{◌++◌, length, get_or, Option, None, Some, IsSome, IfSome, is_some, nat_eq, refl, sym, ap}
+use Rattle.std.proofs.Common.{◌∙◌, inl, inr, subst, arith, append-nil, append_assoc}
 use Rattle.std.specs.Prelude.{filter, Contains, ◌↔◌}
 use Rattle.std.specs.Option.{option_eq}
 use Rattle.std.specs.List.{range_with_len}
@@ -51,7 +53,8 @@ module _ (g : Seating ℕ ℕ) where
   Sweeps-push before [] mid c after same turn = (after, subst (λ (b : Plan ℕ ℕ). Turn g b c after) (λ i d. same d i) turn, λ d. refl)
   Sweeps-push before (x ∷ cs) mid c after s turn = (s.0, s.1, Sweeps-push s.0 cs mid c after s.2 turn)
 
-  pub SweepsDead-push : (before : Plan ℕ ℕ) (dead cs : List ℕ) (mid : Plan ℕ ℕ) (so_far : List ℕ) (c : ℕ) (after : Plan ℕ ℕ) (listed : List ℕ) → SweepsDead g before dead cs mid so_far → Turn g mid c after
+  pub SweepsDead-push : (before : Plan ℕ ℕ) (dead cs : List ℕ) (mid : Plan ℕ ℕ) (so_far : List ℕ) (c : ℕ)
+      (after : Plan ℕ ℕ) (listed : List ℕ) → SweepsDead g before dead cs mid so_far → Turn g mid c after
       → ListsDead g mid c so_far listed → SweepsDead g before dead (cs ++ c ∷ []) after listed
   SweepsDead-push before dead [] mid so_far c after listed s turn deaths = (
     after,
@@ -191,7 +194,9 @@ module _ (p : Problem) (good : IsProblem p) (first : Option ℕ) (before q : Pla
       order None s = s
       order (Some c) s = s
 
-pub listed_in_order : (p : Problem) (o : Option ℕ) (before after : Plan ℕ ℕ) (listed : List ℕ) (n : ℕ) → n ≡ length p.fit → SweepsDead (seating_of p) before [] (done p o n) after listed → IsDeadList (seating_of p) o before after listed
+pub listed_in_order : (p : Problem) (o : Option ℕ) (before after : Plan ℕ ℕ) (listed : List ℕ) (n : ℕ)
+    → n ≡ length p.fit → SweepsDead (seating_of p) before [] (done p o n) after listed
+    → IsDeadList (seating_of p) o before after listed
 listed_in_order p o before after listed n all s = order o (subst (λ (m : ℕ). SweepsDead (seating_of p) before [] (done p o m) after listed) all s)
   where
     order : (o : Option ℕ) → SweepsDead (seating_of p) before [] (done p o (length p.fit)) after listed → IsDeadList (seating_of p) o before after listed

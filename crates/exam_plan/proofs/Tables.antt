@@ -1,5 +1,7 @@
 -- The table of how many occupants of each hall each hall fits.
-use Rattle.std.proofs.Common.{◌≡◌, ◌≢◌, ℕ, zero, suc, ◌+◌, ◌<◌, ◌≤◌, ◌↔◌, Bool, true, false, not, ◌&&◌, ◌||◌, cond, IsTrue, List, length, get_or, set, Option, None, Some, nat_eq, refl, sym, ap, ◌∙◌, inl, inr, subst, arith}
+use Rattle.std.proofs.Common.{◌≡◌, ◌≢◌, ℕ, zero, suc, ◌+◌, ◌<◌, ◌≤◌, ◌↔◌, Bool, true, false, not, ◌&&◌, ◌||◌, cond}
+use Rattle.std.proofs.Common.{IsTrue, List, length, get_or, set, Option, None, Some, nat_eq, refl, sym, ap, ◌∙◌, inl}
+use Rattle.std.proofs.Common.{inr, subst, arith}
 use Rattle.std.specs.Option.{option_map_or}
 use Rattle.std.proofs.lemmas.Bool.{cases_eq, cases_lt, cases_Bool, and_parts, and_from, eq-eqb, ne_eqb, eqb-true, or_cases, or_left, or_right}
 use Rattle.std.proofs.lemmas.List.{get_or-set_same, get_or-set_other, get_or_past, length-set}
@@ -238,14 +240,21 @@ put_all before halls hall inside rest sets none w k h = w k h ∙ ap (λ t. cond
     at true false e = refl
     at false b e = refl
 
-pub put_more : (before : List ℕ) (halls hall : ℕ) (inside : Bool) (rest : ℕ) (sets : List ℕ) (i new less : ℕ) → ArePut before halls hall inside rest sets → i < length sets → holds halls i ≡ true → holds rest i ≡ true
-    → ((h : ℕ) → holds new h ≡ cond (nat_eq h hall) inside (holds (get_or sets i 0) h)) → ((h : ℕ) → holds less h ≡ cond (nat_eq h i) false (holds rest h)) → ArePut before halls hall inside less (set sets i new)
+pub put_more : (before : List ℕ) (halls hall : ℕ) (inside : Bool) (rest : ℕ) (sets : List ℕ) (i new less : ℕ)
+    → ArePut before halls hall inside rest sets → i < length sets → holds halls i ≡ true → holds rest i ≡ true
+    → ((h : ℕ) → holds new h ≡ cond (nat_eq h hall) inside (holds (get_or sets i 0) h))
+    → ((h : ℕ) → holds less h ≡ cond (nat_eq h i) false (holds rest h))
+    → ArePut before halls hall inside less (set sets i new)
 put_more before halls hall inside rest sets i new less w below among held put gone k h = elim (cases_eq k i) [
   | inl e ↦ (
       let at : get_or (set sets i new) k 0 ≡ new = ap (λ t. get_or (set sets i new) t 0) e ∙ get_or-set_same sets i new 0 below in
-      let was : holds (get_or sets i 0) h ≡ holds (get_or before k 0) h = w i h ∙ ap (λ t. cond (nat_eq h hall && (holds halls i && not t)) inside (holds (get_or before i 0) h)) held ∙ ap (λ t. cond t inside (holds (get_or before i 0) h)) (none (nat_eq h hall) (holds halls i))
+      let was : holds (get_or sets i 0) h ≡ holds (get_or before k 0) h =
+      w i h ∙ ap (λ t. cond (nat_eq h hall && (holds halls i && not t)) inside (holds (get_or before i 0) h)) held
+      ∙ ap (λ t. cond t inside (holds (get_or before i 0) h)) (none (nat_eq h hall) (holds halls i))
       ∙ ap (λ j. holds (get_or before j 0) h) (sym e) in
-      let now : nat_eq h hall && (holds halls k && not (holds less k)) ≡ nat_eq h hall = ap (λ j. nat_eq h hall && (holds halls j && not (holds less j))) e ∙ ap (λ t. nat_eq h hall && (t && not (holds less i))) among
+      let now : nat_eq h hall && (holds halls k && not (holds less k)) ≡ nat_eq h hall =
+      ap (λ j. nat_eq h hall && (holds halls j && not (holds less j))) e
+      ∙ ap (λ t. nat_eq h hall && (t && not (holds less i))) among
       ∙ ap (λ t. nat_eq h hall && not t) (one_gone rest i less gone) ∙ and-true (nat_eq h hall) in
       ap (λ s. holds s h) at ∙ put h ∙ ap (λ t. cond (nat_eq h hall) inside t) was ∙ sym (ap (λ t. cond t inside (holds (get_or before k 0) h)) now))
   | inr away ↦ (
@@ -309,7 +318,8 @@ module _ (p : Problem) (before after : Onward) (h : ℕ) (tally : Tally) (fittin
     inward = inward_long ∙ shaped.inward;
     turned = λ g k l. elim (cases_eq g h) [
       | inl e ↦ (let s = set_here before.sets.items after.sets.items h g fitting 0 sets_are (let t = shaped.sets in omega (arith, t, inside)) e in
-          inward_is k g ∙ ap (λ t. cond (t && holds changed k) inside_now (holds (get_or before.inward.items k 0) g)) (eq-eqb g h e) ∙ ap (λ t. cond (holds changed k) inside_now t) (shaped.turned g k l)
+          inward_is k g ∙ ap (λ t. cond (t && holds changed k) inside_now (holds (get_or before.inward.items k 0) g))
+          (eq-eqb g h e) ∙ ap (λ t. cond (holds changed k) inside_now t) (shaped.turned g k l)
           ∙ ap (λ j. cond (holds changed k) inside_now (holds (get_or before.sets.items j 0) k)) e ∙ changes k l ∙ ap (λ x. holds x k) (sym s))
       | inr away ↦ (let s = set_there before.sets.items after.sets.items h g fitting 0 sets_are away in
           inward_is k g ∙ ap (λ t. cond (t && holds changed k) inside_now (holds (get_or before.inward.items k 0) g)) (ne_eqb g h away) ∙ shaped.turned g k l ∙ ap (λ x. holds x k) (sym s))
@@ -384,7 +394,9 @@ changes_in before row gained after is union k = ap (λ t. cond t true (holds bef
     at false true = refl
     at false false = refl
 
-pub changes_out : (before row lost after : ℕ) (old new : ℕ → ℕ) → ((k : ℕ) → holds lost k ≡ holds row k && not (holds after k)) → ((k : ℕ) → IsMarked (holds before) k ↔ 0 < old k) → ((k : ℕ) → IsMarked (holds after) k ↔ 0 < new k)
+pub changes_out : (before row lost after : ℕ) (old new : ℕ → ℕ)
+    → ((k : ℕ) → holds lost k ≡ holds row k && not (holds after k)) → ((k : ℕ) → IsMarked (holds before) k ↔ 0 < old k)
+    → ((k : ℕ) → IsMarked (holds after) k ↔ 0 < new k)
     → ((k : ℕ) → new k + one_if (holds row k) ≡ old k) → (k : ℕ) → cond (holds lost k) false (holds before k) ≡ holds after k
 changes_out before row lost after old new is was now less k = ap (λ t. cond t false (holds before k)) (is k) ∙ at (holds row k) (holds after k) (holds before k) refl refl refl
   where

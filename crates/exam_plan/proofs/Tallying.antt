@@ -1,5 +1,6 @@
 -- Counting by binary digits, all halls of a set at once.
-use Rattle.std.proofs.Common.{◌≡◌, ℕ, zero, suc, ◌+◌, ◌-◌, ◌*◌, ◌^◌, ◌<◌, ◌≤◌, ◌↔◌, Bool, true, false, not, cond, ◌&&◌, ◌||◌, List, [], ◌∷◌, length, replicate, get_or, set, refl, sym, ap, ◌∙◌, inl, inr, arith}
+use Rattle.std.proofs.Common.{◌≡◌, ℕ, zero, suc, ◌+◌, ◌-◌, ◌*◌, ◌^◌, ◌<◌, ◌≤◌, ◌↔◌, Bool, true, false, not, cond, ◌&&◌}
+use Rattle.std.proofs.Common.{◌||◌, List, [], ◌∷◌, length, replicate, get_or, set, refl, sym, ap, ◌∙◌, inl, inr, arith}
 use Rattle.std.proofs.lemmas.Bool.{cases_lt, cases_Bool, or_cases, or_left, or_right, lt-ltb, le-ltb}
 use Rattle.std.proofs.Math.Bool.{and_comm}
 use Rattle.exam_plan.specs.HallSets.{holds}
@@ -56,15 +57,20 @@ module _ (before digits : List ℕ) (halls i digit set_by new : ℕ) (inside : i
   step : (h : ℕ) → tallied (set digits i new) h + worth i (holds digit h) ≡ tallied digits h + worth i ((holds digit h || holds set_by h) && not (holds digit h && holds set_by h))
   step h = ap (λ t. tallied (set digits i new) h + worth i (holds t h)) read ∙ tallied_set digits i new h inside ∙ ap (λ t. tallied digits h + worth i t) (written h)
 
-  pub counts_more : (both : ℕ) → ((h : ℕ) → holds both h ≡ holds set_by h && holds digit h) → (next : ℕ) → next ≡ suc i → IsCounting before halls digits i set_by → IsCounting before halls (set digits i new) next both
+  pub counts_more : (both : ℕ) → ((h : ℕ) → holds both h ≡ holds set_by h && holds digit h) → (next : ℕ) → next ≡ suc i
+      → IsCounting before halls digits i set_by → IsCounting before halls (set digits i new) next both
   counts_more both both_is next follows w h =
       let a = step h in
       let b = carries i (holds digit h) (holds set_by h) in
       let e = w h in
-      let f : worth next (holds both h) ≡ 2 * worth i (holds digit h && holds set_by h) = ap (λ n. worth n (holds both h)) follows ∙ ap (worth (suc i)) (both_is h ∙ and_comm (holds set_by h) (holds digit h)) in
+      let f : worth next (holds both h) ≡ 2 * worth i (holds digit h && holds set_by h) =
+      ap (λ n. worth n (holds both h)) follows
+      ∙ ap (worth (suc i)) (both_is h ∙ and_comm (holds set_by h) (holds digit h)) in
       omega (arith, a, b, e, f)
 
-  pub discounts_more : (less : ℕ) → ((h : ℕ) → holds less h ≡ holds set_by h && not (holds digit h)) → (next : ℕ) → next ≡ suc i → IsDiscounting before halls digits i set_by → IsDiscounting before halls (set digits i new) next less
+  pub discounts_more : (less : ℕ) → ((h : ℕ) → holds less h ≡ holds set_by h && not (holds digit h)) → (next : ℕ)
+      → next ≡ suc i → IsDiscounting before halls digits i set_by
+      → IsDiscounting before halls (set digits i new) next less
   discounts_more less less_is next follows w h =
       let a = step h in
       let b = borrows i (holds digit h) (holds set_by h) in
@@ -79,7 +85,8 @@ counting_done before digits halls i carry h none w =
     let f : worth i (holds carry h) ≡ 0 = ap (worth i) none ∙ worth_none i in
     omega (arith, e, f)
 
-pub discounting_done : (before digits : List ℕ) (halls i borrow h : ℕ) → holds borrow h ≡ false → IsDiscounting before halls digits i borrow → tallied digits h + one_if (holds halls h) ≡ tallied before h
+pub discounting_done : (before digits : List ℕ) (halls i borrow h : ℕ) → holds borrow h ≡ false
+    → IsDiscounting before halls digits i borrow → tallied digits h + one_if (holds halls h) ≡ tallied before h
 discounting_done before digits halls i borrow h none w =
     let e = w h in
     let f : worth i (holds borrow h) ≡ 0 = ap (worth i) none ∙ worth_none i in
@@ -109,7 +116,9 @@ carried_none before digits halls i carry h last few w = elim (cases_Bool (holds 
 ]
 
 -- nothing is borrowed beyond the last digit from what was counted
-pub borrowed_none : (before digits : List ℕ) (halls i borrow h : ℕ) → i ≡ 13 → length digits ≡ 13 → (holds halls h ≡ true → 0 < tallied before h) → IsDiscounting before halls digits i borrow → holds borrow h ≡ false
+pub borrowed_none : (before digits : List ℕ) (halls i borrow h : ℕ) → i ≡ 13 → length digits ≡ 13
+    → (holds halls h ≡ true → 0 < tallied before h) → IsDiscounting before halls digits i borrow
+    → holds borrow h ≡ false
 borrowed_none before digits halls i borrow h last whole some w = elim (cases_Bool (holds borrow h)) [
   | inl t ↦ absurd (
       let e = w h in
@@ -128,7 +137,8 @@ borrowed_none before digits halls i borrow h last whole some w = elim (cases_Boo
 abbrev pub IsCounted : List ℕ → ℕ → ℕ → Type 0
 IsCounted digits i counted = (h : ℕ) → (holds counted h ≡ true) ↔ ((j : ℕ) × (j < i) × (holds (get_or digits j 0) h ≡ true))
 
-pub counted_more : (digits : List ℕ) (i counted digit new : ℕ) → IsCounted digits i counted → digit ≡ get_or digits i 0 → ((h : ℕ) → holds new h ≡ holds counted h || holds digit h) → IsCounted digits (i + 1) new
+pub counted_more : (digits : List ℕ) (i counted digit new : ℕ) → IsCounted digits i counted → digit ≡ get_or digits i 0
+    → ((h : ℕ) → holds new h ≡ holds counted h || holds digit h) → IsCounted digits (i + 1) new
 counted_more digits i counted digit new w read is h = (
   (λ t. elim (or_cases (holds counted h) (holds digit h) (sym (is h) ∙ t)) [
     | inl a ↦ (let d = (w h).0 a in (d.0, (let b : d.0 < i = d.1 in omega arith), d.2))
@@ -136,7 +146,9 @@ counted_more digits i counted digit new w read is h = (
   ]),
   (λ d. is h ∙ elim (cases_lt d.0 i) [
     | inl b ↦ or_left (holds counted h) (holds digit h) ((w h).1 (d.0, b, d.2))
-    | inr g ↦ (let b : d.0 < i + 1 = d.1 in let e : d.0 ≡ i = omega arith in or_right (holds counted h) (holds digit h) (ap (λ s. holds s h) read ∙ ap (λ j. holds (get_or digits j 0) h) (sym e) ∙ d.2))
+    | inr g ↦ (let b : d.0 < i + 1 = d.1 in let e : d.0 ≡ i =
+        omega arith in or_right (holds counted h) (holds digit h)
+        (ap (λ s. holds s h) read ∙ ap (λ j. holds (get_or digits j 0) h) (sym e) ∙ d.2))
   ]),
 )
 
@@ -191,10 +203,14 @@ module _ (old new : Tally) (halls low high : ℕ) (within : low < 2 ^ 128) (is :
   ]
 
   pub tally_less : ((h : ℕ) → holds halls h ≡ true → 0 < tally_of old h) → ((h : ℕ) → (holds low h ≡ true → 0 < tallied old.low h) → tallied new.low h + one_if (holds low h) ≡ tallied old.low h)
-      → ((h : ℕ) → (holds high h ≡ true → 0 < tallied old.high h) → tallied new.high h + one_if (holds high h) ≡ tallied old.high h) → (h : ℕ) → tally_of new h + one_if (holds halls h) ≡ tally_of old h
+      → ((h : ℕ) → (holds high h ≡ true → 0 < tallied old.high h)
+      → tallied new.high h + one_if (holds high h) ≡ tallied old.high h) → (h : ℕ)
+      → tally_of new h + one_if (holds halls h) ≡ tally_of old h
   tally_less counted lows highs h = elim (cases_lt h 128) [
     | inl l ↦ (λ i. tally_low new h l i + one_if (halls_low h l i)) ∙ lows h (λ t. let c = counted h (halls_low h l ∙ t) in let e = tally_low old h l in omega (arith, c, e)) ∙ sym (tally_low old h l)
-    | inr g ↦ (λ i. tally_high new h g i + one_if (halls_high h g i)) ∙ highs (h - 128) (λ t. let c = counted h (halls_high h g ∙ t) in let e = tally_high old h g in omega (arith, c, e)) ∙ sym (tally_high old h g)
+    | inr g ↦ (λ i. tally_high new h g i + one_if (halls_high h g i))
+        ∙ highs (h - 128) (λ t. let c = counted h (halls_high h g ∙ t) in let e =
+        tally_high old h g in omega (arith, c, e)) ∙ sym (tally_high old h g)
   ]
 
 pub tally_counted : (tally : Tally) (low high : ℕ) → low < 2 ^ 128 → ((h : ℕ) → (holds low h ≡ true) ↔ 0 < tallied tally.low h) → ((h : ℕ) → (holds high h ≡ true) ↔ 0 < tallied tally.high h)

@@ -1,5 +1,7 @@
 -- What one turn of the sweep keeps.
-use Rattle.std.proofs.Common.{append-nil, ◌++◌, ◌≡◌, ◌⊎◌, ℕ, zero, suc, ◌+◌, ◌<◌, ◌≤◌, ◌||◌, ◌&&◌, not, Bool, true, false, cond, IsTrue, List, [], ◌∷◌, length, get_or, set, nat_eq, nat_lt, Option, None, Some, IsSome, is_some, refl, sym, ap, ◌∙◌, inl, inr, subst, arith}
+use Rattle.std.proofs.Common.{append-nil, ◌++◌, ◌≡◌, ◌⊎◌, ℕ, zero, suc, ◌+◌, ◌<◌, ◌≤◌, ◌||◌, ◌&&◌, not, Bool, true}
+use Rattle.std.proofs.Common.{false, cond, IsTrue, List, [], ◌∷◌, length, get_or, set, nat_eq, nat_lt, Option, None}
+use Rattle.std.proofs.Common.{Some, IsSome, is_some, refl, sym, ap, ◌∙◌, inl, inr, subst, arith}
 use Rattle.std.proofs.lemmas.Bool.{cases_eq, cases_lt, eq-eqb, ne_eqb, eqb-true, ltb-true, lt-ltb, or_cases, or_left, or_right, and_from, and_parts}
 use Rattle.std.proofs.lemmas.List.{get_or_past, get_or_default}
 use Rattle.std.proofs.lemmas.Option.{same_Some}
@@ -162,13 +164,15 @@ module _ (p : Problem) (q : Plan ℕ ℕ) (dead : ℕ → Bool) (closed : AreClo
       was_free = free;
     }
 
-  pub turned : IsLawful (seating_of p) q → (c : ℕ) → q c ≡ None → (n last : ℕ) (after : Plan ℕ ℕ) → IsAdvanced p q n c last after → ((i : ℕ) → i < n → CanReach p q i c → ⊥) → IsTurned p q dead c last after
+  pub turned : IsLawful (seating_of p) q → (c : ℕ) → q c ≡ None → (n last : ℕ) (after : Plan ℕ ℕ)
+      → IsAdvanced p q n c last after → ((i : ℕ) → i < n → CanReach p q i c → ⊥) → IsTurned p q dead c last after
   turned lawful c unseated n last after moved far =
       let same : augmented (seating_of p) q c moved.0 last ≡ after = λ i d. (sym (moved.2 d)) i in
       subst (λ (a : Plan ℕ ℕ). IsTurned p q dead c last a) same (augmented_turn lawful c unseated moved.0 last n moved.1 far)
 
 -- a turn along a chain adds no hall to the dead ones
-pub chain_deaths : (p : Problem) (q : Plan ℕ ℕ) (dead : ℕ → Bool) (c last : ℕ) (after : Plan ℕ ℕ) → IsTurned p q dead c last after → q c ≡ None → (listed : List ℕ) → ListsDead (seating_of p) q c listed listed
+pub chain_deaths : (p : Problem) (q : Plan ℕ ℕ) (dead : ℕ → Bool) (c last : ℕ) (after : Plan ℕ ℕ)
+    → IsTurned p q dead c last after → q c ≡ None → (listed : List ℕ) → ListsDead (seating_of p) q c listed listed
 chain_deaths p q dead c last after turned unseated listed = subst (λ (o : Option ℕ). ListsDeadFrom (seating_of p) q c o listed listed) (sym unseated) (inl (turned.chain, refl))
 
 -- ---- the halls with a free desk
@@ -176,7 +180,8 @@ chain_deaths p q dead c last after turned unseated listed = subst (λ (o : Optio
 pub count_is : (p : Problem) (r : Plan ℕ ℕ) (h : ℕ) → count_at r h (length p.fit) ≡ length (occupants (seating_of p) r h)
 count_is p r h = count_at-below r h (length p.fit) ∙ sym (length-occupants p r h)
 
-pub marks_with : (P : ℕ → Type 0) (set new i : ℕ) → MarksAll (holds set) (λ h. (h < i) × P h) → ((h : ℕ) → holds new h ≡ nat_eq h i || holds set h) → P i → MarksAll (holds new) (λ h. (h < i + 1) × P h)
+pub marks_with : (P : ℕ → Type 0) (set new i : ℕ) → MarksAll (holds set) (λ h. (h < i) × P h)
+    → ((h : ℕ) → holds new h ≡ nat_eq h i || holds set h) → P i → MarksAll (holds new) (λ h. (h < i + 1) × P h)
 marks_with P set new i marks is here h = (
   (λ t. elim (or_cases (nat_eq h i) (holds set h) (sym (is h) ∙ t)) [
     | inl e ↦ (let s : h ≡ i = eqb-true h i e in (omega arith, subst P (sym s) here))
@@ -197,13 +202,17 @@ marks_skip P set i marks away h = (
 pub marks_none : (P : ℕ → Type 0) (set : ℕ) → ((h : ℕ) → holds set h ≡ false) → MarksAll (holds set) (λ h. (h < 0) × P h)
 marks_none P set none h = ((λ t. absurd (let z : false ≡ true = sym (none h) ∙ t in cc)), (λ w. absurd (let l : h < 0 = w.0 in omega arith)))
 
-pub marks_free : (p : Problem) (q : Plan ℕ ℕ) (set n : ℕ) → length p.desk_counts ≤ n → MarksAll (holds set) (λ h. (h < n) × HasFreeDesk (seating_of p) q h) → MarksAll (holds set) (HasFreeDesk (seating_of p) q)
+pub marks_free : (p : Problem) (q : Plan ℕ ℕ) (set n : ℕ) → length p.desk_counts ≤ n
+    → MarksAll (holds set) (λ h. (h < n) × HasFreeDesk (seating_of p) q h)
+    → MarksAll (holds set) (HasFreeDesk (seating_of p) q)
 marks_free p q set n all marks h = (
   (λ t. ((marks h).0 t).1),
   (λ f. (marks h).1 (
     (elim (cases_lt h n) [
       | inl l ↦ l
-      | inr g ↦ absurd (let z : get_or p.desk_counts h 0 ≡ 0 = get_or_past p.desk_counts h 0 (omega arith) in let l : length (occupants (seating_of p) q h) < get_or p.desk_counts h 0 = f in omega (arith, z, l))
+      | inr g ↦ absurd (let z : get_or p.desk_counts h 0 ≡ 0 =
+          get_or_past p.desk_counts h 0 (omega arith) in
+          let l : length (occupants (seating_of p) q h) < get_or p.desk_counts h 0 = f in omega (arith, z, l))
     ]),
     f,
   )),
@@ -219,7 +228,9 @@ none_closed p q set none = record {
 -- ---- the desks after a chain to the last hall
 
 module _ (p : Problem) (q after : Plan ℕ ℕ) (last : ℕ) (occupied : (h : ℕ) → length (occupants (seating_of p) after h) ≡ length (occupants (seating_of p) q h) + bit (nat_eq h last)) where
-  pub counts_after : (counts : List ℕ) (x : ℕ) → length counts ≡ length p.desk_counts → last < length p.desk_counts → ((h : ℕ) → h < length p.desk_counts → get_or counts h 0 ≡ count_at q h (length p.fit)) → x ≡ get_or counts last x
+  pub counts_after : (counts : List ℕ) (x : ℕ) → length counts ≡ length p.desk_counts → last < length p.desk_counts
+      → ((h : ℕ) → h < length p.desk_counts → get_or counts h 0 ≡ count_at q h (length p.fit))
+      → x ≡ get_or counts last x
       → (h : ℕ) → h < length p.desk_counts → get_or (set counts last (x + 1)) h 0 ≡ count_at after h (length p.fit)
   counts_after counts x long inside counted read h below =
       one_counted (length p.desk_counts) last x counts (λ g. count_at q g (length p.fit)) (λ g. count_at after g (length p.fit)) (omega arith) counted
@@ -233,7 +244,8 @@ module _ (p : Problem) (q after : Plan ℕ ℕ) (last : ℕ) (occupied : (h : �
       )
 
   -- the last hall is taken out where it is full now
-  pub free_after : (free rest n d : ℕ) → MarksAll (holds free) (HasFreeDesk (seating_of p) q) → HasFreeDesk (seating_of p) q last → n ≡ count_at after last (length p.fit) → d ≡ get_or p.desk_counts last 0
+  pub free_after : (free rest n d : ℕ) → MarksAll (holds free) (HasFreeDesk (seating_of p) q)
+      → HasFreeDesk (seating_of p) q last → n ≡ count_at after last (length p.fit) → d ≡ get_or p.desk_counts last 0
       → ((h : ℕ) → holds rest h ≡ holds free h && not (nat_eq h last && not (nat_lt n d))) → MarksAll (holds rest) (HasFreeDesk (seating_of p) after)
   free_after free rest n d marks was counted desks is h = elim (cases_eq h last) [
     | inl e ↦ (
@@ -244,7 +256,9 @@ module _ (p : Problem) (q after : Plan ℕ ℕ) (last : ℕ) (occupied : (h : �
               let f : length (occupants (seating_of p) after last) < get_or p.desk_counts last 0 = omega (arith, b, l, counted, desks) in
               subst (λ (z : ℕ). HasFreeDesk (seating_of p) after z) (sym e) f),
           (λ f. let l : length (occupants (seating_of p) after last) < get_or p.desk_counts last 0 = subst (λ (z : ℕ). HasFreeDesk (seating_of p) after z) e f in
-              same ∙ and_from (holds free h) (not (not (nat_lt n d))) (subst (λ (z : ℕ). IsMarked (holds free) z) (sym e) ((marks last).1 was)) (ap (λ t. not (not t)) (lt-ltb n d (omega (arith, b, l, counted, desks))))),
+              same ∙ and_from (holds free h) (not (not (nat_lt n d)))
+              (subst (λ (z : ℕ). IsMarked (holds free) z) (sym e) ((marks last).1 was))
+              (ap (λ t. not (not t)) (lt-ltb n d (omega (arith, b, l, counted, desks))))),
         ))
     | inr away ↦ (
         let same : holds rest h ≡ holds free h && true = is h ∙ ap (λ t. holds free h && not (t && not (nat_lt n d))) (ne_eqb h last away) in (
@@ -289,7 +303,9 @@ module _ (p : Problem) (q : Plan ℕ ℕ) (c : ℕ) (unseated : q c ≡ None) (d
   ]
 
   -- a failed search appends the halls of its set
-  pub both_deaths : (n : ℕ) → ((h : ℕ) → IsMarked (holds led) h → h < n) → ((h : ℕ) → IsMarked (holds led) h → IsMarked (holds dead) h → ⊥) → (listed after : List ℕ) → ((h : ℕ) → Contains listed h ↔ IsMarked (holds dead) h)
+  pub both_deaths : (n : ℕ) → ((h : ℕ) → IsMarked (holds led) h → h < n)
+      → ((h : ℕ) → IsMarked (holds led) h → IsMarked (holds dead) h → ⊥) → (listed after : List ℕ)
+      → ((h : ℕ) → Contains listed h ↔ IsMarked (holds dead) h)
       → after ≡ listed ++ halls_below n led → ListsDead (seating_of p) q c listed after
   both_deaths n within apart listed after are grown =
       subst (λ (o : Option ℕ). ListsDeadFrom (seating_of p) q c o listed after) (sym unseated)

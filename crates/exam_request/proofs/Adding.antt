@@ -16,12 +16,16 @@ refused p rows InvalidParamSegment free h = absurd h
 refused p rows InvalidParam free h = absurd h
 refused p rows InvalidCatchAll free h = absurd h
 
-pub fails_for_memory : (x : Result Scan InsertError) (route : Route) (old new : RowsOf (RouteOf Route)) (r : Result (Unit {0}) InsertError) → FreePattern x old → InsertsRead x route old new r → IfErr r (λ e. e ≡ OutOfMemory)
+pub fails_for_memory : (x : Result Scan InsertError) (route : Route) (old new : RowsOf (RouteOf Route))
+    (r : Result (Unit {0}) InsertError) → FreePattern x old → InsertsRead x route old new r
+    → IfErr r (λ e. e ≡ OutOfMemory)
 fails_for_memory (Ok s) route old new (Ok u) free h = tt
 fails_for_memory (Ok s) route old new (Err e) free h = refused s.pattern old e free h.1
 fails_for_memory (Err x) route old new r free h = absurd free
 
-pub adds : (x : Result Scan InsertError) (route : Route) (old new : RowsOf (RouteOf Route)) (r : Result (Unit {0}) InsertError) → FreePattern x old → InsertsRead x route old new r → OnOk r (new ≡ with_read x route old)
+pub adds : (x : Result Scan InsertError) (route : Route) (old new : RowsOf (RouteOf Route))
+    (r : Result (Unit {0}) InsertError) → FreePattern x old → InsertsRead x route old new r
+    → OnOk r (new ≡ with_read x route old)
 adds (Ok s) route old new (Ok u) free h = h.1
 adds (Ok s) route old new (Err e) free h = tt
 adds (Err x) route old new r free h = absurd free

@@ -42,7 +42,9 @@ number_read n rest h =
 reference_read : (n r : List ℕ) → IsPart r → at_reference n r ≡ Some (record { route = Appeal; number = n; reference = r })
 reference_read n r h = rw (not_empty r h.0, h.1) refl
 
-text_read : (route : Route) (n r : List ℕ) → IsPart n → IsReferenceOf route r → reading (codes "/candidates/" ++ n ++ behind_number route r) ≡ Some (record { route = route; number = n; reference = r })
+text_read : (route : Route) (n r : List ℕ) → IsPart n → IsReferenceOf route r
+    → reading (codes "/candidates/" ++ n ++ behind_number route r)
+    ≡ Some (record { route = route; number = n; reference = r })
 text_read Seats n r h e = number_read n (codes "seats") h ∙ rw e refl
 text_read Clashes n r h e = number_read n (codes "clashes") h ∙ rw e refl
 text_read Appeals n r h e = number_read n (codes "appeals") h ∙ rw e refl

@@ -1,5 +1,7 @@
 -- What the walk finds in the routes of the server, with keys of any type.
-use Rattle.std.proofs.Common.{◌≡◌, ◌≢◌, inl, inr, ℕ, suc, ◌-◌, ◌<◌, List, [], ◌∷◌, ◌++◌, length, drop, Option, Some, None, Bool, true, false, cond, refl, sym, ap, ◌∙◌, arith, ◌==◌, ◌&&◌, ◌||◌, true≢false, length-append, codes, option_map, subst, ltb}
+use Rattle.std.proofs.Common.{◌≡◌, ◌≢◌, inl, inr, ℕ, suc, ◌-◌, ◌<◌, List, [], ◌∷◌, ◌++◌, length, drop, Option, Some}
+use Rattle.std.proofs.Common.{None, Bool, true, false, cond, refl, sym, ap, ◌∙◌, arith, ◌==◌, ◌&&◌, ◌||◌, true≢false}
+use Rattle.std.proofs.Common.{length-append, codes, option_map, subst, ltb}
 use Rattle.std.specs.Prelude.{option_and_then}
 use Rattle.std.specs.Str.{bytes_eq}
 use Rattle.std.specs.Cmp.Lexicographic.{bytes_decides}
@@ -146,7 +148,9 @@ module _ {K : Type 0} where
       by : Cut (y ∷ p) → (q : List ℕ) → part (y ∷ p) ≡ q
           → seek ((param_step (led_by (47 ∷ []) ((t, k) ∷ u)) (y ∷ p)).0 - 1) (param_step (led_by (47 ∷ []) ((t, k) ∷ u)) (y ∷ p)).1 p
           ≡ cond (is_empty q) None (option_and_then (first ((t, k) ∷ u)) (behind (y ∷ p)))
-      by (inl w) q e = param_whole ((t, k) ∷ u) y p w ∙ own-led_by 47 [] ((t, k) ∷ u) ∙ sym (ap (λ b. cond (is_empty q) None (option_and_then (first ((t, k) ∷ u)) b)) w.behind_is ∙ none_twice (is_empty q))
+      by (inl w) q e = param_whole ((t, k) ∷ u) y p w ∙ own-led_by 47 [] ((t, k) ∷ u)
+          ∙ sym (ap (λ b. cond (is_empty q) None (option_and_then (first ((t, k) ∷ u)) b)) w.behind_is
+          ∙ none_twice (is_empty q))
       by (inr (rest, w)) [] e = param_empty ((t, k) ∷ u) y p rest w e
       by (inr (rest, w)) (x ∷ q) e = param_part t k u y p rest x q w e ∙ sym (ap (option_and_then (first ((t, k) ∷ u))) w.behind_is)
 
@@ -233,9 +237,13 @@ module _ {K : Type 0} where
           let clashes = exactly 99 (codes "lashes") text (key Clashes) (text-of (codes "clashes") refl) ∙ ap (λ v. cond v (Some (key Clashes)) None) c in
           let seats = exactly 115 (codes "eats") text (key Seats) (text-of (codes "seats") refl) ∙ ap (λ v. cond v (Some (key Seats)) None) s in
           let appeals = beginning (codes "appeals") (behind_appeals key) text (text-of (codes "appeals") refl) in
-          let others : first ((codes "clashes", key Clashes) ∷ (codes "seats", key Seats) ∷ []) text ≡ None = two ∙ ap (λ q. or_else q (first ((codes "seats", key Seats) ∷ []) text)) clashes ∙ seats in
+          let others : first ((codes "clashes", key Clashes) ∷ (codes "seats", key Seats) ∷ []) text ≡ None =
+          two ∙ ap (λ q. or_else q (first ((codes "seats", key Seats) ∷ []) text)) clashes ∙ seats in
           let left = after_appeals key n (rest_after (codes "appeals") text) (λ rest e. text_rest (codes "appeals") text rest h e) (λ e. true≢false (sym (ended (codes "appeals") text e) ∙ a)) in
-          one ∙ ap (or_else (first (led_by (codes "appeals") (behind_appeals key)) text)) others ∙ or_else-none (first (led_by (codes "appeals") (behind_appeals key)) text) ∙ appeals ∙ left ∙ ap (λ r. keyed key (option_and_then (at_reference n) r)) (sym (rest_after-append (codes "appeals") (47 ∷ []) text))
+          one ∙ ap (or_else (first (led_by (codes "appeals") (behind_appeals key)) text)) others
+          ∙ or_else-none (first (led_by (codes "appeals") (behind_appeals key)) text) ∙ appeals ∙ left
+          ∙ ap (λ r. keyed key (option_and_then (at_reference n) r))
+          (sym (rest_after-append (codes "appeals") (47 ∷ []) text))
 
   -- what the walk finds is the reading
   pub walk_reads : (key : Route → K) (target : List ℕ) → IsText target → first (all_routes key) target ≡ keyed key (reading target)

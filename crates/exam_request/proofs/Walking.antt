@@ -108,7 +108,9 @@ module _ {K : Type 0} where
       let n2 : x ≢ catch_all_token = λ e. omega arith in
       let both = by_byte (led_by (x ∷ w) t ++ others) y p (step-append param_token (led_by (x ∷ w) t) others ∙ rw (step-miss param_token x w t n1) b)
       (step-append catch_all_token (led_by (x ∷ w) t) others ∙ rw (step-miss catch_all_token x w t n2) c) in
-      both ∙ ap (λ r. seek 0 r p) (step-append y (led_by (x ∷ w) t) others) ∙ by (y == x) refl ∙ sym (ap (λ q. or_else q (first others (y ∷ p))) (by_byte-led x w t y p h) ∙ ap (or_else (seek 0 (step y (led_by (x ∷ w) t)) p)) (by_byte others y p b c))
+      both ∙ ap (λ r. seek 0 r p) (step-append y (led_by (x ∷ w) t) others) ∙ by (y == x) refl
+      ∙ sym (ap (λ q. or_else q (first others (y ∷ p))) (by_byte-led x w t y p h)
+      ∙ ap (or_else (seek 0 (step y (led_by (x ∷ w) t)) p)) (by_byte others y p b c))
     where
       by : (v : Bool) → (y == x) ≡ v → seek 0 (step y (led_by (x ∷ w) t) ++ step y others) p ≡ or_else (seek 0 (step y (led_by (x ∷ w) t)) p) (seek 0 (step y others) p)
       by true e =

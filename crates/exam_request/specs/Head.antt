@@ -1,5 +1,7 @@
 -- What the head of a request says.
-use Rattle.std.specs.Prelude.{◌≡◌, ◌≢◌, ◌+◌, ◌≤◌, ◌⊎◌, ◌==◌, ◌&&◌, ℕ, List, [], ◌∷◌, length, map, slice_index, Bool, true, false, IfSome, Option, Some, None, option_map, Result, Ok, Err, nat_le, nat_lt, codes, if◌then◌else◌, IsUtf8}
+use Rattle.std.specs.Prelude.{◌≡◌, ◌≢◌, ◌+◌, ◌≤◌, ◌⊎◌, ◌==◌, ◌&&◌, ℕ, List, [], ◌∷◌, length, map, slice_index, Bool}
+use Rattle.std.specs.Prelude.{true, false, IfSome, Option, Some, None, option_map, Result, Ok, Err, nat_le, nat_lt}
+use Rattle.std.specs.Prelude.{codes, if◌then◌else◌, IsUtf8}
 use Rattle.std.specs.Char.{to_ascii_lowercase}
 use Rattle.std.specs.List.{list_all}
 use Rattle.std.specs.Str.{bytes_eq}

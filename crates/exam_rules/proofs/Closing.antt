@@ -44,7 +44,10 @@ module _ (s h : Code) where
   -- greater codes all stay
   all_stay : (xs : List Code) → AllByRecursion (λ k. code_cmp h k ≡ Less) xs → without_hall h xs ≡ xs
   all_stay [] up = refl
-  all_stay (k ∷ xs) up = ap (λ b. cond (not b) (k ∷ without_hall h xs) (without_hall h xs)) (later_is_other same_code same_code_exact code_cmp nat_list_cmp_total h k up.0) ∙ ap (λ ys. k ∷ ys) (all_stay xs up.1)
+  all_stay (k ∷ xs) up =
+      ap (λ b. cond (not b) (k ∷ without_hall h xs) (without_hall h xs))
+      (later_is_other same_code same_code_exact code_cmp nat_list_cmp_total h k up.0)
+      ∙ ap (λ ys. k ∷ ys) (all_stay xs up.1)
 
   key_of : (e : (Code × Code) × Opening) → is_at (opening_cmp (s, h)) e.0 ≡ true → (s, h) ≡ e.0
   key_of e at = openings_exact (s, h) e.0 ((Equal-is (opening_cmp (s, h) e.0)).0 at)
@@ -62,8 +65,13 @@ module _ (s h : Code) where
 
       gone : (s, h) ≡ e.0 → halls_in s es ≡ without_hall h (halls_in s (e ∷ es))
       gone same =
-          let rising : IsStrictlySortedBy code_cmp (e.0.1 ∷ halls_in s es) = subst (λ b. IsStrictlySortedBy code_cmp (codes_of (cond b (e ∷ filter (λ o. same_code o.0.0 s) es) (filter (λ o. same_code o.0.0 s) es)))) (own_of same) (halls_rise s (e ∷ es) up) in
-          let above : AllByRecursion (λ k. code_cmp h k ≡ Less) (halls_in s es) = subst (λ (k : Code × Code). AllByRecursion (λ q. code_cmp k.1 q ≡ Less) (halls_in s es)) (sym same) (sorted_head code_cmp e.0.1 (halls_in s es) rising) in
+          let rising : IsStrictlySortedBy code_cmp (e.0.1 ∷ halls_in s es) =
+          subst (λ b. IsStrictlySortedBy code_cmp
+          (codes_of (cond b (e ∷ filter (λ o. same_code o.0.0 s) es) (filter (λ o. same_code o.0.0 s) es))))
+          (own_of same) (halls_rise s (e ∷ es) up) in
+          let above : AllByRecursion (λ k. code_cmp h k ≡ Less) (halls_in s es) =
+          subst (λ (k : Code × Code). AllByRecursion (λ q. code_cmp k.1 q ≡ Less) (halls_in s es)) (sym same)
+          (sorted_head code_cmp e.0.1 (halls_in s es) rising) in
           sym
           (ap (λ b. without_hall h (codes_of (cond b (e ∷ filter (λ o. same_code o.0.0 s) es) (filter (λ o. same_code o.0.0 s) es)))) (own_of same)
           ∙ ap (λ b. cond (not b) (e.0.1 ∷ without_hall h (halls_in s es)) (without_hall h (halls_in s es))) (ap (λ (k : Code × Code). same_code k.1 h) (sym same) ∙ same_code_itself h)
@@ -76,7 +84,9 @@ module _ (s h : Code) where
       other_hall other own false same = refl
 
       stays : is_at (opening_cmp (s, h)) e.0 ≡ false → halls_in s left ≡ without_hall h (halls_in s es) → (b : Bool) → same_code e.0.0 s ≡ b
-          → codes_of (cond b (e ∷ filter (λ o. same_code o.0.0 s) left) (filter (λ o. same_code o.0.0 s) left)) ≡ without_hall h (codes_of (cond b (e ∷ filter (λ o. same_code o.0.0 s) es) (filter (λ o. same_code o.0.0 s) es)))
+          → codes_of (cond b (e ∷ filter (λ o. same_code o.0.0 s) left) (filter (λ o. same_code o.0.0 s) left))
+          ≡ without_hall h (codes_of
+          (cond b (e ∷ filter (λ o. same_code o.0.0 s) es) (filter (λ o. same_code o.0.0 s) es)))
       stays other rest true own =
           ap (λ xs. e.0.1 ∷ xs) rest
           ∙ sym (ap (λ b. cond (not b) (e.0.1 ∷ without_hall h (halls_in s es)) (without_hall h (halls_in s es))) (other_hall other own (same_code e.0.1 h) refl))
@@ -93,7 +103,9 @@ module _ (s h : Code) where
       left : Rows
       left = remove_row opening_cmp es (s, h)
 
-      stays : halls_in t left ≡ halls_in t es → (b : Bool) → codes_of (cond b (e ∷ filter (λ o. same_code o.0.0 t) left) (filter (λ o. same_code o.0.0 t) left)) ≡ codes_of (cond b (e ∷ filter (λ o. same_code o.0.0 t) es) (filter (λ o. same_code o.0.0 t) es))
+      stays : halls_in t left ≡ halls_in t es → (b : Bool)
+          → codes_of (cond b (e ∷ filter (λ o. same_code o.0.0 t) left) (filter (λ o. same_code o.0.0 t) left))
+          ≡ codes_of (cond b (e ∷ filter (λ o. same_code o.0.0 t) es) (filter (λ o. same_code o.0.0 t) es))
       stays rest true = ap (λ xs. e.0.1 ∷ xs) rest
       stays rest false = rest
 
@@ -126,7 +138,9 @@ module _ (s h : Code) where
 
 -- ---- all halls
 
-pub halls_anew : (r t : Relations) (old new : SessionLists) → AreListsOf r old → t ≡ record r { openings = t.openings } → ((s : Code) → listed new.halls.entries s ≡ open_halls t s) → ((s : Code) → IsStrictlySortedBy code_cmp (open_halls t s)) → new.members ≡ old.members → AreListsOf t new
+pub halls_anew : (r t : Relations) (old new : SessionLists) → AreListsOf r old → t ≡ record r { openings = t.openings }
+    → ((s : Code) → listed new.halls.entries s ≡ open_halls t s)
+    → ((s : Code) → IsStrictlySortedBy code_cmp (open_halls t s)) → new.members ≡ old.members → AreListsOf t new
 halls_anew r t old new are only halls up members = record {
   numbers = entrants_are_members t;
   members = λ s. ap (λ (rows : BTreeMap Code (Vec Entrant Global)). listed rows.entries s) members ∙ are.members s ∙ sym (ap (λ (u : Relations). entrants u s) only);

@@ -1,6 +1,8 @@
 -- What an entry that is made live changes in the lists: its candidate is in the list of its session, with the lesser
 -- paper.
-use Rattle.std.proofs.Common.{◌≡◌, ℕ, zero, suc, ◌<◌, ◌≤◌, ◌&&◌, Bool, true, false, cond, List, [], ◌∷◌, length, filter, map, get_or, set, nat_eq, nat_lt, Option, None, Some, is_some, eq-eqb, refl, ap, sym, subst, ◌∙◌, arith}
+use Rattle.std.proofs.Common.{◌≡◌, ℕ, zero, suc, ◌<◌, ◌≤◌, ◌&&◌, Bool, true, false, cond, List, [], ◌∷◌, length, filter}
+use Rattle.std.proofs.Common.{map, get_or, set, nat_eq, nat_lt, Option, None, Some, is_some, eq-eqb, refl, ap, sym}
+use Rattle.std.proofs.Common.{subst, ◌∙◌, arith}
 use Rattle.std.specs.Option.{option_map, option_map_or}
 use Rattle.std.specs.List.{AllByRecursion, cons_option, insert}
 use Rattle.std.specs.List.Sorted.{IsNonDecreasingBy, IsPartitionPoint, IsStrictlySortedBy}
@@ -120,12 +122,18 @@ module _ (f g : ℕ → Option Code) (n : ℕ) (p : Code) (same : (d : ℕ) → 
       inner (Some q) rest =
           ap (λ o. match_ordering o (entrant n p ∷ entrant d q ∷ listed_with f cs) (entrant n (lesser_paper p q) ∷ listed_with f cs) (entrant d q ∷ entered n p (listed_with f cs))) up.0
 
-  entered_here : (cs : List ℕ) → AllByRecursion (λ d. nat_cmp n d ≡ Less) cs → (o : Option Code) → entrant n (lowered p o) ∷ listed_with f cs ≡ entered n p (cons_option (option_map (entrant n) o) (listed_with f cs))
+  entered_here : (cs : List ℕ) → AllByRecursion (λ d. nat_cmp n d ≡ Less) cs → (o : Option Code)
+      → entrant n (lowered p o)
+      ∷ listed_with f cs ≡ entered n p (cons_option (option_map (entrant n) o) (listed_with f cs))
   entered_here cs up None = sym (entered_first cs up)
   entered_here cs up (Some q) =
-      sym (ap (λ o. match_ordering o (entrant n p ∷ entrant n q ∷ listed_with f cs) (entrant n (lesser_paper p q) ∷ listed_with f cs) (entrant n q ∷ entered n p (listed_with f cs))) (tied_itself nat_cmp_total n))
+      sym (ap (λ o. match_ordering o (entrant n p ∷ entrant n q ∷ listed_with f cs)
+      (entrant n (lesser_paper p q) ∷ listed_with f cs) (entrant n q ∷ entered n p (listed_with f cs)))
+      (tied_itself nat_cmp_total n))
 
-  entered_behind : (d : ℕ) → nat_cmp n d ≡ Greater → (es : List Entrant) (o : Option Code) → cons_option (option_map (entrant d) o) (entered n p es) ≡ entered n p (cons_option (option_map (entrant d) o) es)
+  entered_behind : (d : ℕ) → nat_cmp n d ≡ Greater → (es : List Entrant) (o : Option Code)
+      → cons_option (option_map (entrant d) o) (entered n p es)
+      ≡ entered n p (cons_option (option_map (entrant d) o) es)
   entered_behind d is es None = refl
   entered_behind d is es (Some q) = sym (ap (λ o. match_ordering o (entrant n p ∷ entrant d q ∷ es) (entrant n (lesser_paper p q) ∷ es) (entrant d q ∷ entered n p es)) is)
 
@@ -187,7 +195,9 @@ module _ (before after : Relations) (s : Code) (c : ℕ) (p : Code) (made : Make
   pub entered_list : AreInOrder before → entrants after s ≡ entered c p (entrants before s)
   entered_list up =
       ap (λ (rows : List (ℕ × Candidate)). listed_with (least_live_paper after s) (keys_of rows)) made.candidates
-      ∙ entered_lists (least_live_paper before s) (least_live_paper after s) c p (λ d other. least_of_other before after s c sets s d other) (least_lowered up.entries) before.candidates up.candidates made.candidate
+      ∙ entered_lists (least_live_paper before s) (least_live_paper after s) c p
+      (λ d other. least_of_other before after s c sets s d other)
+      (least_lowered up.entries) before.candidates up.candidates made.candidate
 
   -- entered in the list of the session
   pub entered_all : (old new : SessionLists) (list : List Entrant) → AreInOrder before → AreListsOf before old → list ≡ entered c p (listed old.members.entries s)
@@ -219,7 +229,9 @@ module _ (n : ℕ) (p : Code) where
   later_place : (e : Entrant) (es : List Entrant) (i : ℕ) → IsPlace (e ∷ es) (suc i) → IsPlace es i
   later_place e es i place = (λ k d low below. place.0 (suc k) d (omega arith) (omega arith), λ k d low inside. place.1 (suc k) d (omega arith) (omega arith))
 
-  by_cmp : (e : Entrant) (es : List Entrant) (o : Ordering) → nat_cmp n e.number ≡ o → entered n p (e ∷ es) ≡ match_ordering o (entrant n p ∷ e ∷ es) (entrant n (lesser_paper p e.paper) ∷ es) (e ∷ entered n p es)
+  by_cmp : (e : Entrant) (es : List Entrant) (o : Ordering) → nat_cmp n e.number ≡ o
+      → entered n p (e ∷ es)
+      ≡ match_ordering o (entrant n p ∷ e ∷ es) (entrant n (lesser_paper p e.paper) ∷ es) (e ∷ entered n p es)
   by_cmp e es o is = ap (λ o. match_ordering o (entrant n p ∷ e ∷ es) (entrant n (lesser_paper p e.paper) ∷ es) (e ∷ entered n p es)) is
 
   -- nobody at the place has the number
@@ -232,7 +244,9 @@ module _ (n : ℕ) (p : Code) where
       ∙ ap (λ ys. e ∷ ys) (entered_new es i (later_place e es i place) (omega arith) (λ d inside. other d (omega arith)))
 
   -- the candidate is there
-  entered_again : (xs : List Entrant) (i : ℕ) (d : Entrant) → IsPlace xs i → i < length xs → nat_eq (get_or xs i d).number n ≡ true → entered n p xs ≡ set xs i (entrant n (lesser_paper p (get_or xs i d).paper))
+  entered_again : (xs : List Entrant) (i : ℕ) (d : Entrant) → IsPlace xs i → i < length xs
+      → nat_eq (get_or xs i d).number n ≡ true
+      → entered n p xs ≡ set xs i (entrant n (lesser_paper p (get_or xs i d).paper))
   entered_again [] i d place inside own = absurd (omega arith)
   entered_again (e ∷ es) zero d place inside own = by_cmp e es Equal (equal_from e.number own)
   entered_again (e ∷ es) (suc i) d place inside own =
@@ -262,7 +276,9 @@ rising_numbers xs up i j d low inside = by_order (nat_cmp i j) (ranked i j (nat_
         (sym (ap (λ k. nat_cmp k (get_or xs j d).number) (sym (at i (omega arith))) ∙ ap (nat_cmp (get_or numbers i 0)) (sym (at j inside))
         ∙ Less-from_sorted nat_cmp numbers i j 0 up w (subst (λ k. j < k) (sym long) inside))) in
         omega arith
-    by_order Equal w = let same : get_or xs i d ≡ get_or xs j d = ap (λ k. get_or xs k d) w in let numbers_same : (get_or xs i d).number ≡ (get_or xs j d).number = ap (λ (e : Entrant). e.number) same in omega arith
+    by_order Equal w = let same : get_or xs i d ≡ get_or xs j d =
+        ap (λ k. get_or xs k d) w in let numbers_same : (get_or xs i d).number ≡ (get_or xs j d).number =
+        ap (λ (e : Entrant). e.number) same in omega arith
     by_order Greater w = absurd (omega arith)
 
 -- numbers rise in each list

@@ -9,7 +9,10 @@ use Rattle.exam_rules.specs.declared.rows.Appeal.{Appeal}
 use Rattle.exam_rules.specs.declared.rows.Arrangement.{Arrangement}
 use Rattle.exam_rules.specs.declared.standing.StandingGrant.{StandingGrant}
 use Rattle.exam_rules.specs.Relations.{Code, Relations, appeal_cmp, has_row, is_row_of, row_at, same_code}
-use Rattle.exam_rules.specs.Sessions.{arrangement_by, arrangement_in_force, asked_arrangement, granted_arrangement, granted_arrangement_in, has_standing_grant, head_of, is_granted, is_granted_appeal, is_marked, is_standing, no_arrangement, session_day, standing_grant, standing_grants, standing_grants_in}
+use Rattle.exam_rules.specs.Sessions.{arrangement_by, arrangement_in_force, asked_arrangement, granted_arrangement}
+use Rattle.exam_rules.specs.Sessions.{granted_arrangement_in, has_standing_grant, head_of, is_granted}
+use Rattle.exam_rules.specs.Sessions.{is_granted_appeal, is_marked, is_standing, no_arrangement, session_day}
+use Rattle.exam_rules.specs.Sessions.{standing_grant, standing_grants, standing_grants_in}
 use Rattle.exam_rules.proofs.Together.{filter_and}
 use Rattle.exam_plan.proofs.Small.{none_kept}
 
@@ -155,7 +158,8 @@ module _ (r t : Relations) (c : ℕ) where
 
   module _ (s : Code) where
     -- equal grants for the session, dates, standing grants and imported rows put one arrangement in force
-    pub in_force_by : granted_arrangement t s c ≡ granted_arrangement r s c → session_day t s ≡ session_day r s → standing_grants t c ≡ standing_grants r c → row_at nat_cmp t.arrangements c ≡ row_at nat_cmp r.arrangements c
+    pub in_force_by : granted_arrangement t s c ≡ granted_arrangement r s c → session_day t s ≡ session_day r s
+        → standing_grants t c ≡ standing_grants r c → row_at nat_cmp t.arrangements c ≡ row_at nat_cmp r.arrangements c
         → arrangement_in_force t s c ≡ arrangement_in_force r s c
     in_force_by granted date standing imported =
         ap (λ o. arrangement_by o (session_day t s) (standing_grants t c) (row_at nat_cmp t.arrangements c)) granted
@@ -195,6 +199,8 @@ module _ (r : Relations) (unmarked : r.standing ≡ []) where
       ap (λ grants. arrangement_by (granted_arrangement r s c) (session_day r s) grants (row_at nat_cmp r.arrangements c)) (no_standing_grants c)
       ∙ inner (session_day r s)
     where
-      inner : (o : Option ℕ) → arrangement_by (granted_arrangement r s c) o [] (row_at nat_cmp r.arrangements c) ≡ unwrap_or (option_or (granted_arrangement r s c) (row_at nat_cmp r.arrangements c)) no_arrangement
+      inner : (o : Option ℕ)
+          → arrangement_by (granted_arrangement r s c) o [] (row_at nat_cmp r.arrangements c)
+          ≡ unwrap_or (option_or (granted_arrangement r s c) (row_at nat_cmp r.arrangements c)) no_arrangement
       inner None = refl
       inner (Some day) = refl

@@ -70,7 +70,10 @@ module _ (day : ℕ) where
       let s : a ≡ g = same_Some a g e in (inl (sym s), subst (λ (z : StandingGrant). is_gt (standing_cmp a z) ≡ false) s (ap is_gt (tied_itself grants_total a)), tt)
   last_from (b ∷ xs) a g e = inner (λ k. last_from xs k g) (in_time b) refl e
     where
-      inner : ((k : StandingGrant) → fold later_of (Some k) (filter in_time xs) ≡ Some g → IsLastFrom k xs g) → (t : Bool) → in_time b ≡ t → fold later_of (Some a) (cond t (b ∷ filter in_time xs) (filter in_time xs)) ≡ Some g → IsLastFrom a (b ∷ xs) g
+      inner : ((k : StandingGrant) → fold later_of (Some k) (filter in_time xs) ≡ Some g → IsLastFrom k xs g)
+          → (t : Bool) → in_time b ≡ t
+          → fold later_of (Some a) (cond t (b ∷ filter in_time xs) (filter in_time xs)) ≡ Some g
+          → IsLastFrom a (b ∷ xs) g
       inner rest true early e = let l : b.day ≤ day = grind arith in with_later a b g xs l (is_lt (standing_cmp a b)) refl (rest (cond (is_lt (standing_cmp a b)) b a) e)
       inner rest false late e =
           let r = rest a e in
@@ -81,7 +84,10 @@ module _ (day : ℕ) where
   last_of [] g e = cc
   last_of (b ∷ xs) g e = inner (last_of xs g) (in_time b) refl e
     where
-      inner : (fold later_of None (filter in_time xs) ≡ Some g → IsAmong xs g × AllByRecursion (IsBounded g) xs) → (t : Bool) → in_time b ≡ t → fold later_of None (cond t (b ∷ filter in_time xs) (filter in_time xs)) ≡ Some g → IsAmong (b ∷ xs) g × AllByRecursion (IsBounded g) (b ∷ xs)
+      inner : (fold later_of None (filter in_time xs) ≡ Some g → IsAmong xs g × AllByRecursion (IsBounded g) xs)
+          → (t : Bool) → in_time b ≡ t
+          → fold later_of None (cond t (b ∷ filter in_time xs) (filter in_time xs)) ≡ Some g
+          → IsAmong (b ∷ xs) g × AllByRecursion (IsBounded g) (b ∷ xs)
       inner rest true early e =
           let l : b.day ≤ day = grind arith in
           let r = last_from xs b g e in (
@@ -96,7 +102,9 @@ module _ (day : ℕ) where
           let away : day < b.day = grind arith in
           (among_further b g xs r.0, ((λ (l : b.day ≤ day). absurd (omega arith)), r.1))
 
-  pub last_counts : (xs : List StandingGrant) (g : StandingGrant) → last_until day xs ≡ Some g → Contains xs g × (g.day ≤ day) × All (λ (other : StandingGrant). other.day ≤ day → is_gt (standing_cmp other g) ≡ false) xs
+  pub last_counts : (xs : List StandingGrant) (g : StandingGrant) → last_until day xs ≡ Some g
+      → Contains xs g × (g.day ≤ day)
+      × All (λ (other : StandingGrant). other.day ≤ day → is_gt (standing_cmp other g) ≡ false) xs
   last_counts xs g e = let r = last_of xs g e in (r.0.0, r.0.1, All-from_recursion (IsBounded g) xs r.1)
 
   never_none : (ys : List StandingGrant) (a : StandingGrant) → fold later_of (Some a) ys ≡ None → ⊥
@@ -110,7 +118,9 @@ module _ (day : ℕ) where
   all_late [] e = tt
   all_late (b ∷ xs) e = inner (all_late xs) (in_time b) refl e
     where
-      inner : (fold later_of None (filter in_time xs) ≡ None → AllByRecursion IsLate xs) → (t : Bool) → in_time b ≡ t → fold later_of None (cond t (b ∷ filter in_time xs) (filter in_time xs)) ≡ None → AllByRecursion IsLate (b ∷ xs)
+      inner : (fold later_of None (filter in_time xs) ≡ None → AllByRecursion IsLate xs) → (t : Bool) → in_time b ≡ t
+          → fold later_of None (cond t (b ∷ filter in_time xs) (filter in_time xs)) ≡ None
+          → AllByRecursion IsLate (b ∷ xs)
       inner rest true early e = absurd (never_none (filter in_time xs) b e)
       inner rest false late e = let away : day < b.day = grind arith in (away, rest e)
 

@@ -1,5 +1,7 @@
 -- Lists by session: what appending to one of them makes of all.
-use Rattle.std.proofs.Common.{◌≡◌, ℕ, ◌<◌, ◌-◌, ◌&&◌, Bool, true, false, cond, List, [], ◌∷◌, ◌++◌, length, filter, map, nat_eq, Option, None, Some, Vec, refl, ap, sym, subst, ◌∙◌, arith, append-nil, get_or, eq-eqb, ◌+◌, is_some}
+use Rattle.std.proofs.Common.{◌≡◌, ℕ, ◌<◌, ◌-◌, ◌&&◌, Bool, true, false, cond, List, [], ◌∷◌, ◌++◌, length, filter, map}
+use Rattle.std.proofs.Common.{nat_eq, Option, None, Some, Vec, refl, ap, sym, subst, ◌∙◌, arith, append-nil, get_or}
+use Rattle.std.proofs.Common.{eq-eqb, ◌+◌, is_some}
 use Rattle.std.specs.Global.{Global}
 use Rattle.std.specs.Prelude.{slice_get}
 use Rattle.std.specs.Option.{option_map, option_map_or, option_or}
@@ -29,11 +31,14 @@ use Rattle.exam_rules.specs.Lists.{listed, ends_with, with_last, with_member, en
 use Rattle.exam_rules.proofs.Naming.{same_code_exact}
 
 -- after one list has been set to what a change makes of the old one
-pub changed : {A : Type 0} (change : List A → List A) (old new : List (Code × Vec A Global)) (list : Vec A Global) (s : Code) → ((t : Code) → row_at code_cmp new t ≡ cond (is_at (code_cmp s) t) (Some list) (row_at code_cmp old t))
+pub changed : {A : Type 0} (change : List A → List A) (old new : List (Code × Vec A Global)) (list : Vec A Global)
+    (s : Code) → ((t : Code) → row_at code_cmp new t ≡ cond (is_at (code_cmp s) t) (Some list) (row_at code_cmp old t))
     → list.items ≡ change (listed old s) → (t : Code) → listed new t ≡ cond (same_code s t) (change (listed old t)) (listed old t)
 changed {A} change old new list s at items t = inner (same_code s t) refl (ap (λ b. cond b (Some list) (row_at code_cmp old t)) (sym (texts_ties s t)))
   where
-    inner : (b : Bool) → same_code s t ≡ b → cond (is_at (code_cmp s) t) (Some list) (row_at code_cmp old t) ≡ cond b (Some list) (row_at code_cmp old t) → listed new t ≡ cond b (change (listed old t)) (listed old t)
+    inner : (b : Bool) → same_code s t ≡ b
+        → cond (is_at (code_cmp s) t) (Some list) (row_at code_cmp old t) ≡ cond b (Some list) (row_at code_cmp old t)
+        → listed new t ≡ cond b (change (listed old t)) (listed old t)
     inner true e same = ap (λ (o : Option (Vec A Global)). option_map_or (λ (v : Vec A Global). v.items) o []) (at t ∙ same) ∙ items ∙ ap (λ u. change (listed old u)) (same_code_exact s t e)
     inner false e same = ap (λ (o : Option (Vec A Global)). option_map_or (λ (v : Vec A Global). v.items) o []) (at t ∙ same)
 
@@ -53,7 +58,8 @@ with_last-again n p q list = inner (ends_with list n) refl
         at_end list =
             let long : length (list ++ entrant n p ∷ []) ≡ length list + 1 = length-append list (entrant n p ∷ []) in
             let last : length (list ++ entrant n p ∷ []) - 1 ≡ length list = omega arith in
-            rw last (slice_get_read (list ++ entrant n p ∷ []) (length (list ++ entrant n p ∷ [])) (length list) (entrant n p) refl (omega arith) (sym (get_or-append_seam list (entrant n p) [] (entrant n p))))
+            rw last (slice_get_read (list ++ entrant n p ∷ []) (length (list ++ entrant n p ∷ [])) (length list)
+            (entrant n p) refl (omega arith) (sym (get_or-append_seam list (entrant n p) [] (entrant n p))))
 
         ends_pushed : (list : List Entrant) → ends_with (list ++ entrant n p ∷ []) n ≡ true
         ends_pushed list = ap (λ o. option_map_or (λ (e : Entrant). nat_eq e.number n) o false) (at_end list) ∙ eq-eqb n n refl
@@ -74,11 +80,16 @@ module _ (r : Relations) (n : ℕ) where
   pub counts_for : (s p : Code) (e : Entry) (o : Option Code) → entered_session r p e ≡ o → (e.live && is_paper_of r s p) ≡ option_map_or (λ t. same_code t s) o false
   counts_for s p e o is = subst (λ o. (e.live && is_paper_of r s p) ≡ option_map_or (λ t. same_code t s) o false) is (outer e.live (row_at code_cmp r.papers p))
     where
-      inner : (row : Option Paper) → option_map_or (λ (paper : Paper). same_code paper.session s) row false ≡ option_map_or (λ t. same_code t s) (option_map (λ (paper : Paper). paper.session) row) false
+      inner : (row : Option Paper)
+          → option_map_or (λ (paper : Paper). same_code paper.session s) row false
+          ≡ option_map_or (λ t. same_code t s) (option_map (λ (paper : Paper). paper.session) row) false
       inner None = refl
       inner (Some paper) = refl
 
-      outer : (live : Bool) (row : Option Paper) → (live && option_map_or (λ (paper : Paper). same_code paper.session s) row false) ≡ option_map_or (λ t. same_code t s) (cond live (option_map (λ (paper : Paper). paper.session) row) None) false
+      outer : (live : Bool) (row : Option Paper)
+          → (live && option_map_or (λ (paper : Paper). same_code paper.session s) row false)
+          ≡ option_map_or (λ t. same_code t s)
+          (cond live (option_map (λ (paper : Paper). paper.session) row) None) false
       outer true row = inner row
       outer false row = refl
 
@@ -89,13 +100,26 @@ module _ (r : Relations) (n : ℕ) where
   -- one more row of the candidate, which counts for a session or for none
   pub first_in_row : (s : Code) (k : ℕ × Code) (e : Entry) (rest : List ((ℕ × Code) × Entry)) (o : Option Code) → nat_eq k.0 n ≡ true → entered_session r k.1 e ≡ o
       → first_in s ((k, e) ∷ rest) ≡ option_or (paper_for s o k.1) (first_in s rest)
-  first_in_row s k e rest o own is = rw (own, own) (ap (λ b. head_of (map (λ (e : (ℕ × Code) × Entry). e.0.1) (cond b ((k, e) ∷ filter (is_live_entry r s n) (leading (is_row_of n) rest)) (filter (is_live_entry r s n) (leading (is_row_of n) rest))))) (counts_for s k.1 e o is) ∙ split o)
+  first_in_row s k e rest o own is =
+      rw (own, own) (ap (λ b. head_of
+      (map (λ (e : (ℕ × Code) × Entry). e.0.1)
+      (cond b ((k, e) ∷ filter (is_live_entry r s n) (leading (is_row_of n) rest))
+      (filter (is_live_entry r s n) (leading (is_row_of n) rest))))) (counts_for s k.1 e o is) ∙ split o)
     where
-      inner : (b : Bool) → head_of (map (λ (e : (ℕ × Code) × Entry). e.0.1) (cond b ((k, e) ∷ filter (is_live_entry r s n) (leading (is_row_of n) rest)) (filter (is_live_entry r s n) (leading (is_row_of n) rest)))) ≡ option_or (cond b (Some k.1) None) (first_in s rest)
+      inner : (b : Bool) → head_of
+          (map (λ (e : (ℕ × Code) × Entry). e.0.1)
+          (cond b ((k, e) ∷ filter (is_live_entry r s n) (leading (is_row_of n) rest))
+          (filter (is_live_entry r s n) (leading (is_row_of n) rest))))
+          ≡ option_or (cond b (Some k.1) None) (first_in s rest)
       inner true = refl
       inner false = refl
 
-      split : (o : Option Code) → head_of (map (λ (e : (ℕ × Code) × Entry). e.0.1) (cond (option_map_or (λ t. same_code t s) o false) ((k, e) ∷ filter (is_live_entry r s n) (leading (is_row_of n) rest)) (filter (is_live_entry r s n) (leading (is_row_of n) rest)))) ≡ option_or (paper_for s o k.1) (first_in s rest)
+      split : (o : Option Code)
+          → head_of (map (λ (e : (ℕ × Code) × Entry). e.0.1)
+          (cond (option_map_or (λ t. same_code t s) o false)
+          ((k, e) ∷ filter (is_live_entry r s n) (leading (is_row_of n) rest))
+          (filter (is_live_entry r s n) (leading (is_row_of n) rest))))
+          ≡ option_or (paper_for s o k.1) (first_in s rest)
       split None = refl
       split (Some t) = inner (same_code t s)
 
@@ -112,7 +136,8 @@ ends_before (x ∷ ys) rest n up =
     let same : length numbers ≡ length (x ∷ ys) = length-map (x ∷ ys) (λ (e : Entrant). e.number) in
     let inside : last < length numbers = omega arith in
     let long : length (numbers ++ n ∷ rest) ≡ length numbers + length (n ∷ rest) = length-append numbers (n ∷ rest) in
-    let less : nat_cmp (get_or (numbers ++ n ∷ rest) last n) (get_or (numbers ++ n ∷ rest) (length numbers) n) ≡ Less = Less-from_sorted nat_cmp (numbers ++ n ∷ rest) last (length numbers) n up inside (omega arith) in
+    let less : nat_cmp (get_or (numbers ++ n ∷ rest) last n) (get_or (numbers ++ n ∷ rest) (length numbers) n) ≡ Less =
+    Less-from_sorted nat_cmp (numbers ++ n ∷ rest) last (length numbers) n up inside (omega arith) in
     ap (λ o. option_map_or (λ (e : Entrant). nat_eq e.number n) o false) (slice_get-get_or (x ∷ ys) last x within)
     ∙ below_is_other (get_or (x ∷ ys) last x).number n
     (ap (λ k. nat_cmp k n) (sym (get_or-map (λ (e : Entrant). e.number) (x ∷ ys) last x n within) ∙ sym (get_or_append_left numbers (n ∷ rest) n last inside))
@@ -127,7 +152,9 @@ module _ (least : ℕ → Option Code) where
   listed_numbers [] = refl
   listed_numbers (c ∷ cs) = inner (least c) (listed_numbers cs)
     where
-      inner : (o : Option Code) → map (λ (e : Entrant). e.number) (listed_with cs) ≡ filter (λ c. is_some (least c)) cs → map (λ (e : Entrant). e.number) (cons_option (option_map (entrant c) o) (listed_with cs)) ≡ cond (is_some o) (c ∷ filter (λ c. is_some (least c)) cs) (filter (λ c. is_some (least c)) cs)
+      inner : (o : Option Code) → map (λ (e : Entrant). e.number) (listed_with cs) ≡ filter (λ c. is_some (least c)) cs
+          → map (λ (e : Entrant). e.number) (cons_option (option_map (entrant c) o) (listed_with cs))
+          ≡ cond (is_some o) (c ∷ filter (λ c. is_some (least c)) cs) (filter (λ c. is_some (least c)) cs)
       inner (Some p) rest = ap (λ t. c ∷ t) rest
       inner None rest = rest
 
@@ -135,23 +162,33 @@ module _ (least : ℕ → Option Code) where
   listed_papers [] = λ k d h. absurd (omega arith)
   listed_papers (c ∷ cs) = inner (least c) refl (listed_papers cs)
     where
-      inner : (o : Option Code) → least c ≡ o → All (λ (e : Entrant). least e.number ≡ Some e.paper) (listed_with cs) → All (λ (e : Entrant). least e.number ≡ Some e.paper) (cons_option (option_map (entrant c) o) (listed_with cs))
+      inner : (o : Option Code) → least c ≡ o → All (λ (e : Entrant). least e.number ≡ Some e.paper) (listed_with cs)
+          → All (λ (e : Entrant). least e.number ≡ Some e.paper)
+          (cons_option (option_map (entrant c) o) (listed_with cs))
       inner None is rest = rest
       inner (Some p) is rest = All-cons (λ (e : Entrant). least e.number ≡ Some e.paper) (entrant c p) (listed_with cs) is rest
 
   -- one more candidate, who is appended if there is a paper
-  pub members_more : (done rest : List ℕ) (old new : List Entrant) (n : ℕ) → IsStrictlySortedBy nat_cmp (done ++ n ∷ rest) → old ≡ listed_with done → new ≡ with_member n (least n) old → new ≡ listed_with (done ++ n ∷ [])
+  pub members_more : (done rest : List ℕ) (old new : List Entrant) (n : ℕ)
+      → IsStrictlySortedBy nat_cmp (done ++ n ∷ rest) → old ≡ listed_with done → new ≡ with_member n (least n) old
+      → new ≡ listed_with (done ++ n ∷ [])
   members_more done rest old new n up is step = inner (least n) refl step ∙ sym (filter_map-append (λ c. option_map (entrant c) (least c)) done (n ∷ []))
     where
-      parted : (b : Bool) → is_some (least n) ≡ b → filter (λ c. is_some (least c)) (done ++ n ∷ rest) ≡ filter (λ c. is_some (least c)) done ++ cond b (n ∷ filter (λ c. is_some (least c)) rest) (filter (λ c. is_some (least c)) rest)
-      parted b e = filter-append (λ c. is_some (least c)) done (n ∷ rest) ∙ ap (λ t. filter (λ c. is_some (least c)) done ++ cond t (n ∷ filter (λ c. is_some (least c)) rest) (filter (λ c. is_some (least c)) rest)) e
+      parted : (b : Bool) → is_some (least n) ≡ b
+          → filter (λ c. is_some (least c)) (done ++ n ∷ rest) ≡ filter (λ c. is_some (least c)) done
+          ++ cond b (n ∷ filter (λ c. is_some (least c)) rest) (filter (λ c. is_some (least c)) rest)
+      parted b e = filter-append (λ c. is_some (least c)) done (n ∷ rest)
+          ∙ ap (λ t. filter (λ c. is_some (least c)) done
+          ++ cond t (n ∷ filter (λ c. is_some (least c)) rest) (filter (λ c. is_some (least c)) rest)) e
 
       inner : (o : Option Code) → least n ≡ o → new ≡ with_member n o old → new ≡ listed_with done ++ cons_option (option_map (entrant n) (least n)) []
       inner (Some p) e step =
           let other : ends_with (listed_with done) n ≡ false = ends_before (listed_with done) (filter (λ c. is_some (least c)) rest) n
           (subst (λ t. IsStrictlySortedBy nat_cmp (t ++ n ∷ filter (λ c. is_some (least c)) rest)) (sym (listed_numbers done))
           (subst (IsStrictlySortedBy nat_cmp) (parted true (ap is_some e)) (IsStrictlySortedBy-filter nat_cmp (λ c. is_some (least c)) (done ++ n ∷ rest) up))) in
-          step ∙ ap (with_last (entrant n p)) is ∙ ap (λ t. cond t (listed_with done) (listed_with done ++ entrant n p ∷ [])) other ∙ ap (λ o. listed_with done ++ cons_option (option_map (entrant n) o) []) (sym e)
+          step ∙ ap (with_last (entrant n p)) is
+          ∙ ap (λ t. cond t (listed_with done) (listed_with done ++ entrant n p ∷ [])) other
+          ∙ ap (λ o. listed_with done ++ cons_option (option_map (entrant n) o) []) (sym e)
       inner None e step = step ∙ is ∙ sym (append-nil (listed_with done)) ∙ ap (λ o. listed_with done ++ cons_option (option_map (entrant n) o) []) (sym e)
 
 -- the numbers of those who are listed are the members

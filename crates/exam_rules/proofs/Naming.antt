@@ -1,5 +1,7 @@
 -- The problem by indices is the seating by numbers and codes.
-use Rattle.std.proofs.Common.{◌≡◌, ℕ, zero, suc, ◌+◌, ◌<◌, ◌≤◌, Bool, true, false, cond, not, ◌&&◌, ◌||◌, IsTrue, List, [], ◌∷◌, length, map, filter, get_or, nat_eq, Contains, Option, None, Some, IsSome, refl, sym, ap, subst, ◌∙◌, inl, inr, arith}
+use Rattle.std.proofs.Common.{◌≡◌, ℕ, zero, suc, ◌+◌, ◌<◌, ◌≤◌, Bool, true, false, cond, not, ◌&&◌, ◌||◌, IsTrue, List}
+use Rattle.std.proofs.Common.{[], ◌∷◌, length, map, filter, get_or, nat_eq, Contains, Option, None, Some, IsSome, refl}
+use Rattle.std.proofs.Common.{sym, ap, subst, ◌∙◌, inl, inr, arith}
 use Rattle.std.specs.declared.cmp.Ordering.{Ordering}
 use Rattle.std.specs.declared.cmp.Ordering.TheVariants.{Less, Equal}
 use Rattle.std.specs.Ordering.{nat_cmp, ordering_then, is_eq}
@@ -71,7 +73,8 @@ module _ {A : Type 0} (same : A → A → Bool) (exact : (x y : A) → same x y 
       (subst (λ t. t < length xs) (sym at) w.2, ap (λ t. get_or xs t d) at ∙ w.3)
 
   -- each element of a rising list is found at its place
-  pub place_known : (cmp : A → A → Ordering) → IsTotalOrder cmp → (n : ℕ) (xs : List A) (d : A) (k i : ℕ) → IsStrictlySortedBy cmp xs → k < length xs → i ≡ n + k → first_place (same (get_or xs k d)) n xs ≡ Some i
+  pub place_known : (cmp : A → A → Ordering) → IsTotalOrder cmp → (n : ℕ) (xs : List A) (d : A) (k i : ℕ)
+      → IsStrictlySortedBy cmp xs → k < length xs → i ≡ n + k → first_place (same (get_or xs k d)) n xs ≡ Some i
   place_known cmp o n [] d k i up below e = absurd (omega arith)
   place_known cmp o n (x ∷ xs) d zero i up below e = rw (itself x) (ap Some (omega arith))
   place_known cmp o n (x ∷ xs) d (suc k) i up below e =
@@ -120,7 +123,8 @@ any_place p n (x ∷ xs) d (suc k) m below e = inner (p x) (any_place p (n + 1) 
 
 -- ---- what fits is opened
 
-lookup_any : (s h : Code) (es : List ((Code × Code) × Opening)) → IsSome (row_at opening_cmp es (s, h)) → list_any (same_code h) (map (λ (o : (Code × Code) × Opening). o.0.1) (filter (λ o. same_code o.0.0 s) es)) ≡ true
+lookup_any : (s h : Code) (es : List ((Code × Code) × Opening)) → IsSome (row_at opening_cmp es (s, h))
+    → list_any (same_code h) (map (λ (o : (Code × Code) × Opening). o.0.1) (filter (λ o. same_code o.0.0 s) es)) ≡ true
 lookup_any s h [] e = absurd (let f : false ≡ true = e in cc)
 lookup_any s h (o ∷ es) e = inner (is_eq (opening_cmp (s, h) o.0)) refl e (lookup_any s h es)
   where
@@ -133,17 +137,22 @@ lookup_any s h (o ∷ es) e = inner (is_eq (opening_cmp (s, h) o.0)) refl e (loo
         let is : same_code h o.0.1 ≡ true = ap (λ t. same_code h t) (sym (exact_bytes h o.0.1 w.1)) ∙ same_code_itself h in
         rw (own, is) refl
 
-    skipped : (b : Bool) → list_any (same_code h) rest_of ≡ true → list_any (same_code h) (map (λ (o : (Code × Code) × Opening). o.0.1) (cond b (o ∷ filter (λ o. same_code o.0.0 s) es) (filter (λ o. same_code o.0.0 s) es))) ≡ true
+    skipped : (b : Bool) → list_any (same_code h) rest_of ≡ true
+        → list_any (same_code h)
+        (map (λ (o : (Code × Code) × Opening). o.0.1)
+        (cond b (o ∷ filter (λ o. same_code o.0.0 s) es) (filter (λ o. same_code o.0.0 s) es))) ≡ true
     skipped true rest = or_right (same_code h o.0.1) (list_any (same_code h) rest_of) rest
     skipped false rest = rest
 
-    inner : (b : Bool) → is_eq (opening_cmp (s, h) o.0) ≡ b → IsSome (cond b (Some o.1) (row_at opening_cmp es (s, h))) → (IsSome (row_at opening_cmp es (s, h)) → list_any (same_code h) rest_of ≡ true)
+    inner : (b : Bool) → is_eq (opening_cmp (s, h) o.0) ≡ b → IsSome (cond b (Some o.1) (row_at opening_cmp es (s, h)))
+        → (IsSome (row_at opening_cmp es (s, h)) → list_any (same_code h) rest_of ≡ true)
         → list_any (same_code h) (map (λ (o : (Code × Code) × Opening). o.0.1) (filter (λ o. same_code o.0.0 s) (o ∷ es))) ≡ true
     inner true t f rest = found (both_tie (code_cmp s o.0.0) (code_cmp h o.0.1) ((Equal-is (opening_cmp (s, h) o.0)).0 t))
     inner false t f rest = skipped (same_code o.0.0 s) (rest f)
 
 -- the open halls of a session rise, if the openings are in order
-pub halls_rise : (s : Code) (es : List ((Code × Code) × Opening)) → IsStrictlySortedBy opening_cmp (keys_of es) → IsStrictlySortedBy code_cmp (map (λ (o : (Code × Code) × Opening). o.0.1) (filter (λ o. same_code o.0.0 s) es))
+pub halls_rise : (s : Code) (es : List ((Code × Code) × Opening)) → IsStrictlySortedBy opening_cmp (keys_of es)
+    → IsStrictlySortedBy code_cmp (map (λ (o : (Code × Code) × Opening). o.0.1) (filter (λ o. same_code o.0.0 s) es))
 unfolding IsStrictlySortedBy
 halls_rise s [] up = tt
 halls_rise s (o ∷ es) up = inner (same_code o.0.0 s) refl (halls_rise s es (sorted_tail opening_cmp o.0 (keys_of es) up))
@@ -153,7 +162,10 @@ halls_rise s (o ∷ es) up = inner (same_code o.0.0 s) refl (halls_rise s es (so
         let tie : code_cmp k.0 l.0 ≡ Equal = ap (code_cmp k.0) (sym e) ∙ tied_itself nat_list_cmp_total k.0 in
         sym (ap (λ t. ordering_then t (code_cmp k.1 l.1)) tie) ∙ less
 
-    above : (rows : List ((Code × Code) × Opening)) → same_code o.0.0 s ≡ true → AllByRecursion (λ y. opening_cmp o.0 y ≡ Less) (keys_of rows) → AllByRecursion (λ h. code_cmp o.0.1 h ≡ Less) (map (λ (o : (Code × Code) × Opening). o.0.1) (filter (λ o. same_code o.0.0 s) rows))
+    above : (rows : List ((Code × Code) × Opening)) → same_code o.0.0 s ≡ true
+        → AllByRecursion (λ y. opening_cmp o.0 y ≡ Less) (keys_of rows)
+        → AllByRecursion (λ h. code_cmp o.0.1 h ≡ Less)
+        (map (λ (o : (Code × Code) × Opening). o.0.1) (filter (λ o. same_code o.0.0 s) rows))
     above [] own a = tt
     above (x ∷ rows) own a = turn (same_code x.0.0 s) refl (above rows own a.1)
       where
@@ -187,7 +199,11 @@ module _ (r : Relations) (s : Code) where
   pub fits_open : (c : ℕ) (h : Code) → IsTrue (fits r s c h) → list_any (same_code h) (open_halls r s) ≡ true
   fits_open c h e =
       lookup_any s h r.openings (opened h (suited (sitting_terms r s c) (opened_room r s h)
-      (and_parts (suits_opened (sitting_terms r s c) (opened_room r s h)) (not (list_any (same_code h) (barred_halls r s c))) (and_parts (has_live_entry r s c) (suits_opened (sitting_terms r s c) (opened_room r s h) && not (list_any (same_code h) (barred_halls r s c))) e).1).0))
+      (and_parts (suits_opened (sitting_terms r s c) (opened_room r s h))
+      (not (list_any (same_code h) (barred_halls r s c)))
+      (and_parts (has_live_entry r s c)
+      (suits_opened (sitting_terms r s c) (opened_room r s h) && not (list_any (same_code h) (barred_halls r s c)))
+      e).1).0))
 
   -- ---- the renaming
 
@@ -199,7 +215,16 @@ module _ (r : Relations) (s : Code) where
 
   -- the halls of a row are open halls
   row_bound : (i j : ℕ) → list_any (nat_eq j) (get_or rows i []) ≡ true → (i < length (members r s)) × (j < length (open_halls r s))
-  row_bound i j e = elim (cases_lt i (length (members r s))) [ inl below ↦ (below, any_below j (length (open_halls r s)) (fitting_places r s (number_at r s i) (open_halls r s)) (within (fits r s (number_at r s i)) 0 (length (open_halls r s)) (open_halls r s) (omega arith)) (sym (ap (list_any (nat_eq j)) (row_is i below)) ∙ e)) | inr past ↦ absurd (empty past) ]
+  row_bound i j e = elim
+      (cases_lt i (length (members r s))) [
+        | inl below ↦ (
+          below,
+          any_below j (length (open_halls r s)) (fitting_places r s (number_at r s i) (open_halls r s))
+              (within (fits r s (number_at r s i)) 0 (length (open_halls r s)) (open_halls r s) (omega arith))
+              (sym (ap (list_any (nat_eq j)) (row_is i below)) ∙ e),
+        )
+        | inr past ↦ absurd (empty past)
+      ]
     where
       empty : length (members r s) ≤ i → ⊥
       empty past = let long : length rows ≡ length (members r s) = length-map (members r s) (λ c. fitting_places r s c (open_halls r s)) in
@@ -254,13 +279,19 @@ module _ (r : Relations) (s : Code) where
       at_any : (c i : ℕ) → i < length (members r s) → number_at r s i ≡ c → get_or (members r s) i c ≡ c
       at_any c i below e = get_or_default (members r s) i c 0 below ∙ e
 
-      fits_same : (c : ℕ) (h : Code) (i j : ℕ) → (i < length (members r s)) × (number_at r s i ≡ c) → (j < length (open_halls r s)) × (hall_at r s j ≡ h) → fits r s c h ≡ list_any (nat_eq j) (get_or rows i [])
-      fits_same c h i j w v = sym (ap (list_any (nat_eq j)) (row_is i w.0) ∙ any_place (fits r s (number_at r s i)) 0 (open_halls r s) [] j j v.0 (omega arith) ∙ ap (λ t. fits r s t (hall_at r s j)) w.1 ∙ ap (fits r s c) v.1)
+      fits_same : (c : ℕ) (h : Code) (i j : ℕ) → (i < length (members r s)) × (number_at r s i ≡ c)
+          → (j < length (open_halls r s)) × (hall_at r s j ≡ h) → fits r s c h ≡ list_any (nat_eq j) (get_or rows i [])
+      fits_same c h i j w v =
+          sym (ap (list_any (nat_eq j)) (row_is i w.0)
+          ∙ any_place (fits r s (number_at r s i)) 0 (open_halls r s) [] j j v.0 (omega arith)
+          ∙ ap (λ t. fits r s t (hall_at r s j)) w.1 ∙ ap (fits r s c) v.1)
 
       desks_same : (h : Code) (j : ℕ) → (j < length (open_halls r s)) × (hall_at r s j ≡ h) → desks r s h ≡ get_or (map (desks r s) (open_halls r s)) j 0
       desks_same h j v = sym (get_or-map (desks r s) (open_halls r s) j [] 0 v.0 ∙ ap (desks r s) v.1)
 
-  pub numbers_rise : ListsRise r s → (i j : ℕ) → Contains (range_with_len 0 (length rows)) i → Contains (range_with_len 0 (length rows)) j → nat_cmp i j ≡ Less → nat_cmp (number_at r s i) (number_at r s j) ≡ Less
+  pub numbers_rise : ListsRise r s → (i j : ℕ) → Contains (range_with_len 0 (length rows)) i
+      → Contains (range_with_len 0 (length rows)) j → nat_cmp i j ≡ Less
+      → nat_cmp (number_at r s i) (number_at r s j) ≡ Less
   numbers_rise up i j mi mj e = Less-from_sorted nat_cmp (members r s) i j 0 up.numbers (ranked i j Less (sym e)) (below_member j mj)
 
   -- an index is a member's
@@ -282,7 +313,9 @@ module _ (r : Relations) (s : Code) where
   codes_rise up j k ej ek e = Less-from_sorted code_cmp (open_halls r s) j k [] up.codes (ranked j k Less (sym e)) (open_index k ek)
 
   -- members come before one another in the order of desks as their indices rank
-  pub order_same : (i j : ℕ) → Contains (range_with_len 0 (length rows)) i → Contains (range_with_len 0 (length rows)) j → comes_before r s (number_at r s i) (number_at r s j) ≡ ranks_before (problem_of r s) i j
+  pub order_same : (i j : ℕ) → Contains (range_with_len 0 (length rows)) i
+      → Contains (range_with_len 0 (length rows)) j
+      → comes_before r s (number_at r s i) (number_at r s j) ≡ ranks_before (problem_of r s) i j
   order_same i j mi mj =
       order_is_rank r s (number_at r s i) (number_at r s j) (there i (below_member i mi)) (there j (below_member j mj))
       ∙ ap (λ n. nat_lt n (rank r s (number_at r s j))) (sym (get_or-map (rank r s) (members r s) i 0 0 (below_member i mi)))

@@ -17,7 +17,9 @@ module _ {A : Type 0} where
   positions_same p q n [] h = refl
   positions_same p q n (x ∷ xs) h = inner (q x) (h x) (positions_same p q (n + 1) xs h)
     where
-      inner : (b : Bool) → p x ≡ b → positions p (n + 1) xs ≡ positions q (n + 1) xs → cond (p x) (n ∷ positions p (n + 1) xs) (positions p (n + 1) xs) ≡ cond b (n ∷ positions q (n + 1) xs) (positions q (n + 1) xs)
+      inner : (b : Bool) → p x ≡ b → positions p (n + 1) xs ≡ positions q (n + 1) xs
+          → cond (p x) (n ∷ positions p (n + 1) xs) (positions p (n + 1) xs)
+          ≡ cond b (n ∷ positions q (n + 1) xs) (positions q (n + 1) xs)
       inner true e rest = rw e (ap (λ t. n ∷ t) rest)
       inner false e rest = rw e rest
 
@@ -48,7 +50,9 @@ module _ (r : Relations) (s : Code) (c : ℕ) where
   fits_by_rooms inside rows rooms =
       ap (positions (is_suiting (sitting_terms r s c) (barred_halls r s c)) 0) rooms
       ∙ positions-map (is_suiting (sitting_terms r s c) (barred_halls r s c)) (λ h. (h, opened_room r s h)) 0 (map (λ (row : Code × Option Room). row.0) rows)
-      ∙ positions_same _ (fits r s c) 0 (map (λ (row : Code × Option Room). row.0) rows) (λ h. and_true (has_live_entry r s c) (is_suiting (sitting_terms r s c) (barred_halls r s c) (h, opened_room r s h)) inside)
+      ∙ positions_same _ (fits r s c) 0 (map (λ (row : Code × Option Room). row.0) rows)
+      (λ h. and_true (has_live_entry r s c)
+      (is_suiting (sitting_terms r s c) (barred_halls r s c) (h, opened_room r s h)) inside)
 
 map-with_rooms : (r : Relations) (s : Code) (halls : List Code) → map (λ (row : Code × Option Room). row.0) (with_rooms r s halls) ≡ halls
 map-with_rooms r s [] = refl

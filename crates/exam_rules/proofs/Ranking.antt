@@ -1,5 +1,7 @@
 -- Places in the order of desks.
-use Rattle.std.proofs.Common.{◌≡◌, ℕ, zero, suc, ◌+◌, ◌<◌, ◌≤◌, Bool, true, false, cond, ◌||◌, List, [], ◌∷◌, ◌++◌, length, map, count_by, get_or, drop, drop-cons, append_assoc, append-nil, add-one, nat_eq, Option, IsSorted, refl, sym, ap, ◌∙◌, arith, inl, inr}
+use Rattle.std.proofs.Common.{◌≡◌, ℕ, zero, suc, ◌+◌, ◌<◌, ◌≤◌, Bool, true, false, cond, ◌||◌, List, [], ◌∷◌, ◌++◌}
+use Rattle.std.proofs.Common.{length, map, count_by, get_or, drop, drop-cons, append_assoc, append-nil, add-one, nat_eq}
+use Rattle.std.proofs.Common.{Option, IsSorted, refl, sym, ap, ◌∙◌, arith, inl, inr}
 use Rattle.std.specs.declared.cmp.Ordering.{Ordering}
 use Rattle.std.specs.declared.cmp.Ordering.TheVariants.{Less, Equal, Greater}
 use Rattle.std.specs.Ordering.{nat_cmp, ordering_index, ordering_reverse, is_lt}
@@ -49,7 +51,9 @@ lesser_first sorted key up = λ i j d le below passes.
 
 module _ {A : Type 0} where
   -- if those that pass come first, up to i, there are i of them
-  pub count_at_point : (p : A → Bool) (xs : List A) (i : ℕ) → i ≤ length xs → ((k : ℕ) (d : A) → k < i → p (get_or xs k d) ≡ true) → ((k : ℕ) (d : A) → i ≤ k → k < length xs → p (get_or xs k d) ≡ false) → i ≡ count_by p xs
+  pub count_at_point : (p : A → Bool) (xs : List A) (i : ℕ) → i ≤ length xs
+      → ((k : ℕ) (d : A) → k < i → p (get_or xs k d) ≡ true)
+      → ((k : ℕ) (d : A) → i ≤ k → k < length xs → p (get_or xs k d) ≡ false) → i ≡ count_by p xs
   count_at_point p [] i bound front back = omega arith
   count_at_point p (x ∷ xs) zero bound front back =
       let e : bit (p x) ≡ 0 = ap bit (back 0 x (omega arith) (omega arith)) in
@@ -64,7 +68,9 @@ module _ {A : Type 0} where
   count_le p q xs h = sum_by-le-sum_by (λ x. bit (p x)) (λ x. bit (q x)) xs (λ x. bit_le (p x) (q x) (h x))
 
   -- if one of the list passes q and not p, fewer pass p
-  pub count_less : (p q : A → Bool) (same : A → A → Bool) (a : A) → ((x : A) → same a x ≡ true → a ≡ x) → (xs : List A) → ((x : A) → p x ≡ true → q x ≡ true) → list_any (same a) xs ≡ true → p a ≡ false → q a ≡ true → count_by p xs < count_by q xs
+  pub count_less : (p q : A → Bool) (same : A → A → Bool) (a : A) → ((x : A) → same a x ≡ true → a ≡ x) → (xs : List A)
+      → ((x : A) → p x ≡ true → q x ≡ true) → list_any (same a) xs ≡ true → p a ≡ false → q a ≡ true
+      → count_by p xs < count_by q xs
   count_less p q same a exact [] h there out into = absurd (let k : false ≡ true = there in cc)
   count_less p q same a exact (x ∷ xs) h there out into =
       let k = count_by-cons p x xs in
@@ -122,10 +128,15 @@ module _ (r : Relations) (s : Code) where
       inner : (o : Ordering) → desk_cmp (desk_key r s c) (desk_key r s d) ≡ o → nat_eq (rank r s c) (rank r s d) ≡ false
       inner Less e = ne_eqb (rank r s c) (rank r s d) (λ h. let k : rank r s c < rank r s d = rank_rises c d mc e in omega arith)
       inner Equal e = absurd (let k : c ≡ d = exact_unsigned c d (both_tie (option_cmp code_cmp (sitting r s c) (sitting r s d)) (nat_cmp c d) e).1 in omega arith)
-      inner Greater e = ne_eqb (rank r s c) (rank r s d) (λ h. let k : rank r s d < rank r s c = rank_rises d c md (desk_total.antisymm (desk_key r s d) (desk_key r s c) ∙ ap ordering_reverse e) in omega arith)
+      inner Greater e = ne_eqb (rank r s c) (rank r s d)
+          (λ h. let k : rank r s d < rank r s c =
+          rank_rises d c md (desk_total.antisymm (desk_key r s d) (desk_key r s c) ∙ ap ordering_reverse e) in
+          omega arith)
 
   -- the rest of the members have other ranks than one before them
-  others : (c : ℕ) (cs : List ℕ) → list_any (nat_eq c) (members r s) ≡ true → AllByRecursion (λ d. list_any (nat_eq d) (members r s) ≡ true) cs → AllByRecursion (λ d. nat_cmp c d ≡ Less) cs → AllByRecursion (λ n. nat_eq (rank r s c) n ≡ false) (map (rank r s) cs)
+  others : (c : ℕ) (cs : List ℕ) → list_any (nat_eq c) (members r s) ≡ true
+      → AllByRecursion (λ d. list_any (nat_eq d) (members r s) ≡ true) cs → AllByRecursion (λ d. nat_cmp c d ≡ Less) cs
+      → AllByRecursion (λ n. nat_eq (rank r s c) n ≡ false) (map (rank r s) cs)
   others c [] mc ms above = tt
   others c (d ∷ cs) mc ms above = (rank_apart c d mc ms.0 (ranked c d Less (sym above.0)), others c cs mc ms.1 above.1)
 
@@ -158,5 +169,12 @@ module _ (r : Relations) (s : Code) where
     where
       inner : (o : Ordering) → desk_cmp (desk_key r s c) (desk_key r s d) ≡ o → is_lt o ≡ nat_lt (rank r s c) (rank r s d)
       inner Less e = sym (lt-ltb (rank r s c) (rank r s d) (rank_rises c d mc e))
-      inner Equal e = sym (le-ltb (rank r s c) (rank r s d) (let k : c ≡ d = exact_unsigned c d (both_tie (option_cmp code_cmp (sitting r s c) (sitting r s d)) (nat_cmp c d) e).1 in let m : rank r s c ≡ rank r s d = ap (rank r s) k in omega arith))
-      inner Greater e = sym (le-ltb (rank r s c) (rank r s d) (let k : rank r s d < rank r s c = rank_rises d c md (desk_total.antisymm (desk_key r s d) (desk_key r s c) ∙ ap ordering_reverse e) in omega arith))
+      inner Equal e = sym (le-ltb (rank r s c) (rank r s d)
+          (let k : c ≡ d = exact_unsigned c d
+          (both_tie (option_cmp code_cmp (sitting r s c) (sitting r s d)) (nat_cmp c d) e).1 in
+          let m : rank r s c ≡ rank r s d = ap (rank r s) k in omega arith))
+      inner Greater e = sym
+          (le-ltb (rank r s c) (rank r s d)
+          (let k : rank r s d < rank r s c =
+          rank_rises d c md (desk_total.antisymm (desk_key r s d) (desk_key r s c) ∙ ap ordering_reverse e) in
+          omega arith))

@@ -141,7 +141,9 @@ module _ (f g : ℕ → Option Code) (n : ℕ) (same : (d : ℕ) → nat_eq n d 
   all_greater [] up = refl
   all_greater (d ∷ cs) up = inner (f d) (lt-ltb n d up.0) (all_greater cs up.1)
     where
-      inner : (o : Option Code) → nat_lt n d ≡ true → greater (listed_with f cs) ≡ listed_with f cs → greater (cons_option (option_map (entrant d) o) (listed_with f cs)) ≡ cons_option (option_map (entrant d) o) (listed_with f cs)
+      inner : (o : Option Code) → nat_lt n d ≡ true → greater (listed_with f cs) ≡ listed_with f cs
+          → greater (cons_option (option_map (entrant d) o) (listed_with f cs))
+          ≡ cons_option (option_map (entrant d) o) (listed_with f cs)
       inner None after rest = rest
       inner (Some p) after rest = ap (λ b. cond b (entrant d p ∷ greater (listed_with f cs)) (greater (listed_with f cs))) after ∙ ap (λ es. entrant d p ∷ es) rest
 
@@ -242,7 +244,9 @@ module _ (before after : Relations) (s : Code) (c : ℕ) (sets : SetsEntry befor
 -- ---- the lists as they were
 
 -- lists of the same members and halls
-pub lists_kept : (r : Relations) (was now : SessionLists) → AreListsOf r was → ((t : Code) → listed now.members.entries t ≡ listed was.members.entries t) → now.halls.entries ≡ was.halls.entries → AreListsOf r now
+pub lists_kept : (r : Relations) (was now : SessionLists) → AreListsOf r was
+    → ((t : Code) → listed now.members.entries t ≡ listed was.members.entries t)
+    → now.halls.entries ≡ was.halls.entries → AreListsOf r now
 lists_kept r was now are same halls = record {
   numbers = are.numbers;
   members = λ t. same t ∙ are.members t;

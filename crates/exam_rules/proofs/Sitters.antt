@@ -34,7 +34,9 @@ module _ (r : Relations) (s : Code) (c : ℕ) where
           → (is_live_entry r s c e || list_any (is_live_entry r s c) es) ≡ true
       inner true at rest l =
           let k : (c, p) ≡ e.0 = same_key (c, p) e.0 at in
-          subst (λ (x : ℕ × Code). (((x.0 == c) && (e.1.live && is_paper_of r s x.1)) || list_any (is_live_entry r s c) es) ≡ true) k (or_of (c == c) e.1.live (is_paper_of r s p) (list_any (is_live_entry r s c) es) (eq-eqb c c refl) l of)
+          subst (λ (x : ℕ × Code).
+          (((x.0 == c) && (e.1.live && is_paper_of r s x.1)) || list_any (is_live_entry r s c) es) ≡ true) k
+          (or_of (c == c) e.1.live (is_paper_of r s p) (list_any (is_live_entry r s c) es) (eq-eqb c c refl) l of)
       inner false at rest l = or_right (is_live_entry r s c e) _ (rest l)
 
   -- a live paper makes a member
@@ -81,7 +83,10 @@ module _ (r : Relations) (s : Code) (c : ℕ) where
 
   listed_member : Contains (members r s) c → is_member r s c ≡ true
   listed_member m =
-      let known : Contains (keys_of r.candidates) c = All-contains (Contains (keys_of r.candidates)) (members r s) c (All-filter (has_live_entry r s) (Contains (keys_of r.candidates)) (keys_of r.candidates) (All-contains_itself (keys_of r.candidates))) m in
+      let known : Contains (keys_of r.candidates) c =
+      All-contains (Contains (keys_of r.candidates)) (members r s) c
+      (All-filter (has_live_entry r s) (Contains (keys_of r.candidates)) (keys_of r.candidates)
+      (All-contains_itself (keys_of r.candidates))) m in
       let live : has_live_entry r s c ≡ true = All-contains (λ n. has_live_entry r s n ≡ true) (members r s) c (filter_passes (has_live_entry r s) (keys_of r.candidates)) m in
       and_from _ _ (IsSome-lookup_from_Contains (eq_by_cmp_equiv nat_cmp_total) c r.candidates known) live
 

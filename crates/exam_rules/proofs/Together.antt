@@ -92,7 +92,9 @@ module _ {B X : Type 0} (cmp : B → B → Ordering) (c : ℕ) where
     uppers [] = tt
     uppers (e ∷ es) = inner (is_le (pair_cmp nat_cmp cmp (c, least) e.0)) refl (uppers es)
       where
-        inner : (b : Bool) → is_le (pair_cmp nat_cmp cmp (c, least) e.0) ≡ b → AllByRecursion (λ e. c ≤ e.0.0) (filter is_upper es) → AllByRecursion (λ e. c ≤ e.0.0) (cond (b && not false) (e ∷ filter is_upper es) (filter is_upper es))
+        inner : (b : Bool) → is_le (pair_cmp nat_cmp cmp (c, least) e.0) ≡ b
+            → AllByRecursion (λ e. c ≤ e.0.0) (filter is_upper es)
+            → AllByRecursion (λ e. c ≤ e.0.0) (cond (b && not false) (e ∷ filter is_upper es) (filter is_upper es))
         inner true h rest = (then_le c e.0.0 (cmp least e.0.1) h, rest)
         inner false h rest = rest
 
@@ -117,7 +119,10 @@ module _ {B X : Type 0} (cmp : B → B → Ordering) (c : ℕ) where
         → filter (is_row_of c) (entries_between (pair_cmp nat_cmp cmp) Unbounded (Excluded (c, least)) es) ≡ []
         → leading (is_row_of c) (entries_between (pair_cmp nat_cmp cmp) (Included (c, least)) Unbounded es) ≡ filter (is_row_of c) es
     rows_from es s none =
-        leading_is (filter is_upper es) (rw (keys_of-filter (λ k. is_le (pair_cmp nat_cmp cmp (c, least) k) && not false) es) (IsStrictlySortedBy-filter (pair_cmp nat_cmp cmp) (λ k. is_le (pair_cmp nat_cmp cmp (c, least) k) && not false) (keys_of es) s)) (uppers es)
+        leading_is (filter is_upper es)
+        (rw (keys_of-filter (λ k. is_le (pair_cmp nat_cmp cmp (c, least) k) && not false) es)
+        (IsStrictlySortedBy-filter (pair_cmp nat_cmp cmp)
+        (λ k. is_le (pair_cmp nat_cmp cmp (c, least) k) && not false) (keys_of es) s)) (uppers es)
         ∙ again es none
 
   last_of : (P : ℕ × B → Type 0) (t : List ((ℕ × B) × X)) (e : (ℕ × B) × X) → AllByRecursion P (keys_of (t ++ e ∷ [])) → P e.0
@@ -139,7 +144,10 @@ module _ {B X : Type 0} (cmp : B → B → Ordering) (c : ℕ) where
       → filter (is_row_of c) (entries_between (pair_cmp nat_cmp cmp) Unbounded (Excluded (c, least)) es) ≡ []
   none_before least es lower t e s is split less none =
       let Sorted : List ((ℕ × B) × X) → Type 0 = λ l. IsStrictlySortedBy (pair_cmp nat_cmp cmp) (keys_of l) in
-      let whole : Sorted (filter (is_lower least) es) = rw (keys_of-filter (λ k. true && not (is_le (pair_cmp nat_cmp cmp (c, least) k))) es) (IsStrictlySortedBy-filter (pair_cmp nat_cmp cmp) (λ k. true && not (is_le (pair_cmp nat_cmp cmp (c, least) k))) (keys_of es) s) in
+      let whole : Sorted (filter (is_lower least) es) =
+      rw (keys_of-filter (λ k. true && not (is_le (pair_cmp nat_cmp cmp (c, least) k))) es)
+      (IsStrictlySortedBy-filter (pair_cmp nat_cmp cmp)
+      (λ k. true && not (is_le (pair_cmp nat_cmp cmp (c, least) k))) (keys_of es) s) in
       ap (filter (is_row_of c)) (sym is ∙ split)
       ∙ none_up_to t e (subst Sorted (sym is ∙ split) whole) (lesser_before cmp c e.0 least less none)
 

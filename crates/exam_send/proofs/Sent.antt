@@ -41,11 +41,13 @@ begins-second old mid new these those a (front, rest, is, more, b) =
     (these ++ front, rest, ap (λ t. these ++ t) is ∙ sym (append_assoc these front rest), more, Appends-trans old mid new these front a b)
 
 -- both went out, or the second in part
-pub sends-both : {E : Type 0} (r : Result (Unit {0}) E) (old mid new : Option (List ℕ)) (these those : List ℕ) → Appends old mid these → OnOk r (Appends mid new those) → OnOk r (Appends old new (these ++ those))
+pub sends-both : {E : Type 0} (r : Result (Unit {0}) E) (old mid new : Option (List ℕ)) (these those : List ℕ)
+    → Appends old mid these → OnOk r (Appends mid new those) → OnOk r (Appends old new (these ++ those))
 sends-both (Ok u) old mid new these those a b = Appends-trans old mid new these those a b
 sends-both (Err e) old mid new these those a b = tt
 
-pub begins-both : {E : Type 0} (r : Result (Unit {0}) E) (old mid new : Option (List ℕ)) (these those : List ℕ) → Appends old mid these → OnErr r (AppendsPart mid new those) → OnErr r (AppendsPart old new (these ++ those))
+pub begins-both : {E : Type 0} (r : Result (Unit {0}) E) (old mid new : Option (List ℕ)) (these those : List ℕ)
+    → Appends old mid these → OnErr r (AppendsPart mid new those) → OnErr r (AppendsPart old new (these ++ those))
 begins-both (Ok u) old mid new these those a b = tt
 begins-both (Err e) old mid new these those a b = begins-second old mid new these those a b
 

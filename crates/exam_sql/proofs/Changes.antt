@@ -16,7 +16,8 @@ use Rattle.exam_sql.specs.Changes.{put_all, delete_all, with_puts, with_deletes,
 use Rattle.exam_sql.proofs.RowLemmas.{twice}
 
 -- a database holds its rows in any order
-pub contains_same : (schema : Schema) (db : Database) (all more : Trees) → ContainsIn schema db all → AllByRecursion (λ t. IsPermutation (all t.tree) (more t.tree)) schema.tables → ContainsIn schema db more
+pub contains_same : (schema : Schema) (db : Database) (all more : Trees) → ContainsIn schema db all
+    → AllByRecursion (λ t. IsPermutation (all t.tree) (more t.tree)) schema.tables → ContainsIn schema db more
 contains_same schema db all more was same = record { schema_is = was.schema_is; rows = each schema.tables was.rows same }
   where
     each : (tables : List Table) → AllByRecursion (λ t. Holds (places t) (db.trees t.tree) (all t.tree)) tables → AllByRecursion (λ t. IsPermutation (all t.tree) (more t.tree)) tables
@@ -77,4 +78,7 @@ differs_by key old new news gone apart spared same =
     let all : IsPermutation (filter test (put_all key news old)) (filter test (news ++ left)) = IsPermutation-filter test _ _ (put_all_is key news old apart) in
     let parts : filter test (news ++ left) ≡ news ++ filter (λ r. not (is_among key news r || is_among key gone r)) old =
     filter-append test news left ∙ ap₂ ◌++◌ (filter_all test news (all_not key gone news spared)) (twice (is_among key news) (is_among key gone) old) in
-    IsPermutation-trans _ _ _ (subst (λ l. IsPermutation l (news ++ filter (λ r. not (is_among key news r || is_among key gone r)) old)) (sym (delete_all_is key gone (put_all key news old))) (subst (IsPermutation (filter test (put_all key news old))) parts all)) same
+    IsPermutation-trans _ _ _
+    (subst (λ l. IsPermutation l (news ++ filter (λ r. not (is_among key news r || is_among key gone r)) old))
+    (sym (delete_all_is key gone (put_all key news old)))
+    (subst (IsPermutation (filter test (put_all key news old))) parts all)) same

@@ -1,5 +1,7 @@
 -- Why CREATE TABLE fails if nothing in the schema forbids it.
-use Rattle.std.proofs.Common.{◌≡◌, ◌⊎◌, ◌+◌, ◌*◌, ◌^◌, ◌<◌, ◌≤◌, inl, inr, ℕ, List, [], length, codes, not, ◌==◌, true, false, None, Some, Option, Ok, Err, Result, refl, sym, ap, subst, ◌∙◌, arith, IsUtf8, nat_lt, true≢false}
+use Rattle.std.proofs.Common.{◌≡◌, ◌⊎◌, ◌+◌, ◌*◌, ◌^◌, ◌<◌, ◌≤◌, inl, inr, ℕ, List, [], length, codes, not, ◌==◌, true}
+use Rattle.std.proofs.Common.{false, None, Some, Option, Ok, Err, Result, refl, sym, ap, subst, ◌∙◌, arith, IsUtf8}
+use Rattle.std.proofs.Common.{nat_lt, true≢false}
 use Rattle.std.specs.List.{list_all}
 use Rattle.std.proofs.lemmas.Bool.{not-true, ltb-true}
 use Rattle.sqlite_value.specs.declared.value.Value.TheVariants.{Text}
@@ -66,7 +68,10 @@ module _ (schema : Schema) (table : Table) (text : List ℕ) (defined : table_de
       names t same (inr (own, _)) = true≢false (sym own ∙ ap (λ (t : Table). is_reserved t.name) same ∙ free.own)
   not_refused TooBig (t, is, big) = sizes t (same_table t is) big
     where
-      sizes : (t : Table) → t ≡ table → (65536 ≤ next_tree schema + length t.uniques) ⊎ ((2 ^ 64 ≤ table_reals t) ⊎ ((key : List ℕ) × Has t.uniques key × (2 ^ 64 ≤ index_reals (table_reals t) key))) → ⊥
+      sizes : (t : Table) → t ≡ table
+          → (65536 ≤ next_tree schema + length t.uniques)
+          ⊎ ((2 ^ 64 ≤ table_reals t)
+          ⊎ ((key : List ℕ) × Has t.uniques key × (2 ^ 64 ≤ index_reals (table_reals t) key))) → ⊥
       sizes t same (inl many) = omega (arith, subst (λ (t : Table). 65536 ≤ next_tree schema + length t.uniques) same many, free.few)
       sizes t same (inr (inl wide)) = omega (arith, subst (λ (t : Table). 2 ^ 64 ≤ table_reals t) same wide, free.narrow)
       sizes t same (inr (inr (key, has, wide))) =
@@ -87,8 +92,10 @@ module _ (schema : Schema) (table : Table) (text : List ℕ) (defined : table_de
   made db has (Some e) (inl no_text) = no_text.0 free.utf8
   made db has (Some e) (inr (why, refused, same)) = not_refused why (subst (λ s. RefusesTable s text why) has refused)
 
-module _ (schema : Schema) (table : Table) (text : List ℕ) (is : command_of (understood schema text) ≡ CreateTable) (plain : IsPlain (understood schema text)) (whole : IsWhole text 0 (understood schema text))
-    (one : statement_of text (understood schema text) ≡ text) (defined : table_defined_by text ≡ Ok table) (uncounted : lacks_sequence (created schema table) ≡ false) (free : IsFree schema table text) where
+module _ (schema : Schema) (table : Table) (text : List ℕ) (is : command_of (understood schema text) ≡ CreateTable)
+    (plain : IsPlain (understood schema text)) (whole : IsWhole text 0 (understood schema text))
+    (one : statement_of text (understood schema text) ≡ text) (defined : table_defined_by text ≡ Ok table)
+    (uncounted : lacks_sequence (created schema table) ≡ false) (free : IsFree schema table text) where
   -- carrying it out does not stop either
   not_stopped : (db : Database) → db.schema ≡ schema → (stop : Option Error) → Then (MakesTable text db) MakesSequence (Err stop) → ⊥
   not_stopped db has stop (inl at_table) = made schema table text defined free db has stop (first_of {First = λ s. MakesTable text db (Err s)} stop at_table)

@@ -43,7 +43,9 @@ module _ (schema : Schema) (at : ℕ) (table : Table) (key target : List ℕ) (k
     pub rows : next table.tree ≡ without schema at table key target keyed values (db table.tree)
     pub others : AllByRecursion (λ t. t.tree ≢ table.tree → next t.tree ≡ db t.tree) schema.tables
 
-  pub delete_holds : (db next : Trees) (values : Row) (rows : List Row) → IsDeleted db next values → Holds (places table) (db table.tree) rows → Holds (places table) (next table.tree) (delete key (Null ∷ values) rows)
+  pub delete_holds : (db next : Trees) (values : Row) (rows : List Row) → IsDeleted db next values
+      → Holds (places table) (db table.tree) rows
+      → Holds (places table) (next table.tree) (delete key (Null ∷ values) rows)
   delete_holds db next values rows gone held =
       let show = bare (places table) in
       let test = λ (r : Row). not (same_key key r (Null ∷ values)) in
@@ -54,7 +56,8 @@ module _ (schema : Schema) (at : ℕ) (table : Table) (key target : List ℕ) (k
         same = subst (λ l. IsPermutation (map show l) (filter test rows)) (sym gone.rows) kept;
       }
 
-  finds_deleted : (db : Trees) (params : Row) (found : List Row) → IsShaped TableShape (db table.tree) → ((r : Row) → list_all (holds (params ∷ r ∷ [])) terms ≡ same_key key (bare (places table) r) (Null ∷ params))
+  finds_deleted : (db : Trees) (params : Row) (found : List Row) → IsShaped TableShape (db table.tree)
+      → ((r : Row) → list_all (holds (params ∷ r ∷ [])) terms ≡ same_key key (bare (places table) r) (Null ∷ params))
       → IsPermutation (map (λ r. rowid r ∷ []) (filter (λ r. list_all (holds (params ∷ r ∷ [])) terms) (db table.tree))) found
       → without_all (db table.tree) (ids_of found) ≡ without schema at table key target keyed params (db table.tree)
   finds_deleted db params found shaped means same = taken_out (λ r. same_key key (bare (places table) r) (Null ∷ params)) (db table.tree) (ids_of found) shaped sound complete
@@ -74,7 +77,9 @@ module _ (schema : Schema) (at : ℕ) (table : Table) (key target : List ℕ) (k
   abbrev pub taking : ℕ → Program
   taking tree = record { lets = []; body = one_table tree terms (col 1 0 ∷ []) [] }
 
-  takes_out : (limit : Option ℕ) (db : Trees) (params : Row) (w : Written) → overlay db [] table.tree ≡ db table.tree → ((r : Row) → list_all (holds (params ∷ r ∷ [])) terms ≡ same_key key (bare (places table) r) (Null ∷ params)) → IsShaped TableShape (db table.tree)
+  takes_out : (limit : Option ℕ) (db : Trees) (params : Row) (w : Written) → overlay db [] table.tree ≡ db table.tree
+      → ((r : Row) → list_all (holds (params ∷ r ∷ [])) terms ≡ same_key key (bare (places table) r) (Null ∷ params))
+      → IsShaped TableShape (db table.tree)
       → Deletes (task schema at table key target keyed limit params) (taking table.tree) db (Ok w) → IsDeleted db w.trees params
   takes_out limit db params w own means shaped wrote =
       let found = went wrote in
@@ -92,15 +97,21 @@ module _ (schema : Schema) (at : ℕ) (table : Table) (key target : List ℕ) (k
   -- what a statement that deletes by the key does with the rows that it finds
   abbrev pub TakesRow : Option ℕ → Row → Type 0
   TakesRow limit params =
-      (db : Trees) (w : Written) → Deletes (task schema at table key target keyed limit params) (taking table.tree) db (Ok w) → (all : Trees) → ContainsIn schema (record { schema = schema; trees = db }) all
+      (db : Trees) (w : Written)
+      → Deletes (task schema at table key target keyed limit params) (taking table.tree) db (Ok w) → (all : Trees)
+      → ContainsIn schema (record { schema = schema; trees = db }) all
       → ContainsIn schema (record { schema = schema; trees = w.trees }) (with_tree all table.tree (delete key (Null ∷ params) (all table.tree)))
 
   -- DELETE takes the key away.
-  pub delete_takes : (limit : Option ℕ) → ((db : Trees) → overlay db [] table.tree ≡ db table.tree) → (params : Row) → ((r : Row) → list_all (holds (params ∷ r ∷ [])) terms ≡ same_key key (bare (places table) r) (Null ∷ params)) → TakesRow limit params
+  pub delete_takes : (limit : Option ℕ) → ((db : Trees) → overlay db [] table.tree ≡ db table.tree) → (params : Row)
+      → ((r : Row) → list_all (holds (params ∷ r ∷ [])) terms ≡ same_key key (bare (places table) r) (Null ∷ params))
+      → TakesRow limit params
   delete_takes limit own params means db w wrote all was =
       let held = held_at schema at table key target keyed db all was.rows in
       let done = takes_out limit db params w (own db) means held.shaped wrote in
-      set_in schema at table key target keyed (record { schema = schema; trees = db }) (record { schema = schema; trees = w.trees }) all _ was refl (delete_holds db w.trees params (all table.tree) done held) done.others
+      set_in schema at table key target keyed (record { schema = schema; trees = db })
+      (record { schema = schema; trees = w.trees }) all _ was refl
+      (delete_holds db w.trees params (all table.tree) done held) done.others
 
   -- what a statement that deletes leaves is what its rows are
   deleted : (old new : State) (text : List ℕ) (params : Row) (count : ℕ) → old.now.schema ≡ schema → Writes old new None (Delete at (taking table.tree)) text params count
@@ -110,7 +121,9 @@ module _ (schema : Schema) (at : ℕ) (table : Table) (key target : List ℕ) (k
       let db = old.now.trees in
       let made = subst (λ s. Does old.step_limit (mode_of old) params (record old.now { schema = s }) text None command (Ok (w.tally, new.now))) has w.changed in
       let ran : OnRows (record { limit = old.step_limit; keys = Enforced; schema = schema; table = table; params = params }) (mode_of old) None command db (Ok (w.tally, new.now)) =
-      subst (λ o. AtPlace (λ t. OnRows (record { limit = old.step_limit; keys = Enforced; schema = schema; table = t; params = params }) (mode_of old) None command db) o (Ok (w.tally, new.now))) keyed.place made in
+      subst (λ o. AtPlace (λ t. OnRows
+      (record { limit = old.step_limit; keys = Enforced; schema = schema; table = t; params = params })
+      (mode_of old) None command db) o (Ok (w.tally, new.now))) keyed.place made in
       let all = went ran in
       let now : new.now ≡ record { schema = schema; trees = all.0.trees } = ap (λ (p : Tally × Database). p.1) (same_value (went (went all.2).2).2) in
       (ap (λ (d : Database). d.schema) now, all.0, all.1, ap (λ (d : Database). d.trees) now)

@@ -66,7 +66,9 @@ put_edits {tree} {key} {text} {row} puts = subst (λ n. Edits (with_row n key ro
   does = λ old new r h. sets_by store_schema puts.at puts.table key puts.target puts.keyed puts.way puts.clauses text puts.terms puts.width puts.means.0 puts.means.1 old new row row r puts.sets h;
   answers = λ old new has. answers text row old new store_schema has _ puts.means.0 tt puts.means.1 puts.means.2;
   narrows = λ limit db all was all_refer.
-      put_refused store_schema puts.at puts.table key puts.target puts.keyed limit db all was text puts.way puts.clauses puts.terms puts.width puts.means.0 puts.means.1 row row (puts.sets limit) (λ next holds. refers next _ holds all_refer);
+      put_refused store_schema puts.at puts.table key puts.target puts.keyed limit db all was text puts.way
+      puts.clauses puts.terms puts.width puts.means.0 puts.means.1 row row (puts.sets limit)
+      (λ next holds. refers next _ holds all_refer);
 })
 
 module _ {at : ℕ} {table : Table} {key target : List ℕ} (keyed : IsKeyed store_schema at table key target) (text : List ℕ) (terms : List Term) where
@@ -88,9 +90,14 @@ module _ {at : ℕ} {table : Table} {key target : List ℕ} (keyed : IsKeyed sto
     }
 
     -- INSERT .. ON CONFLICT .. DO UPDATE
-    pub upserts : (filter project : List Term) → Means store_schema text (InsertOr at Abort (Values terms width) (on_conflict target table.tree filter project ∷ [])) (length row) → ((db : Trees) → overlay db [] table.tree ≡ db table.tree)
+    pub upserts : (filter project : List Term)
+        → Means store_schema text
+        (InsertOr at Abort (Values terms width) (on_conflict target table.tree filter project ∷ [])) (length row)
+        → ((db : Trees) → overlay db [] table.tree ≡ db table.tree)
         → ((t r : Row) (id : ℤ) → list_all (holds ((row ++ rowid t ∷ shown table (Int id ∷ columns)) ∷ r ∷ [])) filter ≡ same_rowid r t)
-        → ((t : Row) (id : ℤ) → same_key key (bare (places table) t) (Null ∷ row) ≡ true → eval_all project ((row ++ rowid t ∷ shown table (Int id ∷ columns)) ∷ t ∷ []) ≡ rowid t ∷ rowid t ∷ columns) → PutsRow table.tree key text row
+        → ((t : Row) (id : ℤ) → same_key key (bare (places table) t) (Null ∷ row) ≡ true
+        → eval_all project ((row ++ rowid t ∷ shown table (Int id ∷ columns)) ∷ t ∷ []) ≡ rowid t ∷ rowid t
+        ∷ columns) → PutsRow table.tree key text row
     upserts filter project means own picked written = record {
       at = at;
       table = table;
@@ -106,11 +113,15 @@ module _ {at : ℕ} {table : Table} {key target : List ℕ} (keyed : IsKeyed sto
     }
 
   -- DELETE by the key
-  pub removes : (params : Row) → Means store_schema text (Delete at (record { lets = []; body = one_table table.tree terms (col 1 0 ∷ []) [] })) (length params) → ((db : Trees) → overlay db [] table.tree ≡ db table.tree)
+  pub removes : (params : Row)
+      → Means store_schema text (Delete at (record { lets = []; body = one_table table.tree terms (col 1 0 ∷ []) [] }))
+      (length params) → ((db : Trees) → overlay db [] table.tree ≡ db table.tree)
       → ((r : Row) → list_all (holds (params ∷ r ∷ [])) terms ≡ same_key key (bare (places table) r) (Null ∷ params)) → Edits (without_row table.tree key params) text params
   removes params means own picked = record {
     does = λ old new r h. delete_by store_schema at table key target keyed terms text means.0 means.1 own old new params r picked h;
     answers = λ old new has. answers text params old new store_schema has _ means.0 tt means.1 means.2;
     narrows = λ limit db all was all_refer.
-        delete_refused store_schema at table key target keyed limit db all was text terms means.0 means.1 params (delete_takes store_schema at table key target keyed terms limit own params picked) (λ next holds. refers next _ holds all_refer);
+        delete_refused store_schema at table key target keyed limit db all was text terms means.0 means.1 params
+        (delete_takes store_schema at table key target keyed terms limit own params picked)
+        (λ next holds. refers next _ holds all_refer);
   }

@@ -1,5 +1,7 @@
 -- Why a statement on the rows of a table fails.
-use Rattle.std.proofs.Common.{◌≡◌, ◌≤◌, inl, inr, ℕ, ℤ, List, [], ◌∷◌, ◌++◌, length, Bool, true, false, ◌||◌, MatchBool, IsTrue, Some, None, Option, option_map, Ok, Err, Result, refl, sym, ap, subst, ◌∙◌, append-nil}
+use Rattle.std.proofs.Common.{◌≡◌, ◌≤◌, inl, inr, ℕ, ℤ, List, [], ◌∷◌, ◌++◌, length, Bool, true, false, ◌||◌, MatchBool}
+use Rattle.std.proofs.Common.{IsTrue, Some, None, Option, option_map, Ok, Err, Result, refl, sym, ap, subst, ◌∙◌}
+use Rattle.std.proofs.Common.{append-nil}
 use Rattle.sqlite_value.specs.Order.{Row}
 use Rattle.sqlite_trees.specs.Tree.{Trees, rowid}
 use Rattle.sqlite_trees.specs.declared.error.StoreError.TheVariants.{OutOfMemory, Io, Corrupt, Full, Broken, Unstorable}
@@ -27,7 +29,10 @@ use Rattle.sqlite.specs.declared.error.Error.TheVariants.{InvalidQuery}
 use Rattle.sqlite_schema.specs.declared.schema.Constraint.TheVariants.{ForeignKey}
 use Rattle.sqlite.specs.declared.run.Mode.{Mode}
 use Rattle.sqlite.specs.Effect.{Database, edit_error, is_query}
-use Rattle.sqlite.specs.Rows.{Part, Then, Gives, Task, Queried, Sourced, Edited, Counter, CounterIn, Counts, CountsIn, Written, Puts, Clears, Updates, Resolves, Meets, Upserts, Judged, Tries, TriesEach, InsertsOr, Deletes, passes_over, sequence, nothing, shown, count_of, joined, higher, rowids_for, mended, stamped}
+use Rattle.sqlite.specs.Rows.{Part, Then, Gives, Task, Queried, Sourced, Edited, Counter, CounterIn, Counts, CountsIn}
+use Rattle.sqlite.specs.Rows.{Written, Puts, Clears, Updates, Resolves, Meets, Upserts, Judged, Tries, TriesEach}
+use Rattle.sqlite.specs.Rows.{InsertsOr, Deletes, passes_over, sequence, nothing, shown, count_of, joined, higher}
+use Rattle.sqlite.specs.Rows.{rowids_for, mended, stamped}
 use Rattle.sqlite.specs.Does.{Does, Concludes, OnRows, AtPlace, Tally}
 use Rattle.sqlite.specs.Clock.{timed}
 use Rattle.sqlite.specs.State as state
@@ -42,7 +47,9 @@ abbrev Named : {A : Type 0} → Part A → Type 0
 Named P = (e : Error) → P (Err (Some e)) → IsTrue (is_failure e)
 
 -- a part that stopped at its first part
-left : {B : Type 0} {First : Option Error → Type 0} (e : Error) → ((stop : Option Error) × First stop × ◌≡◌ {A = Result B (Option Error)} (Err (Some e)) (Err stop)) → ((f : Error) → First (Some f) → IsTrue (is_failure f)) → IsTrue (is_failure e)
+left : {B : Type 0} {First : Option Error → Type 0} (e : Error)
+    → ((stop : Option Error) × First stop × ◌≡◌ {A = Result B (Option Error)} (Err (Some e)) (Err stop))
+    → ((f : Error) → First (Some f) → IsTrue (is_failure f)) → IsTrue (is_failure e)
 left {B} {First} e stopped named = go stopped.0 stopped.1 stopped.2
   where
     go : (stop : Option Error) → First stop → ◌≡◌ {A = Result B (Option Error)} (Err (Some e)) (Err stop) → IsTrue (is_failure e)
@@ -146,7 +153,9 @@ module _ (task : Task) where
 
   judged_named : (way : Conflict) (clauses : List Upsert) (new : Row) (db : Trees) (verdict : Option Refusal) → Named (Judged task way clauses new db verdict)
   judged_named way clauses new db None = upserts_named way new db clauses
-  judged_named way clauses new db (Some why) = match_named (passes_over way why) (Gives (nothing db)) (λ out. out ≡ Err (Some (edit_error why))) (gives_named (nothing db)) (λ e h. told e (edit_error why) h (edit_named why))
+  judged_named way clauses new db (Some why) =
+      match_named (passes_over way why) (Gives (nothing db)) (λ out. out ≡ Err (Some (edit_error why)))
+      (gives_named (nothing db)) (λ e h. told e (edit_error why) h (edit_named why))
 
   tries_named : (way : Conflict) (clauses : List Upsert) (new : Row) (db : Trees) → Named (Tries task way clauses new db)
   tries_named way clauses new db e (inl full) = told e (edit_error NoRowid) full.1 (edit_named NoRowid)
@@ -154,8 +163,14 @@ module _ (task : Task) where
 
   each_named : (way : Conflict) (clauses : List Upsert) (sources : List Row) (top : ℤ) (done : Written) → Named (TriesEach task way clauses sources top done)
   each_named way clauses [] top done e h = absurd cc
-  each_named way clauses (source ∷ more) top done e (inl s) = left e s (λ f. tries_named way clauses (with_rowid (rowids_for table top) (done.trees table.tree) (cast_row table (mended way table source))) done.trees f)
-  each_named way clauses (source ∷ more) top done e (inr on) = each_named way clauses more (higher top (with_rowid (rowids_for table top) (done.trees table.tree) (cast_row table (mended way table source)))) (joined done on.0) e on.2
+  each_named way clauses (source ∷ more) top done e (inl s) =
+      left e s (λ f. tries_named way clauses
+      (with_rowid (rowids_for table top) (done.trees table.tree) (cast_row table (mended way table source))) done.trees
+      f)
+  each_named way clauses (source ∷ more) top done e (inr on) =
+      each_named way clauses more
+      (higher top (with_rowid (rowids_for table top) (done.trees table.tree)
+      (cast_row table (mended way table source)))) (joined done on.0) e on.2
 
   inserts_named : (way : Conflict) (clauses : List Upsert) (from : Source) (db : Trees) → Named (InsertsOr task way clauses from db)
   inserts_named way clauses from db e (inl s) = left e s (λ f. sourced_named limit (record { schema = schema; trees = db }) (stamped table params) from f)
@@ -165,7 +180,9 @@ module _ (task : Task) where
   inserts_named way clauses from db e (inr (found, _, inr (counter, _, inr (done, _, inr on)))) = let h = on.2 in absurd cc
 
   concludes_named : (mode : Mode) (w : Written) → Named (Concludes task mode None w)
-  concludes_named mode w e (inl s) = left e s (λ f h. let it : f ≡ edit_error (Violates ForeignKey) = let h = h.1 in cc in is f (edit_error (Violates ForeignKey)) it (edit_named (Violates ForeignKey)))
+  concludes_named mode w e (inl s) =
+      left e s (λ f h. let it : f ≡ edit_error (Violates ForeignKey) = let h =
+      h.1 in cc in is f (edit_error (Violates ForeignKey)) it (edit_named (Violates ForeignKey)))
   concludes_named mode w e (inr (in_doubt, _, inl s)) = left e s (λ f h. absurd cc)
   concludes_named mode w e (inr (in_doubt, _, inr on)) = let h = on.2 in absurd cc
 
@@ -189,8 +206,12 @@ on_delete task mode at q db e (inl s) = left e s (λ f. deletes_named task q db 
 on_delete task mode at q db e (inr went) = concludes_named task mode went.0 e went.2
 
 does_named : (limit : Option ℕ) (mode : Mode) (params : Row) (db : Database) (text : List ℕ) (command : Command) → IsOnRows command → Named (Does limit mode params db text None command)
-does_named limit mode params db text (InsertOr at way from clauses) rows = at_named (λ table. OnRows (task_on limit mode params db table) mode None (InsertOr at way from clauses) db.trees) _ (λ table. on_insert (task_on limit mode params db table) mode way clauses from db.trees)
-does_named limit mode params db text (Delete at q) rows = at_named (λ table. OnRows (task_on limit mode params db table) mode None (Delete at q) db.trees) _ (λ table. on_delete (task_on limit mode params db table) mode at q db.trees)
+does_named limit mode params db text (InsertOr at way from clauses) rows =
+    at_named (λ table. OnRows (task_on limit mode params db table) mode None (InsertOr at way from clauses) db.trees) _
+    (λ table. on_insert (task_on limit mode params db table) mode way clauses from db.trees)
+does_named limit mode params db text (Delete at q) rows =
+    at_named (λ table. OnRows (task_on limit mode params db table) mode None (Delete at q) db.trees) _
+    (λ table. on_delete (task_on limit mode params db table) mode at q db.trees)
 does_named limit mode params db text _ rows = absurd rows
 
 module _ (old new : State) (Refused : Type 0) where
@@ -213,7 +234,8 @@ abbrev pub IsWhole : List ℕ → ℕ → Result Compiled CompileError → Type 
 IsWhole text count (Ok c) = (length text ≤ c.tail) × (count ≡ length c.names)
 IsWhole text count (Err fault) = ⊥
 
-module _ (sql : List ℕ) (params : Row) (old new : State) (schema : Schema) (has : old.now.schema ≡ schema) (command : Command) (commands : command_of (understood schema sql) ≡ command) (writes : IsOnRows command)
+module _ (sql : List ℕ) (params : Row) (old new : State) (schema : Schema) (has : old.now.schema ≡ schema)
+    (command : Command) (commands : command_of (understood schema sql) ≡ command) (writes : IsOnRows command)
     (plain : IsPlain (understood schema sql)) (whole : IsWhole sql (length params) (understood schema sql)) where
   abbrev Why : Error → Type 0
   Why = Fails old new (Refuses old.step_limit old.now sql params)
@@ -228,16 +250,23 @@ module _ (sql : List ℕ) (params : Row) (old new : State) (schema : Schema) (ha
     its_rows : IsOnRows c.command
     its_rows = subst IsOnRows (sym commands ∙ ap command_of known) writes
 
-    refused : (now : ℕ) (stop : Option Error) → Does old.step_limit (mode_of old) (timed params c.formats now) old.now (text_of sql c) c.returning c.command (Err stop) → Refuses old.step_limit old.now sql params
+    refused : (now : ℕ) (stop : Option Error)
+        → Does old.step_limit (mode_of old) (timed params c.formats now) old.now (text_of sql c) c.returning c.command
+        (Err stop) → Refuses old.step_limit old.now sql params
     refused now stop does = (c, ap (λ s. understood s sql) has ∙ known, stop, rw (its_plain.1, append-nil params) at does)
 
     -- what it was done by
-    tally_of : (k : Command) → IsOnRows k → (given : Row) (count : ℕ) → Runs old new c.returning k (text_of sql c) given count → (tally : Tally) × Does old.step_limit (mode_of old) given old.now (text_of sql c) c.returning k (Ok (tally, new.now))
+    tally_of : (k : Command) → IsOnRows k → (given : Row) (count : ℕ)
+        → Runs old new c.returning k (text_of sql c) given count
+        → (tally : Tally) × Does old.step_limit (mode_of old) given old.now (text_of sql c) c.returning k
+        (Ok (tally, new.now))
     tally_of (InsertOr at way from clauses) rows given count w = (w.tally, w.changed)
     tally_of (Delete at q) rows given count w = (w.tally, w.changed)
     tally_of _ rows given count w = absurd rows
 
-    reached : (now : ℕ) (tally : Tally) → Does old.step_limit (mode_of old) (timed params c.formats now) old.now (text_of sql c) c.returning c.command (Ok (tally, new.now)) → RunsTo old.step_limit sql params old.now new.now
+    reached : (now : ℕ) (tally : Tally)
+        → Does old.step_limit (mode_of old) (timed params c.formats now) old.now (text_of sql c) c.returning c.command
+        (Ok (tally, new.now)) → RunsTo old.step_limit sql params old.now new.now
     reached now tally does = (c, ap (λ s. understood s sql) has ∙ known, tally, rw (its_plain.1, append-nil params) at does)
 
     command_done : (now count : ℕ) → RunsCommand old new sql c (timed params c.formats now) (Ok count) → RunsTo old.step_limit sql params old.now new.now

@@ -61,7 +61,9 @@ fits_chosen table key values whole typed full = record {
 
 -- the rowid is the key, a number that the statement gives
 pub fits_given : (table : Table) (key : List ℕ) (n : ℤ) (columns values : Row) → mended_from table.key 0 table.columns columns ≡ columns → cast_all table.columns columns ≡ columns
-    → bare (places table) (Int n ∷ columns) ≡ Null ∷ values → ((r : Row) → same_key key (bare (places table) r) (Null ∷ values) ≡ same_rowid r (Int n ∷ columns)) → Fits table key (Int n) columns values
+    → bare (places table) (Int n ∷ columns) ≡ Null ∷ values
+    → ((r : Row) → same_key key (bare (places table) r) (Null ∷ values) ≡ same_rowid r (Int n ∷ columns))
+    → Fits table key (Int n) columns values
 fits_given table key n columns values whole typed full is = record {
   whole = whole;
   typed = typed;

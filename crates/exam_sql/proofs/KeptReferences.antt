@@ -102,7 +102,8 @@ module _ (key : List ℕ) (before mid after : List Row) where
   delete_first : (rows : List Row) → Between key before mid after rows all_there → Between key before mid after rows deleting
   delete_first rows was = record { among = was.among; keeps = λ no. absurd cc; has = was.has; untouched = λ no. absurd cc; midway = λ no. absurd cc }
 
-  delete_one : (k : Row) (rows : List Row) → ((r : Row) → Has after r → Has (delete key k rows) r) → Between key before mid after rows deleting → Between key before mid after (delete key k rows) deleting
+  delete_one : (k : Row) (rows : List Row) → ((r : Row) → Has after r → Has (delete key k rows) r)
+      → Between key before mid after rows deleting → Between key before mid after (delete key k rows) deleting
   delete_one k rows stay was = record {
     among = λ r h. was.among r (has_filtered (λ x. not (same_key key x k)) rows r h).0;
     keeps = λ no. absurd cc;
@@ -210,7 +211,9 @@ module _ {X : Type 0} (change : X → Trees → Trees) where
           of_row r (inl (may, there)) = parent.keeps (implied _ _ (and_parts _ _ sound).0 may) l.columns r (all_has _ (before l.child) r was there)
           of_row r (inr (may, there)) = parent.has (implied _ _ (and_parts _ _ sound).1 may) l.columns r (all_has _ (after l.child) r will there)
 
-      links_hold : (ways : ℕ → Way) (all : Trees) → Known ways all → (ls : List Link) → AllByRecursion (λ l. keys l.parent ≡ l.key) ls → AllByRecursion (LinkHolds before) ls → AllByRecursion (LinkHolds after) ls
+      links_hold : (ways : ℕ → Way) (all : Trees) → Known ways all → (ls : List Link)
+          → AllByRecursion (λ l. keys l.parent ≡ l.key) ls → AllByRecursion (LinkHolds before) ls
+          → AllByRecursion (LinkHolds after) ls
           → list_all (is_sound_at ways) ls ≡ true → AllByRecursion (LinkHolds all) ls
       links_hold ways all known [] fits was will sound = tt
       links_hold ways all known (l ∷ ls) fits was will sound =
@@ -237,9 +240,13 @@ module _ {X : Type 0} (change : X → Trees → Trees) where
         puts_go ways sound is does (y ∷ ys) come all known =
             let next = change (g y) all in
             let here : next tree ≡ put (keys tree) (row y) (all tree) = ap (λ (a : Trees). a tree) (does y all) ∙ set_here all tree _ in
-            let one = put_one (keys tree) (before tree) (mid tree) (after tree) (row y) (all tree) (come (row y) (inl refl)) (subst (Between (keys tree) (before tree) (mid tree) (after tree) (all tree)) is (known.each tree)) in
+            let one = put_one (keys tree) (before tree) (mid tree) (after tree) (row y) (all tree)
+            (come (row y) (inl refl))
+            (subst (Between (keys tree) (before tree) (mid tree) (after tree) (all tree)) is (known.each tree)) in
             let known_next : Known ways next =
-            known_by ways ways tree all next known (λ u other. (ap (λ (a : Trees). a u) (does y all) ∙ set_elsewhere all tree u _ other, refl)) (subst₂ (Between (keys tree) (before tree) (mid tree) (after tree)) (sym here) (sym is) one) in
+            known_by ways ways tree all next known
+            (λ u other. (ap (λ (a : Trees). a u) (does y all) ∙ set_elsewhere all tree u _ other, refl))
+            (subst₂ (Between (keys tree) (before tree) (mid tree) (after tree)) (sym here) (sym is) one) in
             let rest = puts_go ways sound is does ys (λ r h. come r (inr h)) next known_next in
             ((refers_all ways next sound known_next, rest.0), rest.1, rest.2 ∙ ap (put_all (keys tree) (map row ys)) here)
 
@@ -251,22 +258,29 @@ module _ {X : Type 0} (change : X → Trees → Trees) where
             let next = change (g y) all in
             let here : next tree ≡ delete (keys tree) (row y) (all tree) = ap (λ (a : Trees). a tree) (does y all) ∙ set_here all tree _ in
             let stay = λ (r : Row) (h : Has (after tree) r). left_was (keys tree) (map row ys) (delete (keys tree) (row y) (all tree)) r (subst (λ l. Has l r) ends h) in
-            let one = delete_one (keys tree) (before tree) (mid tree) (after tree) (row y) (all tree) stay (subst (Between (keys tree) (before tree) (mid tree) (after tree) (all tree)) is (known.each tree)) in
+            let one = delete_one (keys tree) (before tree) (mid tree) (after tree) (row y) (all tree) stay
+            (subst (Between (keys tree) (before tree) (mid tree) (after tree) (all tree)) is (known.each tree)) in
             let known_next : Known ways next =
-            known_by ways ways tree all next known (λ u other. (ap (λ (a : Trees). a u) (does y all) ∙ set_elsewhere all tree u _ other, refl)) (subst₂ (Between (keys tree) (before tree) (mid tree) (after tree)) (sym here) (sym is) one) in
+            known_by ways ways tree all next known
+            (λ u other. (ap (λ (a : Trees). a u) (does y all) ∙ set_elsewhere all tree u _ other, refl))
+            (subst₂ (Between (keys tree) (before tree) (mid tree) (after tree)) (sym here) (sym is) one) in
             let rest = deletes_go ways sound is does ys next (ends ∙ ap (delete_all (keys tree) (map row ys)) (sym here)) known_next in
             ((refers_all ways next sound known_next, rest.0), rest.1, rest.2)
 
         -- one table is only now so
         turn : (ways : ℕ → Way) (way : Way) (all : Trees) → Known ways all → Between (keys tree) (before tree) (mid tree) (after tree) (all tree) way → Known (now ways tree way) all
         turn ways way all known here =
-            known_by ways (now ways tree way) tree all all known (λ u other. (refl, now_elsewhere ways tree u way other)) (subst (Between (keys tree) (before tree) (mid tree) (after tree) (all tree)) (sym (now_here ways tree way)) here)
+            known_by ways (now ways tree way) tree all all known
+            (λ u other. (refl, now_elsewhere ways tree u way other))
+            (subst (Between (keys tree) (before tree) (mid tree) (after tree) (all tree))
+            (sym (now_here ways tree way)) here)
 
         at_way : (ways : ℕ → Way) (way : Way) (all : Trees) → ways tree ≡ way → Known ways all → Between (keys tree) (before tree) (mid tree) (after tree) (all tree) way
         at_way ways way all is known = subst (Between (keys tree) (before tree) (mid tree) (after tree) (all tree)) is (known.each tree)
 
         -- The puts of one table.
-        pub puts_part : (ways : ℕ → Way) → ways tree ≡ at_rest → is_sound (now ways tree putting) ≡ true → ((y : Y) (all : Trees) → change (g y) all ≡ with_tree all tree (put (keys tree) (row y) (all tree)))
+        pub puts_part : (ways : ℕ → Way) → ways tree ≡ at_rest → is_sound (now ways tree putting) ≡ true
+            → ((y : Y) (all : Trees) → change (g y) all ≡ with_tree all tree (put (keys tree) (row y) (all tree)))
             → (ys : List Y) → mid tree ≡ put_all (keys tree) (map row ys) (before tree) → ((r : Row) → Has (after tree) r → Has (mid tree) r) → ((r : Row) → Has (map row ys) r → Has (after tree) r)
             → Goes ways (map g ys) (now (now ways tree putting) tree all_there)
         puts_part ways is sound does ys ends stay come all known =
@@ -279,12 +293,16 @@ module _ {X : Type 0} (change : X → Trees → Trees) where
             (go.0, turn mid_ways all_there done go.1 (put_last key (before tree) (mid tree) (after tree) (done tree) now_mid stay (at_way mid_ways putting done (now_here ways tree putting) go.1)))
 
         -- The deletes of one table.
-        pub deletes_part : (ways : ℕ → Way) → ways tree ≡ all_there → is_sound (now ways tree deleting) ≡ true → ((y : Y) (all : Trees) → change (g y) all ≡ with_tree all tree (delete (keys tree) (row y) (all tree)))
+        pub deletes_part : (ways : ℕ → Way) → ways tree ≡ all_there → is_sound (now ways tree deleting) ≡ true
+            → ((y : Y) (all : Trees) → change (g y) all ≡ with_tree all tree (delete (keys tree) (row y) (all tree)))
             → (ys : List Y) → after tree ≡ delete_all (keys tree) (map row ys) (mid tree) → Goes ways (map g ys) (now (now ways tree deleting) tree arrived)
         deletes_part ways is sound does ys ends all known =
             let key = keys tree in
             let start = at_way ways all_there all is known in
             let mid_ways = now ways tree deleting in
-            let go = deletes_go mid_ways sound (now_here ways tree deleting) does ys all (ends ∙ ap (delete_all key (map row ys)) (sym (start.midway refl))) (turn ways deleting all known (delete_first key (before tree) (mid tree) (after tree) (all tree) start)) in
+            let go = deletes_go mid_ways sound (now_here ways tree deleting) does ys all
+            (ends ∙ ap (delete_all key (map row ys)) (sym (start.midway refl)))
+            (turn ways deleting all known
+            (delete_first key (before tree) (mid tree) (after tree) (all tree) start)) in
             let done = made (map g ys) all in
             (go.0, turn mid_ways arrived done go.1 (delete_last key (before tree) (mid tree) (after tree) (done tree) go.2))

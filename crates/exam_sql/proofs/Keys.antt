@@ -1,5 +1,7 @@
 -- What the tests of keys say of rows.
-use Rattle.std.proofs.Common.{◌≡◌, ℕ, ℤ, Bool, true, false, not, ◌&&◌, ◌||◌, ◌==◌, bytes_eq, cond, if◌then◌else◌, List, Some, Ordering, Less, Equal, Greater, refl, sym, ap, subst, subst₂, ◌∙◌, arith, true≢false}
+use Rattle.std.proofs.Common.{◌≡◌, ℕ, ℤ, Bool, true, false, not, ◌&&◌, ◌||◌, ◌==◌, bytes_eq, cond, if◌then◌else◌, List}
+use Rattle.std.proofs.Common.{Some, Ordering, Less, Equal, Greater, refl, sym, ap, subst, subst₂, ◌∙◌, arith}
+use Rattle.std.proofs.Common.{true≢false}
 use Rattle.std.specs.Ordering.{is_eq, is_ne}
 use Rattle.std.specs.List.{list_any}
 use Rattle.std.specs.Cmp.Derive.{both_true}
@@ -112,7 +114,9 @@ tie_from Greater h = absurd (h refl)
 
 -- A unique index has each key once.
 pub alone_by_index : (schema : Schema) (table : Table) (key : List ℕ)
-    → ((db : Trees) (s : Row) → passes Unique schema db table s ≡ true → list_any (λ r. same_key key (bare (places table) r) (bare (places table) s) && differ (rowid r) (rowid s)) (db table.tree) ≡ false)
+    → ((db : Trees) (s : Row) → passes Unique schema db table s ≡ true
+    → list_any (λ r. same_key key (bare (places table) r) (bare (places table) s) && differ (rowid r) (rowid s))
+    (db table.tree) ≡ false)
     → IsAlone schema table key
 alone_by_index schema table key none db shaped unique r s h k same =
     let a = int_is (rowid r) (all_has _ (db table.tree) r shaped.1 h) in

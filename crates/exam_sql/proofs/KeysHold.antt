@@ -32,7 +32,9 @@ pub first_of : {B : Type 0} {First : Option Error → Type 0} (stop : Option Err
 first_of {B} {First} stop it = let same : it.0 ≡ stop = cc in subst First same it.1
 
 -- where the foreign keys hold after what is written, it stops before
-stops_writing : (task : Task) (command : Command) (db : Trees) (stop : Option Error) → ((w : Written) → WritesRows task db command (Ok w) → Refers among.All task.schema w.trees) → OnRows task at_once None command db (Err stop) → WritesRows task db command (Err stop)
+stops_writing : (task : Task) (command : Command) (db : Trees) (stop : Option Error)
+    → ((w : Written) → WritesRows task db command (Ok w) → Refers among.All task.schema w.trees)
+    → OnRows task at_once None command db (Err stop) → WritesRows task db command (Err stop)
 stops_writing task command db stop sound (inl it) = first_of {First = λ s. WritesRows task db command (Err s)} stop it
 stops_writing task command db stop sound (inr (w, wrote, inl tested)) = absurd (tested.1.0 (sound w wrote))
 stops_writing task command db stop sound (inr (w, wrote, inr (in_doubt, holds, inl returns))) = absurd (let e = returns.1 in cc)
@@ -54,8 +56,11 @@ module _ (schema : Schema) (at : ℕ) (table : Table) (key target : List ℕ) (k
       let command = Delete at (taking schema at table key target keyed terms table.tree) in
       subst (λ o. AtPlace (λ t. OnRows (record { limit = limit; keys = Enforced; schema = schema; table = t; params = params }) at_once None command trees) o (Err stop)) keyed.place does
 
-  module _ (text : List ℕ) (command : Command) (is : command_of (understood schema text) ≡ command) (plain : IsPlain (understood schema text)) (on : IsOn command) (aims : written_table command ≡ Some at) where
-    refused_rows : (limit : Option ℕ) (trees : Trees) (params : Row) → ((w : Written) → WritesRows (task schema at table key target keyed limit params) trees command (Ok w) → Refers among.All schema w.trees)
+  module _ (text : List ℕ) (command : Command) (is : command_of (understood schema text) ≡ command)
+      (plain : IsPlain (understood schema text)) (on : IsOn command) (aims : written_table command ≡ Some at) where
+    refused_rows : (limit : Option ℕ) (trees : Trees) (params : Row)
+        → ((w : Written) → WritesRows (task schema at table key target keyed limit params) trees command (Ok w)
+        → Refers among.All schema w.trees)
         → Refuses limit (record { schema = schema; trees = trees }) text params → RefusesRows limit (record { schema = schema; trees = trees }) text params
     refused_rows limit trees params sound (c, known, stop, does) =
         let its_plain : (c.returning ≡ None) × (c.formats ≡ []) = subst IsPlain known plain in
@@ -63,7 +68,9 @@ module _ (schema : Schema) (at : ℕ) (table : Table) (key target : List ℕ) (k
         let ran : Does limit at_once params (record { schema = schema; trees = trees }) (text_of text c) None command (Err stop) = rw (its_plain.0, its_command) at does in
         let task = task schema at table key target keyed limit params in
         let stopped = stops_writing task command trees stop sound (on limit params _ trees stop ran) in
-        let place : option_and_then (slice_get schema.tables) (written_table c.command) ≡ Some table = ap (λ k. option_and_then (slice_get schema.tables) (written_table k)) its_command ∙ ap (option_and_then (slice_get schema.tables)) aims ∙ keyed.place in
+        let place : option_and_then (slice_get schema.tables) (written_table c.command) ≡ Some table =
+        ap (λ k. option_and_then (slice_get schema.tables) (written_table k)) its_command
+        ∙ ap (option_and_then (slice_get schema.tables)) aims ∙ keyed.place in
         (c, known, stop, table, place, subst (λ k. WritesRows task trees k (Err stop)) (sym its_command) stopped)
 
   module _ (limit : Option ℕ) (db : Database) (all : Trees) (was : ContainsIn schema db all) where
@@ -71,22 +78,35 @@ module _ (schema : Schema) (at : ℕ) (table : Table) (key target : List ℕ) (k
     in_schema : db ≡ record { schema = schema; trees = db.trees }
     in_schema = database_is db was.schema_is refl
 
-    within : (text : List ℕ) (params : Row) → (Refuses limit (record { schema = schema; trees = db.trees }) text params → RefusesRows limit (record { schema = schema; trees = db.trees }) text params) → Refuses limit db text params → RefusesRows limit db text params
+    within : (text : List ℕ) (params : Row)
+        → (Refuses limit (record { schema = schema; trees = db.trees }) text params
+        → RefusesRows limit (record { schema = schema; trees = db.trees }) text params) → Refuses limit db text params
+        → RefusesRows limit db text params
     within text params narrow refused = subst (λ d. RefusesRows limit d text params) (sym in_schema) (narrow (subst (λ d. Refuses limit d text params) in_schema refused))
 
     held : ContainsIn schema (record { schema = schema; trees = db.trees }) all
     held = subst (λ d. ContainsIn schema d all) in_schema was
 
     -- A put after which the foreign keys hold is refused by none.
-    pub put_refused : (text : List ℕ) (way : Conflict) (clauses : List Upsert) (terms : List Term) (width : ℕ) → command_of (understood schema text) ≡ InsertOr at way (Values terms width) clauses → IsPlain (understood schema text) → (params values : Row)
+    pub put_refused : (text : List ℕ) (way : Conflict) (clauses : List Upsert) (terms : List Term) (width : ℕ)
+        → command_of (understood schema text) ≡ InsertOr at way (Values terms width) clauses
+        → IsPlain (understood schema text) → (params values : Row)
         → SetsRow schema at table key target keyed limit way clauses terms width params values
-        → ((next : Database) → ContainsIn schema next (with_tree all table.tree (put key (Null ∷ values) (all table.tree))) → Refers among.All schema next.trees) → Refuses limit db text params → RefusesRows limit db text params
+        → ((next : Database)
+        → ContainsIn schema next (with_tree all table.tree (put key (Null ∷ values) (all table.tree)))
+        → Refers among.All schema next.trees) → Refuses limit db text params → RefusesRows limit db text params
     put_refused text way clauses terms width is plain params values sets sound =
-        within text params (refused_rows text _ is plain (on_insert way clauses terms width) refl limit db.trees params (λ w wrote. sound (record { schema = schema; trees = w.trees }) (sets db.trees w wrote all held)))
+        within text params (refused_rows text _ is plain (on_insert way clauses terms width) refl limit db.trees params
+        (λ w wrote. sound (record { schema = schema; trees = w.trees }) (sets db.trees w wrote all held)))
 
     -- A delete after which the foreign keys hold is refused by none.
-    pub delete_refused : (text : List ℕ) (terms : List Term) → command_of (understood schema text) ≡ Delete at (taking schema at table key target keyed terms table.tree) → IsPlain (understood schema text) → (params : Row)
+    pub delete_refused : (text : List ℕ) (terms : List Term)
+        → command_of (understood schema text) ≡ Delete at (taking schema at table key target keyed terms table.tree)
+        → IsPlain (understood schema text) → (params : Row)
         → TakesRow schema at table key target keyed terms limit params
-        → ((next : Database) → ContainsIn schema next (with_tree all table.tree (delete key (Null ∷ params) (all table.tree))) → Refers among.All schema next.trees) → Refuses limit db text params → RefusesRows limit db text params
+        → ((next : Database)
+        → ContainsIn schema next (with_tree all table.tree (delete key (Null ∷ params) (all table.tree)))
+        → Refers among.All schema next.trees) → Refuses limit db text params → RefusesRows limit db text params
     delete_refused text terms is plain params takes sound =
-        within text params (refused_rows text _ is plain (on_delete terms) refl limit db.trees params (λ w wrote. sound (record { schema = schema; trees = w.trees }) (takes db.trees w wrote all held)))
+        within text params (refused_rows text _ is plain (on_delete terms) refl limit db.trees params
+        (λ w wrote. sound (record { schema = schema; trees = w.trees }) (takes db.trees w wrote all held)))

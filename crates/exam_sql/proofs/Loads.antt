@@ -67,7 +67,8 @@ unchanged_by schema text old new rows has plain h =
 
 module _ {schema : Schema} {tree : ℕ} {text : List ℕ} (load : IsLoad schema tree text) where
   -- The text, run, shows the rows of its table, and changes nothing.
-  pub shown_by : (old new : State) (rows : List Row) (all : Trees) → ContainsIn schema old.now all → Shown text [] old new rows → IsPermutation (all tree) (map (λ r. Null ∷ r) rows) × IsUnchanged old new
+  pub shown_by : (old new : State) (rows : List Row) (all : Trees) → ContainsIn schema old.now all
+      → Shown text [] old new rows → IsPermutation (all tree) (map (λ r. Null ∷ r) rows) × IsUnchanged old new
   shown_by old new rows all was shown =
       let read = reads_as text [] old new schema was.schema_is _ load.is load.plain load.unlisted rows shown in
       let held = all_has _ schema.tables load.table was.rows (has_got schema.tables load.at load.table load.place) in (

@@ -48,9 +48,12 @@ pub record AddsTable (before after : Schema) (d : Described) : Type 0 where
 abbrev pub Adds : Described → Type 0
 Adds d = AddsTable (made d.at) (made (d.at + 1)) d
 
-pub adds_by : (d : Described) → IsCreate (made d.at) d.create → table_defined_by d.create ≡ Ok (unplaced d) → created (made d.at) (unplaced d) ≡ made (d.at + 1) → lacks_sequence (created (made d.at) (unplaced d)) ≡ false
+pub adds_by : (d : Described) → IsCreate (made d.at) d.create → table_defined_by d.create ≡ Ok (unplaced d)
+    → created (made d.at) (unplaced d) ≡ made (d.at + 1) → lacks_sequence (created (made d.at) (unplaced d)) ≡ false
     → list_all (λ t. not (t.tree == next_tree (made d.at))) (made d.at).tables ≡ true → next_tree (made d.at) ≡ d.table.tree → is_used (made d.at) d.table.name ≡ false
-    → list_all (λ (i : Index). not (is_used (made d.at) i.name)) (automatics (unplaced d) 0 0 d.table.uniques) ≡ true → IsUtf8 d.create → IsUtf8 d.table.name → is_reserved d.table.name ≡ false → next_tree (made d.at) + length d.table.uniques < 65536
+    → list_all (λ (i : Index). not (is_used (made d.at) i.name)) (automatics (unplaced d) 0 0 d.table.uniques) ≡ true
+    → IsUtf8 d.create → IsUtf8 d.table.name → is_reserved d.table.name ≡ false
+    → next_tree (made d.at) + length d.table.uniques < 65536
     → table_reals (unplaced d) < 2 ^ 64 → list_all (λ key. nat_lt (index_reals (table_reals (unplaced d)) key) (2 ^ 64)) d.table.uniques ≡ true → is_formed (unplaced d) ≡ true
     → is_fit (Text (codes "table")) (Text d.table.name) (Text d.table.name) (Text d.create) ≡ true → 2 * length d.table.name + length d.create + 200 < 10 ^ 9 → Adds d
 adds_by d create defined after_is uncounted fresh tree_is name keys utf8 name_utf8 own few narrow narrow_keys formed fit short = record {
@@ -65,7 +68,9 @@ adds_by d create defined after_is uncounted fresh tree_is name keys utf8 name_ut
 
 module _ {before after : Schema} {d : Described} (adds : AddsTable before after d) where
   -- the new table is empty, and the others hold what they held
-  pub adds_table : (old new : State) (r : Result ℕ Error) → Executes d.create [] old new r → OnOk r ((all : Trees) → ContainsIn before old.now all → ContainsIn after new.now (with_tree all d.table.tree []))
+  pub adds_table : (old new : State) (r : Result ℕ Error) → Executes d.create [] old new r
+      → OnOk r ((all : Trees) → ContainsIn before old.now all
+      → ContainsIn after new.now (with_tree all d.table.tree []))
   adds_table old new r h =
       subst (λ s. OnOk r ((all : Trees) → ContainsIn before old.now all → ContainsIn s new.now (with_tree all d.table.tree []))) adds.after_is
       (subst (λ t. OnOk r ((all : Trees) → ContainsIn before old.now all → ContainsIn (created before (unplaced d)) new.now (with_tree all t []))) adds.tree_is

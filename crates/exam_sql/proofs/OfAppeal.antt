@@ -42,14 +42,23 @@ unfolding store_schema
 keyed = by_index appeal refl refl refl refl (λ a b. ap (λ x. same_rowid a b || x) (or_false _)) (λ a b. or_false _) (λ db s h. not-true _ (and_parts _ _ h).0)
 
 abbrev pub row : ℤ → (List ℕ) → (List ℕ) → ℤ → (List ℕ) → ℤ → ℤ → (List ℕ) → ℤ → (Option (List ℕ)) → (List ℕ) → Row
-row number reference session kind target needs extra reason state answer lodged = Int number ∷ Text reference ∷ Text session ∷ Int kind ∷ Text target ∷ Int needs ∷ Int extra ∷ Text reason ∷ Int state ∷ or_null Text answer ∷ Text lodged ∷ []
+row number reference session kind target needs extra reason state answer lodged =
+    Int number ∷ Text reference ∷ Text session ∷ Int kind ∷ Text target ∷ Int needs ∷ Int extra ∷ Text reason
+    ∷ Int state ∷ or_null Text answer ∷ Text lodged ∷ []
 
 cast_maybe : (o : Option (List ℕ)) → cast KindText (or_null Text o) ≡ or_null Text o
 cast_maybe None = refl
 cast_maybe (Some t) = refl
 
-fits : (number : ℤ) (reference : List ℕ) (session : List ℕ) (kind : ℤ) (target : List ℕ) (needs : ℤ) (extra : ℤ) (reason : List ℕ) (state : ℤ) (answer : Option (List ℕ)) (lodged : List ℕ) → Fits appeal.table appeal.key Null (row number reference session kind target needs extra reason state answer lodged) (row number reference session kind target needs extra reason state answer lodged)
-fits number reference session kind target needs extra reason state answer lodged = fits_chosen appeal.table appeal.key (row number reference session kind target needs extra reason state answer lodged) refl (simp (cast_int, cast_maybe)) (λ v. refl)
+fits : (number : ℤ) (reference : List ℕ) (session : List ℕ) (kind : ℤ) (target : List ℕ) (needs : ℤ) (extra : ℤ)
+    (reason : List ℕ) (state : ℤ) (answer : Option (List ℕ)) (lodged : List ℕ)
+    → Fits appeal.table appeal.key Null
+    (row number reference session kind target needs extra reason state answer lodged)
+    (row number reference session kind target needs extra reason state answer lodged)
+fits number reference session kind target needs extra reason state answer lodged =
+    fits_chosen appeal.table appeal.key
+    (row number reference session kind target needs extra reason state answer lodged) refl
+    (simp (cast_int, cast_maybe)) (λ v. refl)
 
 abbrev terms : List Term
 terms = lit Null ∷ col 0 0 ∷ col 0 1 ∷ col 0 2 ∷ col 0 3 ∷ col 0 4 ∷ col 0 5 ∷ col 0 6 ∷ col 0 7 ∷ col 0 8 ∷ col 0 9 ∷ col 0 10 ∷ []
@@ -59,8 +68,15 @@ unfolding understood everything store_schema
 put_means = (refl, (refl, refl), (lit≤ tt, refl))
 
 -- the row replaces the one with its key
-pub puts : (number : ℤ) (reference : List ℕ) (session : List ℕ) (kind : ℤ) (target : List ℕ) (needs : ℤ) (extra : ℤ) (reason : List ℕ) (state : ℤ) (answer : Option (List ℕ)) (lodged : List ℕ) → PutsRow appeal.table.tree appeal.key appeal.put (row number reference session kind target needs extra reason state answer lodged)
-puts number reference session kind target needs extra reason state answer lodged = replaces keyed appeal.put terms 12 Null (row number reference session kind target needs extra reason state answer lodged) (row number reference session kind target needs extra reason state answer lodged) (fits number reference session kind target needs extra reason state answer lodged) refl put_means
+pub puts : (number : ℤ) (reference : List ℕ) (session : List ℕ) (kind : ℤ) (target : List ℕ) (needs : ℤ) (extra : ℤ)
+    (reason : List ℕ) (state : ℤ) (answer : Option (List ℕ)) (lodged : List ℕ)
+    → PutsRow appeal.table.tree appeal.key appeal.put
+    (row number reference session kind target needs extra reason state answer lodged)
+puts number reference session kind target needs extra reason state answer lodged =
+    replaces keyed appeal.put terms 12 Null
+    (row number reference session kind target needs extra reason state answer lodged)
+    (row number reference session kind target needs extra reason state answer lodged)
+    (fits number reference session kind target needs extra reason state answer lodged) refl put_means
 
 abbrev shown_terms : List Term
 shown_terms = col 1 1 ∷ col 1 2 ∷ col 1 3 ∷ col 1 4 ∷ col 1 5 ∷ col 1 6 ∷ col 1 7 ∷ col 1 8 ∷ col 1 9 ∷ col 1 10 ∷ col 1 11 ∷ []
@@ -68,8 +84,14 @@ shown_terms = col 1 1 ∷ col 1 2 ∷ col 1 3 ∷ col 1 4 ∷ col 1 5 ∷ col 1 
 -- the text that loads shows each column, with the table of marks or without it
 pub loads : (has_marks : Bool) → IsLoad (made_schema has_marks) appeal.table.tree appeal.load
 unfolding understood everything store_schema first_schema
-loads true = load_of (made_schema true) appeal.at appeal.table appeal.load shown_terms (codes "number" ∷ codes "ref" ∷ codes "session" ∷ codes "kind" ∷ codes "target" ∷ codes "needs" ∷ codes "extra" ∷ codes "reason" ∷ codes "state" ∷ codes "answer" ∷ codes "lodged" ∷ []) refl refl (refl, refl) refl (λ db. refl) (λ r. refl)
-loads false = load_of (made_schema false) appeal.at appeal.table appeal.load shown_terms (codes "number" ∷ codes "ref" ∷ codes "session" ∷ codes "kind" ∷ codes "target" ∷ codes "needs" ∷ codes "extra" ∷ codes "reason" ∷ codes "state" ∷ codes "answer" ∷ codes "lodged" ∷ []) refl refl (refl, refl) refl (λ db. refl) (λ r. refl)
+loads true = load_of (made_schema true) appeal.at appeal.table appeal.load shown_terms
+    (codes "number" ∷ codes "ref" ∷ codes "session" ∷ codes "kind" ∷ codes "target" ∷ codes "needs" ∷ codes "extra"
+    ∷ codes "reason" ∷ codes "state" ∷ codes "answer" ∷ codes "lodged" ∷ []) refl refl (refl, refl) refl (λ db. refl)
+    (λ r. refl)
+loads false = load_of (made_schema false) appeal.at appeal.table appeal.load shown_terms
+    (codes "number" ∷ codes "ref" ∷ codes "session" ∷ codes "kind" ∷ codes "target" ∷ codes "needs" ∷ codes "extra"
+    ∷ codes "reason" ∷ codes "state" ∷ codes "answer" ∷ codes "lodged" ∷ []) refl refl (refl, refl) refl (λ db. refl)
+    (λ r. refl)
 
 pub is_query : IsQuery appeal.load
 unfolding everything

@@ -63,8 +63,10 @@ shown_terms = col 1 0 ∷ col 1 2 ∷ col 1 3 ∷ []
 -- the text that loads shows each column, with the table of marks or without it
 pub loads : (has_marks : Bool) → IsLoad (made_schema has_marks) arrangement.table.tree arrangement.load
 unfolding understood everything store_schema first_schema
-loads true = load_of (made_schema true) arrangement.at arrangement.table arrangement.load shown_terms (codes "number" ∷ codes "needs" ∷ codes "extra" ∷ []) refl refl (refl, refl) refl (λ db. refl) (λ r. refl)
-loads false = load_of (made_schema false) arrangement.at arrangement.table arrangement.load shown_terms (codes "number" ∷ codes "needs" ∷ codes "extra" ∷ []) refl refl (refl, refl) refl (λ db. refl) (λ r. refl)
+loads true = load_of (made_schema true) arrangement.at arrangement.table arrangement.load shown_terms
+    (codes "number" ∷ codes "needs" ∷ codes "extra" ∷ []) refl refl (refl, refl) refl (λ db. refl) (λ r. refl)
+loads false = load_of (made_schema false) arrangement.at arrangement.table arrangement.load shown_terms
+    (codes "number" ∷ codes "needs" ∷ codes "extra" ∷ []) refl refl (refl, refl) refl (λ db. refl) (λ r. refl)
 
 pub is_query : IsQuery arrangement.load
 unfolding everything

@@ -70,7 +70,9 @@ put_means : Means store_schema candidate.put (InsertOr candidate.at Abort (Value
 unfolding understood everything store_schema
 put_means = (refl, (refl, refl), (lit≤ tt, refl))
 
-picked : (number : ℤ) (name : List ℕ) (code : List ℕ) (t r : Row) (id : ℤ) → list_all (holds ((row number name code ++ rowid t ∷ shown candidate.table (Int id ∷ columns number name code)) ∷ r ∷ [])) there ≡ same_rowid r t
+picked : (number : ℤ) (name : List ℕ) (code : List ℕ) (t r : Row) (id : ℤ)
+    → list_all (holds ((row number name code ++ rowid t ∷ shown candidate.table (Int id ∷ columns number name code))
+    ∷ r ∷ [])) there ≡ same_rowid r t
 unfolding first_key
 picked number name code t r id = refl
 
@@ -80,7 +82,10 @@ written number name code t id same = refl
 
 -- the row replaces the one with its key
 pub puts : (number : ℤ) (name : List ℕ) (code : List ℕ) → PutsRow candidate.table.tree candidate.key candidate.put (row number name code)
-puts number name code = upserts keyed candidate.put terms 4 (Int number) (columns number name code) (row number name code) (fits number name code) refl there project put_means (λ db. refl) (picked number name code) (written number name code)
+puts number name code =
+    upserts keyed candidate.put terms 4 (Int number) (columns number name code) (row number name code)
+    (fits number name code) refl there project put_means (λ db. refl) (picked number name code)
+    (written number name code)
 
 abbrev shown_terms : List Term
 shown_terms = col 1 0 ∷ col 1 2 ∷ col 1 3 ∷ []
@@ -89,7 +94,8 @@ shown_terms = col 1 0 ∷ col 1 2 ∷ col 1 3 ∷ []
 pub loads : (has_marks : Bool) → IsLoad (made_schema has_marks) candidate.table.tree candidate.load
 unfolding understood everything store_schema first_schema
 loads true = load_of (made_schema true) candidate.at candidate.table candidate.load shown_terms (codes "number" ∷ codes "name" ∷ codes "code" ∷ []) refl refl (refl, refl) refl (λ db. refl) (λ r. refl)
-loads false = load_of (made_schema false) candidate.at candidate.table candidate.load shown_terms (codes "number" ∷ codes "name" ∷ codes "code" ∷ []) refl refl (refl, refl) refl (λ db. refl) (λ r. refl)
+loads false = load_of (made_schema false) candidate.at candidate.table candidate.load shown_terms
+    (codes "number" ∷ codes "name" ∷ codes "code" ∷ []) refl refl (refl, refl) refl (λ db. refl) (λ r. refl)
 
 pub is_query : IsQuery candidate.load
 unfolding everything

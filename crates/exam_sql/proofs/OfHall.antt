@@ -67,7 +67,9 @@ put_means : Means store_schema hall.put (InsertOr hall.at Abort (Values terms 4)
 unfolding understood everything store_schema
 put_means = (refl, (refl, refl), (lit≤ tt, refl))
 
-picked : (code : List ℕ) (title : List ℕ) (features : ℤ) (t r : Row) (id : ℤ) → list_all (holds ((row code title features ++ rowid t ∷ shown hall.table (Int id ∷ row code title features)) ∷ r ∷ [])) there ≡ same_rowid r t
+picked : (code : List ℕ) (title : List ℕ) (features : ℤ) (t r : Row) (id : ℤ)
+    → list_all (holds ((row code title features ++ rowid t ∷ shown hall.table (Int id ∷ row code title features)) ∷ r
+    ∷ [])) there ≡ same_rowid r t
 unfolding first_key
 picked code title features t r id = refl
 
@@ -77,7 +79,10 @@ written code title features t id same = ap (λ v. rowid t ∷ rowid t ∷ v ∷ 
 
 -- the row replaces the one with its key
 pub puts : (code : List ℕ) (title : List ℕ) (features : ℤ) → PutsRow hall.table.tree hall.key hall.put (row code title features)
-puts code title features = upserts keyed hall.put terms 4 Null (row code title features) (row code title features) (fits code title features) refl there project put_means (λ db. refl) (picked code title features) (written code title features)
+puts code title features =
+    upserts keyed hall.put terms 4 Null (row code title features) (row code title features)
+    (fits code title features) refl there project put_means (λ db. refl) (picked code title features)
+    (written code title features)
 
 abbrev shown_terms : List Term
 shown_terms = col 1 1 ∷ col 1 2 ∷ col 1 3 ∷ []

@@ -71,7 +71,8 @@ pub puts : (old new : State) (version : ℤ) (r : Result ℕ Error) → Executes
     → OnOk r ((all : Trees) → ContainsIn store_schema old.now all → ContainsIn store_schema new.now (with_row office.table.tree office.key (row (pos 1) version) all))
 puts old new version r h =
     sets_by store_schema office.at office.table office.key (0 ∷ []) keyed Replace [] put_text terms 3 put_is put_plain old new (Int version ∷ []) (row (pos 1) version) r
-    (λ limit. put_sets store_schema office.at office.table office.key (0 ∷ []) keyed limit terms 3 (Int version ∷ []) (Int (pos 1)) (columns (pos 1) version) (row (pos 1) version) (fits (pos 1) version) refl) h
+    (λ limit. put_sets store_schema office.at office.table office.key (0 ∷ []) keyed limit terms 3 (Int version ∷ [])
+    (Int (pos 1)) (columns (pos 1) version) (row (pos 1) version) (fits (pos 1) version) refl) h
 
 put_whole : IsWhole put_text 1 (understood store_schema put_text)
 unfolding understood everything store_schema

@@ -69,19 +69,27 @@ put_means : Means store_schema opening.put (InsertOr opening.at Abort (Values te
 unfolding understood everything store_schema
 put_means = (refl, (refl, refl), (lit≤ tt, refl))
 
-picked : (session : List ℕ) (hall : List ℕ) (desks : ℤ) (until : ℤ) (reserved : ℤ) (t r : Row) (id : ℤ) → list_all (holds ((row session hall desks until reserved ++ rowid t ∷ shown opening.table (Int id ∷ row session hall desks until reserved)) ∷ r ∷ [])) there ≡ same_rowid r t
+picked : (session : List ℕ) (hall : List ℕ) (desks : ℤ) (until : ℤ) (reserved : ℤ) (t r : Row) (id : ℤ)
+    → list_all (holds ((row session hall desks until reserved ++ rowid t
+    ∷ shown opening.table (Int id ∷ row session hall desks until reserved)) ∷ r ∷ [])) there ≡ same_rowid r t
 unfolding first_key
 picked session hall desks until reserved t r id = refl
 
-written : (session : List ℕ) (hall : List ℕ) (desks : ℤ) (until : ℤ) (reserved : ℤ) (t : Row) (id : ℤ) → same_key opening.key (bare (places opening.table) t) (Null ∷ row session hall desks until reserved) ≡ true
-    → eval_all project ((row session hall desks until reserved ++ rowid t ∷ shown opening.table (Int id ∷ row session hall desks until reserved)) ∷ t ∷ []) ≡ rowid t ∷ rowid t ∷ row session hall desks until reserved
+written : (session : List ℕ) (hall : List ℕ) (desks : ℤ) (until : ℤ) (reserved : ℤ) (t : Row) (id : ℤ)
+    → same_key opening.key (bare (places opening.table) t) (Null ∷ row session hall desks until reserved) ≡ true
+    → eval_all project ((row session hall desks until reserved ++ rowid t
+    ∷ shown opening.table (Int id ∷ row session hall desks until reserved)) ∷ t ∷ []) ≡ rowid t ∷ rowid t
+    ∷ row session hall desks until reserved
 unfolding first_key
 written session hall desks until reserved t id same =
     let both = and_parts _ _ same in ap₂ (λ v w. rowid t ∷ rowid t ∷ v ∷ w ∷ Int desks ∷ Int until ∷ Int reserved ∷ []) (text_same _ _ both.0) (text_same _ _ (and_parts _ _ both.1).0)
 
 -- the row replaces the one with its key
 pub puts : (session : List ℕ) (hall : List ℕ) (desks : ℤ) (until : ℤ) (reserved : ℤ) → PutsRow opening.table.tree opening.key opening.put (row session hall desks until reserved)
-puts session hall desks until reserved = upserts keyed opening.put terms 6 Null (row session hall desks until reserved) (row session hall desks until reserved) (fits session hall desks until reserved) refl there project put_means (λ db. refl) (picked session hall desks until reserved) (written session hall desks until reserved)
+puts session hall desks until reserved =
+    upserts keyed opening.put terms 6 Null (row session hall desks until reserved)
+    (row session hall desks until reserved) (fits session hall desks until reserved) refl there project put_means
+    (λ db. refl) (picked session hall desks until reserved) (written session hall desks until reserved)
 
 abbrev key_terms : List Term
 key_terms = op2 (Compare Eq Binary) (col 1 1) (col 0 0) ∷ op2 (Compare Eq Binary) (col 1 2) (col 0 1) ∷ []
@@ -104,8 +112,12 @@ shown_terms = col 1 1 ∷ col 1 2 ∷ col 1 3 ∷ col 1 4 ∷ col 1 5 ∷ []
 -- the text that loads shows each column, with the table of marks or without it
 pub loads : (has_marks : Bool) → IsLoad (made_schema has_marks) opening.table.tree opening.load
 unfolding understood everything store_schema first_schema
-loads true = load_of (made_schema true) opening.at opening.table opening.load shown_terms (codes "session" ∷ codes "hall" ∷ codes "desks" ∷ codes "until" ∷ codes "reserved" ∷ []) refl refl (refl, refl) refl (λ db. refl) (λ r. refl)
-loads false = load_of (made_schema false) opening.at opening.table opening.load shown_terms (codes "session" ∷ codes "hall" ∷ codes "desks" ∷ codes "until" ∷ codes "reserved" ∷ []) refl refl (refl, refl) refl (λ db. refl) (λ r. refl)
+loads true = load_of (made_schema true) opening.at opening.table opening.load shown_terms
+    (codes "session" ∷ codes "hall" ∷ codes "desks" ∷ codes "until" ∷ codes "reserved" ∷ []) refl refl
+    (refl, refl) refl (λ db. refl) (λ r. refl)
+loads false = load_of (made_schema false) opening.at opening.table opening.load shown_terms
+    (codes "session" ∷ codes "hall" ∷ codes "desks" ∷ codes "until" ∷ codes "reserved" ∷ []) refl refl
+    (refl, refl) refl (λ db. refl) (λ r. refl)
 
 pub is_query : IsQuery opening.load
 unfolding everything

@@ -49,7 +49,9 @@ keyed = by_index paper refl refl refl refl (λ a b. ap (λ x. same_rowid a b || 
 abbrev pub row : (List ℕ) → (List ℕ) → (List ℕ) → ℤ → ℤ → Row
 row code title session minutes requires = Text code ∷ Text title ∷ Text session ∷ Int minutes ∷ Int requires ∷ []
 
-fits : (code : List ℕ) (title : List ℕ) (session : List ℕ) (minutes : ℤ) (requires : ℤ) → Fits paper.table paper.key Null (row code title session minutes requires) (row code title session minutes requires)
+fits : (code : List ℕ) (title : List ℕ) (session : List ℕ) (minutes : ℤ) (requires : ℤ)
+    → Fits paper.table paper.key Null (row code title session minutes requires)
+    (row code title session minutes requires)
 fits code title session minutes requires = fits_chosen paper.table paper.key (row code title session minutes requires) refl (simp (cast_int)) (λ v. refl)
 
 abbrev terms : List Term
@@ -67,17 +69,25 @@ put_means : Means store_schema paper.put (InsertOr paper.at Abort (Values terms 
 unfolding understood everything store_schema
 put_means = (refl, (refl, refl), (lit≤ tt, refl))
 
-picked : (code : List ℕ) (title : List ℕ) (session : List ℕ) (minutes : ℤ) (requires : ℤ) (t r : Row) (id : ℤ) → list_all (holds ((row code title session minutes requires ++ rowid t ∷ shown paper.table (Int id ∷ row code title session minutes requires)) ∷ r ∷ [])) there ≡ same_rowid r t
+picked : (code : List ℕ) (title : List ℕ) (session : List ℕ) (minutes : ℤ) (requires : ℤ) (t r : Row) (id : ℤ)
+    → list_all (holds ((row code title session minutes requires ++ rowid t
+    ∷ shown paper.table (Int id ∷ row code title session minutes requires)) ∷ r ∷ [])) there ≡ same_rowid r t
 unfolding first_key
 picked code title session minutes requires t r id = refl
 
-written : (code : List ℕ) (title : List ℕ) (session : List ℕ) (minutes : ℤ) (requires : ℤ) (t : Row) (id : ℤ) → same_key paper.key (bare (places paper.table) t) (Null ∷ row code title session minutes requires) ≡ true
-    → eval_all project ((row code title session minutes requires ++ rowid t ∷ shown paper.table (Int id ∷ row code title session minutes requires)) ∷ t ∷ []) ≡ rowid t ∷ rowid t ∷ row code title session minutes requires
+written : (code : List ℕ) (title : List ℕ) (session : List ℕ) (minutes : ℤ) (requires : ℤ) (t : Row) (id : ℤ)
+    → same_key paper.key (bare (places paper.table) t) (Null ∷ row code title session minutes requires) ≡ true
+    → eval_all project ((row code title session minutes requires ++ rowid t
+    ∷ shown paper.table (Int id ∷ row code title session minutes requires)) ∷ t ∷ []) ≡ rowid t ∷ rowid t
+    ∷ row code title session minutes requires
 written code title session minutes requires t id same = ap (λ v. rowid t ∷ rowid t ∷ v ∷ Text title ∷ Text session ∷ Int minutes ∷ Int requires ∷ []) (text_same _ _ (and_parts _ _ same).0)
 
 -- the row replaces the one with its key
 pub puts : (code : List ℕ) (title : List ℕ) (session : List ℕ) (minutes : ℤ) (requires : ℤ) → PutsRow paper.table.tree paper.key paper.put (row code title session minutes requires)
-puts code title session minutes requires = upserts keyed paper.put terms 6 Null (row code title session minutes requires) (row code title session minutes requires) (fits code title session minutes requires) refl there project put_means (λ db. refl) (picked code title session minutes requires) (written code title session minutes requires)
+puts code title session minutes requires =
+    upserts keyed paper.put terms 6 Null (row code title session minutes requires)
+    (row code title session minutes requires) (fits code title session minutes requires) refl there project put_means
+    (λ db. refl) (picked code title session minutes requires) (written code title session minutes requires)
 
 abbrev shown_terms : List Term
 shown_terms = col 1 1 ∷ col 1 2 ∷ col 1 3 ∷ col 1 4 ∷ col 1 5 ∷ []
@@ -85,8 +95,12 @@ shown_terms = col 1 1 ∷ col 1 2 ∷ col 1 3 ∷ col 1 4 ∷ col 1 5 ∷ []
 -- the text that loads shows each column, with the table of marks or without it
 pub loads : (has_marks : Bool) → IsLoad (made_schema has_marks) paper.table.tree paper.load
 unfolding understood everything store_schema first_schema
-loads true = load_of (made_schema true) paper.at paper.table paper.load shown_terms (codes "code" ∷ codes "title" ∷ codes "session" ∷ codes "minutes" ∷ codes "requires" ∷ []) refl refl (refl, refl) refl (λ db. refl) (λ r. refl)
-loads false = load_of (made_schema false) paper.at paper.table paper.load shown_terms (codes "code" ∷ codes "title" ∷ codes "session" ∷ codes "minutes" ∷ codes "requires" ∷ []) refl refl (refl, refl) refl (λ db. refl) (λ r. refl)
+loads true = load_of (made_schema true) paper.at paper.table paper.load shown_terms
+    (codes "code" ∷ codes "title" ∷ codes "session" ∷ codes "minutes" ∷ codes "requires" ∷ []) refl refl
+    (refl, refl) refl (λ db. refl) (λ r. refl)
+loads false = load_of (made_schema false) paper.at paper.table paper.load shown_terms
+    (codes "code" ∷ codes "title" ∷ codes "session" ∷ codes "minutes" ∷ codes "requires" ∷ []) refl refl
+    (refl, refl) refl (λ db. refl) (λ r. refl)
 
 pub is_query : IsQuery paper.load
 unfolding everything

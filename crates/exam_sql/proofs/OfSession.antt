@@ -67,7 +67,9 @@ put_means : Means store_schema session.put (InsertOr session.at Abort (Values te
 unfolding understood everything store_schema
 put_means = (refl, (refl, refl), (lit≤ tt, refl))
 
-picked : (code : List ℕ) (day : List ℕ) (start : ℤ) (t r : Row) (id : ℤ) → list_all (holds ((row code day start ++ rowid t ∷ shown session.table (Int id ∷ row code day start)) ∷ r ∷ [])) there ≡ same_rowid r t
+picked : (code : List ℕ) (day : List ℕ) (start : ℤ) (t r : Row) (id : ℤ)
+    → list_all (holds ((row code day start ++ rowid t ∷ shown session.table (Int id ∷ row code day start)) ∷ r ∷ []))
+    there ≡ same_rowid r t
 unfolding first_key
 picked code day start t r id = refl
 
@@ -77,7 +79,9 @@ written code day start t id same = ap (λ v. rowid t ∷ rowid t ∷ v ∷ Text 
 
 -- the row replaces the one with its key
 pub puts : (code : List ℕ) (day : List ℕ) (start : ℤ) → PutsRow session.table.tree session.key session.put (row code day start)
-puts code day start = upserts keyed session.put terms 4 Null (row code day start) (row code day start) (fits code day start) refl there project put_means (λ db. refl) (picked code day start) (written code day start)
+puts code day start =
+    upserts keyed session.put terms 4 Null (row code day start) (row code day start)
+    (fits code day start) refl there project put_means (λ db. refl) (picked code day start) (written code day start)
 
 abbrev shown_terms : List Term
 shown_terms = col 1 1 ∷ col 1 2 ∷ col 1 3 ∷ []

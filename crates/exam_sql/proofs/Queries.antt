@@ -27,7 +27,8 @@ picks tree terms project order db params rows a =
     let staged : a.staged ≡ map (λ (r : Row). params ∷ r ∷ []) passed = a.grouped ∙ chosen _ (λ r. params ∷ r ∷ []) (db tree) in
     let kept : a.kept ≡ map (λ (r : Row). output q (params ∷ r ∷ [])) passed = a.distinct ∙ ap (map (output q)) staged ∙ map-map (output q) (λ r. params ∷ r ∷ []) passed in
     let all : IsPermutation (map (λ (o : Output). o.1) a.kept) (map (λ (o : Output). o.1) a.ordered) = IsPermutation-map (λ o. o.1) a.kept a.ordered a.same in
-    let front : map (λ (o : Output). o.1) a.kept ≡ map (λ r. eval_all project (params ∷ r ∷ [])) passed = ap (map (λ (o : Output). o.1)) kept ∙ map-map (λ (o : Output). o.1) (λ r. output q (params ∷ r ∷ [])) passed in
+    let front : map (λ (o : Output). o.1) a.kept ≡ map (λ r. eval_all project (params ∷ r ∷ [])) passed =
+    ap (map (λ (o : Output). o.1)) kept ∙ map-map (λ (o : Output). o.1) (λ r. output q (params ∷ r ∷ [])) passed in
     subst (λ l. IsPermutation l rows) front (subst (IsPermutation (map (λ (o : Output). o.1) a.kept)) (sym a.shown) all)
 
 pub map_same : {X Y : Type 0} (f g : X → Y) → ((x : X) → f x ≡ g x) → (xs : List X) → map f xs ≡ map g xs

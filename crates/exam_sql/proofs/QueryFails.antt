@@ -42,7 +42,8 @@ of_read limit (Rows values width names) db params e long = is e _ long.0 refl
 of_read limit _ db params e invalid = is e _ invalid refl
 
 -- It fails because memory runs out, or as a failure: its text is understood.
-pub query_fails : (sql : List ℕ) (params : Row) (old new : State) (schema : Schema) → old.now.schema ≡ schema → IsPlain (understood schema sql) → (e : Error) → FailsToQuery sql params old new e → IsKnown e
+pub query_fails : (sql : List ℕ) (params : Row) (old new : State) (schema : Schema) → old.now.schema ≡ schema
+    → IsPlain (understood schema sql) → (e : Error) → FailsToQuery sql params old new e → IsKnown e
 unfolding FailsToQuery IsNotRun
 query_fails sql params old new schema has plain = fails
   where

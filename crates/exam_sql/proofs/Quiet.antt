@@ -24,8 +24,12 @@ use Rattle.exam_sql.specs.Texts.{session_appeals}
 abbrev pub IsQuery : List ℕ → Type 0
 IsQuery text = (schema : Schema) (base : ℕ) → and_then (first text) (λ p. returning schema base p.statement) ≡ Ok None
 
-planned_alone : {F : Type 0} (formats : F) (made : F × (Command × Option Returning) → Compiled) → ((plan : F × (Command × Option Returning)) → (made plan).returning ≡ plan.1.1) → (shown : Checked (Option Returning)) → shown ≡ Ok None
-    → (k : Checked Command) (c : Compiled) → and_then (and_then (and_then shown (λ s. and_then k (λ it. Ok (it, s)))) (λ found. Ok (formats, found))) (λ plan. Ok (made plan)) ≡ Ok c → c.returning ≡ None
+planned_alone : {F : Type 0} (formats : F) (made : F × (Command × Option Returning) → Compiled)
+    → ((plan : F × (Command × Option Returning)) → (made plan).returning ≡ plan.1.1)
+    → (shown : Checked (Option Returning)) → shown ≡ Ok None
+    → (k : Checked Command) (c : Compiled)
+    → and_then (and_then (and_then shown (λ s. and_then k (λ it. Ok (it, s)))) (λ found. Ok (formats, found)))
+    (λ plan. Ok (made plan)) ≡ Ok c → c.returning ≡ None
 planned_alone formats made keeps (Err e) none k c is = absurd cc
 planned_alone formats made keeps (Ok s) none (Err e) c is = absurd cc
 planned_alone formats made keeps (Ok s) none (Ok it) c is =
@@ -37,7 +41,10 @@ module _ (text : List ℕ) (query : IsQuery text) where
   compiled_alone : (schema : Schema) (c : Compiled) → compiled schema text ≡ Ok c → c.returning ≡ None
   unfolding compiled planned meaning
   compiled_alone schema c is =
-      elim (first text) as (λ r. ((base : ℕ) → and_then r (λ p. returning schema base p.statement) ≡ Ok None) → and_then r (λ p. and_then (planned schema p) (λ plan. Ok (with_command p plan))) ≡ Ok c → c.returning ≡ None) [
+      elim (first text) as
+      (λ r. ((base : ℕ) → and_then r (λ p. returning schema base p.statement) ≡ Ok None)
+      → and_then r (λ p. and_then (planned schema p) (λ plan. Ok (with_command p plan))) ≡ Ok c
+      → c.returning ≡ None) [
         | Ok p ↦ λ none made. planned_alone _ (with_command p) (λ plan. refl) _ (none _) _ c made
         | Err e ↦ λ none made. absurd cc
       ] (query schema) is

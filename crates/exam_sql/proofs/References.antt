@@ -54,7 +54,9 @@ LinkHolds all l = AllByRecursion (λ r. has_parent l (all l.parent) r ≡ true) 
 abbrev pub AllRefer : Trees → Type 0
 AllRefer all = AllByRecursion (LinkHolds all) links
 
-module _ (child_places parent_places : List ℕ) (kept_child child kept_parent parent : List Row) (children : Holds child_places kept_child child) (parents : Holds parent_places kept_parent parent) (test kept_test : Row → Row → Bool)
+module _ (child_places parent_places : List ℕ) (kept_child child kept_parent parent : List Row)
+    (children : Holds child_places kept_child child) (parents : Holds parent_places kept_parent parent)
+    (test kept_test : Row → Row → Bool)
     (same : (p r : Row) → kept_test p r ≡ test (bare parent_places p) (bare child_places r)) (refers_all : AllByRecursion (λ r. list_any (λ p. test p r) parent ≡ true) child) where
   -- stored rows refer as the rows read by columns do
   kept : (r : Row) → Has kept_child r → list_any (λ p. kept_test p r) kept_parent ≡ true
@@ -79,21 +81,43 @@ module _ (db all : Trees) where
           (
             all_from _ (db 7) (λ r h. refl),
             (
-              all_from _ (db 8) (λ r h. both_true (or_right _ _ (kept (places tables.opening.table) (places tables.session.table) _ _ _ _ (rows.1.1.1.1.1.0) (rows.1.0) _ _ (λ p r. refl) (all_refer.1.0) r h))
+              all_from _ (db 8) (λ r h. both_true
+                  (or_right _ _ (kept (places tables.opening.table) (places tables.session.table) _ _ _ _
+                  (rows.1.1.1.1.1.0) (rows.1.0) _ _ (λ p r. refl) (all_refer.1.0) r h))
                   (both_true (or_right _ _ (kept (places tables.opening.table) (places tables.hall.table) _ _ _ _ (rows.1.1.1.1.1.0) (rows.1.1.1.0) _ _ (λ p r. refl) (all_refer.1.1.0) r h)) refl)),
               (
-                all_from _ (db 10) (λ r h. both_true (or_right _ _ (kept (places tables.entry.table) (places tables.candidate.table) _ _ _ _ (rows.1.1.1.1.1.1.0) (rows.1.1.1.1.0) _ _ (λ p r. refl) (all_refer.1.1.1.0) r h))
-                    (both_true (or_right _ _ (kept (places tables.entry.table) (places tables.paper.table) _ _ _ _ (rows.1.1.1.1.1.1.0) (rows.1.1.0) _ _ (λ p r. refl) (all_refer.1.1.1.1.0) r h)) refl)),
+                all_from _ (db 10) (λ r h. both_true
+                    (or_right _ _ (kept (places tables.entry.table) (places tables.candidate.table) _ _ _ _
+                    (rows.1.1.1.1.1.1.0) (rows.1.1.1.1.0) _ _ (λ p r. refl) (all_refer.1.1.1.0) r h))
+                    (both_true (or_right _ _
+                    (kept (places tables.entry.table) (places tables.paper.table) _ _ _ _ (rows.1.1.1.1.1.1.0)
+                    (rows.1.1.0) _ _ (λ p r. refl) (all_refer.1.1.1.1.0) r h)) refl)),
                 (
-                  all_from _ (db 12) (λ r h. both_true (or_right _ _ (kept (places tables.arrangement.table) (places tables.candidate.table) _ _ _ _ (rows.1.1.1.1.1.1.1.0) (rows.1.1.1.1.0) _ _ (λ p r. refl) (all_refer.1.1.1.1.1.0) r h)) refl),
+                  all_from _ (db 12) (λ r h. both_true
+                      (or_right _ _ (kept (places tables.arrangement.table) (places tables.candidate.table) _ _ _ _
+                      (rows.1.1.1.1.1.1.1.0) (rows.1.1.1.1.0) _ _ (λ p r. refl) (all_refer.1.1.1.1.1.0) r h)) refl),
                   (
-                    all_from _ (db 13) (λ r h. both_true (or_right _ _ (kept (places tables.appeal.table) (places tables.candidate.table) _ _ _ _ (rows.1.1.1.1.1.1.1.1.0) (rows.1.1.1.1.0) _ _ (λ p r. refl) (all_refer.1.1.1.1.1.1.0) r h))
-                        (both_true (or_right _ _ (kept (places tables.appeal.table) (places tables.session.table) _ _ _ _ (rows.1.1.1.1.1.1.1.1.0) (rows.1.0) _ _ (λ p r. refl) (all_refer.1.1.1.1.1.1.1.0) r h)) refl)),
+                    all_from _ (db 13) (λ r h. both_true
+                        (or_right _ _ (kept (places tables.appeal.table) (places tables.candidate.table) _ _ _ _
+                        (rows.1.1.1.1.1.1.1.1.0) (rows.1.1.1.1.0) _ _ (λ p r. refl) (all_refer.1.1.1.1.1.1.0) r h))
+                        (both_true (or_right _ _
+                        (kept (places tables.appeal.table) (places tables.session.table) _ _ _ _
+                        (rows.1.1.1.1.1.1.1.1.0) (rows.1.0) _ _ (λ p r. refl) (all_refer.1.1.1.1.1.1.1.0) r h))
+                        refl)),
                     (
-                      all_from _ (db 15) (λ r h. both_true (or_right _ _ (kept (places tables.seat.table) (places tables.candidate.table) _ _ _ _ (rows.1.1.1.1.1.1.1.1.1.0) (rows.1.1.1.1.0) _ _ (λ p r. refl) (all_refer.1.1.1.1.1.1.1.1.0) r h))
-                          (both_true (or_right _ _ (kept (places tables.seat.table) (places tables.opening.table) _ _ _ _ (rows.1.1.1.1.1.1.1.1.1.0) (rows.1.1.1.1.1.0) _ _ (λ p r. refl) (all_refer.1.1.1.1.1.1.1.1.1.0) r h)) refl)),
+                      all_from _ (db 15) (λ r h. both_true
+                          (or_right _ _ (kept (places tables.seat.table) (places tables.candidate.table) _ _ _ _
+                          (rows.1.1.1.1.1.1.1.1.1.0) (rows.1.1.1.1.0) _ _ (λ p r. refl)
+                          (all_refer.1.1.1.1.1.1.1.1.0) r h))
+                          (both_true (or_right _ _
+                          (kept (places tables.seat.table) (places tables.opening.table) _ _ _ _
+                          (rows.1.1.1.1.1.1.1.1.1.0) (rows.1.1.1.1.1.0) _ _ (λ p r. refl)
+                          (all_refer.1.1.1.1.1.1.1.1.1.0) r h)) refl)),
                       (
-                        all_from _ (db 17) (λ r h. both_true (or_right _ _ (kept (places tables.standing.table) (places tables.appeal.table) _ _ _ _ (rows.1.1.1.1.1.1.1.1.1.1.0) (rows.1.1.1.1.1.1.1.1.0) _ _ (λ p r. refl) (all_refer.1.1.1.1.1.1.1.1.1.1.0) r h)) refl),
+                        all_from _ (db 17) (λ r h. both_true
+                            (or_right _ _ (kept (places tables.standing.table) (places tables.appeal.table) _ _ _ _
+                            (rows.1.1.1.1.1.1.1.1.1.1.0) (rows.1.1.1.1.1.1.1.1.0) _ _ (λ p r. refl)
+                            (all_refer.1.1.1.1.1.1.1.1.1.1.0) r h)) refl),
                         tt,
                       ),
                     ),

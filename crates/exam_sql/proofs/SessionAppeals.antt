@@ -53,7 +53,10 @@ shown_terms = col 1 1 ∷ col 1 2 ∷ col 1 3 ∷ col 1 4 ∷ col 1 5 ∷ col 1 
 abbrev order : List (Term × Key)
 order = (col 1 1, ascending Binary) ∷ (col 1 2, ascending Binary) ∷ []
 
-query_is : command_of (understood store_schema session_appeals) ≡ Select (record { lets = []; body = one_table 13 session_terms shown_terms order }) (codes "number" ∷ codes "ref" ∷ codes "session" ∷ codes "kind" ∷ codes "target" ∷ codes "needs" ∷ codes "extra" ∷ codes "reason" ∷ codes "state" ∷ codes "answer" ∷ codes "lodged" ∷ [])
+query_is : command_of (understood store_schema session_appeals)
+    ≡ Select (record { lets = []; body = one_table 13 session_terms shown_terms order })
+    (codes "number" ∷ codes "ref" ∷ codes "session" ∷ codes "kind" ∷ codes "target" ∷ codes "needs" ∷ codes "extra"
+    ∷ codes "reason" ∷ codes "state" ∷ codes "answer" ∷ codes "lodged" ∷ [])
 unfolding understood everything store_schema
 query_is = refl
 
@@ -96,13 +99,18 @@ module _ (s : List ℕ) where
       let show = λ (r : Row). eval_all shown_terms ((Text s ∷ []) ∷ r ∷ []) in
       let test = λ (r : Row). list_all (holds ((Text s ∷ []) ∷ r ∷ [])) session_terms in
       let passed = filter test (old.now.trees 13) in
-      let bared : map (λ (row : Row). Null ∷ row) (map show passed) ≡ map (bare (places tables.appeal.table)) passed = map-map (λ (row : Row). Null ∷ row) show passed ∙ map_same (λ r. Null ∷ show r) (bare (places tables.appeal.table)) (λ r. refl) passed in
-      let tested : passed ≡ filter (λ (r : Row). is_of s (bare (places tables.appeal.table) r)) (old.now.trees 13) = ap (λ (p : Row → Bool). filter p (old.now.trees 13)) (λ i r. session_means s r i) in
+      let bared : map (λ (row : Row). Null ∷ row) (map show passed) ≡ map (bare (places tables.appeal.table)) passed =
+      map-map (λ (row : Row). Null ∷ row) show passed
+      ∙ map_same (λ r. Null ∷ show r) (bare (places tables.appeal.table)) (λ r. refl) passed in
+      let tested : passed ≡ filter (λ (r : Row). is_of s (bare (places tables.appeal.table) r)) (old.now.trees 13) =
+      ap (λ (p : Row → Bool). filter p (old.now.trees 13)) (λ i r. session_means s r i) in
       let chosen : map (λ (row : Row). Null ∷ row) (map show passed) ≡ filter (is_of s) (map (bare (places tables.appeal.table)) (old.now.trees 13)) =
       bared ∙ ap (map (bare (places tables.appeal.table))) tested ∙ sym (filter-map (is_of s) (bare (places tables.appeal.table)) (old.now.trees 13)) in
       let rows_same : IsPermutation (map (λ (row : Row). Null ∷ row) (map show passed)) (map (λ (row : Row). Null ∷ row) meant) =
       subst (λ l. IsPermutation l (map (λ (row : Row). Null ∷ row) meant)) (sym chosen) (IsPermutation-trans _ _ _ (IsPermutation-filter (is_of s) _ _ held.same) same) in
-      answers_in_order 13 session_terms shown_terms order (overlay old.now.trees []) (Text s ∷ []) rows (read.answer Null) shown_key (λ r. refl) ordered_total meant (unheaded (map show passed) meant rows_same) strict
+      answers_in_order 13 session_terms shown_terms order (overlay old.now.trees []) (Text s ∷ []) rows
+      (read.answer Null) shown_key (λ r. refl) ordered_total meant
+      (unheaded (map show passed) meant rows_same) strict
     where
       tail : Row → Row
       tail [] = []
@@ -128,15 +136,19 @@ still_open g sql params h given reads = (
 )
 
 -- the rows that were given so far begin the list of those of the session
-pub begins_in_order : {S : Type 0} (g : Ghosts S) (s : List ℕ) (h : Held S) (given : List Row) (all : Trees) → ContainsIn store_schema (state g h).now all → HasGiven g session_appeals (Text s ∷ []) h given
+pub begins_in_order : {S : Type 0} (g : Ghosts S) (s : List ℕ) (h : Held S) (given : List Row) (all : Trees)
+    → ContainsIn store_schema (state g h).now all → HasGiven g session_appeals (Text s ∷ []) h given
     → (meant : List Row) → IsPermutation (filter (is_of s) (all 13)) (map (λ row. Null ∷ row) meant) → IsStrictlySortedBy shown_cmp meant → (tail : List Row) × (given ++ tail ≡ meant)
 begins_in_order g s h given all was reads meant same strict =
-    let shown = begins_shown session_appeals (Text s ∷ []) (state g h) (state g h) given (given_begin g session_appeals (Text s ∷ []) h given reads) (still_open g session_appeals (Text s ∷ []) h given reads) (λ c db it source.
+    let shown = begins_shown session_appeals (Text s ∷ []) (state g h) (state g h) given
+    (given_begin g session_appeals (Text s ∷ []) h given reads)
+    (still_open g session_appeals (Text s ∷ []) h given reads) (λ c db it source.
     let known : understood store_schema session_appeals ≡ Ok c = ap (λ d. understood d session_appeals) (sym was.schema_is) ∙ it.is in
     let timeless : c.formats ≡ [] = (subst IsPlain known query_plain).1 in
     rw (timeless, append-nil (Text s ∷ [])) (ends s c db known)) in
     (shown.0, shows_in_order s (state g h) (state g h) (given ++ shown.0) all was shown.1 meant same strict)
 
 -- where it fails, the text was understood
-pub query_stops : (s : List ℕ) (old new : State) → old.now.schema ≡ store_schema → (e : Error) → FailsToQuery session_appeals (Text s ∷ []) old new e → (e ≡ SqliteFailure OutOfMemory) ⊎ IsTrue (is_failure e)
+pub query_stops : (s : List ℕ) (old new : State) → old.now.schema ≡ store_schema → (e : Error)
+    → FailsToQuery session_appeals (Text s ∷ []) old new e → (e ≡ SqliteFailure OutOfMemory) ⊎ IsTrue (is_failure e)
 query_stops s old new has e h = query_fails session_appeals (Text s ∷ []) old new store_schema has query_plain e h

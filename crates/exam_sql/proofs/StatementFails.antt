@@ -21,7 +21,8 @@ pub record IsQuiet (command : Command) : Type 1 where
   pub stays : (s : State) → Escapes 0 s command → ⊥
   pub rowless : (is_query command || (is_pragma command || false)) ≡ false
 
-module _ (sql : List ℕ) (params : Row) (old new : State) (schema : Schema) (has : old.now.schema ≡ schema) (command : Command) (commands : command_of (understood schema sql) ≡ command) (silent : IsQuiet command)
+module _ (sql : List ℕ) (params : Row) (old new : State) (schema : Schema) (has : old.now.schema ≡ schema)
+    (command : Command) (commands : command_of (understood schema sql) ≡ command) (silent : IsQuiet command)
     (plain : IsPlain (understood schema sql)) (whole : IsWhole sql (length params) (understood schema sql)) (Refused : Type 0) where
   abbrev Why : Error → Type 0
   Why = Fails old new Refused

@@ -1,5 +1,7 @@
 -- What INSERT OR REPLACE and INSERT .. ON CONFLICT .. DO UPDATE make of a keyed table.
-use Rattle.std.proofs.Common.{◌≡◌, ◌≢◌, ◌⊎◌, inl, inr, ℕ, ℤ, List, [], ◌∷◌, ◌++◌, map, filter, length, Bool, true, false, if◌then◌else◌, MatchBool, not, ◌==◌, ◌/◌, Some, None, Option, Ok, Err, Result, OnOk, refl, sym, ap, ap₂, subst, ◌∙◌, append-nil, true≢false, Equal}
+use Rattle.std.proofs.Common.{◌≡◌, ◌≢◌, ◌⊎◌, inl, inr, ℕ, ℤ, List, [], ◌∷◌, ◌++◌, map, filter, length, Bool, true}
+use Rattle.std.proofs.Common.{false, if◌then◌else◌, MatchBool, not, ◌==◌, ◌/◌, Some, None, Option, Ok, Err, Result}
+use Rattle.std.proofs.Common.{OnOk, refl, sym, ap, ap₂, subst, ◌∙◌, append-nil, true≢false, Equal}
 use Rattle.std.specs.List.{AllByRecursion, list_all}
 use Rattle.std.specs.List.Sorted.{IsPermutation}
 use Rattle.std.proofs.lemmas.Bool.{and_parts, or_cases, or_right, not-true, false_from_ne_true, cases_Bool, eqb-true, eqb-false}
@@ -132,7 +134,9 @@ module _ (schema : Schema) (at : ℕ) (table : Table) (key target : List ℕ) (k
     task = record { limit = limit; keys = Enforced; schema = schema; table = table; params = params }
 
     -- a statement with one source row tries to put the row that it becomes
-    pub tries_one : (way : Conflict) (clauses : List Upsert) (db : Trees) (source : Row) (terms : List Term) (width : ℕ) (w : Written) → value_rows params width (length terms / width) terms ≡ source ∷ [] → InsertsOr task way clauses (Values terms width) db (Ok w)
+    pub tries_one : (way : Conflict) (clauses : List Upsert) (db : Trees) (source : Row) (terms : List Term)
+        (width : ℕ) (w : Written) → value_rows params width (length terms / width) terms ≡ source ∷ []
+        → InsertsOr task way clauses (Values terms width) db (Ok w)
         → (one : Written) × Tries task way clauses (with_rowid Chosen (db table.tree) (cast_row table (mended way table source))) db (Ok one) × (w.trees ≡ one.trees)
     tries_one way clauses db source terms width w given wrote =
         let sourced = went wrote in
@@ -142,13 +146,17 @@ module _ (schema : Schema) (at : ℕ) (table : Table) (key target : List ℕ) (k
         let next : ended.0 ≡ tried.0.0.trees = same_value (uncounts _ _ table.is_counted _ keyed.uncounted ended.1) in
         let rows : sourced.0 ≡ source ∷ [] = sourced.1.1 ∙ ap (λ p. value_rows p width (length terms / width) terms) (unstamps params table.stamps.terms _ keyed.unstamped) ∙ given in
         let each = went (subst (λ l. TriesEach task way clauses l (count_of counted.0) (nothing db) (Ok tried.0)) rows tried.1) in
-        let chosen : with_rowid (rowids_for table (count_of counted.0)) (db table.tree) (cast_row table (mended way table source)) ≡ with_rowid Chosen (db table.tree) (cast_row table (mended way table source)) =
+        let chosen : with_rowid (rowids_for table (count_of counted.0)) (db table.tree)
+        (cast_row table (mended way table source))
+        ≡ with_rowid Chosen (db table.tree) (cast_row table (mended way table source)) =
         ap (λ c. with_rowid (if c then Above (count_of counted.0) else Chosen) (db table.tree) (cast_row table (mended way table source))) keyed.uncounted in
         let trees : w.trees ≡ each.0.trees = ap (λ (it : Written). it.trees) (same_value ended.2) ∙ next ∙ ap (λ (p : Written × ℤ). p.0.trees) (same_value each.2) in
         (each.0, subst (λ n. Tries task way clauses n db (Ok each.0)) chosen each.1, trees)
 
     -- what a statement that inserts leaves is what its rows are
-    inserted : (way : Conflict) (clauses : List Upsert) (old new : State) (text : List ℕ) (terms : List Term) (width count : ℕ) → limit ≡ old.step_limit → old.now.schema ≡ schema → Writes old new None (InsertOr at way (Values terms width) clauses) text params count
+    inserted : (way : Conflict) (clauses : List Upsert) (old new : State) (text : List ℕ) (terms : List Term)
+        (width count : ℕ) → limit ≡ old.step_limit → old.now.schema ≡ schema
+        → Writes old new None (InsertOr at way (Values terms width) clauses) text params count
         → (new.now.schema ≡ schema) × (w : Written) × InsertsOr task way clauses (Values terms width) old.now.trees (Ok w) × (new.now.trees ≡ w.trees)
     inserted way clauses old new text terms width count lim has w =
         let command = InsertOr at way (Values terms width) clauses in
@@ -202,7 +210,8 @@ module _ (schema : Schema) (at : ℕ) (table : Table) (key target : List ℕ) (k
               (keyed.barred r (Int new.id ∷ columns) ∙ or_right _ _ (subst (λ b. same_key key (bare (places table) r) b ≡ true) (sym new.full) same)))
 
       -- the rows with the same key are taken out first
-      clears : (db : Trees) (new : Comes table key first columns values (db table.tree)) (one : Written) (found : List Row) → without_all (db table.tree) (ids_of found) ≡ without values (db table.tree)
+      clears : (db : Trees) (new : Comes table key first columns values (db table.tree)) (one : Written)
+          (found : List Row) → without_all (db table.tree) (ids_of found) ≡ without values (db table.tree)
           → Clears task Replace (Int new.id ∷ columns) db found (Ok one) → IsPut columns values db one.trees
       clears db new one [] left h =
           let put = puts new.id db one h in
@@ -222,18 +231,23 @@ module _ (schema : Schema) (at : ℕ) (table : Table) (key target : List ℕ) (k
           }
 
       -- INSERT OR REPLACE
-      pub replaces : (db : Trees) (new : Comes table key first columns values (db table.tree)) (one : Written) → IsShaped TableShape (db table.tree) → Tries task Replace [] (Int new.id ∷ columns) db (Ok one) → IsPut columns values db one.trees
+      pub replaces : (db : Trees) (new : Comes table key first columns values (db table.tree)) (one : Written)
+          → IsShaped TableShape (db table.tree) → Tries task Replace [] (Int new.id ∷ columns) db (Ok one)
+          → IsPut columns values db one.trees
       replaces db new one shaped (inl stops) = absurd (let e = stops.1 in cc)
       replaces db new one shaped (inr (None, judged, h)) = clears db new one h.0 (finds db new h.0 shaped h.1) h.2
       replaces db new one shaped (inr (Some why, judged, h)) = absurd cc
 
       -- no row has the key
-      lacks : (db : Trees) (new : Comes table key first columns values (db table.tree)) → AreConflicts (Some target) schema.indexes table (db table.tree) (Int new.id ∷ columns) [] → db table.tree ≡ without values (db table.tree)
+      lacks : (db : Trees) (new : Comes table key first columns values (db table.tree))
+          → AreConflicts (Some target) schema.indexes table (db table.tree) (Int new.id ∷ columns) []
+          → db table.tree ≡ without values (db table.tree)
       lacks db new are = sym (filter_all _ (db table.tree) (all_from _ (db table.tree) (λ r h. ap not (false_from_ne_true _ (λ same.
           are.complete r h (keyed.aimed r (Int new.id ∷ columns) ∙ subst (λ b. same_key key (bare (places table) r) b ≡ true) (sym new.full) same))))))
 
       -- the query finds only the row t, and writes it again
-      found_anew : (db : Trees) (given : Row) (terms project : List Term) (t : Row) (found : List Row) → IsShaped TableShape (db table.tree) → overlay db [] table.tree ≡ db table.tree → Has (db table.tree) t
+      found_anew : (db : Trees) (given : Row) (terms project : List Term) (t : Row) (found : List Row)
+          → IsShaped TableShape (db table.tree) → overlay db [] table.tree ≡ db table.tree → Has (db table.tree) t
           → ((r : Row) → list_all (holds (given ∷ r ∷ [])) terms ≡ same_rowid r t) → eval_all project (given ∷ t ∷ []) ≡ rowid t ∷ rowid t ∷ columns
           → IsAnswer (one_table table.tree terms project []) (overlay db []) given found → found ≡ (rowid t ∷ rowid t ∷ columns) ∷ []
       found_anew db given terms project t found shaped own has picked written answer =
@@ -244,7 +258,9 @@ module _ (schema : Schema) (at : ℕ) (table : Table) (key target : List ℕ) (k
 
       -- if one row replaces the row t with the key, no other row has the key
       still_there : (db next : Trees) (t : Row) (id : ℤ) → IsShaped TableShape (db table.tree) → Has (db table.tree) t → rowid t ≡ Int id → same_key key (bare (places table) t) (Null ∷ values) ≡ true
-          → are_fresh (without_all (db table.tree) (id ∷ [])) ((Int id ∷ columns) ∷ []) ≡ true → next table.tree ≡ put_row (Int id ∷ columns) (without_all (db table.tree) (id ∷ [])) → rules.Fits schema next
+          → are_fresh (without_all (db table.tree) (id ∷ [])) ((Int id ∷ columns) ∷ []) ≡ true
+          → next table.tree ≡ put_row (Int id ∷ columns) (without_all (db table.tree) (id ∷ []))
+          → rules.Fits schema next
           → without_all (db table.tree) (id ∷ []) ≡ without values (db table.tree)
       still_there db next t id shaped has lies same fresh rows kept =
           taken_out (λ r. same_key key (bare (places table) r) (Null ∷ values)) (db table.tree) (id ∷ []) shaped sound complete
@@ -267,14 +283,21 @@ module _ (schema : Schema) (at : ℕ) (table : Table) (key target : List ℕ) (k
             | inl is ↦ inl (ap (λ (r : Row). id_in (rowid r)) (tied_same (db table.tree) r t shaped.0 h has (subst (λ v. value_cmp (rowid r) v ≡ Equal) (sym lies) (equal_is _ is))) ∙ ap id_in lies)
             | inr other ↦
                 let there : Has (next table.tree) r = subst (λ l. Has l r) (sym rows) (put_all_keeps ((Int id ∷ columns) ∷ []) left r fresh (has_kept _ (db table.tree) r h (ap not other))) in
-                let new : Has (next table.tree) (Int id ∷ columns) = subst (λ l. Has l (Int id ∷ columns)) (sym rows) (put_all_adds ((Int id ∷ columns) ∷ []) left (Int id ∷ columns) fresh (inl refl)) in
-                inl (ap (λ (r : Row). id_in (rowid r)) (keyed.alone next next_shaped unique r (Int id ∷ columns) there new (subst (λ b. same_key key (bare (places table) r) b ≡ true) (sym (fits.moved t id lies same)) also)))
+                let new : Has (next table.tree) (Int id ∷ columns) =
+                subst (λ l. Has l (Int id ∷ columns)) (sym rows)
+                (put_all_adds ((Int id ∷ columns) ∷ []) left (Int id ∷ columns) fresh (inl refl)) in
+                inl (ap (λ (r : Row). id_in (rowid r))
+                (keyed.alone next next_shaped unique r (Int id ∷ columns) there new
+                (subst (λ b. same_key key (bare (places table) r) b ≡ true)
+                (sym (fits.moved t id lies same)) also)))
           ]
 
       -- DO UPDATE writes the row t with the key again, at its rowid
       changes : (db : Trees) (one : Written) (given : Row) (terms project : List Term) (t : Row) → IsShaped TableShape (db table.tree) → overlay db [] table.tree ≡ db table.tree
           → Has (db table.tree) t → same_key key (bare (places table) t) (Null ∷ values) ≡ true → ((r : Row) → list_all (holds (given ∷ r ∷ [])) terms ≡ same_rowid r t)
-          → eval_all project (given ∷ t ∷ []) ≡ rowid t ∷ rowid t ∷ columns → Updates task (record { lets = []; body = one_table table.tree terms project [] }) given db (Ok one) → IsPut columns values db one.trees
+          → eval_all project (given ∷ t ∷ []) ≡ rowid t ∷ rowid t ∷ columns
+          → Updates task (record { lets = []; body = one_table table.tree terms project [] }) given db (Ok one)
+          → IsPut columns values db one.trees
       changes db one given terms project t shaped own has same picked written u =
           let id = id_in (rowid t) in
           let lies : rowid t ≡ Int id = int_is (rowid t) (all_has _ (db table.tree) t shaped.1 has) in
@@ -282,7 +305,11 @@ module _ (schema : Schema) (at : ℕ) (table : Table) (key target : List ℕ) (k
           let rows : found.0 ≡ (Int id ∷ Int id ∷ columns) ∷ [] =
           found_anew db given terms project t found.0 shaped own has picked written (found.1.answer Null) ∙ ap (λ v. (v ∷ v ∷ columns) ∷ []) lies in
           let edit = edit_of db table (ids_of ((Int id ∷ Int id ∷ columns) ∷ [])) Given 1 ((Int id ∷ Int id ∷ columns) ∷ []) in
-          let it = went (subst (λ rows. Then (Edited schema Enforced db (edit_of db table (ids_of rows) Given 1 rows)) (λ next. Gives (record { trees = next; rows = (edit_of db table (ids_of rows) Given 1 rows).news; last = None })) (Ok one)) rows found.2) in
+          let it = went (subst
+          (λ rows. Then (Edited schema Enforced db (edit_of db table (ids_of rows) Given 1 rows))
+          (λ next. Gives (record
+          { trees = next; rows = (edit_of db table (ids_of rows) Given 1 rows).news; last = None })) (Ok one)) rows
+          found.2) in
           let step = one_step schema Enforced db it.0 edit (keyed.still (taken_by db edit) edit.news) it.1 in
           let trees : one.trees ≡ it.0 = ap (λ (it : Written). it.trees) (same_value it.2) in
           let news : edit.news ≡ (Int id ∷ columns) ∷ [] = rw (cast_int, fits.typed) in
@@ -306,8 +333,11 @@ module _ (schema : Schema) (at : ℕ) (table : Table) (key target : List ℕ) (k
         abbrev clause : Upsert
         clause = on_conflict target table.tree terms project
 
-        goes : (db : Trees) (new : Comes table key first columns values (db table.tree)) (one : Written) (found : List Row) → IsShaped TableShape (db table.tree) → overlay db [] table.tree ≡ db table.tree
-            → AreConflicts (Some target) schema.indexes table (db table.tree) (Int new.id ∷ columns) found → Meets task (Upserts task Abort (Int new.id ∷ columns) db []) (Int new.id ∷ columns) db clause found (Ok one)
+        goes : (db : Trees) (new : Comes table key first columns values (db table.tree)) (one : Written)
+            (found : List Row) → IsShaped TableShape (db table.tree) → overlay db [] table.tree ≡ db table.tree
+            → AreConflicts (Some target) schema.indexes table (db table.tree) (Int new.id ∷ columns) found
+            → Meets task (Upserts task Abort (Int new.id ∷ columns) db []) (Int new.id ∷ columns) db clause found
+            (Ok one)
             → IsPut columns values db one.trees
         goes db new one [] shaped own are h =
             let put = puts new.id db one (plainly h.0 h.2) in
@@ -343,9 +373,14 @@ module _ (schema : Schema) (at : ℕ) (table : Table) (key target : List ℕ) (k
       → ContainsIn schema (record { schema = schema; trees = w.trees }) (with_tree all table.tree (put key (Null ∷ values) (all table.tree)))
 
   -- a statement with one source row sets its key to the row, by what it does with the row that it tries
-  sets : (limit : Option ℕ) (way : Conflict) (clauses : List Upsert) (terms : List Term) (width : ℕ) (params : Row) (first : Value) (columns values : Row) (fits : Fits table key first columns values) → mended way table (first ∷ columns) ≡ first ∷ columns
+  sets : (limit : Option ℕ) (way : Conflict) (clauses : List Upsert) (terms : List Term) (width : ℕ) (params : Row)
+      (first : Value) (columns values : Row) (fits : Fits table key first columns values)
+      → mended way table (first ∷ columns) ≡ first ∷ columns
       → value_rows params width (length terms / width) terms ≡ (first ∷ columns) ∷ []
-      → ((db : Trees) (new : Comes table key first columns values (db table.tree)) (one : Written) → IsShaped TableShape (db table.tree) → Tries (task limit params) way clauses (Int new.id ∷ columns) db (Ok one) → IsPut columns values db one.trees)
+      → ((db : Trees) (new : Comes table key first columns values (db table.tree)) (one : Written)
+      → IsShaped TableShape (db table.tree)
+      → Tries (task limit params) way clauses (Int new.id ∷ columns) db (Ok one)
+      → IsPut columns values db one.trees)
       → SetsRow limit way clauses terms width params values
   sets limit way clauses terms width params first columns values fits whole source does db w wrote all was =
       let held = held_at db all was.rows in
@@ -358,7 +393,9 @@ module _ (schema : Schema) (at : ℕ) (table : Table) (key target : List ℕ) (k
       set_in (record { schema = schema; trees = db }) (record { schema = schema; trees = w.trees }) all _ was refl (put_holds db w.trees columns values (all table.tree) done held) done.others
 
   -- so does its text, run
-  runs : (way : Conflict) (clauses : List Upsert) (text : List ℕ) (terms : List Term) (width : ℕ) → command_of (understood schema text) ≡ InsertOr at way (Values terms width) clauses → IsPlain (understood schema text)
+  runs : (way : Conflict) (clauses : List Upsert) (text : List ℕ) (terms : List Term) (width : ℕ)
+      → command_of (understood schema text) ≡ InsertOr at way (Values terms width) clauses
+      → IsPlain (understood schema text)
       → (old new : State) (params values : Row) (count : ℕ) → SetsRow old.step_limit way clauses terms width params values → Executes text params old new (Ok count)
       → (all : Trees) → ContainsIn schema old.now all → ContainsIn schema new.now (with_tree all table.tree (put key (Null ∷ values) (all table.tree)))
   runs way clauses text terms width is simple old new params values count does h all was =
@@ -368,23 +405,33 @@ module _ (schema : Schema) (at : ℕ) (table : Table) (key target : List ℕ) (k
       (does old.now.trees wrote.1 wrote.2 all (subst (λ (d : Database). ContainsIn schema d all) (database_is old.now was.schema_is refl) was))
 
   -- The text of such a statement, run, sets the key to the row.
-  pub sets_by : (way : Conflict) (clauses : List Upsert) (text : List ℕ) (terms : List Term) (width : ℕ) → command_of (understood schema text) ≡ InsertOr at way (Values terms width) clauses → IsPlain (understood schema text)
+  pub sets_by : (way : Conflict) (clauses : List Upsert) (text : List ℕ) (terms : List Term) (width : ℕ)
+      → command_of (understood schema text) ≡ InsertOr at way (Values terms width) clauses
+      → IsPlain (understood schema text)
       → (old new : State) (params values : Row) (r : Result ℕ Error) → ((limit : Option ℕ) → SetsRow limit way clauses terms width params values) → Executes text params old new r
       → OnOk r ((all : Trees) → ContainsIn schema old.now all → ContainsIn schema new.now (with_tree all table.tree (put key (Null ∷ values) (all table.tree))))
   sets_by way clauses text terms width is simple old new params values (Err e) sets h = tt
   sets_by way clauses text terms width is simple old new params values (Ok count) sets h = runs way clauses text terms width is simple old new params values count (sets old.step_limit) h
 
   -- INSERT OR REPLACE sets the key to the row.
-  pub put_sets : (limit : Option ℕ) (terms : List Term) (width : ℕ) (params : Row) (first : Value) (columns values : Row) → Fits table key first columns values → value_rows params width (length terms / width) terms ≡ (first ∷ columns) ∷ []
+  pub put_sets : (limit : Option ℕ) (terms : List Term) (width : ℕ) (params : Row) (first : Value)
+      (columns values : Row) → Fits table key first columns values
+      → value_rows params width (length terms / width) terms ≡ (first ∷ columns) ∷ []
       → SetsRow limit Replace [] terms width params values
   put_sets limit terms width params first columns values fits source =
       sets limit Replace [] terms width params first columns values fits (ap (λ vs. first ∷ vs) fits.whole) source (λ db comes one. replaces limit params first columns values fits db comes one)
 
   -- INSERT .. ON CONFLICT .. DO UPDATE sets the key to the row.
-  pub upsert_sets : (limit : Option ℕ) (terms : List Term) (width : ℕ) (filter project : List Term) → ((db : Trees) → overlay db [] table.tree ≡ db table.tree) → (params : Row) (first : Value) (columns values : Row) → Fits table key first columns values
+  pub upsert_sets : (limit : Option ℕ) (terms : List Term) (width : ℕ) (filter project : List Term)
+      → ((db : Trees) → overlay db [] table.tree ≡ db table.tree)
+      → (params : Row) (first : Value) (columns values : Row) → Fits table key first columns values
       → value_rows params width (length terms / width) terms ≡ (first ∷ columns) ∷ []
       → ((t r : Row) (id : ℤ) → list_all (holds ((params ++ rowid t ∷ shown table (Int id ∷ columns)) ∷ r ∷ [])) filter ≡ same_rowid r t)
-      → ((t : Row) (id : ℤ) → same_key key (bare (places table) t) (Null ∷ values) ≡ true → eval_all project ((params ++ rowid t ∷ shown table (Int id ∷ columns)) ∷ t ∷ []) ≡ rowid t ∷ rowid t ∷ columns)
+      → ((t : Row) (id : ℤ) → same_key key (bare (places table) t) (Null ∷ values) ≡ true
+      → eval_all project ((params ++ rowid t ∷ shown table (Int id ∷ columns)) ∷ t ∷ []) ≡ rowid t ∷ rowid t
+      ∷ columns)
       → SetsRow limit Abort (on_conflict target table.tree filter project ∷ []) terms width params values
   upsert_sets limit terms width filter project own params first columns values fits source picked written =
-      sets limit Abort (on_conflict target table.tree filter project ∷ []) terms width params first columns values fits refl source (λ db comes one shaped tried. upserts limit params first columns values fits filter project picked written db comes one shaped (own db) tried)
+      sets limit Abort (on_conflict target table.tree filter project ∷ []) terms width params first columns values fits
+      refl source (λ db comes one shaped tried. upserts limit params first columns values fits filter project
+      picked written db comes one shaped (own db) tried)

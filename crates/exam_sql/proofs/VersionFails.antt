@@ -1,5 +1,7 @@
 -- Why the version is not set: whatever rows the tables have, only a limit of steps that is too low prevents it.
-use Rattle.std.proofs.Common.{◌≡◌, ◌⊎◌, ◌==◌, ◌||◌, ◌&&◌, not, inl, inr, ℕ, ℤ, zero, suc, pos, negsuc, List, [], ◌∷◌, length, Bool, true, false, None, Some, Option, Ok, Err, refl, sym, ap, ap₂, subst, ◌∙◌, arith, IsSome, lit≤, lit<, length-append, true≢false, All, map, Equal}
+use Rattle.std.proofs.Common.{◌≡◌, ◌⊎◌, ◌==◌, ◌||◌, ◌&&◌, not, inl, inr, ℕ, ℤ, zero, suc, pos, negsuc, List, [], ◌∷◌}
+use Rattle.std.proofs.Common.{length, Bool, true, false, None, Some, Option, Ok, Err, refl, sym, ap, ap₂, subst, ◌∙◌}
+use Rattle.std.proofs.Common.{arith, IsSome, lit≤, lit<, length-append, true≢false, All, map, Equal}
 use Rattle.std.specs.List.{AllByRecursion, list_all, list_any}
 use Rattle.std.specs.Ordering.{is_eq}
 use Rattle.std.specs.Cmp.Derive.{both_true}
@@ -108,12 +110,17 @@ keeps_unique : (db next : Trees) → KeepsOthers db next → Keeps Unique store_
 keeps_unique db next others was = all_from _ store_schema.tables (λ t has. by_tree t has (cases_Bool (t.tree == 0)))
   where
     alone : (t : Table) → Has store_schema.tables t → (t.tree == 0) ≡ true → (r : Row) → passes Unique store_schema next t r ≡ true
-    alone t has is r = test_from _ store_schema.indexes (λ i hi. let none : guards i t ≡ false = not-true _ (test_has (λ i. not (guards i t)) store_schema.indexes i (of_first (λ t. list_all (λ i. not (guards i t)) store_schema.indexes) unguarded t has is) hi) in rw none refl)
+    alone t has is r = test_from _ store_schema.indexes
+        (λ i hi. let none : guards i t ≡ false =
+        not-true _ (test_has (λ i. not (guards i t)) store_schema.indexes i
+        (of_first (λ t. list_all (λ i. not (guards i t)) store_schema.indexes) unguarded t has is) hi) in rw none refl)
 
     by_tree : (t : Table) → Has store_schema.tables t → ((t.tree == 0) ≡ true) ⊎ ((t.tree == 0) ≡ false) → AllByRecursion (λ r. passes Unique store_schema next t r ≡ true) (next t.tree)
     by_tree t has (inl is) = all_from _ (next t.tree) (λ r hr. alone t has is r)
     by_tree t has (inr other) =
-        subst (λ l. AllByRecursion (λ r. list_all (λ i. not (guards i t && clashes i.order i.columns l r)) store_schema.indexes ≡ true) l) (sym (others t has other)) (all_has _ store_schema.tables t was has)
+        subst (λ l. AllByRecursion
+        (λ r. list_all (λ i. not (guards i t && clashes i.order i.columns l r)) store_schema.indexes ≡ true) l)
+        (sym (others t has other)) (all_has _ store_schema.tables t was has)
 
 -- and so do the foreign keys
 module _ (db next : Trees) (others : KeepsOthers db next) where
@@ -131,14 +138,25 @@ module _ (db next : Trees) (others : KeepsOthers db next) where
       of_row : (t : Table) → Has store_schema.tables t → (r : Row) → Has (db t.tree) r → list_all (λ ref. not (is_among among.All ref) || has_parent store_schema.tables next r ref) t.references ≡ true
       of_row t has r hr =
           test_from _ t.references (λ ref href.
-          let away = test_has (λ (ref : Reference). is_elsewhere (parent_key store_schema.tables ref)) t.references ref (test_has (λ (t : Table). list_all (λ (ref : Reference). is_elsewhere (parent_key store_schema.tables ref)) t.references) store_schema.tables t childless has) href in
+          let away = test_has (λ (ref : Reference). is_elsewhere (parent_key store_schema.tables ref)) t.references ref
+          (test_has (λ (t : Table). list_all
+          (λ (ref : Reference). is_elsewhere (parent_key store_schema.tables ref)) t.references)
+          store_schema.tables t childless has) href in
           ap (λ b. has_null ref.columns r || b) (same_parent r ref.columns (parent_key store_schema.tables ref) away)
           ∙ test_has (has_parent store_schema.tables db r) t.references ref (all_has _ (db t.tree) r (all_has _ store_schema.tables t was has) hr) href)
 
-      by_tree : (t : Table) → Has store_schema.tables t → ((t.tree == 0) ≡ true) ⊎ ((t.tree == 0) ≡ false) → AllByRecursion (λ r. list_all (λ ref. not (is_among among.All ref) || has_parent store_schema.tables next r ref) t.references ≡ true) (next t.tree)
-      by_tree t has (inl is) = all_from _ (next t.tree) (λ r hr. none_of (λ ref. not (is_among among.All ref) || has_parent store_schema.tables next r ref) t.references (of_first (λ t. length t.references == 0) rootless t has is))
+      by_tree : (t : Table) → Has store_schema.tables t → ((t.tree == 0) ≡ true) ⊎ ((t.tree == 0) ≡ false)
+          → AllByRecursion (λ r. list_all
+          (λ ref. not (is_among among.All ref) || has_parent store_schema.tables next r ref) t.references ≡ true)
+          (next t.tree)
+      by_tree t has (inl is) =
+          all_from _ (next t.tree)
+          (λ r hr. none_of (λ ref. not (is_among among.All ref) || has_parent store_schema.tables next r ref)
+          t.references (of_first (λ t. length t.references == 0) rootless t has is))
       by_tree t has (inr other) =
-          subst (λ l. AllByRecursion (λ r. list_all (λ ref. not (is_among among.All ref) || has_parent store_schema.tables next r ref) t.references ≡ true) l) (sym (others t has other)) (all_from _ (db t.tree) (of_row t has))
+          subst (λ l. AllByRecursion
+          (λ r. list_all (λ ref. not (is_among among.All ref) || has_parent store_schema.tables next r ref)
+          t.references ≡ true) l) (sym (others t has other)) (all_from _ (db t.tree) (of_row t has))
 
 -- ---- one step of the statement
 
@@ -286,14 +304,19 @@ module _ (version : ℤ) where
         misjudged (Violates Unique) bad = bad
         misjudged (Violates ForeignKey) bad = bad
     tries stop (inr (None, judged, (found, are, h))) =
-        clears found (finds store_schema 0 tables.office.table (1 ∷ []) (0 ∷ []) office.keyed limit given (Int (pos 1)) (office.columns (pos 1) version) values (office.fits (pos 1) version) db (comes (db 0)) found shaped are) stop h
+        clears found (finds store_schema 0 tables.office.table (1 ∷ []) (0 ∷ []) office.keyed limit given (Int (pos 1))
+        (office.columns (pos 1) version) values (office.fits (pos 1) version) db (comes (db 0)) found shaped are)
+        stop h
 
     -- the source row is the row
     tried_is : with_rowid Chosen (db 0) (cast_row tables.office.table (mended Replace tables.office.table row)) ≡ row
     tried_is = ap (with_rowid Chosen (db 0)) cast_is
 
     inserts : (stop : Option Error) → InsertsOr office_task Replace [] (Values office.terms 3) db (Err stop) → TooFew stop
-    inserts stop (inl it) = sourced stop (first_of {First = λ s. Sourced limit (record { schema = store_schema; trees = db }) (stamped tables.office.table given) (Values office.terms 3) (Err s)} stop it)
+    inserts stop (inl it) =
+        sourced stop (first_of
+        {First = λ s. Sourced limit (record { schema = store_schema; trees = db }) (stamped tables.office.table given)
+        (Values office.terms 3) (Err s)} stop it)
     inserts stop (inr (rows, is, inl counter)) = absurd (let e = counter.1 in cc)
     inserts stop (inr (rows, is, inr (counter, counted, inl each))) = absurd (of_each each.0 (subst (λ l. TriesEach office_task Replace [] l (count_of counter) (nothing db) (Err each.0)) is.1 each.1))
       where
@@ -307,7 +330,8 @@ module _ (version : ℤ) where
     others : (w : Written) → InsertsOr office_task Replace [] (Values office.terms 3) db (Ok w) → KeepsOthers db w.trees
     others w wrote t has other =
         let one = tries_one store_schema 0 tables.office.table (1 ∷ []) (0 ∷ []) office.keyed limit given Replace [] db row office.terms 3 w refl wrote in
-        let put = replaces store_schema 0 tables.office.table (1 ∷ []) (0 ∷ []) office.keyed limit given (Int (pos 1)) (office.columns (pos 1) version) values (office.fits (pos 1) version) db (comes (db 0)) one.0 shaped
+        let put = replaces store_schema 0 tables.office.table (1 ∷ []) (0 ∷ []) office.keyed limit given (Int (pos 1))
+        (office.columns (pos 1) version) values (office.fits (pos 1) version) db (comes (db 0)) one.0 shaped
         (subst (λ r. Tries office_task Replace [] r db (Ok one.0)) tried_is one.1) in
         ap (λ (d : Trees). d t.tree) one.2 ∙ all_has _ store_schema.tables t put.others has (eqb-false t.tree 0 other)
 
@@ -328,7 +352,9 @@ module _ (version : ℤ) where
         let plain : (c.returning ≡ None) × (c.formats ≡ []) = subst IsPlain at office.put_plain in
         let command : c.command ≡ InsertOr 0 Replace (Values office.terms 3) [] = sym (ap command_of at) ∙ office.put_is in
         let ran : Does limit at_once given (record { schema = store_schema; trees = db.trees }) (text_of office.put_text c) None (InsertOr 0 Replace (Values office.terms 3) []) (Err stop) =
-        subst (λ d. Does limit at_once given d (text_of office.put_text c) None (InsertOr 0 Replace (Values office.terms 3) []) (Err stop)) (database_is db was.schema_is refl) (rw (plain.0, command) at does) in
+        subst (λ d. Does limit at_once given d (text_of office.put_text c) None
+        (InsertOr 0 Replace (Values office.terms 3) []) (Err stop)) (database_is db was.schema_is refl)
+        (rw (plain.0, command) at does) in
         (on_rows limit db.trees (held_at store_schema 0 tables.office.table (1 ∷ []) (0 ∷ []) office.keyed db.trees all was.rows).shaped rules stop
         (on_insert store_schema 0 tables.office.table (1 ∷ []) (0 ∷ []) office.keyed Replace [] office.terms 3 limit given (text_of office.put_text c) db.trees stop ran)).1
 

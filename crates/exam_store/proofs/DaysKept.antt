@@ -68,7 +68,9 @@ with_row_days r (row.OfHall h x) days day = record { sessions = days.sessions; a
 with_row_days r (row.OfOpening s h x) days day = record { sessions = days.sessions; appeals = days.appeals }
 with_row_days r (row.OfCandidate c x) days day = record { sessions = days.sessions; appeals = days.appeals }
 with_row_days r (row.OfEntry c p) days day =
-    one_of (has_row entry_cmp r.entries (c, p)) r (record r { entries = put_row entry_cmp r.entries (c, p) (record { live = true }) }) days (record { sessions = days.sessions; appeals = days.appeals })
+    one_of (has_row entry_cmp r.entries (c, p)) r
+    (record r { entries = put_row entry_cmp r.entries (c, p) (record { live = true }) }) days
+    (record { sessions = days.sessions; appeals = days.appeals })
 with_row_days r (row.OfArrangement c x) days day = record { sessions = days.sessions; appeals = days.appeals }
 
 with_rows_days : (r : Relations) (xs : List Row) → HasDays r → All HasRowDay xs → HasDays (with_rows r xs)
@@ -93,7 +95,9 @@ retraction_days r c reference (Some a) days day =
 given_way : (c : ℕ) (s : Code) (asked : Subject) (es : List ((ℕ × Code) × Appeal)) → All OfAppeal (values_of es) → All OfAppeal (values_of (map (giving_way c s asked) es))
 given_way c s asked [] days = days
 given_way c s asked (e ∷ es) days =
-    All-cons OfAppeal (giving_way c s asked e).1 (values_of (map (giving_way c s asked) es)) (inner (gives_way c s asked e) (All-head OfAppeal e.1 (values_of es) days)) (given_way c s asked es (All-tail OfAppeal e.1 (values_of es) days))
+    All-cons OfAppeal (giving_way c s asked e).1 (values_of (map (giving_way c s asked) es))
+    (inner (gives_way c s asked e) (All-head OfAppeal e.1 (values_of es) days))
+    (given_way c s asked es (All-tail OfAppeal e.1 (values_of es) days))
   where
     inner : (b : Bool) → IsDay e.1.lodged → OfAppeal (if b then (e.0, record e.1 { status = superseded e.1.status }) else e).1
     inner true day = day
@@ -110,7 +114,12 @@ decision_days : (r : Relations) (d : Decision) (found : Option Appeal) → HasDa
 decision_days r d None days day = days
 decision_days r d (Some a) days day =
     one_of (is_made r d a) r (with_outcome r d a) days
-    (record { sessions = days.sessions; appeals = put_appeal (with_superseded d.number a d.outcome r.appeals) (d.number, d.reference) _ (superseded_days d.number a d.outcome r.appeals days.appeals) day })
+    (record {
+      sessions = days.sessions;
+      appeals =
+          put_appeal (with_superseded d.number a d.outcome r.appeals) (d.number, d.reference) _
+          (superseded_days d.number a d.outcome r.appeals days.appeals) day;
+    })
 
 changed_days : (done : Command) (today : ℕ) (before : State) (r : Relations) → HasDays before.relations → IsDay today → HasRowDays done → change done today before ≡ Ok r → HasDays r
 changed_days (command.Import import) today before r days day rows is = subst HasDays (made _ _ r is) (with_rows_days before.relations import.rows days rows)
@@ -123,5 +132,6 @@ changed_days (command.Retract c reference) today before r days day rows is =
 changed_days (command.Decide d) today before r days day rows is =
     subst HasDays (made _ _ r is) (decision_days before.relations d (appeal_at before.relations d.number d.reference) days (stored before.relations d.number d.reference days))
 
-pub command_days : (done : Command) (today : ℕ) (before after : State) (reply : Reply) → HasDays before.relations → IsDay today → HasRowDays done → Step done today before (Ok reply) after → HasDays after.relations
+pub command_days : (done : Command) (today : ℕ) (before after : State) (reply : Reply) → HasDays before.relations
+    → IsDay today → HasRowDays done → Step done today before (Ok reply) after → HasDays after.relations
 command_days done today before after reply days day rows step = changed_days done today before after.relations days day rows (new_facts done today before reply after step)

@@ -17,7 +17,9 @@ use Rattle.exam_commands.specs.Orders.{IsInOrder}
 use Rattle.exam_commands.specs.State.{State}
 use Rattle.exam_tables.specs.Held.{HoldsRows}
 use Rattle.exam_tables.specs.Loaded.{HoldsTable}
-use Rattle.exam_tables.proofs.OneTable.{Tells, session_day, session_tells, paper_tells, hall_tells, opening_tells, candidate_tells, entry_tells, arrangement_tells, appeal_tells, standing_tells, seat_tells}
+use Rattle.exam_tables.proofs.OneTable.{Tells, session_day, session_tells, paper_tells, hall_tells, opening_tells}
+use Rattle.exam_tables.proofs.OneTable.{candidate_tells, entry_tells, arrangement_tells, appeal_tells, standing_tells}
+use Rattle.exam_tables.proofs.OneTable.{seat_tells}
 use Rattle.exam_store.specs.Kept.{HoldsOffice}
 use Rattle.exam_store.specs.Refused.{HoldsFormed}
 use Rattle.exam_store.specs.Stops.{HasDays}
@@ -31,7 +33,8 @@ each_value : {K X : Type 0} (P : X → Type 0) (es : List (K × X)) → All P (v
 each_value {K} {X} P es all e has = all_has P (values_of es) e.1 (recursion_from_All P (values_of es) all) (mapped_has (λ (p : K × X). p.1) es e has)
 
 -- the entries have the forms of the table, where those of another list with the same rows do
-forms : {K X : Type 0} {cmp : K → K → Ordering} {IsRow : K → X → Type 0} {row : K → X → Row} (Dated : K × X → Type 0) → Tells row Dated → ((k : K) (x : X) → IsRow k x → Dated (k, x)) → (meant : List Row) (xs ys : List (K × X))
+forms : {K X : Type 0} {cmp : K → K → Ordering} {IsRow : K → X → Type 0} {row : K → X → Row} (Dated : K × X → Type 0)
+    → Tells row Dated → ((k : K) (x : X) → IsRow k x → Dated (k, x)) → (meant : List Row) (xs ys : List (K × X))
     → HoldsTable cmp IsRow row xs meant → HoldsRows row ys meant → ((e : K × X) → Has ys e → Dated e) → AllByRecursion (λ e. IsRow e.0 e.1) ys
 forms {K} {X} {cmp} {IsRow} {row} Dated tells formed meant xs ys holds same dated = each_has (λ e. IsRow e.0 e.1) ys (λ e has.
     let f = λ (p : K × X). Null ∷ row p.0 p.1 in
@@ -49,14 +52,26 @@ same_office all found office formed held order days =
     let up = order.tables in
     one_office all found office formed (
       record {
-        sessions = record { rises = up.sessions; forms = forms _ session_tells (λ k x is. session_day _ is.1) _ _ _ f.sessions h.sessions (each_value (λ x. IsDay x.day) office.relations.sessions days.sessions); same = h.sessions };
+        sessions = record {
+          rises = up.sessions;
+          forms =
+              forms _ session_tells (λ k x is. session_day _ is.1) _ _ _ f.sessions h.sessions
+              (each_value (λ x. IsDay x.day) office.relations.sessions days.sessions);
+          same = h.sessions;
+        };
         papers = record { rises = up.papers; forms = forms _ paper_tells (λ k x is. tt) _ _ _ f.papers h.papers (λ e has. tt); same = h.papers };
         halls = record { rises = up.halls; forms = forms _ hall_tells (λ k x is. tt) _ _ _ f.halls h.halls (λ e has. tt); same = h.halls };
         openings = record { rises = up.openings; forms = forms _ opening_tells (λ k x is. tt) _ _ _ f.openings h.openings (λ e has. tt); same = h.openings };
         candidates = record { rises = up.candidates; forms = forms _ candidate_tells (λ k x is. tt) _ _ _ f.candidates h.candidates (λ e has. tt); same = h.candidates };
         entries = record { rises = up.entries; forms = forms _ entry_tells (λ k x is. tt) _ _ _ f.entries h.entries (λ e has. tt); same = h.entries };
         arrangements = record { rises = up.arrangements; forms = forms _ arrangement_tells (λ k x is. tt) _ _ _ f.arrangements h.arrangements (λ e has. tt); same = h.arrangements };
-        appeals = record { rises = up.appeals; forms = forms _ appeal_tells (λ k a is. is.6) _ _ _ f.appeals h.appeals (each_value (λ a. IsDay a.lodged) office.relations.appeals days.appeals); same = h.appeals };
+        appeals = record {
+          rises = up.appeals;
+          forms =
+              forms _ appeal_tells (λ k a is. is.6) _ _ _ f.appeals h.appeals
+              (each_value (λ a. IsDay a.lodged) office.relations.appeals days.appeals);
+          same = h.appeals;
+        };
         standing = record { rises = up.standing; forms = forms _ standing_tells (λ k x is. tt) _ _ _ f.standing h.standing (λ e has. tt); same = h.standing };
       },
       record { rises = order.seats; forms = forms _ seat_tells (λ k x is. tt) _ _ _ formed.1 held.seats (λ e has. tt); same = held.seats },

@@ -14,7 +14,9 @@ use Rattle.exam_sql.specs.Changes.{put_all, delete_all}
 use Rattle.exam_sql.specs.Content.{put, delete}
 use Rattle.exam_sql.proofs.Queries.{has_permuted}
 use Rattle.exam_sql.proofs.References.{AllRefer, links}
-use Rattle.exam_sql.proofs.KeptReferences.{Way, at_rest, putting, all_there, deleting, arrived, now, is_sound, made, Along, Goes, goes_both, puts_part, deletes_part, known_at_start, all_refer_at, left_was}
+use Rattle.exam_sql.proofs.KeptReferences.{Way, at_rest, putting, all_there, deleting, arrived, now, is_sound, made}
+use Rattle.exam_sql.proofs.KeptReferences.{Along, Goes, goes_both, puts_part, deletes_part, known_at_start}
+use Rattle.exam_sql.proofs.KeptReferences.{all_refer_at, left_was}
 use Rattle.exam_rules.specs.Orders.{KeysRise}
 use Rattle.exam_rules.specs.Relations.{seat_cmp}
 use Rattle.exam_commands.specs.Good.{IsGood}
@@ -80,20 +82,27 @@ module _ (before after : State) (c : Changes) (all : Trees) (turns : TurnsTables
 
   puts : {K V : Type 0} (form : Form K V) {cmp : K → K → Ordering} {old new : List (K × V)} {deletes : List K} (rows : List (Bor K × Bor V)) (ways : ℕ → Way) → keys form.tree ≡ form.places
       → ways form.tree ≡ at_rest → is_sound (now ways form.tree putting) ≡ true → mid form.tree ≡ put_all form.places (rows_put form rows) (all form.tree)
-      → ((r : Row) → Has (end form.tree) r → Has (mid form.tree) r) → Turns cmp old new (map deref_pair rows) deletes → HoldsRows form.row new (end form.tree) → Passes ways (with_put form rows) (after_put ways form.tree)
+      → ((r : Row) → Has (end form.tree) r → Has (mid form.tree) r) → Turns cmp old new (map deref_pair rows) deletes
+      → HoldsRows form.row new (end form.tree) → Passes ways (with_put form rows) (after_put ways form.tree)
   puts {K} {V} form rows ways is rests sound puts_are stay turned holds =
       let row = λ (y : Bor K × Bor V). form.row y.0.now y.1.now in
       puts_part change keys all mid end fit referred will_refer form.tree (λ y. put_of form.put form.tree form.places (row y)) (λ y. Null ∷ row y) ways rests sound
-      (λ y a. ap (λ k. with_tree a form.tree (put k (Null ∷ row y) (a form.tree))) (sym is)) rows (puts_are ∙ ap (λ k. put_all k (rows_put form rows) (all form.tree)) (sym is)) stay (comes form.row rows (end form.tree) turned holds)
+      (λ y a. ap (λ k. with_tree a form.tree (put k (Null ∷ row y) (a form.tree))) (sym is)) rows
+      (puts_are ∙ ap (λ k. put_all k (rows_put form rows) (all form.tree)) (sym is)) stay
+      (comes form.row rows (end form.tree) turned holds)
 
   -- of a table that loses no row
   only_puts : {K V : Type 0} (form : Form K V) {cmp : K → K → Ordering} {old new : List (K × V)} (rows : List (Bor K × Bor V)) (ways : ℕ → Way) → keys form.tree ≡ form.places
-      → ways form.tree ≡ at_rest → is_sound (now ways form.tree putting) ≡ true → mid form.tree ≡ put_all form.places (rows_put form rows) (all form.tree) → end form.tree ≡ put_all form.places (rows_put form rows) (all form.tree)
+      → ways form.tree ≡ at_rest → is_sound (now ways form.tree putting) ≡ true
+      → mid form.tree ≡ put_all form.places (rows_put form rows) (all form.tree)
+      → end form.tree ≡ put_all form.places (rows_put form rows) (all form.tree)
       → Turns cmp old new (map deref_pair rows) [] → HoldsRows form.row new (end form.tree) → Passes ways (with_put form rows) (after_put ways form.tree)
   only_puts form rows ways is rests sound puts_are ends turned holds = puts form rows ways is rests sound puts_are (λ r h. subst (λ l. Has l r) (ends ∙ sym puts_are) h) turned holds
 
   deletes : {K V : Type 0} (form : Form K V) (sql : List ℕ) (key : K → Row) (gone : List (Bor K)) (ways : ℕ → Way) → keys form.tree ≡ form.places → ways form.tree ≡ all_there
-      → is_sound (now ways form.tree deleting) ≡ true → end form.tree ≡ delete_all form.places (keys_deleted key gone) (mid form.tree) → Passes ways (with_deleted form sql key gone) (after_delete ways form.tree)
+      → is_sound (now ways form.tree deleting) ≡ true
+      → end form.tree ≡ delete_all form.places (keys_deleted key gone) (mid form.tree)
+      → Passes ways (with_deleted form sql key gone) (after_delete ways form.tree)
   deletes {K} {V} form sql key gone ways is rests sound ends =
       let row = λ (k : Bor K). key k.now in
       deletes_part change keys all mid end fit referred will_refer form.tree (λ k. delete_of sql form.tree form.places (row k)) (λ k. Null ∷ row k) ways rests sound
@@ -156,7 +165,9 @@ module _ (before after : State) (c : Changes) (all : Trees) (turns : TurnsTables
   halls_put = only_puts halls c.halls.items w2 refl refl refl (put_whole c all halls.tree) (whole c all halls.tree) turns.halls will.facts.halls
 
   openings_put : Passes w3 (with_put openings c.openings.put.items) w4
-  openings_put = puts openings c.openings.put.items w3 refl refl refl (put_whole c all openings.tree) (λ r h. left_was openings.places (keys_deleted opening_key c.openings.delete.items) (mid openings.tree) r (subst (λ l. Has l r) openings_end h)) turns.openings will.facts.openings
+  openings_put = puts openings c.openings.put.items w3 refl refl refl (put_whole c all openings.tree)
+      (λ r h. left_was openings.places (keys_deleted opening_key c.openings.delete.items) (mid openings.tree) r
+      (subst (λ l. Has l r) openings_end h)) turns.openings will.facts.openings
 
   candidates_put : Passes w4 (with_put candidates c.candidates.items) w5
   candidates_put = only_puts candidates c.candidates.items w4 refl refl refl (put_whole c all candidates.tree) (whole c all candidates.tree) turns.candidates will.facts.candidates
@@ -174,7 +185,9 @@ module _ (before after : State) (c : Changes) (all : Trees) (turns : TurnsTables
   standing_put = only_puts standing c.standing.items w8 refl refl refl (put_whole c all standing.tree) (whole c all standing.tree) turns.standing will.facts.standing
 
   seats_put : Passes w9 (with_put seats c.seats.put.items) w10
-  seats_put = puts seats c.seats.put.items w9 refl refl refl (put_whole c all seats.tree) (λ r h. left_was seats.places (keys_deleted seat_key c.seats.delete.items) (mid seats.tree) r (subst (λ l. Has l r) seats_end h)) turns.seats will.seats
+  seats_put = puts seats c.seats.put.items w9 refl refl refl (put_whole c all seats.tree)
+      (λ r h. left_was seats.places (keys_deleted seat_key c.seats.delete.items) (mid seats.tree) r
+      (subst (λ l. Has l r) seats_end h)) turns.seats will.seats
 
   gone_seats : Passes w10 (seats_deleted c) w11
   gone_seats = deletes seats delete_seat seat_key c.seats.delete.items w10 refl refl refl seats_end
@@ -198,7 +211,9 @@ written_made [] all = refl
 written_made (w ∷ writes) all = written_made writes (w.change all)
 
 -- Where the database keeps the old office, it refuses a write of the save by no foreign key.
-pub no_key : (before after : State) (c : Changes) (limit : Option ℕ) (db : Database) → TurnsTables before after c → IsGood before → IsGood after → KeysRise seat_cmp before.seats → KeysRise seat_cmp after.seats → Keeps db before → RefusesOne (all_saved c) limit db → RefusesOneRow (all_saved c) limit db
+pub no_key : (before after : State) (c : Changes) (limit : Option ℕ) (db : Database) → TurnsTables before after c
+    → IsGood before → IsGood after → KeysRise seat_cmp before.seats → KeysRise seat_cmp after.seats → Keeps db before
+    → RefusesOne (all_saved c) limit db → RefusesOneRow (all_saved c) limit db
 no_key before after c limit db turns good_before good_after rises_before rises_after keeps (done, next, rest, are, at, run, becomes, refused) =
     let along = subst (λ l. Along change l keeps.all) are (refers_all before after c keeps.all turns keeps.held good_before good_after rises_before rises_after) in
     let referred : AllRefer (next.change (written done keeps.all)) = subst (λ a. AllRefer (next.change a)) (sym (written_made done keeps.all)) (all_refer_at change done next rest keeps.all along) in

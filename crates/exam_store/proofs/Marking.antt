@@ -72,7 +72,8 @@ some_understood db [] more all = tt
 some_understood db (t ∷ texts) more all = (all.0, some_understood db texts more all.1)
 
 -- what loads the tables of the version is understood, where the marks are there as the version has them
-pub understood_of : (v : ℕ) (db : Database) → AreUnderstood db held_texts → lists_marks db.schema ≡ marks_since v → (IsTrue (lists_marks db.schema) → IsUnderstood db load_standing) → AreUnderstood db (version_texts v)
+pub understood_of : (v : ℕ) (db : Database) → AreUnderstood db held_texts → lists_marks db.schema ≡ marks_since v
+    → (IsTrue (lists_marks db.schema) → IsUnderstood db load_standing) → AreUnderstood db (version_texts v)
 understood_of v db held lists marks = inner (marks_since v) lists
   where
     inner : (b : Bool) → lists_marks db.schema ≡ b → AreUnderstood db (held_texts ++ (if b then load_standing ∷ [] else []))

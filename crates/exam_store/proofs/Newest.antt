@@ -62,7 +62,9 @@ pub within_of : (v : Version) (office : Office) → IsKnown v → IsTrue (is_wit
 within_of v office known within = subst (λ w. IsTrue (is_within w office)) (sym known.1) within
 
 -- why the tables are not made, where no transaction was under way
-pub not_made : (old mid new : State) (e : Refusal) → Survives old mid (λ _. ⊥) → HasCleanDisk mid → mid.faults ≤ new.faults → old.in_transaction ≡ false → IsUnchanged old mid → FailsToCreate mid new e → FailsToMake old new e
+pub not_made : (old mid new : State) (e : Refusal) → Survives old mid (λ _. ⊥) → HasCleanDisk mid
+    → mid.faults ≤ new.faults → old.in_transaction ≡ false → IsUnchanged old mid → FailsToCreate mid new e
+    → FailsToMake old new e
 not_made old mid new e s clean up calm same (inl failed) = made_later old mid new e s clean up failed
 not_made old mid new e s clean up calm same (inr (told, going)) = absurd (both_ways _ (same.0.mode ∙ calm) going)
 

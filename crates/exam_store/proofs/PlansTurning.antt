@@ -1,5 +1,7 @@
 -- What turns a part of a table into another turns the whole table too, where the rest of it stays.
-use Rattle.std.proofs.Common.{map, Ok, Err, Result, IfOk, OnOk, ◌≡◌, ℕ, ◌||◌, Bool, true, false, not, cond, List, [], ◌∷◌, ◌++◌, Option, None, Some, Ordering, refl, sym, ap, ap₂, subst, subst₂, ◌∙◌, append_assoc}
+use Rattle.std.proofs.Common.{map, Ok, Err, Result, IfOk, OnOk, ◌≡◌, ℕ, ◌||◌, Bool, true, false, not, cond, List, []}
+use Rattle.std.proofs.Common.{◌∷◌, ◌++◌, Option, None, Some, Ordering, refl, sym, ap, ap₂, subst, subst₂, ◌∙◌}
+use Rattle.std.proofs.Common.{append_assoc}
 use Rattle.std.specs.Prelude.{is_some}
 use Rattle.std.specs.Cmp.{Equal-is, IsTotalOrder}
 use Rattle.std.specs.List.{filter, list_any}
@@ -78,7 +80,9 @@ module _ {K X : Type 0} {cmp : K → K → Ordering} (total : IsTotalOrder cmp) 
     outside rows = filter (λ e. not (inside e.0)) rows
 
     -- the rows inside are the part
-    part_is : (rows part : List (K × X)) → KeysRise cmp rows → KeysRise cmp part → ((k : K) → inside k ≡ true → row_at cmp rows k ≡ row_at cmp part k) → ((k : K) → inside k ≡ false → row_at cmp part k ≡ None)
+    part_is : (rows part : List (K × X)) → KeysRise cmp rows → KeysRise cmp part
+        → ((k : K) → inside k ≡ true → row_at cmp rows k ≡ row_at cmp part k)
+        → ((k : K) → inside k ≡ false → row_at cmp part k ≡ None)
         → filter (λ e. inside e.0) rows ≡ part
     part_is rows part rises part_rises same none = same_rows cmp total exact _ part (rises_left inside rows rises) part_rises (λ k. row_left inside rows k ∙ at k (inside k) refl)
       where
@@ -106,7 +110,9 @@ module _ {K X : Type 0} {cmp : K → K → Ordering} (total : IsTotalOrder cmp) 
       stays_outside k is =
           let parts = or_parts (has_row cmp old k) (has_row cmp new k) is in
           let not_put : has_key cmp puts k ≡ false = ap (λ l. has_key cmp l k) differs.puts_are ∙ none_left (λ e. is_eq (cmp k e.0)) _ new (key_is_row new k ∙ parts.1) in
-          let not_deleted : is_one_of cmp deletes k ≡ false = ap (λ l. is_one_of cmp l k) differs.deletes_are ∙ none_left (λ j. is_eq (cmp k j)) _ (keys_of old) (key_is_one old k ∙ key_is_row old k ∙ parts.0) in
+          let not_deleted : is_one_of cmp deletes k ≡ false =
+          ap (λ l. is_one_of cmp l k) differs.deletes_are
+          ∙ none_left (λ j. is_eq (cmp k j)) _ (keys_of old) (key_is_one old k ∙ key_is_row old k ∙ parts.0) in
           ap₂ ◌||◌ not_put not_deleted
 
       all_stay : (rows : List (K × X)) → filter (stays cmp puts deletes) (outside rows) ≡ outside rows
@@ -139,8 +145,10 @@ module _ {K X : Type 0} {cmp : K → K → Ordering} (total : IsTotalOrder cmp) 
           }
 
 -- What turns the plans that a command may have changed into those after it turns all seats.
-pub seats_turn : {E : Type 0} (same : Code → Code → Bool) (old new before after : Seats) → KeysRise seat_cmp before → KeysRise seat_cmp after → AreOf old new before after → (result : Result (Difference (Code × ℕ) Code) E)
-    → IfOk result (λ d. Differs seat_cmp same old new (map deref_pair d.put.items) (map (λ k. k.now) d.delete.items)) → IfOk result (TurnsTable seat_cmp old new) → OnOk result (KeysRise seat_cmp old × KeysRise seat_cmp new)
+pub seats_turn : {E : Type 0} (same : Code → Code → Bool) (old new before after : Seats) → KeysRise seat_cmp before
+    → KeysRise seat_cmp after → AreOf old new before after → (result : Result (Difference (Code × ℕ) Code) E)
+    → IfOk result (λ d. Differs seat_cmp same old new (map deref_pair d.put.items) (map (λ k. k.now) d.delete.items))
+    → IfOk result (TurnsTable seat_cmp old new) → OnOk result (KeysRise seat_cmp old × KeysRise seat_cmp new)
     → IfOk result (TurnsTable seat_cmp before after)
 seats_turn same old new before after before_rises after_rises are (Ok d) differs turns rise =
     part_turns seats_total seats_exact old new before after rise.0 rise.1 before_rises after_rises are.told_before are.told_after are.others same

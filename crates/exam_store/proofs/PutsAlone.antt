@@ -15,7 +15,8 @@ use Rattle.exam_tables.proofs.RowTurning.{stays}
 use Rattle.exam_store.proofs.PlansTurning.{key_is_row, row_left}
 use Rattle.exam_store.proofs.RowsTurning.{none_deleted}
 
-module _ {K X : Type 0} {cmp : K → K → Ordering} (total : IsTotalOrder cmp) (exact : CmpEqualImpliesEq cmp) (old new puts : List (K × X)) (deletes : List K) (turns : Turns cmp old new puts deletes) where
+module _ {K X : Type 0} {cmp : K → K → Ordering} (total : IsTotalOrder cmp) (exact : CmpEqualImpliesEq cmp)
+    (old new puts : List (K × X)) (deletes : List K) (turns : Turns cmp old new puts deletes) where
   abbrev left : List (K × X)
   left = filter (stays cmp puts deletes) old
 

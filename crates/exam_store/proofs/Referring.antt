@@ -1,5 +1,7 @@
 -- In tables that hold a good office, each row has what it refers to.
-use Rattle.std.proofs.Common.{◌≡◌, ◌&&◌, inl, inr, ℕ, pos, List, [], ◌∷◌, map, cond, Bool, true, false, Option, Some, None, is_some, option_map, option_and_then, IfSome, IsTrue, Ordering, refl, sym, ap, subst}
+use Rattle.std.proofs.Common.{◌≡◌, ◌&&◌, inl, inr, ℕ, pos, List, [], ◌∷◌, map, cond, Bool, true, false, Option, Some}
+use Rattle.std.proofs.Common.{None, is_some, option_map, option_and_then, IfSome, IsTrue, Ordering, refl, sym, ap}
+use Rattle.std.proofs.Common.{subst}
 use Rattle.std.specs.BTreeMap.{is_at}
 use Rattle.std.specs.Cmp.{Equal-is}
 use Rattle.std.specs.Cmp.Derive.{both_true}
@@ -44,7 +46,9 @@ use Rattle.exam_tables.specs.Stored.{whole}
 use Rattle.exam_tables.proofs.Exact.{appeals_exact, openings_exact}
 
 -- a row that is looked up is among the rows
-found : {K X : Type 0} (cmp : K → K → Ordering) (k : K) (stored : K × X → Row) (test : Row → Bool) → ((e : K × X) → is_eq (cmp k e.0) ≡ true → test (stored e) ≡ true) → (rows : List (K × X)) → has_row cmp rows k ≡ true → list_any test (map stored rows) ≡ true
+found : {K X : Type 0} (cmp : K → K → Ordering) (k : K) (stored : K × X → Row) (test : Row → Bool)
+    → ((e : K × X) → is_eq (cmp k e.0) ≡ true → test (stored e) ≡ true) → (rows : List (K × X))
+    → has_row cmp rows k ≡ true → list_any test (map stored rows) ≡ true
 found cmp k stored test tells [] has = absurd cc
 found cmp k stored test tells (e ∷ rows) has = elim (cases_Bool (is_eq (cmp k e.0))) [
   | inl is ↦ or_left _ _ (tells e is)
@@ -55,35 +59,55 @@ by_code : {X : Type 0} (row : Code → X → Row) (k : Code) (test : Row → Boo
     → (rows : List (Code × X)) → has_row code_cmp rows k ≡ true → list_any test (map (λ e. Null ∷ row e.0 e.1) rows) ≡ true
 by_code {X} row k test means rows has =
     found code_cmp k (λ (e : Code × X). Null ∷ row e.0 e.1) test
-    (λ e is. subst (λ b. b ≡ true) (sym (means e)) (subst (λ j. (equal (first_key plain).collation (Text j) (Text k) && true) ≡ true) (exact_bytes k e.0 ((Equal-is (code_cmp k e.0)).0 is)) (both_true (text_itself k) refl))) rows has
+    (λ e is. subst (λ b. b ≡ true) (sym (means e))
+    (subst (λ j. (equal (first_key plain).collation (Text j) (Text k) && true) ≡ true)
+    (exact_bytes k e.0 ((Equal-is (code_cmp k e.0)).0 is)) (both_true (text_itself k) refl))) rows has
 
 candidate_by : (k : ℕ) (test : Row → Bool) → ((e : ℕ × Candidate) → test (Null ∷ candidate_row e.0 e.1) ≡ (equal (first_key plain).collation (whole e.0) (whole k) && true))
     → (rows : List (ℕ × Candidate)) → has_row nat_cmp rows k ≡ true → list_any test (map (λ e. Null ∷ candidate_row e.0 e.1) rows) ≡ true
 candidate_by k test means rows has =
     found nat_cmp k (λ (e : ℕ × Candidate). Null ∷ candidate_row e.0 e.1) test
-    (λ e is. subst (λ b. b ≡ true) (sym (means e)) (subst (λ j. (equal (first_key plain).collation (whole j) (whole k) && true) ≡ true) (exact_unsigned k e.0 ((Equal-is (nat_cmp k e.0)).0 is)) (both_true (equal_itself (pos k)) refl))) rows has
+    (λ e is. subst (λ b. b ≡ true) (sym (means e))
+    (subst (λ j. (equal (first_key plain).collation (whole j) (whole k) && true) ≡ true)
+    (exact_unsigned k e.0 ((Equal-is (nat_cmp k e.0)).0 is)) (both_true (equal_itself (pos k)) refl))) rows has
 
 opening_by : (k : Code × Code) (test : Row → Bool)
-    → ((e : (Code × Code) × Opening) → test (Null ∷ opening_row e.0 e.1) ≡ (equal (first_key plain).collation (Text e.0.0) (Text k.0) && (equal (first_key plain).collation (Text e.0.1) (Text k.1) && true)))
+    → ((e : (Code × Code) × Opening)
+    → test (Null ∷ opening_row e.0 e.1)
+    ≡ (equal (first_key plain).collation (Text e.0.0) (Text k.0)
+    && (equal (first_key plain).collation (Text e.0.1) (Text k.1) && true)))
     → (rows : List ((Code × Code) × Opening)) → has_row opening_cmp rows k ≡ true → list_any test (map (λ e. Null ∷ opening_row e.0 e.1) rows) ≡ true
 opening_by k test means rows has =
     found opening_cmp k (λ (e : (Code × Code) × Opening). Null ∷ opening_row e.0 e.1) test
     (λ e is. subst (λ b. b ≡ true) (sym (means e))
-    (subst (λ (j : Code × Code). (equal (first_key plain).collation (Text j.0) (Text k.0) && (equal (first_key plain).collation (Text j.1) (Text k.1) && true)) ≡ true) (openings_exact.keys k e.0 ((Equal-is (opening_cmp k e.0)).0 is))
+    (subst (λ (j : Code × Code).
+    (equal (first_key plain).collation (Text j.0) (Text k.0)
+    && (equal (first_key plain).collation (Text j.1) (Text k.1) && true)) ≡ true)
+    (openings_exact.keys k e.0 ((Equal-is (opening_cmp k e.0)).0 is))
     (both_true (text_itself k.0) (both_true (text_itself k.1) refl)))) rows has
 
 appeal_by : (k : ℕ × Code) (test : Row → Bool)
-    → ((e : (ℕ × Code) × Appeal) → test (Null ∷ appeal_row e.0 e.1) ≡ (equal (first_key plain).collation (whole e.0.0) (whole k.0) && (equal (first_key plain).collation (Text e.0.1) (Text k.1) && true)))
+    → ((e : (ℕ × Code) × Appeal)
+    → test (Null ∷ appeal_row e.0 e.1)
+    ≡ (equal (first_key plain).collation (whole e.0.0) (whole k.0)
+    && (equal (first_key plain).collation (Text e.0.1) (Text k.1) && true)))
     → (rows : List ((ℕ × Code) × Appeal)) → has_row appeal_cmp rows k ≡ true → list_any test (map (λ e. Null ∷ appeal_row e.0 e.1) rows) ≡ true
 appeal_by k test means rows has =
     found appeal_cmp k (λ (e : (ℕ × Code) × Appeal). Null ∷ appeal_row e.0 e.1) test
     (λ e is. subst (λ b. b ≡ true) (sym (means e))
-    (subst (λ (j : ℕ × Code). (equal (first_key plain).collation (whole j.0) (whole k.0) && (equal (first_key plain).collation (Text j.1) (Text k.1) && true)) ≡ true) (appeals_exact.keys k e.0 ((Equal-is (appeal_cmp k e.0)).0 is))
+    (subst (λ (j : ℕ × Code).
+    (equal (first_key plain).collation (whole j.0) (whole k.0)
+    && (equal (first_key plain).collation (Text j.1) (Text k.1) && true)) ≡ true)
+    (appeals_exact.keys k e.0 ((Equal-is (appeal_cmp k e.0)).0 is))
     (both_true (equal_itself (pos k.0)) (both_true (text_itself k.1) refl)))) rows has
 
 -- rows refer as the entries do that they represent
-module _ {K X L Y : Type 0} (child_row : K → X → Row) (parent_row : L → Y → Row) (children : List (K × X)) (parents : List (L × Y)) (child parent : List Row) (held_child : HoldsRows child_row children child) (held_parent : HoldsRows parent_row parents parent) (test : Row → Row → Bool) where
-  refer_by : ((x : K × X) → Has children x → list_any (λ p. test p (Null ∷ child_row x.0 x.1)) (map (λ e. Null ∷ parent_row e.0 e.1) parents) ≡ true) → AllByRecursion (λ r. list_any (λ p. test p r) parent ≡ true) child
+module _ {K X L Y : Type 0} (child_row : K → X → Row) (parent_row : L → Y → Row) (children : List (K × X))
+    (parents : List (L × Y)) (child parent : List Row) (held_child : HoldsRows child_row children child)
+    (held_parent : HoldsRows parent_row parents parent) (test : Row → Row → Bool) where
+  refer_by : ((x : K × X) → Has children x
+      → list_any (λ p. test p (Null ∷ child_row x.0 x.1)) (map (λ e. Null ∷ parent_row e.0 e.1) parents) ≡ true)
+      → AllByRecursion (λ r. list_any (λ p. test p r) parent ≡ true) child
   refer_by each = all_from _ child (λ r h.
       let x = has_mapped (λ (e : K × X). Null ∷ child_row e.0 e.1) children r (has_permuted _ _ r held_child h) in
       let p = some_has (λ p. test p (Null ∷ child_row x.0.0 x.0.1)) _ (each x.0 x.1) in
@@ -175,4 +199,22 @@ module _ (all : Trees) (office : State) (good : IsGood office) (rises : KeysRise
       (λ x h. opening_by (x.0.0, x.1) _ (λ e. refl) r.openings (sits_opened x h))
 
   pub all_refer : AllRefer all
-  all_refer = (paper_session, (opening_session, (opening_hall, (entry_candidate, (entry_paper, (arrangement_candidate, (appeal_candidate, (appeal_session, (seat_candidate, (seat_opening, (standing_appeal, tt)))))))))))
+  all_refer = (
+    paper_session,
+    (
+      opening_session,
+      (
+        opening_hall,
+        (
+          entry_candidate,
+          (
+            entry_paper,
+            (
+              arrangement_candidate,
+              (appeal_candidate, (appeal_session, (seat_candidate, (seat_opening, (standing_appeal, tt))))),
+            ),
+          ),
+        ),
+      ),
+    ),
+  )

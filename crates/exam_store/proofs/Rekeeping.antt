@@ -37,10 +37,15 @@ holds_after before after c all turns was = record {
     sessions = subst (HoldsRows forms.sessions.row after.relations.sessions) (sym (whole c all forms.sessions.tree)) (table_put sessions_ours.keys _ _ _ _ turns.sessions was.facts.sessions);
     papers = subst (HoldsRows forms.papers.row after.relations.papers) (sym (whole c all forms.papers.tree)) (table_put papers_ours.keys _ _ _ _ turns.papers was.facts.papers);
     halls = subst (HoldsRows forms.halls.row after.relations.halls) (sym (whole c all forms.halls.tree)) (table_put halls_ours.keys _ _ _ _ turns.halls was.facts.halls);
-    openings = subst (HoldsRows forms.openings.row after.relations.openings) (sym (whole c all forms.openings.tree)) (table_saved openings_ours.keys openings_named _ _ _ _ _ turns.openings was.facts.openings);
-    candidates = subst (HoldsRows forms.candidates.row after.relations.candidates) (sym (whole c all forms.candidates.tree)) (table_put candidates_ours.keys _ _ _ _ turns.candidates was.facts.candidates);
+    openings = subst (HoldsRows forms.openings.row after.relations.openings) (sym (whole c all forms.openings.tree))
+        (table_saved openings_ours.keys openings_named _ _ _ _ _ turns.openings was.facts.openings);
+    candidates = subst (HoldsRows forms.candidates.row after.relations.candidates)
+        (sym (whole c all forms.candidates.tree))
+        (table_put candidates_ours.keys _ _ _ _ turns.candidates was.facts.candidates);
     entries = subst (HoldsRows forms.entries.row after.relations.entries) (sym (whole c all forms.entries.tree)) (table_put entries_ours.keys _ _ _ _ turns.entries was.facts.entries);
-    arrangements = subst (HoldsRows forms.arrangements.row after.relations.arrangements) (sym (whole c all forms.arrangements.tree)) (table_put arrangements_ours.keys _ _ _ _ turns.arrangements was.facts.arrangements);
+    arrangements = subst (HoldsRows forms.arrangements.row after.relations.arrangements)
+        (sym (whole c all forms.arrangements.tree))
+        (table_put arrangements_ours.keys _ _ _ _ turns.arrangements was.facts.arrangements);
     appeals = subst (HoldsRows forms.appeals.row after.relations.appeals) (sym (whole c all forms.appeals.tree)) (table_put appeals_ours.keys _ _ _ _ turns.appeals was.facts.appeals);
     standing = subst (HoldsRows forms.standing.row after.relations.standing) (sym (whole c all forms.standing.tree)) (table_put standing_ours.keys _ _ _ _ turns.standing was.facts.standing);
   };
@@ -63,7 +68,22 @@ keeps_empty db made =
       all = new_tables;
       contains = made;
       version = refl;
-      held = record { facts = record { sessions = none; papers = none; halls = none; candidates = none; openings = none; entries = none; arrangements = none; appeals = none; standing = none }; seats = none };
+      held = record {
+        facts =
+            record {
+              sessions = none;
+              papers = none;
+              halls = none;
+              candidates = none;
+              openings = none;
+              entries =
+                  none;
+              arrangements = none;
+              appeals = none;
+              standing = none;
+            };
+        seats = none;
+      };
     }
 
 has_tables : store_schema ≡ no_schema → ⊥
@@ -75,8 +95,13 @@ pub held_office : (all : Trees) (office : State) → HoldsFormed all office → 
 held_office all office formed = record { facts = held_facts all office.relations formed.0; seats = formed.1.same }
 
 -- the office that was loaded is kept by the tables, where they are those of this version
-pub loaded : (old mid new : Shown) (result : Result State Refusal) → (HasCleanDisk new → HasCleanDisk mid) → (HasCleanDisk mid → (all : Trees) → ContainsMade old.now all → HasVersion version all) → (HasCleanDisk mid → IsUnchanged old mid)
-    → (HasCleanDisk mid → IsUnderstood old.now load_office) → (HasCleanDisk new → IfOk result (λ office. (all : Trees) → ContainsMade mid.now all → HoldsFormed all office × IsUnchanged mid new)) → (HasCleanDisk new → OnOk result (AreUnderstood mid.now (version_texts version)))
+pub loaded : (old mid new : Shown) (result : Result State Refusal) → (HasCleanDisk new → HasCleanDisk mid)
+    → (HasCleanDisk mid → (all : Trees) → ContainsMade old.now all → HasVersion version all)
+    → (HasCleanDisk mid → IsUnchanged old mid)
+    → (HasCleanDisk mid → IsUnderstood old.now load_office)
+    → (HasCleanDisk new → IfOk result
+    (λ office. (all : Trees) → ContainsMade mid.now all → HoldsFormed all office × IsUnchanged mid new))
+    → (HasCleanDisk new → OnOk result (AreUnderstood mid.now (version_texts version)))
     → (HasCleanDisk new → OnlyReads mid new result) → Survives old mid (λ _. ⊥) → Survives mid new (λ _. ⊥) → IfOk result (Finds old new)
 loaded old mid new (Ok office) before held same known rows understood left first next = record {
   understood = λ clean. (known (before clean), subst (λ (db : Database). AreUnderstood db (version_texts version)) (same (before clean)).0.now_is (understood clean));

@@ -44,13 +44,17 @@ module _ (crashed was now : Shown) (found : State) (opens : Reopens crashed was 
       record { kept = kept; same = λ days. same_office kept.all found office (opens.finds.formed opens.clean kept.all kept.contains) kept.held order days }
 
   module _ (done : Command) (today : ℕ) (old : Shown) (before : State) (order : IsInOrder before) (kept : IsKept old before) (clean : HasCleanDisk crashed) where
-    pub before_or_after : (reply : Result Reply Refusal) → Commits old crashed reply (TurnsBy done today before) → ((trees : Trees) → old.may_leave trees → trees ≡ old.committed.trees) → IsBeforeOrAfter done today before was.now found
+    pub before_or_after : (reply : Result Reply Refusal) → Commits old crashed reply (TurnsBy done today before)
+        → ((trees : Trees) → old.may_leave trees → trees ≡ old.committed.trees)
+        → IsBeforeOrAfter done today before was.now found
     before_or_after reply commits settled = elim (commits.survives.crash clean was.now.trees opens.left) [
       | inl earlier ↦ inl (found_as old.now before kept.0 (settled was.now.trees earlier ∙ ap (λ (db : Database). db.trees) kept.1) order)
       | inr turned ↦ let made = turned.1 in inr (made.0, made.1, made.2, found_as turned.0 made.1 (made.3 kept.0) turned.2 (in_order done today before made.1 made.0 made.2))
     ]
 
-    pub after_answer : (reply : Result Reply Refusal) (after : State) → Commits old crashed reply (TurnsBy done today before) → MayApply done today before reply after → OnOk reply (IsFoundAs was.now found after)
+    pub after_answer : (reply : Result Reply Refusal) (after : State)
+        → Commits old crashed reply (TurnsBy done today before) → MayApply done today before reply after
+        → OnOk reply (IsFoundAs was.now found after)
     after_answer (Err e) after commits step = tt
     after_answer (Ok reply) after commits step =
         let turned = commits.turned clean in

@@ -31,7 +31,8 @@ rows_at cmp after (e ∷ es) = cons_option (option_map (λ x. (e.0, x)) (row_at 
 
 module _ {K X Y : Type 0} (cmp : K → K → Ordering) (after : List (K × X)) where
   -- of the rows so far and those at the other keys, one more is so far
-  pub more_put : (so_far : List (K × X)) (e : K × Y) (es : List (K × Y)) (x : X) → row_at cmp after e.0 ≡ Some x → (so_far ++ (e.0, x) ∷ []) ++ rows_at cmp after es ≡ so_far ++ rows_at cmp after (e ∷ es)
+  pub more_put : (so_far : List (K × X)) (e : K × Y) (es : List (K × Y)) (x : X) → row_at cmp after e.0 ≡ Some x
+      → (so_far ++ (e.0, x) ∷ []) ++ rows_at cmp after es ≡ so_far ++ rows_at cmp after (e ∷ es)
   more_put so_far e es x at =
       append_assoc so_far ((e.0, x) ∷ []) (rows_at cmp after es) ∙ ap (λ o. so_far ++ cons_option (option_map (λ v. (e.0, v)) o) (rows_at cmp after es)) (sym at)
 

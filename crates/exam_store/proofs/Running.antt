@@ -29,7 +29,8 @@ fails_or_steps done today before (Err e) after why = elim why.1 [
   | inr told ↦ inl (told, why.0)
 ]
 
-one_in_memory : (done : Command) (today : ℕ) (before : State) (answer : Result Reply Refusal) (after : State) → MayApply done today before answer after → MayStep done today before (in_memory answer) after
+one_in_memory : (done : Command) (today : ℕ) (before : State) (answer : Result Reply Refusal) (after : State)
+    → MayApply done today before answer after → MayStep done today before (in_memory answer) after
 one_in_memory done today before (Ok reply) after step = inr step
 one_in_memory done today before (Err e) after why = by_test (is_store_refusal e) refl
   where
@@ -81,7 +82,9 @@ one_office done before one other first second none never here there =
 
 -- a repeated command, which the store may also refuse
 
-module _ (later : ℕ) (mid late after : State) (done : List (Command × ℕ)) (replies : List (Result Reply Refusal)) (second : Result Reply Refusal) (up : IsInOrder late) (up_after : IsInOrder after) (applied : Applies done mid replies late) where
+module _ (later : ℕ) (mid late after : State) (done : List (Command × ℕ)) (replies : List (Result Reply Refusal))
+    (second : Result Reply Refusal) (up : IsInOrder late) (up_after : IsInOrder after)
+    (applied : Applies done mid replies late) where
   run : Run done mid (map in_memory replies) late
   run = all_in_memory done mid late replies applied
 
@@ -91,14 +94,26 @@ module _ (later : ℕ) (mid late after : State) (done : List (Command × ℕ)) (
     | inr step ↦ let it = law step in (inl it.0, it.1)
   ]
 
-  pub lodged_once : (lodging : Lodging) (day : ℕ) (before : State) (first : Reply) → MayApply (command.Lodge lodging) day before (Ok first) mid → MayApply (command.Lodge lodging) later late second after
+  pub lodged_once : (lodging : Lodging) (day : ℕ) (before : State) (first : Reply)
+      → MayApply (command.Lodge lodging) day before (Ok first) mid
+      → MayApply (command.Lodge lodging) later late second after
       → ((second ≡ Ok (reply.Lodged (stored_state late.relations lodging.number lodging.reference))) ⊎ FailsInStore second) × (after ≡ late)
   lodged_once lodging day before first step = once (command.Lodge lodging) _ (repeated_lodging lodging day later before mid late after first done (map in_memory replies) second up up_after step run)
 
-  pub retracted_once : (number : ℕ) (reference : Code) (day : ℕ) (before : State) (first : Reply) → MayApply (command.Retract number reference) day before (Ok first) mid → MayApply (command.Retract number reference) later late second after
+  pub retracted_once : (number : ℕ) (reference : Code) (day : ℕ) (before : State) (first : Reply)
+      → MayApply (command.Retract number reference) day before (Ok first) mid
+      → MayApply (command.Retract number reference) later late second after
       → ((second ≡ Ok reply.Retracted) ⊎ FailsInStore second) × (after ≡ late)
-  retracted_once number reference day before first step = once (command.Retract number reference) _ (repeated_retraction number reference day later before mid late after first done (map in_memory replies) second up up_after step run)
+  retracted_once number reference day before first step =
+      once (command.Retract number reference) _
+      (repeated_retraction number reference day later before mid late after first done
+      (map in_memory replies) second up up_after step run)
 
-  pub decided_once : (decision : Decision) (day : ℕ) (before : State) (first : Reply) → MayApply (command.Decide decision) day before (Ok first) mid → MayApply (command.Decide decision) later late second after
+  pub decided_once : (decision : Decision) (day : ℕ) (before : State) (first : Reply)
+      → MayApply (command.Decide decision) day before (Ok first) mid
+      → MayApply (command.Decide decision) later late second after
       → (((second ≡ Ok reply.Unchanged) ⊎ ((stored_state late.relations decision.number decision.reference ≡ state.Superseded) × (second ≡ Err NotOpenAppeal))) ⊎ FailsInStore second) × (after ≡ late)
-  decided_once decision day before first step = once (command.Decide decision) _ (repeated_decision decision day later before mid late after first done (map in_memory replies) second up up_after step run)
+  decided_once decision day before first step =
+      once (command.Decide decision) _
+      (repeated_decision decision day later before mid late after first done
+      (map in_memory replies) second up up_after step run)

@@ -28,9 +28,21 @@ carried (t ∷ tables) here there one other all same of_here of_there meant = (
 )
 
 -- what holds of each of the eleven tables
-each_table : (P : Table → Type 0) → P tables.office.table → P tables.session.table → P tables.paper.table → P tables.hall.table → P tables.candidate.table → P tables.opening.table → P tables.entry.table → P tables.arrangement.table → P tables.appeal.table → P tables.seat.table → P tables.standing.table → AllByRecursion P store_schema.tables
+each_table : (P : Table → Type 0) → P tables.office.table → P tables.session.table → P tables.paper.table
+    → P tables.hall.table → P tables.candidate.table → P tables.opening.table → P tables.entry.table
+    → P tables.arrangement.table → P tables.appeal.table → P tables.seat.table → P tables.standing.table
+    → AllByRecursion P store_schema.tables
 unfolding store_schema
-each_table P office session paper hall candidate opening entry arrangement appeal seat standing = (office, (session, (paper, (hall, (candidate, (opening, (entry, (arrangement, (appeal, (seat, (standing, tt)))))))))))
+each_table P office session paper hall candidate opening entry arrangement appeal seat standing = (
+  office,
+  (
+    session,
+    (
+      paper,
+      (hall, (candidate, (opening, (entry, (arrangement, (appeal, (seat, (standing, tt)))))))),
+    ),
+  ),
+)
 
 both : (xs ys rows : List Row) → IsPermutation xs rows → IsPermutation ys rows → IsPermutation xs ys
 both xs ys rows here there = IsPermutation-trans xs rows ys here (IsPermutation-sym ys rows there)
@@ -40,11 +52,20 @@ module _ (here there : Database) (office : State) (one : Keeps here office) (oth
   same_rows =
       let x = one.held.facts in
       let y = other.held.facts in
-      each_table (λ t. IsPermutation (one.all t.tree) (other.all t.tree)) (rw (one.version, other.version) (IsPermutation-refl _)) (both _ _ _ x.sessions y.sessions) (both _ _ _ x.papers y.papers) (both _ _ _ x.halls y.halls) (both _ _ _ x.candidates y.candidates)
-      (both _ _ _ x.openings y.openings) (both _ _ _ x.entries y.entries) (both _ _ _ x.arrangements y.arrangements) (both _ _ _ x.appeals y.appeals) (both _ _ _ one.held.seats other.held.seats) (both _ _ _ x.standing y.standing)
+      each_table (λ t. IsPermutation (one.all t.tree) (other.all t.tree))
+      (rw (one.version, other.version) (IsPermutation-refl _)) (both _ _ _ x.sessions y.sessions)
+      (both _ _ _ x.papers y.papers) (both _ _ _ x.halls y.halls) (both _ _ _ x.candidates y.candidates)
+      (both _ _ _ x.openings y.openings) (both _ _ _ x.entries y.entries) (both _ _ _ x.arrangements y.arrangements)
+      (both _ _ _ x.appeals y.appeals) (both _ _ _ one.held.seats other.held.seats)
+      (both _ _ _ x.standing y.standing)
 
   over : (all : Trees) → Contains here all → Contains there all
-  over all meant = record { schema_is = other.contains.schema_is; rows = carried store_schema.tables here.trees there.trees one.all other.all all same_rows one.contains.rows other.contains.rows meant.rows }
+  over all meant = record {
+    schema_is = other.contains.schema_is;
+    rows =
+        carried store_schema.tables here.trees there.trees one.all other.all all same_rows one.contains.rows
+        other.contains.rows meant.rows;
+  }
 
 pub same_tables : (here there : Database) (office : State) → Keeps here office → Keeps there office → HaveSameTables here there
 same_tables here there office one other = record { ours = (one.all, one.contains); same = λ all. (over here there office one other all, over there here office other one all) }

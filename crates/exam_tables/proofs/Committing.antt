@@ -12,7 +12,8 @@ use Rattle.exam_tables.specs.Loaded.{IsLeft}
 use Rattle.exam_tables.specs.Transactions.{Commits}
 
 -- where the last commit was what was seen, a rollback goes back to that
-rolled_back : (old last end : State) → IsTrue end.is_open → (IsTrue old.is_open → old.now ≡ old.committed) → KeepsCommit old last → IsRolledBack last end → (end.now ≡ old.now) × (end.committed ≡ old.committed)
+rolled_back : (old last end : State) → IsTrue end.is_open → (IsTrue old.is_open → old.now ≡ old.committed)
+    → KeepsCommit old last → IsRolledBack last end → (end.now ≡ old.now) × (end.committed ≡ old.committed)
 rolled_back old last end open_now settled keeps back =
     let mid = back.was_open open_now in
     let whole = keeps.committed mid in
@@ -57,7 +58,9 @@ committed_by old last end (Err e) Turns settled made kept before ok failed after
 }
 
 -- what was written is undone
-pub undone_by : {A : Type 0} (old last end : State) (e : Refusal) (Turns : Database → Database → Type 0) → (IsTrue old.is_open → old.now ≡ old.committed) → (HasCleanDisk last → KeepsCommit old last) → Survives old last (λ _. ⊥)
+pub undone_by : {A : Type 0} (old last end : State) (e : Refusal) (Turns : Database → Database → Type 0)
+    → (IsTrue old.is_open → old.now ≡ old.committed) → (HasCleanDisk last → KeepsCommit old last)
+    → Survives old last (λ _. ⊥)
     → (HasCleanDisk end → IsRolledBack last end) → Survives last end (λ _. ⊥) → Commits {A = A} old end (Err e) Turns
 undone_by old last end e Turns settled kept before undone after = record {
   turned = λ clean. tt;
@@ -68,7 +71,8 @@ undone_by old last end e Turns settled kept before undone after = record {
 }
 
 -- what turns into more turns into less
-pub commits_weaker : {A E : Type 0} (old new : State) (result : Result A E) (T U : Database → Database → Type 0) → ((a b : Database) → T a b → U a b) → Commits old new result T → Commits old new result U
+pub commits_weaker : {A E : Type 0} (old new : State) (result : Result A E) (T U : Database → Database → Type 0)
+    → ((a b : Database) → T a b → U a b) → Commits old new result T → Commits old new result U
 commits_weaker old new (Ok u) T U more c = record {
   turned = λ clean. let it = c.turned clean in (more _ _ it.0, it.1, it.2);
   same = c.same;
@@ -92,7 +96,9 @@ pub commits_err : {A B E F : Type 0} (old new : State) (e : E) (f : F) (T : Data
 commits_err old new e f T c = record { turned = c.turned; same = c.same; was_open = c.was_open; settled = c.settled; survives = c.survives }
 
 -- a commit after a call that has only read
-pub then_commits : {A : Type 0} (old mid new : State) (result : Result A Refusal) (T : Database → Database → Type 0) → (HasCleanDisk mid → IsUnchanged old mid) → Survives old mid (λ _. ⊥) → Commits mid new result T → Commits old new result T
+pub then_commits : {A : Type 0} (old mid new : State) (result : Result A Refusal) (T : Database → Database → Type 0)
+    → (HasCleanDisk mid → IsUnchanged old mid) → Survives old mid (λ _. ⊥) → Commits mid new result T
+    → Commits old new result T
 then_commits {A} old mid new result T same before c = record {
   turned = λ clean. turned_by result (c.turned clean) (same (early clean));
   same = λ sound. same_by result (c.same sound) (same (early sound.0));
@@ -104,7 +110,8 @@ then_commits {A} old mid new result T same before c = record {
     early : HasCleanDisk new → HasCleanDisk mid
     early clean = omega (arith, c.survives.clean)
 
-    turned_by : (r : Result A Refusal) → OnOk r (T mid.now new.now × (new.committed ≡ new.now) × IsTrue new.is_open) → IsUnchanged old mid → OnOk r (T old.now new.now × (new.committed ≡ new.now) × IsTrue new.is_open)
+    turned_by : (r : Result A Refusal) → OnOk r (T mid.now new.now × (new.committed ≡ new.now) × IsTrue new.is_open)
+        → IsUnchanged old mid → OnOk r (T old.now new.now × (new.committed ≡ new.now) × IsTrue new.is_open)
     turned_by (Ok x) it same = (subst (λ d. T d new.now) same.0.now_is it.0, it.1, it.2)
     turned_by (Err e) it same = tt
 
@@ -113,7 +120,9 @@ then_commits {A} old mid new result T same before c = record {
     same_by (Err e) it same = (it.0 ∙ same.0.now_is, it.1 ∙ same.0.committed_is)
 
 -- a call that only reads commits nothing, where what was seen is what was committed
-pub reads_commit : {A : Type 0} (old new : State) (e : Refusal) (T : Database → Database → Type 0) → (IsTrue old.is_open → old.now ≡ old.committed) → (HasCleanDisk new → IsLeft old new) → Survives old new (λ _. ⊥) → Commits {A = A} old new (Err e) T
+pub reads_commit : {A : Type 0} (old new : State) (e : Refusal) (T : Database → Database → Type 0)
+    → (IsTrue old.is_open → old.now ≡ old.committed) → (HasCleanDisk new → IsLeft old new) → Survives old new (λ _. ⊥)
+    → Commits {A = A} old new (Err e) T
 reads_commit old new e T settled left s = record {
   turned = λ clean. tt;
   same = λ sound. same_by sound.1 (left sound.0);
@@ -130,7 +139,9 @@ reads_commit old new e T settled left s = record {
     same_by now (inl same) = (same.0.now_is, same.0.committed_is)
     same_by now (inr back) = let both = back.undone now in (both.0 ∙ sym (settled (back.was_open now)), both.1)
 
-pub unchanged_commits : {A : Type 0} (old new : State) (a : A) (T : Database → Database → Type 0) → (IsTrue old.is_open → old.now ≡ old.committed) → (HasCleanDisk new → IsUnchanged old new) → (HasCleanDisk new → T old.now new.now)
+pub unchanged_commits : {A : Type 0} (old new : State) (a : A) (T : Database → Database → Type 0)
+    → (IsTrue old.is_open → old.now ≡ old.committed) → (HasCleanDisk new → IsUnchanged old new)
+    → (HasCleanDisk new → T old.now new.now)
     → ((trees : Trees) → IsTrue new.is_open → new.may_leave trees → trees ≡ new.committed.trees) → Survives old new (λ _. ⊥) → Commits {E = Refusal} old new (Ok a) T
 unchanged_commits old new a T settled same turns left s = record {
   turned = λ clean. let it = same clean in (turns clean, it.0.committed_is ∙ sym (settled it.0.was_open) ∙ sym it.0.now_is, it.0.is_open);

@@ -44,11 +44,32 @@ abbrev pub Refused : List ℕ → Row → State → State → Result (Unit {0}) 
 Refused sql params old new result = HasCleanDisk new → IsTrue old.in_transaction → IfErr result (λ e. (error : Error) × (e ≡ refusal_of error) × ExecutesInside 0 sql params old new (Err error))
 
 -- what a statement that was run makes
-pub leads_by : (before after : Database → Type 0) (old new : State) (sql : List ℕ) (params : Row) (result : Result (Unit {0}) Refusal) → ((count : ℕ) → Executes sql params old new (Ok count) → before old.now → after new.now)
+pub leads_by : (before after : Database → Type 0) (old new : State) (sql : List ℕ) (params : Row)
+    (result : Result (Unit {0}) Refusal)
+    → ((count : ℕ) → Executes sql params old new (Ok count) → before old.now → after new.now)
     → (before old.now → (error : Error) → ExecutesInside 0 sql params old new (Err error) → Fails old new (IsSome old.step_limit) error) → Refused sql params old new result
-    → (HasCleanDisk new → IsTrue old.in_transaction → OnOk result (Ran sql params old new × IsTrue new.in_transaction)) → (HasCleanDisk new → KeepsCommit old new) → Survives old new (λ _. ⊥) → IfErr result (λ e. IsTrue (is_store_refusal e)) → Leads before after old new result
-leads_by before after old new sql params (Ok u) does fails failed ran kept survives told = record { made = λ clean going. let h = ran clean going in (does h.0.0 h.0.1, h.1); failed = λ clean going was. tt; kept = kept; survives = survives; told = tt }
-leads_by before after old new sql params (Err e) does fails failed ran kept survives told = record { made = λ clean going. tt; failed = λ clean going was. let it = failed clean going in fails_for (IsSome old.step_limit) old new e it.0 it.1 (fails was it.0 it.2); kept = kept; survives = survives; told = told }
+    → (HasCleanDisk new → IsTrue old.in_transaction → OnOk result (Ran sql params old new × IsTrue new.in_transaction))
+    → (HasCleanDisk new → KeepsCommit old new) → Survives old new (λ _. ⊥)
+    → IfErr result (λ e. IsTrue (is_store_refusal e)) → Leads before after old new result
+leads_by before after old new sql params (Ok u) does fails failed ran kept survives told =
+    record {
+      made = λ clean going. let h = ran clean going in (does h.0.0 h.0.1, h.1);
+      failed =
+          λ clean going was. tt;
+      kept = kept;
+      survives = survives;
+      told = tt;
+    }
+leads_by before after old new sql params (Err e) does fails failed ran kept survives told =
+    record {
+      made = λ clean going. tt;
+      failed = λ clean going was. let it =
+          failed clean going in fails_for (IsSome old.step_limit) old new e it.0 it.1 (fails was it.0 it.2);
+      kept =
+          kept;
+      survives = survives;
+      told = told;
+    }
 
 -- what stood against the second of two steps stood against both
 pub made_later : (old mid new : State) (e : Refusal) → Survives old mid (λ _. ⊥) → HasCleanDisk mid → mid.faults ≤ new.faults → FailsToMake mid new e → FailsToMake old new e
@@ -57,7 +78,8 @@ made_later old mid new e s clean up (inr (told, inl down)) = inr (told, inl (dow
 made_later old mid new e s clean up (inr (told, inr limited)) = inr (told, inr (subst IsSome s.limit limited))
 
 -- one step after another
-pub leads_then : (before between after : Database → Type 0) (old mid new : State) (result : Result (Unit {0}) Refusal) → Leads before between old mid (Ok tt) → Leads between after mid new result → Leads before after old new result
+pub leads_then : (before between after : Database → Type 0) (old mid new : State) (result : Result (Unit {0}) Refusal)
+    → Leads before between old mid (Ok tt) → Leads between after mid new result → Leads before after old new result
 leads_then before between after old mid new (Ok u) a b = record {
   made = λ clean going.
       let one = a.made (early mid new b.survives clean) going in
@@ -108,10 +130,16 @@ each_text texts are k d below =
     sym (get_or-map (λ s. s.now) texts k d [] below) ∙ ap (λ l. get_or l k []) are ∙ get_or-map (λ d. d.create) first_tables k tables.office [] (omega (arith, below, are_ten texts are))
 
 -- the text of a table
-pub table_leads : (before after : Schema) (d : Described) (text : List ℕ) → text ≡ d.create → AddsTable before after d → (old new : State) (result : Result (Unit {0}) Refusal) → Refused text [] old new result → (HasCleanDisk new → IsTrue old.in_transaction → OnOk result (Ran text [] old new × IsTrue new.in_transaction))
+pub table_leads : (before after : Schema) (d : Described) (text : List ℕ) → text ≡ d.create → AddsTable before after d
+    → (old new : State) (result : Result (Unit {0}) Refusal) → Refused text [] old new result
+    → (HasCleanDisk new → IsTrue old.in_transaction → OnOk result (Ran text [] old new × IsTrue new.in_transaction))
     → (HasCleanDisk new → KeepsCommit old new) → Survives old new (λ _. ⊥) → IfErr result (λ e. IsTrue (is_store_refusal e)) → Leads (HasNoRows before) (HasNoRows after) old new result
 table_leads before after d text is adds old new result failed ran kept survives told =
-    leads_by (HasNoRows before) (HasNoRows after) old new text [] result (λ count run was. still_empty after new.now d.table.tree (adds_table adds old new (Ok count) (rw is at run) (λ tree. []) was)) (λ was error run. limited old new error (adding_fails adds old new was.schema_is error (rw is at run))) failed ran kept survives told
+    leads_by (HasNoRows before) (HasNoRows after) old new text [] result
+    (λ count run was. still_empty after new.now d.table.tree
+    (adds_table adds old new (Ok count) (rw is at run) (λ tree. []) was))
+    (λ was error run. limited old new error (adding_fails adds old new was.schema_is error (rw is at run))) failed
+    ran kept survives told
 
 -- if the connection is shut, that alone explains a failed statement
 shut_fails : {A B : Type 0} (old new : State) (error : Error) → old.is_open ≡ false → Fails old new A error → Fails old new B error
@@ -119,7 +147,9 @@ shut_fails old new error shut (inl lacks) = inl lacks
 shut_fails old new error shut (inr (named, against)) = inr (named, inl (inr shut))
 
 -- the version is set unless memory runs out, the disk or the connection fails, or the steps are limited
-pub version_refused : (old new : State) (all : Trees) → HasRuled old.is_open all old.now → (error : Error) → ExecutesInside 0 office.put_text (Int (pos version) ∷ []) old new (Err error) → Fails old new (IsSome old.step_limit) error
+pub version_refused : (old new : State) (all : Trees) → HasRuled old.is_open all old.now → (error : Error)
+    → ExecutesInside 0 office.put_text (Int (pos version) ∷ []) old new (Err error)
+    → Fails old new (IsSome old.step_limit) error
 version_refused old new all was error run = elim (cases_Bool old.is_open) [
   | inl is ↦ version_fails old new all (pos version) was.0 (was.1 is) error run
   | inr shut ↦ shut_fails old new error shut ((office.put_answers old new (pos version) was.0.schema_is).fails error run)
@@ -127,11 +157,23 @@ version_refused old new all was error run = elim (cases_Bool old.is_open) [
 
 -- nothing is to be done
 pub leads_itself : (before after : Database → Type 0) (s : State) → (before s.now → after s.now) → Leads before after s s (Ok tt)
-leads_itself before after s is = record { made = λ clean going. (is, going); failed = λ clean going was. tt; kept = λ clean. record { was_open = λ open_now. open_now; committed = λ open_now. refl }; survives = survives_itself s; told = tt }
+leads_itself before after s is =
+    record {
+      made = λ clean going. (is, going);
+      failed = λ clean going was. tt;
+      kept =
+          λ clean. record { was_open = λ open_now. open_now; committed = λ open_now. refl };
+      survives =
+          survives_itself s;
+      told = tt;
+    }
 
 -- if there are to be no marks, the table has none
 pub no_marks : (db : Database) (all : Trees) → all 17 ≡ [] → ContainsIn store_schema db (with_tree all 17 []) → ContainsIn store_schema db all
-no_marks db all none was = contains_same store_schema db _ _ was (all_of _ (λ s. subst (λ rows. IsPermutation (with_tree all 17 [] s.tree) rows) (same s.tree) (IsPermutation-refl _)) store_schema.tables)
+no_marks db all none was =
+    contains_same store_schema db _ _ was
+    (all_of _ (λ s. subst (λ rows. IsPermutation (with_tree all 17 [] s.tree) rows) (same s.tree)
+    (IsPermutation-refl _)) store_schema.tables)
   where
     same : (u : ℕ) → with_tree all 17 [] u ≡ all u
     same u = elim (cases_Bool (u == 17)) [ inl is ↦ rw is (subst (λ n. [] ≡ all n) (sym (eqb-true u 17 is)) (sym none)) | inr other ↦ rw other refl ]
@@ -145,9 +187,27 @@ pub first_is_empty : (db : Database) → HasNoRows (made 10) db → HasFirst (λ
 first_is_empty db was = (subst (λ s. HasNoRows s db) first_is was, refl)
 
 -- of states in place of databases
-pub leads_from : (before after earlier later : Database → Type 0) (old new : State) (result : Result (Unit {0}) Refusal) → (earlier old.now → before old.now) → (after new.now → later new.now) → Leads before after old new result → Leads earlier later old new result
-leads_from before after earlier later old new (Ok u) first last a = record { made = λ clean going. let h = a.made clean going in (λ was. last (h.0 (first was)), h.1); failed = λ clean going was. tt; kept = a.kept; survives = a.survives; told = a.told }
-leads_from before after earlier later old new (Err e) first last a = record { made = λ clean going. tt; failed = λ clean going was. a.failed clean going (first was); kept = a.kept; survives = a.survives; told = a.told }
+pub leads_from : (before after earlier later : Database → Type 0) (old new : State)
+    (result : Result (Unit {0}) Refusal) → (earlier old.now → before old.now) → (after new.now → later new.now)
+    → Leads before after old new result → Leads earlier later old new result
+leads_from before after earlier later old new (Ok u) first last a =
+    record {
+      made = λ clean going. let h = a.made clean going in (λ was. last (h.0 (first was)), h.1);
+      failed =
+          λ clean going was. tt;
+      kept = a.kept;
+      survives = a.survives;
+      told = a.told;
+    }
+leads_from before after earlier later old new (Err e) first last a =
+    record {
+      made = λ clean going. tt;
+      failed = λ clean going was. a.failed clean going (first was);
+      kept =
+          a.kept;
+      survives = a.survives;
+      told = a.told;
+    }
 
 -- where no transaction was under way
 pub not_created : (old new : State) (result : Result (Unit {0}) Refusal) → IfErr result (FailsToMake old new) → IfErr result (FailsToCreate old new)

@@ -1,5 +1,7 @@
 -- One walk over two tables in the order of their keys finds what differs.
-use Rattle.std.proofs.Common.{◌≡◌, ◌<◌, ◌-◌, ◌&&◌, ◌||◌, Bool, true, false, not, cond, List, [], ◌∷◌, ◌++◌, map, length, get_or, take, drop, Bor, arith, Ordering, Less, Equal, Greater, refl, sym, ap, ap₂, subst, ◌∙◌, append_assoc}
+use Rattle.std.proofs.Common.{◌≡◌, ◌<◌, ◌-◌, ◌&&◌, ◌||◌, Bool, true, false, not, cond, List, [], ◌∷◌, ◌++◌, map, length}
+use Rattle.std.proofs.Common.{get_or, take, drop, Bor, arith, Ordering, Less, Equal, Greater, refl, sym, ap, ap₂, subst}
+use Rattle.std.proofs.Common.{◌∙◌, append_assoc}
 use Rattle.std.specs.Cmp.{IsTotalOrder, tied_back}
 use Rattle.std.specs.List.{AllByRecursion, filter}
 use Rattle.std.specs.List.Sorted.{IsStrictlySortedBy}
@@ -110,7 +112,9 @@ pub record IsWalked {K X : Type 0} (cmp : K → K → Ordering) (same : X → X 
 module _ {K X : Type 0} {cmp : K → K → Ordering} (total : IsTotalOrder cmp) (same : X → X → Bool) (old new : List (K × X)) where
   pub walk_deletes : (e : K × X) (more old_left new_left puts : List (K × X)) (deletes : List K) → old_left ≡ e ∷ more → first_cmp cmp old_left new_left ≡ Less
       → IsWalked cmp same old new old_left new_left puts deletes → IsWalked cmp same old new more new_left puts (deletes ++ e.0 ∷ [])
-  walk_deletes e more old_left new_left puts deletes is less walked = step (subst (λ l. first_cmp cmp l new_left ≡ Less) is less) (subst (λ l. IsWalked cmp same old new l new_left puts deletes) is walked)
+  walk_deletes e more old_left new_left puts deletes is less walked =
+      step (subst (λ l. first_cmp cmp l new_left ≡ Less) is less)
+      (subst (λ l. IsWalked cmp same old new l new_left puts deletes) is walked)
     where
       step : first_cmp cmp (e ∷ more) new_left ≡ Less → IsWalked cmp same old new (e ∷ more) new_left puts deletes → IsWalked cmp same old new more new_left puts (deletes ++ e.0 ∷ [])
       step first w =
@@ -124,7 +128,9 @@ module _ {K X : Type 0} {cmp : K → K → Ordering} (total : IsTotalOrder cmp) 
 
   pub walk_puts : (n : K × X) (more old_left new_left puts : List (K × X)) (deletes : List K) → new_left ≡ n ∷ more → first_cmp cmp old_left new_left ≡ Greater
       → IsWalked cmp same old new old_left new_left puts deletes → IsWalked cmp same old new old_left more (puts ++ n ∷ []) deletes
-  walk_puts n more old_left new_left puts deletes is greater walked = step (subst (λ l. first_cmp cmp old_left l ≡ Greater) is greater) (subst (λ l. IsWalked cmp same old new old_left l puts deletes) is walked)
+  walk_puts n more old_left new_left puts deletes is greater walked =
+      step (subst (λ l. first_cmp cmp old_left l ≡ Greater) is greater)
+      (subst (λ l. IsWalked cmp same old new old_left l puts deletes) is walked)
     where
       step : first_cmp cmp old_left (n ∷ more) ≡ Greater → IsWalked cmp same old new old_left (n ∷ more) puts deletes → IsWalked cmp same old new old_left more (puts ++ n ∷ []) deletes
       step first w =
@@ -163,7 +169,9 @@ module _ {K X : Type 0} {cmp : K → K → Ordering} (total : IsTotalOrder cmp) 
     walk_changes unlike = record {
       old_rises = rest_rises total same e old_more split.old_rises;
       new_rises = rest_rises total same n new_more split.new_rises;
-      puts_are = found ∙ ap (λ b. puts ++ cond (not b) (n ∷ to_put cmp same old_more new_more) (to_put cmp same old_more new_more)) unlike ∙ sym (append_assoc puts (n ∷ []) (to_put cmp same old_more new_more));
+      puts_are = found ∙ ap
+          (λ b. puts ++ cond (not b) (n ∷ to_put cmp same old_more new_more) (to_put cmp same old_more new_more))
+          unlike ∙ sym (append_assoc puts (n ∷ []) (to_put cmp same old_more new_more));
       deletes_are = kept;
     }
 
@@ -177,33 +185,46 @@ one_first [] d e some = absurd (omega arith)
 one_first (x ∷ l) d e some = refl
 
 -- the steps over the values that references point to
-module _ {K X : Type 0} {cmp : K → K → Ordering} (total : IsTotalOrder cmp) (same : X → X → Bool) (old new : List (K × X)) (old_left new_left puts more : List (Bor K × Bor X)) (deletes fewer : List (Bor K)) (x : Bor K × Bor X) where
+module _ {K X : Type 0} {cmp : K → K → Ordering} (total : IsTotalOrder cmp) (same : X → X → Bool)
+    (old new : List (K × X)) (old_left new_left puts more : List (Bor K × Bor X)) (deletes fewer : List (Bor K))
+    (x : Bor K × Bor X) where
   abbrev pub Walked : List (Bor K × Bor X) → List (Bor K × Bor X) → List (Bor K × Bor X) → List (Bor K) → Type 0
   Walked o n p d = IsWalked cmp same old new (map deref_pair o) (map deref_pair n) (map deref_pair p) (map (λ key. key.now) d)
 
-  pub refs_delete : 0 < length old_left → Less ≡ first_cmp cmp (map deref_pair old_left) (map deref_pair new_left) → fewer ≡ deletes ++ (get_or old_left 0 x).0 ∷ [] → Walked old_left new_left puts deletes
+  pub refs_delete : 0 < length old_left → Less ≡ first_cmp cmp (map deref_pair old_left) (map deref_pair new_left)
+      → fewer ≡ deletes ++ (get_or old_left 0 x).0 ∷ [] → Walked old_left new_left puts deletes
       → Walked (take (length old_left - 1) (drop 1 old_left)) new_left puts fewer
   refs_delete some less is walked =
       subst (λ d. IsWalked cmp same old new (map deref_pair (take (length old_left - 1) (drop 1 old_left))) (map deref_pair new_left) (map deref_pair puts) d)
       (sym (ap (map (λ key. key.now)) is ∙ map-append (λ (key : Bor K). key.now) deletes ((get_or old_left 0 x).0 ∷ [])))
       (walk_deletes total same old new (deref_pair (get_or old_left 0 x)) _ _ _ _ _ (split_first deref_pair old_left x some) (sym less) walked)
 
-  pub refs_put : 0 < length new_left → Greater ≡ first_cmp cmp (map deref_pair old_left) (map deref_pair new_left) → x ≡ get_or new_left 0 x → more ≡ puts ++ x ∷ [] → Walked old_left new_left puts deletes
+  pub refs_put : 0 < length new_left → Greater ≡ first_cmp cmp (map deref_pair old_left) (map deref_pair new_left)
+      → x ≡ get_or new_left 0 x → more ≡ puts ++ x ∷ [] → Walked old_left new_left puts deletes
       → Walked old_left (take (length new_left - 1) (drop 1 new_left)) more deletes
   refs_put some greater first is walked =
       subst (λ p. IsWalked cmp same old new (map deref_pair old_left) (map deref_pair (take (length new_left - 1) (drop 1 new_left))) p (map (λ key. key.now) deletes))
       (sym (ap (map deref_pair) (is ∙ ap (λ z. puts ++ z ∷ []) first) ∙ map-append deref_pair puts (get_or new_left 0 x ∷ [])))
       (walk_puts total same old new (deref_pair (get_or new_left 0 x)) _ _ _ _ _ (split_first deref_pair new_left x some) (sym greater) walked)
 
-  module _ (y : Bor K × Bor X) (old_some : 0 < length old_left) (new_some : 0 < length new_left) (tied : Equal ≡ first_cmp cmp (map deref_pair old_left) (map deref_pair new_left)) (walked : Walked old_left new_left puts deletes) where
-    pub refs_pass : not (same (get_or old_left 0 x).1.now (get_or new_left 0 y).1.now) ≡ false → more ≡ puts → Walked (take (length old_left - 1) (drop 1 old_left)) (take (length new_left - 1) (drop 1 new_left)) more deletes
+  module _ (y : Bor K × Bor X) (old_some : 0 < length old_left) (new_some : 0 < length new_left)
+      (tied : Equal ≡ first_cmp cmp (map deref_pair old_left) (map deref_pair new_left))
+      (walked : Walked old_left new_left puts deletes) where
+    pub refs_pass : not (same (get_or old_left 0 x).1.now (get_or new_left 0 y).1.now) ≡ false → more ≡ puts
+        → Walked (take (length old_left - 1) (drop 1 old_left))
+        (take (length new_left - 1) (drop 1 new_left)) more deletes
     refs_pass alike is =
-        subst (λ p. IsWalked cmp same old new (map deref_pair (take (length old_left - 1) (drop 1 old_left))) (map deref_pair (take (length new_left - 1) (drop 1 new_left))) p (map (λ key. key.now) deletes))
+        subst (λ p. IsWalked cmp same old new (map deref_pair (take (length old_left - 1) (drop 1 old_left)))
+        (map deref_pair (take (length new_left - 1) (drop 1 new_left))) p (map (λ key. key.now) deletes))
         (sym (ap (map deref_pair) is))
         (walk_passes total same old new _ _ _ _ _ _ _ _ (split_first deref_pair old_left x old_some) (split_first deref_pair new_left y new_some) (sym tied) walked (not-false _ alike))
 
-    pub refs_change : not (same (get_or old_left 0 x).1.now (get_or new_left 0 y).1.now) ≡ true → (z : Bor K × Bor X) → z ≡ get_or new_left 0 z → more ≡ puts ++ z ∷ [] → Walked (take (length old_left - 1) (drop 1 old_left)) (take (length new_left - 1) (drop 1 new_left)) more deletes
+    pub refs_change : not (same (get_or old_left 0 x).1.now (get_or new_left 0 y).1.now) ≡ true → (z : Bor K × Bor X)
+        → z ≡ get_or new_left 0 z → more ≡ puts ++ z ∷ []
+        → Walked (take (length old_left - 1) (drop 1 old_left))
+        (take (length new_left - 1) (drop 1 new_left)) more deletes
     refs_change unlike z first is =
-        subst (λ p. IsWalked cmp same old new (map deref_pair (take (length old_left - 1) (drop 1 old_left))) (map deref_pair (take (length new_left - 1) (drop 1 new_left))) p (map (λ key. key.now) deletes))
+        subst (λ p. IsWalked cmp same old new (map deref_pair (take (length old_left - 1) (drop 1 old_left)))
+        (map deref_pair (take (length new_left - 1) (drop 1 new_left))) p (map (λ key. key.now) deletes))
         (sym (ap (map deref_pair) (is ∙ ap (λ r. puts ++ r ∷ []) (first ∙ one_first new_left z y new_some)) ∙ map-append deref_pair puts (get_or new_left 0 y ∷ [])))
         (walk_changes total same old new _ _ _ _ _ _ _ _ (split_first deref_pair old_left x old_some) (split_first deref_pair new_left y new_some) (sym tied) walked (not-true _ unlike))

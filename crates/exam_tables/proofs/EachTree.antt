@@ -37,11 +37,14 @@ settles edit tree u all = elim (cases_Bool (u == tree)) [
   | inr other ↦ rw other refl
 ]
 
-puts_are : {X : Type 0} (sql : List ℕ) (tree : ℕ) (key : List ℕ) (row : X → Row) (xs : List X) (all : Trees) → written (map (λ x. put_of sql tree key (row x)) xs) all ≡ with_puts tree key (map (λ x. Null ∷ row x) xs) all
+puts_are : {X : Type 0} (sql : List ℕ) (tree : ℕ) (key : List ℕ) (row : X → Row) (xs : List X) (all : Trees)
+    → written (map (λ x. put_of sql tree key (row x)) xs) all ≡ with_puts tree key (map (λ x. Null ∷ row x) xs) all
 puts_are sql tree key row [] all = refl
 puts_are sql tree key row (x ∷ xs) all = puts_are sql tree key row xs _
 
-deletes_are : {X : Type 0} (sql : List ℕ) (tree : ℕ) (key : List ℕ) (row : X → Row) (xs : List X) (all : Trees) → written (map (λ x. delete_of sql tree key (row x)) xs) all ≡ with_deletes tree key (map (λ x. Null ∷ row x) xs) all
+deletes_are : {X : Type 0} (sql : List ℕ) (tree : ℕ) (key : List ℕ) (row : X → Row) (xs : List X) (all : Trees)
+    → written (map (λ x. delete_of sql tree key (row x)) xs) all
+    ≡ with_deletes tree key (map (λ x. Null ∷ row x) xs) all
 deletes_are sql tree key row [] all = refl
 deletes_are sql tree key row (x ∷ xs) all = deletes_are sql tree key row xs _
 
@@ -50,20 +53,33 @@ abbrev pub put_into : {K V : Type 0} → Form K V → List (Bor K × Bor V) → 
 put_into form rows = only_at form.tree (put_all form.places (rows_put form rows))
 
 put : {K V : Type 0} (form : Form K V) (rows : List (Bor K × Bor V)) → EditsEach (with_put form rows) (put_into form rows)
-put form rows = record { each = λ all u. ap (λ (t : Trees). t u) (puts_are form.put form.tree form.places (λ r. form.row r.0.now r.1.now) rows all) ∙ with_puts_is form.tree form.places (rows_put form rows) all u ∙ settles (put_all form.places (rows_put form rows)) form.tree u all }
+put form rows = record {
+  each = λ all u. ap (λ (t : Trees). t u)
+      (puts_are form.put form.tree form.places (λ r. form.row r.0.now r.1.now) rows all)
+      ∙ with_puts_is form.tree form.places (rows_put form rows) all u
+      ∙ settles (put_all form.places (rows_put form rows)) form.tree u all;
+}
 
 -- and deleted from it
 abbrev pub delete_from : {K V : Type 0} → Form K V → (K → Row) → List (Bor K) → ℕ → List Row → List Row
 delete_from form key keys = only_at form.tree (delete_all form.places (keys_deleted key keys))
 
 deleted : {K V : Type 0} (form : Form K V) (sql : List ℕ) (key : K → Row) (keys : List (Bor K)) → EditsEach (with_deleted form sql key keys) (delete_from form key keys)
-deleted form sql key keys = record { each = λ all u. ap (λ (t : Trees). t u) (deletes_are sql form.tree form.places (λ k. key k.now) keys all) ∙ with_deletes_is form.tree form.places (keys_deleted key keys) all u ∙ settles (delete_all form.places (keys_deleted key keys)) form.tree u all }
+deleted form sql key keys =
+    record {
+      each = λ all u. ap (λ (t : Trees). t u) (deletes_are sql form.tree form.places (λ k. key k.now) keys all)
+          ∙ with_deletes_is form.tree form.places (keys_deleted key keys) all u
+          ∙ settles (delete_all form.places (keys_deleted key keys)) form.tree u all;
+    }
 
 module _ (c : Changes) where
   abbrev puts : ℕ → List Row → List Row
   puts u rows =
       put_into seats c.seats.put.items u (put_into standing c.standing.items u (put_into appeals c.appeals.items u (put_into arrangements c.arrangements.items u (put_into entries c.entries.items u
-      (put_into candidates c.candidates.items u (put_into openings c.openings.put.items u (put_into halls c.halls.items u (put_into papers c.papers.items u (put_into sessions c.sessions.items u rows)))))))))
+      (put_into candidates c.candidates.items u
+      (put_into openings c.openings.put.items u
+      (put_into halls c.halls.items u
+      (put_into papers c.papers.items u (put_into sessions c.sessions.items u rows)))))))))
 
   abbrev deletes : ℕ → List Row → List Row
   deletes u rows = delete_from openings opening_key c.openings.delete.items u (delete_from seats seat_key c.seats.delete.items u rows)
@@ -71,7 +87,10 @@ module _ (c : Changes) where
   all_puts : EditsEach (all_put c) puts
   all_puts =
       in_turn (in_turn (put sessions c.sessions.items) (put papers c.papers.items)) (in_turn (in_turn (put halls c.halls.items) (put openings c.openings.put.items))
-      (in_turn (in_turn (put candidates c.candidates.items) (in_turn (put entries c.entries.items) (put arrangements c.arrangements.items))) (in_turn (put appeals c.appeals.items) (in_turn (put standing c.standing.items) (put seats c.seats.put.items)))))
+      (in_turn (in_turn (put candidates c.candidates.items)
+      (in_turn (put entries c.entries.items) (put arrangements c.arrangements.items)))
+      (in_turn (put appeals c.appeals.items)
+      (in_turn (put standing c.standing.items) (put seats c.seats.put.items)))))
 
   all_deletes : EditsEach (all_deleted c) deletes
   all_deletes = in_turn (deleted seats delete_seat seat_key c.seats.delete.items) (deleted openings delete_opening opening_key c.openings.delete.items)

@@ -21,7 +21,9 @@ inserted {K} {X} cmp k v (e ∷ es) none = go (cmp k e.0) none (inserted cmp k v
     go Greater none later = IsPermutation-trans _ (e ∷ (k, v) ∷ es) _ (swapped (k, v) e es) (IsPermutation-cons e _ _ (later none))
 
 -- one more row was read, and is one more entry
-pub one_read : {E R : Type 0} (f : E → R) (done all : List R) (row : R) (e : E) (old new : List E) → all ≡ done ++ row ∷ [] → row ≡ f e → IsPermutation done (map f old) → IsPermutation (e ∷ old) new → IsPermutation all (map f new)
+pub one_read : {E R : Type 0} (f : E → R) (done all : List R) (row : R) (e : E) (old new : List E)
+    → all ≡ done ++ row ∷ [] → row ≡ f e → IsPermutation done (map f old) → IsPermutation (e ∷ old) new
+    → IsPermutation all (map f new)
 one_read f done all row e old new more is before after =
     subst (λ l. IsPermutation l (map f new)) (sym more)
     (IsPermutation-trans _ (row ∷ done) _ (IsPermutation-append_comm done (row ∷ []))
@@ -29,6 +31,8 @@ one_read f done all row e old new more is before after =
     (subst (λ r. IsPermutation (r ∷ map f old) (map f new)) (sym is) (IsPermutation-map f _ _ after))))
 
 -- the rows read by columns are those of the entries
-pub shown_entries : {E : Type 0} (f : E → Row) (meant rows : List Row) (entries : List E) → IsPermutation meant (map (λ r. Null ∷ r) rows) → IsPermutation rows (map f entries) → IsPermutation meant (map (λ e. Null ∷ f e) entries)
+pub shown_entries : {E : Type 0} (f : E → Row) (meant rows : List Row) (entries : List E)
+    → IsPermutation meant (map (λ r. Null ∷ r) rows) → IsPermutation rows (map f entries)
+    → IsPermutation meant (map (λ e. Null ∷ f e) entries)
 shown_entries f meant rows entries shown read =
     IsPermutation-trans _ _ _ shown (subst (IsPermutation (map (λ r. Null ∷ r) rows)) (map-map (λ r. Null ∷ r) f entries) (IsPermutation-map (λ r. Null ∷ r) _ _ read))

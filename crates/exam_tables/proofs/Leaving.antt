@@ -55,7 +55,14 @@ pub still_itself : (s : State) → IsStill s s
 still_itself s = record { now = refl; committed = refl; in_transaction = refl; is_open = refl }
 
 pub still_then : (old mid new : State) → IsUnchanged old mid → IsStill mid new → IsStill old new
-still_then old mid new first next = record { now = next.now ∙ first.0.now_is; committed = next.committed ∙ first.0.committed_is; in_transaction = next.in_transaction ∙ first.0.mode; is_open = next.is_open ∙ (first.0.is_open ∙ sym first.0.was_open) }
+still_then old mid new first next =
+    record {
+      now = next.now ∙ first.0.now_is;
+      committed = next.committed ∙ first.0.committed_is;
+      in_transaction =
+          next.in_transaction ∙ first.0.mode;
+      is_open = next.is_open ∙ (first.0.is_open ∙ sym first.0.was_open);
+    }
 
 -- a query commits nothing
 pub query_survives : (text : List ℕ) → IsQuery text → (old new : State) → Survives old new (CommitsShowing text [] old) → Survives old new (λ _. ⊥)
@@ -71,13 +78,18 @@ not_bad_store e error told (inl lacks) bad = let same : NoMemory ≡ BadStore = 
 not_bad_store e error told (inr named) bad = let same : Store ≡ BadStore = sym (told ∙ failure error named) ∙ bad in absurd cc
 
 -- the query of a text that is understood where the tables have these rows
-pub fails_to_load_from : {V : Type 0} (Holds : Database → Trees → Type 0) (text : List ℕ) → ((old new : State) (all : Trees) → Holds old.now all → (error : Error) → FailsToQuery text [] old new error → (error ≡ SqliteFailure OutOfMemory) ⊎ IsTrue (is_failure error)) → (old new : State) (result : Result V Refusal)
+pub fails_to_load_from : {V : Type 0} (Holds : Database → Trees → Type 0) (text : List ℕ)
+    → ((old new : State) (all : Trees) → Holds old.now all → (error : Error) → FailsToQuery text [] old new error
+    → (error ≡ SqliteFailure OutOfMemory) ⊎ IsTrue (is_failure error)) → (old new : State) (result : Result V Refusal)
     → IfErr result (λ e. (error : Error) × (e ≡ refusal_of error) × FailsToQuery text [] old new error) → IfErr result (FailsToLoadFrom Holds text old new)
 fails_to_load_from Holds text known old new (Ok value) failed = tt
 fails_to_load_from Holds text known old new (Err e) failed = (failed, λ there. not_bad_store e failed.0 failed.1 (known old new there.0 there.1 failed.0 failed.2))
 
 -- a query that fails, where the tables of some version exist
-pub fails_to_load : {V : Type 0} (text : List ℕ) → ((old new : State) (has_marks : Bool) → old.now.schema ≡ made_schema has_marks → (error : Error) → FailsToQuery text [] old new error → (error ≡ SqliteFailure OutOfMemory) ⊎ IsTrue (is_failure error)) → (old new : State) (result : Result V Refusal)
+pub fails_to_load : {V : Type 0} (text : List ℕ)
+    → ((old new : State) (has_marks : Bool) → old.now.schema ≡ made_schema has_marks → (error : Error)
+    → FailsToQuery text [] old new error → (error ≡ SqliteFailure OutOfMemory) ⊎ IsTrue (is_failure error))
+    → (old new : State) (result : Result V Refusal)
     → IfErr result (λ e. (error : Error) × (e ≡ refusal_of error) × FailsToQuery text [] old new error) → IfErr result (FailsToLoad text old new)
 fails_to_load text known = fails_to_load_from ContainsMade text (λ old new all was. known old new was.has_marks was.contains.schema_is)
 
@@ -86,7 +98,9 @@ pub shown_understood : (text : List ℕ) (old new : State) (rows : List Row) →
 unfolding Shown
 shown_understood text old new rows shown = (shown.0, shown.1.is)
 
-pub query_understood : {V : Type 0} (items : V → List Row) (text : List ℕ) (old new : State) (result : Result V Refusal) → IfOk result (λ rows. Shown text [] old new (items rows)) → OnOk result (IsUnderstood old.now text)
+pub query_understood : {V : Type 0} (items : V → List Row) (text : List ℕ) (old new : State)
+    (result : Result V Refusal) → IfOk result (λ rows. Shown text [] old new (items rows))
+    → OnOk result (IsUnderstood old.now text)
 query_understood items text old new (Ok rows) shown = shown_understood text old new (items rows) shown
 query_understood items text old new (Err e) shown = tt
 

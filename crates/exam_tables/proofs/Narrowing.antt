@@ -39,5 +39,11 @@ seats_delete_narrow c = every (λ k. delete_of delete_seat seats.tree seats.plac
 
 pub all_narrow : (c : Changes) → AllByRecursion Narrows (all_saved c)
 all_narrow c = together (all_put c) (all_deleted c)
-    (together _ _ (together _ _ (puts_narrow sessions_ours c.sessions.items) (puts_narrow papers_ours c.papers.items)) (together _ _ (together _ _ (puts_narrow halls_ours c.halls.items) (puts_narrow openings_ours c.openings.put.items)) (together _ _ (together _ _ (puts_narrow candidates_ours c.candidates.items) (together _ _ (puts_narrow entries_ours c.entries.items) (puts_narrow arrangements_ours c.arrangements.items))) (together _ _ (puts_narrow appeals_ours c.appeals.items) (together _ _ (puts_narrow standing_ours c.standing.items) (puts_narrow seats_ours c.seats.put.items))))))
+    (together _ _ (together _ _ (puts_narrow sessions_ours c.sessions.items) (puts_narrow papers_ours c.papers.items))
+    (together _ _ (together _ _ (puts_narrow halls_ours c.halls.items)
+    (puts_narrow openings_ours c.openings.put.items))
+    (together _ _ (together _ _ (puts_narrow candidates_ours c.candidates.items)
+    (together _ _ (puts_narrow entries_ours c.entries.items) (puts_narrow arrangements_ours c.arrangements.items)))
+    (together _ _ (puts_narrow appeals_ours c.appeals.items)
+    (together _ _ (puts_narrow standing_ours c.standing.items) (puts_narrow seats_ours c.seats.put.items))))))
     (together _ _ (seats_delete_narrow c) (openings_delete_narrow c))

@@ -1,5 +1,7 @@
 -- The appeals of a session, as the database shows them, are those that the table holds, and so is their text.
-use Rattle.std.proofs.Common.{◌≡◌, ◌≢◌, ◌⊎◌, ℕ, ◌+◌, ◌≤◌, pos, Bool, true, false, cond, ◌&&◌, Result, Ok, Err, OnOk, OnErr, Option, List, [], ◌∷◌, ◌++◌, length, map, filter, Less, inl, inr, refl, sym, ap, ap₂, subst, ◌∙◌, arith, append_assoc, append-nil, length-append, int_cmp}
+use Rattle.std.proofs.Common.{◌≡◌, ◌≢◌, ◌⊎◌, ℕ, ◌+◌, ◌≤◌, pos, Bool, true, false, cond, ◌&&◌, Result, Ok, Err, OnOk}
+use Rattle.std.proofs.Common.{OnErr, Option, List, [], ◌∷◌, ◌++◌, length, map, filter, Less, inl, inr, refl, sym, ap}
+use Rattle.std.proofs.Common.{ap₂, subst, ◌∙◌, arith, append_assoc, append-nil, length-append, int_cmp}
 use Rattle.std.specs.Prelude.{IfErr, Some}
 use Rattle.std.specs.Bool.{Decides, one_answer}
 use Rattle.std.specs.Io.KnownBytes.{Appends}
@@ -73,7 +75,12 @@ strict_entries (a ∷ appeals) rises = (each appeals rises.0, strict_entries app
 -- ---- which rows are of the session
 
 session_test : (a s : Code) → equal (first_key plain).collation (Text a) (Text s) ≡ same_code a s
-session_test a s = one_answer _ _ (λ h. let e = text_same (Text a) s h in cc, λ (e : a ≡ s). subst (λ t. equal (first_key plain).collation (Text a) (Text t) ≡ true) e (text_itself a)) (codes_decide a s)
+session_test a s = one_answer _ _ (
+  λ h. let e = text_same (Text a) s h in
+      cc,
+  λ (e : a ≡ s). subst (λ t. equal (first_key plain).collation (Text a) (Text t) ≡ true) e (text_itself a),
+)
+    (codes_decide a s)
   where
     codes_decide : (a s : Code) → Decides (same_code a s) (a ≡ s)
     codes_decide a s = (same_code_exact a s, λ e. subst (λ t. same_code a t ≡ true) e (same_code_itself a))
@@ -126,12 +133,15 @@ module _ {S : Type 0} (g : Ghosts S) (s : Code) (all : Trees) (appeals : List Ke
       split given mine begun.0 formed (forms_of appeals holds.forms) begun.1
 
   -- the answer of the query has them all
-  pub shown_all : (old new : Held S) (given : List KeyedAppeal) → Contains (state g old).now all → Shown session_appeals (Text s ∷ []) (state g old) (state g new) (map stored given) → length given ≡ length mine
+  pub shown_all : (old new : Held S) (given : List KeyedAppeal) → Contains (state g old).now all
+      → Shown session_appeals (Text s ∷ []) (state g old) (state g new) (map stored given) → length given ≡ length mine
   shown_all old new given was shown =
       let is = shows_in_order s (state g old) (state g new) (map stored given) all was shown (map stored mine) rows_same rows_rise in
       sym (length-map given stored) ∙ ap (λ (l : List Row). length l) is ∙ length-map mine stored
 
-  next_of : (given rest : List KeyedAppeal) (row : Row) (tail : List Row) → HaveForms rest → (map stored given ++ row ∷ []) ++ tail ≡ map stored rest → (a : KeyedAppeal) × IsAppeal a.0 a.1 × (row ≡ stored a)
+  next_of : (given rest : List KeyedAppeal) (row : Row) (tail : List Row) → HaveForms rest
+      → (map stored given ++ row ∷ []) ++ tail ≡ map stored rest
+      → (a : KeyedAppeal) × IsAppeal a.0 a.1 × (row ≡ stored a)
   next_of [] [] row tail forms is = absurd cc
   next_of [] (b ∷ rest) row tail forms is = let same : row ≡ stored b = cc in (b, forms.0, same)
   next_of (a ∷ given) [] row tail forms is = absurd cc
@@ -140,7 +150,9 @@ module _ {S : Type 0} (g : Ghosts S) (s : Code) (all : Trees) (appeals : List Ke
       next_of given rest row tail forms.1 after
 
   -- the next row is the stored form of an appeal
-  pub next_formed : (h : Held S) (given : List KeyedAppeal) (row : Row) → Contains (state g h).now all → HasGiven g session_appeals (Text s ∷ []) h (map stored given ++ row ∷ []) → (a : KeyedAppeal) × IsAppeal a.0 a.1 × (row ≡ stored a)
+  pub next_formed : (h : Held S) (given : List KeyedAppeal) (row : Row) → Contains (state g h).now all
+      → HasGiven g session_appeals (Text s ∷ []) h (map stored given ++ row ∷ [])
+      → (a : KeyedAppeal) × IsAppeal a.0 a.1 × (row ≡ stored a)
   next_formed h given row was reads =
       let begun = begins_in_order g s h (map stored given ++ row ∷ []) all was reads (map stored mine) rows_same rows_rise in
       next_of given mine row begun.0 (forms_of appeals holds.forms) begun.1
@@ -207,7 +219,9 @@ module _ (heading : ℕ → List ℕ) (line : KeyedAppeal → List ℕ) (count :
     row_cut now given left is sent = (so_far given, flat_map line left, whole given left is, sent)
 
     -- the text of the next went out in part
-    pub line_cut : (now then : Option (List ℕ)) (given left : List KeyedAppeal) (a : KeyedAppeal) → mine ≡ (given ++ a ∷ []) ++ left → Appends old now (so_far given) → AppendsBeginning now then (line a) → AppendsBeginning old then (text_of heading line mine)
+    pub line_cut : (now then : Option (List ℕ)) (given left : List KeyedAppeal) (a : KeyedAppeal)
+        → mine ≡ (given ++ a ∷ []) ++ left → Appends old now (so_far given) → AppendsBeginning now then (line a)
+        → AppendsBeginning old then (text_of heading line mine)
     line_cut now then given left a is sent part = (
       so_far given ++ part.0,
       part.1 ++ flat_map line left,
@@ -217,8 +231,12 @@ module _ (heading : ℕ → List ℕ) (line : KeyedAppeal → List ℕ) (count :
     )
 
     -- all went out
-    pub all_sent : (now : Option (List ℕ)) (i : ℕ) (given left : List KeyedAppeal) → mine ≡ given ++ left → length given ≡ i → count ≤ i → Appends old now (so_far given) → Appends old now (text_of heading line mine)
-    all_sent now i given left is long end sent = subst (Appends old now) (sym (whole given left is ∙ ap (λ (l : List KeyedAppeal). so_far given ++ flat_map line l) (none left refl) ∙ append-nil (so_far given))) sent
+    pub all_sent : (now : Option (List ℕ)) (i : ℕ) (given left : List KeyedAppeal) → mine ≡ given ++ left
+        → length given ≡ i → count ≤ i → Appends old now (so_far given) → Appends old now (text_of heading line mine)
+    all_sent now i given left is long end sent =
+        subst (Appends old now)
+        (sym (whole given left is ∙ ap (λ (l : List KeyedAppeal). so_far given ++ flat_map line l) (none left refl)
+        ∙ append-nil (so_far given))) sent
       where
         none : (rest : List KeyedAppeal) → left ≡ rest → left ≡ []
         none [] is_rest = is_rest
@@ -263,7 +281,9 @@ module _ {S W : Type 0} (g : Ghosts S) (contents : W → Option (List ℕ)) (hea
   on_reads place now then at a done more s reads = subst (HasGiven g session_appeals (Text s ∷ []) then) (rows_append done.given a) (more s (map stored done.given) (done.reads s reads))
 
   -- and its text goes out
-  pub one_more_sent : (place : ℕ) (now then : Held S) (at after : W) (a : KeyedAppeal) → HasSent place now at → IsAppeal a.0 a.1 → ReadsOn now then a → Appends (contents at) (contents after) (line a) → HasSent (place + 1) then after
+  pub one_more_sent : (place : ℕ) (now then : Held S) (at after : W) (a : KeyedAppeal) → HasSent place now at
+      → IsAppeal a.0 a.1 → ReadsOn now then a → Appends (contents at) (contents after) (line a)
+      → HasSent (place + 1) then after
   one_more_sent place now then at after a done form more line_sent =
       let many = done.many in
       let longer = length-append done.given (a ∷ []) in
@@ -275,25 +295,31 @@ module _ {S W : Type 0} (g : Ghosts S) (contents : W → Option (List ℕ)) (hea
         reads = on_reads place now then at a done more;
       }
 
-  module _ (s : Code) (begun : HasGiven g session_appeals (Text s ∷ []) old []) (appeals : List KeyedAppeal) (has : HasAppeals (state g old).now appeals) (many : count ≡ length (appeals_in appeals s)) where
+  module _ (s : Code) (begun : HasGiven g session_appeals (Text s ∷ []) old []) (appeals : List KeyedAppeal)
+      (has : HasAppeals (state g old).now appeals) (many : count ≡ length (appeals_in appeals s)) where
     contained : (now : Held S) → IsUnchanged (state g old) (state g now) → Contains (state g now).now has.all
     contained now same = subst (λ db. Contains db has.all) (sym same.0.now_is) has.contains
 
     -- the next was not read
-    pub read_cut : (place : ℕ) (now : Held S) (at : W) → HasSent place now at → IsUnchanged (state g old) (state g now) → AppendsBeginning (contents before) (contents at) (text_of heading line (appeals_in appeals s))
+    pub read_cut : (place : ℕ) (now : Held S) (at : W) → HasSent place now at → IsUnchanged (state g old) (state g now)
+        → AppendsBeginning (contents before) (contents at) (text_of heading line (appeals_in appeals s))
     read_cut place now at done same =
         let left = begins g s has.all appeals has.held now done.given (contained now same) (done.reads s begun) done.forms in
         row_cut heading line count (contents before) (appeals_in appeals s) many (contents at) done.given left.0 left.1 done.sent
 
     -- its text went out in part
-    pub send_cut : (place : ℕ) (now then : Held S) (at after : W) (a : KeyedAppeal) → HasSent place now at → IsUnchanged (state g old) (state g then) → IsAppeal a.0 a.1 → ReadsOn now then a → AppendsBeginning (contents at) (contents after) (line a)
+    pub send_cut : (place : ℕ) (now then : Held S) (at after : W) (a : KeyedAppeal) → HasSent place now at
+        → IsUnchanged (state g old) (state g then) → IsAppeal a.0 a.1 → ReadsOn now then a
+        → AppendsBeginning (contents at) (contents after) (line a)
         → AppendsBeginning (contents before) (contents after) (text_of heading line (appeals_in appeals s))
     send_cut place now then at after a done same form more part =
         let left = begins g s has.all appeals has.held then (done.given ++ a ∷ []) (contained then same) (on_reads place now then at a done more s begun) (all_formed done.given a done.forms form) in
         line_cut heading line count (contents before) (appeals_in appeals s) many (contents at) (contents after) done.given left.0 a left.1 done.sent part
 
     -- a next appeal was there to be read
-    pub next_there : (place : ℕ) (now then : Held S) (at : W) (done : HasSent place now at) → IsUnchanged (state g old) (state g now) → place + 1 ≤ count → LacksNext g s now then (map stored done.given) → ⊥
+    pub next_there : (place : ℕ) (now then : Held S) (at : W) (done : HasSent place now at)
+        → IsUnchanged (state g old) (state g now) → place + 1 ≤ count → LacksNext g s now then (map stored done.given)
+        → ⊥
     next_there place now then at done same early (inl (error, bad, fails)) =
         not_bad_store (refusal_of error) error refl (query_stops s (state g now) (state g then) (contained now same).schema_is error fails) bad
     next_there place now then at done same early (inr (inl shown)) =
@@ -305,7 +331,9 @@ module _ {S W : Type 0} (g : Ghosts S) (contents : W → Option (List ℕ)) (hea
         none next.0.0 next.0.1 next.1 next.2
 
     -- all went out
-    pub sent_whole : (place : ℕ) (now : Held S) (at : W) → HasSent place now at → IsUnchanged (state g old) (state g now) → count ≤ place → Appends (contents before) (contents at) (text_of heading line (appeals_in appeals s))
+    pub sent_whole : (place : ℕ) (now : Held S) (at : W) → HasSent place now at
+        → IsUnchanged (state g old) (state g now) → count ≤ place
+        → Appends (contents before) (contents at) (text_of heading line (appeals_in appeals s))
     sent_whole place now at done same end =
         let left = begins g s has.all appeals has.held now done.given (contained now same) (done.reads s begun) done.forms in
         all_sent heading line count (contents before) (appeals_in appeals s) many (contents at) place done.given left.0 left.1 done.many end done.sent
@@ -317,10 +345,17 @@ pub row_lacks : {S : Type 0} (g : Ghosts S) (old new : Held S) (row : Row) (show
 row_lacks g old new row shown is advances same (Ok a) reads = tt
 row_lacks g old new row shown is advances same (Err e) (inl short) = λ bad s given has. let differ : NoMemory ≡ BadStore = cc in absurd cc
 row_lacks g old new row shown is advances same (Err e) (inr none) = λ bad s given has.
-    inr (inr (row, subst (GivesOn g session_appeals (Text s ∷ []) old new given) (sym is) (advances session_appeals (Text s ∷ []) given has), same, λ key appeal form stored_as. none.1 (key, appeal) form stored_as))
+    inr (inr (
+      row,
+      subst (GivesOn g session_appeals (Text s ∷ []) old new given) (sym is)
+          (advances session_appeals (Text s ∷ []) given has),
+      same,
+      λ key appeal form stored_as. none.1 (key, appeal) form stored_as,
+    ))
 
 -- a query that was refused
-pub refused_fails : {S X : Type 0} (g : Ghosts S) (sql : List ℕ) (params : Row) (old new : Held S) (result : Result X Error) (e : Error) → result ≡ Err e → OnErr result (IsRefused g sql params old result new)
+pub refused_fails : {S X : Type 0} (g : Ghosts S) (sql : List ℕ) (params : Row) (old new : Held S)
+    (result : Result X Error) (e : Error) → result ≡ Err e → OnErr result (IsRefused g sql params old result new)
     → HasCleanDisk (state g new) → FailsToQuery sql params (state g old) (state g new) e
 refused_fails g sql params old new (Ok rows) e is held clean = absurd cc
 refused_fails g sql params old new (Err f) e is held clean = let same : f ≡ e = cc in subst (FailsToQuery sql params (state g old) (state g new)) same (held.err clean)

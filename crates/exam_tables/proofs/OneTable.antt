@@ -1,5 +1,6 @@
 -- Tables hold one list of facts, and one of seats.
-use Rattle.std.proofs.Common.{◌≡◌, ◌⊎◌, ◌==◌, if◌then◌else◌, ℕ, pos, Bool, true, false, Option, Some, None, List, [], ◌∷◌, map, inl, inr, Ordering, Less, Equal, Greater, refl, sym, ap, subst, ◌∙◌, arith}
+use Rattle.std.proofs.Common.{◌≡◌, ◌⊎◌, ◌==◌, if◌then◌else◌, ℕ, pos, Bool, true, false, Option, Some, None, List, []}
+use Rattle.std.proofs.Common.{◌∷◌, map, inl, inr, Ordering, Less, Equal, Greater, refl, sym, ap, subst, ◌∙◌, arith}
 use Rattle.std.specs.List.Sorted.{IsPermutation, IsStrictlySortedBy}
 use Rattle.std.specs.Map.{keys_of}
 use Rattle.std.specs.Ordering.{nat_cmp, ordering_reverse, ordering_then}
@@ -101,7 +102,9 @@ pub same_day : (a b : ℕ) → IsDay a → IsDay b → day_text a ≡ day_text b
 same_day a b is_a is_b texts =
     let small = parts_small a is_a in
     let parts = only_parts (day_text a) (year_of a) (month_of a) (month_day_of a) small.0 small.1 small.2 (sym (day_text-is a)) in
-    let both : ◌≡◌ {A = Option (ℕ × ℕ × ℕ)} (Some (year_of a, month_of a, month_day_of a)) (Some (year_of b, month_of b, month_day_of b)) = parts_of_text (day_text a) (Some (year_of a, month_of a, month_day_of a)) b parts is_b (sym texts) in
+    let both : ◌≡◌ {A = Option (ℕ × ℕ × ℕ)} (Some (year_of a, month_of a, month_day_of a))
+    (Some (year_of b, month_of b, month_day_of b)) =
+    parts_of_text (day_text a) (Some (year_of a, month_of a, month_day_of a)) b parts is_b (sym texts) in
     let same = some_same both in
     let year : year_of a ≡ year_of b = ap (λ (t : ℕ × ℕ × ℕ). t.0) same in
     let month : month_of a ≡ month_of b = ap (λ (t : ℕ × ℕ × ℕ). t.1) same in
@@ -272,7 +275,18 @@ one_facts all r s x y =
     let arrangements = one_table numbers_mirrored (λ a b x y. arrangement_tells a b tt tt) (all 12) _ _ x.arrangements y.arrangements in
     let appeals = one_table (pairs_mirrored numbers_mirrored codes_mirrored) (λ a b x y. appeal_tells a b x.6 y.6) (all 13) _ _ x.appeals y.appeals in
     let standing = one_table (pairs_mirrored numbers_mirrored codes_mirrored) (λ a b x y. standing_tells a b tt tt) (all 17) _ _ x.standing y.standing in
-    λ i. record { sessions = sessions i; papers = papers i; halls = halls i; openings = openings i; candidates = candidates i; entries = entries i; arrangements = arrangements i; appeals = appeals i; standing = standing i }
+    λ i. record {
+      sessions = sessions i;
+      papers = papers i;
+      halls = halls i;
+      openings = openings i;
+      candidates =
+          candidates i;
+      entries = entries i;
+      arrangements = arrangements i;
+      appeals = appeals i;
+      standing = standing i;
+    }
 
 pub one_seats : (all : Trees) (p q : List ((Code × ℕ) × Code)) → HoldsSeats all p → HoldsSeats all q → p ≡ q
 one_seats all p q = one_table (pairs_mirrored codes_mirrored numbers_mirrored) (λ a b x y. seat_tells a b tt tt) (all 15) p q

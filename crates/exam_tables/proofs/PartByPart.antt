@@ -17,7 +17,9 @@ never_lacks lacks = absurd (true≢false (sym lacks))
 pub first_fails : {S A B : Type 0} (g : Ghosts S) (old new : Held S) (one : Part A) (more : Part B) (e : Refusal) → Loading g old new (Err e) one → Loading g old new (Err e) (then_part one more)
 first_fails g old new one more e first = record {
   rows = λ clean ready. tt;
-  bad = λ clean ready. part_failed e (λ fails. (fails.0, fails.1, fails.2, fails.3, (fails.4.0, λ there. fails.4.1 (there.0, there.1.0)))) (λ none all was. inl (none all was.0)) (first.bad clean ready);
+  bad = λ clean ready. part_failed e
+      (λ fails. (fails.0, fails.1, fails.2, fails.3, (fails.4.0, λ there. fails.4.1 (there.0, there.1.0))))
+      (λ none all was. inl (none all was.0)) (first.bad clean ready);
   left = first.left;
   understood = λ clean ready. tt;
   survives = first.survives;

@@ -37,7 +37,8 @@ five (x ∷ y ∷ z ∷ u ∷ v ∷ []) a b c d e len p q r s t = cc
 five (x ∷ y ∷ z ∷ u ∷ v ∷ w ∷ more) a b c d e len p q r s t = absurd (omega arith)
 
 -- eleven columns are a row
-pub eleven : (row : Row) (a b c d e f g h i j k : Value) → length row ≡ 11 → column row 0 ≡ a → column row 1 ≡ b → column row 2 ≡ c → column row 3 ∷ column row 4 ∷ column row 5 ∷ column row 6 ∷ [] ≡ d ∷ e ∷ f ∷ g ∷ []
+pub eleven : (row : Row) (a b c d e f g h i j k : Value) → length row ≡ 11 → column row 0 ≡ a → column row 1 ≡ b
+    → column row 2 ≡ c → column row 3 ∷ column row 4 ∷ column row 5 ∷ column row 6 ∷ [] ≡ d ∷ e ∷ f ∷ g ∷ []
     → column row 7 ≡ h → column row 8 ∷ column row 9 ∷ [] ≡ i ∷ j ∷ [] → column row 10 ≡ k → row ≡ a ∷ b ∷ c ∷ d ∷ e ∷ f ∷ g ∷ h ∷ i ∷ j ∷ k ∷ []
 eleven [] a b c d e f g h i j k len p q r s t u v = absurd (omega arith)
 eleven (z ∷ []) a b c d e f g h i j k len p q r s t u v = absurd (omega arith)

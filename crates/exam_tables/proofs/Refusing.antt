@@ -1,5 +1,7 @@
 -- Rows that are those of no table.
-use Rattle.std.proofs.Common.{◌≡◌, ◌+◌, ◌<◌, ◌≤◌, ℕ, zero, suc, Bool, true, false, cond, List, [], ◌∷◌, ◌++◌, map, filter, length, get_or, drop, Some, IsSome, inl, inr, Ordering, Less, Equal, Greater, refl, sym, ap, subst, ◌∙◌, arith, length-append}
+use Rattle.std.proofs.Common.{◌≡◌, ◌+◌, ◌<◌, ◌≤◌, ℕ, zero, suc, Bool, true, false, cond, List, [], ◌∷◌, ◌++◌, map}
+use Rattle.std.proofs.Common.{filter, length, get_or, drop, Some, IsSome, inl, inr, Ordering, Less, Equal, Greater}
+use Rattle.std.proofs.Common.{refl, sym, ap, subst, ◌∙◌, arith, length-append}
 use Rattle.std.specs.Cmp.{IsTotalOrder, tied_itself}
 use Rattle.std.specs.List.{All, AllByRecursion}
 use Rattle.std.specs.List.Sorted.{IsPermutation, IsStrictlySortedBy}
@@ -28,7 +30,8 @@ module _ {E R : Type 0} (f : E → R) (IsOne : E → Type 0) where
   none_is r (e ∷ entries) none all (suc k) d below = none_is r entries none all.1 k d (omega arith)
 
   -- a row with no form is among the rows of no table
-  pub no_form : (rows : List R) (entries : List E) (i : ℕ) (r : R) → i < length rows → r ≡ get_or rows i r → ((e : E) → IsOne e → r ≡ f e → ⊥) → AllByRecursion IsOne entries → IsPermutation rows (map f entries) → ⊥
+  pub no_form : (rows : List R) (entries : List E) (i : ℕ) (r : R) → i < length rows → r ≡ get_or rows i r
+      → ((e : E) → IsOne e → r ≡ f e → ⊥) → AllByRecursion IsOne entries → IsPermutation rows (map f entries) → ⊥
   no_form rows entries i r below is none all same = All-permutation (λ z. r ≡ z → ⊥) (map f entries) rows (IsPermutation-sym _ _ same) (none_is r entries none all) i r below is
 
 module _ {K X : Type 0} {cmp : K → K → Ordering} (total : IsTotalOrder cmp) {key : List ℕ} {row : K → X → Row} (match : KeysMatch cmp key row) (k : K) (v : X) where
@@ -73,7 +76,9 @@ module _ {K X : Type 0} {cmp : K → K → Ordering} (total : IsTotalOrder cmp) 
   at_least_one [] found = absurd cc
   at_least_one (e ∷ entries) found = inner (cmp k e.0) refl found (at_least_one entries)
     where
-      inner : (o : Ordering) → cmp k e.0 ≡ o → IsSome (cond (is_eq o) (Some e.1) (lookup (is_at (cmp k)) entries)) → (IsSome (lookup (is_at (cmp k)) entries) → 1 ≤ with_key (map stored entries)) → 1 ≤ with_key (map stored (e ∷ entries))
+      inner : (o : Ordering) → cmp k e.0 ≡ o → IsSome (cond (is_eq o) (Some e.1) (lookup (is_at (cmp k)) entries))
+          → (IsSome (lookup (is_at (cmp k)) entries) → 1 ≤ with_key (map stored entries))
+          → 1 ≤ with_key (map stored (e ∷ entries))
       inner Less is found later = let n = later found in omega (arith, counted e false entries (ap is_eq (total.antisymm e.0 k ∙ ap ordering_reverse is)))
       inner Equal is found later = omega (arith, counted e true entries (ap is_eq (total.antisymm e.0 k ∙ ap ordering_reverse is)))
       inner Greater is found later = let n = later found in omega (arith, counted e false entries (ap is_eq (total.antisymm e.0 k ∙ ap ordering_reverse is)))
@@ -84,7 +89,9 @@ module _ {K X : Type 0} {cmp : K → K → Ordering} (total : IsTotalOrder cmp) 
   no_twice rows done left read entries is so_far found rises same =
       let one : with_key (row k v ∷ []) ≡ 1 = ap (λ c. length (cond c (row k v ∷ []) [])) (match.rows (k, v) (k, v) ∙ ap is_eq (tied_itself total k)) in
       let all = with_key-same rows (map stored entries) same in
-      let parts : with_key rows ≡ (with_key done + with_key (row k v ∷ [])) + with_key left = ap with_key is ∙ with_key-append (done ++ row k v ∷ []) left ∙ ap (λ n. n + with_key left) (with_key-append done (row k v ∷ [])) in
+      let parts : with_key rows ≡ (with_key done + with_key (row k v ∷ [])) + with_key left =
+      ap with_key is ∙ with_key-append (done ++ row k v ∷ []) left
+      ∙ ap (λ n. n + with_key left) (with_key-append done (row k v ∷ [])) in
       omega (arith, at_most_one entries rises, at_least_one read found, with_key-same done (map stored read) so_far)
 
 -- what a query shows of a table that holds entries are their rows
@@ -105,7 +112,13 @@ rows_shown {K} {X} {cmp} {IsRow} {row} rows meant entries shown holds = record {
 -- the table holds the entries that have the rows which a query shows
 pub rows_held : {K X : Type 0} {cmp : K → K → Ordering} {IsRow : K → X → Type 0} {row : K → X → Row} (rows meant : List Row) (entries : List (K × X)) → IsPermutation meant (map (λ r. Null ∷ r) rows)
     → AreRowsOf cmp IsRow row rows entries → HoldsTable cmp IsRow row entries meant
-rows_held {K} {X} {cmp} {IsRow} {row} rows meant entries shown read = record { rises = read.rises; forms = read.forms; same = shown_entries (λ (e : K × X). row e.0 e.1) meant rows entries shown read.same }
+rows_held {K} {X} {cmp} {IsRow} {row} rows meant entries shown read =
+    record {
+      rises = read.rises;
+      forms = read.forms;
+      same =
+          shown_entries (λ (e : K × X). row e.0 e.1) meant rows entries shown read.same;
+    }
 
 -- why a part is not loaded is why the whole is not
 pub part_failed : {A B P Q : Type 0} (e : Refusal) → (A → B) → (P → Q) → IsLoadRefusal (λ _. A) P e → IsLoadRefusal (λ _. B) Q e

@@ -63,12 +63,15 @@ module _ {K X : Type 0} {cmp : K → K → Ordering} {key : List ℕ} {row : K �
         inner false l m is = is
 
     -- After the puts and then the deletes the rows of the old table are those of the new one.
-    rows_saved : (old new puts : List (K × X)) (rows : List Row) → Turns cmp old new puts deletes → HoldsRows row old rows → HoldsRows row new (delete_all key gone (put_all key (map stored puts) rows))
+    rows_saved : (old new puts : List (K × X)) (rows : List Row) → Turns cmp old new puts deletes
+        → HoldsRows row old rows → HoldsRows row new (delete_all key gone (put_all key (map stored puts) rows))
     rows_saved old new puts rows turns holds =
         let news = map stored puts in
         let kept_rows = map stored (filter (stays puts) old) in
         let kept : IsPermutation (filter (outlasts puts) rows) kept_rows = subst (IsPermutation (filter (outlasts puts) rows)) (left puts old) (IsPermutation-filter (outlasts puts) _ _ holds) in
-        let made : IsPermutation (news ++ kept_rows) (map stored new) = subst (λ l. IsPermutation l (map stored new)) (map-append stored puts (filter (stays puts) old)) (IsPermutation-map stored _ _ turns.made) in
+        let made : IsPermutation (news ++ kept_rows) (map stored new) =
+        subst (λ l. IsPermutation l (map stored new)) (map-append stored puts (filter (stays puts) old))
+        (IsPermutation-map stored _ _ turns.made) in
         differs_by key rows (map stored new) news gone (apart puts turns.rises) (spared puts turns.spared) (IsPermutation-trans _ _ _ (IsPermutation-append_right news _ _ kept) made)
 
   -- puts through references, where no row is deleted
@@ -83,7 +86,9 @@ module _ {K X : Type 0} {cmp : K → K → Ordering} {key : List ℕ} {row : K �
       → HoldsRows row new (delete_all key (map (λ k. Null ∷ key_of k.now) deletes) (put_all key (map (λ r. Null ∷ row r.0.now r.1.now) puts) rows))
   table_saved {key_of} named old new puts deletes rows turns holds =
       subst₂ (λ gone l. HoldsRows row new (delete_all key gone (put_all key l rows))) (map-map (λ k. Null ∷ key_of k) (λ (k : Bor K). k.now) deletes) (map-map stored deref_pair puts)
-      (rows_saved (map (λ (k : Bor K). k.now) deletes) (map (λ k. Null ∷ key_of k) (map (λ (k : Bor K). k.now) deletes)) (λ e. among e (map (λ (k : Bor K). k.now) deletes)) old new (map deref_pair puts) rows turns holds)
+      (rows_saved (map (λ (k : Bor K). k.now) deletes)
+      (map (λ k. Null ∷ key_of k) (map (λ (k : Bor K). k.now) deletes))
+      (λ e. among e (map (λ (k : Bor K). k.now) deletes)) old new (map deref_pair puts) rows turns holds)
     where
       among : (e : K × X) (keys : List K) → is_among key (map (λ k. Null ∷ key_of k) keys) (stored e) ≡ is_one_of cmp keys e.0
       among e [] = refl

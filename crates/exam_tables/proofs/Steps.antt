@@ -1,5 +1,7 @@
 -- One step inside a transaction, and one after another.
-use Rattle.std.proofs.Common.{Option, Some, None, Bool, true, false, if◌then◌else◌, lit<, ◌≡◌, ◌<◌, ◌^◌, pos, to_z, of_z, w64, ℕ, List, [], ◌∷◌, ◌++◌, Ok, Err, Result, OnOk, IfErr, IsTrue, refl, sym, ap, subst, ◌∙◌, ◌≤◌, inl, inr, append_assoc, arith, ◌+◌, drop, map, take}
+use Rattle.std.proofs.Common.{Option, Some, None, Bool, true, false, if◌then◌else◌, lit<, ◌≡◌, ◌<◌, ◌^◌, pos, to_z}
+use Rattle.std.proofs.Common.{of_z, w64, ℕ, List, [], ◌∷◌, ◌++◌, Ok, Err, Result, OnOk, IfErr, IsTrue, refl, sym, ap}
+use Rattle.std.proofs.Common.{subst, ◌∙◌, ◌≤◌, inl, inr, append_assoc, arith, ◌+◌, drop, map, take}
 use Rattle.std.proofs.lemmas.Int.{to_z_pos}
 use Rattle.std.proofs.lemmas.List.{map-append, take-append-drop}
 use Rattle.sqlite_value.specs.declared.value.Value.TheVariants.{Text}
@@ -49,16 +51,34 @@ fails_for Against old new e error told (inr (named, inl down)) = inr (told ∙ f
 fails_for Against old new e error told (inr (named, inr against)) = inr (told ∙ failure error named, inr against)
 
 -- a write that fails
-fails_one : (sql : List ℕ) (params : Row) (change : Trees → Trees) (old new : State) (e : Refusal) (error : Error) → e ≡ refusal_of error → Fails old new (Refuses old.step_limit old.now sql params) error
+fails_one : (sql : List ℕ) (params : Row) (change : Trees → Trees) (old new : State) (e : Refusal) (error : Error)
+    → e ≡ refusal_of error → Fails old new (Refuses old.step_limit old.now sql params) error
     → FailsToWrite (record { sql = sql; params = params; change = change } ∷ []) old new e
 fails_one sql params change old new e error told (inl lacks) = inl (told ∙ ap refusal_of lacks)
 fails_one sql params change old new e error told (inr (named, inl down)) = inr (told ∙ failure error named, inl down)
-fails_one sql params change old new e error told (inr (named, inr refused)) = inr (told ∙ failure error named, inr ([], record { sql = sql; params = params; change = change }, [], refl, old.now, refl, (λ all was. was), refused))
+fails_one sql params change old new e error told (inr (named, inr refused)) =
+    inr (
+      told ∙ failure error named,
+      inr (
+        [],
+        record { sql = sql; params = params; change = change },
+        [],
+        refl,
+        old.now,
+        refl,
+        (λ all was. was),
+        refused,
+      ),
+    )
 
 -- what a statement that was run makes of the rows
-pub makes_by : {change : Trees → Trees} {sql : List ℕ} {params : Row} → Edits change sql params → (old new : State) (result : Result (Unit {0}) Refusal) → (HasCleanDisk new → IsTrue old.in_transaction → OnOk result (Ran sql params old new × IsTrue new.in_transaction))
+pub makes_by : {change : Trees → Trees} {sql : List ℕ} {params : Row} → Edits change sql params
+    → (old new : State) (result : Result (Unit {0}) Refusal)
+    → (HasCleanDisk new → IsTrue old.in_transaction → OnOk result (Ran sql params old new × IsTrue new.in_transaction))
     → (HasCleanDisk new → IsTrue old.in_transaction → IfErr result (λ e. (error : Error) × (e ≡ refusal_of error) × ExecutesInside 0 sql params old new (Err error)))
-    → (HasCleanDisk new → KeepsCommit old new) → Survives old new (λ _. ⊥) → IfErr result (λ e. IsTrue (is_store_refusal e)) → Makes old new result (record { sql = sql; params = params; change = change } ∷ [])
+    → (HasCleanDisk new → KeepsCommit old new) → Survives old new (λ _. ⊥)
+    → IfErr result (λ e. IsTrue (is_store_refusal e))
+    → Makes old new result (record { sql = sql; params = params; change = change } ∷ [])
 makes_by edits old new (Ok u) ran failed kept survives told = record {
   made = λ clean going. let h = ran clean going in (edits.does old new (Ok h.0.0) h.0.1, h.1);
   ran = λ clean going ours. let h = ran clean going in (new.now, (edits.answers old new ours.1.schema_is).done h.0.0 h.0.1, refl);
@@ -99,13 +119,27 @@ runs_append : (limit : Option ℕ) (first next : List Write) (old mid new : Data
 runs_append limit [] next old mid new one two = subst (λ db. AreRun limit next db new) one two
 runs_append limit (w ∷ first) next old mid new (at, ran, one) two = (at, ran, runs_append limit first next at mid new one two)
 
-fails_later : (first next : List Write) (old mid new : State) (e : Refusal) → Survives old mid (λ _. ⊥) → HasCleanDisk mid → mid.faults ≤ new.faults → AreRun old.step_limit first old.now mid.now → Becomes first old.now mid.now → FailsToWrite next mid new e
+fails_later : (first next : List Write) (old mid new : State) (e : Refusal) → Survives old mid (λ _. ⊥)
+    → HasCleanDisk mid → mid.faults ≤ new.faults → AreRun old.step_limit first old.now mid.now
+    → Becomes first old.now mid.now → FailsToWrite next mid new e
     → FailsToWrite (first ++ next) old new e
 fails_later first next old mid new e s clean up ran made (inl lacks) = inl lacks
 fails_later first next old mid new e s clean up ran made (inr (told, inl down)) = inr (told, inl (down_later old mid new s clean up down))
 fails_later first next old mid new e s clean up ran made (inr (told, inr (done, one, rest, are, at, after, becomes, refused))) =
     let run = runs_append old.step_limit first done old.now mid.now at ran (subst (λ limit. AreRun limit done mid.now at) s.limit after) in
-    inr (told, inr (first ++ done, one, rest, ap (λ l. first ++ l) are ∙ sym (append_assoc first done (one ∷ rest)), at, run, (λ all was. subst (Contains at) (sym (written_append first done all)) (becomes _ (made all was))), subst (λ limit. Refuses limit at one.sql one.params) s.limit refused))
+    inr (
+      told,
+      inr (
+        first ++ done,
+        one,
+        rest,
+        ap (λ l. first ++ l) are ∙ sym (append_assoc first done (one ∷ rest)),
+        at,
+        run,
+        (λ all was. subst (Contains at) (sym (written_append first done all)) (becomes _ (made all was))),
+        subst (λ limit. Refuses limit at one.sql one.params) s.limit refused,
+      ),
+    )
 
 -- one step after another, where the first succeeded
 pub makes_then : (old mid new : State) (result : Result (Unit {0}) Refusal) (first next : List Write) → Makes old mid (Ok tt) first → Makes mid new result next → Makes old new result (first ++ next)
@@ -138,12 +172,34 @@ makes_then old mid new (Err e) first next a b = record {
 
 -- a step that was refused, where others were to follow
 pub makes_part : (old new : State) (e : Refusal) (first rest : List Write) → Makes old new (Err e) first → Makes old new (Err e) (first ++ rest)
-makes_part old new e first rest a = record { made = λ clean going. tt; ran = λ clean going ours. tt; failed = λ clean going ours. part (a.failed clean going ours); kept = a.kept; survives = a.survives; told = a.told }
+makes_part old new e first rest a =
+    record {
+      made = λ clean going. tt;
+      ran = λ clean going ours. tt;
+      failed =
+          λ clean going ours. part (a.failed clean going ours);
+      kept = a.kept;
+      survives = a.survives;
+      told = a.told;
+    }
   where
     part : FailsToWrite first old new e → FailsToWrite (first ++ rest) old new e
     part (inl lacks) = inl lacks
     part (inr (told, inl down)) = inr (told, inl down)
-    part (inr (told, inr (done, one, more, are, at, run, becomes, refused))) = inr (told, inr (done, one, more ++ rest, ap (λ l. l ++ rest) are ∙ append_assoc done (one ∷ more) rest, at, run, becomes, refused))
+    part (inr (told, inr (done, one, more, are, at, run, becomes, refused))) =
+        inr (
+          told,
+          inr (
+            done,
+            one,
+            more ++ rest,
+            ap (λ l. l ++ rest) are ∙ append_assoc done (one ∷ more) rest,
+            at,
+            run,
+            becomes,
+            refused,
+          ),
+        )
 
 -- a number that is passed as an i64
 pub passed : (n : ℕ) → n < 2 ^ 63 → to_z w64 (of_z w64 (pos n)) ≡ pos n
@@ -171,7 +227,9 @@ bound_answer None = refl
 bound_answer (Some text) = refl
 
 -- writes that are made one after another
-module _ {Y : Type 0} (f : Y → Write) (all : List Y) (at : ℕ) (y : Y) (more : take (at + 1) all ≡ take at all ++ y ∷ []) (old mid new : State) (so_far : Makes old mid (Ok tt) (map f (take at all))) where
+module _ {Y : Type 0} (f : Y → Write) (all : List Y) (at : ℕ) (y : Y)
+    (more : take (at + 1) all ≡ take at all ++ y ∷ []) (old mid new : State)
+    (so_far : Makes old mid (Ok tt) (map f (take at all))) where
   pub one_more : Makes mid new (Ok tt) (f y ∷ []) → Makes old new (Ok tt) (map f (take (at + 1) all))
   one_more next = subst (Makes old new (Ok tt)) (sym (ap (map f) more ∙ map-append f (take at all) (y ∷ []))) (makes_then old mid new (Ok tt) (map f (take at all)) (f y ∷ []) so_far next)
 

@@ -40,7 +40,8 @@ module _ {K X : Type 0} {cmp : K → K → Ordering} (total : IsTotalOrder cmp) 
       inner false later = later
 
   -- a table that was walked past an entry which is deleted
-  turns_delete : (e : K × X) (old new puts : List (K × X)) (deletes : List K) → Below e.0 (keys_of old) → Below e.0 (keys_of puts) → Turns cmp old new puts deletes → Turns cmp (e ∷ old) new puts (e.0 ∷ deletes)
+  turns_delete : (e : K × X) (old new puts : List (K × X)) (deletes : List K) → Below e.0 (keys_of old)
+      → Below e.0 (keys_of puts) → Turns cmp old new puts deletes → Turns cmp (e ∷ old) new puts (e.0 ∷ deletes)
   turns_delete e old new puts deletes above_old above_puts turns = record {
     rises = turns.rises;
     spared = spare puts above_puts turns.spared;
@@ -70,7 +71,9 @@ module _ {K X : Type 0} {cmp : K → K → Ordering} (total : IsTotalOrder cmp) 
   unfolding IsStrictlySortedBy
   rises_more n puts above rises = (above, rises)
 
-  turns_put : (n : K × X) (old new puts : List (K × X)) (deletes : List K) → Below n.0 (keys_of old) → Below n.0 (keys_of puts) → Below n.0 deletes → Turns cmp old new puts deletes → Turns cmp old (n ∷ new) (n ∷ puts) deletes
+  turns_put : (n : K × X) (old new puts : List (K × X)) (deletes : List K) → Below n.0 (keys_of old)
+      → Below n.0 (keys_of puts) → Below n.0 deletes → Turns cmp old new puts deletes
+      → Turns cmp old (n ∷ new) (n ∷ puts) deletes
   turns_put n old new puts deletes above_old above_puts above_deletes turns = record {
     rises = rises_more n puts above_puts turns.rises;
     spared = (absent n.0 deletes above_deletes, turns.spared);
@@ -85,7 +88,10 @@ module _ {K X : Type 0} {cmp : K → K → Ordering} (total : IsTotalOrder cmp) 
       record {
         rises = more.rises;
         spared = more.spared;
-        made = subst (λ o. IsPermutation (n ∷ (puts ++ cond (not ((is_eq o || has_key cmp puts e.0) || is_one_of cmp deletes e.0)) (e ∷ filter (stays (n ∷ puts) deletes) old) (filter (stays (n ∷ puts) deletes) old))) (n ∷ new)) (sym tied) more.made;
+        made = subst (λ o. IsPermutation
+            (n ∷ (puts ++ cond (not ((is_eq o || has_key cmp puts e.0) || is_one_of cmp deletes e.0))
+            (e ∷ filter (stays (n ∷ puts) deletes) old) (filter (stays (n ∷ puts) deletes) old))) (n ∷ new))
+            (sym tied) more.made;
       }
 
   -- with one that both tables have
@@ -94,7 +100,9 @@ module _ {K X : Type 0} {cmp : K → K → Ordering} (total : IsTotalOrder cmp) 
     rises = turns.rises;
     spared = turns.spared;
     made =
-        subst (λ b. IsPermutation (puts ++ cond (not b) (e ∷ filter (stays puts deletes) old) (filter (stays puts deletes) old)) (e ∷ new)) (sym (ap₂ ◌||◌ (absent_key cmp e.0 puts above_puts) (absent e.0 deletes above_deletes)))
+        subst (λ b. IsPermutation
+        (puts ++ cond (not b) (e ∷ filter (stays puts deletes) old) (filter (stays puts deletes) old)) (e ∷ new))
+        (sym (ap₂ ◌||◌ (absent_key cmp e.0 puts above_puts) (absent e.0 deletes above_deletes)))
         (IsPermutation-trans _ _ _ (IsPermutation-middle puts e (filter (stays puts deletes) old)) (IsPermutation-cons e _ _ turns.made));
   }
 
@@ -129,7 +137,9 @@ module _ {K X : Type 0} {cmp : K → K → Ordering} (total : IsTotalOrder cmp) 
           subst (λ m. Turns cmp (e ∷ old) (m ∷ new) (to_put cmp same old new) (to_delete cmp old new)) is
           (turns_keep e old new _ _ (below_kept e.0 _ new above) (below_keys e.0 _ (keys_of old) (first_below total same e old old_rises)) found)
 
-  over_new : AreExact cmp same → (e : K × X) (old : List (K × X)) → KeysRise cmp (e ∷ old) → ((new : List (K × X)) → KeysRise cmp new → Found old new) → (new : List (K × X)) → KeysRise cmp new → Found (e ∷ old) new
+  over_new : AreExact cmp same → (e : K × X) (old : List (K × X)) → KeysRise cmp (e ∷ old)
+      → ((new : List (K × X)) → KeysRise cmp new → Found old new) → (new : List (K × X)) → KeysRise cmp new
+      → Found (e ∷ old) new
   over_new exact e old old_rises found [] new_rises = step_less e old [] refl old_rises new_rises (found [] new_rises)
   over_new exact e old old_rises found (n ∷ new) new_rises = inner (cmp e.0 n.0) refl (over_new exact e old old_rises found new (rest_rises total same n new new_rises))
     where
@@ -151,6 +161,7 @@ module _ {K X : Type 0} {cmp : K → K → Ordering} (total : IsTotalOrder cmp) 
   found_turns exact (e ∷ old) new old_rises new_rises = over_new exact e old old_rises (λ later. found_turns exact old later (rest_rises total same e old old_rises)) new new_rises
 
   -- what differs turns the old table into the new one
-  pub differs_turns : AreExact cmp same → (old new puts : List (K × X)) (deletes : List K) → KeysRise cmp old → KeysRise cmp new → Differs cmp same old new puts deletes → Turns cmp old new puts deletes
+  pub differs_turns : AreExact cmp same → (old new puts : List (K × X)) (deletes : List K) → KeysRise cmp old
+      → KeysRise cmp new → Differs cmp same old new puts deletes → Turns cmp old new puts deletes
   differs_turns exact old new puts deletes old_rises new_rises differs =
       subst₂ (Turns cmp old new) (sym differs.puts_are) (sym differs.deletes_are) (found_turns exact old new old_rises new_rises)

@@ -17,7 +17,8 @@ undone Against old last end e up (inl lacks) = inl lacks
 undone Against old last end e up (inr (told, inl down)) = inr (told, inl (down_longer old last end up down))
 undone Against old last end e up (inr (told, inr refused)) = inr (told, inr refused)
 
-module _ (Against : Type 0) {P Q : Trees → Type 0} (old last end : State) (before : Survives old last P) (after : Survives last end Q) (clean : HasCleanDisk last) (going : IsTrue last.in_transaction) where
+module _ (Against : Type 0) {P Q : Trees → Type 0} (old last end : State) (before : Survives old last P)
+    (after : Survives last end Q) (clean : HasCleanDisk last) (going : IsTrue last.in_transaction) where
   not_committed : (e : Refusal) (error : Error) → e ≡ refusal_of error → FailsToCommit last end error → FailsFor Against old end e
   not_committed e error told (inl (OutOfMemory, same, why, back, tells)) = inl (told ∙ ap refusal_of same)
   not_committed e error told (inl (Io, same, why, back, tells)) = inr (told ∙ ap refusal_of same, inl (down_later old last end before clean after.counts (inl why)))

@@ -43,7 +43,12 @@ text_key a b = one_answer _ _ (λ h. let e = text_same (Text a) b h in cc, λ (e
     same_codes a b = (λ h. exact_bytes a b ((Equal-is (code_cmp a b)).0 h), λ e. subst (λ t. is_eq (code_cmp a t) ≡ true) e (ap is_eq (tied_itself nat_list_cmp_total a)))
 
 pub whole_key : (m n : ℕ) → equal (first_key plain).collation (whole m) (whole n) ≡ is_eq (nat_cmp m n)
-whole_key m n = one_answer _ _ (λ h. let e = int_same (pos m) (pos n) h in cc, λ (e : m ≡ n). subst (λ k. equal (first_key plain).collation (whole m) (whole k) ≡ true) e (equal_itself (pos m))) (same_numbers m n)
+whole_key m n = one_answer _ _ (
+  λ h. let e = int_same (pos m) (pos n) h in
+      cc,
+  λ (e : m ≡ n). subst (λ k. equal (first_key plain).collation (whole m) (whole k) ≡ true) e
+      (equal_itself (pos m)),
+) (same_numbers m n)
   where
     same_numbers : (m n : ℕ) → Decides (is_eq (nat_cmp m n)) (m ≡ n)
     same_numbers m n = (λ h. exact_unsigned m n ((Equal-is (nat_cmp m n)).0 h), λ e. subst (λ k. is_eq (nat_cmp m k) ≡ true) e (ap is_eq (tied_itself nat_cmp_total m)))

@@ -30,7 +30,9 @@ use Rattle.exam_theorem.proofs.Having.{committed_found, good_has, keeps_found, k
 -- ---- one transaction or none
 
 -- what turns this database into some turns it into others
-commits_at : {A E : Type 0} (old new : State) (result : Result A E) (T U : Database → Database → Type 0) → (HasCleanDisk new → (db : Database) → T old.now db → U old.now db) → Commits old new result T → Commits old new result U
+commits_at : {A E : Type 0} (old new : State) (result : Result A E) (T U : Database → Database → Type 0)
+    → (HasCleanDisk new → (db : Database) → T old.now db → U old.now db) → Commits old new result T
+    → Commits old new result U
 commits_at old new (Ok u) T U more c = record {
   turned = λ clean. let it = c.turned clean in (more clean new.now it.0, it.1, it.2);
   same = c.same;
@@ -65,7 +67,8 @@ module _ (old mid new : State) (v : ℕ) (same : HasCleanDisk mid → IsUnchange
       commits_at old new result Migrates BringsOver (λ clean db migrates. older_brings old.now v (named (omega (arith, made.survives.clean, clean))) db older migrates) whole
 
   -- the office that was there
-  pub migrated_had : (answered : ℕ × ℕ) → IsVersion answered.0 → (HasCleanDisk new → HasCleanDisk mid) → (HasCleanDisk new → (all : Trees) → ContainsMade mid.now all → HoldsGood answered.0 mid.now all)
+  pub migrated_had : (answered : ℕ × ℕ) → IsVersion answered.0 → (HasCleanDisk new → HasCleanDisk mid)
+      → (HasCleanDisk new → (all : Trees) → ContainsMade mid.now all → HoldsGood answered.0 mid.now all)
       → HasCleanDisk new → IsVersioned old.now → (office : Office) × HasOffice old.now office
   migrated_had answered is early good clean (w, is_w, all, contains, has) =
       let unchanged = same (early clean) in
@@ -75,7 +78,8 @@ module _ (old mid new : State) (v : ℕ) (same : HasCleanDisk mid → IsUnchange
 
 -- ---- a stop, and what stays
 
-module _ {A : Type 0} (old new : State) (result : Result A Refusal) (made : Commits old new result BringsOver) (settled : (trees : Trees) → IsTrue old.is_open → old.may_leave trees → trees ≡ old.committed.trees) where
+module _ {A : Type 0} (old new : State) (result : Result A Refusal) (made : Commits old new result BringsOver)
+    (settled : (trees : Trees) → IsTrue old.is_open → old.may_leave trees → trees ≡ old.committed.trees) where
   -- what was there before, or in the newest version
   pub brought_stops : StopsWith old new
   brought_stops office rest clean trees may = elim (made.survives.crash clean trees may) [
@@ -127,14 +131,18 @@ module _ {S : Type 0} (g : Ghosts S) (old mid : State) (made : Commits {A = Unit
   abbrev AreGood : Opened → Type 0
   AreGood result = IfOk result (λ new. IsGood new.office × IsInOrder new.office)
 
-  pub opened_had : (HasCleanDisk mid → IsVersioned old.now → ((office : Office) × HasOffice old.now office) ⊎ (IsOurs old.now × (mid.now ≡ old.now))) → (result : Opened) → Found result → AreGood result
+  pub opened_had : (HasCleanDisk mid → IsVersioned old.now
+      → ((office : Office) × HasOffice old.now office) ⊎ (IsOurs old.now × (mid.now ≡ old.now))) → (result : Opened)
+      → Found result → AreGood result
       → IfOk result (λ new. HasCleanDisk (state g new.database) → IsVersioned old.now → HasOffice old.now new.office)
   opened_had had (Ok new) finds good = λ clean versioned.
       let calm = early new finds clean in
       old_had mid (state g new.database) new.office finds clean old (made.turned calm).0 good.1 (had calm versioned)
   opened_had had (Err e) finds good = tt
 
-  same_opened : (new : OfficeIn S) → Finds mid (state g new.database) new.office → IsInOrder new.office → HasCleanDisk (state g new.database) → (office : Office) → HasOffice old.now office → (new.office ≡ office) × IsAtRest g new
+  same_opened : (new : OfficeIn S) → Finds mid (state g new.database) new.office → IsInOrder new.office
+      → HasCleanDisk (state g new.database) → (office : Office) → HasOffice old.now office
+      → (new.office ≡ office) × IsAtRest g new
   unfolding KeepsIt
   same_opened new finds order clean office has =
       let calm = early new finds clean in
@@ -165,6 +173,8 @@ module _ {S : Type 0} (g : Ghosts S) (old mid : State) (made : Commits {A = Unit
   refused_stopped (Ok new) survives = tt
   refused_stopped (Err e) survives = opened_stops old mid made (state g e.1) survives
 
-  pub refused_left : (result : Opened) → IfErr result (λ e. Survives mid (state g e.1) (λ _. ⊥)) → IfErr result (λ e. HasCleanDisk (state g e.1) → IsLeft mid (state g e.1)) → IfErr result (λ e. RestsOn old (state g e.1))
+  pub refused_left : (result : Opened) → IfErr result (λ e. Survives mid (state g e.1) (λ _. ⊥))
+      → IfErr result (λ e. HasCleanDisk (state g e.1) → IsLeft mid (state g e.1))
+      → IfErr result (λ e. RestsOn old (state g e.1))
   refused_left (Ok new) survives left = tt
   refused_left (Err e) survives left = opened_rests old mid made (state g e.1) survives left

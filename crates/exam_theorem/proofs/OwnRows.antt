@@ -100,7 +100,9 @@ at_number : (one other : State) (candidate number : ℕ) → candidate ≡ numbe
 at_number one other candidate number is same = subst (λ c. own_of one c ≡ own_of other c) (sym is) same
 
 -- equal rows have equal pages
-shown : (body : OwnRows → List ℕ) (own : Option OwnRows) (first second : Told) → IsSomeAnd own (λ rows. first ≡ ok_told (body rows)) → IsSomeAnd own (λ rows. second ≡ ok_told (body rows)) → AreAlike first second
+shown : (body : OwnRows → List ℕ) (own : Option OwnRows) (first second : Told)
+    → IsSomeAnd own (λ rows. first ≡ ok_told (body rows)) → IsSomeAnd own (λ rows. second ≡ ok_told (body rows))
+    → AreAlike first second
 shown body None first second a b = absurd a
 shown body (Some rows) first second a b = inr (inr (a ∙ sym b))
 
@@ -178,7 +180,9 @@ module _ (one_asked : OneAsked) (own_choice : OwnChoices) (bytes : List ℕ) (to
         (asked_alike own_choice today before other after other_after first second good up sound rise here.asked (λ request is. same request (subst (Asks bytes) is here.asks)) here.answers
         (subst (λ (asked : Result Request Fault). AnswersAsked today other asked second other_after) one there.answers))
 
-    served_same : (p q : Result (Unit {0}) HttpFault) (text words : List ℕ) → (IsFailureOf p text → ⊥) → (IsFailureOf q words → ⊥) → Serves bytes today before p text after → Serves bytes today other q words other_after → text ≡ words
+    served_same : (p q : Result (Unit {0}) HttpFault) (text words : List ℕ) → (IsFailureOf p text → ⊥)
+        → (IsFailureOf q words → ⊥) → Serves bytes today before p text after
+        → Serves bytes today other q words other_after → text ≡ words
     served_same (Err e) q text words none neither here there = absurd (none tt)
     served_same (Ok done) (Err e) text words none neither here there = absurd (neither tt)
     served_same (Ok done) (Ok too) text words none neither (told, here, is) (said, there, was) =

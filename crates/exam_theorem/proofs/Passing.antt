@@ -30,7 +30,8 @@ module _ {S : Type 0} (g : Ghosts S) where
         (passed_more (map shown orders) (shown x) outcomes outcome old mid new so_far next))
 
   -- no fault of the disk is forgotten
-  pub passed_clean : (orders : List Given) (outcomes : List Outcome) (old new : OfficeIn S) → ArePassed g orders old outcomes new → HasCleanDisk (state g new.database) → HasCleanDisk (state g old.database)
+  pub passed_clean : (orders : List Given) (outcomes : List Outcome) (old new : OfficeIn S)
+      → ArePassed g orders old outcomes new → HasCleanDisk (state g new.database) → HasCleanDisk (state g old.database)
   passed_clean [] [] old new passed clean = subst (λ (o : OfficeIn S). HasCleanDisk (state g o.database)) passed clean
   passed_clean [] (p ∷ outcomes) old new passed clean = absurd passed
   passed_clean (x ∷ orders) [] old new passed clean = absurd passed

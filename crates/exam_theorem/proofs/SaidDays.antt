@@ -71,7 +71,10 @@ made_days x day y is = let same : x ≡ y = cc in subst HasRowDay same day
 
 -- a session is read by its columns
 session_made : (place : ℕ) (code : Option Code) (day start : Option ℕ) → ((n : ℕ) → day ≡ Some n → IsDay n)
-    → MakesDays (and_then (value_at place 1 code) (λ code. and_then (value_at place 2 day) (λ day. and_then (value_at place 3 start) (λ start. Ok (row.OfSession code (record { day = day; start = start }))))))
+    → MakesDays (and_then (value_at place 1 code)
+    (λ code. and_then (value_at place 2 day)
+    (λ day. and_then (value_at place 3 start)
+    (λ start. Ok (row.OfSession code (record { day = day; start = start }))))))
 session_made place None day start days = refused_days (BadRow place 1)
 session_made place (Some code) None start days = refused_days (BadRow place 2)
 session_made place (Some code) (Some day) None days = refused_days (BadRow place 3)
@@ -93,7 +96,10 @@ three_made place (Some x) (Some y) (Some z) make days = made_days (make x y z) (
 
 five_made : {X Y Z V W : Type 0} (place : ℕ) (x : Option X) (y : Option Y) (z : Option Z) (v : Option V) (w : Option W) (make : X → Y → Z → V → W → Row)
     → ((x : X) (y : Y) (z : Z) (v : V) (w : W) → HasRowDay (make x y z v w))
-    → MakesDays (and_then (value_at place 1 x) (λ x. and_then (value_at place 2 y) (λ y. and_then (value_at place 3 z) (λ z. and_then (value_at place 4 v) (λ v. and_then (value_at place 5 w) (λ w. Ok (make x y z v w)))))))
+    → MakesDays (and_then (value_at place 1 x)
+    (λ x. and_then (value_at place 2 y)
+    (λ y. and_then (value_at place 3 z)
+    (λ z. and_then (value_at place 4 v) (λ v. and_then (value_at place 5 w) (λ w. Ok (make x y z v w)))))))
 five_made place None y z v w make days = refused_days (BadRow place 1)
 five_made place (Some x) None z v w make days = refused_days (BadRow place 2)
 five_made place (Some x) (Some y) None v w make days = refused_days (BadRow place 3)

@@ -116,7 +116,8 @@ module _ {S W : Type 0} (g : Ghosts S) (settled : IsSettled g) (one_result : One
     stays same = unchanged_settles g settled Failed Told_to old new same
 
     -- it is answered with a refusal of the store
-    answered_failure : (said : Told) → (IsFailureTold said → Failed) → (answered : Result Reply Refusal) (e : Refusal) → http.TellsReply answered said → answered ≡ Err e → IsTrue (is_store_refusal e) → Failed
+    answered_failure : (said : Told) → (IsFailureTold said → Failed) → (answered : Result Reply Refusal) (e : Refusal)
+        → http.TellsReply answered said → answered ≡ Err e → IsTrue (is_store_refusal e) → Failed
     answered_failure said fails answered e tells is bad =
         fails (failed e said bad (subst (λ (a : Result Reply Refusal). http.TellsReply a said) is tells))
 
@@ -156,7 +157,8 @@ module _ {S W : Type 0} (g : Ghosts S) (settled : IsSettled g) (one_result : One
     tells : (rest : Option (List ℕ)) (said : Told) → (IsFailureTold said → Failed) → serving.Tells g today (Some bytes) rest old said new → Answered
     tells rest said fails h = answers said fails h.asked h.gave.known h.answers
 
-  module _ (bytes : List ℕ) (rest : Option (List ℕ)) (old new : OfficeIn S) (on : KeepsOn g old new) (empty full : W) (answer : List ℕ) (none : contents empty ≡ Some []) (some : contents full ≡ Some answer) where
+  module _ (bytes : List ℕ) (rest : Option (List ℕ)) (old new : OfficeIn S) (on : KeepsOn g old new) (empty full : W)
+      (answer : List ℕ) (none : contents empty ≡ Some []) (some : contents full ≡ Some answer) where
     appended : (text : List ℕ) → Appends (contents empty) (contents full) text → answer ≡ text
     appended text h = subst (λ (o : Option (List ℕ)). Appends o (Some answer) text) none (subst (λ (o : Option (List ℕ)). Appends (contents empty) o text) some h)
 

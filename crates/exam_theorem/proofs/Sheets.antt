@@ -19,7 +19,8 @@ use Rattle.exam_theorem.specs.Orders.{sheet_of}
 use Rattle.exam_theorem.specs.Printing.{PrintsAsked, RestsOn, RestsOnAsked}
 use Rattle.exam_theorem.proofs.KeptOffice.{read_alone, unchanged}
 
-module _ {S W : Type 0} (g : Ghosts S) (contents : W → Option (List ℕ)) (today : ℕ) (input rest : Option (List ℕ)) (old new : OfficeIn S) (before : W) (result : Result (Unit {0}) JobFault) (after : W) where
+module _ {S W : Type 0} (g : Ghosts S) (contents : W → Option (List ℕ)) (today : ℕ) (input rest : Option (List ℕ))
+    (old new : OfficeIn S) (before : W) (result : Result (Unit {0}) JobFault) (after : W) where
   appeals_kept : (s : Code) → PrintsAppeals g contents s old before result new after → KeepsOn g old new
   appeals_kept s prints = by (has_row code_cmp old.office.relations.sessions s) refl
     where

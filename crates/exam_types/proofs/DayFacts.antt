@@ -90,7 +90,9 @@ year_months y = sym (jiff_months y 12) ∙ days_of_months_all (pos y)
 count_after : (k : ℕ) → day_count (pos (2000 + k)) 1 1 ≡ days_of_years k + 4382910
 count_after zero = unfold days_of_years in day_count-early (pos 2000) 11999 1 1 refl (omega arith) (omega arith) (omega arith)
 count_after (suc k) =
-    let next : day_count (pos (2000 + suc k)) 1 1 ≡ day_count (pos (2000 + k)) 1 1 + year_days (2000 + k) = day_count-next_year (pos (2000 + k)) (pos (2000 + suc k)) (omega (arith, signed_arith)) (omega (arith, signed_arith)) in
+    let next : day_count (pos (2000 + suc k)) 1 1 ≡ day_count (pos (2000 + k)) 1 1 + year_days (2000 + k) =
+    day_count-next_year (pos (2000 + k)) (pos (2000 + suc k)) (omega (arith, signed_arith))
+    (omega (arith, signed_arith)) in
     omega (arith, count_after k, days_of_years-suc k)
 
 year_count : (y : ℕ) → 2000 ≤ y → day_count (pos y) 1 1 ≡ year_start y + 4371953

@@ -1,5 +1,7 @@
 -- A day's text, read and written.
-use Rattle.std.proofs.Common.{◌&&◌, to_z, of_z, unsigned_abs, ◌≡◌, ◌↔◌, ◌∙◌, ◌<◌, ◌≤◌, ◌+◌, ◌-◌, ◌^◌, ◌++◌, ℕ, ℤ, pos, neg_ℤ, ◌+ℤ◌, ◌-ℤ◌, List, [], ◌∷◌, Bool, true, false, Option, Some, None, nat_le, length, get_or, take, drop, refl, sym, ap, arith}
+use Rattle.std.proofs.Common.{◌&&◌, to_z, of_z, unsigned_abs, ◌≡◌, ◌↔◌, ◌∙◌, ◌<◌, ◌≤◌, ◌+◌, ◌-◌, ◌^◌, ◌++◌, ℕ, ℤ, pos}
+use Rattle.std.proofs.Common.{neg_ℤ, ◌+ℤ◌, ◌-ℤ◌, List, [], ◌∷◌, Bool, true, false, Option, Some, None, nat_le, length}
+use Rattle.std.proofs.Common.{get_or, take, drop, refl, sym, ap, arith}
 use Rattle.std.specs.Prelude.{bytes_eq, if◌then◌else◌, Result, Ok, Err, IsOk, IfOk}
 use Rattle.std.specs.List.{list_all}
 use Rattle.std.specs.Result.{result_ok}
@@ -46,7 +48,9 @@ pub plain : (w : Width) (z : ℤ) (n : ℕ) → z ≡ pos n → n < 2 ^ hbits w 
 plain w z n e small = rw e (ap unsigned_abs (back_small w (pos n) small))
 
 -- a text that is written part by part
-pub written : (n y m d : ℕ) (none year to_month month to_day day : List ℕ) → y ≡ year_of n → m ≡ month_of n → d ≡ month_day_of n → none ≡ [] → year ≡ none ++ digits 4 y → to_month ≡ year ++ 45 ∷ [] → month ≡ to_month ++ digits 2 m → to_day ≡ month ++ 45 ∷ [] → day ≡ to_day ++ digits 2 d → day ≡ day_text n
+pub written : (n y m d : ℕ) (none year to_month month to_day day : List ℕ) → y ≡ year_of n → m ≡ month_of n
+    → d ≡ month_day_of n → none ≡ [] → year ≡ none ++ digits 4 y → to_month ≡ year ++ 45 ∷ []
+    → month ≡ to_month ++ digits 2 m → to_day ≡ month ++ 45 ∷ [] → day ≡ to_day ++ digits 2 d → day ≡ day_text n
 written n y m d none year to_month month to_day day ya mb dc e₀ e₁ e₂ e₃ e₄ e₅ =
     rw (day_text-is n, ← ya, ← mb, ← dc, e₅, e₄, e₃, e₂, e₁, e₀) refl
 
@@ -79,7 +83,9 @@ is_date bytes r n y m d parts read is text =
     rw (same.0, same.1, same.2) (omega (arith, signed_arith))
 
 -- a date with the parts of a text has a day's number if that is the day's text
-pub text_of_date : (bytes : List ℕ) (r : Option (ℕ × ℕ × ℕ)) (date : Date) (y m d : ℕ) → AreParts bytes r → r ≡ Some (y, m, d) → IsYmd (pos y) (pos m) (pos d) date → (n : ℕ) → (IsDay n × (epoch_day date ≡ pos n)) ↔ (IsDay n × (day_text n ≡ bytes))
+pub text_of_date : (bytes : List ℕ) (r : Option (ℕ × ℕ × ℕ)) (date : Date) (y m d : ℕ) → AreParts bytes r
+    → r ≡ Some (y, m, d) → IsYmd (pos y) (pos m) (pos d) date → (n : ℕ)
+    → (IsDay n × (epoch_day date ≡ pos n)) ↔ (IsDay n × (day_text n ≡ bytes))
 text_of_date bytes r date y m d parts read ymd n = (
   λ h. let same = date_parts date n h.0 h.1 in
       let year : y ≡ year_of n = cc in
@@ -94,7 +100,10 @@ text_of_date bytes r date y m d parts read ymd n = (
       (h.0, rw (year, month, day) (number_of_civil n h.0)),
 )
 
-pub read_text : (bytes : List ℕ) (r : Option (ℕ × ℕ × ℕ)) (date : Date) (day : Option ℕ) (y m d : ℕ) → AreParts bytes r → r ≡ Some (y, m, d) → IsYmd (pos y) (pos m) (pos d) date → ((n : ℕ) → (day ≡ Some n) ↔ (IsDay n × (epoch_day date ≡ pos n))) → (n : ℕ) → (day ≡ Some n) ↔ (IsDay n × (day_text n ≡ bytes))
+pub read_text : (bytes : List ℕ) (r : Option (ℕ × ℕ × ℕ)) (date : Date) (day : Option ℕ) (y m d : ℕ) → AreParts bytes r
+    → r ≡ Some (y, m, d) → IsYmd (pos y) (pos m) (pos d) date
+    → ((n : ℕ) → (day ≡ Some n) ↔ (IsDay n × (epoch_day date ≡ pos n))) → (n : ℕ)
+    → (day ≡ Some n) ↔ (IsDay n × (day_text n ≡ bytes))
 read_text bytes r date day y m d parts read ymd is n =
     let same = text_of_date bytes r date y m d parts read ymd n in
     (λ e. same.0 ((is n).0 e), λ h. (is n).1 (same.1 h))
@@ -124,7 +133,10 @@ joined : (y m d x z : ℕ) (ys ms ds : List ℕ) → digits 4 y ≡ ys → 45 �
 joined y m d x z ys ms ds year first month second day = rw (← year, ← first, ← month, ← second, ← day) refl
 
 -- reading the three numbers of a text of the right shape
-pub text_of_numbers : (bytes : List ℕ) (y m d : ℕ) → length bytes ≡ 10 → get_or bytes 4 0 ≡ 45 → get_or bytes 7 0 ≡ 45 → Some y ≡ number_of (take 4 bytes) → y < 10 ^ length (take 4 bytes) → Some m ≡ number_of (take 2 (drop 5 bytes)) → m < 10 ^ length (take 2 (drop 5 bytes)) → Some d ≡ number_of (take 2 (drop 8 bytes)) → d < 10 ^ length (take 2 (drop 8 bytes)) → (y < 10000) × (m < 100) × (d < 100) × (date_text y m d ≡ bytes)
+pub text_of_numbers : (bytes : List ℕ) (y m d : ℕ) → length bytes ≡ 10 → get_or bytes 4 0 ≡ 45 → get_or bytes 7 0 ≡ 45
+    → Some y ≡ number_of (take 4 bytes) → y < 10 ^ length (take 4 bytes) → Some m ≡ number_of (take 2 (drop 5 bytes))
+    → m < 10 ^ length (take 2 (drop 5 bytes)) → Some d ≡ number_of (take 2 (drop 8 bytes))
+    → d < 10 ^ length (take 2 (drop 8 bytes)) → (y < 10000) × (m < 100) × (d < 100) × (date_text y m d ≡ bytes)
 text_of_numbers [] y m d long first second year y_small month m_small day d_small = absurd (omega arith)
 text_of_numbers (a ∷ []) y m d long first second year y_small month m_small day d_small = absurd (omega arith)
 text_of_numbers (a ∷ b ∷ []) y m d long first second year y_small month m_small day d_small = absurd (omega arith)
@@ -135,11 +147,17 @@ text_of_numbers (a ∷ b ∷ c ∷ e ∷ f ∷ g ∷ []) y m d long first second
 text_of_numbers (a ∷ b ∷ c ∷ e ∷ f ∷ g ∷ h ∷ []) y m d long first second year y_small month m_small day d_small = absurd (omega arith)
 text_of_numbers (a ∷ b ∷ c ∷ e ∷ f ∷ g ∷ h ∷ i ∷ []) y m d long first second year y_small month m_small day d_small = absurd (omega arith)
 text_of_numbers (a ∷ b ∷ c ∷ e ∷ f ∷ g ∷ h ∷ i ∷ j ∷ []) y m d long first second year y_small month m_small day d_small = absurd (omega arith)
-text_of_numbers (a ∷ b ∷ c ∷ e ∷ f ∷ g ∷ h ∷ i ∷ j ∷ k ∷ []) y m d long first second year y_small month m_small day d_small =
-    (y_small, m_small, d_small, joined y m d f i (a ∷ b ∷ c ∷ e ∷ []) (g ∷ h ∷ []) (j ∷ k ∷ []) (four_digits a b c e y (sym year)) (sym first) (two_digits g h m (sym month)) (sym second) (two_digits j k d (sym day)))
+text_of_numbers (a ∷ b ∷ c ∷ e ∷ f ∷ g ∷ h ∷ i ∷ j ∷ k ∷ []) y m d long first second year y_small month m_small day d_small = (
+  y_small,
+  m_small,
+  d_small,
+  joined y m d f i (a ∷ b ∷ c ∷ e ∷ []) (g ∷ h ∷ []) (j ∷ k ∷ []) (four_digits a b c e y (sym year)) (sym first)
+      (two_digits g h m (sym month)) (sym second) (two_digits j k d (sym day)),
+)
 text_of_numbers (a ∷ b ∷ c ∷ e ∷ f ∷ g ∷ h ∷ i ∷ j ∷ k ∷ l ∷ rest) y m d long first second year y_small month m_small day d_small = absurd (omega arith)
 
-minus_by_test : (b : Bool) (r : Option ℕ) (z : ℤ) (a k : ℕ) → nat_le (10957 + k) a ≡ b → IsDay a → z ≡ pos a -ℤ pos k → ((n : ℕ) → (r ≡ Some n) ↔ (IsDay n × (z ≡ pos n))) → r ≡ (if b then Some (a - k) else None)
+minus_by_test : (b : Bool) (r : Option ℕ) (z : ℤ) (a k : ℕ) → nat_le (10957 + k) a ≡ b → IsDay a → z ≡ pos a -ℤ pos k
+    → ((n : ℕ) → (r ≡ Some n) ↔ (IsDay n × (z ≡ pos n))) → r ≡ (if b then Some (a - k) else None)
 minus_by_test true r z a k test is number exact =
     let enough : 10957 + k ≤ a = grind arith in
     (exact (a - k)).1 ((omega arith, omega arith), omega (arith, signed_arith))
@@ -162,12 +180,15 @@ not_ok (Ok x) e h = cc e
 not_ok (Err x) e h = cc h
 
 -- the day number that `jiff` comes to
-pub number_before : {E : Type 0} (r : Result Date E) (date earlier : Date) (n k : ℕ) (s : Span) → epoch_day date ≡ pos n → IsOnly Day (neg_ℤ (pos k)) s → Some earlier ≡ result_ok r → IfOk r (λ x. epoch_day x ≡ date_add date s) → epoch_day earlier ≡ pos n -ℤ pos k
+pub number_before : {E : Type 0} (r : Result Date E) (date earlier : Date) (n k : ℕ) (s : Span)
+    → epoch_day date ≡ pos n → IsOnly Day (neg_ℤ (pos k)) s → Some earlier ≡ result_ok r
+    → IfOk r (λ x. epoch_day x ≡ date_add date s) → epoch_day earlier ≡ pos n -ℤ pos k
 number_before r date earlier n k s number only e h =
     of_ok r earlier (λ x. epoch_day x ≡ date_add date s) e h ∙ date_add-days date (neg_ℤ (pos k)) s only ∙ omega (arith, signed_arith)
 
 -- no subtraction of so few days leaves its calendar
-pub jiff_subtracts : {E : Type 0} (r : Result Date E) (date : Date) (n k : ℕ) (s : Span) → IsDay n → k < 65536 → epoch_day date ≡ pos n → IsOnly Day (neg_ℤ (pos k)) s → (IsOk r ↔ CanAddToDate date s) → result_ok r ≡ None → ⊥
+pub jiff_subtracts : {E : Type 0} (r : Result Date E) (date : Date) (n k : ℕ) (s : Span) → IsDay n → k < 65536
+    → epoch_day date ≡ pos n → IsOnly Day (neg_ℤ (pos k)) s → (IsOk r ↔ CanAddToDate date s) → result_ok r ≡ None → ⊥
 jiff_subtracts r date n k s is few number only can none =
     let day : IsEpochDay (epoch_day date +ℤ neg_ℤ (pos k)) = (omega (arith, signed_arith), omega (arith, signed_arith)) in
     not_ok r none (can.1 ((can_add-days date (neg_ℤ (pos k)) s only).1 day))
@@ -199,7 +220,9 @@ spelled_text n is =
     let day = month_day_is n in
     ap spelled_day (day_text-is n) ∙ spelled_date (year_of n) (month_of n) (month_day_of n) small.0 small.1 small.2 ∙ omega arith
 
-day_of_by_test : (bytes : List ℕ) (r : Option ℕ) (n : ℕ) (b : Bool) → b ≡ (is_day n && bytes_eq (day_text n) bytes) → ((k : ℕ) → (r ≡ Some k) ↔ (IsDay k × (day_text k ≡ bytes))) → n ≡ spelled_day bytes → r ≡ (if b then Some n else None)
+day_of_by_test : (bytes : List ℕ) (r : Option ℕ) (n : ℕ) (b : Bool) → b ≡ (is_day n && bytes_eq (day_text n) bytes)
+    → ((k : ℕ) → (r ≡ Some k) ↔ (IsDay k × (day_text k ≡ bytes))) → n ≡ spelled_day bytes
+    → r ≡ (if b then Some n else None)
 day_of_by_test bytes r n true test exact is =
     let both = both_true (is_day n) (bytes_eq (day_text n) bytes) (sym test) in
     (exact n).1 (is_day-is n both.0, (bytes_eq-Decides (day_text n) bytes).0 both.1)

@@ -59,7 +59,9 @@ pub met_bits : (names : List (List ℕ)) (a b : ℕ) → a < 2 ^ length names �
 met_bits [] a b l m = let c : bit_and a b ≤ b = and_le_r a b in sym (eq-eqb _ _ (omega arith))
 met_bits (name ∷ names) a b l m =
     ap (λ t. t && all_met names (summed_among names (a / 2)) (summed_among names (b / 2))) (met_bit (a % 2) (b % 2) (omega arith) (omega arith) ∙ ap (λ t. nat_eq t (b % 2)) (sym (and_mod a b 1)))
-    ∙ ap (λ t. nat_eq (bit_and a b % 2) (b % 2) && t) (met_bits names (a / 2) (b / 2) (omega (arith, pow-suc 2 (length names))) (omega (arith, pow-suc 2 (length names))) ∙ ap (λ t. nat_eq t (b / 2)) (sym (and_shr a b 1)))
+    ∙ ap (λ t. nat_eq (bit_and a b % 2) (b % 2) && t)
+    (met_bits names (a / 2) (b / 2) (omega (arith, pow-suc 2 (length names)))
+    (omega (arith, pow-suc 2 (length names))) ∙ ap (λ t. nat_eq t (b / 2)) (sym (and_shr a b 1)))
     ∙ halves_equal (bit_and a b) b
 
 -- ---- equal sets

@@ -25,7 +25,9 @@ is-written text least (suc count) bytes n e = step (bytes_eq (text least) bytes)
         let rest = more e in
         record { low = let l = rest.low in omega arith; high = let l = rest.high in omega arith; same = rest.same }
 
-none-written : (text : ℕ → List ℕ) (least count : ℕ) (bytes : List ℕ) (n : ℕ) → find (λ k. bytes_eq (text k) bytes) (range_with_len least count) ≡ None → least ≤ n → n < least + count → text n ≡ bytes → ⊥
+none-written : (text : ℕ → List ℕ) (least count : ℕ) (bytes : List ℕ) (n : ℕ)
+    → find (λ k. bytes_eq (text k) bytes) (range_with_len least count) ≡ None → least ≤ n → n < least + count
+    → text n ≡ bytes → ⊥
 none-written text least zero bytes n e low high same = omega arith
 none-written text least (suc count) bytes n e low high same = step (bytes_eq (text least) bytes) refl (none-written text (least + 1) count bytes n) e
   where

@@ -114,7 +114,9 @@ keys_of_filter p [] = refl
 keys_of_filter p (row ∷ rows) = by (p row.0) (keys_of_filter p rows)
   where
     by : (b : Bool) → keys_of (filter (λ (row : Code × Session). p row.0) rows) ≡ filter p (keys_of rows)
-        → keys_of (cond b (row ∷ filter (λ (row : Code × Session). p row.0) rows) (filter (λ (row : Code × Session). p row.0) rows)) ≡ cond b (row.0 ∷ filter p (keys_of rows)) (filter p (keys_of rows))
+        → keys_of (cond b (row ∷ filter (λ (row : Code × Session). p row.0) rows)
+        (filter (λ (row : Code × Session). p row.0) rows))
+        ≡ cond b (row.0 ∷ filter p (keys_of rows)) (filter p (keys_of rows))
     by true rest = ap (λ xs. row.0 ∷ xs) rest
     by false rest = rest
 

@@ -27,7 +27,9 @@ abbrev pub appeals_left : Relations → ℕ → List ((ℕ × Code) × Appeal) �
 appeals_left r n rows = map (own_appeal r) (leading (is_row_of n) rows)
 
 -- after an appeal of the candidate has been appended
-pub appeal_turn : (r : Relations) (n : ℕ) (k : ℕ × Code) (a copy : Appeal) (marked : Bool) (rows rest : List ((ℕ × Code) × Appeal)) (before after whole : List OwnAppeal) → nat_eq k.0 n ≡ true → copy ≡ a → marked ≡ is_marked r k → rows ≡ (k, a) ∷ rest
+pub appeal_turn : (r : Relations) (n : ℕ) (k : ℕ × Code) (a copy : Appeal) (marked : Bool)
+    (rows rest : List ((ℕ × Code) × Appeal)) (before after whole : List OwnAppeal) → nat_eq k.0 n ≡ true → copy ≡ a
+    → marked ≡ is_marked r k → rows ≡ (k, a) ∷ rest
     → after ≡ before ++ record { reference = k.1; appeal = copy; standing = marked } ∷ [] → before ++ appeals_left r n rows ≡ whole → after ++ appeals_left r n rest ≡ whole
 appeal_turn r n k a copy marked rows rest before after whole own same bears split pushed so_far =
     let first : appeals_left r n ((k, a) ∷ rest) ≡ own_appeal r (k, a) ∷ appeals_left r n rest = rw own refl in

@@ -1,5 +1,7 @@
 -- The seats of a session hold everybody who sits in it, and so count who comes before a candidate in a hall.
-use Rattle.std.proofs.Common.{◌≡◌, ℕ, zero, suc, ◌<◌, ◌≤◌, ◌&&◌, not, Bool, true, false, cond, List, [], ◌∷◌, length, map, filter, count_by, get_or, Contains, Option, None, Some, IsSome, IfSome, is_some, refl, ap, sym, subst, ◌∙◌, inl, inr, arith}
+use Rattle.std.proofs.Common.{◌≡◌, ℕ, zero, suc, ◌<◌, ◌≤◌, ◌&&◌, not, Bool, true, false, cond, List, [], ◌∷◌, length}
+use Rattle.std.proofs.Common.{map, filter, count_by, get_or, Contains, Option, None, Some, IsSome, IfSome, is_some}
+use Rattle.std.proofs.Common.{refl, ap, sym, subst, ◌∙◌, inl, inr, arith}
 use Rattle.std.specs.List.{All, AllByRecursion}
 use Rattle.std.specs.List.Sorted.{IsStrictlySortedBy}
 use Rattle.std.specs.Map.{keys_of, lookup}
@@ -179,7 +181,12 @@ module _ (r : Relations) (seats : Seats) (s : Code) (up : KeysRise seat_cmp seat
           where
             turn : (b : Bool) → is_seat x ≡ b → AllByRecursion (λ n. nat_cmp e.0.1 n ≡ Less) (seated rows)
                 → AllByRecursion (λ n. nat_cmp e.0.1 n ≡ Less) (map (λ (e : (Code × ℕ) × Code). e.0.1) (cond b (x ∷ filter is_seat rows) (filter is_seat rows)))
-            turn true t rest = (less_number e.0 x.0 (same_code_exact e.0.0 s (and_parts (same_code e.0.0 s) (same_code h e.1) own).0 ∙ sym (same_code_exact x.0.0 s (and_parts (same_code x.0.0 s) (same_code h x.1) t).0)) a.0, rest)
+            turn true t rest = (
+              less_number e.0 x.0
+                  (same_code_exact e.0.0 s (and_parts (same_code e.0.0 s) (same_code h e.1) own).0
+                  ∙ sym (same_code_exact x.0.0 s (and_parts (same_code x.0.0 s) (same_code h x.1) t).0)) a.0,
+              rest,
+            )
             turn false t rest = rest
 
         inner : (b : Bool) → is_seat e ≡ b → IsStrictlySortedBy nat_cmp (seated es)
@@ -227,21 +234,32 @@ module _ (r : Relations) (seats : Seats) (s : Code) (up : KeysRise seat_cmp seat
     passing P (e ∷ es) = inner (same_code e.0.0 s) (same_code h e.1) (P e.0.1) refl refl refl (passing P es)
       where
         inner : (a b d : Bool) → same_code e.0.0 s ≡ a → same_code h e.1 ≡ b → P e.0.1 ≡ d → length (filter P (seated es)) ≡ length (filter (is_counted P) (filter is_own es))
-            → length (filter P (map (λ (x : (Code × ℕ) × Code). x.0.1) (cond (a && b) (e ∷ filter is_seat es) (filter is_seat es)))) ≡ length (filter (is_counted P) (cond a (e ∷ filter is_own es) (filter is_own es)))
+            → length (filter P (map (λ (x : (Code × ℕ) × Code). x.0.1)
+            (cond (a && b) (e ∷ filter is_seat es) (filter is_seat es))))
+            ≡ length (filter (is_counted P) (cond a (e ∷ filter is_own es) (filter is_own es)))
         inner false b d x y z rest = rest
         inner true false d x y z rest = rw y rest
         inner true true false x y z rest = rw (y, z) rest
         inner true true true x y z rest = rw (y, z) (ap suc rest)
 
     -- those who come before the candidate in the hall, counted over the seats of the session
-    pub counted_before : IsStrictlySortedBy nat_cmp (members r s) → (c : ℕ) → before_among r s h (desk_key r s c) (filter is_own seats) ≡ count_by (λ d. comes_before r s d c) (occupants (seating r s) (plan_of seats s) h)
-    counted_before rising c = sym (passing (λ d. comes_before r s d c) seats) ∙ length-filter (λ d. comes_before r s d c) (seated seats) ∙ ap (count_by (λ d. comes_before r s d c)) (sym (occupants_are rising))
+    pub counted_before : IsStrictlySortedBy nat_cmp (members r s) → (c : ℕ)
+        → before_among r s h (desk_key r s c) (filter is_own seats)
+        ≡ count_by (λ d. comes_before r s d c) (occupants (seating r s) (plan_of seats s) h)
+    counted_before rising c =
+        sym (passing (λ d. comes_before r s d c) seats) ∙ length-filter (λ d. comes_before r s d c) (seated seats)
+        ∙ ap (count_by (λ d. comes_before r s d c)) (sym (occupants_are rising))
 
 -- in a hall sit no more than the session may have members
-pub few_before : (r : Relations) (seats : Seats) (s h : Code) (c : ℕ) → length (members r s) ≤ most_members → count_by (λ d. comes_before r s d c) (occupants (seating r s) (plan_of seats s) h) ≤ most_members
+pub few_before : (r : Relations) (seats : Seats) (s h : Code) (c : ℕ) → length (members r s) ≤ most_members
+    → count_by (λ d. comes_before r s d c) (occupants (seating r s) (plan_of seats s) h) ≤ most_members
 few_before r seats s h c limit =
-    let sitting_there : count_by (λ d. comes_before r s d c) (occupants (seating r s) (plan_of seats s) h) ≤ length (occupants (seating r s) (plan_of seats s) h) = count_by-le-length (λ d. comes_before r s d c) (occupants (seating r s) (plan_of seats s) h) in
-    let all : length (occupants (seating r s) (plan_of seats s) h) ≡ count_by (λ d. is_hall (seating r s) h (plan_of seats s d)) (members r s) = length-filter (λ d. is_hall (seating r s) h (plan_of seats s d)) (members r s) in
+    let sitting_there : count_by (λ d. comes_before r s d c) (occupants (seating r s) (plan_of seats s) h) ≤ length
+    (occupants (seating r s) (plan_of seats s) h) =
+    count_by-le-length (λ d. comes_before r s d c) (occupants (seating r s) (plan_of seats s) h) in
+    let all : length (occupants (seating r s) (plan_of seats s) h)
+    ≡ count_by (λ d. is_hall (seating r s) h (plan_of seats s d)) (members r s) =
+    length-filter (λ d. is_hall (seating r s) h (plan_of seats s d)) (members r s) in
     let few : count_by (λ d. is_hall (seating r s) h (plan_of seats s d)) (members r s) ≤ length (members r s) = count_by-le-length (λ d. is_hall (seating r s) h (plan_of seats s d)) (members r s) in
     omega arith
 
@@ -251,7 +269,9 @@ pub if_some : {A : Type 0} (o : Option A) (x : A) (P : A → Type 0) → o ≡ S
 if_some o x P e h = subst (λ p. IfSome p P) e h
 
 -- the first candidate's key is not after the last one's
-pub forward : {X : Type 0} (s : Code) (rows : List (ℕ × X)) (first last : ℕ) → All (IsLeBy nat_cmp first) (keys_of rows) → IsSome (lookup (is_at (nat_cmp last)) rows) → is_gt (seat_cmp (s, first) (s, last)) ≡ false
+pub forward : {X : Type 0} (s : Code) (rows : List (ℕ × X)) (first last : ℕ)
+    → All (IsLeBy nat_cmp first) (keys_of rows) → IsSome (lookup (is_at (nat_cmp last)) rows)
+    → is_gt (seat_cmp (s, first) (s, last)) ≡ false
 forward s rows first last from there =
     ap (λ o. is_gt (ordering_then o (nat_cmp first last))) (tied_itself nat_list_cmp_total s)
     ∙ All-contains (IsLeBy nat_cmp first) (keys_of rows) last from (Contains-keys_from_lookup (tells_apart exact_unsigned) last rows there)

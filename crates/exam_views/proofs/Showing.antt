@@ -1,5 +1,7 @@
 -- A view shows the session as it is in the office.
-use Rattle.std.proofs.Common.{◌≡◌, ◌↔◌, ℕ, suc, ◌+◌, ◌<◌, ◌≤◌, Bool, true, false, cond, List, [], ◌∷◌, length, map, filter, get_or, drop, Contains, ◌++◌, Option, None, Some, Result, Ok, Err, IfErr, refl, ap, sym, subst, ◌∙◌, inl, inr, arith, ◌⊎◌}
+use Rattle.std.proofs.Common.{◌≡◌, ◌↔◌, ℕ, suc, ◌+◌, ◌<◌, ◌≤◌, Bool, true, false, cond, List, [], ◌∷◌, length, map}
+use Rattle.std.proofs.Common.{filter, get_or, drop, Contains, ◌++◌, Option, None, Some, Result, Ok, Err, IfErr, refl}
+use Rattle.std.proofs.Common.{ap, sym, subst, ◌∙◌, inl, inr, arith, ◌⊎◌}
 use Rattle.std.specs.Map.{keys_of}
 use Rattle.std.specs.List.{All, range_with_len}
 use Rattle.std.specs.Option.{option_map, option_and_then}
@@ -31,7 +33,9 @@ use Rattle.exam_rules.proofs.PlanLists.{named_at_index}
 use Rattle.exam_plan.proofs.Carrying.{IsBest-indexed, IsCertificate-named, IsContested-named, IsContested-indexed, desk_number-named, unseated-named, member_index, contains_map, from_map}
 use Rattle.exam_commands.specs.State.{State, Seats}
 use Rattle.exam_commands.specs.Repairs.{places_of}
-use Rattle.exam_views.specs.Views.{View, IsView, IsViewOf, Report, ShowsShortage, IsShortageOf, seats_from, seat_at, seats_of, seat_of, seat_in, member_of, hall_of, number_of, hall_with_desks, openings_of, papers_of, clash_of, appeals_of}
+use Rattle.exam_views.specs.Views.{View, IsView, IsViewOf, Report, ShowsShortage, IsShortageOf, seats_from, seat_at}
+use Rattle.exam_views.specs.Views.{seats_of, seat_of, seat_in, member_of, hall_of, number_of, hall_with_desks}
+use Rattle.exam_views.specs.Views.{openings_of, papers_of, clash_of, appeals_of}
 use Rattle.exam_views.specs.declared.view.Clash.{Clash}
 use Rattle.exam_views.specs.declared.view.Member.{Member}
 use Rattle.exam_views.specs.declared.view.Seat.{Seat}
@@ -42,7 +46,9 @@ on_err (Ok x) P Q f h = tt
 on_err (Err e) P Q f h = f e h
 
 -- the refusals of a problem whose lists are known, if the session has few members and open halls
-pub memory_alone : (r : Relations) (s : Code) → length (members r s) ≤ most_members → length (open_halls r s) ≤ most_halls → (e : Refusal) → (e ≡ NoMemory) ⊎ ((e ≡ TooMany) × IsTooLarge r s) → e ≡ NoMemory
+pub memory_alone : (r : Relations) (s : Code) → length (members r s) ≤ most_members
+    → length (open_halls r s) ≤ most_halls → (e : Refusal) → (e ≡ NoMemory) ⊎ ((e ≡ TooMany) × IsTooLarge r s)
+    → e ≡ NoMemory
 memory_alone r s few few_halls e (inl memory) = memory
 memory_alone r s few few_halls e (inr many) = absurd (elim many.1 [ inl more ↦ omega arith | inr more ↦ omega arith ])
 
@@ -56,15 +62,24 @@ module _ (r : Relations) (s : Code) where
   number_is : (c : ℕ) (m : Member) → member_of r s c ≡ Some m → m.number ≡ c
   number_is c m = with_row (row_at nat_cmp r.candidates c)
     where
-      with_end : (row : Candidate) (paper : Code) (o : Option ℕ) → option_map (λ (end : ℕ). let x : Member = record { number = c; name = row.name; paper = paper; finish = end } in x) o ≡ Some m → m.number ≡ c
+      with_end : (row : Candidate) (paper : Code) (o : Option ℕ)
+          → option_map (λ (end : ℕ). let x : Member =
+          record { number = c; name = row.name; paper = paper; finish = end } in x) o ≡ Some m → m.number ≡ c
       with_end row paper None e = cc
       with_end row paper (Some end) e = let x : Member = record { number = c; name = row.name; paper = paper; finish = end } in let same : x ≡ m = cc in sym (ap (λ (y : Member). y.number) same)
 
-      with_paper : (row : Candidate) (o : Option Code) → option_and_then (λ (paper : Code). option_map (λ (end : ℕ). let x : Member = record { number = c; name = row.name; paper = paper; finish = end } in x) (finish r s c)) o ≡ Some m → m.number ≡ c
+      with_paper : (row : Candidate) (o : Option Code)
+          → option_and_then (λ (paper : Code). option_map
+          (λ (end : ℕ). let x : Member = record { number = c; name = row.name; paper = paper; finish = end } in x)
+          (finish r s c)) o ≡ Some m → m.number ≡ c
       with_paper row None e = cc
       with_paper row (Some paper) e = with_end row paper (finish r s c) e
 
-      with_row : (o : Option Candidate) → option_and_then (λ (row : Candidate). option_and_then (λ (paper : Code). option_map (λ (end : ℕ). let x : Member = record { number = c; name = row.name; paper = paper; finish = end } in x) (finish r s c)) (sitting r s c)) o ≡ Some m → m.number ≡ c
+      with_row : (o : Option Candidate)
+          → option_and_then (λ (row : Candidate). option_and_then
+          (λ (paper : Code). option_map
+          (λ (end : ℕ). let x : Member = record { number = c; name = row.name; paper = paper; finish = end } in x)
+          (finish r s c)) (sitting r s c)) o ≡ Some m → m.number ≡ c
       with_row None e = cc
       with_row (Some row) e = with_paper row (sitting r s c) e
 
@@ -85,12 +100,19 @@ firsts f g [] = refl
 firsts f g (j ∷ js) = ap (λ t. f j ∷ t) (firsts f g js)
 
 -- the openings by hall have the open halls as their keys
-keys_are : (s : Code) (os : List ((Code × Code) × Opening)) → keys_of (map (λ (o : (Code × Code) × Opening). (o.0.1, o.1)) (filter (λ o. same_code o.0.0 s) os)) ≡ map (λ (o : (Code × Code) × Opening). o.0.1) (filter (λ o. same_code o.0.0 s) os)
+keys_are : (s : Code) (os : List ((Code × Code) × Opening))
+    → keys_of (map (λ (o : (Code × Code) × Opening). (o.0.1, o.1)) (filter (λ o. same_code o.0.0 s) os))
+    ≡ map (λ (o : (Code × Code) × Opening). o.0.1) (filter (λ o. same_code o.0.0 s) os)
 keys_are s [] = refl
 keys_are s (o ∷ os) = inner (same_code o.0.0 s) (keys_are s os)
   where
-    inner : (b : Bool) → keys_of (map (λ (o : (Code × Code) × Opening). (o.0.1, o.1)) (filter (λ o. same_code o.0.0 s) os)) ≡ map (λ (o : (Code × Code) × Opening). o.0.1) (filter (λ o. same_code o.0.0 s) os)
-        → keys_of (map (λ (o : (Code × Code) × Opening). (o.0.1, o.1)) (cond b (o ∷ filter (λ o. same_code o.0.0 s) os) (filter (λ o. same_code o.0.0 s) os))) ≡ map (λ (o : (Code × Code) × Opening). o.0.1) (cond b (o ∷ filter (λ o. same_code o.0.0 s) os) (filter (λ o. same_code o.0.0 s) os))
+    inner : (b : Bool) → keys_of
+        (map (λ (o : (Code × Code) × Opening). (o.0.1, o.1)) (filter (λ o. same_code o.0.0 s) os))
+        ≡ map (λ (o : (Code × Code) × Opening). o.0.1) (filter (λ o. same_code o.0.0 s) os)
+        → keys_of (map (λ (o : (Code × Code) × Opening). (o.0.1, o.1))
+        (cond b (o ∷ filter (λ o. same_code o.0.0 s) os) (filter (λ o. same_code o.0.0 s) os)))
+        ≡ map (λ (o : (Code × Code) × Opening). o.0.1)
+        (cond b (o ∷ filter (λ o. same_code o.0.0 s) os) (filter (λ o. same_code o.0.0 s) os))
     inner true rest = ap (λ t. o.0.1 ∷ t) rest
     inner false rest = rest
 
@@ -125,12 +147,20 @@ module _ (view : View) (is : IsView view) where
       )
 
   pub desks_long : (numbers : List (Option ℕ)) → numbers ≡ desk_numbers view.problem view.plan → length numbers ≡ length view.members
-  desks_long numbers are = ap length are ∙ length-map (range_with_len 0 (length view.problem.fit)) (desk_number (seating_of view.problem) (ranks_before view.problem) (plan_at view.plan)) ∙ length-range_with_len 0 (length view.problem.fit) ∙ sym is.members
+  desks_long numbers are =
+      ap length are ∙ length-map (range_with_len 0 (length view.problem.fit))
+      (desk_number (seating_of view.problem) (ranks_before view.problem) (plan_at view.plan))
+      ∙ length-range_with_len 0 (length view.problem.fit) ∙ sym is.members
 
-  desk_at : (numbers : List (Option ℕ)) → numbers ≡ desk_numbers view.problem view.plan → (i : ℕ) (d : Option ℕ) → i < length view.members → get_or numbers i d ≡ desk_number (seating_of view.problem) (ranks_before view.problem) (plan_at view.plan) i
+  desk_at : (numbers : List (Option ℕ)) → numbers ≡ desk_numbers view.problem view.plan → (i : ℕ) (d : Option ℕ)
+      → i < length view.members
+      → get_or numbers i d ≡ desk_number (seating_of view.problem) (ranks_before view.problem) (plan_at view.plan) i
   desk_at numbers are i d below =
       let same : length view.members ≡ length view.problem.fit = is.members in
-      ap (λ (ns : List (Option ℕ)). get_or ns i d) are ∙ get_or-map-range_with_len (desk_number (seating_of view.problem) (ranks_before view.problem) (plan_at view.plan)) 0 (length view.problem.fit) i i d (omega arith) (omega arith)
+      ap (λ (ns : List (Option ℕ)). get_or ns i d) are
+      ∙ get_or-map-range_with_len
+      (desk_number (seating_of view.problem) (ranks_before view.problem) (plan_at view.plan)) 0
+      (length view.problem.fit) i i d (omega arith) (omega arith)
 
   pub one_more_seat : (i : ℕ) (m : Member) (ms : List Member) (numbers : List (Option ℕ)) (place desk : Option ℕ) (before after : List Seat) → ms ≡ view.members → i < length ms → m ≡ get_or ms i m
       → numbers ≡ desk_numbers view.problem view.plan → place ≡ get_or view.plan i place → desk ≡ get_or numbers i desk
@@ -147,7 +177,9 @@ module _ (view : View) (is : IsView view) where
       let seat : seat_in m (option_map (hall_of view) place) desk ≡ seat_at view i m =
       ap (λ (o : Option ℕ). seat_in m (option_map (hall_of view) o) desk) sits ∙ ap (λ (d : Option ℕ). seat_in m (option_map (hall_of view) (plan_at view.plan i)) d) at in
       push_step before after (seats_from view (i + 1) (drop (i + 1) view.members)) (seats_of view) (seat_at view i m) (pushed ∙ ap (λ (x : Seat). before ++ x ∷ []) seat)
-      (ap (λ (t : List Seat). before ++ t) (ap (λ (x : Member). seat_at view i x ∷ seats_from view (i + 1) (drop (i + 1) view.members)) (sym member) ∙ sym (at_drop_more (seats_from view i) view.members i m within)) ∙ so_far)
+      (ap (λ (t : List Seat). before ++ t)
+      (ap (λ (x : Member). seat_at view i x ∷ seats_from view (i + 1) (drop (i + 1) view.members)) (sym member)
+      ∙ sym (at_drop_more (seats_from view i) view.members i m within)) ∙ so_far)
 
 -- what a view is made of
 pub record IsMadeOf (r : Relations) (seats : Seats) (s : Code) (view : View) : Type 0 where
@@ -167,7 +199,8 @@ pub places_listed : (r : Relations) (seats : Seats) (s : Code) (numbers : List �
     → stored ≡ places_of seats s halls numbers → stored ≡ places_of seats s (open_halls r s) (members r s)
 places_listed r seats s numbers halls stored numbers_are halls_are is = is ∙ ap (λ (hs : List Code). places_of seats s hs numbers) halls_are ∙ ap (places_of seats s (open_halls r s)) numbers_are
 
-module _ (r : Relations) (seats : Seats) (s : Code) (up : ListsRise r s) (few : length (members r s) ≤ most_members) (best : IsBest (seating r s) (plan_of seats s)) (view : View) (made : IsMadeOf r seats s view) where
+module _ (r : Relations) (seats : Seats) (s : Code) (up : ListsRise r s) (few : length (members r s) ≤ most_members)
+    (best : IsBest (seating r s) (plan_of seats s)) (view : View) (made : IsMadeOf r seats s view) where
   plan_is : plan_at view.plan ≡ indexed_plan r s (plan_of seats s)
   plan_is = ap plan_at made.plan ∙ fun_ext (stored_is_indexed r s seats up)
 
@@ -188,8 +221,11 @@ module _ (r : Relations) (seats : Seats) (s : Code) (up : ListsRise r s) (few : 
   pub is_view : IsView view
   is_view = record {
     problem = subst IsProblem (sym made.problem) (is_problem r s up.numbers few);
-    members = sym (length-map view.members (λ (m : Member). m.number)) ∙ ap length member_numbers ∙ sym (length-map (members r s) (λ c. fitting_places r s c (open_halls r s))) ∙ sym (ap (λ (p : Problem). length p.fit) made.problem);
-    openings = sym (length-map view.openings (λ (o : Code × Opening). o.0)) ∙ ap length halls_are ∙ sym (length-map (open_halls r s) (desks r s)) ∙ sym (ap (λ (p : Problem). length p.desk_counts) made.problem);
+    members = sym (length-map view.members (λ (m : Member). m.number)) ∙ ap length member_numbers
+        ∙ sym (length-map (members r s) (λ c. fitting_places r s c (open_halls r s)))
+        ∙ sym (ap (λ (p : Problem). length p.fit) made.problem);
+    openings = sym (length-map view.openings (λ (o : Code × Opening). o.0)) ∙ ap length halls_are
+        ∙ sym (length-map (open_halls r s) (desks r s)) ∙ sym (ap (λ (p : Problem). length p.desk_counts) made.problem);
     plan = subst (λ (p : Problem). IsPlan p view.plan) (sym made.problem) (subst (IsPlan (problem_of r s)) (sym made.plan) (stored_is_plan r s seats));
     best = subst (λ (p : Problem). IsBest (seating_of p) (plan_at view.plan)) (sym made.problem) best_indexed;
   }
@@ -206,7 +242,8 @@ module _ (r : Relations) (seats : Seats) (s : Code) (up : ListsRise r s) (few : 
       → desk_number (seating_of view.problem) (ranks_before view.problem) (plan_at view.plan) i ≡ desk_number (seating r s) (comes_before r s) (plan_of seats s) (number_at r s i)
   desk_is i below =
       ap (λ (p : Problem). desk_number (seating_of p) (ranks_before p) (plan_at view.plan) i) made.problem
-      ∙ sym (desk_number-named (naming r s) (renames r s up) (comes_before r s) (ranks_before (problem_of r s)) (order_same r s) (plan_at view.plan) best_indexed.lawful (number_at r s i) i (index_known r s up i below))
+      ∙ sym (desk_number-named (naming r s) (renames r s up) (comes_before r s) (ranks_before (problem_of r s))
+      (order_same r s) (plan_at view.plan) best_indexed.lawful (number_at r s i) i (index_known r s up i below))
       ∙ ap (λ (q : ℕ → Option Code). desk_number (seating r s) (comes_before r s) q (number_at r s i)) named_is
 
   abbrev office : State
@@ -219,7 +256,8 @@ module _ (r : Relations) (seats : Seats) (s : Code) (up : ListsRise r s) (few : 
       ∙ sym (ap (option_map (λ (x : Member). seat_in x (plan_of seats s n) (desk_number (seating r s) (comes_before r s) (plan_of seats s) n))) is)
 
   -- of the members from the i-th on
-  seats_are : (i : ℕ) (ms : List Member) (ns : List ℕ) → map (λ (m : Member). Some m) ms ≡ map (member_of r s) ns → ((k : ℕ) → k < length ns → (get_or ns k 0 ≡ number_at r s (i + k)) × (i + k < length (members r s)))
+  seats_are : (i : ℕ) (ms : List Member) (ns : List ℕ) → map (λ (m : Member). Some m) ms ≡ map (member_of r s) ns
+      → ((k : ℕ) → k < length ns → (get_or ns k 0 ≡ number_at r s (i + k)) × (i + k < length (members r s)))
       → map (λ (x : Seat). Some x) (seats_from view i ms) ≡ map (seat_of office s) ns
   seats_are i [] [] e places = refl
   seats_are i [] (n ∷ ns) e places = cc
@@ -285,7 +323,10 @@ module _ (r : Relations) (seats : Seats) (s : Code) (up : ListsRise r s) (few : 
 
     is_shortage : IsShortageOf office s report
     is_shortage = record {
-      certificate = subst (λ (ns : List ℕ). IsCertificate (seating r s) (plan_of seats s) ns (keys_of report.halls)) (sym candidates_are) (subst (IsCertificate (seating r s) (plan_of seats s) (map (number_at r s) shown.candidates)) (sym hall_codes) certified);
+      certificate = subst (λ (ns : List ℕ). IsCertificate (seating r s) (plan_of seats s) ns (keys_of report.halls))
+          (sym candidates_are)
+          (subst (IsCertificate (seating r s) (plan_of seats s) (map (number_at r s) shown.candidates))
+          (sym hall_codes) certified);
       contested = λ c. (contested_from c, contested_to c);
       desks = subst (λ (hs : List (Code × ℕ)). All (λ (hall : Code × ℕ). hall.1 ≡ desks r s hall.0) hs) (sym halls_named)
           (All-map (λ (hall : Code × ℕ). hall.1 ≡ desks r s hall.0) (λ (j : ℕ). (hall_at r s j, desks r s (hall_at r s j))) shown.halls (λ k d below. refl));

@@ -19,7 +19,9 @@ returns-clause-ok c =
     let key : ℕ × Code = (d.number, d.reference) in
     let at : appeal_at r d.number d.reference ≡ Some a = sym c.in-Some.ensures.value in
     let open_yet : is_open a.status ≡ true = open_first (is_open a.status) _ _ (sym c.in_ok-check_appeal.ensures) in
-    let unmarked : has_row appeal_cmp r.standing key ≡ false = unborne r.appeals r.standing key c.requires.marks (ap (λ (o : Option Appeal). option_map_or may_bear o false) at ∙ open_unborne a open_yet) in
+    let unmarked : has_row appeal_cmp r.standing key ≡ false =
+    unborne r.appeals r.standing key c.requires.marks
+    (ap (λ (o : Option Appeal). option_map_or may_bear o false) at ∙ open_unborne a open_yet) in
     let row : c.in_ok-decided.decided ≡ record a { status = decided d.outcome d.answer } =
     c.in_ok-decided.ensures.ok ∙ ap (λ (status : Status). record a { status = status }) c.in_ok-status_of.ensures.ok in
     let rows : undoing.with_decided c.in_ok-earlier.earlier key c.in_ok-decided.decided c.bears_mark.result r ≡ with_outcome r d a =

@@ -24,7 +24,9 @@ loop-key-preserved g c =
     record {
       so_far =
           ap (λ (held : List (g.row.K.Denot × g.row.V.Denot)). put_back cmp held rest) c.set.ensures.set
-          ∙ subst (λ (es : List (g.row.K.Denot × Option g.row.V.Denot)). put_back cmp rows es ≡ put_back cmp c.args.rows.now.entries c.args.kept.entries) c.in-Some.ensures.steps c.loop-key.invariant.so_far;
+          ∙ subst (λ (es : List (g.row.K.Denot × Option g.row.V.Denot)). put_back cmp rows es
+          ≡ put_back cmp c.args.rows.now.entries c.args.kept.entries) c.in-Some.ensures.steps
+          c.loop-key.invariant.so_far;
       there =
           subst (HasRows cmp rest) (sym c.set.ensures.set)
           (there_later cmp g.met.K.Ord.total c.requires.exact turn rest rows up c.loop-key.invariant.rises

@@ -11,7 +11,9 @@ returns-then-contains_key-clause-back g c = λ exact first back.
     let rows = c.args.rows.now.entries in
     let known = sym c.contains_key.ensures ∙ c.if-contains_key.true in
     either c.put.result c.put.ensures.ok c.put.ensures.err
-    (λ put. subst (λ (new : List (g.row.K.Denot × g.row.V.Denot)). GoBack cmp was new first) (sym put) (changed_again cmp g.met.K.Ord.total exact was rows first c.args.key c.args.row c.len-2.ensures.ordered c.len.ensures.ordered back known))
+    (λ put. subst (λ (new : List (g.row.K.Denot × g.row.V.Denot)). GoBack cmp was new first) (sym put)
+    (changed_again cmp g.met.K.Ord.total exact was rows first c.args.key c.args.row c.len-2.ensures.ordered
+    c.len.ensures.ordered back known))
     (λ same. subst (λ (new : List (g.row.K.Denot × g.row.V.Denot)). GoBack cmp was new first) (sym same) back)
 
 pub returns-in-Ok-clause-back : goal.returns-in-Ok-clause-back
@@ -31,6 +33,9 @@ returns-clause-back g c = λ exact first back.
     let rows = c.args.rows.now.entries in
     let again : c.set.new.rows.entries ≡ rows =
     c.set.ensures.set
-    ∙ ap₂ (λ (r : List (g.row.K.Denot × g.row.V.Denot)) (o : Option g.row.V.Denot). set_row cmp r c.args.key o) c.in_ok-old.ensures.entries (ap (λ (p : g.row.K.Denot × Option g.row.V.Denot). p.1) c.in-Err.ensures.value_returned ∙ c.in_ok-old.ensures.old)
+    ∙ ap₂ (λ (r : List (g.row.K.Denot × g.row.V.Denot)) (o : Option g.row.V.Denot). set_row cmp r c.args.key o)
+    c.in_ok-old.ensures.entries
+    (ap (λ (p : g.row.K.Denot × Option g.row.V.Denot). p.1) c.in-Err.ensures.value_returned
+    ∙ c.in_ok-old.ensures.old)
     ∙ set_again cmp g.met.K.Ord.total exact rows c.args.key c.args.row c.len.ensures.ordered in
     subst₂ (λ (k : List (g.row.K.Denot × Option g.row.V.Denot)) (r : List (g.row.K.Denot × g.row.V.Denot)). GoBack cmp k r first) (sym c.in-Err.ensures.err) (sym again) back

@@ -7,4 +7,7 @@ use Rattle.exam_changes.proofs.lodging.has_clash.Given as goal
 abbrev pub invariant-loop-key : goal.invariant-loop-key
 invariant-loop-key l =
     (goal.iterator-loop-key).can_next l.key-iterator × (goal.iterator-loop-key).is_finite l.key-iterator
-    × (not (nat_eq (length (filter (is_clash l.sat) (live_papers_in (relations_of l.facts) (leading (is_row_of l.number) l.key-iterator) l.session l.number))) 0) ≡ not (nat_eq (length (clash_papers (relations_of l.facts) l.session l.number)) 0))
+    × (not (nat_eq (length
+    (filter (is_clash l.sat)
+    (live_papers_in (relations_of l.facts) (leading (is_row_of l.number) l.key-iterator) l.session l.number))) 0)
+    ≡ not (nat_eq (length (clash_papers (relations_of l.facts) l.session l.number)) 0))

@@ -15,13 +15,21 @@ use Rattle.exam_check.proofs.checking.first_bad.Goals as goal
 pub returns-in_err-version-clause-looks : goal.returns-in_err-version-clause-looks
 returns-in_err-version-clause-looks g c =
     let is : c.from_residual.result ≡ Err c.in_err-version.field-0.0 = search rules in
-    rw is (version_looks g.S.Store c.args.conn.now c.version_of.new.conn c.in_err-version.field-0.0 c.version_of.ensures.early c.version_of.ensures.survives c.in_err-version.ensures.left c.in_err-version.ensures.unchanged
+    rw is (version_looks g.S.Store c.args.conn.now c.version_of.new.conn c.in_err-version.field-0.0
+    c.version_of.ensures.early c.version_of.ensures.survives c.in_err-version.ensures.left
+    c.in_err-version.ensures.unchanged
     c.in_err-version.ensures.bad c.in_err-version.ensures.told)
 
 pub returns-then-version-clause-looks : goal.returns-then-version-clause-looks
 returns-then-version-clause-looks g c =
     let v = c.in_ok-version.version.number in
-    looks_old g.S.Store c.args.conn.now c.version_of.new.conn c.version_of.ensures.early c.version_of.ensures.survives c.in_ok-version.ensures.left (λ clean all was. (v, older v c.in_ok-version.ensures.known.0 (search rules), (c.in_ok-version.ensures.ok clean all was).0))
+    looks_old g.S.Store c.args.conn.now c.version_of.new.conn c.version_of.ensures.early c.version_of.ensures.survives
+    c.in_ok-version.ensures.left
+    (λ clean all was. (
+      v,
+      older v c.in_ok-version.ensures.known.0 (search rules),
+      (c.in_ok-version.ensures.ok clean all was).0,
+    ))
 
 pub returns-in_err-read-clause-looks : goal.returns-in_err-read-clause-looks
 returns-in_err-read-clause-looks g c =
@@ -46,7 +54,9 @@ pub returns-clause-understood : goal.returns-clause-understood
 returns-clause-understood g c = λ clean.
     let clean_1 = c.in_ok-read.ensures.looks.early clean in
     let old = state g.S.Store c.args.conn.now in
-    in_load_order old.now (c.in_ok-version.ensures.understood clean_1) (all_before old (state g.S.Store c.version_of.new.conn) table_texts (c.in_ok-version.ensures.left clean_1) (c.in_ok-read.ensures.understood clean))
+    in_load_order old.now (c.in_ok-version.ensures.understood clean_1)
+    (all_before old (state g.S.Store c.version_of.new.conn) table_texts (c.in_ok-version.ensures.left clean_1)
+    (c.in_ok-read.ensures.understood clean))
 
 pub returns-clause-found : goal.returns-clause-found
 returns-clause-found g c = λ clean all was.
@@ -58,6 +68,8 @@ returns-clause-found g c = λ clean all was.
     let contains = newest_tables mid.now all known (still_made old mid all it.1 was) in (
       (of_newest old.now all (subst (λ (db : Database). Contains db all) it.1.0.now_is contains), subst (λ v. HasVersion v all) newest it.0),
       office_in c.in_ok-read.read,
-      first_in all (office_in c.in_ok-read.read) c.in_ok-bad.bad c.in_ok-read.read.unread c.first_of.result 0 tables (refl, (refl, (refl, (refl, (refl, (refl, (refl, (refl, (refl, (refl, tt)))))))))) (c.in_ok-read.ensures.read clean all contains)
+      first_in all (office_in c.in_ok-read.read) c.in_ok-bad.bad c.in_ok-read.read.unread c.first_of.result 0 tables
+          (refl, (refl, (refl, (refl, (refl, (refl, (refl, (refl, (refl, (refl, tt))))))))))
+          (c.in_ok-read.ensures.read clean all contains)
           c.in_ok-bad.ensures.ok c.first_of.ensures,
     )

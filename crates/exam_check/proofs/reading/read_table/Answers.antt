@@ -10,7 +10,8 @@ pub returns-in_err-rows-clause-looks : goal.returns-in_err-rows-clause-looks
 returns-in_err-rows-clause-looks g c =
     let is : c.from_residual.result ≡ Err c.in_err-rows.field-0.0 = search rules in
     let ours = g.met.T.StoredRows.ours in
-    rw is (query_looks g.S.Store c.args.conn.now c.shown.new.conn g.T.StoredRows.form.load g.T.StoredRows.form.Holds (Err c.in_err-rows.field-0.0) ours.loads ours.newest c.shown.ensures.early c.shown.ensures.survives
+    rw is (query_looks g.S.Store c.args.conn.now c.shown.new.conn g.T.StoredRows.form.load g.T.StoredRows.form.Holds
+    (Err c.in_err-rows.field-0.0) ours.loads ours.newest c.shown.ensures.early c.shown.ensures.survives
     c.in_err-rows.ensures.left c.in_err-rows.ensures.failed c.in_err-rows.ensures.told)
 
 pub returns-in-Ok-clause-looks : goal.returns-in-Ok-clause-looks
@@ -20,7 +21,9 @@ pub returns-in-Ok-clause-read : goal.returns-in-Ok-clause-read
 returns-in-Ok-clause-read g c = λ clean. (
   c.in_ok-rows.ensures.understood clean,
   λ all was.
-      rows_held c.in_ok-rows.rows.items (all g.T.StoredRows.form.tree) c.in-Ok.rows.entries (c.in_ok-rows.ensures.rows clean all (g.met.T.StoredRows.ours.newest (state g.S.Store c.args.conn.now).now all was)).0
+      rows_held c.in_ok-rows.rows.items (all g.T.StoredRows.form.tree) c.in-Ok.rows.entries
+      (c.in_ok-rows.ensures.rows clean all
+      (g.met.T.StoredRows.ours.newest (state g.S.Store c.args.conn.now).now all was)).0
       (subst (λ rows. AreRowsOf g.T.Key.Ord.cmp g.T.StoredRows.form.IsRow g.T.StoredRows.form.row rows c.in-Ok.rows.entries) c.as_slice.ensures.value c.in-Ok.ensures.rows),
 )
 
@@ -30,5 +33,7 @@ returns-in-Err-BadStore-clause-read g c = λ clean. (
   λ all was entries holds.
       of_bad c.in-Err-BadStore.field-0 c.in-Err-BadStore.field-0-is c.in-Err-BadStore.ensures.bad entries
       (subst (λ rows. AreRowsOf g.T.Key.Ord.cmp g.T.StoredRows.form.IsRow g.T.StoredRows.form.row rows entries) (sym c.as_slice.ensures.value)
-      (rows_shown c.in_ok-rows.rows.items (all g.T.StoredRows.form.tree) entries (c.in_ok-rows.ensures.rows clean all (g.met.T.StoredRows.ours.newest (state g.S.Store c.args.conn.now).now all was)).0 holds)),
+      (rows_shown c.in_ok-rows.rows.items (all g.T.StoredRows.form.tree) entries
+      (c.in_ok-rows.ensures.rows clean all
+      (g.met.T.StoredRows.ours.newest (state g.S.Store c.args.conn.now).now all was)).0 holds)),
 )

@@ -17,16 +17,21 @@ returns g c =
     ∙ ap (λ (session : Session). attendance_text view.code session c.args.paper.now c.deref.result.now) c.session.ensures
     ∙ ap (attendance_text view.code view.session c.args.paper.now) seats in
     written g.W.Write.contents c.send.result c.args.writer.now c.send.new.writer c.as_slice.result.now _
-    (ap (sheet_if (λ (found : Unit {0}). attendance_text view.code view.session c.args.paper.now (seats_of view))) (sym c.in_ok-check_paper.ensures) ∙ ap Ok (sym text)) c.send.ensures.ok c.send.ensures.err c.send.ensures.fault
+    (ap (sheet_if (λ (found : Unit {0}). attendance_text view.code view.session c.args.paper.now (seats_of view)))
+    (sym c.in_ok-check_paper.ensures) ∙ ap Ok (sym text)) c.send.ensures.ok c.send.ensures.err c.send.ensures.fault
 
 pub returns-in_err-seats : goal.returns-in_err-seats
 returns-in_err-seats g c =
     let view = c.args.view.now in
-    unsent g.W.Write.contents c.args.writer.now c.from_residual-in_err-seats.result c.in_err-seats.field-0.0 (attendance_text view.code view.session c.args.paper.now (seats_of view)) _ c.from_residual-in_err-seats.ensures.1 c.in_err-seats.ensures.memory
+    unsent g.W.Write.contents c.args.writer.now c.from_residual-in_err-seats.result c.in_err-seats.field-0.0
+    (attendance_text view.code view.session c.args.paper.now (seats_of view)) _
+    c.from_residual-in_err-seats.ensures.1 c.in_err-seats.ensures.memory
     (ap (sheet_if (λ (found : Unit {0}). attendance_text view.code view.session c.args.paper.now (seats_of view))) (sym c.in_ok-check_paper.ensures))
 
 pub returns-in_err-text : goal.returns-in_err-text
 returns-in_err-text g c =
     let view = c.args.view.now in
-    unsent g.W.Write.contents c.args.writer.now c.from_residual-in_err-text.result c.in_err-text.field-0.0 (attendance_text view.code view.session c.args.paper.now (seats_of view)) _ c.from_residual-in_err-text.ensures.1 c.in_err-text.ensures.memory
+    unsent g.W.Write.contents c.args.writer.now c.from_residual-in_err-text.result c.in_err-text.field-0.0
+    (attendance_text view.code view.session c.args.paper.now (seats_of view)) _
+    c.from_residual-in_err-text.ensures.1 c.in_err-text.ensures.memory
     (ap (sheet_if (λ (found : Unit {0}). attendance_text view.code view.session c.args.paper.now (seats_of view))) (sym c.in_ok-check_paper.ensures))

@@ -21,4 +21,5 @@ returns-in_err-seats g c =
 
 pub returns-in_err-text : goal.returns-in_err-text
 returns-in_err-text g c =
-    unsent g.W.Write.contents c.args.writer.now c.from_residual-in_err-text.result c.in_err-text.field-0.0 (seat_export c.args.view.now) _ c.from_residual-in_err-text.ensures.1 c.in_err-text.ensures.memory refl
+    unsent g.W.Write.contents c.args.writer.now c.from_residual-in_err-text.result c.in_err-text.field-0.0
+    (seat_export c.args.view.now) _ c.from_residual-in_err-text.ensures.1 c.in_err-text.ensures.memory refl

@@ -12,7 +12,15 @@ one_more f xs i x below at = grind (arith, common_steps)
 pub loop-seat-init : goal.loop-seat-init
 loop-seat-init c =
     let made = c.from_writer-records in
-    let none : Holds made.result [] = record { setup = made.ensures.cfg; text = rw (made.ensures.wtr, made.ensures.empty, c.new.ensures.items) refl; fields = made.ensures.fields; wrote = made.ensures.wrote } in
+    let none : Holds made.result [] =
+    record {
+      setup = made.ensures.cfg;
+      text =
+          rw (made.ensures.wtr, made.ensures.empty, c.new.ensures.items) refl;
+      fields = made.ensures.fields;
+      wrote =
+          made.ensures.wrote;
+    } in
     let header = joined (codes "session") (codes "number") (codes "paper") (codes "hall") (codes "desk") refl refl refl refl refl in
     rw header at (c.in_ok-write_record.ensures.ok [] none)
 

@@ -16,10 +16,20 @@ returns g c =
 
 pub returns-in_err-shortage : goal.returns-in_err-shortage
 returns-in_err-shortage g c =
-    let some = c.show_shortage.ensures in
-    (some.0, some.1, unsent g.W.Write.contents c.args.writer.now c.from_residual.result c.in_err-shortage.field-0.0 (shortage_text c.args.view.now.code some.0) _ c.from_residual.ensures.1 c.in_err-shortage.ensures.memory refl)
+    let some = c.show_shortage.ensures in (
+      some.0,
+      some.1,
+      unsent g.W.Write.contents c.args.writer.now c.from_residual.result c.in_err-shortage.field-0.0
+          (shortage_text c.args.view.now.code some.0) _ c.from_residual.ensures.1 c.in_err-shortage.ensures.memory refl,
+    )
 
 pub returns-in_err-text : goal.returns-in_err-text
 returns-in_err-text g c =
-    let some = c.show_shortage.ensures in
-    (some.0, some.1, unsent g.W.Write.contents c.args.writer.now c.from_residual-in_err-text.result c.in_err-text.field-0.0 (shortage_text c.args.view.now.code some.0) _ c.from_residual-in_err-text.ensures.1 c.in_err-text.ensures.memory refl)
+    let some = c.show_shortage.ensures in (
+      some.0,
+      some.1,
+      unsent g.W.Write.contents c.args.writer.now c.from_residual-in_err-text.result
+          c.in_err-text.field-0.0
+          (shortage_text c.args.view.now.code some.0) _ c.from_residual-in_err-text.ensures.1
+          c.in_err-text.ensures.memory refl,
+    )

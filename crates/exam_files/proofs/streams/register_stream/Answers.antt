@@ -15,7 +15,9 @@ pub loop-place-init : goal.loop-place-init
 loop-place-init g c = (
   g.met.A.AppealSource.stays_itself c.args.source.now,
   λ honest. honest,
-  λ honest. none_streamed c.args.session.now c.args.count (g.A.AppealSource.coming c.args.source.now) (g.W.Write.contents c.args.writer.now) (g.W.Write.contents c.send_heading.new.writer) c.in_ok-send_heading.ensures.sent,
+  λ honest. none_streamed c.args.session.now c.args.count (g.A.AppealSource.coming c.args.source.now)
+      (g.W.Write.contents c.args.writer.now)
+      (g.W.Write.contents c.send_heading.new.writer) c.in_ok-send_heading.ensures.sent,
 )
 
 pub returns-in_err-send_next-clause-sheet : goal.returns-in_err-send_next-clause-sheet
@@ -24,7 +26,8 @@ returns-in_err-send_next-clause-sheet g c =
     λ honest many.
     let all = g.A.AppealSource.coming c.args.source.now in
     fault_streams g.W.Write.contents c.from_residual-in_err-send_next.result c.in_err-send_next.field-0.0 c.args.writer.now c.send_next.new.writer (register_text c.args.session.now all) is
-    (cut_off c.args.session.now c.args.count all (g.W.Write.contents c.args.writer.now) c.loop-place._place (g.A.AppealSource.coming c.loop-place.source) (g.A.AppealSource.coming c.send_next.new.source)
+    (cut_off c.args.session.now c.args.count all (g.W.Write.contents c.args.writer.now) c.loop-place._place
+    (g.A.AppealSource.coming c.loop-place.source) (g.A.AppealSource.coming c.send_next.new.source)
     (g.W.Write.contents c.loop-place.writer) (g.W.Write.contents c.send_next.new.writer) many
     (c.loop-place.invariant.2 (c.in_err-send_next.ensures.honest honest)) (c.in_err-send_next.ensures.err honest))
 

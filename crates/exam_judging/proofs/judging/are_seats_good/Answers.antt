@@ -16,5 +16,8 @@ repaired-requires-clause-few_halls c = few_halls_within (relations_of c.args.fac
 pub returns-clause-ok : goal.returns-clause-ok
 returns-clause-ok c = (
   λ e s. subst (IsBest (seating (relations_of c.args.facts.now) s)) (fun_ext (c.same_seats.ensures.0 e s)) (c.in_ok-repaired.ensures.ok s).best,
-  λ best. c.same_seats.ensures.1 (λ s. best_stays (relations_of c.args.facts.now) s (c.requires.lists.rising s) None (plan_of c.args.seats.now.entries s) (plan_of c.in_ok-repaired.repaired.entries s) (best s) (c.in_ok-repaired.ensures.ok s).repair),
+  λ best. c.same_seats.ensures.1
+      (λ s. best_stays (relations_of c.args.facts.now) s (c.requires.lists.rising s) None
+      (plan_of c.args.seats.now.entries s) (plan_of c.in_ok-repaired.repaired.entries s) (best s)
+      (c.in_ok-repaired.ensures.ok s).repair),
 )

@@ -13,4 +13,6 @@ returns-in-Some-clause-ok c =
 pub returns-in-None-clause-ok : goal.returns-in-None-clause-ok
 returns-in-None-clause-ok c =
     let office : State = record { relations = relations_of c.args.facts.now; seats = c.args.seats.now.entries } in
-    goes_on_ok office of_imports others c.first_bad_of_others.result (subst (IsFirstBadOf office of_imports) c.in-None.is (c.first_bad_of_imports.ensures.first c.args.seats.now.entries)) c.first_bad_of_others.ensures.ok
+    goes_on_ok office of_imports others c.first_bad_of_others.result
+    (subst (IsFirstBadOf office of_imports) c.in-None.is
+    (c.first_bad_of_imports.ensures.first c.args.seats.now.entries)) c.first_bad_of_others.ensures.ok

@@ -20,6 +20,9 @@ returns-clause-ok c = on_ok c.write_plan.result _ _ c.write_plan.ensures.ok (λ 
     (c.deref-3.ensures.value ∙ c.in_ok-listed.ensures.numbers) (c.deref-2.ensures.value ∙ c.in_ok-listed.ensures.halls) c.in_ok-listed.ensures.ok
     (c.in_ok-plan.ensures.ok ∙ ap (places_of c.args.seats.now.entries c.args.session.now c.deref-2.result.now) (c.deref.ensures.value ∙ sym c.deref-3.ensures.value))
     c.place_of_number-first.result c.deref-6.result.now c.write_plan.new.seats.entries c.place_of_number-first.ensures
-    (subst (λ m. IsRepair (seating_of c.in_ok-listed.listed.problem) c.place_of_number-first.result (plan_at c.in_ok-plan.plan.items) (plan_at m)) (sym c.deref-6.ensures.value) c.in_ok-plan-2.ensures.repair)
+    (subst (λ m. IsRepair (seating_of c.in_ok-listed.listed.problem) c.place_of_number-first.result
+    (plan_at c.in_ok-plan.plan.items) (plan_at m)) (sym c.deref-6.ensures.value) c.in_ok-plan-2.ensures.repair)
     (subst (λ m. IsBest (seating_of c.in_ok-listed.listed.problem) (plan_at m)) (sym c.deref-6.ensures.value) c.in_ok-plan-2.ensures.best)
-    (written (relations_of c.args.facts.now) (c.requires.lists.rising c.args.session.now) (c.deref-4.ensures.value ∙ c.in_ok-listed.ensures.numbers) (c.deref-5.ensures.value ∙ c.in_ok-listed.ensures.halls)))
+    (written (relations_of c.args.facts.now) (c.requires.lists.rising c.args.session.now)
+    (c.deref-4.ensures.value ∙ c.in_ok-listed.ensures.numbers)
+    (c.deref-5.ensures.value ∙ c.in_ok-listed.ensures.halls)))

@@ -8,19 +8,24 @@ use Rattle.exam_judging.proofs.repair.repaired.Goals as goal
 
 pub repair_session-requires-clause-few : goal.repair_session-requires-clause-few
 repair_session-requires-clause-few c =
-    let turn = btree_map_turn deref_pair c.loop-session.yielded c.into_iter-session-iterator.result c.loop-session.session-iterator c.next.new.self c.next.result (c.in-Some.session, c.in-Some.field-0-1) c.loop-session.yielded_by c.in-Some.is c.next.ensures.steps
+    let turn = btree_map_turn deref_pair c.loop-session.yielded c.into_iter-session-iterator.result
+    c.loop-session.session-iterator c.next.new.self c.next.result
+    (c.in-Some.session, c.in-Some.field-0-1) c.loop-session.yielded_by c.in-Some.is c.next.ensures.steps
     nat_list_cmp_total c.args.facts.now.sessions c.into_iter-session-iterator.ensures.into_iter_gives.0 c.into_iter-session-iterator.ensures.into_iter_gives.5 in
     c.requires.few c.in-Some.session.now (ap is_some turn.1)
 
 pub repair_session-requires-clause-few_halls : goal.repair_session-requires-clause-few_halls
 repair_session-requires-clause-few_halls c =
-    let turn = btree_map_turn deref_pair c.loop-session.yielded c.into_iter-session-iterator.result c.loop-session.session-iterator c.next.new.self c.next.result (c.in-Some.session, c.in-Some.field-0-1) c.loop-session.yielded_by c.in-Some.is c.next.ensures.steps
+    let turn = btree_map_turn deref_pair c.loop-session.yielded c.into_iter-session-iterator.result
+    c.loop-session.session-iterator c.next.new.self c.next.result
+    (c.in-Some.session, c.in-Some.field-0-1) c.loop-session.yielded_by c.in-Some.is c.next.ensures.steps
     nat_list_cmp_total c.args.facts.now.sessions c.into_iter-session-iterator.ensures.into_iter_gives.0 c.into_iter-session-iterator.ensures.into_iter_gives.5 in
     c.requires.few_halls c.in-Some.session.now (ap is_some turn.1)
 
 pub repair_session-requires-clause-fresh : goal.repair_session-requires-clause-fresh
 repair_session-requires-clause-fresh c =
-    next_waits (relations_of c.args.facts.now) c.args.first c.args.seats.now.entries c.loop-session.repaired.entries c.loop-session.repaired.entries c.in-Some.session.now c.in-Some.field-0-1.now c.next.new.self
+    next_waits (relations_of c.args.facts.now) c.args.first c.args.seats.now.entries c.loop-session.repaired.entries
+    c.loop-session.repaired.entries c.in-Some.session.now c.in-Some.field-0-1.now c.next.new.self
     (subst (IsRepairedBut (relations_of c.args.facts.now) c.args.first c.args.seats.now.entries c.loop-session.repaired.entries) c.in-Some.ensures.steps c.loop-session.invariant)
 
 pub loop-session-init : goal.loop-session-init
@@ -31,6 +36,7 @@ loop-session-init c =
 
 pub loop-session-preserved : goal.loop-session-preserved
 loop-session-preserved c =
-    one_more (relations_of c.args.facts.now) c.args.first c.args.seats.now.entries c.loop-session.repaired.entries c.repair_session.new.repaired.entries c.in-Some.session.now c.in-Some.field-0-1.now c.next.new.self
+    one_more (relations_of c.args.facts.now) c.args.first c.args.seats.now.entries c.loop-session.repaired.entries
+    c.repair_session.new.repaired.entries c.in-Some.session.now c.in-Some.field-0-1.now c.next.new.self
     (subst (IsRepairedBut (relations_of c.args.facts.now) c.args.first c.args.seats.now.entries c.loop-session.repaired.entries) c.in-Some.ensures.steps c.loop-session.invariant)
     c.in_ok-repair_session.ensures.ok c.in_ok-repair_session.ensures.others

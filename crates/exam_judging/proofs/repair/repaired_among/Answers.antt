@@ -8,13 +8,17 @@ use Rattle.exam_judging.proofs.repair.repaired_among.Goals as goal
 
 pub repair_session-requires-clause-few : goal.repair_session-requires-clause-few
 repair_session-requires-clause-few c =
-    let turn = btree_map_turn deref_pair c.loop-session.yielded c.into_iter-session-iterator.result c.loop-session.session-iterator c.next.new.self c.next.result (c.in-Some.session, c.in-Some.field-0-1) c.loop-session.yielded_by c.in-Some.is c.next.ensures.steps
+    let turn = btree_map_turn deref_pair c.loop-session.yielded c.into_iter-session-iterator.result
+    c.loop-session.session-iterator c.next.new.self c.next.result
+    (c.in-Some.session, c.in-Some.field-0-1) c.loop-session.yielded_by c.in-Some.is c.next.ensures.steps
     nat_list_cmp_total c.args.facts.now.sessions c.into_iter-session-iterator.ensures.into_iter_gives.0 c.into_iter-session-iterator.ensures.into_iter_gives.5 in
     c.requires.few c.in-Some.session.now (ap is_some turn.1)
 
 pub repair_session-requires-clause-few_halls : goal.repair_session-requires-clause-few_halls
 repair_session-requires-clause-few_halls c =
-    let turn = btree_map_turn deref_pair c.loop-session.yielded c.into_iter-session-iterator.result c.loop-session.session-iterator c.next.new.self c.next.result (c.in-Some.session, c.in-Some.field-0-1) c.loop-session.yielded_by c.in-Some.is c.next.ensures.steps
+    let turn = btree_map_turn deref_pair c.loop-session.yielded c.into_iter-session-iterator.result
+    c.loop-session.session-iterator c.next.new.self c.next.result
+    (c.in-Some.session, c.in-Some.field-0-1) c.loop-session.yielded_by c.in-Some.is c.next.ensures.steps
     nat_list_cmp_total c.args.facts.now.sessions c.into_iter-session-iterator.ensures.into_iter_gives.0 c.into_iter-session-iterator.ensures.into_iter_gives.5 in
     c.requires.few_halls c.in-Some.session.now (ap is_some turn.1)
 

@@ -27,7 +27,8 @@ loop-index-preserved c =
           (λ e none. seat_taken (same_code s s) (nat_eq n d) _ old new (step s d) (same_code_itself s) (ap (λ k. nat_eq k d) name ∙ e) none
           ∙ ap (λ (hs : List Code). option_map (λ h. get_or hs h []) (get_or c.args.plan.now i None)) halls ∙ ap (option_map (hall_at r s)) (sym (plan_at-get_or c.args.plan.now i)))
           (λ e. seat_of_other (same_code s s) (nat_eq n d) _ old new (step s d) (same_code_itself s) (ap (λ k. nat_eq k d) name ∙ e));
-      others = λ t d apart. seat_other (same_code s t) (nat_eq n d) _ (plan_of c.loop-index.seats.entries t d) (plan_of c.add_place.new.seats.entries t d) (step t d) apart ∙ c.loop-index.invariant.others t d apart;
+      others = λ t d apart. seat_other (same_code s t) (nat_eq n d) _ (plan_of c.loop-index.seats.entries t d)
+          (plan_of c.add_place.new.seats.entries t d) (step t d) apart ∙ c.loop-index.invariant.others t d apart;
     }
 
 pub returns-clause-ok : goal.returns-clause-ok

@@ -23,8 +23,12 @@ returns-then-not-branch-clause-ok g c = (
       let i = c.loop-key.key-index in
       let y = c.key-item.result in
       let there : contains g.K.Ord.cmp c.loop-key.seen y ≡ true = not-false (contains g.K.Ord.cmp c.loop-key.seen y) (sym c.in_ok-insert.ensures.added ∙ c.if-not-branch.true) in
-      let split : take i keys ++ y ∷ drop (suc i) keys ≡ keys = ap (λ z. take i keys ++ z ∷ drop (suc i) keys) c.key-item.is ∙ ap (λ t. take i keys ++ t) (sym (drop-cons keys i y c.loop-key-test.true)) ∙ take-append-drop i keys in
-      sym (apart_before (eq_by_cmp g.K.Ord.cmp) (flips g.K.Ord.cmp g.met.K.Ord.total) (take i keys) (drop (suc i) keys) y (subst (IsDistinct (eq_by_cmp g.K.Ord.cmp)) (sym split) distinct)) ∙ sym (c.loop-key.invariant.seen y) ∙ there,
+      let split : take i keys ++ y ∷ drop (suc i) keys ≡ keys =
+      ap (λ z. take i keys ++ z ∷ drop (suc i) keys) c.key-item.is
+      ∙ ap (λ t. take i keys ++ t) (sym (drop-cons keys i y c.loop-key-test.true)) ∙ take-append-drop i keys in
+      sym (apart_before (eq_by_cmp g.K.Ord.cmp) (flips g.K.Ord.cmp g.met.K.Ord.total) (take i keys)
+      (drop (suc i) keys) y (subst (IsDistinct (eq_by_cmp g.K.Ord.cmp)) (sym split) distinct))
+      ∙ sym (c.loop-key.invariant.seen y) ∙ there,
 )
 
 pub loop-key-preserved : goal.loop-key-preserved
@@ -32,8 +36,15 @@ loop-key-preserved g c =
     let i = c.loop-key.key-index in
     let y = c.key-item.result in
     let more : take (i + 1) c.args.keys.now ≡ take i c.args.keys.now ++ y ∷ [] = take_more c.args.keys.now i y c.loop-key-test.true ∙ ap (λ z. take i c.args.keys.now ++ z ∷ []) (sym c.key-item.is) in
-    let fresh : list_any (eq_by_cmp g.K.Ord.cmp y) (take i c.args.keys.now) ≡ false = sym (c.loop-key.invariant.seen y) ∙ not-true (contains g.K.Ord.cmp c.loop-key.seen y) (sym c.in_ok-insert.ensures.added ∙ c.if-not-branch.false) in
+    let fresh : list_any (eq_by_cmp g.K.Ord.cmp y) (take i c.args.keys.now) ≡ false =
+    sym (c.loop-key.invariant.seen y)
+    ∙ not-true (contains g.K.Ord.cmp c.loop-key.seen y)
+    (sym c.in_ok-insert.ensures.added ∙ c.if-not-branch.false) in
     record {
-      seen = λ k. seen_more g.K.Ord.cmp g.met.K.Ord.total (take i c.args.keys.now) y k (contains g.K.Ord.cmp c.insert.new.self k) (c.in_ok-insert.ensures.updates.0 k ∙ ap (λ t. cond (is_at (g.K.Ord.cmp y) k) true t) (c.loop-key.invariant.seen k)) ∙ ap (list_any (eq_by_cmp g.K.Ord.cmp k)) (sym more);
+      seen = λ k. seen_more g.K.Ord.cmp g.met.K.Ord.total (take i c.args.keys.now) y k
+          (contains g.K.Ord.cmp c.insert.new.self k)
+          (c.in_ok-insert.ensures.updates.0 k
+          ∙ ap (λ t. cond (is_at (g.K.Ord.cmp y) k) true t) (c.loop-key.invariant.seen k))
+          ∙ ap (list_any (eq_by_cmp g.K.Ord.cmp k)) (sym more);
       distinct = subst (IsDistinct (eq_by_cmp g.K.Ord.cmp)) (sym more) (IsDistinct-push (eq_by_cmp_equiv g.met.K.Ord.total) (take i c.args.keys.now) y c.loop-key.invariant.distinct fresh);
     }

@@ -9,4 +9,6 @@ use Rattle.exam_judging.proofs.touching.add_entered.Given as goal
 abbrev pub invariant-loop-key : goal.invariant-loop-key
 invariant-loop-key l =
     (goal.iterator-loop-key).can_next l.key-iterator × (goal.iterator-loop-key).is_finite l.key-iterator
-    × ((s : Code) → (list_any (is_live_entry (relations_of l.facts) s l.number) (leading (is_row_of l.number) l.key-iterator) || contains code_cmp l.codes s) ≡ (has_live_entry (relations_of l.facts) s l.number || contains code_cmp l.fn.codes s))
+    × ((s : Code) → (list_any (is_live_entry (relations_of l.facts) s l.number)
+    (leading (is_row_of l.number) l.key-iterator) || contains code_cmp l.codes s)
+    ≡ (has_live_entry (relations_of l.facts) s l.number || contains code_cmp l.fn.codes s))

@@ -21,6 +21,7 @@ returns-clause-ok c = on_ok c.add_dated.result _ _ c.add_dated.ensures.ok (λ ad
     ∙ ap (λ b. dated || b) (c.in_ok-add_opened.ensures.ok s)
     ∙ ap (λ b. dated || (b || contains code_cmp c.add_rows.new.codes s)) (opens_found s rows (contains code_cmp c.in_ok-halls.halls) c.in_ok-halls.ensures.ok r.openings)
     ∙ ap (λ b. dated || (opened || b)) (c.in_ok-add_rows.ensures.ok s)
-    ∙ dated_last (list_any is_session_row rows) (is_of_sessions c.args.import.now.kind) (has_standing_member r s) (sessions_are_of_kind c.args.import.now.kind rows c.rows-rows.ensures.kind) opened named was
+    ∙ dated_last (list_any is_session_row rows) (is_of_sessions c.args.import.now.kind) (has_standing_member r s)
+    (sessions_are_of_kind c.args.import.now.kind rows c.rows-rows.ensures.kind) opened named was
     ∙ ap (λ b. (b || dated) || was) (sym (rows_reach r s rows))
     ∙ ap (λ (xs : List Row). (list_any (λ (x : Row). row_reaches r x s) xs || dated) || was) c.rows-rows.ensures.value)

@@ -10,5 +10,7 @@ use Rattle.exam_judging.proofs.touching.add_opened.Goals as goal
 pub returns-clause-ok : goal.returns-clause-ok
 returns-clause-ok c =
     let left : c.loop-key.key-iterator ≡ [] = rest_all deref_pair _ _ _ c.in-None.is c.next.ensures.steps in
-    λ s. ap (λ (es : List ((Code × Code) × Opening)). list_any (λ (o : (Code × Code) × Opening). same_code o.0.0 s && contains code_cmp c.args.halls.now o.0.1) es || contains code_cmp c.loop-key.codes s) (sym left)
+    λ s. ap (λ (es : List ((Code × Code) × Opening)). list_any
+    (λ (o : (Code × Code) × Opening). same_code o.0.0 s && contains code_cmp c.args.halls.now o.0.1) es || contains
+    code_cmp c.loop-key.codes s) (sym left)
     ∙ c.loop-key.invariant s

@@ -13,14 +13,18 @@ take_back-requires-clause-seats c =
     let ask = c.requires.office in
     let kept : Option Plans = c.in_ok-made.made.plans in
     old_stay kept ask.0.seats c.put_seats.new.seats.entries
-    (old_in_office c.args.command.now ask.0 (state_of c.args.part.now) ask.1.1 ask.1.3 (relations_of c.make.new.part.facts) c.make.new.part.plans.entries c.show_order-3.ensures kept c.in_ok-made.ensures.plans_back)
+    (old_in_office c.args.command.now ask.0 (state_of c.args.part.now) ask.1.1 ask.1.3
+    (relations_of c.make.new.part.facts) c.make.new.part.plans.entries c.show_order-3.ensures kept
+    c.in_ok-made.ensures.plans_back)
     (λ k here. c.put_seats.ensures.stays k (subst (λ (q : Seats). has_row seat_cmp q k ≡ true) ask.1.2 here))
 
 pub returns-in-Err-clause-seats : goal.returns-in-Err-clause-seats
 returns-in-Err-clause-seats c =
     let ask = c.requires.office in
     c.take_back.ensures.seats
-    ∙ seats_back c.args.command.now ask.0 (state_of c.args.part.now) ask.1.1 ask.1.3 (relations_of c.make.new.part.facts) c.make.new.part.plans.entries c.show_order-3.ensures c.in_ok-made.made.plans c.in-Some.field-0 c.in-Some.is c.in_ok-made.ensures.plans_back
+    ∙ seats_back c.args.command.now ask.0 (state_of c.args.part.now) ask.1.1 ask.1.3
+    (relations_of c.make.new.part.facts) c.make.new.part.plans.entries c.show_order-3.ensures
+    c.in_ok-made.made.plans c.in-Some.field-0 c.in-Some.is c.in_ok-made.ensures.plans_back
     c.put_seats.new.seats.entries c.put_seats.ensures.rises (λ k away. c.put_seats.ensures.others k away ∙ sym (ap (λ (q : Seats). row_at seat_cmp q k) ask.1.2))
     ∙ ask.1.2
 

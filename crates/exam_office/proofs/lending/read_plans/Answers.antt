@@ -18,7 +18,10 @@ loop-session-preserved c = λ s d.
     let p = λ (q : Code). same_code q s in
     let longer : take (i + 1) items ≡ take i items ++ t ∷ [] = take_more items i t c.loop-session-test.true ∙ ap (λ z. take i items ++ z ∷ []) (sym c.session-item.is) in
     let mine = plan_of c.args.office.now.seats s d in
-    let step = c.in_ok-copy_plan.ensures.ok s d ∙ ap (λ (seats : Seats). if same_code t s && is_listed c.lists.result.now t d then option_or (plan_of seats s d) (plan_of c.loop-session.plans.entries s d) else plan_of c.loop-session.plans.entries s d) c.seats.ensures in
+    let step = c.in_ok-copy_plan.ensures.ok s d
+    ∙ ap (λ (seats : Seats). if same_code t s
+    && is_listed c.lists.result.now t d then option_or (plan_of seats s d)
+    (plan_of c.loop-session.plans.entries s d) else plan_of c.loop-session.plans.entries s d) c.seats.ensures in
     plans_step (same_code t s) (is_listed c.lists.result.now t d) (list_any p (take i items)) mine (plan_of c.loop-session.plans.entries s d) (plan_of c.copy_plan.new.plans.entries s d)
     (c.loop-session.invariant s d) (λ same away. unlisted c.args.office.now c.lists.result.now c.show_good.ensures c.lists.ensures t s d same away) step
     ∙ ap (λ b. if b then mine else None) (sym (any_more p (take i items) (take (i + 1) items) t longer))

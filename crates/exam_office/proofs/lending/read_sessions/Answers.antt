@@ -11,7 +11,10 @@ use Rattle.exam_office.proofs.lending.read_sessions.Goals as goal
 
 pub returns-in_default : goal.returns-in_default
 returns-in_default c = record {
-  exact = IfOk-weaker c.touched-in_default.result _ _ (λ codes is s. subst (λ (b : Bool). Contains codes.items s ↔ IsTrue b) (sym (reads_touched c.args.command.now c.in_default.not-Lodge c.in_default.not-Decide (relations_of c.args.facts.now) s)) (is s)) c.touched-in_default.ensures.exact;
+  exact = IfOk-weaker c.touched-in_default.result _ _
+      (λ codes is s. subst (λ (b : Bool). Contains codes.items s ↔ IsTrue b)
+      (sym (reads_touched c.args.command.now c.in_default.not-Lodge c.in_default.not-Decide
+      (relations_of c.args.facts.now) s)) (is s)) c.touched-in_default.ensures.exact;
   memory = c.touched-in_default.ensures.memory;
 }
 

@@ -22,4 +22,6 @@ returns-in_err-made-clause-step c =
 
 pub returns-clause-step : goal.returns-clause-step
 returns-clause-step c = λ office after good up agrees put.
-    inr (made_back c.args.today office (state_of c.args.part.now) after good up (state_of c.make.new.part) c.show_order.ensures c.args.command.now c.in_ok-made.made.reply agrees put c.in_ok-made.ensures.ok)
+    inr (made_back c.args.today office (state_of c.args.part.now) after good up
+    (state_of c.make.new.part) c.show_order.ensures c.args.command.now c.in_ok-made.made.reply agrees put
+    c.in_ok-made.ensures.ok)

@@ -24,7 +24,8 @@ returns-in_ok-set_aside-in-Some-clause-ok c =
 
 pub returns-in_ok-set_aside-in-Some-clause-back : goal.returns-in_ok-set_aside-in-Some-clause-back
 returns-in_ok-set_aside-in-Some-clause-back c = λ was back.
-    changed_back c.set_aside.new.before c.in-Some.session c.set_aside.new.lists c.enter.new.self was c.in_ok-set_aside-in-Some.ensures.kept c.enter.ensures.others c.enter.ensures.halls c.enter.ensures.stay
+    changed_back c.set_aside.new.before c.in-Some.session c.set_aside.new.lists c.enter.new.self was
+    c.in_ok-set_aside-in-Some.ensures.kept c.enter.ensures.others c.enter.ensures.halls c.enter.ensures.stay
     (c.in_ok-set_aside-in-Some.ensures.back was back)
 
 pub returns-in-None-clause-ok : goal.returns-in-None-clause-ok

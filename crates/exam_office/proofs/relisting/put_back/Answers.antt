@@ -31,6 +31,8 @@ loop-session-preserved c =
       rises = sorted_tail code_cmp c.in-Some.session (keys_of rest) up;
       so_far = λ s.
           back_more rest c.in-Some.session c.in-Some.list c.loop-session.lists c.put_members.new.self up c.put_members.ensures.members s
-          ∙ subst (λ (rows : List (Code × Vec Entrant Global)). list_before rows c.loop-session.lists s ≡ list_before c.args.before.entries c.args.lists.now s) c.in-Some.ensures.steps (c.loop-session.invariant.so_far s);
+          ∙ subst (λ (rows : List (Code × Vec Entrant Global)). list_before rows c.loop-session.lists s
+          ≡ list_before c.args.before.entries c.args.lists.now s) c.in-Some.ensures.steps
+          (c.loop-session.invariant.so_far s);
       halls = c.put_members.ensures.halls ∙ c.loop-session.invariant.halls;
     }

@@ -21,4 +21,6 @@ returns-in-CloseHall-clause-ok c =
     let t : Relations = relations_of c.args.facts.now in
     let was : WasMade (command.CloseHall c.in-CloseHall.session c.in-CloseHall.hall) r t = subst (λ (done : Command). WasMade done r t) c.in-CloseHall.is c.requires.2 in
     on_ok_weaker c.relist_halls.result
-    (λ lists. subst (λ (u : Relations). AreListsOf u c.relist_halls.new.lists) (sym (closing_made r t c.in-CloseHall.session c.in-CloseHall.hall was)) (lists r c.requires.2.order c.requires.1)) c.relist_halls.ensures.ok
+    (λ lists. subst (λ (u : Relations). AreListsOf u c.relist_halls.new.lists)
+    (sym (closing_made r t c.in-CloseHall.session c.in-CloseHall.hall was))
+    (lists r c.requires.2.order c.requires.1)) c.relist_halls.ensures.ok

@@ -15,7 +15,11 @@ loop-key-preserved c =
     record {
       so_far =
           ap (λ (held : List ((Code × ℕ) × Code)). taken_back seat_cmp held old rest) set
-          ∙ subst (λ (es : List ((Code × ℕ) × Code)). taken_back seat_cmp rows old es ≡ taken_back seat_cmp c.args.seats.now.entries old c.args.new.now.entries) c.in-Some.ensures.steps c.loop-key.invariant.so_far;
-      there = λ k was. ap (λ (held : List ((Code × ℕ) × Code)). has_row seat_cmp held k) set ∙ set_keeps seat_cmp seats_total seats_exact old rows key k c.loop-key.invariant.rises was (c.loop-key.invariant.there k was);
+          ∙ subst (λ (es : List ((Code × ℕ) × Code)). taken_back seat_cmp rows old es
+          ≡ taken_back seat_cmp c.args.seats.now.entries old c.args.new.now.entries) c.in-Some.ensures.steps
+          c.loop-key.invariant.so_far;
+      there = λ k was. ap (λ (held : List ((Code × ℕ) × Code)). has_row seat_cmp held k) set
+          ∙ set_keeps seat_cmp seats_total seats_exact old rows key k c.loop-key.invariant.rises was
+          (c.loop-key.invariant.there k was);
       rises = c.set.ensures.rises;
     }

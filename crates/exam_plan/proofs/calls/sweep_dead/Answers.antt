@@ -10,7 +10,9 @@ pub loop-candidate-init : goal.loop-candidate-init
 loop-candidate-init c = elim c.match-first.branch [
   | in-Some w ↦ rw w.sweep-is (subst (λ (o : Option ℕ). IsUnderWay c.args.problem.now o c.args.plan.items w.take_turn.new.sweep 0) (sym w.in-Some.is)
       (first_turn c.args.problem.now c.in_ok-sweep.sweep w.take_turn.new.sweep c.args.plan.items w.in-Some.candidate
-      (let P : Option ℕ → Type 0 = λ o. IfSome o (λ k. k < length c.args.problem.now.fit) in subst P w.in-Some.is c.requires.first) c.in_ok-sweep.ensures.plan c.in_ok-sweep.ensures.none w.take_turn.ensures))
+      (let P : Option ℕ → Type 0 =
+      λ o. IfSome o (λ k. k < length c.args.problem.now.fit) in subst P w.in-Some.is c.requires.first)
+      c.in_ok-sweep.ensures.plan c.in_ok-sweep.ensures.none w.take_turn.ensures))
   | in_default w ↦ rw w.sweep-is (subst (λ (o : Option ℕ). IsUnderWay c.args.problem.now o c.args.plan.items c.in_ok-sweep.sweep 0) (sym w.in_default.is)
       (begun c.args.problem.now c.in_ok-sweep.sweep c.args.plan.items c.in_ok-sweep.ensures.kept c.in_ok-sweep.ensures.plan c.in_ok-sweep.ensures.none))
 ]
@@ -27,13 +29,49 @@ loop-candidate-preserved c = elim c.if-ne.branch [
 ]
 
 pub returns-clause-best : goal.returns-clause-best
-returns-clause-best c = swept_best c.args.problem.now c.candidate_count-candidate-end.ensures.problem c.args.first (plan_at c.args.plan.items) (plan_at c.loop-candidate.sweep.plan.items) (holds c.loop-candidate.sweep.dead) c.loop-candidate.candidate (omega (arith, c.loop-candidate.auto.candidate-end, c.loop-candidate-test.false, c.candidate_count-candidate-end.ensures.count)) c.loop-candidate.invariant.swept
+returns-clause-best c =
+    swept_best c.args.problem.now c.candidate_count-candidate-end.ensures.problem c.args.first
+    (plan_at c.args.plan.items) (plan_at c.loop-candidate.sweep.plan.items)
+    (holds c.loop-candidate.sweep.dead) c.loop-candidate.candidate
+    (omega (
+      arith,
+      c.loop-candidate.auto.candidate-end,
+      c.loop-candidate-test.false,
+      c.candidate_count-candidate-end.ensures.count,
+    )) c.loop-candidate.invariant.swept
 
 pub returns-clause-chains : goal.returns-clause-chains
-returns-clause-chains c = swept_turns c.args.problem.now c.candidate_count-candidate-end.ensures.problem c.args.first (plan_at c.args.plan.items) (plan_at c.loop-candidate.sweep.plan.items) (holds c.loop-candidate.sweep.dead) c.loop-candidate.candidate (omega (arith, c.loop-candidate.auto.candidate-end, c.loop-candidate-test.false, c.candidate_count-candidate-end.ensures.count)) c.loop-candidate.invariant.swept
+returns-clause-chains c =
+    swept_turns c.args.problem.now c.candidate_count-candidate-end.ensures.problem c.args.first
+    (plan_at c.args.plan.items) (plan_at c.loop-candidate.sweep.plan.items)
+    (holds c.loop-candidate.sweep.dead) c.loop-candidate.candidate
+    (omega (
+      arith,
+      c.loop-candidate.auto.candidate-end,
+      c.loop-candidate-test.false,
+      c.candidate_count-candidate-end.ensures.count,
+    )) c.loop-candidate.invariant.swept
 
 pub returns-clause-dead : goal.returns-clause-dead
-returns-clause-dead c = swept_dead c.args.problem.now c.candidate_count-candidate-end.ensures.problem c.args.first (plan_at c.args.plan.items) (plan_at c.loop-candidate.sweep.plan.items) (holds c.loop-candidate.sweep.dead) c.loop-candidate.candidate (omega (arith, c.loop-candidate.auto.candidate-end, c.loop-candidate-test.false, c.candidate_count-candidate-end.ensures.count)) c.loop-candidate.invariant.swept c.loop-candidate.invariant.kept.traced c.loop-candidate.sweep.listed.items c.loop-candidate.invariant.kept.listed
+returns-clause-dead c =
+    swept_dead c.args.problem.now c.candidate_count-candidate-end.ensures.problem c.args.first
+    (plan_at c.args.plan.items) (plan_at c.loop-candidate.sweep.plan.items)
+    (holds c.loop-candidate.sweep.dead) c.loop-candidate.candidate
+    (omega (
+      arith,
+      c.loop-candidate.auto.candidate-end,
+      c.loop-candidate-test.false,
+      c.candidate_count-candidate-end.ensures.count,
+    )) c.loop-candidate.invariant.swept
+    c.loop-candidate.invariant.kept.traced c.loop-candidate.sweep.listed.items c.loop-candidate.invariant.kept.listed
 
 pub returns-clause-order : goal.returns-clause-order
-returns-clause-order c = listed_in_order c.args.problem.now c.args.first (plan_at c.args.plan.items) (plan_at c.loop-candidate.sweep.plan.items) c.loop-candidate.sweep.listed.items c.loop-candidate.candidate (omega (arith, c.loop-candidate.auto.candidate-end, c.loop-candidate-test.false, c.candidate_count-candidate-end.ensures.count)) c.loop-candidate.invariant.deaths
+returns-clause-order c =
+    listed_in_order c.args.problem.now c.args.first (plan_at c.args.plan.items)
+    (plan_at c.loop-candidate.sweep.plan.items) c.loop-candidate.sweep.listed.items c.loop-candidate.candidate
+    (omega (
+      arith,
+      c.loop-candidate.auto.candidate-end,
+      c.loop-candidate-test.false,
+      c.candidate_count-candidate-end.ensures.count,
+    )) c.loop-candidate.invariant.deaths

@@ -16,7 +16,10 @@ overflow_add-count c =
 
 pub loop-candidate-preserved : goal.loop-candidate-preserved
 loop-candidate-preserved c =
-    let more = length_next (λ d. is_none (plan_at c.args.plan.now d)) c.loop-candidate.candidate c.loop-candidate.count c.is_none.result c.loop-candidate.invariant (none_test c.args.plan.now c.loop-candidate.candidate c.is_none.result c.is_none.ensures) in
+    let more = length_next
+    (λ d. is_none (plan_at c.args.plan.now d)) c.loop-candidate.candidate c.loop-candidate.count c.is_none.result
+    c.loop-candidate.invariant
+    (none_test c.args.plan.now c.loop-candidate.candidate c.is_none.result c.is_none.ensures) in
     elim c.if-is_none.branch [
       | then-is_none w ↦ rw w.count-is (let b : bit c.is_none.result ≡ 1 = ap bit w.if-is_none.true in omega (arith, more, b))
       | else-is_none w ↦ rw w.count-is (let b : bit c.is_none.result ≡ 0 = ap bit w.if-is_none.false in omega (arith, more, b))

@@ -27,7 +27,9 @@ taken p before plan met i h desks whole same within exist kept room counted here
     let lesser : get_or met h 0 ≡ lesser_occupants (seating_of p) (plan_at before) i h = counted_lesser p (plan_at before) i h (get_or met h 0) (omega (arith, within, whole)) (counted h below) in
     record {
       room = rw length-set room;
-      counted = met_some (plan_at before) (length p.desk_counts) i met counted h (get_or met h 0) room (below_read R before plan i (Some h) kept here) (get_or_default met h 0 (get_or met h 0) (omega (arith, below, room)));
+      counted = met_some (plan_at before) (length p.desk_counts) i met counted h (get_or met h 0) room
+          (below_read R before plan i (Some h) kept here)
+          (get_or_default met h 0 (get_or met h 0) (omega (arith, below, room)));
       out = λ more. below_out_at R before plan i (Some h) (omega (arith, within, same)) kept here
           (room_out (seating_of p) (plan_at before) i h desks (get_or met h 0) are lesser (omega (arith, more, new)));
       stays = λ few. below_stays_at R before plan i (Some h) kept here
@@ -36,7 +38,10 @@ taken p before plan met i h desks whole same within exist kept room counted here
 
 pub overflow_add-met : goal.overflow_add-met
 overflow_add-met c =
-    let inside : c.in-Some.hall < length c.args.problem.now.desk_counts = place_below c.loop-candidate.plan (length c.args.problem.now.desk_counts) c.loop-candidate.candidate c.in-Some.hall c.loop-candidate.invariant.exist
+    let inside : c.in-Some.hall < length c.args.problem.now.desk_counts =
+    place_below c.loop-candidate.plan
+    (length c.args.problem.now.desk_counts) c.loop-candidate.candidate c.in-Some.hall
+    c.loop-candidate.invariant.exist
     (omega (arith, c.loop-candidate-test.true, c.loop-candidate.auto.plan)) c.in-Some.is in
     let is : get_or c.loop-candidate.met c.in-Some.hall 0 ≡ count_at (plan_at c.args.plan.now) c.in-Some.hall c.loop-candidate.candidate = c.loop-candidate.invariant.met c.in-Some.hall inside in
     let few = count_at-le (plan_at c.args.plan.now) c.in-Some.hall c.loop-candidate.candidate in
@@ -47,7 +52,9 @@ pub loop-candidate-preserved : goal.loop-candidate-preserved
 loop-candidate-preserved c = elim c.match-plan-candidate.branch [
   | in-Some+then-desk_count-met w ↦ (
       let s : Taken c.args.problem.now c.args.plan.now c.loop-candidate.plan c.loop-candidate.met c.loop-candidate.candidate w.in-Some.hall w.desk_count.result =
-      taken _ _ _ _ _ _ _ c.requires.whole c.loop-candidate.auto.plan c.loop-candidate-test.true c.loop-candidate.invariant.exist c.loop-candidate.invariant.kept c.loop-candidate.invariant.room c.loop-candidate.invariant.met w.in-Some.is w.desk_count.ensures in
+      taken _ _ _ _ _ _ _ c.requires.whole c.loop-candidate.auto.plan c.loop-candidate-test.true
+      c.loop-candidate.invariant.exist c.loop-candidate.invariant.kept c.loop-candidate.invariant.room
+      c.loop-candidate.invariant.met w.in-Some.is w.desk_count.ensures in
       record {
         exist = rw w.plan-is (places_none c.loop-candidate.plan (length c.args.problem.now.desk_counts) c.loop-candidate.candidate c.loop-candidate.invariant.exist);
         kept = rw w.plan-is (s.out w.if-desk_count-met.true);
@@ -56,7 +63,9 @@ loop-candidate-preserved c = elim c.match-plan-candidate.branch [
       })
   | in-Some+else-desk_count-met w ↦ (
       let s : Taken c.args.problem.now c.args.plan.now c.loop-candidate.plan c.loop-candidate.met c.loop-candidate.candidate w.in-Some.hall w.desk_count.result =
-      taken _ _ _ _ _ _ _ c.requires.whole c.loop-candidate.auto.plan c.loop-candidate-test.true c.loop-candidate.invariant.exist c.loop-candidate.invariant.kept c.loop-candidate.invariant.room c.loop-candidate.invariant.met w.in-Some.is w.desk_count.ensures in
+      taken _ _ _ _ _ _ _ c.requires.whole c.loop-candidate.auto.plan c.loop-candidate-test.true
+      c.loop-candidate.invariant.exist c.loop-candidate.invariant.kept c.loop-candidate.invariant.room
+      c.loop-candidate.invariant.met w.in-Some.is w.desk_count.ensures in
       record {
         exist = rw w.plan-is c.loop-candidate.invariant.exist;
         kept = rw w.plan-is (s.stays w.if-desk_count-met.false);
@@ -65,12 +74,18 @@ loop-candidate-preserved c = elim c.match-plan-candidate.branch [
       })
   | in_default w ↦ record {
     exist = rw w.plan-is c.loop-candidate.invariant.exist;
-    kept = rw w.plan-is (below_stays_at (where_room (seating_of c.args.problem.now) (plan_at c.args.plan.now)) c.args.plan.now c.loop-candidate.plan c.loop-candidate.candidate None c.loop-candidate.invariant.kept w.in_default.is refl);
+    kept = rw w.plan-is (below_stays_at
+        (where_room (seating_of c.args.problem.now) (plan_at c.args.plan.now)) c.args.plan.now c.loop-candidate.plan
+        c.loop-candidate.candidate None c.loop-candidate.invariant.kept w.in_default.is refl);
     room = rw w.met-is c.loop-candidate.invariant.room;
     met = rw w.met-is (met_none (plan_at c.args.plan.now) (length c.args.problem.now.desk_counts) c.loop-candidate.candidate c.loop-candidate.met c.loop-candidate.invariant.met
-        (below_read (where_room (seating_of c.args.problem.now) (plan_at c.args.plan.now)) c.args.plan.now c.loop-candidate.plan c.loop-candidate.candidate None c.loop-candidate.invariant.kept w.in_default.is));
+        (below_read (where_room (seating_of c.args.problem.now) (plan_at c.args.plan.now)) c.args.plan.now
+        c.loop-candidate.plan c.loop-candidate.candidate None c.loop-candidate.invariant.kept w.in_default.is));
   }
 ]
 
 pub returns-clause-kept : goal.returns-clause-kept
-returns-clause-kept c = below_all (where_room (seating_of c.args.problem.now) (plan_at c.args.plan.now)) c.args.plan.now c.loop-candidate.plan c.loop-candidate.candidate (λ d. refl) c.loop-candidate-test.false c.loop-candidate.invariant.kept
+returns-clause-kept c =
+    below_all (where_room (seating_of c.args.problem.now) (plan_at c.args.plan.now)) c.args.plan.now
+    c.loop-candidate.plan c.loop-candidate.candidate
+    (λ d. refl) c.loop-candidate-test.false c.loop-candidate.invariant.kept

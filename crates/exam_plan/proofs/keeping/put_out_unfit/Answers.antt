@@ -15,14 +15,20 @@ loop-candidate-preserved c = elim c.match-plan-candidate.branch [
   }
   | in-Some+else-not-fits w ↦ record {
     exist = rw w.plan-is c.loop-candidate.invariant.exist;
-    kept = rw w.plan-is (below_stays_at (where_fitting (seating_of c.args.problem.now)) c.args.plan.now c.loop-candidate.plan c.loop-candidate.candidate (Some w.in-Some.hall) c.loop-candidate.invariant.kept w.in-Some.is
+    kept = rw w.plan-is (below_stays_at
+        (where_fitting (seating_of c.args.problem.now)) c.args.plan.now c.loop-candidate.plan
+        c.loop-candidate.candidate (Some w.in-Some.hall) c.loop-candidate.invariant.kept w.in-Some.is
         (fitting_stays c.args.problem.now c.loop-candidate.candidate w.in-Some.hall (omega (arith, c.loop-candidate-test.true, c.requires.whole)) (sym w.fits.ensures ∙ w.if-not-fits.false)));
   }
   | in_default w ↦ record {
     exist = rw w.plan-is c.loop-candidate.invariant.exist;
-    kept = rw w.plan-is (below_stays_at (where_fitting (seating_of c.args.problem.now)) c.args.plan.now c.loop-candidate.plan c.loop-candidate.candidate None c.loop-candidate.invariant.kept w.in_default.is refl);
+    kept = rw w.plan-is (below_stays_at
+        (where_fitting (seating_of c.args.problem.now)) c.args.plan.now c.loop-candidate.plan
+        c.loop-candidate.candidate None c.loop-candidate.invariant.kept w.in_default.is refl);
   }
 ]
 
 pub returns-clause-kept : goal.returns-clause-kept
-returns-clause-kept c = below_all (where_fitting (seating_of c.args.problem.now)) c.args.plan.now c.loop-candidate.plan c.loop-candidate.candidate (λ d. refl) c.loop-candidate-test.false c.loop-candidate.invariant.kept
+returns-clause-kept c =
+    below_all (where_fitting (seating_of c.args.problem.now)) c.args.plan.now c.loop-candidate.plan
+    c.loop-candidate.candidate (λ d. refl) c.loop-candidate-test.false c.loop-candidate.invariant.kept

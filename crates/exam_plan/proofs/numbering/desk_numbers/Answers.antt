@@ -52,7 +52,9 @@ pub loop-candidate-preserved : goal.loop-candidate-preserved
 loop-candidate-preserved c = elim c.match-plan-candidate.branch [
   | in-Some w ↦ record {
     order = c.loop-candidate.invariant.order;
-    so_far = rw (w.numbers-is, w.taken-is) (given c.args.problem.now c.deref-candidate-items.result.now (plan_at c.args.plan.now) c.loop-candidate.candidate-index c.loop-candidate.taken c.loop-candidate.numbers.items
+    so_far = rw (w.numbers-is, w.taken-is)
+        (given c.args.problem.now c.deref-candidate-items.result.now
+        (plan_at c.args.plan.now) c.loop-candidate.candidate-index c.loop-candidate.taken c.loop-candidate.numbers.items
         c.loop-candidate.invariant.order c.candidate_count.ensures.problem c.loop-candidate-test.true c.loop-candidate.invariant.so_far w.in-Some.hall
         (plan_at-get_or c.args.plan.now (get_or c.deref-candidate-items.result.now c.loop-candidate.candidate-index (0, 0)).1 ∙ w.in-Some.is)
         (taken_few c.args.problem.now c.deref-candidate-items.result.now c.args.plan.now c.loop-candidate.candidate-index w.in-Some.hall c.loop-candidate.taken c.loop-candidate.numbers.items
@@ -60,12 +62,16 @@ loop-candidate-preserved c = elim c.match-plan-candidate.branch [
   }
   | in_default w ↦ record {
     order = c.loop-candidate.invariant.order;
-    so_far = rw (w.numbers-is, w.taken-is) (skipped c.args.problem.now c.deref-candidate-items.result.now (plan_at c.args.plan.now) c.loop-candidate.candidate-index c.loop-candidate.taken c.loop-candidate.numbers.items
+    so_far = rw (w.numbers-is, w.taken-is)
+        (skipped c.args.problem.now c.deref-candidate-items.result.now
+        (plan_at c.args.plan.now) c.loop-candidate.candidate-index c.loop-candidate.taken c.loop-candidate.numbers.items
         c.loop-candidate.invariant.order c.candidate_count.ensures.problem c.loop-candidate-test.true c.loop-candidate.invariant.so_far
         (plan_at-get_or c.args.plan.now (get_or c.deref-candidate-items.result.now c.loop-candidate.candidate-index (0, 0)).1 ∙ w.in_default.is));
   }
 ]
 
 pub returns-clause-numbers : goal.returns-clause-numbers
-returns-clause-numbers c = all_numbered c.args.problem.now c.deref-candidate-items.result.now (plan_at c.args.plan.now) c.loop-candidate.candidate-index c.loop-candidate.taken c.loop-candidate.numbers.items
+returns-clause-numbers c =
+    all_numbered c.args.problem.now c.deref-candidate-items.result.now
+    (plan_at c.args.plan.now) c.loop-candidate.candidate-index c.loop-candidate.taken c.loop-candidate.numbers.items
     c.loop-candidate.invariant.order c.candidate_count.ensures.problem c.loop-candidate-test.false c.loop-candidate.invariant.so_far

@@ -10,7 +10,9 @@ loop-place-preserved c =
     let digit = get_or c.loop-place.digits c.loop-place.place 0 in
     record {
       whole = simp length-set c.loop-place.invariant.whole;
-      counting = counts_more c.args.digits.now c.loop-place.digits c.args.word c.loop-place.place digit c.loop-place.carry (bit_xor digit c.loop-place.carry) (omega (arith, c.loop-place-test.true, c.loop-place.invariant.whole))
+      counting = counts_more c.args.digits.now c.loop-place.digits c.args.word c.loop-place.place digit
+          c.loop-place.carry (bit_xor digit c.loop-place.carry)
+          (omega (arith, c.loop-place-test.true, c.loop-place.invariant.whole))
           refl
           (holds_xor digit c.loop-place.carry) (bit_and c.loop-place.carry digit) (holds_and c.loop-place.carry digit) (c.loop-place.place + 1) (omega arith) c.loop-place.invariant.counting;
     }
@@ -18,7 +20,8 @@ loop-place-preserved c =
 pub returns-clause-more : goal.returns-clause-more
 returns-clause-more c h few =
     counting_done c.args.digits.now c.loop-place.digits c.args.word c.loop-place.place c.loop-place.carry h
-    (carried_none c.args.digits.now c.loop-place.digits c.args.word c.loop-place.place c.loop-place.carry h (omega (arith, c.loop-place-test.false, c.loop-place.auto.place-end)) few c.loop-place.invariant.counting)
+    (carried_none c.args.digits.now c.loop-place.digits c.args.word c.loop-place.place c.loop-place.carry h
+    (omega (arith, c.loop-place-test.false, c.loop-place.auto.place-end)) few c.loop-place.invariant.counting)
     c.loop-place.invariant.counting
 
 pub returns-then-carry-eq0-clause-more : goal.returns-then-carry-eq0-clause-more

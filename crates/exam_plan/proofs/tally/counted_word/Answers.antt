@@ -5,7 +5,9 @@ use Rattle.exam_plan.proofs.tally.counted_word.Goals as goal
 
 pub loop-digit-preserved : goal.loop-digit-preserved
 loop-digit-preserved c =
-    counted_more c.args.digits.now c.loop-digit.digit-index c.loop-digit.counted (get_or c.args.digits.now c.loop-digit.digit-index 0) (bit_or c.loop-digit.counted (get_or c.args.digits.now c.loop-digit.digit-index 0)) c.loop-digit.invariant
+    counted_more c.args.digits.now c.loop-digit.digit-index c.loop-digit.counted
+    (get_or c.args.digits.now c.loop-digit.digit-index 0)
+    (bit_or c.loop-digit.counted (get_or c.args.digits.now c.loop-digit.digit-index 0)) c.loop-digit.invariant
     refl (holds_or c.loop-digit.counted (get_or c.args.digits.now c.loop-digit.digit-index 0))
 
 pub returns : goal.returns

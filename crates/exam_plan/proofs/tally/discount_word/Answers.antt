@@ -10,18 +10,26 @@ loop-place-preserved c =
     let digit = get_or c.loop-place.digits c.loop-place.place 0 in
     record {
       whole = simp length-set c.loop-place.invariant.whole;
-      counting = discounts_more c.args.digits.now c.loop-place.digits c.args.word c.loop-place.place digit c.loop-place.borrow (bit_xor digit c.loop-place.borrow) (omega (arith, c.loop-place-test.true, c.loop-place.invariant.whole))
+      counting = discounts_more c.args.digits.now c.loop-place.digits c.args.word c.loop-place.place digit
+          c.loop-place.borrow (bit_xor digit c.loop-place.borrow)
+          (omega (arith, c.loop-place-test.true, c.loop-place.invariant.whole))
           refl
           (holds_xor digit c.loop-place.borrow) (bit_and c.loop-place.borrow (bit_xor digit c.loop-place.borrow))
-          (λ h. holds_and c.loop-place.borrow (bit_xor digit c.loop-place.borrow) h ∙ ap (λ t. holds c.loop-place.borrow h && t) (holds_xor digit c.loop-place.borrow h) ∙ still_borrowed (holds digit h) (holds c.loop-place.borrow h)) (c.loop-place.place + 1) (omega arith) c.loop-place.invariant.counting;
+          (λ h. holds_and c.loop-place.borrow (bit_xor digit c.loop-place.borrow) h
+          ∙ ap (λ t. holds c.loop-place.borrow h && t) (holds_xor digit c.loop-place.borrow h)
+          ∙ still_borrowed (holds digit h) (holds c.loop-place.borrow h)) (c.loop-place.place + 1)
+          (omega arith) c.loop-place.invariant.counting;
     }
 
 pub returns-clause-less : goal.returns-clause-less
 returns-clause-less c h counted =
     discounting_done c.args.digits.now c.loop-place.digits c.args.word c.loop-place.place c.loop-place.borrow h
-    (borrowed_none c.args.digits.now c.loop-place.digits c.args.word c.loop-place.place c.loop-place.borrow h (omega (arith, c.loop-place-test.false, c.loop-place.auto.place-end)) c.loop-place.invariant.whole counted c.loop-place.invariant.counting)
+    (borrowed_none c.args.digits.now c.loop-place.digits c.args.word c.loop-place.place c.loop-place.borrow h
+    (omega (arith, c.loop-place-test.false, c.loop-place.auto.place-end)) c.loop-place.invariant.whole counted
+    c.loop-place.invariant.counting)
     c.loop-place.invariant.counting
 
 pub returns-then-borrow-eq0-clause-less : goal.returns-then-borrow-eq0-clause-less
 returns-then-borrow-eq0-clause-less c h counted =
-    discounting_done c.args.digits.now c.loop-place.digits c.args.word c.loop-place.place c.loop-place.borrow h (ap (λ s. holds s h) c.if-borrow-eq0.true ∙ holds_empty h) c.loop-place.invariant.counting
+    discounting_done c.args.digits.now c.loop-place.digits c.args.word c.loop-place.place c.loop-place.borrow h
+    (ap (λ s. holds s h) c.if-borrow-eq0.true ∙ holds_empty h) c.loop-place.invariant.counting

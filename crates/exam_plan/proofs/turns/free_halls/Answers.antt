@@ -14,7 +14,9 @@ loop-hall-preserved c =
     let is : count_at (plan_at c.args.plan.now) c.loop-hall.hall (length c.args.plan.now) ≡ length (occupants (seating_of c.args.problem.now) (plan_at c.args.plan.now) c.loop-hall.hall) =
     ap (count_at (plan_at c.args.plan.now) c.loop-hall.hall) c.requires.whole ∙ count_is c.args.problem.now (plan_at c.args.plan.now) c.loop-hall.hall in
     elim c.if-counts-hall.branch [
-      | then-counts-hall w ↦ rw w.free-is (marks_with (HasFreeDesk (seating_of c.args.problem.now) (plan_at c.args.plan.now)) c.loop-hall.free w.with-free.result c.loop-hall.hall c.loop-hall.invariant w.with-free.ensures
+      | then-counts-hall w ↦ rw w.free-is
+          (marks_with (HasFreeDesk (seating_of c.args.problem.now) (plan_at c.args.plan.now)) c.loop-hall.free
+          w.with-free.result c.loop-hall.hall c.loop-hall.invariant w.with-free.ensures
           (omega (arith, counted, is, w.if-counts-hall.true, c.desk_count.ensures)))
       | else-counts-hall w ↦ rw w.free-is (marks_skip (HasFreeDesk (seating_of c.args.problem.now) (plan_at c.args.plan.now)) c.loop-hall.free c.loop-hall.hall c.loop-hall.invariant
           (λ f. let l : length (occupants (seating_of c.args.problem.now) (plan_at c.args.plan.now) c.loop-hall.hall) < get_or c.args.problem.now.desk_counts c.loop-hall.hall 0 = f in

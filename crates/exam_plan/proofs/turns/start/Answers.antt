@@ -16,7 +16,9 @@ returns-clause-kept c = record {
   counts = λ h below. (let R : List (Option ℕ) → Type 0 = λ m. get_or c.in_ok-counts.counts.items h 0 ≡ count_at (plan_at m) h (length m) in
       let e = subst R c.as_slice.ensures.value (c.in_ok-counts.ensures.counts h (omega (arith, below, c.hall_count-halls.ensures.count))) in
       e ∙ ap (count_at (plan_at c.args.plan.items) h) c.requires.plan.whole);
-  free = (let R : List (Option ℕ) → Type 0 = λ m. MarksAll (holds c.free_halls-free.result) (HasFreeDesk (seating_of c.args.problem.now) (plan_at m)) in subst R c.as_slice-2.ensures.value c.free_halls-free.ensures);
+  free = (let R : List (Option ℕ) → Type 0 =
+      λ m. MarksAll (holds c.free_halls-free.result) (HasFreeDesk (seating_of c.args.problem.now) (plan_at m)) in
+      subst R c.as_slice-2.ensures.value c.free_halls-free.ensures);
   closed = none_closed c.args.problem.now (plan_at c.args.plan.items) c.empty.result c.empty.ensures;
   traced = λ h m. let z : false ≡ true = sym (c.empty.ensures h) ∙ m in cc;
   listed = nothing_listed c.in_ok-with_capacity.field-0.items c.empty.result c.in_ok-with_capacity.ensures.items c.empty.ensures;

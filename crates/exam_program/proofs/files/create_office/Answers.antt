@@ -16,7 +16,9 @@ returns-clause-found g c =
     IfOk-weaker c.create_over.result _ _
     (λ store h. (
       conn,
-      λ clean. c.in_ok-conn.ensures.found (zero_either_way (doubt (file_state conn).is_clean) (λ blank. clean_before _ _ (h.0 blank).1.survives clean) (λ other. clean_before _ _ (h.1 other).survives clean)),
+      λ clean. c.in_ok-conn.ensures.found
+          (zero_either_way (doubt (file_state conn).is_clean) (λ blank. clean_before _ _ (h.0 blank).1.survives clean)
+          (λ other. clean_before _ _ (h.1 other).survives clean)),
       h.0,
       h.1,
     ))

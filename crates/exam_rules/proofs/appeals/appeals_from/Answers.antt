@@ -13,5 +13,8 @@ returns c =
     record {
       rows = own;
       granted = λ s. ap (λ rows. granted_subjects rows s c.args.number) own
-          ∙ ap (map (λ (a : (ℕ × Code) × Appeal). a.1.subject)) (filter_and (is_row_of c.args.number) (λ (a : (ℕ × Code) × Appeal). same_code a.1.session s && is_granted a.1.status) c.args.facts.now.appeals.entries);
+          ∙ ap (map (λ (a : (ℕ × Code) × Appeal). a.1.subject))
+          (filter_and (is_row_of c.args.number)
+          (λ (a : (ℕ × Code) × Appeal). same_code a.1.session s && is_granted a.1.status)
+          c.args.facts.now.appeals.entries);
     }

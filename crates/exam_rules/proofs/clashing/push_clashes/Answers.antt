@@ -12,9 +12,14 @@ loop-key-preserved-then-is_clash c =
     let clash : is_clash c.sitting_by_entries-sat.result c.in-Some.key.now.1 ≡ true = search rules in (
       tt,
       tt,
-      push_step c.loop-key.list.items c.push.new.self.items (clashes_left (relations_of c.args.facts.now) c.args.session.now c.args.number c.sitting_by_entries-sat.result c.next.new.self) _ (c.args.number, c.in-Some.key.now.1)
+      push_step c.loop-key.list.items c.push.new.self.items
+          (clashes_left (relations_of c.args.facts.now) c.args.session.now c.args.number
+          c.sitting_by_entries-sat.result c.next.new.self) _ (c.args.number, c.in-Some.key.now.1)
           c.in_ok-push.ensures.items
-          (ap (λ t. c.loop-key.list.items ++ t) (sym (clash_turn (relations_of c.args.facts.now) c.args.session.now c.args.number c.sitting_by_entries-sat.result c.in-Some.key.now c.in-Some.entry.now c.next.new.self own c.if-entry.true of_session clash))
+          (ap (λ t. c.loop-key.list.items ++ t)
+          (sym (clash_turn (relations_of c.args.facts.now) c.args.session.now c.args.number
+          c.sitting_by_entries-sat.result c.in-Some.key.now c.in-Some.entry.now c.next.new.self own c.if-entry.true
+          of_session clash))
           ∙ ap (λ rows. c.loop-key.list.items ++ clashes_left (relations_of c.args.facts.now) c.args.session.now c.args.number c.sitting_by_entries-sat.result rows) (sym c.in-Some.ensures.steps)
           ∙ c.loop-key.invariant.2),
     )

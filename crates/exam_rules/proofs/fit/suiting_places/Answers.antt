@@ -11,8 +11,13 @@ pub loop-place-preserved : goal.loop-place-preserved
 loop-place-preserved c = let P = is_suiting c.args.terms.now c.args.barred.now in
     let test = ap P (sym c.index-halls-place.is) ∙ sym c.is_suiting.ensures in
     rw add-one (elim c.if-is_suiting.branch [
-      | then-is_suiting w ↦ rw w.places-is (places_more P c.args.halls.now c.loop-place.place c.index-halls-place.result c.loop-place.places w.with-places.result c.loop-place-test.true (test ∙ w.if-is_suiting.true) w.with-places.ensures c.loop-place.invariant)
-      | else-is_suiting w ↦ rw w.places-is (places_same P c.args.halls.now c.loop-place.place c.index-halls-place.result c.loop-place.places c.loop-place-test.true (test ∙ w.if-is_suiting.false) c.loop-place.invariant)
+      | then-is_suiting w ↦ rw w.places-is
+          (places_more P c.args.halls.now c.loop-place.place c.index-halls-place.result c.loop-place.places
+          w.with-places.result c.loop-place-test.true
+          (test ∙ w.if-is_suiting.true) w.with-places.ensures c.loop-place.invariant)
+      | else-is_suiting w ↦ rw w.places-is
+          (places_same P c.args.halls.now c.loop-place.place c.index-halls-place.result c.loop-place.places
+          c.loop-place-test.true (test ∙ w.if-is_suiting.false) c.loop-place.invariant)
     ])
 
 pub returns-clause-places : goal.returns-clause-places

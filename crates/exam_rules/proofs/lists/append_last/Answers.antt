@@ -20,5 +20,7 @@ pub returns-in_ok-insert-in-None-clause-ok : goal.returns-in_ok-insert-in-None-c
 returns-in_ok-insert-in-None-clause-ok c =
     let at : row_at code_cmp c.args.members.now.entries c.args.session ≡ None = sym c.get_mut.ensures.value ∙ ap option_copied_mut c.in-None.is in
     changed (with_last c.args.entrant) c.args.members.now.entries c.insert.new.self.entries c.in_ok-list-in-None.list c.args.session
-    (λ s. c.in_ok-insert-in-None.ensures.updates.0 s ∙ ap (λ m. cond (is_at (code_cmp c.args.session) s) (Some c.in_ok-list-in-None.list) (row_at code_cmp m.entries s)) c.get_mut.follows.holds-at-none)
+    (λ s. c.in_ok-insert-in-None.ensures.updates.0 s
+    ∙ ap (λ m. cond (is_at (code_cmp c.args.session) s) (Some c.in_ok-list-in-None.list)
+    (row_at code_cmp m.entries s)) c.get_mut.follows.holds-at-none)
     (c.in_ok-list-in-None.ensures.ok ∙ ap (with_last c.args.entrant) (items_at c.args.members.now.entries c.args.session None at))

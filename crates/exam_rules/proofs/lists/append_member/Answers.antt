@@ -11,7 +11,9 @@ pub loop-key-init : goal.loop-key-init
 loop-key-init c = let start : c.into_iter-key-iterator.result ≡ c.entries_from-key-items.result = search rules in (
   tt,
   tt,
-  λ s. ap (λ o. with_member c.args.number o (listed c.args.members.now.entries s)) (ap (first_in (relations_of c.args.facts.now) c.args.number s) start ∙ ap head_of (c.entries_from-key-items.ensures.live s)),
+  λ s. ap (λ o. with_member c.args.number o (listed c.args.members.now.entries s))
+      (ap (first_in (relations_of c.args.facts.now) c.args.number s) start
+      ∙ ap head_of (c.entries_from-key-items.ensures.live s)),
 )
 
 -- a list to which one is appended, or none
@@ -25,9 +27,16 @@ loop-key-preserved-in-Continue-1 c =
     let entered : entered_session (relations_of c.args.facts.now) c.in-Some.key.now.1 c.in-Some.entry.now ≡ Some c.in-Some-entered_session.session = search rules in (
       tt,
       tt,
-      λ s. marked_once c.args.number (cond (same_code c.in-Some-entered_session.session s) (Some c.in-Some.key.now.1) None) (first_in (relations_of c.args.facts.now) c.args.number s c.next.new.self) (listed c.loop-key.members.entries s) (listed c.append_last.new.members.entries s)
-          (marked c.args.number c.in-Some.key.now.1 (same_code c.in-Some-entered_session.session s) (listed c.loop-key.members.entries s) (listed c.append_last.new.members.entries s) (c.in_ok-append_last.ensures.ok s))
-          ∙ ap (λ o. with_member c.args.number o (listed c.loop-key.members.entries s)) (sym (first_in_row (relations_of c.args.facts.now) c.args.number s c.in-Some.key.now c.in-Some.entry.now c.next.new.self (Some c.in-Some-entered_session.session) own entered))
+      λ s. marked_once c.args.number
+          (cond (same_code c.in-Some-entered_session.session s) (Some c.in-Some.key.now.1) None)
+          (first_in (relations_of c.args.facts.now) c.args.number s c.next.new.self)
+          (listed c.loop-key.members.entries s) (listed c.append_last.new.members.entries s)
+          (marked c.args.number c.in-Some.key.now.1 (same_code c.in-Some-entered_session.session s)
+          (listed c.loop-key.members.entries s) (listed c.append_last.new.members.entries s)
+          (c.in_ok-append_last.ensures.ok s))
+          ∙ ap (λ o. with_member c.args.number o (listed c.loop-key.members.entries s))
+          (sym (first_in_row (relations_of c.args.facts.now) c.args.number s c.in-Some.key.now c.in-Some.entry.now
+          c.next.new.self (Some c.in-Some-entered_session.session) own entered))
           ∙ ap (λ rows. with_member c.args.number (first_in (relations_of c.args.facts.now) c.args.number s rows) (listed c.loop-key.members.entries s)) (sym c.in-Some.ensures.steps)
           ∙ c.loop-key.invariant.2 s,
     )

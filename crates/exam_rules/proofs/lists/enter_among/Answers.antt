@@ -8,14 +8,18 @@ use Rattle.exam_rules.proofs.Entering.{IsPlace, entered_new, entered_there}
 use Rattle.exam_rules.proofs.lists.enter_among.Goals as goal
 
 -- the place was looked for in the same list
-there : (n : ℕ) (p q least : Code) (seen xs new : List Entrant) (i : ℕ) → seen ≡ xs → (IsNonDecreasingBy (λ (e : Entrant). e.number) seen → IsPlace n p seen i) → i < length seen → get_or seen i (entrant n q) ≡ entrant n q
+there : (n : ℕ) (p q least : Code) (seen xs new : List Entrant) (i : ℕ) → seen ≡ xs
+    → (IsNonDecreasingBy (λ (e : Entrant). e.number) seen → IsPlace n p seen i) → i < length seen
+    → get_or seen i (entrant n q) ≡ entrant n q
     → least ≡ lesser_paper p q → new ≡ set xs i (entrant n least) → IsNonDecreasingBy (λ (e : Entrant). e.number) xs → new ≡ entered n p xs
 there n p q least seen xs new i same place inside at is put up =
     put ∙ ap (λ paper. set xs i (entrant n paper)) is
     ∙ subst (λ (es : List Entrant). set es i (entrant n (lesser_paper p q)) ≡ entered n p es) same
     (sym (entered_there n p seen i q (place (subst (IsNonDecreasingBy (λ (e : Entrant). e.number)) (sym same) up)) inside at))
 
-missing : (n : ℕ) (p : Code) (seen xs new : List Entrant) (i : ℕ) → seen ≡ xs → (IsNonDecreasingBy (λ (e : Entrant). e.number) seen → IsPlace n p seen i) → i ≤ length seen → ((d : Entrant) → i < length seen → nat_eq (get_or seen i d).number n ≡ false)
+missing : (n : ℕ) (p : Code) (seen xs new : List Entrant) (i : ℕ) → seen ≡ xs
+    → (IsNonDecreasingBy (λ (e : Entrant). e.number) seen → IsPlace n p seen i) → i ≤ length seen
+    → ((d : Entrant) → i < length seen → nat_eq (get_or seen i d).number n ≡ false)
     → new ≡ insert xs i (entrant n p) → IsNonDecreasingBy (λ (e : Entrant). e.number) xs → new ≡ entered n p xs
 missing n p seen xs new i same place within other put up =
     put

@@ -21,8 +21,12 @@ loop-number-preserved c =
     let up : IsStrictlySortedBy nat_cmp (done ++ n ∷ keys_of rest) = subst (IsStrictlySortedBy nat_cmp) (sym split) c.into_iter-number-iterator.ensures.into_iter_gives.5 in (
       done ++ n ∷ [],
       append_assoc done (n ∷ []) (keys_of rest) ∙ split,
-      λ s. members_more (least_live_paper (relations_of c.args.facts.now) s) done (keys_of rest) (listed c.loop-number.members.entries s) (listed c.append_member.new.members.entries s) n up (c.loop-number.invariant.2 s) (c.in_ok-append_member.ensures.ok s),
+      λ s. members_more (least_live_paper (relations_of c.args.facts.now) s) done (keys_of rest)
+          (listed c.loop-number.members.entries s) (listed c.append_member.new.members.entries s) n up
+          (c.loop-number.invariant.2 s) (c.in_ok-append_member.ensures.ok s),
     )
 
 pub returns-clause-rising : goal.returns-clause-rising
-returns-clause-rising c = λ s. IsStrictlySortedBy-filter nat_cmp (has_live_entry (relations_of c.args.facts.now) s) (keys_of c.args.facts.now.candidates.entries) c.into_iter-number-iterator.ensures.into_iter_gives.5
+returns-clause-rising c =
+    λ s. IsStrictlySortedBy-filter nat_cmp (has_live_entry (relations_of c.args.facts.now) s)
+    (keys_of c.args.facts.now.candidates.entries) c.into_iter-number-iterator.ensures.into_iter_gives.5

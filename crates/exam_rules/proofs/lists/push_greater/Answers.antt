@@ -8,5 +8,7 @@ use Rattle.exam_rules.proofs.lists.push_greater.Goals as goal
 pub returns-clause-ok : goal.returns-clause-ok
 returns-clause-ok c =
     let h = items_from_extend c.extend.result c.extend.ensures.ran
-    (YieldsList-from_filter _ (λ (e : Entrant). nat_lt c.args.number e.number) (YieldsList-from_copied (YieldsList-from_slice c.args.entrants.now cc)) c.filter-greater.ensures.closure (λ x b q k. search rules)) in
+    (YieldsList-from_filter _ (λ (e : Entrant). nat_lt c.args.number e.number)
+    (YieldsList-from_copied (YieldsList-from_slice c.args.entrants.now cc)) c.filter-greater.ensures.closure
+    (λ x b q k. search rules)) in
     search rules

@@ -23,5 +23,6 @@ loop-entrant-preserved c =
 
 pub returns-clause-ok : goal.returns-clause-ok
 returns-clause-ok c =
-    map_end (λ (e : Entrant). desk_key (relations_of c.args.facts.now) c.args.session.now e.number) c.args.entrants.now c.loop-entrant.entrant-index c.loop-entrant.keys.items c.loop-entrant-test.false c.loop-entrant.invariant
+    map_end (λ (e : Entrant). desk_key (relations_of c.args.facts.now) c.args.session.now e.number) c.args.entrants.now
+    c.loop-entrant.entrant-index c.loop-entrant.keys.items c.loop-entrant-test.false c.loop-entrant.invariant
     ∙ sym (map-map (desk_key (relations_of c.args.facts.now) c.args.session.now) (λ (e : Entrant). e.number) c.args.entrants.now)

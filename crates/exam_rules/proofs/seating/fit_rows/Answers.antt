@@ -15,7 +15,9 @@ loop-key-preserved c =
     rw c.in_ok-push.ensures.items (masks_more (length c.args.halls.now)
     (λ (key : Option Code × ℕ). fitting_places (relations_of c.args.facts.now) c.args.session.now key.1 (map (λ (hall : Code × Option Room). hall.0) c.args.halls.now)) c.args.keys.now
     c.loop-key.key-index c.key-item.result c.loop-key.rows.items c.mask.result c.loop-key-test.true
-    (ap (halls_below (length c.args.halls.now)) c.mask.ensures.bits ∙ c.in_ok-places.ensures.ok ∙ ap (λ (key : Option Code × ℕ). fitting_places (relations_of c.args.facts.now) c.args.session.now key.1 (map (λ (hall : Code × Option Room). hall.0) c.args.halls.now)) c.key-item.is)
+    (ap (halls_below (length c.args.halls.now)) c.mask.ensures.bits ∙ c.in_ok-places.ensures.ok
+    ∙ ap (λ (key : Option Code × ℕ). fitting_places (relations_of c.args.facts.now) c.args.session.now key.1
+    (map (λ (hall : Code × Option Room). hall.0) c.args.halls.now)) c.key-item.is)
     (λ h held. c.in_ok-places.ensures.exist h (ap (λ m. holds m h) (sym c.mask.ensures.bits) ∙ held)) c.loop-key.invariant)
 
 pub returns-clause-ok : goal.returns-clause-ok

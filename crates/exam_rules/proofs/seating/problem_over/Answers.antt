@@ -21,7 +21,10 @@ ranks_of_keys r s keys k = ap ranks_of k ∙ ranks_of_members r s
 
 pub ranks-requires : goal.ranks-requires
 ranks-requires c =
-    let long : length c.args.keys.now ≡ length (members (relations_of c.args.facts.now) c.args.session.now) = ap length c.requires.keys ∙ length-map (members (relations_of c.args.facts.now) c.args.session.now) (desk_key (relations_of c.args.facts.now) c.args.session.now) in
+    let long : length c.args.keys.now ≡ length (members (relations_of c.args.facts.now) c.args.session.now) =
+    ap length c.requires.keys
+    ∙ length-map (members (relations_of c.args.facts.now) c.args.session.now)
+    (desk_key (relations_of c.args.facts.now) c.args.session.now) in
     let same : length c.args.numbers.items ≡ length (members (relations_of c.args.facts.now) c.args.session.now) = ap length c.requires.numbers in
     omega arith
 
@@ -49,9 +52,14 @@ pub from_masks-requires : goal.from_masks-requires
 from_masks-requires c =
     let r = relations_of c.args.facts.now in
     let s = c.args.session.now in
-    let long : length c.in_ok-desks.desks.items ≡ length c.deref-2.result.now = desks_long r s c.in_ok-desks.desks.items c.deref-2.result.now (c.in_ok-desks.ensures.ok ∙ ap (map (desks r s)) (c.deref.ensures.value ∙ sym c.deref-2.ensures.value)) in
+    let long : length c.in_ok-desks.desks.items ≡ length c.deref-2.result.now =
+    desks_long r s c.in_ok-desks.desks.items c.deref-2.result.now
+    (c.in_ok-desks.ensures.ok ∙ ap (map (desks r s)) (c.deref.ensures.value ∙ sym c.deref-2.ensures.value)) in
     let halls : length c.deref-2.result.now ≡ length c.args.halls.items = ap length c.deref-2.ensures.value in
-    let rows : length c.in_ok-fit.fit.items ≡ length (members r s) = sym (length-map c.in_ok-fit.fit.items set_of_mask) ∙ rows_long r s (length c.deref-2.result.now) (sets_of c.in_ok-fit.fit.items) c.deref-2.result.now c.in_ok-fit.ensures.ok in
+    let rows : length c.in_ok-fit.fit.items ≡ length (members r s) =
+    sym (length-map c.in_ok-fit.fit.items set_of_mask)
+    ∙ rows_long r s (length c.deref-2.result.now)
+    (sets_of c.in_ok-fit.fit.items) c.deref-2.result.now c.in_ok-fit.ensures.ok in
     let same : length c.args.numbers.items ≡ length (members r s) = ap length c.requires.numbers in
     let ranked : c.in_ok-rank.rank.items ≡ map (rank r s) (members r s) = c.in_ok-rank.ensures.ok ∙ ranks_of_keys r s c.args.keys.now c.requires.keys in record {
       few_halls = subst (λ n. n ≤ most_halls) (sym (long ∙ halls)) c.requires.few_halls;

@@ -13,5 +13,8 @@ returns c =
     record {
       rows = own;
       live = λ s. ap (λ rows. live_papers_in (relations_of c.args.facts.now) rows s c.args.number) own
-          ∙ ap (map (λ (e : (ℕ × Code) × Entry). e.0.1)) (filter_and (is_row_of c.args.number) (λ (e : (ℕ × Code) × Entry). e.1.live && is_paper_of (relations_of c.args.facts.now) s e.0.1) c.args.facts.now.entries.entries);
+          ∙ ap (map (λ (e : (ℕ × Code) × Entry). e.0.1))
+          (filter_and (is_row_of c.args.number)
+          (λ (e : (ℕ × Code) × Entry). e.1.live && is_paper_of (relations_of c.args.facts.now) s e.0.1)
+          c.args.facts.now.entries.entries);
     }

@@ -10,7 +10,10 @@ pub loop-key-init : goal.loop-key-init
 loop-key-init c = (
   tt,
   tt,
-  ap (λ rows. fold later_of None (filter (λ grant. nat_le grant.day c.args.day) (standing_grants_in (relations_of c.args.facts.now) (leading (is_row_of c.args.number) rows) c.args.number))) c.into_iter-key-iterator.ensures.into_iter_gives
+  ap (λ rows. fold later_of None
+      (filter (λ grant. nat_le grant.day c.args.day)
+      (standing_grants_in (relations_of c.args.facts.now) (leading (is_row_of c.args.number) rows) c.args.number)))
+      c.into_iter-key-iterator.ensures.into_iter_gives
       ∙ ap (λ rows. fold later_of None (filter (λ grant. nat_le grant.day c.args.day) (standing_grants_in (relations_of c.args.facts.now) rows c.args.number))) c.appeals_from-key-items.ensures.rows
       ∙ ap (λ rows. fold later_of None (filter (λ grant. nat_le grant.day c.args.day) (filter_map (λ (a : (ℕ × Code) × Appeal). standing_grant (relations_of c.args.facts.now) a.1) rows)))
       (filter_and (is_row_of c.args.number) (λ (a : (ℕ × Code) × Appeal). is_granted a.1.status && is_marked (relations_of c.args.facts.now) a.0) c.args.facts.now.appeals.entries),

@@ -73,10 +73,14 @@ returns-in_err-seats-clause-left g c = λ clean.
 -- and what a crash leaves
 
 pub returns-clause-survives : goal.returns-clause-survives
-returns-clause-survives g c = both_survive (state g.S.Store c.args.conn.now) (state g.S.Store c.load_facts.new.conn) (state g.S.Store c.load_rows.new.conn) c.load_facts.ensures.survives c.load_rows.ensures.survives
+returns-clause-survives g c =
+    both_survive (state g.S.Store c.args.conn.now) (state g.S.Store c.load_facts.new.conn)
+    (state g.S.Store c.load_rows.new.conn) c.load_facts.ensures.survives c.load_rows.ensures.survives
 
 pub returns-in_err-seats-clause-survives : goal.returns-in_err-seats-clause-survives
-returns-in_err-seats-clause-survives g c = both_survive (state g.S.Store c.args.conn.now) (state g.S.Store c.load_facts.new.conn) (state g.S.Store c.load_rows.new.conn) c.load_facts.ensures.survives c.load_rows.ensures.survives
+returns-in_err-seats-clause-survives g c =
+    both_survive (state g.S.Store c.args.conn.now) (state g.S.Store c.load_facts.new.conn)
+    (state g.S.Store c.load_rows.new.conn) c.load_facts.ensures.survives c.load_rows.ensures.survives
 
 -- and which tables are there
 

@@ -13,7 +13,9 @@ pub returns-in_err-office-clause-bad : goal.returns-in_err-office-clause-bad
 returns-in_err-office-clause-bad g c = λ clean.
     let is : c.from_residual.result ≡ Err c.in_err-office.field-0.0 = search rules in
     let v = c.args.version.number in
-    rw is (part_failed c.in_err-office.field-0.0 (λ told. told) (λ none all was. inr (none_good v all (none all (made_of v (state g.S.Store c.args.conn.now).now all was)))) (c.in_err-office.ensures.bad clean))
+    rw is (part_failed c.in_err-office.field-0.0 (λ told. told)
+    (λ none all was. inr (none_good v all (none all (made_of v (state g.S.Store c.args.conn.now).now all was))))
+    (c.in_err-office.ensures.bad clean))
 
 pub returns-then-has_marks-version-clause-bad : goal.returns-then-has_marks-version-clause-bad
 returns-then-has_marks-version-clause-bad g c = λ clean. inr (inr (
@@ -21,7 +23,9 @@ returns-then-has_marks-version-clause-bad g c = λ clean. inr (inr (
   λ all was.
       let same = c.in_ok-office.ensures.left clean in
       let v = c.args.version in
-      let lists : lists_marks (state g.S.Store c.load_office.new.conn).now.schema ≡ marks_since v.number = ap (λ (db : Database). lists_marks db.schema) same.0.now_is ∙ listed_of v.number (state g.S.Store c.args.conn.now).now all was in
+      let lists : lists_marks (state g.S.Store c.load_office.new.conn).now.schema ≡ marks_since v.number =
+      ap (λ (db : Database). lists_marks db.schema) same.0.now_is
+      ∙ listed_of v.number (state g.S.Store c.args.conn.now).now all was in
       absurd (found_different c.has_marks.result v.has_marks c.if-has_marks-version.true (c.has_marks.ensures ∙ lists ∙ sym (known_marks v c.requires.known))),
 ))
 
@@ -47,4 +51,5 @@ returns-clause-marks g c = λ clean.
 pub returns-clause-understood : goal.returns-clause-understood
 returns-clause-understood g c = λ clean.
     let v = c.args.version in
-    understood_of v.number (state g.S.Store c.args.conn.now).now (c.in_ok-office.ensures.understood clean) (returns-clause-marks g c clean ∙ known_marks v c.requires.known) (c.in_ok-office.ensures.marks clean)
+    understood_of v.number (state g.S.Store c.args.conn.now).now (c.in_ok-office.ensures.understood clean)
+    (returns-clause-marks g c clean ∙ known_marks v c.requires.known) (c.in_ok-office.ensures.marks clean)

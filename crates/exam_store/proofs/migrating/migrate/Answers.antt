@@ -26,7 +26,11 @@ returns-in_err-save_widened-clause-made g c =
     let new = state g.S.Store c.save_widened.new.conn in
     let e = c.in_err-save_widened.field-0.0 in
     let is : c.from_residual-in_err-save_widened.result ≡ Err e = search rules in
-    rw is (commits_err old new e e Migrates (commits_weaker old new (Err e) Widens Migrates migrates (then_commits old mid new (Err e) Widens c.in_ok-version.ensures.left c.judged_version.ensures.survives c.in_err-save_widened.ensures.made)))
+    rw is (commits_err old new e e Migrates
+    (commits_weaker old new (Err e) Widens Migrates migrates
+    (then_commits old mid new
+    (Err e) Widens c.in_ok-version.ensures.left c.judged_version.ensures.survives
+    c.in_err-save_widened.ensures.made)))
 
 pub returns-in_err-save_widened-clause-refusal : goal.returns-in_err-save_widened-clause-refusal
 returns-in_err-save_widened-clause-refusal g c = λ clean.
@@ -66,5 +70,9 @@ returns-then-version-clause-made g c =
     let new = c.judged_version.new.conn in
     let newest : c.in_ok-version.version.number ≡ version = search rules in
     let settled : IsTrue old.is_open → old.now ≡ old.committed = search rules in
-    unchanged_commits old (state g.S.Store new) (c.in_ok-version.version.number, version) Migrates settled c.in_ok-version.ensures.left (λ clean. newest_alone old.now (state g.S.Store new).now (λ all was. subst (λ v. HasVersion v all) newest (c.in_ok-version.ensures.found clean all was).1)) (λ trees is may. g.met.S.Store.settled new.store trees is may)
+    unchanged_commits old (state g.S.Store new)
+    (c.in_ok-version.version.number, version) Migrates settled c.in_ok-version.ensures.left
+    (λ clean. newest_alone old.now (state g.S.Store new).now
+    (λ all was. subst (λ v. HasVersion v all) newest (c.in_ok-version.ensures.found clean all was).1))
+    (λ trees is may. g.met.S.Store.settled new.store trees is may)
     c.judged_version.ensures.survives

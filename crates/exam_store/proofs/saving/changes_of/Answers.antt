@@ -15,13 +15,19 @@ use Rattle.exam_store.proofs.PutsAlone.{puts_alone}
 use Rattle.exam_store.proofs.saving.changes_of.Goals as goal
 
 -- the rows after the command are those that the facts show
-shown : {K X : Type 0} {cmp : K → K → Ordering} (told : Before K X) (old now after : List (K × X)) (d : Difference K X) → now ≡ after → WasTable cmp told old after → (WasTable cmp told old now → TurnsTable cmp old now d) → TurnsTable cmp old after d
+shown : {K X : Type 0} {cmp : K → K → Ordering} (told : Before K X) (old now after : List (K × X)) (d : Difference K X)
+    → now ≡ after → WasTable cmp told old after → (WasTable cmp told old now → TurnsTable cmp old now d)
+    → TurnsTable cmp old after d
 shown {cmp} told old now after d is was turns = subst (λ rows. TurnsTable cmp old rows d) is (turns (subst (λ rows. WasTable cmp told old rows) (sym is) was))
 
 -- and where no key is gone, what is put makes them
-put_alone : {K X : Type 0} {cmp : K → K → Ordering} (total : IsTotalOrder cmp) (exact : CmpEqualImpliesEq cmp) (told : Before K X) (old now after : List (K × X)) (d : Difference K X) → now ≡ after → KeepsKeys cmp old after → WasTable cmp told old after
+put_alone : {K X : Type 0} {cmp : K → K → Ordering} (total : IsTotalOrder cmp) (exact : CmpEqualImpliesEq cmp)
+    (told : Before K X) (old now after : List (K × X)) (d : Difference K X) → now ≡ after → KeepsKeys cmp old after
+    → WasTable cmp told old after
     → (WasTable cmp told old now → TurnsTable cmp old now d) → TurnsRows cmp old after d.put.items
-put_alone total exact told old now after d is keeps was turns = puts_alone total exact old after (map deref_pair d.put.items) (map (λ k. k.now) d.delete.items) (shown told old now after d is was turns) keeps
+put_alone total exact told old now after d is keeps was turns =
+    puts_alone total exact old after (map deref_pair d.put.items) (map (λ k. k.now) d.delete.items)
+    (shown told old now after d is was turns) keeps
 
 pub returns-clause-turns : goal.returns-clause-turns
 returns-clause-turns c =
@@ -34,14 +40,38 @@ returns-clause-turns c =
     let facts = c.facts-after.result.now in
     let is = c.facts-after.ensures in
     record {
-      sessions = put_alone nat_list_cmp_total sessions_exact.keys was.sessions before.sessions facts.sessions.entries after.sessions c.in_ok-difference_since.field-0 (ap (λ (r : Relations). r.sessions) is) kept.sessions told.sessions (c.in_ok-difference_since.ensures before.sessions sessions_exact rise.tables.sessions);
-      papers = put_alone nat_list_cmp_total papers_exact.keys was.papers before.papers facts.papers.entries after.papers c.in_ok-difference_since-2.field-0 (ap (λ (r : Relations). r.papers) is) kept.papers told.papers (c.in_ok-difference_since-2.ensures before.papers papers_exact rise.tables.papers);
-      halls = put_alone nat_list_cmp_total halls_exact.keys was.halls before.halls facts.halls.entries after.halls c.in_ok-difference_since-3.field-0 (ap (λ (r : Relations). r.halls) is) kept.halls told.halls (c.in_ok-difference_since-3.ensures before.halls halls_exact rise.tables.halls);
-      openings = shown was.openings before.openings facts.openings.entries after.openings c.in_ok-difference_since-4.field-0 (ap (λ (r : Relations). r.openings) is) told.openings (c.in_ok-difference_since-4.ensures before.openings openings_exact rise.tables.openings);
-      candidates = put_alone nat_cmp_total candidates_exact.keys was.candidates before.candidates facts.candidates.entries after.candidates c.in_ok-difference_since-5.field-0 (ap (λ (r : Relations). r.candidates) is) kept.candidates told.candidates (c.in_ok-difference_since-5.ensures before.candidates candidates_exact rise.tables.candidates);
-      entries = put_alone appeals_total entries_exact.keys was.entries before.entries facts.entries.entries after.entries c.in_ok-difference_since-6.field-0 (ap (λ (r : Relations). r.entries) is) kept.entries told.entries (c.in_ok-difference_since-6.ensures before.entries entries_exact rise.tables.entries);
-      arrangements = put_alone nat_cmp_total arrangements_exact.keys was.arrangements before.arrangements facts.arrangements.entries after.arrangements c.in_ok-difference_since-7.field-0 (ap (λ (r : Relations). r.arrangements) is) kept.arrangements told.arrangements (c.in_ok-difference_since-7.ensures before.arrangements arrangements_exact rise.tables.arrangements);
-      appeals = put_alone appeals_total appeals_exact.keys was.appeals before.appeals facts.appeals.entries after.appeals c.in_ok-difference_since-8.field-0 (ap (λ (r : Relations). r.appeals) is) kept.appeals told.appeals (c.in_ok-difference_since-8.ensures before.appeals appeals_exact rise.tables.appeals);
-      standing = put_alone appeals_total standing_exact.keys was.standing before.standing facts.standing.entries after.standing c.in_ok-difference_since-9.field-0 (ap (λ (r : Relations). r.standing) is) kept.standing told.standing (c.in_ok-difference_since-9.ensures before.standing standing_exact rise.tables.standing);
+      sessions = put_alone nat_list_cmp_total sessions_exact.keys was.sessions before.sessions facts.sessions.entries
+          after.sessions c.in_ok-difference_since.field-0
+          (ap (λ (r : Relations). r.sessions) is) kept.sessions told.sessions
+          (c.in_ok-difference_since.ensures before.sessions sessions_exact rise.tables.sessions);
+      papers = put_alone nat_list_cmp_total papers_exact.keys was.papers before.papers facts.papers.entries
+          after.papers c.in_ok-difference_since-2.field-0 (ap (λ (r : Relations). r.papers) is) kept.papers told.papers
+          (c.in_ok-difference_since-2.ensures before.papers papers_exact rise.tables.papers);
+      halls = put_alone nat_list_cmp_total halls_exact.keys was.halls before.halls facts.halls.entries after.halls
+          c.in_ok-difference_since-3.field-0 (ap (λ (r : Relations). r.halls) is) kept.halls told.halls
+          (c.in_ok-difference_since-3.ensures before.halls halls_exact rise.tables.halls);
+      openings = shown was.openings before.openings facts.openings.entries after.openings
+          c.in_ok-difference_since-4.field-0 (ap (λ (r : Relations). r.openings) is) told.openings
+          (c.in_ok-difference_since-4.ensures before.openings openings_exact rise.tables.openings);
+      candidates = put_alone nat_cmp_total candidates_exact.keys was.candidates before.candidates
+          facts.candidates.entries after.candidates c.in_ok-difference_since-5.field-0
+          (ap (λ (r : Relations). r.candidates) is) kept.candidates told.candidates
+          (c.in_ok-difference_since-5.ensures before.candidates candidates_exact rise.tables.candidates);
+      entries = put_alone appeals_total entries_exact.keys was.entries before.entries facts.entries.entries
+          after.entries c.in_ok-difference_since-6.field-0
+          (ap (λ (r : Relations). r.entries) is) kept.entries told.entries
+          (c.in_ok-difference_since-6.ensures before.entries entries_exact rise.tables.entries);
+      arrangements = put_alone nat_cmp_total arrangements_exact.keys was.arrangements before.arrangements
+          facts.arrangements.entries after.arrangements c.in_ok-difference_since-7.field-0
+          (ap (λ (r : Relations). r.arrangements) is) kept.arrangements told.arrangements
+          (c.in_ok-difference_since-7.ensures before.arrangements arrangements_exact rise.tables.arrangements);
+      appeals = put_alone appeals_total appeals_exact.keys was.appeals before.appeals facts.appeals.entries
+          after.appeals c.in_ok-difference_since-8.field-0
+          (ap (λ (r : Relations). r.appeals) is) kept.appeals told.appeals
+          (c.in_ok-difference_since-8.ensures before.appeals appeals_exact rise.tables.appeals);
+      standing = put_alone appeals_total standing_exact.keys was.standing before.standing facts.standing.entries
+          after.standing c.in_ok-difference_since-9.field-0
+          (ap (λ (r : Relations). r.standing) is) kept.standing told.standing
+          (c.in_ok-difference_since-9.ensures before.standing standing_exact rise.tables.standing);
       seats = c.in_ok-seats_since.ensures c.args.draft.now.before.seats c.args.draft.now.after.seats rise.seats c.show_good.ensures.after_rises.seats c.plans_before.ensures;
     }

@@ -7,7 +7,10 @@ use Rattle.exam_store.proofs.saving.save.Goals as goal
 pub returns-clause-made : goal.returns-clause-made
 returns-clause-made g c =
     let draft = c.args.draft.now in
-    commits_weaker (state g.S.Store c.args.conn.now) (state g.S.Store c.save_changes.new.conn) c.save_changes.result _ _ (λ old new. rekeeps draft.before draft.after c.in_ok-changes.changes old new c.in_ok-changes.ensures.turns) c.save_changes.ensures.made
+    commits_weaker (state g.S.Store c.args.conn.now)
+    (state g.S.Store c.save_changes.new.conn) c.save_changes.result _ _
+    (λ old new. rekeeps draft.before draft.after c.in_ok-changes.changes old new c.in_ok-changes.ensures.turns)
+    c.save_changes.ensures.made
 
 pub returns-clause-failed : goal.returns-clause-failed
 returns-clause-failed g c = λ ended clean ours.

@@ -16,7 +16,9 @@ returns-clause-found g c =
     let mid = state g.S.Store c.version_of.new.conn in
     let new = state g.S.Store c.load_version.new.conn in
     let newest : c.in_ok-version.version.number ≡ version = search rules in
-    loaded old mid new c.load_version.result c.load_version.ensures.early (λ clean all was. subst (λ v. HasVersion v all) newest (c.in_ok-version.ensures.ok clean all was).0) c.in_ok-version.ensures.left c.in_ok-version.ensures.understood
+    loaded old mid new c.load_version.result c.load_version.ensures.early
+    (λ clean all was. subst (λ v. HasVersion v all) newest (c.in_ok-version.ensures.ok clean all was).0)
+    c.in_ok-version.ensures.left c.in_ok-version.ensures.understood
     c.load_version.ensures.rows (rw newest at c.load_version.ensures.understood) c.load_version.ensures.left c.version_of.ensures.survives c.load_version.ensures.survives
 
 pub returns-clause-kept : goal.returns-clause-kept
@@ -24,10 +26,14 @@ returns-clause-kept g c = finds_kept (state g.S.Store c.args.conn.now) (state g.
 
 pub returns-clause-left : goal.returns-clause-left
 returns-clause-left g c = λ clean.
-    then_reads (state g.S.Store c.args.conn.now) (state g.S.Store c.version_of.new.conn) (state g.S.Store c.load_version.new.conn) c.load_version.result (c.in_ok-version.ensures.left (c.load_version.ensures.early clean)) (c.load_version.ensures.left clean)
+    then_reads (state g.S.Store c.args.conn.now) (state g.S.Store c.version_of.new.conn)
+    (state g.S.Store c.load_version.new.conn) c.load_version.result
+    (c.in_ok-version.ensures.left (c.load_version.ensures.early clean)) (c.load_version.ensures.left clean)
 
 pub returns-clause-survives : goal.returns-clause-survives
-returns-clause-survives g c = both_survive (state g.S.Store c.args.conn.now) (state g.S.Store c.version_of.new.conn) (state g.S.Store c.load_version.new.conn) c.version_of.ensures.survives c.load_version.ensures.survives
+returns-clause-survives g c =
+    both_survive (state g.S.Store c.args.conn.now) (state g.S.Store c.version_of.new.conn)
+    (state g.S.Store c.load_version.new.conn) c.version_of.ensures.survives c.load_version.ensures.survives
 
 pub returns-clause-refusal : goal.returns-clause-refusal
 returns-clause-refusal g c = λ clean.
@@ -36,13 +42,25 @@ returns-clause-refusal g c = λ clean.
     let same = c.in_ok-version.ensures.left (c.load_version.ensures.early clean) in
     let newest : c.in_ok-version.version.number ≡ version = search rules in
     IfErr-weaker c.load_version.result _ _ (λ e why.
-    inl (part_failed e (λ told. (told.0, still_then old mid (state g.S.Store told.0) same told.1, told.2, told.3, told.4)) (λ none. (λ all was. none all (still_of version old mid all same was), λ v known all was has. one_version v version all has (subst (λ v. HasVersion v all) newest (c.in_ok-version.ensures.ok (c.load_version.ensures.early clean) all was).0))) why))
+    inl (part_failed e (λ told.
+    (told.0, still_then old mid (state g.S.Store told.0) same told.1, told.2, told.3, told.4))
+    (λ none. (
+      λ all was. none all (still_of version old mid all same was),
+      λ v known all was has. one_version v version all has
+          (subst (λ v. HasVersion v all) newest
+          (c.in_ok-version.ensures.ok (c.load_version.ensures.early clean) all was).0),
+    )) why))
     (rw newest at c.load_version.ensures.bad clean)
 
 pub returns-in_err-version-clause-refusal : goal.returns-in_err-version-clause-refusal
 returns-in_err-version-clause-refusal g c = λ clean.
     let is : c.from_residual.result ≡ Err c.in_err-version.field-0.0 = search rules in
-    rw is (inl (part_failed c.in_err-version.field-0.0 (λ told. (c.args.conn.now, still_itself (state g.S.Store c.args.conn.now), load_office, office_loads, told)) (λ none. (λ all was. inl (none all (made_of version _ all was) version (inr refl)), λ v known all was has. absurd (none all was v known has))) (c.in_err-version.ensures.bad clean)))
+    rw is (inl (part_failed c.in_err-version.field-0.0
+    (λ told. (c.args.conn.now, still_itself (state g.S.Store c.args.conn.now), load_office, office_loads, told))
+    (λ none. (
+      λ all was. inl (none all (made_of version _ all was) version (inr refl)),
+      λ v known all was has. absurd (none all was v known has),
+    )) (c.in_err-version.ensures.bad clean)))
 
 pub returns-then-version-clause-refusal : goal.returns-then-version-clause-refusal
 returns-then-version-clause-refusal g c = λ clean.

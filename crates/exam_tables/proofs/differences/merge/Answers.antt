@@ -6,12 +6,16 @@ use Rattle.exam_tables.proofs.differences.merge.Goals.{then-ne+in_ok-push-in-Equ
 
 pub rows-preserved-in-Less : goal.rows-preserved-in-Less
 rows-preserved-in-Less g c =
-    refs_delete g.met.K.Ord.total g.V.PartialEq.eq (map deref_pair c.args.old.now) (map deref_pair c.args.new.now) c.rows.old.now c.rows.new.now c.rows.put.items c.rows.put.items c.rows.delete.items c.push.new.self.items c.index-old-0.result
+    refs_delete g.met.K.Ord.total g.V.PartialEq.eq (map deref_pair c.args.old.now)
+    (map deref_pair c.args.new.now) c.rows.old.now c.rows.new.now c.rows.put.items c.rows.put.items
+    c.rows.delete.items c.push.new.self.items c.index-old-0.result
     c.in-Less.ensures.bounds c.in-Less.ensures.first c.in_ok-push-in-Less.ensures.items c.rows.invariant
 
 pub rows-preserved-in-Greater : goal.rows-preserved-in-Greater
 rows-preserved-in-Greater g c =
-    refs_put g.met.K.Ord.total g.V.PartialEq.eq (map deref_pair c.args.old.now) (map deref_pair c.args.new.now) c.rows.old.now c.rows.new.now c.rows.put.items c.push-in-Greater.new.self.items c.rows.delete.items c.rows.delete.items c.index-new-0.result
+    refs_put g.met.K.Ord.total g.V.PartialEq.eq (map deref_pair c.args.old.now)
+    (map deref_pair c.args.new.now) c.rows.old.now c.rows.new.now c.rows.put.items c.push-in-Greater.new.self.items
+    c.rows.delete.items c.rows.delete.items c.index-new-0.result
     c.in-Greater.ensures.bounds c.in-Greater.ensures.first c.index-new-0.is c.in_ok-push-in-Greater.ensures.items c.rows.invariant
 
 pub rows-preserved : goal.rows-preserved

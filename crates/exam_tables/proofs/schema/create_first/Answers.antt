@@ -17,7 +17,9 @@ texts-preserved g c =
     let mid = state g.S.Store c.texts.tx.conn.now in
     let new = state g.S.Store c.run.new.tx.conn.now in
     let run = c.in_ok-run.ensures in
-    let step = table_leads (made at) (made (at + 1)) (get_or first_tables at tables.office) _ (each_text c.args.statements.now c.requires at _ c.texts-test.true) (each_added at below) mid new (Ok tt) run.failed run.ran run.kept run.survives run.told in
+    let step = table_leads (made at) (made (at + 1)) (get_or first_tables at tables.office) _
+    (each_text c.args.statements.now c.requires at _ c.texts-test.true) (each_added at below) mid new
+    (Ok tt) run.failed run.ran run.kept run.survives run.told in
     record {
       same = run.same_reference ∙ c.texts.invariant.same;
       made = leads_then (HasNoRows (made 0)) (HasNoRows (made at)) (HasNoRows (made (at + 1))) (state g.S.Store c.args.tx.now.conn.now) mid new (Ok tt) c.texts.invariant.made step;
@@ -32,8 +34,12 @@ returns-in_err-run-clause-made g c =
     let mid = state g.S.Store c.texts.tx.conn.now in
     let new = state g.S.Store c.run.new.tx.conn.now in
     let run = c.in_err-run.ensures in
-    let step = table_leads (made at) (made (at + 1)) (get_or first_tables at tables.office) _ (each_text c.args.statements.now c.requires at _ c.texts-test.true) (each_added at below) mid new (Err e) run.failed run.ran run.kept run.survives run.told in
-    rw failed (leads_then (HasNoRows (made 0)) (HasNoRows (made at)) (HasNoRows (made 10)) (state g.S.Store c.args.tx.now.conn.now) mid new (Err e) c.texts.invariant.made (leads_refused (HasNoRows (made at)) (HasNoRows (made (at + 1))) (HasNoRows (made 10)) mid new e step))
+    let step = table_leads (made at) (made (at + 1)) (get_or first_tables at tables.office) _
+    (each_text c.args.statements.now c.requires at _ c.texts-test.true) (each_added at below) mid new
+    (Err e) run.failed run.ran run.kept run.survives run.told in
+    rw failed (leads_then (HasNoRows (made 0)) (HasNoRows (made at)) (HasNoRows (made 10))
+    (state g.S.Store c.args.tx.now.conn.now) mid new (Err e) c.texts.invariant.made
+    (leads_refused (HasNoRows (made at)) (HasNoRows (made (at + 1))) (HasNoRows (made 10)) mid new e step))
 
 pub returns-clause-made : goal.returns-clause-made
 returns-clause-made g c =

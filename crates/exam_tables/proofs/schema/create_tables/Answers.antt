@@ -13,7 +13,8 @@ returns-clause-made g c =
     let at_0 = state g.S.Store c.args.tx.now.conn.now in
     let at_1 = state g.S.Store c.create_first.new.tx.conn.now in
     let at_2 = state g.S.Store c.widen_tables.new.tx.conn.now in
-    let first = leads_from (HasNoRows (made 0)) (HasNoRows (made 10)) IsBlank (HasFirst (λ tree. [])) at_0 at_1 (Ok tt) (blank_is_empty at_0.now) (first_is_empty at_1.now) c.in_ok-create_first.ensures.made in
+    let first = leads_from (HasNoRows (made 0)) (HasNoRows (made 10)) IsBlank (HasFirst (λ tree. [])) at_0 at_1 (Ok tt)
+    (blank_is_empty at_0.now) (first_is_empty at_1.now) c.in_ok-create_first.ensures.made in
     leads_then IsBlank (HasFirst (λ tree. [])) IsMade at_0 at_1 at_2 c.widen_tables.result first (c.widen_tables.ensures.made (λ tree. []))
 
 pub returns-in_err-create_first-clause-made : goal.returns-in_err-create_first-clause-made

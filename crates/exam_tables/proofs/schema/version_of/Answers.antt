@@ -50,15 +50,22 @@ returns-in_err-rows-clause-survives g c = query_survives load_office office.is_q
 pub returns-in_err-rows-clause-bad : goal.returns-in_err-rows-clause-bad
 returns-in_err-rows-clause-bad g c = λ clean.
     let is : c.from_residual.result ≡ Err c.in_err-rows.field-0.0 = search rules in
-    rw is (inr (inl (fails_to_load {V = Unit {0}} load_office (λ old new has_marks. load_fails (office.loads has_marks) old new) (state g.S.Store c.args.conn.now) (state g.S.Store c.all_rows.new.conn) (Err c.in_err-rows.field-0.0) (c.in_err-rows.ensures.failed clean))))
+    rw is (inr (inl (fails_to_load {V = Unit {0}} load_office
+    (λ old new has_marks. load_fails (office.loads has_marks) old new) (state g.S.Store c.args.conn.now)
+    (state g.S.Store c.all_rows.new.conn) (Err c.in_err-rows.field-0.0) (c.in_err-rows.ensures.failed clean))))
 
 pub returns-clause-understood : goal.returns-clause-understood
 returns-clause-understood g c = λ clean.
-    understood_still c.version_in.result (shown_understood load_office (state g.S.Store c.args.conn.now) (state g.S.Store c.all_rows.new.conn) c.in_ok-rows.rows.items (c.in_ok-rows.ensures.shown clean))
+    understood_still c.version_in.result
+    (shown_understood load_office (state g.S.Store c.args.conn.now)
+    (state g.S.Store c.all_rows.new.conn) c.in_ok-rows.rows.items (c.in_ok-rows.ensures.shown clean))
 
 pub returns-clause-unchanged : goal.returns-clause-unchanged
 returns-clause-unchanged g c = λ clean.
-    IfErr-weaker c.version_in.result _ _ (λ e why bad. shown_unchanged load_office office.is_query [] (state g.S.Store c.args.conn.now) (state g.S.Store c.all_rows.new.conn) c.in_ok-rows.rows.items (c.in_ok-rows.ensures.shown clean)) c.version_in.ensures.bad
+    IfErr-weaker c.version_in.result _ _
+    (λ e why bad. shown_unchanged load_office office.is_query [] (state g.S.Store c.args.conn.now)
+    (state g.S.Store c.all_rows.new.conn) c.in_ok-rows.rows.items (c.in_ok-rows.ensures.shown clean))
+    c.version_in.ensures.bad
 
 pub returns-in_err-rows-clause-unchanged : goal.returns-in_err-rows-clause-unchanged
 returns-in_err-rows-clause-unchanged g c = λ clean.

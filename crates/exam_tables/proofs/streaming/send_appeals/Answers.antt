@@ -65,7 +65,9 @@ returns-in-Err-clause-left g c = λ clean.
     let old = state g.S.Store c.args.conn.now in
     let new = state g.S.Store c.query.follows.lender-at-none in
     let is : c.query.result ≡ Err c.in-Err.error = search rules in
-    let failed = refused_fails g.S.Store session_appeals (Text c.as_bytes.result.now ∷ []) c.args.conn.now c.query.follows.lender-at-none c.query.result c.in-Err.error is c.query.follows.holds-at-none clean in
+    let failed = refused_fails g.S.Store session_appeals
+    (Text c.as_bytes.result.now ∷ []) c.args.conn.now c.query.follows.lender-at-none c.query.result c.in-Err.error
+    is c.query.follows.holds-at-none clean in
     failed_unchanged session_appeals (Text c.as_bytes.result.now ∷ []) old new c.in-Err.error failed
 
 pub returns-in-Err-clause-survives : goal.returns-in-Err-clause-survives

@@ -35,7 +35,9 @@ appeals-init g c = (
   survives_itself (state g.S.Store c.args.rows.now.conn.now),
   λ mode. mode,
   λ clean s reads. still_open g.S.Store session_appeals (Text s ∷ []) c.args.rows.now.conn.now [] reads,
-  λ clean. none_sent g.S.Store g.W.Write.contents (g.F.AppealText.heading_text c.args.form.now) (g.F.AppealText.line_text c.args.form.now) c.args.count c.args.rows.now.conn.now c.args.writer.now c.send_heading.new.writer c.in_ok-send_heading.ensures.sent,
+  λ clean. none_sent g.S.Store g.W.Write.contents (g.F.AppealText.heading_text c.args.form.now)
+      (g.F.AppealText.line_text c.args.form.now) c.args.count c.args.rows.now.conn.now c.args.writer.now
+      c.send_heading.new.writer c.in_ok-send_heading.ensures.sent,
 )
 
 pub returns-in_err-key-clause-sent : goal.returns-in_err-key-clause-sent
@@ -54,7 +56,9 @@ returns-in_err-key-clause-left g c =
     let is : c.from_residual-in_err-key.result ≡ Err (faults.Refused c.in_err-key.field-0.0) = search rules in
     λ clean s reads.
     let before : HasCleanDisk (state g.S.Store c.appeals.rows.conn.now) = omega (arith, c.in_err-key.ensures.survives.clean) in
-    rw is (left_then (state g.S.Store c.args.rows.now.conn.now) (state g.S.Store c.appeals.rows.conn.now) (state g.S.Store c.next_appeal.new.rows.conn.now) (c.appeals.invariant.3 before s reads) (c.in_err-key.ensures.left clean))
+    rw is (left_then (state g.S.Store c.args.rows.now.conn.now) (state g.S.Store c.appeals.rows.conn.now)
+    (state g.S.Store c.next_appeal.new.rows.conn.now) (c.appeals.invariant.3 before s reads)
+    (c.in_err-key.ensures.left clean))
 
 pub returns-in_err-key-clause-survives : goal.returns-in_err-key-clause-survives
 returns-in_err-key-clause-survives g c = both_survive _ _ _ c.appeals.invariant.1 c.in_err-key.ensures.survives
@@ -67,7 +71,9 @@ returns-in_err-send_line-clause-sent g c =
     let line = g.F.AppealText.line_text c.args.form.now in
     let before : HasCleanDisk (state g.S.Store c.appeals.rows.conn.now) = omega (arith, c.in_ok-key.ensures.survives.clean) in
     fault_sends g.W.Write.contents c.from_residual-in_err-send_line.result c.in_err-send_line.field-0.0 c.args.writer.now c.send_line.new.writer (text_of heading line (appeals_in appeals s)) is
-    (send_cut g.S.Store g.W.Write.contents heading line c.args.count c.args.rows.now.conn.now c.args.writer.now s reads appeals has many c.appeals._place c.appeals.rows.conn.now c.next_appeal.new.rows.conn.now c.appeals.writer c.send_line.new.writer
+    (send_cut g.S.Store g.W.Write.contents heading line c.args.count c.args.rows.now.conn.now c.args.writer.now s reads
+    appeals has many c.appeals._place c.appeals.rows.conn.now c.next_appeal.new.rows.conn.now c.appeals.writer
+    c.send_line.new.writer
     (c.in_ok-key.key, c.in_ok-key.appeal) (c.appeals.invariant.4 before)
     (unchanged_then _ _ _ (c.appeals.invariant.3 before s reads) (c.in_ok-key.ensures.left clean)) c.in_ok-key.ensures.form (c.in_ok-key.ensures.given clean) c.in_err-send_line.ensures.sent)
 
@@ -91,14 +97,19 @@ appeals-preserved g c =
       both_survive _ _ _ c.appeals.invariant.1 c.in_ok-key.ensures.survives,
       λ mode. c.in_ok-key.ensures.mode (c.appeals.invariant.2 mode),
       λ clean s reads. unchanged_then _ _ _ (c.appeals.invariant.3 (early clean) s reads) (c.in_ok-key.ensures.left clean),
-      λ clean. one_more_sent g.S.Store g.W.Write.contents (g.F.AppealText.heading_text c.args.form.now) (g.F.AppealText.line_text c.args.form.now) c.args.count c.args.rows.now.conn.now c.args.writer.now c.appeals._place c.appeals.rows.conn.now c.next_appeal.new.rows.conn.now c.appeals.writer c.send_line.new.writer
+      λ clean. one_more_sent g.S.Store g.W.Write.contents (g.F.AppealText.heading_text c.args.form.now)
+          (g.F.AppealText.line_text c.args.form.now) c.args.count c.args.rows.now.conn.now c.args.writer.now
+          c.appeals._place c.appeals.rows.conn.now c.next_appeal.new.rows.conn.now c.appeals.writer
+          c.send_line.new.writer
           (c.in_ok-key.key, c.in_ok-key.appeal) (c.appeals.invariant.4 (early clean)) c.in_ok-key.ensures.form (c.in_ok-key.ensures.given clean) c.in_ok-send_line.ensures.sent,
     )
 
 pub returns-clause-sent : goal.returns-clause-sent
 returns-clause-sent g c = λ clean s reads appeals has many.
     let end : c.args.count ≤ c.appeals._place = omega (arith, c.appeals-test.false) in
-    sent_whole g.S.Store g.W.Write.contents (g.F.AppealText.heading_text c.args.form.now) (g.F.AppealText.line_text c.args.form.now) c.args.count c.args.rows.now.conn.now c.args.writer.now s reads appeals has many c.appeals._place c.appeals.rows.conn.now c.appeals.writer
+    sent_whole g.S.Store g.W.Write.contents (g.F.AppealText.heading_text c.args.form.now)
+    (g.F.AppealText.line_text c.args.form.now) c.args.count c.args.rows.now.conn.now c.args.writer.now s reads
+    appeals has many c.appeals._place c.appeals.rows.conn.now c.appeals.writer
     (c.appeals.invariant.4 clean) (c.appeals.invariant.3 clean s reads) end
 
 pub returns-clause-left : goal.returns-clause-left
@@ -116,7 +127,9 @@ returns-in_err-key-clause-good g c =
     let before : HasCleanDisk (state g.S.Store c.appeals.rows.conn.now) = omega (arith, c.in_err-key.ensures.survives.clean) in
     let done = c.appeals.invariant.4 before in
     let lacks = λ (bad : c.in_err-key.field-0.0 ≡ BadStore).
-    next_there g.S.Store g.W.Write.contents (g.F.AppealText.heading_text c.args.form.now) (g.F.AppealText.line_text c.args.form.now) c.args.count c.args.rows.now.conn.now c.args.writer.now s reads appeals has many
+    next_there g.S.Store g.W.Write.contents (g.F.AppealText.heading_text c.args.form.now)
+    (g.F.AppealText.line_text c.args.form.now) c.args.count c.args.rows.now.conn.now c.args.writer.now s reads
+    appeals has many
     c.appeals._place c.appeals.rows.conn.now c.next_appeal.new.rows.conn.now c.appeals.writer done (c.appeals.invariant.3 before s reads) (omega (arith, c.appeals-test.true))
     (c.in_err-key.ensures.bad clean bad s (map stored done.given) (done.reads s reads)) in
     rw is (λ same. lacks (refused_same same))

@@ -9,8 +9,12 @@ use Rattle.exam_tables.proofs.table.load_rows.Goals as goal
 pub returns-clause-rows : goal.returns-clause-rows
 returns-clause-rows g c = λ clean.
     IfOk-weaker c.read_rows.result _ _ (λ table read all was.
-    let it = c.in_ok-rows.ensures.rows clean all was in
-    (rows_held c.in_ok-rows.rows.items (all g.T.StoredRows.form.tree) table.entries it.0 (subst (λ rows. AreRowsOf g.T.Key.Ord.cmp g.T.StoredRows.form.IsRow g.T.StoredRows.form.row rows table.entries) c.as_slice.ensures.value read), it.1)) c.read_rows.ensures.rows
+    let it = c.in_ok-rows.ensures.rows clean all was in (
+      rows_held c.in_ok-rows.rows.items (all g.T.StoredRows.form.tree) table.entries it.0
+          (subst (λ rows. AreRowsOf g.T.Key.Ord.cmp g.T.StoredRows.form.IsRow g.T.StoredRows.form.row rows table.entries)
+          c.as_slice.ensures.value read),
+      it.1,
+    )) c.read_rows.ensures.rows
 
 pub returns-clause-bad : goal.returns-clause-bad
 returns-clause-bad g c = λ clean.

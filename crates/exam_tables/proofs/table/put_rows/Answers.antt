@@ -11,7 +11,9 @@ rows-preserved g c =
     let more : take (c.rows.row-index + 1) c.args.rows.now ≡ take c.rows.row-index c.args.rows.now ++ c.row-item.result ∷ [] = search (rules, take_more) in
     record {
       same = c.in_ok-put.ensures.same_reference ∙ c.rows.invariant.same;
-      made = one_more (λ r. row_put g.T.StoredRows.form r.0.now r.1.now) c.args.rows.now c.rows.row-index c.row-item.result more (state g.S.Store c.args.tx.now.conn.now) (state g.S.Store c.rows.tx.conn.now) (state g.S.Store c.put.new.tx.conn.now) c.rows.invariant.made c.in_ok-put.ensures.made;
+      made = one_more (λ r. row_put g.T.StoredRows.form r.0.now r.1.now) c.args.rows.now c.rows.row-index
+          c.row-item.result more (state g.S.Store c.args.tx.now.conn.now) (state g.S.Store c.rows.tx.conn.now)
+          (state g.S.Store c.put.new.tx.conn.now) c.rows.invariant.made c.in_ok-put.ensures.made;
     }
 
 pub returns-in_err-put-clause-same_reference : goal.returns-in_err-put-clause-same_reference
@@ -21,7 +23,9 @@ pub returns-in_err-put-clause-made : goal.returns-in_err-put-clause-made
 returns-in_err-put-clause-made g c =
     let more : take (c.rows.row-index + 1) c.args.rows.now ≡ take c.rows.row-index c.args.rows.now ++ c.row-item.result ∷ [] = search (rules, take_more) in
     let is : c.from_residual.result ≡ Err c.in_err-put.field-0.0 = search rules in
-    rw is (one_fails (λ r. row_put g.T.StoredRows.form r.0.now r.1.now) c.args.rows.now c.rows.row-index c.row-item.result more (state g.S.Store c.args.tx.now.conn.now) (state g.S.Store c.rows.tx.conn.now) (state g.S.Store c.put.new.tx.conn.now) c.rows.invariant.made c.in_err-put.field-0.0 c.in_err-put.ensures.made)
+    rw is (one_fails (λ r. row_put g.T.StoredRows.form r.0.now r.1.now) c.args.rows.now c.rows.row-index
+    c.row-item.result more (state g.S.Store c.args.tx.now.conn.now) (state g.S.Store c.rows.tx.conn.now)
+    (state g.S.Store c.put.new.tx.conn.now) c.rows.invariant.made c.in_err-put.field-0.0 c.in_err-put.ensures.made)
 
 pub returns-clause-made : goal.returns-clause-made
 returns-clause-made g c =

@@ -15,7 +15,9 @@ rows-preserved g c =
     record {
       rises = c.add_row.ensures.rises;
       forms = all-permutation (λ e. g.T.StoredRows.form.IsRow e.0 e.1) _ _ c.in_ok-add_row.ensures.ok (read.0, c.rows.invariant.forms);
-      same = one_read (λ e. g.T.StoredRows.form.row e.0 e.1) done _ row (c.in_ok-key.key, c.in_ok-key.value) c.rows.table.entries c.add_row.new.table.entries more read.1 c.rows.invariant.same c.in_ok-add_row.ensures.ok;
+      same = one_read (λ e. g.T.StoredRows.form.row e.0 e.1) done _ row
+          (c.in_ok-key.key, c.in_ok-key.value) c.rows.table.entries c.add_row.new.table.entries more read.1
+          c.rows.invariant.same c.in_ok-add_row.ensures.ok;
     }
 
 pub returns-in_err-key-clause-bad : goal.returns-in_err-key-clause-bad
@@ -26,7 +28,9 @@ returns-in_err-key-clause-bad g c =
       | inr none ↦ inr (
         none.0,
         λ entries table.
-            no_form (λ e. g.T.StoredRows.form.row e.0 e.1) (λ e. g.T.StoredRows.form.IsRow e.0 e.1) c.args.rows.now entries c.rows.row-index c.row-item.result c.rows-test.true c.row-item.is none.1 table.forms table.same,
+            no_form (λ e. g.T.StoredRows.form.row e.0 e.1)
+            (λ e. g.T.StoredRows.form.IsRow e.0 e.1) c.args.rows.now entries c.rows.row-index c.row-item.result
+            c.rows-test.true c.row-item.is none.1 table.forms table.same,
       )
     ])
 
@@ -44,6 +48,8 @@ returns-in_err-add_row-clause-bad g c =
         twice.0,
         λ entries table.
             no_twice g.met.T.Key.Ord.total g.met.T.StoredRows.ours.keys c.in_ok-key.key c.in_ok-key.value rows done (drop (c.rows.row-index + 1) rows) c.rows.table.entries entries
-            (sym (take-append-drop (c.rows.row-index + 1) rows) ∙ ap (λ l. l ++ drop (c.rows.row-index + 1) rows) (more ∙ ap (λ r. done ++ r ∷ []) read.1)) c.rows.invariant.same twice.1 table.rises table.same,
+            (sym (take-append-drop (c.rows.row-index + 1) rows)
+            ∙ ap (λ l. l ++ drop (c.rows.row-index + 1) rows) (more ∙ ap (λ r. done ++ r ∷ []) read.1))
+            c.rows.invariant.same twice.1 table.rises table.same,
       )
     ])

@@ -16,4 +16,6 @@ returns-clause-made g c =
     let at_0 = state g.S.Store c.args.tx.now.conn.now in
     let at_1 = state g.S.Store c.delete_rows.new.tx.conn.now in
     let at_2 = state g.S.Store c.delete_rows-2.new.tx.conn.now in
-    makes_then at_0 at_1 at_2 _ (seats_deleted c.args.changes.now) (openings_deleted c.args.changes.now) (rw c.as_slice.ensures.value at c.in_ok-delete_rows.ensures.made) (rw c.as_slice-2.ensures.value at c.delete_rows-2.ensures.made)
+    makes_then at_0 at_1 at_2 _ (seats_deleted c.args.changes.now) (openings_deleted c.args.changes.now)
+    (rw c.as_slice.ensures.value at c.in_ok-delete_rows.ensures.made)
+    (rw c.as_slice-2.ensures.value at c.delete_rows-2.ensures.made)

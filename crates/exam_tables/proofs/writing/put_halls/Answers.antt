@@ -9,11 +9,16 @@ returns-in_err-put_rows-clause-made g c =
     let at_0 = state g.S.Store c.args.tx.now.conn.now in
     let at_1 = state g.S.Store c.put_rows.new.tx.conn.now in
     let is : c.from_residual.result ≡ Err c.in_err-put_rows.field-0.0 = search rules in
-    rw is (makes_part at_0 at_1 _ (with_put halls c.args.changes.now.halls.items) (with_put openings c.args.changes.now.openings.put.items) (rw c.as_slice.ensures.value at c.in_err-put_rows.ensures.made))
+    rw is (makes_part at_0 at_1 _ (with_put halls c.args.changes.now.halls.items)
+    (with_put openings c.args.changes.now.openings.put.items)
+    (rw c.as_slice.ensures.value at c.in_err-put_rows.ensures.made))
 
 pub returns-clause-made : goal.returns-clause-made
 returns-clause-made g c =
     let at_0 = state g.S.Store c.args.tx.now.conn.now in
     let at_1 = state g.S.Store c.put_rows.new.tx.conn.now in
     let at_2 = state g.S.Store c.put_rows-2.new.tx.conn.now in
-    makes_then at_0 at_1 at_2 _ (with_put halls c.args.changes.now.halls.items) (with_put openings c.args.changes.now.openings.put.items) (rw c.as_slice.ensures.value at c.in_ok-put_rows.ensures.made) (rw c.as_slice-2.ensures.value at c.put_rows-2.ensures.made)
+    makes_then at_0 at_1 at_2 _ (with_put halls c.args.changes.now.halls.items)
+    (with_put openings c.args.changes.now.openings.put.items)
+    (rw c.as_slice.ensures.value at c.in_ok-put_rows.ensures.made)
+    (rw c.as_slice-2.ensures.value at c.put_rows-2.ensures.made)

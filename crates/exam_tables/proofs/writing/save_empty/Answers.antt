@@ -20,8 +20,12 @@ returns-clause-made g c =
     let settled : IsTrue old.is_open → old.now ≡ old.committed = search rules in
     let same : end ≡ c.conn-2-1.given.0 = search rules in
     subst (λ h. Commits old (state g.S.Store h) c.commit.result makes) same
-    (committed_by old (state g.S.Store last) (state g.S.Store end) c.commit.result makes settled (λ clean. made.made clean refl) (λ clean. let kept = made.kept clean in record { was_open = kept.was_open; committed = kept.committed })
-    (survives_begin g.S.Store c.args.conn.now (state g.S.Store last) _ made.survives) c.commit.ensures.ok c.commit.ensures.failed c.commit.ensures.survives (λ trees is may. g.met.S.Store.settled end.store trees is may))
+    (committed_by old (state g.S.Store last) (state g.S.Store end) c.commit.result makes settled
+    (λ clean. made.made clean refl)
+    (λ clean. let kept = made.kept clean in record { was_open = kept.was_open; committed = kept.committed })
+    (survives_begin g.S.Store c.args.conn.now (state g.S.Store last) _ made.survives) c.commit.ensures.ok
+    c.commit.ensures.failed c.commit.ensures.survives
+    (λ trees is may. g.met.S.Store.settled end.store trees is may))
 
 pub returns-clause-failed : goal.returns-clause-failed
 returns-clause-failed g c = λ clean blank.
@@ -35,7 +39,9 @@ returns-clause-failed g c = λ clean blank.
     let going = (made.made clean_last refl).1 in
     not_created old (state g.S.Store c.conn-2-1.given.0) c.commit.result
     (subst (λ h. IfErr c.commit.result (FailsToMake old (state g.S.Store h))) same
-    (uncommitted (IsSome old.step_limit) old last (state g.S.Store end) (survives_begin g.S.Store c.args.conn.now last _ made.survives) c.commit.ensures.survives clean_last going c.commit.result (c.commit.ensures.failed clean_end)))
+    (uncommitted (IsSome old.step_limit) old last (state g.S.Store end)
+    (survives_begin g.S.Store c.args.conn.now last _ made.survives) c.commit.ensures.survives clean_last going
+    c.commit.result (c.commit.ensures.failed clean_end)))
 
 pub returns-in_err-create_tables-clause-failed : goal.returns-in_err-create_tables-clause-failed
 returns-in_err-create_tables-clause-failed g c = λ clean blank.
@@ -48,4 +54,6 @@ returns-in_err-create_tables-clause-failed g c = λ clean blank.
     let same : end ≡ c.conn-1.given.0 = search rules in
     let clean_end : HasCleanDisk (state g.S.Store end) = subst (λ h. HasCleanDisk (state g.S.Store h)) (sym same) clean in
     let clean_last : HasCleanDisk last = omega (arith, c.drop-tx.ensures.survives.clean, clean_end) in
-    rw is (inl (subst (λ h. FailsToMake old (state g.S.Store h) e) same (undone (IsSome old.step_limit) old last (state g.S.Store end) e c.drop-tx.ensures.survives.counts (made.failed clean_last refl blank))))
+    rw is (inl (subst (λ h. FailsToMake old (state g.S.Store h) e) same
+    (undone (IsSome old.step_limit) old last (state g.S.Store end) e c.drop-tx.ensures.survives.counts
+    (made.failed clean_last refl blank))))

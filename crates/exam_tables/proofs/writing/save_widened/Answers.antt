@@ -19,8 +19,17 @@ returns-clause-made g c =
     let settled : IsTrue old.is_open → old.now ≡ old.committed = search rules in
     let same : end ≡ c.conn-2-1.given.0 = search rules in
     subst (λ h. Commits old (state g.S.Store h) c.commit.result Widens) same
-    (committed_by old (state g.S.Store last) (state g.S.Store end) c.commit.result Widens settled (λ clean. (λ all was. ((made all).made clean refl).0 (older_of old all c.has_marks-has_marks.result c.has_marks-has_marks.ensures c.show_rules.ensures was), ((made (λ tree. [])).made clean refl).1)) (λ clean. let kept = (made (λ tree. [])).kept clean in record { was_open = kept.was_open; committed = kept.committed })
-    (survives_begin g.S.Store c.args.conn.now (state g.S.Store last) _ (made (λ tree. [])).survives) c.commit.ensures.ok c.commit.ensures.failed c.commit.ensures.survives (λ trees is may. g.met.S.Store.settled end.store trees is may))
+    (committed_by old (state g.S.Store last) (state g.S.Store end) c.commit.result Widens settled
+    (λ clean. (
+      λ all was. ((made all).made clean refl).0
+          (older_of old all c.has_marks-has_marks.result c.has_marks-has_marks.ensures c.show_rules.ensures was),
+      ((made (λ tree. [])).made clean refl).1,
+    ))
+    (λ clean. let kept =
+    (made (λ tree. [])).kept clean in record { was_open = kept.was_open; committed = kept.committed })
+    (survives_begin g.S.Store c.args.conn.now (state g.S.Store last) _ (made (λ tree. [])).survives)
+    c.commit.ensures.ok c.commit.ensures.failed c.commit.ensures.survives
+    (λ trees is may. g.met.S.Store.settled end.store trees is may))
 
 pub returns-clause-failed : goal.returns-clause-failed
 returns-clause-failed g c = λ clean first.
@@ -34,7 +43,9 @@ returns-clause-failed g c = λ clean first.
     let going = ((made (λ tree. [])).made clean_last refl).1 in
     not_created old (state g.S.Store c.conn-2-1.given.0) c.commit.result
     (subst (λ h. IfErr c.commit.result (FailsToMake old (state g.S.Store h))) same
-    (uncommitted (IsSome old.step_limit) old last (state g.S.Store end) (survives_begin g.S.Store c.args.conn.now last _ (made (λ tree. [])).survives) c.commit.ensures.survives clean_last going c.commit.result (c.commit.ensures.failed clean_end)))
+    (uncommitted (IsSome old.step_limit) old last (state g.S.Store end)
+    (survives_begin g.S.Store c.args.conn.now last _ (made (λ tree. [])).survives) c.commit.ensures.survives
+    clean_last going c.commit.result (c.commit.ensures.failed clean_end)))
 
 pub returns-in_err-widen_tables-clause-failed : goal.returns-in_err-widen_tables-clause-failed
 returns-in_err-widen_tables-clause-failed g c = λ clean first.
@@ -47,7 +58,11 @@ returns-in_err-widen_tables-clause-failed g c = λ clean first.
     let same : end ≡ c.conn-1.given.0 = search rules in
     let clean_end : HasCleanDisk (state g.S.Store end) = subst (λ h. HasCleanDisk (state g.S.Store h)) (sym same) clean in
     let clean_last : HasCleanDisk last = omega (arith, c.drop-tx.ensures.survives.clean, clean_end) in
-    rw is (inl (subst (λ h. FailsToMake old (state g.S.Store h) e) same (undone (IsSome old.step_limit) old last (state g.S.Store end) e c.drop-tx.ensures.survives.counts ((made first.0).failed clean_last refl (older_of old first.0 c.has_marks-has_marks.result c.has_marks-has_marks.ensures c.show_rules.ensures first.1)))))
+    rw is (inl (subst (λ h. FailsToMake old (state g.S.Store h) e) same
+    (undone (IsSome old.step_limit) old last (state g.S.Store end) e c.drop-tx.ensures.survives.counts
+    ((made first.0).failed clean_last refl
+    (older_of old first.0 c.has_marks-has_marks.result c.has_marks-has_marks.ensures c.show_rules.ensures
+    first.1)))))
 
 pub returns-in_err-widen_tables-clause-made : goal.returns-in_err-widen_tables-clause-made
 returns-in_err-widen_tables-clause-made g c =
@@ -60,7 +75,11 @@ returns-in_err-widen_tables-clause-made g c =
     let same : end ≡ c.conn-1.given.0 = search rules in
     let settled : IsTrue old.is_open → old.now ≡ old.committed = search rules in
     rw is (subst (λ h. Commits old (state g.S.Store h) (Err e) Widens) same
-    (undone_by old last (state g.S.Store end) e Widens settled (λ clean. let kept = (made (λ tree. [])).kept clean in record { was_open = kept.was_open; committed = kept.committed }) (survives_begin g.S.Store c.args.conn.now last _ (made (λ tree. [])).survives) c.drop-tx.ensures.undone c.drop-tx.ensures.survives))
+    (undone_by old last (state g.S.Store end) e Widens settled
+    (λ clean. let kept =
+    (made (λ tree. [])).kept clean in record { was_open = kept.was_open; committed = kept.committed })
+    (survives_begin g.S.Store c.args.conn.now last _ (made (λ tree. [])).survives) c.drop-tx.ensures.undone
+    c.drop-tx.ensures.survives))
 
 pub returns-in_err-widen_tables-clause-told : goal.returns-in_err-widen_tables-clause-told
 returns-in_err-widen_tables-clause-told g c =

@@ -66,7 +66,9 @@ returns-in_err-migrate-clause-made g c =
     let older : v ≢ version = search rules in
     let e = c.in_err-migrate.field-0.0 in
     let is : c.from_residual-in_err-migrate.result ≡ Err e = search rules in
-    rw is (commits_err old new e e BringsOver (migrated old mid new v c.in_ok-version.ensures.left c.version_of.ensures.survives (λ clean all was. (c.in_ok-version.ensures.ok clean all was).0) older (Err e) c.in_err-migrate.ensures.made))
+    rw is (commits_err old new e e BringsOver
+    (migrated old mid new v c.in_ok-version.ensures.left c.version_of.ensures.survives
+    (λ clean all was. (c.in_ok-version.ensures.ok clean all was).0) older (Err e) c.in_err-migrate.ensures.made))
 
 pub returns-in_err-migrate-clause-only : goal.returns-in_err-migrate-clause-only
 returns-in_err-migrate-clause-only g c = λ clean.
@@ -84,7 +86,10 @@ returns-clause-made g c =
     let new = state g.S.Store c.migrate.new.conn in
     let v = c.in_ok-version.version.number in
     let older : v ≢ version = search rules in
-    commits_ok old new c.in_ok-migrate.field-0 tt BringsOver (migrated old mid new v c.in_ok-version.ensures.left c.version_of.ensures.survives (λ clean all was. (c.in_ok-version.ensures.ok clean all was).0) older (Ok c.in_ok-migrate.field-0) c.in_ok-migrate.ensures.made)
+    commits_ok old new c.in_ok-migrate.field-0 tt BringsOver
+    (migrated old mid new v c.in_ok-version.ensures.left c.version_of.ensures.survives
+    (λ clean all was. (c.in_ok-version.ensures.ok clean all was).0) older
+    (Ok c.in_ok-migrate.field-0) c.in_ok-migrate.ensures.made)
 
 pub returns-clause-had : goal.returns-clause-had
 returns-clause-had g c = λ clean versioned.

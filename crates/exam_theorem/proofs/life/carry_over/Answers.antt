@@ -33,7 +33,9 @@ returns-in-Err-clause-rests g c = refused_rests (state g.S.Store c.args.conn) (s
 
 pub returns-in-Err-clause-stopped : goal.returns-in-Err-clause-stopped
 returns-in-Err-clause-stopped g c =
-    brought_stops (state g.S.Store c.args.conn) (state g.S.Store c.bring_over.new.conn) (Err c.in-Err.refusal) c.in-Err.ensures.made (λ trees is may. g.met.S.Store.settled c.args.conn.store trees is may)
+    brought_stops (state g.S.Store c.args.conn) (state g.S.Store c.bring_over.new.conn)
+    (Err c.in-Err.refusal) c.in-Err.ensures.made
+    (λ trees is may. g.met.S.Store.settled c.args.conn.store trees is may)
 
 pub returns-in-Ok-clause-only : goal.returns-in-Ok-clause-only
 returns-in-Ok-clause-only g c =

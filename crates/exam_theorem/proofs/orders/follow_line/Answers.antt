@@ -28,7 +28,9 @@ returns-clause-settles g c = λ days.
     let file = c.args.file.now in
     let today = c.args.line.today in
     let is_day : IsDay today = subst IsDay c.number.ensures.value c.number.ensures.range in
-    subst (λ (o : LineEnd). Settles g.S.Store (IsTrue (is_failure o)) (λ at. (end : LineEnd) × FollowsCommand (command_of job file) today c.args.store.now.office end at) c.args.store.now c.carry_out.new.store)
+    subst (λ (o : LineEnd). Settles g.S.Store (IsTrue (is_failure o))
+    (λ at. (end : LineEnd) × FollowsCommand (command_of job file) today c.args.store.now.office end at)
+    c.args.store.now c.carry_out.new.store)
     (sym c.told.ensures)
     (line_settles g.S.Store (λ h trees is may. g.met.S.Store.settled h.store trees is may) c.one_step_has_one_result.ensures c.offices_have_days.ensures.kept (λ _. None) today is_day
     file (Some c.carry_out.new.reader.now) c.args.store.now c.carry_out.new.store c.sink.result c.carry_out.new.out c.carry_out.result (returns-clause-kept g c)

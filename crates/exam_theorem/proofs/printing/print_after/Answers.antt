@@ -20,7 +20,9 @@ returns-clause-sheet g c =
 pub returns-clause-one : goal.returns-clause-one
 returns-clause-one g c =
     subst (λ (office : State). EndsInOne (map shown c.args.orders.now) c.args.store.now.office c.in_ok-outcomes.outcomes.items office) (sym c.print_asked-printed.ensures.office)
-    (ends_in_one c.one_step_has_one_result.ensures c.requests_ask_one_thing.ensures (map shown c.args.orders.now) c.args.store.now.office c.follow_all.new.store.office c.in_ok-outcomes.outcomes.items c.in_ok-outcomes.ensures.run)
+    (ends_in_one c.one_step_has_one_result.ensures c.requests_ask_one_thing.ensures
+    (map shown c.args.orders.now) c.args.store.now.office c.follow_all.new.store.office
+    c.in_ok-outcomes.outcomes.items c.in_ok-outcomes.ensures.run)
 
 pub returns-clause-passes : goal.returns-clause-passes
 returns-clause-passes g c = (c.follow_all.new.store, c.in_ok-outcomes.ensures.passes, c.print_asked-printed.ensures.stays)

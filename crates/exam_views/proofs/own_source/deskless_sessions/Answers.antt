@@ -56,5 +56,7 @@ loop-session-preserved c =
       tt,
       left.1,
       absent_turn office c.args.number c.in-Some.session (keys_of c.next.new.self) (map shown_session c.loop-session.list.items) _ why
-          (ap (λ (rows : List (Code × Vec Code Global)). map shown_session c.loop-session.list.items ++ sessions_left office c.args.number (rows_of r (keys_of rows))) (sym c.in-Some.ensures.steps) ∙ c.loop-session.invariant.3),
+          (ap (λ (rows : List (Code × Vec Code Global)). map shown_session c.loop-session.list.items
+          ++ sessions_left office c.args.number (rows_of r (keys_of rows))) (sym c.in-Some.ensures.steps)
+          ∙ c.loop-session.invariant.3),
     )

@@ -10,6 +10,8 @@ loop-key-preserved c =
     let same : c.in_ok-clone.field-0 ≡ c.in-Some.appeal.now = search rules in (
       tt,
       tt,
-      appeal_turn (relations_of c.args.facts.now) c.args.number c.in-Some.key.now c.in-Some.appeal.now c.in_ok-clone.field-0 c.contains_key.result c.loop-key.key-iterator c.next.new.self c.loop-key.appeals.items c.push.new.self.items _
+      appeal_turn (relations_of c.args.facts.now) c.args.number c.in-Some.key.now c.in-Some.appeal.now
+          c.in_ok-clone.field-0 c.contains_key.result c.loop-key.key-iterator c.next.new.self c.loop-key.appeals.items
+          c.push.new.self.items _
           own same (search rules) c.in-Some.ensures.steps c.in_ok-push.ensures.items c.loop-key.invariant.2,
     )

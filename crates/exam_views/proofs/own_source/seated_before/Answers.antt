@@ -10,18 +10,26 @@ loop-key-init c = (
   tt,
   tt,
   zero-add _
-      ∙ ap (before_among (relations_of c.args.facts.now) c.args.session.now c.args.hall.now (c.sitting_among.result, c.args.number)) (c.into_iter-key-iterator.ensures.into_iter_gives ∙ c.seats_of-key-items.ensures.value)
-      ∙ ap (λ p. before_among (relations_of c.args.facts.now) c.args.session.now c.args.hall.now (p, c.args.number) (filter (λ (e : (Code × ℕ) × Code). same_code e.0.0 c.args.session.now) c.args.seats.now.entries)) c.sitting_among.ensures
+      ∙ ap (before_among (relations_of c.args.facts.now) c.args.session.now c.args.hall.now
+      (c.sitting_among.result, c.args.number))
+      (c.into_iter-key-iterator.ensures.into_iter_gives ∙ c.seats_of-key-items.ensures.value)
+      ∙ ap (λ p. before_among (relations_of c.args.facts.now) c.args.session.now c.args.hall.now (p, c.args.number)
+      (filter (λ (e : (Code × ℕ) × Code). same_code e.0.0 c.args.session.now) c.args.seats.now.entries))
+      c.sitting_among.ensures
       ∙ counted_before (relations_of c.args.facts.now) c.args.seats.now.entries c.args.session.now c.seats_of-key-items.ensures.rising (c.requires.good.best c.args.session.now).lawful c.args.hall.now
       (lists_rise (relations_of c.args.facts.now) c.args.session.now c.show_order.ensures).numbers c.args.number,
 )
 
 pub overflow_add-count : goal.overflow_add-count
 overflow_add-count c =
-    let few = few_before (relations_of c.args.facts.now) c.args.seats.now.entries c.args.session.now c.args.hall.now c.args.number (few_members (relations_of c.args.facts.now) c.requires.good.limits c.args.session.now c.requires.known) in
+    let few = few_before
+    (relations_of c.args.facts.now) c.args.seats.now.entries c.args.session.now c.args.hall.now c.args.number
+    (few_members (relations_of c.args.facts.now) c.requires.good.limits c.args.session.now c.requires.known) in
     grind (arith, few, c.loop-key.invariant.2)
 
 pub returns-clause-most : goal.returns-clause-most
 returns-clause-most c =
-    let few = few_before (relations_of c.args.facts.now) c.args.seats.now.entries c.args.session.now c.args.hall.now c.args.number (few_members (relations_of c.args.facts.now) c.requires.good.limits c.args.session.now c.requires.known) in
+    let few = few_before
+    (relations_of c.args.facts.now) c.args.seats.now.entries c.args.session.now c.args.hall.now c.args.number
+    (few_members (relations_of c.args.facts.now) c.requires.good.limits c.args.session.now c.requires.known) in
     omega (arith, few, c.loop-key.invariant.2)

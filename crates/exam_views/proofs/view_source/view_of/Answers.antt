@@ -7,13 +7,18 @@ use Rattle.exam_views.proofs.view_source.view_of.Goals as goal
 
 pub returns-clause-ok : goal.returns-clause-ok
 returns-clause-ok c =
-    is_view_of (relations_of c.args.facts.now) c.args.seats.now.entries c.args.session.now c.in_ok-listed.ensures.lists (few_members (relations_of c.args.facts.now) c.requires.good.limits c.args.session.now (ap is_some c.requires.known)) (c.requires.good.best c.args.session.now) _ (record {
+    is_view_of (relations_of c.args.facts.now) c.args.seats.now.entries c.args.session.now c.in_ok-listed.ensures.lists
+    (few_members (relations_of c.args.facts.now) c.requires.good.limits c.args.session.now
+    (ap is_some c.requires.known)) (c.requires.good.best c.args.session.now) _ (record {
       code = refl;
       session = c.requires.known;
       hall_codes = c.in_ok-hall_codes.ensures.ok;
       openings = c.in_ok-openings_of.ensures.ok;
       problem = c.in_ok-listed.ensures.ok;
-      plan = places_listed (relations_of c.args.facts.now) c.args.seats.now.entries c.args.session.now c.deref.result.now c.deref-2.result.now c.in_ok-plan.plan.items (c.deref.ensures.value ∙ c.in_ok-listed.ensures.numbers) (c.deref-2.ensures.value ∙ c.in_ok-listed.ensures.halls) c.in_ok-plan.ensures.ok;
+      plan = places_listed
+          (relations_of c.args.facts.now) c.args.seats.now.entries c.args.session.now c.deref.result.now
+          c.deref-2.result.now c.in_ok-plan.plan.items (c.deref.ensures.value ∙ c.in_ok-listed.ensures.numbers)
+          (c.deref-2.ensures.value ∙ c.in_ok-listed.ensures.halls) c.in_ok-plan.ensures.ok;
       papers = c.in_ok-papers_of.ensures.ok;
       clashes = c.in_ok-clashes_of.ensures.ok;
       appeals = c.in_ok-appeals_of.ensures.ok;
@@ -22,13 +27,18 @@ returns-clause-ok c =
 
 pub invariant_of-result : goal.invariant_of-result
 invariant_of-result c =
-    is_view (relations_of c.args.facts.now) c.args.seats.now.entries c.args.session.now c.in_ok-listed.ensures.lists (few_members (relations_of c.args.facts.now) c.requires.good.limits c.args.session.now (ap is_some c.requires.known)) (c.requires.good.best c.args.session.now) _ (record {
+    is_view (relations_of c.args.facts.now) c.args.seats.now.entries c.args.session.now c.in_ok-listed.ensures.lists
+    (few_members (relations_of c.args.facts.now) c.requires.good.limits c.args.session.now
+    (ap is_some c.requires.known)) (c.requires.good.best c.args.session.now) _ (record {
       code = refl;
       session = c.requires.known;
       hall_codes = c.in_ok-hall_codes.ensures.ok;
       openings = c.in_ok-openings_of.ensures.ok;
       problem = c.in_ok-listed.ensures.ok;
-      plan = places_listed (relations_of c.args.facts.now) c.args.seats.now.entries c.args.session.now c.deref.result.now c.deref-2.result.now c.in_ok-plan.plan.items (c.deref.ensures.value ∙ c.in_ok-listed.ensures.numbers) (c.deref-2.ensures.value ∙ c.in_ok-listed.ensures.halls) c.in_ok-plan.ensures.ok;
+      plan = places_listed
+          (relations_of c.args.facts.now) c.args.seats.now.entries c.args.session.now c.deref.result.now
+          c.deref-2.result.now c.in_ok-plan.plan.items (c.deref.ensures.value ∙ c.in_ok-listed.ensures.numbers)
+          (c.deref-2.ensures.value ∙ c.in_ok-listed.ensures.halls) c.in_ok-plan.ensures.ok;
       papers = c.in_ok-papers_of.ensures.ok;
       clashes = c.in_ok-clashes_of.ensures.ok;
       appeals = c.in_ok-appeals_of.ensures.ok;

@@ -9,7 +9,9 @@ use Rattle.exam_commands.proofs.import.Import.first_with_key.Goals as goal
 pub returns-in_err-place : goal.returns-in_err-place
 returns-in_err-place c =
     let absent : get keys.ghosts.cmp c.self.inside.places (key_of c.args.row.now) ≡ None = search rules in
-    let none : find (has_key (key_of c.args.row.now)) c.self.inside.rows.items ≡ None = first-none (has_key (key_of c.args.row.now)) 0 c.self.inside.rows.items (sym (c.self.invariant.2 (key_of c.args.row.now)) ∙ absent) in
+    let none : find (has_key (key_of c.args.row.now)) c.self.inside.rows.items ≡ None =
+    first-none (has_key (key_of c.args.row.now)) 0 c.self.inside.rows.items
+    (sym (c.self.invariant.2 (key_of c.args.row.now)) ∙ absent) in
     search (rules, none)
 
 pub index-requires : goal.index-requires

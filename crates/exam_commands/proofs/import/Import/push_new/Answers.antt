@@ -22,4 +22,10 @@ invariant_of-self-2 c =
     let room : length c.self.inside.rows.items < most_rows = search rules in
     let one : length (c.self.inside.rows.items ++ c.args.row ∷ []) ≡ length c.self.inside.rows.items + 1 = length-append c.self.inside.rows.items (c.args.row ∷ []) in
     let long : length (c.self.inside.rows.items ++ c.args.row ∷ []) ≤ most_rows = omega arith in
-    rw more (consistent-more c.args.row c.self.inside.rows.items c.self.invariant.0 none, kind-more c.self.inside.kind c.args.row c.self.inside.rows.items kind c.self.invariant.1, λ k. places k ∙ rw (c.self.invariant.2 k) (places-new c.args.row c.self.inside.rows.items found k), long)
+    rw more (
+      consistent-more c.args.row c.self.inside.rows.items c.self.invariant.0 none,
+      kind-more c.self.inside.kind c.args.row c.self.inside.rows.items kind c.self.invariant.1,
+      λ k. places k
+          ∙ rw (c.self.invariant.2 k) (places-new c.args.row c.self.inside.rows.items found k),
+      long,
+    )

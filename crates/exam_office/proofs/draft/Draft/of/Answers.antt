@@ -9,4 +9,6 @@ pub returns-in-Err-made-clause-refusal : goal.returns-in-Err-made-clause-refusal
 returns-in-Err-made-clause-refusal c =
     let part : State = record { relations = c.args.office.relations; seats = c.in-Ok.plans.entries } in
     refused_office c.args.command.now c.args.today c.args.office part c.in-Err-made.refusal c.in-Ok.ensures.ok
-    (subst (λ (r : Relations). IsRefusedIn c.args.command.now c.args.today (record { relations = r; seats = c.in-Ok.plans.entries }) c.in-Err-made.refusal) c.into_parts-facts.ensures.facts c.in-Err-made.ensures.refusal)
+    (subst (λ (r : Relations). IsRefusedIn c.args.command.now c.args.today
+    (record { relations = r; seats = c.in-Ok.plans.entries }) c.in-Err-made.refusal)
+    c.into_parts-facts.ensures.facts c.in-Err-made.ensures.refusal)

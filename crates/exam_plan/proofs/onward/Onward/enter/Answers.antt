@@ -29,12 +29,21 @@ returns c =
     let more : (k : ℕ) → tally_of c.count.new.self k ≡ tally_at c.args.self.now.tallies.items c.args.hall k + one_if (holds c.fitting-fitting.result k) =
     λ k. c.count.ensures.more k ∙ ap (λ (t : Tally). tally_of t k + one_if (holds c.fitting-fitting.result k))
     (c.index_mut.ensures.value ∙ get_or_default c.args.self.now.tallies.items c.args.hall c.index_mut.result.now no_digits in_tallies) in
-    let read : c.index-before.result.now ≡ get_or c.args.self.now.sets.items c.args.hall 0 = c.index-before.ensures ∙ get_or_default c.args.self.now.sets.items c.args.hall c.index-before.result.now 0 in_sets in
+    let read : c.index-before.result.now ≡ get_or c.args.self.now.sets.items c.args.hall 0 =
+    c.index-before.ensures
+    ∙ get_or_default c.args.self.now.sets.items c.args.hall c.index-before.result.now 0 in_sets in
     let first : c.index.result.now ≡ get_or c.args.self.now.firsts.items c.args.hall 0 = c.index.ensures ∙ get_or_default c.args.self.now.firsts.items c.args.hall c.index.result.now 0 in_firsts in
-    let union : (k : ℕ) → holds c.union.result k ≡ holds (get_or c.args.self.now.sets.items c.args.hall 0) k || holds c.fitting-fitting.result k = λ k. c.union.ensures k ∙ ap (λ s. holds s k || holds c.fitting-fitting.result k) read in
-    let gained : (k : ℕ) → holds c.minus.result k ≡ holds c.fitting-fitting.result k && not (holds (get_or c.args.self.now.sets.items c.args.hall 0) k) = λ k. c.minus.ensures k ∙ ap (λ s. holds c.fitting-fitting.result k && not (holds s k)) read in
+    let union : (k : ℕ) → holds c.union.result k
+    ≡ holds (get_or c.args.self.now.sets.items c.args.hall 0) k || holds c.fitting-fitting.result k =
+    λ k. c.union.ensures k ∙ ap (λ s. holds s k || holds c.fitting-fitting.result k) read in
+    let gained : (k : ℕ)
+    → holds c.minus.result k ≡ holds c.fitting-fitting.result k
+    && not (holds (get_or c.args.self.now.sets.items c.args.hall 0) k) =
+    λ k. c.minus.ensures k ∙ ap (λ s. holds c.fitting-fitting.result k && not (holds s k)) read in
     entered c.args.problem.now c.args.self.now _ c.args.hall c.count.new.self c.union.result shaped c.requires.hall refl refl c.count.ensures.whole
-    (union_counted (get_or c.args.self.now.sets.items c.args.hall 0) c.fitting-fitting.result c.union.result (tally_at c.args.self.now.tallies.items c.args.hall) (tally_of c.count.new.self) (λ k. shaped.counted c.args.hall k c.requires.hall) union more)
+    (union_counted (get_or c.args.self.now.sets.items c.args.hall 0) c.fitting-fitting.result c.union.result
+    (tally_at c.args.self.now.tallies.items c.args.hall) (tally_of c.count.new.self)
+    (λ k. shaped.counted c.args.hall k c.requires.hall) union more)
     c.minus.result true c.put_each.ensures.long c.put_each.ensures.put
     (λ k l. changes_in (get_or c.args.self.now.sets.items c.args.hall 0) c.fitting-fitting.result c.minus.result c.union.result gained union k)
     c.args.candidate c.min.result (λ k. more k ∙ ap (λ b. tally_at c.args.self.now.tallies.items c.args.hall k + one_if b) (c.fitting-fitting.ensures.fits k))
@@ -43,5 +52,7 @@ returns c =
 pub put_each-requires : goal.put_each-requires
 put_each-requires c = record {
   hall = omega (arith, c.requires.hall, c.fitting-fitting.ensures.few);
-  exist = λ k t. (let parts = beyond c.fitting-fitting.result c.index-before.result.now c.minus.result k (c.minus.ensures k) t in let below = c.fitting-fitting.ensures.exist k parts.0 in omega (arith, below, c.requires.shaped.inward));
+  exist = λ k t. (let parts =
+      beyond c.fitting-fitting.result c.index-before.result.now c.minus.result k (c.minus.ensures k) t in let below =
+      c.fitting-fitting.ensures.exist k parts.0 in omega (arith, below, c.requires.shaped.inward));
 }

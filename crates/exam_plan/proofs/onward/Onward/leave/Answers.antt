@@ -19,15 +19,22 @@ returns c =
     let again : c.index.result.now ≡ c.discount.new.self = c.index.ensures ∙ get_or-set_same c.args.self.now.tallies.items c.args.hall c.discount.new.self c.index.result.now in_tallies in
     let counted : (k : ℕ) → IsMarked (holds c.counted-left.result) k ↔ 0 < tally_of c.discount.new.self k = rw again at c.counted-left.ensures in
     let lost : (k : ℕ) → tally_of c.discount.new.self k + one_if (holds c.fitting-fitting.result k) ≡ tally_at c.args.self.now.tallies.items c.args.hall k =
-    λ k. c.discount.ensures.less k ∙ ap (λ (t : Tally). tally_of t k) (c.index_mut.ensures.value ∙ get_or_default c.args.self.now.tallies.items c.args.hall c.index_mut.result.now no_digits in_tallies) in
+    λ k. c.discount.ensures.less k
+    ∙ ap (λ (t : Tally). tally_of t k)
+    (c.index_mut.ensures.value
+    ∙ get_or_default c.args.self.now.tallies.items c.args.hall c.index_mut.result.now no_digits in_tallies) in
     left_out c.args.problem.now c.args.self.now _ c.args.hall c.discount.new.self c.counted-left.result shaped c.requires.hall refl refl c.discount.ensures.whole counted
     c.minus.result false c.put_each.ensures.long c.put_each.ensures.put
-    (λ k l. changes_out (get_or c.args.self.now.sets.items c.args.hall 0) c.fitting-fitting.result c.minus.result c.counted-left.result (tally_at c.args.self.now.tallies.items c.args.hall) (tally_of c.discount.new.self) c.minus.ensures
+    (λ k l. changes_out (get_or c.args.self.now.sets.items c.args.hall 0) c.fitting-fitting.result c.minus.result
+    c.counted-left.result (tally_at c.args.self.now.tallies.items c.args.hall)
+    (tally_of c.discount.new.self) c.minus.ensures
     (λ j. shaped.counted c.args.hall j c.requires.hall) counted lost k)
     c.args.candidate less refl refl
 
 pub put_each-requires : goal.put_each-requires
 put_each-requires c = record {
   hall = omega (arith, c.requires.hall, c.fitting-fitting.ensures.few);
-  exist = λ k t. (let parts = beyond c.fitting-fitting.result c.counted-left.result c.minus.result k (c.minus.ensures k) t in let below = c.fitting-fitting.ensures.exist k parts.0 in omega (arith, below, c.requires.shaped.inward));
+  exist = λ k t. (let parts =
+      beyond c.fitting-fitting.result c.counted-left.result c.minus.result k (c.minus.ensures k) t in let below =
+      c.fitting-fitting.ensures.exist k parts.0 in omega (arith, below, c.requires.shaped.inward));
 }

@@ -8,7 +8,13 @@ use Rattle.exam_plan.proofs.onward.Onward.note.Goals.{in-Some, in_default}
 
 pub enter-requires-clause-room : goal.enter-requires-clause-room
 enter-requires-clause-room c k =
-    let sits = seated_at c.args.plan.now.items c.loop-candidate.candidate c.index.result.now (omega (arith, c.loop-candidate-test.true, c.candidate_count-candidate-end.ensures.count, c.requires.plan.whole)) c.index.ensures ∙ c.in-Some.is in
+    let sits = seated_at c.args.plan.now.items c.loop-candidate.candidate c.index.result.now
+    (omega (
+      arith,
+      c.loop-candidate-test.true,
+      c.candidate_count-candidate-end.ensures.count,
+      c.requires.plan.whole,
+    )) c.index.ensures ∙ c.in-Some.is in
     let below = sits_below c.args.problem.now c.args.plan.now.items c.requires.plan c.loop-candidate.candidate c.in-Some.hall sits in
     let are = c.loop-candidate.invariant.tallies c.in-Some.hall k below in
     let few = fitting_count-le c.args.problem.now (plan_at c.args.plan.now.items) c.in-Some.hall k c.loop-candidate.candidate in
@@ -16,8 +22,17 @@ enter-requires-clause-room c k =
 
 pub loop-candidate-preserved : goal.loop-candidate-preserved
 loop-candidate-preserved c =
-    let sits = seated_at c.args.plan.now.items c.loop-candidate.candidate c.index.result.now (omega (arith, c.loop-candidate-test.true, c.candidate_count-candidate-end.ensures.count, c.requires.plan.whole)) c.index.ensures in
+    let sits = seated_at c.args.plan.now.items c.loop-candidate.candidate c.index.result.now
+    (omega (
+      arith,
+      c.loop-candidate-test.true,
+      c.candidate_count-candidate-end.ensures.count,
+      c.requires.plan.whole,
+    )) c.index.ensures in
     elim c.match-index.branch [
-      | in-Some w ↦ rw w.self-is (one_in c.args.problem.now (plan_at c.args.plan.now.items) c.loop-candidate.self w.enter.new.self c.loop-candidate.candidate w.in-Some.hall c.loop-candidate.invariant (sits ∙ w.in-Some.is) w.enter.ensures)
+      | in-Some w ↦ rw w.self-is
+          (one_in c.args.problem.now
+          (plan_at c.args.plan.now.items) c.loop-candidate.self w.enter.new.self c.loop-candidate.candidate
+          w.in-Some.hall c.loop-candidate.invariant (sits ∙ w.in-Some.is) w.enter.ensures)
       | in_default w ↦ rw w.self-is (none_in c.args.problem.now (plan_at c.args.plan.now.items) c.loop-candidate.self c.loop-candidate.candidate c.loop-candidate.invariant (sits ∙ w.in_default.is))
     ]

@@ -35,12 +35,20 @@ returns-clause-kept c =
           let sits = seated_at c.args.plan.now.items c.args.candidate w.index.result.now inside w.index.ensures in
           rw w.self-is (elim w.match-index.branch [
             | in-Some v ↦ kept_table c.args.problem.now (plan_at (set c.args.plan.now.items c.args.candidate (Some c.args.hall))) w.enter.new.self
-                (moved_in c.args.problem.now c.args.plan.now.items (length c.args.problem.now.fit) c.args.candidate c.args.hall c.requires.candidate inside c.args.self.now v.leave.new.self w.enter.new.self v.in-Some.from (sits ∙ v.in-Some.is) t v.leave.ensures
+                (moved_in c.args.problem.now c.args.plan.now.items
+                (length c.args.problem.now.fit) c.args.candidate c.args.hall c.requires.candidate inside
+                c.args.self.now v.leave.new.self w.enter.new.self v.in-Some.from
+                (sits ∙ v.in-Some.is) t v.leave.ensures
                 (rw v.self-is at w.enter.ensures))
                 (w.enter.ensures.noted ∙ ap (λ (s : Onward). s.is_noted) v.self-is ∙ v.leave.ensures.noted ∙ w.if-self.true)
             | in_default v ↦ kept_table c.args.problem.now (plan_at (set c.args.plan.now.items c.args.candidate (Some c.args.hall))) w.enter.new.self
-                (seated_in c.args.problem.now c.args.plan.now.items (length c.args.problem.now.fit) c.args.candidate c.args.hall c.requires.candidate inside c.args.self.now w.enter.new.self (sits ∙ v.in_default.is) t (rw v.self-is at w.enter.ensures))
+                (seated_in c.args.problem.now c.args.plan.now.items
+                (length c.args.problem.now.fit) c.args.candidate c.args.hall c.requires.candidate inside
+                c.args.self.now w.enter.new.self (sits ∙ v.in_default.is) t (rw v.self-is at w.enter.ensures))
                 (w.enter.ensures.noted ∙ ap (λ (s : Onward). s.is_noted) v.self-is ∙ w.if-self.true)
           ]))
-      | else-self w ↦ rw w.self-is (blank_table c.args.problem.now (plan_at c.args.plan.now.items) (plan_at (set c.args.plan.now.items c.args.candidate (Some c.args.hall))) c.args.self.now c.requires.kept w.if-self.false)
+      | else-self w ↦ rw w.self-is
+          (blank_table c.args.problem.now (plan_at c.args.plan.now.items)
+          (plan_at (set c.args.plan.now.items c.args.candidate (Some c.args.hall))) c.args.self.now c.requires.kept
+          w.if-self.false)
     ]

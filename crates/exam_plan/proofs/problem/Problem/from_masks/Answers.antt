@@ -10,4 +10,5 @@ invariant_of-result c =
     let same : c.in_ok-sets.sets.items ≡ sets_of c.args.fit.items = c.in_ok-sets.ensures.sets ∙ ap sets_of c.as_slice.ensures.value in
     let long : length (sets_of c.args.fit.items) ≡ length c.args.fit.items = length-map c.args.fit.items set_of_mask in
     subst (λ sets. AreMasks c.args.desks.items sets c.args.rank.items) (sym same)
-    (are_masks c.args.desks.items (sets_of c.args.fit.items) c.args.rank.items c.requires.few_halls (omega (arith, long, c.requires.few)) (c.requires.ranked ∙ sym long) c.requires.distinct c.requires.exist)
+    (are_masks c.args.desks.items (sets_of c.args.fit.items) c.args.rank.items c.requires.few_halls
+    (omega (arith, long, c.requires.few)) (c.requires.ranked ∙ sym long) c.requires.distinct c.requires.exist)

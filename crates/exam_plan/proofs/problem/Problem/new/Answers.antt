@@ -12,14 +12,22 @@ pub set_of-requires : goal.set_of-requires
 set_of-requires c =
     let few : length c.args.desks.items < most_halls + 1 = omega (arith, c.requires.few_halls) in
     let Q : List ℕ → Type 0 = λ hs. All (λ h. h < most_halls) hs in
-    subst Q (sym c.as_slice.ensures.value) (λ i d l. let b : _ < length c.args.desks.items = row_known (λ hs. All (λ h. h < length c.args.desks.items) hs) c.args.fit.items c.deref-row-items.result.now c.loop-row.row-index c.row-item.result c.deref-row-items.ensures.value c.requires.problem.exist c.loop-row-test.true c.row-item.is i d l in omega (arith, b, few))
+    subst Q (sym c.as_slice.ensures.value)
+    (λ i d l. let b : _ < length c.args.desks.items =
+    row_known (λ hs. All (λ h. h < length c.args.desks.items) hs) c.args.fit.items c.deref-row-items.result.now
+    c.loop-row.row-index c.row-item.result c.deref-row-items.ensures.value c.requires.problem.exist
+    c.loop-row-test.true c.row-item.is i d l in omega (arith, b, few))
 
 pub loop-row-preserved : goal.loop-row-preserved
 loop-row-preserved c =
     rw c.in_ok-push.ensures.items
     (sets_more (length c.args.desks.items) c.loop-row.row-index c.deref-row-items.result.now c.row-item.result c.loop-row.sets.items c.set_of.result c.loop-row.invariant
-    c.loop-row-test.true c.row-item.is (row_known (IsStrictlySortedBy nat_cmp) c.args.fit.items c.deref-row-items.result.now c.loop-row.row-index c.row-item.result c.deref-row-items.ensures.value c.requires.problem.rising c.loop-row-test.true c.row-item.is)
-    (row_known (λ hs. All (λ h. h < length c.args.desks.items) hs) c.args.fit.items c.deref-row-items.result.now c.loop-row.row-index c.row-item.result c.deref-row-items.ensures.value c.requires.problem.exist c.loop-row-test.true c.row-item.is)
+    c.loop-row-test.true c.row-item.is
+    (row_known (IsStrictlySortedBy nat_cmp) c.args.fit.items c.deref-row-items.result.now c.loop-row.row-index
+    c.row-item.result c.deref-row-items.ensures.value c.requires.problem.rising c.loop-row-test.true c.row-item.is)
+    (row_known (λ hs. All (λ h. h < length c.args.desks.items) hs) c.args.fit.items c.deref-row-items.result.now
+    c.loop-row.row-index c.row-item.result c.deref-row-items.ensures.value c.requires.problem.exist
+    c.loop-row-test.true c.row-item.is)
     (subst (λ (s : List ℕ). (h : ℕ) → holds c.set_of.result h ≡ list_any (nat_eq h) s) c.as_slice.ensures.value c.set_of.ensures))
 
 done : (c : goal.After-loop-row) → AreMasks c.args.desks.items c.loop-row.sets.items c.args.rank.items

@@ -45,6 +45,8 @@ returns-in-Some-clause-err c =
     let new : Vec Entrant Global = c.enter_among.new.list in
     on_err_weaker c.enter_among.result
     (λ same s.
-    changed (λ (es : List Entrant). es) old.members.entries (c.get_mut.follows.lender new).entries new c.args.session.now (((c.get_mut.follows.holds new).3 (subst (λ o. IsSome o) (sym at) refl)).0) (same ∙ here) s
+    changed (λ (es : List Entrant). es) old.members.entries
+    (c.get_mut.follows.lender new).entries new c.args.session.now
+    (((c.get_mut.follows.holds new).3 (subst (λ o. IsSome o) (sym at) refl)).0) (same ∙ here) s
     ∙ either_same (same_code c.args.session.now s) (listed old.members.entries s))
     c.enter_among.ensures.err

@@ -7,7 +7,8 @@ use Rattle.exam_plan.proofs.Steps.{length_push}
 use Rattle.exam_rules_tests.proofs.TinyProblems.{if_ok}
 use Rattle.exam_rules_tests.proofs.tests.plan.equal_problem.Goals as goal
 
-one_more : (halls : ℕ) (masks : List (List ℕ)) (mask : List ℕ) → All (λ set. set < 2 ^ halls) (sets_of masks) → set_of_mask mask < 2 ^ halls → All (λ set. set < 2 ^ halls) (sets_of (masks ++ mask ∷ []))
+one_more : (halls : ℕ) (masks : List (List ℕ)) (mask : List ℕ) → All (λ set. set < 2 ^ halls) (sets_of masks)
+    → set_of_mask mask < 2 ^ halls → All (λ set. set < 2 ^ halls) (sets_of (masks ++ mask ∷ []))
 one_more halls masks mask all fits =
     subst (All (λ set. set < 2 ^ halls)) (sym (map-append set_of_mask masks (mask ∷ []))) (All-push (λ set. set < 2 ^ halls) (sets_of masks) (set_of_mask mask) all fits)
 
@@ -27,7 +28,9 @@ filling-preserved c = record {
 pub masked_problem-requires : goal.masked_problem-requires
 masked_problem-requires c = record {
   few_halls = c.requires.few_halls;
-  few = (let long : length c.as_slice.result.now ≡ length c.filling.masks.items = ap length c.as_slice.ensures.value in omega (arith, long, c.filling.invariant.count, c.filling.auto.counter-end, c.requires.few));
+  few = (let long : length c.as_slice.result.now ≡ length c.filling.masks.items =
+      ap length c.as_slice.ensures.value in
+      omega (arith, long, c.filling.invariant.count, c.filling.auto.counter-end, c.requires.few));
   exist = subst (λ (masks : List (List ℕ)). All (λ set. set < 2 ^ c.args.halls) (sets_of masks)) (sym c.as_slice.ensures.value) c.filling.invariant.exist;
 }
 

@@ -24,5 +24,8 @@ pub returns : goal.returns
 returns c =
     let rows : c.in_ok-rows.rows.items ≡ c.args.masks.now = search rules in
     record {
-      count = if_ok c.from_masks.result _ _ (λ p e. ap (λ q. length q.fit) e ∙ length-map (sets_of c.in_ok-rows.rows.items) (halls_below (length c.in_ok-desks.desks.items)) ∙ length-map c.in_ok-rows.rows.items set_of_mask ∙ ap length rows) c.from_masks.ensures.problem;
+      count = if_ok c.from_masks.result _ _
+          (λ p e. ap (λ q. length q.fit) e
+          ∙ length-map (sets_of c.in_ok-rows.rows.items) (halls_below (length c.in_ok-desks.desks.items))
+          ∙ length-map c.in_ok-rows.rows.items set_of_mask ∙ ap length rows) c.from_masks.ensures.problem;
     }

@@ -6,6 +6,8 @@ pub new-requires : goal.new-requires
 new-requires c =
     let three : length c.in_ok-from_slice.field-0.items ≡ 3 = search rules in
     record {
-      problem = tiny_problem c.in_ok-from_slice.field-0.items c.in_ok-rows.rows.items c.in_ok-ranks.ranks.items (length c.args.fits.now) three c.in_ok-rows.ensures.count c.requires c.in_ok-ranks.ensures c.in_ok-rows.ensures.rising c.in_ok-rows.ensures.exist;
+      problem = tiny_problem c.in_ok-from_slice.field-0.items c.in_ok-rows.rows.items c.in_ok-ranks.ranks.items
+          (length c.args.fits.now) three c.in_ok-rows.ensures.count c.requires c.in_ok-ranks.ensures
+          c.in_ok-rows.ensures.rising c.in_ok-rows.ensures.exist;
       few_halls = omega (arith, three);
     }

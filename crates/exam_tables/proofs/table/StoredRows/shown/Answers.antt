@@ -22,7 +22,9 @@ pub returns-clause-left : goal.returns-clause-left
 returns-clause-left g c = λ clean.
     let shown = rw c.load_text.ensures at c.all_rows.ensures.shown in
     let failed = rw c.load_text.ensures at c.all_rows.ensures.failed in
-    query_reads (λ rows. rows.items) g.Self.StoredRows.form.load g.met.Self.StoredRows.ours.query (state g.S.Store c.args.conn.now) (state g.S.Store c.all_rows.new.conn) c.all_rows.result (shown clean) (failed clean)
+    query_reads (λ rows. rows.items) g.Self.StoredRows.form.load g.met.Self.StoredRows.ours.query
+    (state g.S.Store c.args.conn.now) (state g.S.Store c.all_rows.new.conn) c.all_rows.result (shown clean)
+    (failed clean)
 
 pub returns-clause-survives : goal.returns-clause-survives
 returns-clause-survives g c =

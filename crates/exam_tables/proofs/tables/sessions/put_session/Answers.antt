@@ -10,4 +10,16 @@ returns-clause-made g c =
     let old = state g.S.Store c.args.tx.now.conn.now in
     let new = state g.S.Store c.run.new.tx.conn.now in
     makes_by (put_edits (session.puts c.args.code.now c.args.day.now (pos c.args.start))) old new c.run.result
-    (rw (c.as_bytes.ensures.value, c.from.ensures, c.get.ensures.value, passed c.args.start (omega (arith, c.get.ensures.range))) at c.run.ensures.ran) (rw (c.as_bytes.ensures.value, c.from.ensures, c.get.ensures.value, passed c.args.start (omega (arith, c.get.ensures.range))) at c.run.ensures.failed) c.run.ensures.kept c.run.ensures.survives c.run.ensures.told
+    (rw (
+      c.as_bytes.ensures.value,
+      c.from.ensures,
+      c.get.ensures.value,
+      passed c.args.start (omega (arith, c.get.ensures.range)),
+    ) at c.run.ensures.ran)
+    (rw (
+      c.as_bytes.ensures.value,
+      c.from.ensures,
+      c.get.ensures.value,
+      passed c.args.start (omega (arith, c.get.ensures.range)),
+    ) at c.run.ensures.failed) c.run.ensures.kept
+    c.run.ensures.survives c.run.ensures.told

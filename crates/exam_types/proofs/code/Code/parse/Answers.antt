@@ -8,7 +8,8 @@ use Rattle.exam_types.proofs.code.Code.parse.Goals as goal
 pub invariant_of-result : goal.invariant_of-result
 invariant_of-result g c =
     let n = length c.args.bytes.now in
-    let is : is_code g.A.Alphabet.allowed g.row.LEAST g.row.GREATEST c.args.bytes.now ≡ true = sym {b = is_code g.A.Alphabet.allowed g.row.LEAST g.row.GREATEST c.args.bytes.now} c.if-not-has_form.ensures in
+    let is : is_code g.A.Alphabet.allowed g.row.LEAST g.row.GREATEST c.args.bytes.now ≡ true =
+    sym {b = is_code g.A.Alphabet.allowed g.row.LEAST g.row.GREATEST c.args.bytes.now} c.if-not-has_form.ensures in
     let fits : n ≤ g.row.GREATEST = longest g.A.Alphabet.allowed g.row.LEAST g.row.GREATEST c.args.bytes.now is in (
       fits,
       simp (length-append, length-drop, length-replicate) (omega arith),

@@ -24,11 +24,16 @@ returns-in_err-date_of c =
     let bytes = c.args.bytes.now in
     let none = c.from_residual-in_err-date_of in
     let exact = no_text bytes none.result none.ensures (λ n is text.
-    let never : false ≡ true = c.in_err-date_of.ensures.is_date.1 (is_date bytes c.parts_of.result n c.in_ok-year.year c.in_ok-year.month c.in_ok-year.day c.parts_of.ensures c.in_ok-year.was is text) in cc) in
+    let never : false ≡ true =
+    c.in_err-date_of.ensures.is_date.1
+    (is_date bytes c.parts_of.result n c.in_ok-year.year c.in_ok-year.month c.in_ok-year.day c.parts_of.ensures
+    c.in_ok-year.was is text) in cc) in
     record { exact = exact; value = day_of_is bytes none.result exact }
 
 pub returns : goal.returns
 returns c =
     let bytes = c.args.bytes.now in
-    let exact = read_text bytes c.parts_of.result c.in_ok-date_of.field-0 c.from_date.result c.in_ok-year.year c.in_ok-year.month c.in_ok-year.day c.parts_of.ensures c.in_ok-year.was c.in_ok-date_of.ensures.value c.from_date.ensures in
+    let exact = read_text bytes c.parts_of.result c.in_ok-date_of.field-0 c.from_date.result c.in_ok-year.year
+    c.in_ok-year.month c.in_ok-year.day c.parts_of.ensures c.in_ok-year.was c.in_ok-date_of.ensures.value
+    c.from_date.ensures in
     record { exact = exact; value = day_of_is bytes c.from_date.result exact }

@@ -24,7 +24,9 @@ pub returns-clause-ok : goal.returns-clause-ok
 returns-clause-ok c = record {
   candidates = c.in_ok-found.found.candidates.items;
   halls = c.in_ok-found.found.halls.items;
-  certificate = subst (λ (w : View). IsCertificate (seating_of w.problem) (plan_at w.plan) c.in_ok-found.found.candidates.items c.in_ok-found.found.halls.items) c.self.view_is c.in_ok-found.ensures.certificate;
+  certificate = subst (λ (w : View). IsCertificate (seating_of w.problem)
+      (plan_at w.plan) c.in_ok-found.found.candidates.items c.in_ok-found.found.halls.items) c.self.view_is
+      c.in_ok-found.ensures.certificate;
   contested = subst (λ (w : View). (i : ℕ) → Contains c.in_ok-found.found.candidates.items i ↔ IsContested (seating_of w.problem) i) c.self.view_is c.in_ok-found.ensures.contested;
   unseated = c.in_ok-found.ensures.unseated ∙ ap (λ (w : View). length (unseated (seating_of w.problem) (plan_at w.plan))) c.self.view_is;
   named = c.in_ok-numbers_of.ensures.ok ∙ ap (map (number_of c.args.self.now)) c.deref-2.ensures.value;

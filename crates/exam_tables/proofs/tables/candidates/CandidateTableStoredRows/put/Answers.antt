@@ -10,4 +10,20 @@ returns-clause-made g c =
     let old = state g.S.Store c.args.tx.now.conn.now in
     let new = state g.S.Store c.run.new.tx.conn.now in
     makes_by (put_edits (candidates_ours.puts c.args.number.now c.args.candidate.now)) old new c.run.result
-    (rw (c.from.ensures, c.get.ensures.value, passed c.args.number.now (omega (arith, c.get.ensures.range)), c.as_bytes.ensures.value, c.as_str.ensures.value, c.as_bytes-2.ensures.value) at c.run.ensures.ran) (rw (c.from.ensures, c.get.ensures.value, passed c.args.number.now (omega (arith, c.get.ensures.range)), c.as_bytes.ensures.value, c.as_str.ensures.value, c.as_bytes-2.ensures.value) at c.run.ensures.failed) c.run.ensures.kept c.run.ensures.survives c.run.ensures.told
+    (rw (
+      c.from.ensures,
+      c.get.ensures.value,
+      passed c.args.number.now (omega (arith, c.get.ensures.range)),
+      c.as_bytes.ensures.value,
+      c.as_str.ensures.value,
+      c.as_bytes-2.ensures.value,
+    ) at c.run.ensures.ran)
+    (rw (
+      c.from.ensures,
+      c.get.ensures.value,
+      passed c.args.number.now (omega (arith, c.get.ensures.range)),
+      c.as_bytes.ensures.value,
+      c.as_str.ensures.value,
+      c.as_bytes-2.ensures.value,
+    ) at c.run.ensures.failed)
+    c.run.ensures.kept c.run.ensures.survives c.run.ensures.told

@@ -11,4 +11,20 @@ returns-clause-made g c =
     let old = state g.S.Store c.args.tx.now.conn.now in
     let new = state g.S.Store c.run.new.tx.conn.now in
     makes_by (put_edits (halls_ours.puts c.args.code.now c.args.hall.now)) old new c.run.result
-    (rw (c.as_bytes.ensures.value, c.as_bytes-2.ensures.value, c.as_str.ensures.value, c.from.ensures, c.sum.ensures.value, passed (features_sum c.args.hall.now.features) (omega (arith, c.sum.ensures.range, c.sum.ensures.value))) at c.run.ensures.ran) (rw (c.as_bytes.ensures.value, c.as_bytes-2.ensures.value, c.as_str.ensures.value, c.from.ensures, c.sum.ensures.value, passed (features_sum c.args.hall.now.features) (omega (arith, c.sum.ensures.range, c.sum.ensures.value))) at c.run.ensures.failed) c.run.ensures.kept c.run.ensures.survives c.run.ensures.told
+    (rw (
+      c.as_bytes.ensures.value,
+      c.as_bytes-2.ensures.value,
+      c.as_str.ensures.value,
+      c.from.ensures,
+      c.sum.ensures.value,
+      passed (features_sum c.args.hall.now.features) (omega (arith, c.sum.ensures.range, c.sum.ensures.value)),
+    ) at
+    c.run.ensures.ran) (rw (
+      c.as_bytes.ensures.value,
+      c.as_bytes-2.ensures.value,
+      c.as_str.ensures.value,
+      c.from.ensures,
+      c.sum.ensures.value,
+      passed (features_sum c.args.hall.now.features) (omega (arith, c.sum.ensures.range, c.sum.ensures.value)),
+    ) at
+    c.run.ensures.failed) c.run.ensures.kept c.run.ensures.survives c.run.ensures.told

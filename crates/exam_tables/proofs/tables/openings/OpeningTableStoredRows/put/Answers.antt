@@ -10,4 +10,28 @@ returns-clause-made g c =
     let old = state g.S.Store c.args.tx.now.conn.now in
     let new = state g.S.Store c.run.new.tx.conn.now in
     makes_by (put_edits (openings_ours.puts c.args.key.now c.args.opening.now)) old new c.run.result
-    (rw (c.as_bytes.ensures.value, c.as_bytes-2.ensures.value, c.from.ensures, c.get.ensures.value, passed c.args.opening.now.desks (omega (arith, c.get.ensures.range)), c.from-2.ensures, c.get-2.ensures.value, passed c.args.opening.now.until (omega (arith, c.get-2.ensures.range)), c.flag.ensures, passed (if c.args.opening.now.reserved then 1 else 0) (flag_small c.args.opening.now.reserved)) at c.run.ensures.ran) (rw (c.as_bytes.ensures.value, c.as_bytes-2.ensures.value, c.from.ensures, c.get.ensures.value, passed c.args.opening.now.desks (omega (arith, c.get.ensures.range)), c.from-2.ensures, c.get-2.ensures.value, passed c.args.opening.now.until (omega (arith, c.get-2.ensures.range)), c.flag.ensures, passed (if c.args.opening.now.reserved then 1 else 0) (flag_small c.args.opening.now.reserved)) at c.run.ensures.failed) c.run.ensures.kept c.run.ensures.survives c.run.ensures.told
+    (rw (
+      c.as_bytes.ensures.value,
+      c.as_bytes-2.ensures.value,
+      c.from.ensures,
+      c.get.ensures.value,
+      passed c.args.opening.now.desks (omega (arith, c.get.ensures.range)),
+      c.from-2.ensures,
+      c.get-2.ensures.value,
+      passed c.args.opening.now.until (omega (arith, c.get-2.ensures.range)),
+      c.flag.ensures,
+      passed (if c.args.opening.now.reserved then 1 else 0) (flag_small c.args.opening.now.reserved),
+    ) at
+    c.run.ensures.ran) (rw (
+      c.as_bytes.ensures.value,
+      c.as_bytes-2.ensures.value,
+      c.from.ensures,
+      c.get.ensures.value,
+      passed c.args.opening.now.desks (omega (arith, c.get.ensures.range)),
+      c.from-2.ensures,
+      c.get-2.ensures.value,
+      passed c.args.opening.now.until (omega (arith, c.get-2.ensures.range)),
+      c.flag.ensures,
+      passed (if c.args.opening.now.reserved then 1 else 0) (flag_small c.args.opening.now.reserved),
+    ) at
+    c.run.ensures.failed) c.run.ensures.kept c.run.ensures.survives c.run.ensures.told

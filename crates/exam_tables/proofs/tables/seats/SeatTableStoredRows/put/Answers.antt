@@ -10,4 +10,18 @@ returns-clause-made g c =
     let old = state g.S.Store c.args.tx.now.conn.now in
     let new = state g.S.Store c.run.new.tx.conn.now in
     makes_by (put_edits (seats_ours.puts c.args.key.now c.args.hall.now)) old new c.run.result
-    (rw (c.as_bytes.ensures.value, c.from.ensures, c.get.ensures.value, passed c.args.key.now.1 (omega (arith, c.get.ensures.range)), c.as_bytes-2.ensures.value) at c.run.ensures.ran) (rw (c.as_bytes.ensures.value, c.from.ensures, c.get.ensures.value, passed c.args.key.now.1 (omega (arith, c.get.ensures.range)), c.as_bytes-2.ensures.value) at c.run.ensures.failed) c.run.ensures.kept c.run.ensures.survives c.run.ensures.told
+    (rw (
+      c.as_bytes.ensures.value,
+      c.from.ensures,
+      c.get.ensures.value,
+      passed c.args.key.now.1 (omega (arith, c.get.ensures.range)),
+      c.as_bytes-2.ensures.value,
+    ) at c.run.ensures.ran)
+    (rw (
+      c.as_bytes.ensures.value,
+      c.from.ensures,
+      c.get.ensures.value,
+      passed c.args.key.now.1 (omega (arith, c.get.ensures.range)),
+      c.as_bytes-2.ensures.value,
+    ) at
+    c.run.ensures.failed) c.run.ensures.kept c.run.ensures.survives c.run.ensures.told

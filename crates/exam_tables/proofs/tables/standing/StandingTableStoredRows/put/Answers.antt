@@ -10,4 +10,15 @@ returns-clause-made g c =
     let old = state g.S.Store c.args.tx.now.conn.now in
     let new = state g.S.Store c.run.new.tx.conn.now in
     makes_by (put_edits (standing_ours.puts c.args.key.now tt)) old new c.run.result
-    (rw (c.from.ensures, c.get.ensures.value, passed c.args.key.now.0 (omega (arith, c.get.ensures.range)), c.as_bytes.ensures.value) at c.run.ensures.ran) (rw (c.from.ensures, c.get.ensures.value, passed c.args.key.now.0 (omega (arith, c.get.ensures.range)), c.as_bytes.ensures.value) at c.run.ensures.failed) c.run.ensures.kept c.run.ensures.survives c.run.ensures.told
+    (rw (
+      c.from.ensures,
+      c.get.ensures.value,
+      passed c.args.key.now.0 (omega (arith, c.get.ensures.range)),
+      c.as_bytes.ensures.value,
+    ) at c.run.ensures.ran)
+    (rw (
+      c.from.ensures,
+      c.get.ensures.value,
+      passed c.args.key.now.0 (omega (arith, c.get.ensures.range)),
+      c.as_bytes.ensures.value,
+    ) at c.run.ensures.failed) c.run.ensures.kept c.run.ensures.survives c.run.ensures.told
