@@ -84,7 +84,7 @@ fn print_asked<S: Alter, O: Write>(
     ensures kept { KeepsOn S.Store store.old store.new }
 {
     match parse_line(alloc, words) {
-        Ok(line) => print_line(alloc, store, line, out),
+        Ok(line) => print_line(alloc, store, &line, out),
         Err(fault) => Err(LineStop::NoLine(fault)),
     }
 }
@@ -93,18 +93,18 @@ fn print_asked<S: Alter, O: Write>(
 fn print_line<S: Alter, O: Write>(
     alloc: Global,
     store: &mut Store<S>,
-    line: Line<'_>,
+    line: &Line<'_>,
     out: &mut O,
 ) -> LineEnd
     ensures sheet { RestsOnAsked (IsSound (state S.Store store.new.database) × KeepsIt S.Store store.old)
-        (sheet_of (lines.job_shown line.entry.job)) → PrintsAsked O.contents store.old.office
-        (sheet_of (lines.job_shown line.entry.job)) out.old result out.new }
+        (sheet_of (lines.job_shown line.now.job)) → PrintsAsked O.contents store.old.office
+        (sheet_of (lines.job_shown line.now.job)) out.old result out.new }
     ensures office { store.new.office ≡ store.old.office }
     ensures stays { Stays S.Store store.old store.new }
     ensures kept { KeepsOn S.Store store.old store.new }
 {
-    if is_sheet(&line) {
-        told(carry_out(alloc, &line, store, &mut io::empty(), out))
+    if is_sheet(line) {
+        told(carry_out(alloc, line, store, &mut io::empty(), out))
     } else {
         Err(LineStop::NoLine(LineFault::NotUnderstood))
     }

@@ -11,35 +11,35 @@ use Rattle.exam_theorem.proofs.printing.print_line.Goals as goal
 
 pub returns-then-is_sheet-clause-sheet : goal.returns-then-is_sheet-clause-sheet
 returns-then-is_sheet-clause-sheet g c = λ rested.
-    let job = job_shown c.args.line.job in
+    let job = job_shown c.args.line.now.job in
     let asks : is_some (sheet_of job) ≡ true = sym c.is_sheet.ensures ∙ c.if-is_sheet.true in
     subst (λ (o : LineEnd). PrintsAsked g.O.Write.contents c.args.store.now.office (sheet_of job) c.args.out.now o c.carry_out.new.out) (sym c.told.ensures)
-    (job_printed g.S.Store g.O.Write.contents c.args.line.today (Some [])
+    (job_printed g.S.Store g.O.Write.contents c.args.line.now.today (Some [])
     (Some []) c.args.store.now c.carry_out.new.store c.args.out.now c.carry_out.result c.carry_out.new.out job asks
     c.carry_out.ensures.does rested)
 
 pub returns-then-is_sheet-clause-office : goal.returns-then-is_sheet-clause-office
 returns-then-is_sheet-clause-office g c =
-    let job = job_shown c.args.line.job in
+    let job = job_shown c.args.line.now.job in
     let asks : is_some (sheet_of job) ≡ true = sym c.is_sheet.ensures ∙ c.if-is_sheet.true in
-    (job_keeps g.S.Store g.O.Write.contents c.args.line.today (Some [])
+    (job_keeps g.S.Store g.O.Write.contents c.args.line.now.today (Some [])
     (Some []) c.args.store.now c.carry_out.new.store c.args.out.now c.carry_out.result c.carry_out.new.out job asks
     c.carry_out.ensures.does).0
 
 pub returns-then-is_sheet-clause-kept : goal.returns-then-is_sheet-clause-kept
 returns-then-is_sheet-clause-kept g c =
-    let job = job_shown c.args.line.job in
+    let job = job_shown c.args.line.now.job in
     let asks : is_some (sheet_of job) ≡ true = sym c.is_sheet.ensures ∙ c.if-is_sheet.true in
-    (job_keeps g.S.Store g.O.Write.contents c.args.line.today (Some [])
+    (job_keeps g.S.Store g.O.Write.contents c.args.line.now.today (Some [])
     (Some []) c.args.store.now c.carry_out.new.store c.args.out.now c.carry_out.result c.carry_out.new.out job asks
     c.carry_out.ensures.does).1
 
 pub returns-then-is_sheet-clause-stays : goal.returns-then-is_sheet-clause-stays
 returns-then-is_sheet-clause-stays g c =
-    let job = job_shown c.args.line.job in
+    let job = job_shown c.args.line.now.job in
     let asks : is_some (sheet_of job) ≡ true = sym c.is_sheet.ensures ∙ c.if-is_sheet.true in
     job_stays g.S.Store (λ h trees is may. g.met.S.Store.settled h.store trees is may) g.O.Write.contents
-    c.args.line.today (Some [])
+    c.args.line.now.today (Some [])
     (Some []) c.args.store.now c.carry_out.new.store c.args.out.now c.carry_out.result c.carry_out.new.out
     job asks c.carry_out.ensures.does
 
