@@ -18,7 +18,8 @@ import time
 from typing import NamedTuple
 
 FEATURES = ["step-free", "screen", "reader", "small-room", "computer", "quiet"]  # the value of a place is 1, 2, 4 ..
-TABLES = ["office", "session", "paper", "hall", "opening", "candidate", "entry", "arrangement", "appeal", "standing", "seat"]
+TABLES = ["office", "session", "paper", "hall", "opening", "candidate", "entry", "arrangement", "appeal", "standing",
+          "seat"]
 VERSION = 3
 SHEETS = ["door-list", "attendance", "clashes", "shortage", "appeals", "export"]
 DESK = pathlib.Path(__file__).resolve().parent
@@ -67,7 +68,7 @@ def stop(message):
 
 
 def begin():
-    """Call it first: HUP, INT and TERM end a script so that it cleans up, faults become a line, all goes out as UTF-8."""
+    """Call it first: HUP, INT and TERM let a script clean up, a fault becomes a line, and all goes out as UTF-8."""
     def leave(number, _):
         raise SystemExit(128 + number)
     for number in (signal.SIGHUP, signal.SIGINT, signal.SIGTERM):
@@ -106,7 +107,7 @@ def today() -> datetime.date:
 
 
 def program() -> str:
-    """The program: EXAMOFFICE, else beside the desk's scripts, else the built one of the repository, else on the PATH."""
+    """The program: EXAMOFFICE, else beside the scripts, else the built one of the repository, else one on the PATH."""
     named = os.environ.get("EXAMOFFICE")
     places = [named] if named else [DESK / "examoffice", DESK.parent / "crates/examoffice/out/examoffice", "examoffice"]
     for place in places:
@@ -122,12 +123,19 @@ def run(*words) -> subprocess.CompletedProcess:
     """
     if words[0] not in SHEETS:
         return run_over(office_path(), *words)
+    with readable(office_path()) as path:
+        return run_over(path, *words)
+
+
+@contextlib.contextmanager
+def readable(path):
+    """The path of a private copy of an office, or its own where it cannot be copied: the program says what is wrong."""
     with contextlib.ExitStack() as stack:
         try:
-            path = stack.enter_context(private_copy(office_path()))
+            path = stack.enter_context(private_copy(path))
         except OSError:
-            path = office_path()  # the program says what is wrong with it
-        return run_over(path, *words)
+            pass
+        yield path
 
 
 def run_over(path, *words) -> subprocess.CompletedProcess:
@@ -171,7 +179,7 @@ def copy_file(source, target):
 
 
 def moment(path):
-    """What tells one state of the first file, and one beginning of the second, from another; None just after a change."""
+    """What tells one state of the first file and one beginning of the second from others; None just after a change."""
     first = os.stat(path)
     if 0 <= time.time_ns() - first.st_mtime_ns < 20_000_000:  # a change within one tick of the clock is not seen
         return None
@@ -292,8 +300,8 @@ def arrangements(connection, head, granted):
     force = {number: pair for number, *pair in connection.execute("SELECT number, needs, extra FROM arrangement")}
     standing = connection.execute(
         "SELECT appeal.number, needs, extra FROM standing JOIN appeal USING (number, ref) "
-        "JOIN session ON session.code = session WHERE state = ? AND session.day <= ? ORDER BY session.day, session.code",
-        [GRANTED, head["day"]])
+        "JOIN session ON session.code = session WHERE state = ? AND session.day <= ? "
+        "ORDER BY session.day, session.code", [GRANTED, head["day"]])
     force.update((number, pair) for number, *pair in standing)
     force.update((row["number"], (row["needs"], row["extra"])) for row in granted if row["kind"] == ARRANGEMENT)
     return force

@@ -1,0 +1,121 @@
+"""The door before `serve`: takes each client's whole request, hands it on, and holds it while `serve` is away.
+
+A request may be handed on again where no whole answer came, since every repeat is safe: a read changes nothing, and a
+lodging or a retraction that is done already is answered as before. So a client notices nothing of a gap. A client that
+sends nothing keeps nobody waiting: `serve` sees whole requests alone, and the longest waiting client goes where there
+is no room for another.
+"""
+import asyncio
+import re
+
+MOST_CLIENTS = 500
+MOST_HEAD, MOST_BODY = 8192, 4096  # bytes; what is longer is handed on as far as it goes, and `serve` refuses it
+REQUEST_SECONDS, ANSWER_SECONDS, GAP_SECONDS = 10, 15, 30
+PAUSE = 0.02  # seconds from one try to the next
+BUSY = b"HTTP/1.1 %s\r\nContent-Type: application/json\r\nContent-Length: %d\r\nConnection: close\r\n\r\n%s"
+FULL = BUSY % (b"503 Service Unavailable", 12, b'{"error":22}')  # nothing was handed on, so nothing has changed
+LATE = BUSY % (b"504 Gateway Timeout", 0, b"")  # a command may be done: a repeat says
+
+
+class Hold:
+    """Hands requests on to a port, one after the other, while there is one."""
+
+    def __init__(self):
+        self.port = None
+        self.opened = asyncio.Event()
+        self.turn = asyncio.Lock()
+        self.clients = set()
+        self.reading = {}  # the tasks that wait for a request, in the order in which they came
+
+    def open(self, port):
+        self.port = port
+        self.opened.set()
+
+    def close(self):
+        self.opened.clear()
+
+    async def take(self, reader, writer):
+        """Serves one client."""
+        task = asyncio.current_task()
+        self.clients.add(task)
+        try:
+            if len(self.clients) > MOST_CLIENTS and not self.make_room():
+                await self.send(writer, FULL)
+                return
+            self.reading[task] = writer
+            request = await asyncio.wait_for(whole_request(reader), REQUEST_SECONDS)
+            self.reading.pop(task, None)
+            await self.send(writer, await self.answer(request))
+        except (OSError, asyncio.TimeoutError, asyncio.CancelledError):
+            writer.transport.abort()
+        finally:
+            self.reading.pop(task, None)
+            self.clients.discard(task)
+            writer.close()
+
+    def make_room(self):
+        """Sends the longest waiting client away; False where each has sent its request."""
+        for task in self.reading:
+            self.reading.pop(task)
+            task.cancel()
+            return True
+        return False
+
+    async def send(self, writer, answer):
+        writer.write(answer)
+        await asyncio.wait_for(writer.drain(), ANSWER_SECONDS)
+        writer.write_eof()
+
+    async def answer(self, request):
+        try:
+            return await asyncio.wait_for(self.whole_answer(request), GAP_SECONDS)
+        except asyncio.TimeoutError:
+            return LATE
+
+    async def whole_answer(self, request):
+        """The answer of `serve`; asks again where it breaks off."""
+        while True:
+            await self.opened.wait()
+            async with self.turn:
+                try:
+                    answer = await asyncio.wait_for(self.ask(request), ANSWER_SECONDS)
+                except (OSError, asyncio.TimeoutError):
+                    answer = b""
+            if is_whole(answer):
+                return answer
+            await asyncio.sleep(PAUSE)
+
+    async def ask(self, request):
+        reader, writer = await asyncio.open_connection("127.0.0.1", self.port)
+        try:
+            writer.write(request)
+            writer.write_eof()
+            return await reader.read(-1)
+        finally:
+            writer.close()
+
+
+async def whole_request(reader):
+    """A request as `serve` reads it: the head to its empty line, then as many bytes as the head names."""
+    text = b""
+    while b"\r\n\r\n" not in text and len(text) <= MOST_HEAD:
+        part = await reader.read(4096)
+        if not part:
+            return text
+        text += part
+    head, _, body = text.partition(b"\r\n\r\n")
+    lengths = re.findall(rb"\r\ncontent-length:[ \t]*([0-9]{1,10})[ \t]*(?=\r\n|$)", head, re.IGNORECASE)
+    wanted = min(int(lengths[0]), MOST_BODY + 1) if len(lengths) == 1 else 0
+    while len(body) < wanted:
+        part = await reader.read(wanted - len(body))
+        if not part:
+            break
+        body += part
+        text += part
+    return text
+
+
+def is_whole(answer):
+    head, end, body = answer.partition(b"\r\n\r\n")
+    length = re.search(rb"\r\nContent-Length: (\d+)", head)
+    return bool(end) and length is not None and len(body) == int(length[1])

@@ -1,0 +1,125 @@
+"""Who has the office: its commands take turns, and `keep` steps aside for each of them.
+
+Beside office.db the folder desk-office.db (mode 0700) holds three lock files (flock(2)), the log and the copies:
+
+    want.lock     held while a command waits for the office and has it, and by `keep` while it begins to serve
+    office.lock   held by whoever has the office: a command, or `keep` while it serves
+    keep.lock     held by `keep` as long as it lives; its text says where it serves
+
+A command takes want.lock, asks `keep` to step aside, and takes office.lock. `keep` needs both to serve again, so it
+never comes between. The system lets go of the locks of a process that ends, in whatever way; no child inherits them.
+"""
+import contextlib
+import fcntl
+import json
+import os
+import signal
+import time
+
+import school
+
+PATIENCE = 10  # seconds
+
+
+def folder():
+    """The folder beside the office's file; a link to that file has the folder of the file itself."""
+    path = os.path.realpath(school.office_path())
+    return os.path.join(os.path.dirname(path), "desk-" + os.path.basename(path))
+
+
+def inside(*names):
+    return os.path.join(folder(), *names)
+
+
+def make_folder(*names):
+    """The path of the folder, or of one in it; it is made where it is not there, but no folder above it is."""
+    for place in [folder(), inside(*names)]:
+        with contextlib.suppress(FileExistsError):
+            os.mkdir(place, 0o700)
+    return inside(*names)
+
+
+def open_lock(name):
+    return os.open(os.path.join(make_folder(), name), os.O_RDWR | os.O_CREAT | os.O_CLOEXEC, 0o600)
+
+
+def try_lock(file, kind=fcntl.LOCK_EX) -> bool:
+    try:
+        fcntl.flock(file, kind | fcntl.LOCK_NB)
+    except BlockingIOError:
+        return False
+    return True
+
+
+def note(file, text):
+    """Writes into a lock file who holds it."""
+    with contextlib.suppress(OSError):  # on a full disk the lock holds without a text
+        os.ftruncate(file, 0)
+        os.pwrite(file, text.encode("utf-8", "surrogateescape"), 0)
+
+
+def text_of(name):
+    try:
+        with open(inside(name), encoding="utf-8", errors="replace") as file:
+            return file.read()
+    except OSError:
+        return ""
+
+
+@contextlib.contextmanager
+def held(name, until):
+    file = open_lock(name)
+    try:
+        while not try_lock(file):
+            if time.monotonic() > until:
+                school.stop(f"another command has the office ({text_of('want.lock') or 'it does not say which'}); "
+                            "nothing is changed, try again")
+            time.sleep(0.01)
+        yield file
+    finally:
+        os.close(file)
+
+
+@contextlib.contextmanager
+def alone(words):
+    """The office for this process alone: waits up to PATIENCE seconds for another command, then ends the script."""
+    until = time.monotonic() + PATIENCE
+    with held("want.lock", until) as want:
+        note(want, f"process {os.getpid()}, {' '.join(words)}")
+        ask_keep_aside()
+        with held("office.lock", until):
+            yield
+
+
+@contextlib.contextmanager
+def alone_if_possible(words):
+    """As `alone`; where no lock can be made, such as beside a file that is not there, it goes on without."""
+    with contextlib.ExitStack() as stack:
+        try:
+            stack.enter_context(alone(words))
+        except OSError:
+            pass
+        yield
+
+
+def keep_state():
+    """Where `keep` serves: a dict with pid, port and state; None where it does not run."""
+    try:
+        file = os.open(inside("keep.lock"), os.O_RDONLY | os.O_CLOEXEC)
+    except OSError:
+        return None
+    try:
+        if try_lock(file, fcntl.LOCK_SH):
+            return None
+        return json.loads(os.pread(file, 1 << 16, 0) or b"{}")
+    except ValueError:
+        return {}  # it is just being written
+    finally:
+        os.close(file)
+
+
+def ask_keep_aside():
+    state = keep_state()
+    if state and "pid" in state:
+        with contextlib.suppress(ProcessLookupError):
+            os.kill(state["pid"], signal.SIGUSR1)
