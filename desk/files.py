@@ -16,10 +16,16 @@ HEADERS = {  # in the order in which they are imported
     "arrangements": ["number", "needs", "extra"],
     "entries": ["number", "paper"],
 }
+REFERENCES = {  # the columns whose values other files bring, from the left, and the kind of these
+    "papers": [(2, "sessions")],
+    "openings": [(0, "sessions"), (1, "halls")],
+    "arrangements": [(0, "candidates")],
+    "entries": [(0, "candidates"), (1, "papers")],
+}
+UNKNOWN = {"sessions": 4, "papers": 5, "candidates": 6, "halls": 7}  # the refusals of what the office does not have
 KEYS = {"openings": 2, "entries": 2}  # how many columns make the key; elsewhere the first alone
 FIRST_DAY, LAST_DAY = datetime.date(2000, 1, 11), datetime.date(2199, 12, 31)
 BOM = b"\xef\xbb\xbf"
-UNQUOTED = re.compile(rb"[^,\r\n]*")
 
 
 class Record(NamedTuple):
@@ -28,8 +34,9 @@ class Record(NamedTuple):
     closed: bool  # no quote is left open
 
 
-def records(text):
+def records(text, comma=b","):
     """The records of a file, the header among them. Blank lines are none; an open quote runs to the end."""
+    unquoted = re.compile(rb"[^" + comma + rb"\r\n]*")
     place = len(BOM) if text.startswith(BOM) else 0
     line = 1
     fields = []
@@ -39,7 +46,7 @@ def records(text):
             place += 1
             continue
         start = place if not fields else start
-        field, place, closed = read_field(text, place)
+        field, place, closed = read_field(text, place, unquoted)
         fields.append(field)
         ended = place >= len(text) or text[place] in b"\r\n"
         if not ended:
@@ -53,7 +60,7 @@ def records(text):
             fields = []
 
 
-def read_field(text, place):
+def read_field(text, place, unquoted):
     """A field, the place of the comma or line end behind it, and whether its quote is closed."""
     field = b""
     if text[place:place + 1] == b'"':
@@ -68,7 +75,7 @@ def read_field(text, place):
                 break
             field += b'"'
             place += 1
-    rest = UNQUOTED.match(text, place)
+    rest = unquoted.match(text, place)
     return field + rest.group(), rest.end(), True
 
 

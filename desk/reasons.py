@@ -17,7 +17,8 @@ def halls_of(connection, session, everybody, asked):
     """As `reasons`, for the members that are asked about; their own hall says that they sit there."""
     halls = []
     for opening in school.openings(connection, session):
-        sitting = sorted((member for member in everybody if member.hall == opening.hall), key=lambda member: member.desk)
+        sitting = [member for member in everybody if member.hall == opening.hall]
+        sitting.sort(key=lambda member: member.desk)
         halls.append((opening, [member.number for member in sitting]))
     return [(member, [(opening.hall, reason(member, opening, taken)) for opening, taken in halls]) for member in asked]
 

@@ -47,8 +47,6 @@ OTHER = {
     "net fault": "the port is taken, or the system gives no more connections; take another one, from 1024 on",
 }
 WHOLE_OR_NOT = "a command is there whole or not at all: look, or give it again"
-FACTS = {4: ("sessions", "session"), 5: ("papers", "paper"), 6: ("candidates", "candidate"), 7: ("halls", "hall")}
-PLACES = {4: {"papers": 2, "openings": 0}, 5: {"entries": 1}, 6: {"entries": 0, "arrangements": 0}, 7: {"openings": 1}}
 
 
 def number_of(answer):
@@ -84,9 +82,8 @@ def places(words, number, answer):
     if number in (1, 3):
         record, column = re.match(r"refused \d+ record (\d+)(?: column (\d+))?", answer).groups()
         return record_lines(kind, name, found[int(record)], int(column or 0), number)
-    if number in FACTS:
-        return unknown_lines(kind, name, found, number)
-    return []
+    return [line for column, table in files.REFERENCES.get(kind, []) if number == files.UNKNOWN[table]
+            for line in unknown_lines(name, found, column, table)]
 
 
 def record_lines(kind, name, record, column, number):
@@ -100,14 +97,13 @@ def record_lines(kind, name, record, column, number):
     return lines
 
 
-def unknown_lines(kind, name, found, number):
+def unknown_lines(name, found, column, table):
     """The first lines whose reference the office does not have."""
-    table, thing = FACTS[number]
-    column = PLACES[number][kind]
     with contextlib.closing(school.rows()) as connection:
         known = known_keys(connection, table)
     wrong = [record for record in found[1:] if record.fields[column] not in known]
-    lines = [f"line {record.line} of {name}: {thing} is {files.shown(record.fields[column])}" for record in wrong[:5]]
+    lines = [f"line {record.line} of {name}: {table[:-1]} is {files.shown(record.fields[column])}"
+             for record in wrong[:5]]
     return lines + ([f".. and {len(wrong) - 5} more lines"] if len(wrong) > 5 else [])
 
 
@@ -133,7 +129,7 @@ def lasting_cause():
     if found.st_nlink > 1:
         return f"{path} has a second name (a hard link, as some backups make): copy the file and take the copy"
     if beside:
-        return f"{beside[0]} lies beside the file: sqlite3 was stopped in a change; open the file there, or move it away"
+        return f"{beside[0]} lies beside the file: sqlite3 was stopped in a change; open the file there, or move it"
     for name in (path, path + "-wal"):
         if os.path.exists(name) and not os.access(name, os.R_OK | os.W_OK):
             return f"no permission to change {name}; it belongs to user {os.stat(name).st_uid}"
