@@ -74,7 +74,7 @@ class Keep:
             self.wanted.clear()  # a command wants the office only while it holds want.lock
             day = school.today()
             self.keep_day(day)
-            process = await start_serve(port := free_port(), day)
+            process = await start_serve(port := free_port())
             want.close()
             tasks = [asyncio.create_task(task) for task in
                      (process.wait(), self.wanted.wait(), day_has_ended(day), self.read_faults(process))]
@@ -137,8 +137,8 @@ class Keep:
             say(f"no copy of the day: {fault.strerror or fault}")
 
 
-async def start_serve(port, day):
-    line = [school.program(), "--db", school.office_path(), "--today", day.isoformat(), "serve", str(port)]
+async def start_serve(port):
+    line = school.line_over(school.office_path(), "serve", str(port))
     return await asyncio.create_subprocess_exec(
         *line, stdin=subprocess.DEVNULL, stdout=subprocess.PIPE, stderr=subprocess.PIPE,
         preexec_fn=end_with(os.getpid()))

@@ -14,7 +14,8 @@ FEATURES = f"features are {', '.join(school.FEATURES)}, in this order, joined by
 CURES = {
     "number": "seven digits (format the column as text)", "session": CODE, "paper": CODE,
     "hall": "1 to 8 of A-Z and 0-9", "code": "8 to 16 of A-Z and 0-9",
-    "date": "write the date as 2027-06-07 (format the column as text), from 2000-01-11", "start": TIME, "until": TIME, "reserved": "yes or no", "minutes": "a whole number from 1 to 600",
+    "date": "write the date as 2027-06-07 (format the column as text), from 2000-01-11",
+    "start": TIME, "until": TIME, "reserved": "yes or no", "minutes": "a whole number from 1 to 600",
     "desks": "a whole number from 1 to 2000", "extra": "a whole number from 0 to 100, without %",
     "requires": FEATURES, "features": FEATURES, "needs": FEATURES,
 }
@@ -198,7 +199,7 @@ def header_mistakes(kind, record, place, commas, mistakes):
     if len(record.fields) > len(wanted):
         mistakes.append(Mistake(record.line, "file", "empty columns at the end: delete them"))
     if trimmed(record.fields, len(wanted)) != wanted:
-        mistakes.append(Mistake(record.line, "file", f"the header must be {','.join(files.HEADERS[kind])}, to the letter"))
+        mistakes.append(Mistake(record.line, "file", f"the header must be {','.join(files.HEADERS[kind])}"))
 
 
 def trimmed(fields, wanted):

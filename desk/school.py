@@ -138,9 +138,13 @@ def readable(path):
         yield path
 
 
+def line_over(path, *words) -> list[str]:
+    """The program's command line over a file."""
+    return [program(), "--db", path, "--today", today().isoformat(), *words]
+
+
 def run_over(path, *words) -> subprocess.CompletedProcess:
-    line = [program(), "--db", path, "--today", today().isoformat(), *words]
-    return subprocess.run(line, capture_output=True, encoding="utf-8", errors="replace", check=False)
+    return subprocess.run(line_over(path, *words), capture_output=True, encoding="utf-8", errors="replace", check=False)
 
 
 @contextlib.contextmanager
