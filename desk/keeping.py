@@ -23,7 +23,9 @@ PR_SET_PDEATHSIG = 1
 
 
 def say(text):
-    print(f"{datetime.datetime.now().isoformat(' ', 'seconds')} {school.plain(text)}", file=sys.stderr, flush=True)
+    line = f"{datetime.datetime.now().isoformat(' ', 'seconds')} {school.plain(text)}\n"
+    with contextlib.suppress(OSError):  # a full disk is no reason to end
+        os.write(sys.stderr.fileno(), line.encode())
 
 
 class Keep:

@@ -4,7 +4,7 @@ Beside office.db the folder desk-office.db (mode 0700) holds three lock files (f
 
     want.lock     held while a command waits for the office and has it, and by `keep` while it begins to serve
     office.lock   held by whoever has the office: a command, or `keep` while it serves
-    keep.lock     held by `keep` as long as it lives; its text says where it serves
+    keep.lock     held by `keep` as long as it lives (fcntl(2), which tells its process); its text says where it serves
 
 A command takes want.lock, asks `keep` to step aside, and takes office.lock. `keep` needs both to serve again, so it
 never comes between. The system lets go of the locks of a process that ends, in whatever way; no child inherits them.
@@ -14,11 +14,14 @@ import fcntl
 import json
 import os
 import signal
+import struct
 import time
 
 import school
 
 PATIENCE = 10  # seconds
+NOTE_BYTES = 512
+FLOCK = "hhqqi"  # struct flock of fcntl(2): type, whence, start, length, process
 
 
 def folder():
@@ -43,25 +46,24 @@ def open_lock(name):
     return os.open(os.path.join(make_folder(), name), os.O_RDWR | os.O_CREAT | os.O_CLOEXEC, 0o600)
 
 
-def try_lock(file, kind=fcntl.LOCK_EX) -> bool:
+def try_lock(file, lock=fcntl.flock) -> bool:
     try:
-        fcntl.flock(file, kind | fcntl.LOCK_NB)
-    except BlockingIOError:
+        lock(file, fcntl.LOCK_EX | fcntl.LOCK_NB)
+    except (BlockingIOError, PermissionError):
         return False
     return True
 
 
 def note(file, text):
-    """Writes into a lock file who holds it."""
+    """Writes into a lock file who holds it, always as many bytes, so that it needs no room the second time."""
     with contextlib.suppress(OSError):  # on a full disk the lock holds without a text
-        os.ftruncate(file, 0)
-        os.pwrite(file, text.encode("utf-8", "surrogateescape"), 0)
+        os.pwrite(file, text.encode("utf-8", "surrogateescape")[:NOTE_BYTES].ljust(NOTE_BYTES), 0)
 
 
 def text_of(name):
     try:
         with open(inside(name), encoding="utf-8", errors="replace") as file:
-            return file.read()
+            return file.read().strip()
     except OSError:
         return ""
 
@@ -103,23 +105,25 @@ def alone_if_possible(words):
 
 
 def keep_state():
-    """Where `keep` serves: a dict with pid, port and state; None where it does not run."""
+    """Where `keep` serves: a dict with pid, and port and state if it has said them; None where it does not run."""
     try:
         file = os.open(inside("keep.lock"), os.O_RDONLY | os.O_CLOEXEC)
     except OSError:
         return None
     try:
-        if try_lock(file, fcntl.LOCK_SH):
-            return None
-        return json.loads(os.pread(file, 1 << 16, 0) or b"{}")
-    except ValueError:
-        return {}  # it is just being written
+        asked = fcntl.fcntl(file, fcntl.F_GETLK, struct.pack(FLOCK, fcntl.F_WRLCK, os.SEEK_SET, 0, 0, 0))
+        kind, *_, process = struct.unpack(FLOCK, asked)
+        text = os.pread(file, NOTE_BYTES, 0)
     finally:
         os.close(file)
+    if kind == fcntl.F_UNLCK:
+        return None
+    said = json.loads(text) if text.strip() else {}
+    return said if said.get("pid") == process else {"pid": process}
 
 
 def ask_keep_aside():
     state = keep_state()
-    if state and "pid" in state:
+    if state:
         with contextlib.suppress(ProcessLookupError):
             os.kill(state["pid"], signal.SIGUSR1)
