@@ -13,6 +13,7 @@ import contextlib
 import fcntl
 import json
 import os
+import pwd
 import signal
 import struct
 import time
@@ -82,10 +83,21 @@ def held(name, until):
         os.close(file)
 
 
+def refuse_strange_root():
+    """Ends the script of a superuser over another's office, whose files the owner could not write afterwards."""
+    with contextlib.suppress(FileNotFoundError):
+        owner = os.stat(school.office_path()).st_uid
+        if os.geteuid() == 0 != owner:
+            with contextlib.suppress(KeyError):
+                owner = pwd.getpwuid(owner).pw_name
+            school.stop(f"the office belongs to {owner}: work as that user, as with `sudo -u {owner} office ..`")
+
+
 @contextlib.contextmanager
 def alone(words):
     """The office for this process alone: waits up to PATIENCE seconds for another command, then ends the script."""
     until = time.monotonic() + PATIENCE
+    refuse_strange_root()
     with held("want.lock", until) as want:
         note(want, f"process {os.getpid()}, {' '.join(words)}")
         ask_keep_aside()
