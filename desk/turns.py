@@ -70,13 +70,13 @@ def text_of(name):
 
 
 @contextlib.contextmanager
-def held(name, until):
+def held(name, until, whose):
+    """A lock; ends the script where it is not free in time, and says whose it is."""
     file = open_lock(name)
     try:
         while not try_lock(file):
             if time.monotonic() > until:
-                school.stop(f"another command has the office ({text_of('want.lock') or 'it does not say which'}); "
-                            "nothing is changed, try again")
+                school.stop(f"{whose()} has the office; nothing is changed, try again")
             time.sleep(0.01)
         yield file
     finally:
@@ -98,10 +98,10 @@ def alone(words):
     """The office for this process alone: waits up to PATIENCE seconds for another command, then ends the script."""
     until = time.monotonic() + PATIENCE
     refuse_strange_root()
-    with held("want.lock", until) as want:
+    with held("want.lock", until, lambda: f"another command ({text_of('want.lock')})") as want:
         note(want, f"process {os.getpid()}, {' '.join(words)}")
         ask_keep_aside()
-        with held("office.lock", until):
+        with held("office.lock", until, lambda: f"`keep` does not step aside ({keep_state()}) and"):
             yield
 
 

@@ -1,5 +1,7 @@
 """`keep` with commands beside it: nothing is lost or done twice, no lock is left, no client notices a gap."""
+import asyncio
 import contextlib
+import datetime
 import http.client
 import json
 import os
@@ -10,8 +12,11 @@ import subprocess
 import threading
 import time
 import unittest
+from unittest import mock
 
 import sample
+import keeping
+import turns
 
 NUMBER, CODE = "0001051", "VMGNZGEDP9"
 PATIENCE = 60  # seconds; long, since a busy machine is no fault
@@ -177,6 +182,25 @@ class Kept(sample.SampleSchool):
         self.assertEqual(self.office("lodge", NUMBER, "MON-AM", "clash", "LAT", ""), f"{NUMBER} D2 open\n")
         self.assertEqual(self.office("decide", NUMBER, "D2", "granted", ""), "decided granted hall AULA moved 0\n")
         self.assertEqual(self.stored(), [("D1", 1), ("D2", 2)])
+
+
+class NewDay(sample.SampleSchool):
+    def test_a_new_day_is_served_with_its_date_and_a_copy(self):
+        with mock.patch.dict(os.environ, self.environment), mock.patch("school.today") as today, mock.patch("keeping.say"):
+            today.return_value = datetime.date(2027, 5, 1)
+            asyncio.run(self.two_days(today))
+        self.assertEqual(sorted(os.listdir(os.path.join(self.desk, "days"))), ["2027-05-02", "2027-05-03"])
+
+    async def two_days(self, today):
+        keep = keeping.Keep(sample.free_port(), 2, turns.open_lock("keep.lock"))
+        served = asyncio.create_task(keep.run())
+        for day in (1, 2, 3):
+            today.return_value = datetime.date(2027, 5, day)
+            while f"2027-05-0{day}" not in turns.text_of("keep.lock"):
+                await asyncio.sleep(0.02)
+        keep.end()
+        await served
+        os.close(keep.lock)
 
 
 class Lodged(sample.SampleSchool):
