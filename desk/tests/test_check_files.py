@@ -47,43 +47,57 @@ def spoiled():
     yield "candidates", b"\n\n"
     yield "candidates", b"number,name,code"
     yield "candidates", whole("entries")
-    rows = ["0001000,Ada Lin,WK3DEGZDP", "0001000,Ada Lin", "0001000,Lin, Ada,WK3DEGZDPC", '0001000,"Ada Lin,WK3DEGZDPC',
-            '0001000,Ada "Ace" Lin,WK3DEGZDPC', '0001000,"Ada "Ace" Lin",WK3DEGZDPC', '"0001000","Ada Lin","WK3DEGZDPC"',
+    rows = ["0001000,Ada Lin,WK3DEGZDP", "0001000,Ada Lin", "0001000,Lin, Ada,WK3DEGZDPC",
+            '0001000,"Ada Lin,WK3DEGZDPC',
+            '0001000,Ada "Ace" Lin,WK3DEGZDPC', '0001000,"Ada "Ace" Lin",WK3DEGZDPC',
+            '"0001000","Ada Lin","WK3DEGZDPC"',
             "0001000,,WK3DEGZDPC", "0001000,Ada Lin,", "0000000,Ada Lin,WK3DEGZDPC", "'0001000,Ada Lin,WK3DEGZDPC",
             "0001000 ,Ada Lin,WK3DEGZDPC", "1000,Ada Lin,WK3DEGZDPC", "0001000,Ada Lin,wk3degzdpc",
             "0001000,Ada\0Lin,WK3DEGZDPC", "0001000,Ada\x7fLin,WK3DEGZDPC", "0001000,Ada\u0085Lin,WK3DEGZDPC",
-            "0001000,Ada\u2028Lin\u202e,WK3DEGZDPC", '0001000,"Ada\nLin",WK3DEGZDPC', f"0001000,{40 * 'Ö'},WK3DEGZDPC",
+            "0001000,Ada\u2028Lin\u202e,WK3DEGZDPC", '0001000,"Ada\nLin",WK3DEGZDPC',
+            f"0001000,{40 * 'Ö'},WK3DEGZDPC",
             f"0001000,{41 * 'Ö'},WK3DEGZDPC", f"0001000,{80 * 'x'},WK3DEGZDPC", f"0001000,{81 * 'x'},WK3DEGZDPC",
-            "0001000,Ada Lin,WK3DEGZDPCWK3DEG", "0001000,Ada Lin,WK3DEGZDPCWK3DEGZ", "0001000,François NÃºÃ±ez,WK3DEGZDPC",
-            "0001017,Ada Lin,WK3DEGZDPC", "0001000,Ada Lin,F54ERF5DHQ", "0001000,Ada Lin,1000000000000", ",,", ",", '""',
+            "0001000,Ada Lin,WK3DEGZDPCWK3DEG", "0001000,Ada Lin,WK3DEGZDPCWK3DEGZ",
+            "0001000,François NÃºÃ±ez,WK3DEGZDPC",
+            "0001017,Ada Lin,WK3DEGZDPC", "0001000,Ada Lin,F54ERF5DHQ", "0001000,Ada Lin,1000000000000", ",,", ",",
+            '""',
             "０００１０００,Ada Lin,WK3DEGZDPC", "٠٠٠١٠٠٠,Ada Lin,WK3DEGZDPC", "0001000.0,Ada Lin,WK3DEGZDPC"]
     yield from (("candidates", with_line("candidates", 2, row)) for row in rows)
     yield "candidates", with_line("candidates", 2, "0001000,Zoé,WK3DEGZDPC", "latin-1")
     yield "candidates", with_line("candidates", 2, "0001000,Z,WK3DEGZDPC").replace(b",Z,", b",\xed\xa0\x80,")
-    for row in ["MON-AM,07/06/2027,09:00", "MON-AM,2027-06-07,9:00", "MON-AM,2027-06-07,09:00:00", "MON-AM,2027-02-29,09:00",
-                "MON-AM,2028-02-29,23:59", "MON-AM,2027-06-07,24:00", "MON-AM,2000-01-10,09:00", "MON-AM,2000-01-11,00:00",
-                "MON-AM,2199-12-31,09:00", "MON-AM,2200-01-01,09:00", "MON–AM,2027-06-07,09:00", "mon-am,2027-06-07,09:00",
+    for row in ["MON-AM,07/06/2027,09:00", "MON-AM,2027-06-07,9:00", "MON-AM,2027-06-07,09:00:00",
+                "MON-AM,2027-02-29,09:00",
+                "MON-AM,2028-02-29,23:59", "MON-AM,2027-06-07,24:00", "MON-AM,2000-01-10,09:00",
+                "MON-AM,2000-01-11,00:00",
+                "MON-AM,2199-12-31,09:00", "MON-AM,2200-01-01,09:00", "MON–AM,2027-06-07,09:00",
+                "mon-am,2027-06-07,09:00",
                 "MON-AM-MON-AM,2027-06-07,09:00", " MON-AM,2027-06-07,09:00", "MON-AM,2027-06-07,09:60",
                 "MON-AM,2027-6-7,09:00", "1E5,2027-06-07,09:00", "MON-AM,0000-01-01,09:00"]:
         yield "sessions", with_line("sessions", 2, row)
     for row in ["MA-1,Mathematics 1,MON-AM,0,-", "MA-1,Mathematics 1,MON-AM,601,-", "MA-1,Mathematics 1,MON-AM,600,-",
-                "MA-1,Mathematics 1,MON-AM,2:00,-", "MA-1,Mathematics 1,MON-AM,060,-", "MA-1,Mathematics 1,MON-AX,60,-",
-                "MA-1,Mathematics 1,MON-AM,60,", "MA-1,Mathematics 1,MON-AM,60,Step-free", "MA-1,Mathematics 1,MON-AM,60.0,-",
+                "MA-1,Mathematics 1,MON-AM,2:00,-", "MA-1,Mathematics 1,MON-AM,060,-",
+                "MA-1,Mathematics 1,MON-AX,60,-",
+                "MA-1,Mathematics 1,MON-AM,60,", "MA-1,Mathematics 1,MON-AM,60,Step-free",
+                "MA-1,Mathematics 1,MON-AM,60.0,-",
                 "MA-1,Mathematics 1,MON-AM,60,reader+screen", "MA-1,Mathematics 1,MON-AM,60,screen+reader",
                 "MA-1,Mathematics 1,MON-AM,60,screen+screen", "MA-1,Mathematics 1,MON-AM,60,screen+",
                 "MA-1,Mathematics 1,MON-AM,60,step-free+screen+reader+small-room+computer+quiet",
-                "MA-1,Mathematics 1,MON-AM,00060,-", "MA-1,Mathematics 1,MON-AM,+60,-", "MA-1,Maths,MON-AM,60,-+screen"]:
+                "MA-1,Mathematics 1,MON-AM,00060,-", "MA-1,Mathematics 1,MON-AM,+60,-",
+                "MA-1,Maths,MON-AM,60,-+screen"]:
         yield "papers", with_line("papers", 2, row)
     for row in ["GYM,Gymnasium,stepfree", "GYM-1,Gymnasium,-", "GYMNASIUM,Gymnasium,-", "GYM,,-", "AULA,Gymnasium,-"]:
         yield "halls", with_line("halls", 2, row)
-    for row in ["MON-AM,GYM,0,12:30,no", "MON-AM,GYM,2001,12:30,no", "MON-AM,GYM,2000,24:00,no", "MON-AM,GYM,24,24:01,no",
-                "MON-AM,GYM,24,12:30,No", "MON-AM,GYM,24,12:30,Yes", "MON-AM,GYN,24,12:30,no", "MON-XX,GYN,24,12:30,no",
+    for row in ["MON-AM,GYM,0,12:30,no", "MON-AM,GYM,2001,12:30,no", "MON-AM,GYM,2000,24:00,no",
+                "MON-AM,GYM,24,24:01,no",
+                "MON-AM,GYM,24,12:30,No", "MON-AM,GYM,24,12:30,Yes", "MON-AM,GYN,24,12:30,no",
+                "MON-XX,GYN,24,12:30,no",
                 "MON-AM,AULA,24,12:30,no", "MON-AM,GYM,24,12:30,no,"]:
         yield "openings", with_line("openings", 2, row)
     for row in ["0001034,-,25%", "0001034,-,25.0", "0001034,-,101", "0001034,-,100", "0001034,-,", "0001034,,25",
                 "0009999,-,25", "0001034,-,-0", "0001085,-,25"]:
         yield "arrangements", with_line("arrangements", 2, row)
-    for row in ["0001000,EN-9", "0009999,EN-1", "0009999,EN-9", "0001000,EN-2", "0001000", "0001000,en-1", "0001000,"]:
+    for row in ["0001000,EN-9", "0009999,EN-1", "0009999,EN-9", "0001000,EN-2", "0001000", "0001000,en-1",
+                "0001000,"]:
         yield "entries", with_line("entries", 2, row)
     filler = b"0001000,EN-1\n" * (files.MOST_BYTES // 13 + 1)
     yield "entries", (b"number,paper\n" + filler)[:files.MOST_BYTES + 1]

@@ -71,7 +71,8 @@ class Kept(sample.SampleSchool):
             return file.execute("SELECT ref, state FROM appeal ORDER BY lodged, ref").fetchall()
 
     def test_it_says_where_it_serves_and_ends(self):
-        self.assertRegex(self.office("keep", "status"), rf"^serving 127.0.0.1 {self.port}, for {sample.TODAY}, process \d+\n$")
+        self.assertRegex(self.office("keep", "status"),
+                         rf"^serving 127.0.0.1 {self.port}, for {sample.TODAY}, process \d+\n$")
         self.assertEqual(self.ask()[0], 200)
         self.assertIn("serves this office already", self.refused("keep", "start", str(self.port)))
         self.assertIn("serves this office already", self.refused("serve", str(self.port)))
@@ -186,7 +187,8 @@ class Kept(sample.SampleSchool):
 
 class NewDay(sample.SampleSchool):
     def test_a_new_day_is_served_with_its_date_and_a_copy(self):
-        with mock.patch.dict(os.environ, self.environment), mock.patch("school.today") as today, mock.patch("keeping.say"):
+        with (mock.patch.dict(os.environ, self.environment), mock.patch("school.today") as today,
+              mock.patch("keeping.say")):
             today.return_value = datetime.date(2027, 5, 1)
             asyncio.run(self.two_days(today))
         self.assertEqual(sorted(os.listdir(os.path.join(self.desk, "days"))), ["2027-05-02", "2027-05-03"])

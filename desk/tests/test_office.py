@@ -77,8 +77,8 @@ class Words(sample.SampleSchool):
 class Causes(sample.SampleSchool):
     def cause(self):
         lines = self.refused("withdraw", "0001000", "MA-1").split("\n")
-        self.assertEqual((lines[0], lines[2:]), ("refused 23", ["  a command is there whole or not at all: look, or give "
-                                                                "it again", ""]))
+        self.assertEqual(lines[0], "refused 23")
+        self.assertEqual(lines[2:], ["  a command is there whole or not at all: look, or give it again", ""])
         self.assertFalse(os.listdir(os.path.join(self.desk, "copies")))
         return lines[1]
 
@@ -171,8 +171,8 @@ class Back(sample.SampleSchool):
     def test_two_officers_at_once(self):
         numbers = ["0001000", "0001017", "0001034", "0001051", "0001068", "0001085"]
         with closing(sqlite3.connect(self.path)) as file:
-            pairs = [(number, file.execute("SELECT min(paper) FROM entry WHERE number = ?", [int(number)]).fetchone()[0])
-                     for number in numbers]
+            query = "SELECT min(paper) FROM entry WHERE number = ?"
+            pairs = [(number, file.execute(query, [int(number)]).fetchone()[0]) for number in numbers]
         started = [subprocess.Popen([sample.DESK / "office", "withdraw", *pair], env=self.environment,
                                     stdout=subprocess.PIPE, stderr=subprocess.PIPE) for pair in pairs]
         self.assertEqual([process.communicate() for process in started], [(b"withdrawn\n", b"")] * len(pairs))
