@@ -2,15 +2,16 @@
 
 A request may be handed on again where no whole answer came, since every repeat is safe: a read changes nothing, and a
 lodging or a retraction that is done already is answered as before. So a client notices nothing of a gap. A client that
-sends nothing keeps nobody waiting: `serve` sees whole requests alone, and the longest waiting client goes where there
-is no room for another.
+sends nothing keeps nobody waiting: `serve` sees whole requests alone, and in a crowd a client has a second for its own.
 """
 import asyncio
 import re
+import resource
 
-MOST_CLIENTS = 500
+MOST_CLIENTS, CROWD = 1500, 100
+FILES = 2 * MOST_CLIENTS  # that the process may have open, if the system lets it
 MOST_HEAD, MOST_BODY = 8192, 4096  # bytes; what is longer is handed on as far as it goes, and `serve` refuses it
-REQUEST_SECONDS, ANSWER_SECONDS, GAP_SECONDS = 10, 15, 30
+REQUEST_SECONDS, CROWD_SECONDS, ANSWER_SECONDS, GAP_SECONDS = 10, 1, 15, 30
 PAUSE = 0.02  # seconds from one try to the next
 BUSY = b"HTTP/1.1 %s\r\nContent-Type: application/json\r\nContent-Length: %d\r\nConnection: close\r\n\r\n%s"
 FULL = BUSY % (b"503 Service Unavailable", 12, b'{"error":22}')  # nothing was handed on, so nothing has changed
@@ -24,8 +25,11 @@ class Hold:
         self.port = None
         self.opened = asyncio.Event()
         self.turn = asyncio.Lock()
-        self.clients = set()
-        self.reading = {}  # the tasks that wait for a request, in the order in which they came
+        self.clients = 0
+        most = resource.getrlimit(resource.RLIMIT_NOFILE)[1]
+        files = FILES if most == resource.RLIM_INFINITY else min(FILES, most)
+        resource.setrlimit(resource.RLIMIT_NOFILE, (files, most))
+        self.most_clients = min(MOST_CLIENTS, files // 2)
 
     def open(self, port):
         self.port = port
@@ -36,30 +40,19 @@ class Hold:
 
     async def take(self, reader, writer):
         """Serves one client."""
-        task = asyncio.current_task()
-        self.clients.add(task)
+        self.clients += 1
         try:
-            if len(self.clients) > MOST_CLIENTS and not self.make_room():
+            if self.clients > self.most_clients:
                 await self.send(writer, FULL)
                 return
-            self.reading[task] = writer
-            request = await asyncio.wait_for(whole_request(reader), REQUEST_SECONDS)
-            self.reading.pop(task, None)
+            seconds = REQUEST_SECONDS if self.clients < CROWD else CROWD_SECONDS
+            request = await asyncio.wait_for(whole_request(reader), seconds)
             await self.send(writer, await self.answer(request))
-        except (OSError, asyncio.TimeoutError, asyncio.CancelledError):
+        except (OSError, asyncio.TimeoutError):
             writer.transport.abort()
         finally:
-            self.reading.pop(task, None)
-            self.clients.discard(task)
+            self.clients -= 1
             writer.close()
-
-    def make_room(self):
-        """Sends the longest waiting client away; False where each has sent its request."""
-        for task in self.reading:
-            self.reading.pop(task)
-            task.cancel()
-            return True
-        return False
 
     async def send(self, writer, answer):
         writer.write(answer)
