@@ -5,8 +5,10 @@ lodging or a retraction that is done already is answered as before. So a client 
 sends nothing keeps nobody waiting: `serve` sees whole requests alone, and in a crowd a client has a second for its own.
 """
 import asyncio
+import contextlib
 import re
 import resource
+import socket
 
 MOST_CLIENTS, CROWD = 1500, 100
 FILES = 2 * MOST_CLIENTS  # that the process may have open, if the system lets it
@@ -79,33 +81,47 @@ class Hold:
             await asyncio.sleep(PAUSE)
 
     async def ask(self, request):
-        reader, writer = await asyncio.open_connection("127.0.0.1", self.port)
-        try:
-            writer.write(request)
-            writer.write_eof()
-            return await reader.read(-1)
-        finally:
-            writer.close()
+        """What `serve` answers before it closes the connection, in whatever way it does."""
+        loop = asyncio.get_running_loop()
+        answer = b""
+        with socket.socket() as server:
+            server.setblocking(False)
+            await loop.sock_connect(server, ("127.0.0.1", self.port))
+            with contextlib.suppress(OSError):
+                await loop.sock_sendall(server, request)
+                server.shutdown(socket.SHUT_WR)
+                while part := await loop.sock_recv(server, 1 << 16):
+                    answer += part
+        return answer
 
 
 async def whole_request(reader):
-    """A request as `serve` reads it: the head to its empty line, then as many bytes as the head names."""
+    """A request as far as `serve` reads it: the head to its empty line, then as many bytes as the head names."""
     text = b""
-    while b"\r\n\r\n" not in text and len(text) <= MOST_HEAD:
-        part = await reader.read(4096)
+    while b"\r\n\r\n" not in text and len(text) < MOST_HEAD:
+        part = await reader.read(MOST_HEAD)
         if not part:
             return text
         text += part
-    head, _, body = text.partition(b"\r\n\r\n")
-    lengths = re.findall(rb"\r\ncontent-length:[ \t]*([0-9]{1,10})[ \t]*(?=\r\n|$)", head, re.IGNORECASE)
-    wanted = min(int(lengths[0]), MOST_BODY + 1) if len(lengths) == 1 else 0
+    head, end, body = text.partition(b"\r\n\r\n")
+    if len(head + end) > MOST_HEAD or not end:
+        return text[:MOST_HEAD]
+    wanted = body_length(head)
     while len(body) < wanted:
         part = await reader.read(wanted - len(body))
         if not part:
             break
         body += part
-        text += part
-    return text
+    return head + end + body[:wanted]
+
+
+def body_length(head):
+    """How many bytes of a body `serve` reads: none where the head alone is a fault."""
+    lengths = re.findall(rb"\r\ncontent-length[ \t]*:([^\r]*)", head, re.IGNORECASE)
+    if len(lengths) != 1 or not re.fullmatch(rb"[ \t]*[0-9]{1,10}[ \t]*", lengths[0]):
+        return 0
+    length = int(lengths[0])
+    return length if length <= MOST_BODY else 0
 
 
 def is_whole(answer):
