@@ -103,10 +103,12 @@ class Causes(sample.SampleSchool):
     def test_a_serve(self):
         line = [sample.built_program(), "--db", self.path, "--today", sample.TODAY, "serve", str(sample.free_port())]
         with subprocess.Popen(line, stdout=subprocess.PIPE) as process:
-            process.stdout.readline()
-            self.assertIn(f"a `serve` has it (process {process.pid})", self.cause())
-            self.assertIn("unseated 2", self.office("shortage", "MON-AM"))  # a sheet is made from a copy
-            process.terminate()
+            try:
+                process.stdout.readline()
+                self.assertIn(f"a `serve` has it (process {process.pid})", self.cause())
+                self.assertIn("unseated 2", self.office("shortage", "MON-AM"))  # a sheet is made from a copy
+            finally:
+                process.terminate()
 
     def test_another_program_is_waited_for(self):
         script = ("import sqlite3, sys, time\nfile = sqlite3.connect(sys.argv[1])\nfile.execute('BEGIN IMMEDIATE')\n"
