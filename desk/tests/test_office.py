@@ -89,6 +89,9 @@ class Causes(sample.SampleSchool):
         os.link(self.path, os.path.join(self.folder, "other.db"))
         self.assertIn("has a second name", self.cause())
 
+    def test_a_folder(self):
+        self.assertIn("is a folder", self.refused("check", OFFICE=self.folder))
+
     def test_a_journal(self):
         self.write("office.db-journal", "x")
         self.assertIn("office.db-journal lies beside", self.cause())
@@ -161,6 +164,16 @@ class Back(sample.SampleSchool):
         self.assertIn("this copy is no good office (bad seat)", self.refused("back", "1", "--yes"))
         self.assertEqual(self.facts(), before)
         self.assertIn("there is no copy 2", self.refused("back", "2", "--yes"))
+
+    def test_a_copy_of_an_earlier_version_is_put_back(self):
+        with closing(sqlite3.connect(self.path)) as file:
+            file.execute("UPDATE office SET version = 2")
+            file.commit()
+        self.assertIn("`office migrate` carries it over", self.refused("shortage", "MON-AM"))
+        self.assertEqual(self.office("migrate"), "migrated 2 to 3\n")
+        self.office("back", "1", "--yes")
+        self.assertTrue(self.refused("check").startswith("refused 27\n"))
+        self.assertEqual(self.office("migrate"), "migrated 2 to 3\n")
 
     def test_a_damaged_office_is_replaced(self):
         before = self.facts()
