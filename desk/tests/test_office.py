@@ -89,8 +89,14 @@ class Causes(sample.SampleSchool):
         os.link(self.path, os.path.join(self.folder, "other.db"))
         self.assertIn("has a second name", self.cause())
 
-    def test_a_folder(self):
-        self.assertIn("is a folder", self.refused("check", OFFICE=self.folder))
+    def test_a_folder_and_a_pipe(self):
+        pipe = os.path.join(self.folder, "pipe.db")
+        os.mkfifo(pipe)
+        for path, text in [(self.folder, "is a folder"), (pipe, "is no file")]:
+            for words in (["check"], ["shortage", "MON-AM"], ["withdraw", "0001000", "MA-1"]):
+                self.assertIn(text, self.refused(*words, OFFICE=path))
+        self.assertIn("is no file", self.refused("why", "MON-AM", OFFICE=pipe))
+        self.assertFalse(os.path.exists(os.path.join(self.folder, "desk-pipe.db")))
 
     def test_a_journal(self):
         self.write("office.db-journal", "x")
