@@ -1,0 +1,206 @@
+"""What a refusal of the program means, in words; for an import with the line and the value; for 23 with its cause."""
+import contextlib
+import errno
+import os
+import re
+import stat
+import tempfile
+
+import files
+import school
+import turns
+
+SENTENCES = {
+    1: "a value has the wrong form; correct it and import the whole file again",
+    2: "the first line is not the header of this kind, or the file is empty",
+    3: "a record has the key of an earlier one and other contents; keep one of the two",
+    4: "the office has no such session; check the code, or import sessions first",
+    5: "the office has no such paper, or the session does not; check the code, or import papers first",
+    6: "the office has no such candidate; check the number, or import candidates first",
+    7: "the office has no such hall; check the code, or import halls first",
+    8: "the candidate is not entered for this paper; import the entry or reinstate it, or decide `refused`",
+    9: "the entry is withdrawn already",
+    10: "the entry is not withdrawn",
+    11: "the candidate does not sit in this hall",
+    12: "the candidate sits nothing in this session; an appeal for it can only be decided `refused`",
+    13: "the last day to lodge this has passed; the handbook has the ways round (At the counter)",
+    14: "the candidate has another appeal with this reference; take a new one",
+    15: "the candidate has no such appeal; `office appeals SESSION` lists numbers and references",
+    16: "the appeal is not open: it was decided, taken back or replaced by a later grant",
+    17: "the day of the session has come, so it is too late to decide; check the date",
+    18: "the candidate has no two papers at the same time in this session",
+    19: "the candidate has this paper or arrangement already",
+    20: "a limit would be passed, or the file is too long; the handbook lists the limits",
+    21: "an earlier appeal of this kind for this session is still open; decide it first",
+    22: "the machine is out of memory; try again when it has some",
+    23: "the database cannot be used now",
+    24: "the file is not there, or holds no office or one with bad rows; `office check` names the bad table, "
+        "`office init` makes a new office, `office back` lists copies",
+    25: "the hall is not open for this session; check both codes, or import openings",
+    26: "the appeal asks no arrangement, so it cannot be `standing`; decide `granted`",
+    27: "an earlier version of the program made the file; `office migrate` carries it over",
+}
+OTHER = {
+    "file fault": "the import file cannot be read; check its path and permissions; nothing has changed",
+    "write fault": "the output could not be written, for example on a full disk; a command is done all the same: do "
+                   "not give it again; a sheet can be printed again",
+    "net fault": "the port is taken, or the system gives no more connections; take another one, from 1024 on",
+}
+WHOLE_OR_NOT = "a command is there whole or not at all: look, or give it again"
+
+
+def number_of(answer):
+    """The number of a refusal; None where the line is none."""
+    found = re.match(r"refused (\d+)", answer)
+    return int(found[1]) if found else None
+
+
+def explained(words, answer):
+    """The lines to print below what the program said."""
+    number = number_of(answer)
+    sentence = SENTENCES.get(number) or OTHER.get(answer.split("\n")[0])
+    lines = [sentence] if sentence else []
+    if number == 23:
+        lines = [f"{sentence}: {cause()}", WHOLE_OR_NOT]
+    elif number and words[0] == "import":
+        with contextlib.suppress(OSError, IndexError):  # the file may have changed since
+            lines += places(words, number, answer)
+    return [f"  {line}" for line in lines]
+
+
+def places(words, number, answer):
+    """The line of the import file and the value that a refusal is about."""
+    values = [word for word in words[1:] if word != "--"]
+    if len(values) != 2 or values[0] not in files.HEADERS or not os.path.isfile(values[1]):
+        return []
+    kind, path = values
+    with open(path, "rb") as file:
+        found = list(files.records(file.read(files.MOST_BYTES + 1)))
+    name = os.path.basename(path)
+    if number == 2:
+        first = ",".join(files.shown(field)[1:-1] for field in found[0].fields) if found else ""
+        return [f"line 1 of {name}: {first[:120]}", f"must be:  {','.join(files.HEADERS[kind])}"]
+    if number in (1, 3):
+        record, column = re.match(r"refused \d+ record (\d+)(?: column (\d+))?", answer).groups()
+        return record_lines(kind, name, found[int(record)], int(column or 0), number)
+    return [line for column, table in files.REFERENCES.get(kind, []) if number == files.UNKNOWN[table]
+            for line in unknown_lines(name, found, column, table)]
+
+
+def record_lines(kind, name, record, column, number):
+    lines = [f"line {record.line} of {name}: " + ",".join(files.shown(field)[1:-1] for field in record.fields)]
+    if column:
+        lines.append(f"{files.HEADERS[kind][column - 1]} is {files.shown(record.fields[column - 1])}")
+    elif number == 1 and not record.closed:
+        lines.append("a quote is not closed")
+    elif number == 1:
+        lines.append(f"{len(record.fields)} fields; the header has {len(files.HEADERS[kind])}")
+    return lines
+
+
+def unknown_lines(name, found, column, table):
+    """The first lines whose reference the office does not have."""
+    with contextlib.closing(school.rows()) as connection:
+        known = known_keys(connection, table)
+    wrong = [record for record in found[1:] if record.fields[column] not in known]
+    lines = [f"line {record.line} of {name}: {table[:-1]} is {files.shown(record.fields[column])}"
+             for record in wrong[:5]]
+    return lines + ([f".. and {len(wrong) - 5} more lines"] if len(wrong) > 5 else [])
+
+
+def known_keys(connection, table):
+    """The keys of sessions, papers, halls or candidates in the office, as the files spell them."""
+    key = "printf('%07d', number)" if table == "candidates" else "code"
+    return {code.encode() for code, in connection.execute(f"SELECT {key} FROM {table[:-1]}")}
+
+
+def lasting_cause():
+    """Why the file cannot be used, where waiting does not help; None where nothing of that kind is found."""
+    path = school.office_path()
+    place = os.path.dirname(os.path.realpath(path))
+    try:
+        found = os.stat(path)
+        beside = [name for name in (path + "-journal",) if os.path.lexists(name)]
+    except OSError as fault:
+        return f"{path}: {fault.strerror}"
+    if stat.S_ISDIR(found.st_mode):
+        return f"{path} is a folder"
+    if not stat.S_ISREG(found.st_mode):
+        return f"{path} is no file, but a device or a pipe"
+    if found.st_nlink > 1:
+        return f"{path} has a second name (a hard link, as some backups make): copy the file and take the copy"
+    if beside:
+        return f"{beside[0]} lies beside the file: sqlite3 was stopped in a change; open the file there, or move it"
+    for name in (path, path + "-wal"):
+        if os.path.exists(name) and not os.access(name, os.R_OK | os.W_OK):
+            return f"no permission to change {name}; it belongs to user {os.stat(name).st_uid}"
+    if not os.access(place, os.R_OK | os.W_OK | os.X_OK):
+        return f"no permission to write in the folder {place}"
+    return no_room(place) or damage(path)
+
+
+def no_room(place):
+    try:
+        with tempfile.TemporaryFile(dir=place) as file:
+            file.write(bytes(1 << 18))
+            file.flush()
+    except OSError as fault:
+        if fault.errno in (errno.ENOSPC, errno.EDQUOT):
+            return f"the disk is full ({place})"
+        return f"nothing can be written in the folder {place}: {fault.strerror}"
+    return None
+
+
+def damage(path):
+    """What is wrong with the head of the file, or of the file beside it."""
+    with open(path, "rb") as file:
+        head = file.read(32)
+        size = os.fstat(file.fileno()).st_size
+    page_size = {1: 65536}.get(int.from_bytes(head[16:18], "big"), int.from_bytes(head[16:18], "big"))
+    if size and (not head.startswith(b"SQLite format 3\0") or not page_size):
+        return f"{path} is no database, or its beginning was overwritten; `office back` lists copies"
+    if size and (size % page_size or size < page_size * int.from_bytes(head[28:32], "big")):
+        return f"{path} was cut short; `office back` lists copies"
+    return None
+
+
+def holder():
+    """A process that has the file open, as a pair of its number and its words; None where none is to be seen."""
+    with contextlib.suppress(OSError):
+        wanted = os.stat(school.office_path())
+        for process in filter(str.isdigit, os.listdir("/proc")):
+            if int(process) != os.getpid() and has_open(process, wanted):
+                with contextlib.suppress(OSError), open(f"/proc/{process}/cmdline", "rb") as line:
+                    return int(process), line.read().decode("utf-8", "replace").rstrip("\0").split("\0")
+    return None
+
+
+def has_open(process, wanted):
+    """Whether a process has a file open; of another user's process that cannot be seen."""
+    folder = f"/proc/{process}/fd"
+    with contextlib.suppress(OSError):
+        for name in os.listdir(folder):
+            with contextlib.suppress(OSError):
+                if os.path.samestat(os.stat(f"{folder}/{name}"), wanted):
+                    return True
+    return False
+
+
+def may_pass():
+    """Whether waiting may help: another command has the file, and no `serve`, or nothing is to be seen."""
+    found = holder()
+    return "serve" not in found[1] if found else lasting_cause() is None
+
+
+def cause():
+    """Why the database cannot be used, as far as it can be found out."""
+    found = holder()
+    if found is None:
+        return lasting_cause() or "no cause is to be seen now"
+    process, words = found
+    state = turns.keep_state()
+    if state and state.get("serve") == process:
+        return f"`keep` serves it (process {process})"
+    if "serve" in words:
+        return f"a `serve` has it (process {process}): stop it, or let `office keep` serve"
+    return f"another command has it (process {process}: {' '.join(words)[:100]})"

@@ -1,0 +1,161 @@
+"""check-files over files as spreadsheets spoil them: the verdict on each is the program's own."""
+import os
+import shutil
+import subprocess
+import tempfile
+import unittest
+
+import sample
+import files
+import mistakes
+import school
+
+
+def with_line(kind, number, line, encoding="utf-8"):
+    """A file of the sample school with another line in one place, from 1."""
+    lines = (sample.TOP / "examples" / f"{kind}.csv").read_text("utf-8").split("\n")
+    lines[number - 1] = line
+    return "\n".join(lines).encode(encoding)
+
+
+def whole(kind):
+    return (sample.TOP / "examples" / f"{kind}.csv").read_bytes()
+
+
+def spoiled():
+    """Pairs of a kind and the bytes of a file, good ones among them."""
+    yield from ((kind, whole(kind)) for kind in files.HEADERS)
+    people = whole("candidates")
+    yield "candidates", people.replace(b",", b";")
+    yield "candidates", people.replace(b",", b"\t")
+    yield "candidates", people.decode().encode("utf-16")
+    yield "candidates", people.decode().replace(",", "\t").encode("utf-16")
+    yield "candidates", b"Candidates of the year\n" + people
+    yield "candidates", b"sep=,\n" + people
+    yield "candidates", people.replace(b"number,name,code", b"Number,Name,Code", 1)
+    yield "candidates", people.replace(b"\n", b",,\n")
+    yield "candidates", people + b",,\n"
+    yield "candidates", people.replace(b"\n000", b"\n")
+    yield "candidates", people.replace(b"\n", b"\r\n")
+    yield "candidates", people.replace(b"\n", b"\r")
+    yield "candidates", people.replace(b"\n", b"\n\n")
+    yield "candidates", b"\n\n" + people
+    yield "candidates", files.BOM + people
+    yield "candidates", files.BOM + files.BOM + people
+    yield "candidates", people + people
+    yield "candidates", b""
+    yield "candidates", b"\n\n"
+    yield "candidates", b"number,name,code"
+    yield "candidates", whole("entries")
+    rows = ["0001000,Ada Lin,WK3DEGZDP", "0001000,Ada Lin", "0001000,Lin, Ada,WK3DEGZDPC",
+            '0001000,"Ada Lin,WK3DEGZDPC',
+            '0001000,Ada "Ace" Lin,WK3DEGZDPC', '0001000,"Ada "Ace" Lin",WK3DEGZDPC',
+            '"0001000","Ada Lin","WK3DEGZDPC"',
+            "0001000,,WK3DEGZDPC", "0001000,Ada Lin,", "0000000,Ada Lin,WK3DEGZDPC", "'0001000,Ada Lin,WK3DEGZDPC",
+            "0001000 ,Ada Lin,WK3DEGZDPC", "1000,Ada Lin,WK3DEGZDPC", "0001000,Ada Lin,wk3degzdpc",
+            "0001000,Ada\0Lin,WK3DEGZDPC", "0001000,Ada\x7fLin,WK3DEGZDPC", "0001000,Ada\u0085Lin,WK3DEGZDPC",
+            "0001000,Ada\u2028Lin\u202e,WK3DEGZDPC", '0001000,"Ada\nLin",WK3DEGZDPC',
+            f"0001000,{40 * 'Ö'},WK3DEGZDPC",
+            f"0001000,{41 * 'Ö'},WK3DEGZDPC", f"0001000,{80 * 'x'},WK3DEGZDPC", f"0001000,{81 * 'x'},WK3DEGZDPC",
+            "0001000,Ada Lin,WK3DEGZDPCWK3DEG", "0001000,Ada Lin,WK3DEGZDPCWK3DEGZ",
+            "0001000,François NÃºÃ±ez,WK3DEGZDPC",
+            "0001017,Ada Lin,WK3DEGZDPC", "0001000,Ada Lin,F54ERF5DHQ", "0001000,Ada Lin,1000000000000", ",,", ",",
+            '""',
+            "０００１０００,Ada Lin,WK3DEGZDPC", "٠٠٠١٠٠٠,Ada Lin,WK3DEGZDPC", "0001000.0,Ada Lin,WK3DEGZDPC"]
+    yield from (("candidates", with_line("candidates", 2, row)) for row in rows)
+    yield "candidates", with_line("candidates", 2, "0001000,Zoé,WK3DEGZDPC", "latin-1")
+    yield "candidates", with_line("candidates", 2, "0001000,Z,WK3DEGZDPC").replace(b",Z,", b",\xed\xa0\x80,")
+    for row in ["MON-AM,07/06/2027,09:00", "MON-AM,2027-06-07,9:00", "MON-AM,2027-06-07,09:00:00",
+                "MON-AM,2027-02-29,09:00",
+                "MON-AM,2028-02-29,23:59", "MON-AM,2027-06-07,24:00", "MON-AM,2000-01-10,09:00",
+                "MON-AM,2000-01-11,00:00",
+                "MON-AM,2199-12-31,09:00", "MON-AM,2200-01-01,09:00", "MON–AM,2027-06-07,09:00",
+                "mon-am,2027-06-07,09:00",
+                "MON-AM-MON-AM,2027-06-07,09:00", " MON-AM,2027-06-07,09:00", "MON-AM,2027-06-07,09:60",
+                "MON-AM,2027-6-7,09:00", "1E5,2027-06-07,09:00", "MON-AM,0000-01-01,09:00"]:
+        yield "sessions", with_line("sessions", 2, row)
+    for row in ["MA-1,Mathematics 1,MON-AM,0,-", "MA-1,Mathematics 1,MON-AM,601,-", "MA-1,Mathematics 1,MON-AM,600,-",
+                "MA-1,Mathematics 1,MON-AM,2:00,-", "MA-1,Mathematics 1,MON-AM,060,-",
+                "MA-1,Mathematics 1,MON-AX,60,-",
+                "MA-1,Mathematics 1,MON-AM,60,", "MA-1,Mathematics 1,MON-AM,60,Step-free",
+                "MA-1,Mathematics 1,MON-AM,60.0,-",
+                "MA-1,Mathematics 1,MON-AM,60,reader+screen", "MA-1,Mathematics 1,MON-AM,60,screen+reader",
+                "MA-1,Mathematics 1,MON-AM,60,screen+screen", "MA-1,Mathematics 1,MON-AM,60,screen+",
+                "MA-1,Mathematics 1,MON-AM,60,step-free+screen+reader+small-room+computer+quiet",
+                "MA-1,Mathematics 1,MON-AM,00060,-", "MA-1,Mathematics 1,MON-AM,+60,-",
+                "MA-1,Maths,MON-AM,60,-+screen"]:
+        yield "papers", with_line("papers", 2, row)
+    for row in ["GYM,Gymnasium,stepfree", "GYM-1,Gymnasium,-", "GYMNASIUM,Gymnasium,-", "GYM,,-", "AULA,Gymnasium,-"]:
+        yield "halls", with_line("halls", 2, row)
+    for row in ["MON-AM,GYM,0,12:30,no", "MON-AM,GYM,2001,12:30,no", "MON-AM,GYM,2000,24:00,no",
+                "MON-AM,GYM,24,24:01,no",
+                "MON-AM,GYM,24,12:30,No", "MON-AM,GYM,24,12:30,Yes", "MON-AM,GYN,24,12:30,no",
+                "MON-XX,GYN,24,12:30,no",
+                "MON-AM,AULA,24,12:30,no", "MON-AM,GYM,24,12:30,no,"]:
+        yield "openings", with_line("openings", 2, row)
+    for row in ["0001034,-,25%", "0001034,-,25.0", "0001034,-,101", "0001034,-,100", "0001034,-,", "0001034,,25",
+                "0009999,-,25", "0001034,-,-0", "0001085,-,25"]:
+        yield "arrangements", with_line("arrangements", 2, row)
+    for row in ["0001000,EN-9", "0009999,EN-1", "0009999,EN-9", "0001000,EN-2", "0001000", "0001000,en-1",
+                "0001000,"]:
+        yield "entries", with_line("entries", 2, row)
+    filler = b"0001000,EN-1\n" * (files.MOST_BYTES // 13 + 1)
+    yield "entries", (b"number,paper\n" + filler)[:files.MOST_BYTES + 1]
+    long = b"number,paper\n" + filler
+    yield "entries", long[:files.MOST_BYTES - (files.MOST_BYTES - 13) % 13]
+    sessions = b"".join(b"S%d,2027-06-07,09:00\n" % place for place in range(398))
+    yield "sessions", b"session,date,start\n" + sessions[:sessions.index(b"S397,")]
+    yield "sessions", b"session,date,start\n" + sessions
+    halls = b"".join(b"H%d,Hall,-\n" % place for place in range(260))
+    yield "halls", b"hall,title,features\n" + halls
+
+
+class Verdicts(sample.SampleSchool):
+    def verdict_of_program(self, folder, kind, text):
+        """The line of the program over the sample school."""
+        path = os.path.join(folder, "file.csv")
+        with open(path, "wb") as file:
+            file.write(text)
+        for name in os.listdir(self.made):
+            shutil.copy2(os.path.join(self.made, name), folder)
+        line = [sample.built_program(), "--db", os.path.join(folder, "office.db"), "--today", sample.TODAY]
+        done = subprocess.run([*line, "import", kind, path], capture_output=True, encoding="utf-8", check=False)
+        return done.stderr.strip() or None
+
+    def test_verdicts_are_those_of_the_program(self):
+        with school.rows(self.path) as connection, tempfile.TemporaryDirectory() as folder:
+            for kind, text in spoiled():
+                with self.subTest(kind=kind, text=text[:300]):
+                    said = self.verdict_of_program(folder, kind, text)
+                    self.assertEqual(mistakes.first_refusal(kind, text, mistakes.Known(connection)), said)
+                    found, _ = mistakes.looked_through(kind, text, mistakes.Known(connection))
+                    self.assertEqual(bool(found), said is not None, found)
+
+
+class Words(unittest.TestCase):
+    def mistakes_in(self, kind, text, known=None):
+        found, notes = mistakes.looked_through(kind, text, known or mistakes.Known())
+        return [mistake.text for mistake in found], [note.text for note in notes]
+
+    def test_every_mistake_is_told(self):
+        text = b"number;name;code\n1000;Ada Lin;wk3degzdpc\n0001017;;F54ERF5DHQ\n"
+        self.assertEqual(self.mistakes_in("candidates", text)[0], [
+            "semicolons part the columns: save it with commas", "write WK3DEGZDPC (8 to 16 of A-Z and 0-9)",
+            "leading zeros lost? 0001000 (seven digits (format the column as text))", "1 to 80 bytes; it has 0"])
+
+    def test_notes_for_a_human_eye(self):
+        text = ("number,name,code\n0000001,FranÃ§ois,CODE0001\n0000002,Bo Berg,CODE0002\n0000003,Bo Berg,CODE0002\n"
+                "0000002,Bo Berg,CODE0002\n0000004,Di,10000000000\n").encode()
+        found, notes = self.mistakes_in("candidates", text)
+        self.assertEqual(found, [])
+        self.assertEqual(notes, [
+            "looks like letters that were read in a wrong encoding",
+            "0000003 has the same access code and the same name: one candidate under two numbers?",
+            "0000002 has the same access code and the same name: one candidate under two numbers?",
+            "0000003 has the same access code and the same name: one candidate under two numbers?",
+            "the same as line 3; it counts once",
+            "may be what a spreadsheet made of a code such as 1E5, or will make of it"])
+
+
+if __name__ == "__main__":
+    unittest.main()

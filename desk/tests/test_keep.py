@@ -1,0 +1,220 @@
+"""`keep` with commands beside it: nothing is lost or done twice, no lock is left, no client notices a gap."""
+import asyncio
+import contextlib
+import datetime
+import http.client
+import json
+import os
+import signal
+import socket
+import sqlite3
+import subprocess
+import threading
+import time
+import unittest
+from unittest import mock
+
+import sample
+import keeping
+import turns
+
+NUMBER, CODE = "0001051", "VMGNZGEDP9"
+PATIENCE = 60  # seconds; long, since a busy machine is no fault
+
+
+def until(condition):
+    end = time.monotonic() + PATIENCE
+    while not (found := condition()):
+        if time.monotonic() > end:
+            raise AssertionError("it did not come")
+        time.sleep(0.02)
+    return found
+
+
+def has_ended(process):
+    with contextlib.suppress(OSError), open(f"/proc/{process}/stat", encoding="utf-8") as line:
+        return line.read().rsplit(")", 1)[1].split()[0] == "Z"
+    return True
+
+
+class Kept(sample.SampleSchool):
+    def setUp(self):
+        super().setUp()
+        self.port = sample.free_port()
+        self.office("keep", "start", str(self.port))
+        self.addCleanup(self.run_office, "keep", "stop")
+
+    def state(self):
+        with contextlib.suppress(OSError, ValueError), open(os.path.join(self.desk, "keep.lock"), "rb") as file:
+            return json.loads(file.read())
+        return {}
+
+    def ask(self, method="GET", what="seats", body=None, code=CODE):
+        """The status and the body of one request; the client has 60 seconds of patience, and asks once."""
+        with contextlib.closing(http.client.HTTPConnection("127.0.0.1", self.port, timeout=PATIENCE)) as connection:
+            connection.request(method, f"/candidates/{NUMBER}/{what}", body, {"exam-code": code})
+            answer = connection.getresponse()
+            return answer.status, json.loads(answer.read())
+
+    def appeal(self, ref):
+        return self.ask("POST", "appeals", json.dumps(
+            {"kind": "hall", "hall": "PC1", "ref": ref, "session": "MON-AM", "reason": "a draught"}))
+
+    def served_by(self):
+        return until(lambda: self.state().get("serve"))
+
+    def stored(self):
+        """Number, state and reason of the appeals in the file, once nothing serves."""
+        self.office("keep", "stop")
+        self.assertEqual(self.office("check"), "good\n")
+        with contextlib.closing(sqlite3.connect(self.path)) as file:
+            return file.execute("SELECT ref, state FROM appeal ORDER BY lodged, ref").fetchall()
+
+    def test_it_says_where_it_serves_and_ends(self):
+        self.assertRegex(self.office("keep", "status"),
+                         rf"^serving 127.0.0.1 {self.port}, for {sample.TODAY}, process \d+\n$")
+        self.assertEqual(self.ask()[0], 200)
+        self.assertIn("serves this office already", self.refused("keep", "start", str(self.port)))
+        self.assertIn("serves this office already", self.refused("serve", str(self.port)))
+        self.assertEqual(os.listdir(os.path.join(self.desk, "days")), [sample.TODAY])
+        self.assertEqual(self.office("keep", "stop"), "ended\n")
+        self.assertIn("does not run", self.refused("keep", "status"))
+        self.assertIn("does not run", self.refused("keep", "stop"))
+
+    def test_strangers_and_bad_requests_are_answered_as_by_serve(self):
+        self.assertEqual(self.ask(code="WRONG001"), (404, {"error": 6}))
+        for request, answer in [(b"GET / HTTP/1.1\r\nHost: a\r\n\r\n", b'{"error":37}'), (b"x" * 9000, b'{"error":34}'),
+                                (b"GET /candidates/0001051/seats HTTP/1.1\r\n\r\n", b'{"error":32}'),
+                                (b"POST /candidates/0001051/appeals HTTP/1.1\r\nHost: a\r\nContent-Length: 5\r\n\r\nab",
+                                 b'{"error":33}'),
+                                (b"POST / HTTP/1.1\r\nHost: a\r\nContent-Length: 5\r\nContent-Length: 5\r\n\r\n",
+                                 b'{"error":33}'),
+                                (b"POST / HTTP/1.1\r\nHost: a\r\nContent-Length: 5000\r\n\r\n" + b"x" * 5000,
+                                 b'{"error":34}')]:
+            with socket.create_connection(("127.0.0.1", self.port)) as client:
+                client.sendall(request)
+                client.shutdown(socket.SHUT_WR)
+                said = b"".join(iter(lambda: client.recv(4096), b""))
+                self.assertTrue(said.endswith(answer), (request[:60], said))
+
+    def test_commands_step_it_aside_and_no_client_notices(self):
+        answers = []
+        over = threading.Event()
+
+        def client():
+            while not over.is_set():
+                answers.append(self.ask()[0])
+        thread = threading.Thread(target=client)
+        thread.start()
+        for word in ("withdraw", "reinstate", "withdraw"):
+            self.office(word, "0001000", "MA-1")
+            self.assertEqual(self.office("check"), "good\n")
+            self.assertIn("SHORTAGE", self.office("shortage", "MON-AM"))
+        served = len(answers)
+        until(lambda: len(answers) > served)
+        over.set()
+        thread.join()
+        self.assertEqual(set(answers), {200})
+
+    def test_appeals_posted_meanwhile_are_lodged_once(self):
+        refs = [f"HA{place}" for place in range(12)]
+        said = []
+
+        def client():
+            for ref in refs:
+                said.append((self.appeal(ref), self.ask("DELETE", f"appeals/{ref}")))
+        thread = threading.Thread(target=client)
+        thread.start()
+        while thread.is_alive():
+            self.office("check")
+        thread.join()
+        self.assertEqual(said, [((200, {"state": "open"}), (200, {"state": "retracted"}))] * len(refs))
+        self.assertEqual(sorted(self.stored()), sorted((ref, 4) for ref in refs))
+
+    def test_a_sheet_does_not_step_it_aside(self):
+        serve = self.served_by()
+        self.office("shortage", "MON-AM")
+        self.office("why", "MON-AM")
+        self.assertEqual(self.state().get("serve"), serve)
+
+    def test_serve_killed(self):
+        self.assertEqual(self.appeal("HA1"), (200, {"state": "open"}))
+        os.kill(self.served_by(), signal.SIGKILL)
+        self.assertEqual(self.ask("GET", "appeals")[1]["appeals"][0]["state"], "open")
+        self.assertEqual(self.stored(), [("HA1", 1)])
+
+    def test_keep_killed(self):
+        self.assertEqual(self.appeal("HA1"), (200, {"state": "open"}))
+        serve = self.served_by()
+        os.kill(self.state()["pid"], signal.SIGKILL)
+        until(lambda: has_ended(serve))
+        self.assertEqual(self.office("withdraw", "0001000", "MA-1"), "withdrawn\n")
+        self.office("keep", "start", str(self.port))
+        self.assertEqual(self.ask("GET", "appeals")[1]["appeals"][0]["state"], "open")
+        self.assertEqual(self.stored(), [("HA1", 1)])
+
+    def test_command_killed(self):
+        process = subprocess.Popen([sample.DESK / "office", "import", "entries", "/dev/stdin"], env=self.environment,
+                                   stdin=subprocess.PIPE, stderr=subprocess.DEVNULL)
+        until(lambda: self.state().get("state") == "aside")
+        process.kill()
+        process.communicate()
+        self.assertEqual(self.ask()[0], 200)
+        self.assertEqual(self.office("check"), "good\n")
+
+    def test_silent_clients_keep_nobody_waiting(self):
+        with contextlib.ExitStack() as silent:
+            for place in range(600):
+                client = silent.enter_context(socket.create_connection(("127.0.0.1", self.port)))
+                client.sendall(b"GET /candidates/" if place % 2 else b"")
+            self.assertEqual(self.ask()[0], 200)
+
+    def test_a_missing_second_file(self):
+        self.office("keep", "stop")
+        with contextlib.closing(sqlite3.connect(self.path)) as file:
+            file.execute("PRAGMA wal_checkpoint(TRUNCATE)")
+        self.assertEqual(os.path.exists(self.path + "-wal"), False)
+        self.office("keep", "start", str(self.port))
+        self.assertEqual(self.ask()[0], 200)
+
+    def test_lodge_through_keep(self):
+        self.assertEqual(self.office("lodge", NUMBER, "MON-AM", "hall", "PC1", "a \"draught\""), f"{NUMBER} D1 open\n")
+        self.assertIn("refused 21\n  an earlier appeal", self.refused("lodge", NUMBER, "MON-AM", "hall", "PC1", ""))
+        self.assertEqual(self.office("lodge", NUMBER, "MON-AM", "clash", "LAT", ""), f"{NUMBER} D2 open\n")
+        self.assertRegex(self.office("decide", NUMBER, "D2", "granted", ""), r"^decided granted hall \S+ moved \d+\n$")
+        self.assertEqual(self.stored(), [("D1", 1), ("D2", 2)])
+
+
+class NewDay(sample.SampleSchool):
+    def test_a_new_day_is_served_with_its_date_and_a_copy(self):
+        with (mock.patch.dict(os.environ, self.environment), mock.patch("school.today") as today,
+              mock.patch("keeping.say")):
+            today.return_value = datetime.date(2027, 5, 1)
+            asyncio.run(self.two_days(today))
+        self.assertEqual(sorted(os.listdir(os.path.join(self.desk, "days"))), ["2027-05-02", "2027-05-03"])
+
+    async def two_days(self, today):
+        keep = keeping.Keep(sample.free_port(), 2, turns.open_lock("keep.lock"))
+        served = asyncio.create_task(keep.run())
+        for day in (1, 2, 3):
+            today.return_value = datetime.date(2027, 5, day)
+            while f"2027-05-0{day}" not in turns.text_of("keep.lock"):
+                await asyncio.sleep(0.02)
+        keep.end()
+        await served
+        os.close(keep.lock)
+
+
+class Lodged(sample.SampleSchool):
+    def test_lodge_without_keep(self):
+        self.assertEqual(self.office("lodge", NUMBER, "MON-AM", "arrangement", "screen+reader", "25", ""),
+                         f"{NUMBER} D1 open\n")
+        self.assertIn("refused 13 last day 2027-05-28\n  the last day",
+                      self.refused("lodge", NUMBER, "MON-AM", "arrangement", "-", "25", "", TODAY="2027-05-29"))
+        self.assertIn("refused 6", self.refused("lodge", "0009999", "MON-AM", "hall", "PC1", ""))
+        self.assertIn("number is 1051", self.refused("lodge", "1051", "MON-AM", "hall", "PC1", ""))
+        self.assertEqual(self.run_office("lodge", NUMBER, "MON-AM", "seat", "PC1", "").returncode, 2)
+
+
+if __name__ == "__main__":
+    unittest.main()

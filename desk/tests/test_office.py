@@ -1,0 +1,220 @@
+"""The front script over the sample school: refusals in words, copies and `back`, the log."""
+import os
+import sqlite3
+import stat
+import subprocess
+import sys
+import time
+import unittest
+from contextlib import closing, suppress
+from unittest import mock
+
+import sample
+import copies
+
+
+class Words(sample.SampleSchool):
+    def test_both_kinds_of_commands_are_listed(self):
+        text = self.office()
+        self.assertEqual(text, self.office("--help"))
+        for word in ("check-files", "lodge", "keep", "back", "close-hall", "refused"):
+            self.assertIn(word, text)
+
+    def test_a_bad_value_is_shown(self):
+        path = self.write("candidates.csv", "number,name,code\n\n0001000,Ada,WK3DEGZDPC\n1000,\u009b2J,WK3DEGZDPC\n")
+        self.assertEqual(self.refused("import", "candidates", path).split("\n"), [
+            "refused 1 record 2 column 1",
+            "  a value has the wrong form; correct it and import the whole file again",
+            "  line 4 of candidates.csv: 1000,?2J,WK3DEGZDPC", "  number is '1000'", ""])
+
+    def test_what_is_wrong_with_a_row(self):
+        for row, text in [("0001000,A,B,WK3DEGZDPC", "  4 fields; the header has 3"),
+                          ('0001000,"A,WK3DEGZDPC', "  a quote is not closed")]:
+            path = self.write("candidates.csv", f"number,name,code\n{row}\n")
+            self.assertIn(text, self.refused("import", "candidates", path).split("\n"))
+
+    def test_a_header_is_shown_beside_the_right_one(self):
+        path = self.write("entries.csv", "number;paper\n")
+        self.assertIn("  line 1 of entries.csv: number;paper\n  must be:  number,paper\n",
+                      self.refused("import", "entries", path))
+
+    def test_an_unknown_reference_is_named(self):
+        path = self.write("entries.csv", "number,paper\n0001000,MA-1\n0001000,MA-9\n0001017,MA-9\n")
+        self.assertIn("  line 3 of entries.csv: paper is 'MA-9'\n  line 4 of entries.csv: paper is 'MA-9'\n",
+                      self.refused("import", "entries", path))
+
+    def test_a_repeated_key_is_shown(self):
+        path = self.write("halls.csv", "hall,title,features\nGYM,Gym,-\nGYM,Gym,quiet\n")
+        self.assertIn("  line 3 of halls.csv: GYM,Gym,quiet\n", self.refused("import", "halls", path))
+
+    def test_a_line_that_is_not_understood_is_followed_by_the_usage(self):
+        done = self.run_office("decide", "1051", "AR1", "granted", "ok")
+        self.assertEqual(done.returncode, 2)
+        self.assertTrue(done.stderr.startswith("line not understood\n"))
+        for word in ("decide", "<number>", "<outcome>"):
+            self.assertIn(word, done.stderr.lower())
+        self.assertEqual(self.run_office("nothing-like-it").returncode, 2)
+
+    def test_a_missing_program_is_named(self):
+        self.assertIn("there is no program /nowhere", self.refused("init", EXAMOFFICE="/nowhere"))
+
+    def test_a_bad_date_is_named(self):
+        self.assertIn("TODAY is 1.5.2027", self.refused("shortage", "MON-AM", TODAY="1.5.2027"))
+
+    def test_a_file_that_is_no_office(self):
+        before = os.listdir(self.folder)
+        text = self.refused("shortage", "MON-AM", OFFICE=os.path.join(self.folder, "other.db"))
+        self.assertTrue(text.startswith("refused 24\n  the file is not there"))
+        self.assertEqual(os.listdir(self.folder), before)
+
+    def test_why(self):
+        text = self.office("why", "TUE-AM")
+        self.assertIn("sits BI-1 until", text)
+        self.assertIn("  LIB      suits, but 2 of 2 desks are taken: ", text)
+        self.assertIn("  AULA     no reader\n", text)
+        self.assertIn("  PC1      sits here, at desk 1\n", self.office("why", "MON-AM", "0001051"))
+        self.assertIn("no session", self.refused("why", "XX"))
+        self.assertIn("sits nothing", self.refused("why", "MON-AM", "0009999"))
+
+
+class Causes(sample.SampleSchool):
+    def cause(self):
+        lines = self.refused("withdraw", "0001000", "MA-1").split("\n")
+        self.assertEqual(lines[0], "refused 23")
+        self.assertEqual(lines[2:], ["  a command is there whole or not at all: look, or give it again", ""])
+        self.assertFalse(os.listdir(os.path.join(self.desk, "copies")))
+        return lines[1]
+
+    def test_a_second_hard_link(self):
+        os.link(self.path, os.path.join(self.folder, "other.db"))
+        self.assertIn("has a second name", self.cause())
+
+    def test_a_folder_and_a_pipe(self):
+        pipe = os.path.join(self.folder, "pipe.db")
+        os.mkfifo(pipe)
+        for path, text in [(self.folder, "is a folder"), (pipe, "is no file")]:
+            for words in (["check"], ["shortage", "MON-AM"], ["withdraw", "0001000", "MA-1"]):
+                self.assertIn(text, self.refused(*words, OFFICE=path))
+        self.assertIn("is no file", self.refused("why", "MON-AM", OFFICE=pipe))
+        self.assertFalse(os.path.exists(os.path.join(self.folder, "desk-pipe.db")))
+
+    def test_a_journal(self):
+        self.write("office.db-journal", "x")
+        self.assertIn("office.db-journal lies beside", self.cause())
+
+    def test_a_file_cut_short(self):
+        with open(self.path, "r+b") as file:
+            file.truncate(os.path.getsize(self.path) - 100)
+        with suppress(FileNotFoundError):
+            os.remove(self.path + "-wal")
+        self.assertIn("was cut short", self.cause())
+
+    def test_a_serve(self):
+        line = [sample.built_program(), "--db", self.path, "--today", sample.TODAY, "serve", str(sample.free_port())]
+        with subprocess.Popen(line, stdout=subprocess.PIPE) as process:
+            try:
+                process.stdout.readline()
+                self.assertIn(f"a `serve` has it (process {process.pid})", self.cause())
+                self.assertIn("unseated 2", self.office("shortage", "MON-AM"))  # a sheet is made from a copy
+            finally:
+                process.terminate()
+
+    def test_another_program_is_waited_for(self):
+        script = ("import sqlite3, sys, time\nfile = sqlite3.connect(sys.argv[1])\nfile.execute('BEGIN IMMEDIATE')\n"
+                  "print(flush=True)\ntime.sleep(1)\nfile.rollback()\nfile.close()\n")
+        with subprocess.Popen([sys.executable, "-c", script, self.path], stdout=subprocess.PIPE) as process:
+            process.stdout.readline()
+            self.assertEqual(self.office("withdraw", "0001000", "MA-1"), "withdrawn\n")
+
+
+class Back(sample.SampleSchool):
+    def facts(self):
+        return [self.office("export", session) for session in ("MON-AM", "MON-PM", "TUE-AM")]
+
+    def test_a_change_is_taken_back_and_that_too(self):
+        self.assertEqual(self.office("back"), "no copies\n")
+        before = self.facts()
+        self.assertEqual(self.office("close-hall", "MON-AM", "GYM"), "closed\n")
+        after = self.facts()
+        self.assertNotEqual(before, after)
+        self.assertRegex(self.office("back"), r"^  1  \d{4}-\d\d-\d\d \d\d:\d\d:\d\d  before close-hall MON-AM GYM\n$")
+        self.assertIn("nothing is changed", self.run_office("back", "1", stdin="n\n").stderr)
+        self.assertEqual(self.facts(), after)
+        self.assertIn("the office is as it was on", self.office("back", "1", stdin="y\n"))
+        self.assertEqual(self.facts(), before)
+        self.assertRegex(self.office("back"), r"^  1  .*  before back\n  2  .*  before close-hall MON-AM GYM\n$")
+        self.office("back", "1", "--yes")
+        self.assertEqual(self.facts(), after)
+        self.assertEqual(self.office("check"), "good\n")
+
+    def test_modes_and_log(self):
+        self.office("withdraw", "0001000", "MA-1")
+        self.refused("withdraw", "0001000", "MA-1")
+        [copy] = os.listdir(os.path.join(self.desk, "copies"))
+        for path, mode in [(self.desk, 0o700), (os.path.join(self.desk, "copies"), 0o700),
+                           (os.path.join(self.desk, "copies", copy, "office.db"), 0o600),
+                           (os.path.join(self.desk, "log"), 0o600)]:
+            self.assertEqual(stat.S_IMODE(os.stat(path).st_mode), mode, path)
+        with open(os.path.join(self.desk, "log"), encoding="utf-8") as log:
+            lines = [line.rstrip("\n").split("\t")[2:] for line in log]
+        self.assertEqual(lines, [["withdraw 0001000 MA-1", "0", "withdrawn"],
+                                 ["withdraw 0001000 MA-1", "1", "refused 9"]])
+
+    def test_a_bad_copy_is_refused(self):
+        self.office("withdraw", "0001000", "MA-1")
+        before = self.facts()
+        [copy] = os.listdir(os.path.join(self.desk, "copies"))
+        with closing(sqlite3.connect(os.path.join(self.desk, "copies", copy, "office.db"))) as file:
+            file.execute("DELETE FROM seat WHERE number = 1017")
+            file.commit()
+        self.assertIn("this copy is no good office (bad seat)", self.refused("back", "1", "--yes"))
+        self.assertEqual(self.facts(), before)
+        self.assertIn("there is no copy 2", self.refused("back", "2", "--yes"))
+
+    def test_a_copy_of_an_earlier_version_is_put_back(self):
+        with closing(sqlite3.connect(self.path)) as file:
+            file.execute("UPDATE office SET version = 2")
+            file.commit()
+        self.assertIn("`office migrate` carries it over", self.refused("shortage", "MON-AM"))
+        self.assertEqual(self.office("migrate"), "migrated 2 to 3\n")
+        self.office("back", "1", "--yes")
+        self.assertTrue(self.refused("check").startswith("refused 27\n"))
+        self.assertEqual(self.office("migrate"), "migrated 2 to 3\n")
+
+    def test_a_damaged_office_is_replaced(self):
+        before = self.facts()
+        self.office("withdraw", "0001000", "MA-1")
+        self.write("office.db", b"rubbish" * 1000)
+        self.office("back", "1", "--yes")
+        self.assertEqual(self.facts(), before)
+
+    def test_the_last_fifty_stay(self):
+        with mock.patch.dict(os.environ, self.environment):
+            made = [copies.keep_copy(f"withdraw {place}") for place in range(copies.MOST_COPIES + 2)]
+            self.assertEqual(copies.listed(), made[:1:-1])
+            with mock.patch("copies.MOST_BYTES", 3 * sum(entry.stat().st_size for entry in os.scandir(made[-1]))):
+                copies.prune()
+            self.assertEqual(copies.listed(), made[:-4:-1])
+
+    def test_two_officers_at_once(self):
+        numbers = ["0001000", "0001017", "0001034", "0001051", "0001068", "0001085"]
+        with closing(sqlite3.connect(self.path)) as file:
+            query = "SELECT min(paper) FROM entry WHERE number = ?"
+            pairs = [(number, file.execute(query, [int(number)]).fetchone()[0]) for number in numbers]
+        started = [subprocess.Popen([sample.DESK / "office", "withdraw", *pair], env=self.environment,
+                                    stdout=subprocess.PIPE, stderr=subprocess.PIPE) for pair in pairs]
+        self.assertEqual([process.communicate() for process in started], [(b"withdrawn\n", b"")] * len(pairs))
+        self.assertEqual(self.office("check"), "good\n")
+
+    def test_a_killed_command_leaves_no_lock(self):
+        process = subprocess.Popen([sample.DESK / "office", "import", "entries", "/dev/stdin"], env=self.environment,
+                                   stdin=subprocess.PIPE, stderr=subprocess.DEVNULL)
+        while not os.path.isdir(os.path.join(self.desk, "copies")) or not os.listdir(os.path.join(self.desk, "copies")):
+            time.sleep(0.02)
+        process.kill()
+        process.communicate()
+        self.assertEqual(self.office("withdraw", "0001000", "MA-1"), "withdrawn\n")
+
+
+if __name__ == "__main__":
+    unittest.main()
