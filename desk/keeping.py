@@ -8,6 +8,7 @@ import os
 import shutil
 import signal
 import socket
+import stat
 import subprocess
 import sys
 import time
@@ -18,11 +19,16 @@ import school
 import turns
 
 PLACE = "days"
+MOST_LOG = 1 << 20  # bytes
 LONGEST_PAUSE = 5  # seconds from a `serve` that failed to the next
 PR_SET_PDEATHSIG = 1
 
 
 def say(text):
+    """Writes a line, unless the file that takes it is full: whoever makes faults all day must not fill the disk."""
+    found = os.fstat(sys.stderr.fileno())
+    if stat.S_ISREG(found.st_mode) and found.st_size > MOST_LOG:
+        return
     line = f"{datetime.datetime.now().isoformat(' ', 'seconds')} {school.plain(text)}\n"
     with contextlib.suppress(OSError):  # a full disk is no reason to end
         os.write(sys.stderr.fileno(), line.encode())

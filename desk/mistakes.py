@@ -19,6 +19,7 @@ CURES = {
     "desks": "a whole number from 1 to 2000", "extra": "a whole number from 0 to 100, without %",
     "requires": FEATURES, "features": FEATURES, "needs": FEATURES,
 }
+EMPTY_ROW = "an empty row of the spreadsheet: delete it"
 RIGHT = {column: right for kind, header in files.HEADERS.items() for column, right in zip(header, files.FORMS[kind])}
 WRONG_LETTERS = re.compile("Ã.|Â.|â€|Å[\x80-\xbf¡-ÿ€-™]|\ufffd")
 LIKE_A_NUMBER = re.compile(rb"[0-9]+E[0-9]+|[1-9][0-9]?0{4,}")
@@ -92,15 +93,22 @@ def cure(column, field):
     text = field.decode("utf-8", "replace")
     if column in ("name", "title"):
         return name_cure(field)
-    if column == "number" and re.fullmatch(r"[0-9]{1,6}(\.0+)?", text):
-        return f"leading zeros lost? {int(float(text)):07} ({CURES[column]})"
-    for better in (text.strip(), text.strip().upper(), text.strip().lower(), text.strip(" %'"), "0" + text.strip()):
-        if RIGHT[column](better.encode()):
+    if (number := with_zeros(field)) != field and column == "number":
+        return f"leading zeros lost? {number.decode()} ({CURES[column]})"
+    text = text.strip(" %'")
+    for better in (text, text.upper(), text.lower(), "0" + text if ":" in text else ""):
+        if better and RIGHT[column](better.encode()):
             return f"write {better} ({CURES[column]})"
     parts = text.split("+")
     if CURES[column] == FEATURES and set(parts) <= set(school.FEATURES):
         return "write " + "+".join(name for name in school.FEATURES if name in parts) + " (this order, each once)"
     return CURES[column]
+
+
+def with_zeros(field):
+    """A number with the zeros that a spreadsheet takes away; every other value as it is."""
+    match = re.fullmatch(rb"([0-9]{1,7})(\.0+)?", field)
+    return match[1].zfill(7) if match else field
 
 
 def name_cure(field):
@@ -147,9 +155,11 @@ def looked_through(kind, text, known):
     for record in found:
         row_mistakes(kind, record, known, mistakes)
         repeated(kind, record, seen, mistakes, notes)
-        notes += [note for column, field in zip(files.HEADERS[kind], record.fields) for note in field_notes(
-            record.line, column, field)]
+        notes += [note for column, field in zip(files.HEADERS[kind], record.fields) if RIGHT[column](field)
+                  for note in field_notes(record.line, column, field)]
     whole = [record for record in found if len(record.fields) == len(files.HEADERS[kind])]
+    if files.HEADERS[kind][0] == "number":  # what refers to a number is right once the number is
+        whole = [record._replace(fields=[with_zeros(record.fields[0]), *record.fields[1:]]) for record in whole]
     known.take(kind, [record.fields for record in whole])
     if passed := known.passed_limit():
         mistakes.append(Mistake(1, "file", passed))
@@ -209,6 +219,9 @@ def trimmed(fields, wanted):
 
 def row_mistakes(kind, record, known, mistakes):
     header = files.HEADERS[kind]
+    if len(record.fields) == len(header) and not any(record.fields):
+        mistakes.append(Mistake(record.line, "row", EMPTY_ROW))
+        return
     if len(record.fields) != len(header):
         why = count_cure(record, len(header))
         mistakes.append(Mistake(record.line, "row", f"{len(record.fields)} fields in place of {len(header)}; {why}"))
@@ -226,7 +239,7 @@ def count_cure(record, wanted):
     if not record.closed:
         return "a quote is not closed"
     if not any(record.fields):
-        return "an empty row of the spreadsheet: delete it"
+        return EMPTY_ROW
     return "put a value with a comma in double quotes" if len(record.fields) > wanted else "values are missing"
 
 

@@ -63,7 +63,8 @@ def explained(words, answer):
     if number == 23:
         lines = [f"{sentence}: {cause()}", WHOLE_OR_NOT]
     elif number and words[0] == "import":
-        lines += places(words, number, answer)
+        with contextlib.suppress(OSError, IndexError):  # the file may have changed since
+            lines += places(words, number, answer)
     return [f"  {line}" for line in lines]
 
 

@@ -3,6 +3,8 @@
 OFFICE names another file than office.db, TODAY another date than the clock's, EXAMOFFICE another program. Nothing here
 writes to the office: the file is read from a private copy, so nobody has to wait, a `serve` least of all.
 """
+from __future__ import annotations
+
 import contextlib
 import datetime
 import html

