@@ -65,8 +65,9 @@ def explanation(shortage):
             which = f"the {len(halls)} halls below, which have {desks} together"
         reason = f"Each of these {people:,} candidates can sit only in {which}."
     more = "more desks there, or " if halls else ""
-    return (f"<p>{reason} So every plan leaves at least {shortage.unseated:,} of them without a desk, and no other plan "
-            f"seats more candidates than this one.</p><p>What would help: {more}another hall that suits some of them.</p>")
+    return (f"<p>{reason} So every plan leaves at least {shortage.unseated:,} of them without a desk, and no other "
+            "plan seats more candidates than this one.</p>"
+            f"<p>What would help: {more}another hall that suits some of them.</p>")
 
 
 def chips(title, kind, members):
@@ -80,19 +81,20 @@ def drawing(shortage, unseated, openings, seated):
     cards = [chips(f"{hall}: {lists.count(len(seated[hall]), 'desk')}, all taken", "in", seated[hall])
              for hall in shortage.halls]
     cards.append(chips(f"No desk: {shortage.unseated}", "lacking", unseated))
-    others = "".join(f"<li>{hall.hall}: {hall.desks - len(seated[hall.hall])} of {lists.count(hall.desks, 'desk')} free</li>"
-                     for hall in openings if hall.hall not in shortage.halls)
+    others = "".join(f"<li>{hall}: {desks - len(seated[hall])} of {lists.count(desks, 'desk')} free</li>"
+                     for hall, _, _, desks, *_ in openings if hall not in shortage.halls)
     if others:
         cards.append(f"<div class='card out'><h3>Suit none of these candidates</h3><ul>{others}</ul></div>")
     return f"<div class=cards>{''.join(cards)}</div>"
 
 
 def listing(shortage, unseated):
-    """What `drawing` shows, for many candidates: the halls, then all numbers in columns, those without a desk marked."""
+    """For many candidates what `drawing` shows: the halls, then all numbers in columns, marked where without a desk."""
     lacking = {member.number for member in unseated}
     numbers = "".join(f"<li>{f'<b>{each} ×</b>' if each in lacking else each}</li>" for each in shortage.candidates)
     people = table(["Number", "Name", "Paper"], [[each.number, paper.text(each.name), each.paper] for each in unseated])
-    return (f"<h3>The halls that suit any of them: {len(shortage.halls)}</h3><p>{', '.join(shortage.halls) or 'none'}</p>"
+    halls = ", ".join(shortage.halls) or "none"
+    return (f"<h3>The halls that suit any of them: {len(shortage.halls)}</h3><p>{halls}</p>"
             f"<h3>The candidates: {len(shortage.candidates):,} (× has no desk)</h3><ol class=numbers>{numbers}</ol>"
             f"<h3>Without a desk: {len(lacking):,}</h3><div class=columns>{people}</div>")
 
@@ -114,23 +116,29 @@ def by_reason(halls):
     found = {}
     for hall, reason in halls:
         found.setdefault(reason, []).append(hall)
-    return [f"<li>{', '.join(codes)}: {paper.text(reason)}</li>" for reason, codes in found.items()] or ["<li>no hall is open</li>"]
+    lines = [f"<li>{', '.join(codes)}: {paper.text(reason)}</li>" for reason, codes in found.items()]
+    return lines or ["<li>no hall is open</li>"]
 
 
 STYLE = """
 :root { --ink: #1c2733; --soft: #55616d; --line: #c5ccd3; --blue: #2f5d82; --pale: #fdf1dc; --amber: #8a5a00; }
 body { margin: 0 auto; padding: 1.5rem 1.25rem 4rem; max-width: 72rem; background: #fff; color: var(--ink);
-  font: 16px/1.5 system-ui, "Segoe UI", "Helvetica Neue", "DejaVu Sans", sans-serif; font-variant-numeric: tabular-nums; }
-h1 { font-size: 1.9rem; margin: 0; } h2 { font-size: 1.3rem; margin: 0 0 .6rem; } h3 { font-size: 1rem; margin: 0 0 .4rem; }
+  font: 16px/1.5 system-ui, "Segoe UI", "Helvetica Neue", "DejaVu Sans", sans-serif;
+  font-variant-numeric: tabular-nums; }
+h1 { font-size: 1.9rem; margin: 0; } h2 { font-size: 1.3rem; margin: 0 0 .6rem; }
+h3 { font-size: 1rem; margin: 0 0 .4rem; }
 small { color: var(--soft); font-size: .85em; font-weight: 400; } p { max-width: 46rem; margin: 0 0 .8rem; }
 header p { margin: .2rem 0; } nav a { margin-right: 1rem; } a { color: var(--blue); }
 body > section { margin-top: 2rem; padding-top: 1rem; border-top: 2px solid var(--ink); }
 .wide { overflow-x: auto; } table { border-collapse: collapse; width: 100%; } td { border-top: 1px solid var(--line); }
-th { text-align: left; font-size: .85rem; vertical-align: bottom; } td { vertical-align: top; } .n { text-align: right; }
+th { text-align: left; font-size: .85rem; vertical-align: bottom; } td { vertical-align: top; }
+.n { text-align: right; }
 th, td { padding: .2rem .6rem .2rem 0; } .halls td:nth-child(2) { width: 45%; padding-top: .4rem; }
-.bar { display: block; width: 100%; height: 1rem; overflow: visible; } .hall { break-inside: avoid; margin-bottom: 1.4rem; }
+.bar { display: block; width: 100%; height: 1rem; overflow: visible; }
+.hall { break-inside: avoid; margin-bottom: 1.4rem; }
 rect { stroke: var(--ink); vector-effect: non-scaling-stroke; } rect.lacking { stroke-width: 2; stroke-dasharray: 4 3; }
-.taken { fill: var(--blue); } .listed { fill: #e9b44c; } .free, .none, rect.lacking { fill: #fff; } .none { stroke: none; }
+.taken { fill: var(--blue); } .listed { fill: #e9b44c; } .free, .none, rect.lacking { fill: #fff; }
+.none { stroke: none; }
 .tag { border: 1px solid var(--ink); border-radius: .6rem; padding: 0 .45rem; font-size: .8rem; white-space: nowrap; }
 .tag.open { border-width: 2px; font-weight: 600; } .halls .tag { background: var(--pale); border-color: var(--amber); }
 .sum { font-size: 1.25rem; font-weight: 600; margin-bottom: .6rem; } .balance { display: grid; gap: .3rem 1rem;
@@ -140,7 +148,8 @@ rect { stroke: var(--ink); vector-effect: non-scaling-stroke; } rect.lacking { s
 .card ol { list-style: none; display: flex; flex-wrap: wrap; gap: .35rem; margin: 0; padding: 0; }
 .card ol li { background: #fff; border: 1px solid var(--amber); border-radius: .25rem; padding: .2rem .45rem;
   min-width: 8.5rem; line-height: 1.25; } .card.lacking, .card.lacking ol li { border-style: dashed; }
-.card.out { border: 1px solid var(--line); background: #fff; } .card ul { columns: 13rem; margin: 0; padding-left: 1.1rem; }
+.card.out { border: 1px solid var(--line); background: #fff; }
+.card ul { columns: 13rem; margin: 0; padding-left: 1.1rem; }
 .numbers { columns: 6.5rem; white-space: nowrap; list-style: none; padding: 0; margin: 0 0 1rem; }
 .why { margin-top: 1rem; } .why ul { margin: 0 0 .6rem; padding-left: 1.1rem; } .why b { font-weight: 600; }
 .columns { columns: 26rem; column-gap: 2.5rem; } .columns table { font-size: .92rem; }

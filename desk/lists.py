@@ -21,6 +21,14 @@ def say(text):
     sys.stdout.flush()
 
 
+def rows(path=None):
+    """As `school.rows`; the entries of a session are found without a look at all entries."""
+    connection = school.rows(path)
+    connection.executescript("PRAGMA query_only = OFF; CREATE INDEX IF NOT EXISTS paper_by_session ON paper (session); "
+                             "CREATE INDEX IF NOT EXISTS entry_by_paper ON entry (paper); PRAGMA query_only = ON")
+    return connection
+
+
 def sessions(connection, asked=()):
     """The sessions asked for, otherwise all, by day and start; ends the script where there is no such session."""
     for code in asked:

@@ -1,4 +1,4 @@
-"""The lists of the desk over the sample school: changes, look, summary, open appeals, dump, codes, and sheets as text."""
+"""The lists over the sample school: changes, look, summary, open appeals, dump, codes, and sheets as text."""
 import contextlib
 import csv
 import os
@@ -65,8 +65,8 @@ class Lists(sample.SampleSchool):
         self.assertEqual(rows[1:], [
             ["yes", "MON-AM", "0001748", "'=1+1", "2027-06-07", "09:00", "11:12", "MA-1", "R12", "2", "2027-06-07",
              "09:00", "11:12", "MA-1", "", "", "Mathematics 1", ""],
-            ["yes", "MON-AM", "0001289", "Rosa Tanaka", "2027-06-07", "09:00", "11:30", "MA-1", "R12", "1", "2027-06-07",
-             "09:00", "11:30", "MA-1", "", "", "Mathematics 1", ""]])
+            ["yes", "MON-AM", "0001289", "Rosa Tanaka", "2027-06-07", "09:00", "11:30", "MA-1", "R12", "1",
+             "2027-06-07", "09:00", "11:30", "MA-1", "", "", "Mathematics 1", ""]])
         self.assertEqual({len(row) for row in rows}, {18})
 
     def test_changes_of_no_backup(self):
@@ -138,7 +138,7 @@ class Lists(sample.SampleSchool):
         path = self.write("c.csv", '\ufeffnumber,name,code\n0000001,"Lin, ""Ada""",\n0000002,=1+1,ABCDEFGH\n'
                                    '0000001,"Lin, ""Ada""",\n0000003,Bo,\n')
         self.assertEqual(self.office("codes", path), f"{path[:-4]}-with-codes.csv: 2 codes made for 4 rows\n")
-        with open(path[:-4] + "-with-codes.csv", encoding="utf-8", newline="") as file:
+        with open(path[:-4] + "-with-codes.csv", encoding="utf-8-sig", newline="") as file:
             rows = list(csv.reader(file))
         self.assertEqual([row[:2] for row in rows[1:]],
                          [["0000001", 'Lin, "Ada"'], ["0000002", "=1+1"], ["0000001", 'Lin, "Ada"'], ["0000003", "Bo"]])
@@ -166,7 +166,7 @@ class Lists(sample.SampleSchool):
                 ("unseated 2", "unseated 1", "unseated: the sheet counts 1, and there are 2"),
                 ("hall LIB desks 2\n", "", "hall LIB with 2 desks suits one of the candidates, but is not listed"),
                 ("hall LIB desks 2", "hall LIB desks 3", "hall LIB with 3 desks is listed, but"),
-                ("hall LIB", "hall GYM desks 24\nhall LIB", "hall GYM with 24 desks is listed, but it suits none"),
+                ("hall LIB", "hall GYM desks 24\nhall LIB", "hall GYM with 24 desks is listed, but suits none"),
                 ("0001102\n", "0001102\n0001102\n", "0001102 is listed 2 times"),
                 ("0001102\n", "0009999\n", "0009999 is not a member of the session"),
                 ("candidates 4", "candidates 5", "5 candidates are not 2 desks and 2 unseated")]:
@@ -220,8 +220,8 @@ class Lists(sample.SampleSchool):
 
 class NoOffice(sample.SampleSchool):
     def test_each_command_says_so(self):
-        commands = [["slips"], ["board", "S"], ["doors", "S"], ["counts", "S"], ["session-page", "S"],
-                    ["print-session", "S"], ["changes", "x"], ["dump", "x"], ["look", "x"], ["summary"], ["appeals-open"]]
+        commands = [["slips"], ["board", "S"], ["doors", "S"], ["counts", "S"], ["session-page", "S"], ["look", "x"],
+                    ["print-session", "S"], ["changes", "x"], ["dump", "x"], ["summary"], ["appeals-open"]]
         for words in commands:
             for text in (None, "", "rubbish" * 1000):
                 path = os.path.join(self.folder, "none.db") if text is None else self.write("rubbish.db", text)

@@ -16,8 +16,8 @@ HOSTILE = ["=1+1", "<script>alert(1)</script>", "\"quotes\" & 'more'", "C1 \u009
 class Cells(html.parser.HTMLParser):
     """The tables of a page as rows of texts; the parser also sees that every element is one of a table or known."""
 
-    known = set("html head meta title style body h1 h2 h3 p b i small span bdi br div section table thead tbody tr th td "
-                "header nav a ol ul li dl dt dd svg rect code".split())
+    known = set("html head meta title style body h1 h2 h3 p b i small span bdi br div section table thead tbody tr "
+                "th td header nav a ol ul li dl dt dd svg rect code".split())
 
     def __init__(self, page):
         super().__init__()
@@ -81,7 +81,7 @@ class Papers(sample.SampleSchool):
             ["Monday, 7 June 2027, 09:00 (MON-AM)|open until 14:00, last finish 12:08|6 desks, 6 seatedLibrary|LIB"],
             ["Desk", "Number", "Name", "Paper", "Finish", "Arrangement", "Signature"],
             ["1", "0001153", "Jana Roe", "LAT", "10:53", "25 % extra time, screen", ""]])
-        self.assertEqual(len(rows), 8)
+        self.assertEqual((len(rows), rows[-1][0][:18]), (9, "Present: ________ "))
         self.assertIn("nobody sits in PC9", self.refused("doors", "MON-AM", "PC9"))
 
     def test_counts(self):
@@ -99,7 +99,8 @@ class Papers(sample.SampleSchool):
         self.assertEqual(Cells(text).strange, set())
         for part in ("48 candidates: 46 seated, 2 without a desk.", "4 candidates = 2 desks + 2 unseated",
                      "Each of these 4 candidates can sit only in LIB, which has 2 desks.",
-                     "<li>AULA, GYM, PC1, R12, R14: <bdi>no reader</bdi></li>", "<li>LIB: <bdi>suits, but 2 of 2 desks are taken: "):
+                     "<li>AULA, GYM, PC1, R12, R14: <bdi>no reader</bdi></li>",
+                     "<li>LIB: <bdi>suits, but 2 of 2 desks are taken: "):
             self.assertIn(part, text)
         self.assertIn("no session XX", self.refused("session-page", "XX"))
 
