@@ -131,6 +131,22 @@ class Papers(sample.SampleSchool):
                 for name in ("=1+1", "<script>alert(1)</script>", "C1 ?2J ? end", "left ?right", "line?end", "W" * 80):
                     self.assertIn(name, shown, words)
 
+    def test_rows_that_no_office_has(self):
+        whole = self.write("whole.db", b"")
+        shutil.copy2(self.path, whole)
+        for change in ("UPDATE hall SET code = '<img>' WHERE code = 'GYM'", "UPDATE session SET day = '1 May\x9b2J'",
+                       "UPDATE session SET day = '2027-02-30'", "DELETE FROM hall WHERE code = 'GYM'",
+                       "UPDATE candidate SET code = 'A' || char(0) || '<img>'", "UPDATE seat SET hall = '<script>'",
+                       "UPDATE paper SET code = code || '\x9b'", "UPDATE session SET start = -1000000000000000000"):
+            shutil.copy2(whole, self.path)
+            self.change(change)
+            for words in (["slips", "--codes"], ["board", "MON-AM"], ["doors", "MON-AM"], ["counts", "MON-AM"],
+                          ["session-page", "MON-AM"], ["changes", whole], ["look", "Berg"], ["summary"]):
+                done = self.run_office(*words)
+                self.assertNotRegex(done.stdout + done.stderr, "<img>|<script>|[\x80-\x9f]|Traceback")
+                if done.returncode:
+                    self.assertRegex(done.stderr, "^office: [^\n]*\n$", words)
+
     def test_nothing_is_cut_on_a4(self):
         browser = shutil.which("chromium")
         if not (browser and shutil.which("pdftotext")):
