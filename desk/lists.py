@@ -94,6 +94,12 @@ def long_day(day):
     return f"{date:%A}, {date.day} {date:%B} {date.year}"
 
 
+def short_day(day):
+    """2027-06-07 as Mon 7 June 2027."""
+    date = datetime.date.fromisoformat(day)
+    return f"{date:%a} {date.day} {date:%B} {date.year}"
+
+
 def count(number, thing):
     return f"{number:,} {thing}{'' if number == 1 else 's'}"
 

@@ -48,10 +48,10 @@ class Papers(sample.SampleSchool):
         rows = self.rows("slips", "--only", "0001051", "--codes")
         self.assertEqual(rows, [
             ["access code VMGNZGEDP90001051Di Berg"], ["Day", "Time", "Paper", "Hall"],
-            ["Monday, 7 June 2027", "09:00 to 11:00", "Computer science (CS-1)|not Latin (LAT), at the same time",
+            ["Mon 7 June 2027", "09:00–11:00", "Computer science (CS-1)|not Latin (LAT), at the same time",
              "Computer room (PC1)"],
-            ["Monday, 7 June 2027", "13:30 to 15:00", "English language (EN-1)", "Aula, main building (AULA)"],
-            ["Tuesday, 8 June 2027", "09:00 to 11:00", "Physics (PH-1)", "Aula, main building (AULA)"]])
+            ["Mon 7 June 2027", "13:30–15:00", "English language (EN-1)", "Aula, main building (AULA)"],
+            ["Tue 8 June 2027", "09:00–11:00", "Physics (PH-1)", "Aula, main building (AULA)"]])
         text = self.office("slips")
         self.assertEqual(text.count("<div class=slip>"), 60)
         self.assertEqual(re.findall("access code|desk&nbsp;", text), [])
