@@ -2,8 +2,8 @@
 import contextlib
 import datetime
 import filecmp
-import getpass
 import os
+import pwd
 import re
 import shutil
 
@@ -77,13 +77,18 @@ def when_and_what(copy):
     return f"{day} {time[:8].replace('.', ':')}", command
 
 
+def user():
+    """Who works: the name of the user, and before it that of whoever became this user by sudo."""
+    try:
+        name = pwd.getpwuid(os.getuid()).pw_name
+    except KeyError:
+        name = str(os.getuid())
+    return f"{os.environ['SUDO_USER']} as {name}" if "SUDO_USER" in os.environ else name
+
+
 def log(words, status, answer):
     """Adds a line to the log: when, who, the command, its status, the first line of its answer."""
-    try:
-        who = getpass.getuser()
-    except (KeyError, OSError):
-        who = str(os.getuid())
-    parts = [datetime.datetime.now().isoformat(" ", "seconds"), who, " ".join(words), str(status), answer]
+    parts = [datetime.datetime.now().isoformat(" ", "seconds"), user(), " ".join(words), str(status), answer]
     line = "\t".join(school.plain(part) for part in parts) + "\n"
     try:
         file = os.open(turns.inside("log"), os.O_WRONLY | os.O_CREAT | os.O_APPEND, 0o600)

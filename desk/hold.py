@@ -2,15 +2,18 @@
 
 A request may be handed on again where no whole answer came, since every repeat is safe: a read changes nothing, and a
 lodging or a retraction that is done already is answered as before. So a client notices nothing of a gap. A client that
-sends nothing keeps nobody waiting: `serve` sees whole requests alone, and the longest waiting client goes where there
-is no room for another.
+sends nothing keeps nobody waiting: `serve` sees whole requests alone, and in a crowd a client has a second for its own.
 """
 import asyncio
+import contextlib
 import re
+import resource
+import socket
 
-MOST_CLIENTS = 500
+MOST_CLIENTS, CROWD = 1500, 100
+FILES = 2 * MOST_CLIENTS  # that the process may have open, if the system lets it
 MOST_HEAD, MOST_BODY = 8192, 4096  # bytes; what is longer is handed on as far as it goes, and `serve` refuses it
-REQUEST_SECONDS, ANSWER_SECONDS, GAP_SECONDS = 10, 15, 30
+REQUEST_SECONDS, CROWD_SECONDS, ANSWER_SECONDS, GAP_SECONDS = 10, 1, 15, 30
 PAUSE = 0.02  # seconds from one try to the next
 BUSY = b"HTTP/1.1 %s\r\nContent-Type: application/json\r\nContent-Length: %d\r\nConnection: close\r\n\r\n%s"
 FULL = BUSY % (b"503 Service Unavailable", 12, b'{"error":22}')  # nothing was handed on, so nothing has changed
@@ -24,8 +27,11 @@ class Hold:
         self.port = None
         self.opened = asyncio.Event()
         self.turn = asyncio.Lock()
-        self.clients = set()
-        self.reading = {}  # the tasks that wait for a request, in the order in which they came
+        self.clients = 0
+        most = resource.getrlimit(resource.RLIMIT_NOFILE)[1]
+        files = FILES if most == resource.RLIM_INFINITY else min(FILES, most)
+        resource.setrlimit(resource.RLIMIT_NOFILE, (files, most))
+        self.most_clients = min(MOST_CLIENTS, files // 2)
 
     def open(self, port):
         self.port = port
@@ -36,30 +42,19 @@ class Hold:
 
     async def take(self, reader, writer):
         """Serves one client."""
-        task = asyncio.current_task()
-        self.clients.add(task)
+        self.clients += 1
         try:
-            if len(self.clients) > MOST_CLIENTS and not self.make_room():
+            if self.clients > self.most_clients:
                 await self.send(writer, FULL)
                 return
-            self.reading[task] = writer
-            request = await asyncio.wait_for(whole_request(reader), REQUEST_SECONDS)
-            self.reading.pop(task, None)
+            seconds = REQUEST_SECONDS if self.clients < CROWD else CROWD_SECONDS
+            request = await asyncio.wait_for(whole_request(reader), seconds)
             await self.send(writer, await self.answer(request))
-        except (OSError, asyncio.TimeoutError, asyncio.CancelledError):
+        except (OSError, asyncio.TimeoutError):
             writer.transport.abort()
         finally:
-            self.reading.pop(task, None)
-            self.clients.discard(task)
+            self.clients -= 1
             writer.close()
-
-    def make_room(self):
-        """Sends the longest waiting client away; False where each has sent its request."""
-        for task in self.reading:
-            self.reading.pop(task)
-            task.cancel()
-            return True
-        return False
 
     async def send(self, writer, answer):
         writer.write(answer)
@@ -86,33 +81,47 @@ class Hold:
             await asyncio.sleep(PAUSE)
 
     async def ask(self, request):
-        reader, writer = await asyncio.open_connection("127.0.0.1", self.port)
-        try:
-            writer.write(request)
-            writer.write_eof()
-            return await reader.read(-1)
-        finally:
-            writer.close()
+        """What `serve` answers before it closes the connection, in whatever way it does."""
+        loop = asyncio.get_running_loop()
+        answer = b""
+        with socket.socket() as server:
+            server.setblocking(False)
+            await loop.sock_connect(server, ("127.0.0.1", self.port))
+            with contextlib.suppress(OSError):
+                await loop.sock_sendall(server, request)
+                server.shutdown(socket.SHUT_WR)
+                while part := await loop.sock_recv(server, 1 << 16):
+                    answer += part
+        return answer
 
 
 async def whole_request(reader):
-    """A request as `serve` reads it: the head to its empty line, then as many bytes as the head names."""
+    """A request as far as `serve` reads it: the head to its empty line, then as many bytes as the head names."""
     text = b""
-    while b"\r\n\r\n" not in text and len(text) <= MOST_HEAD:
-        part = await reader.read(4096)
+    while b"\r\n\r\n" not in text and len(text) < MOST_HEAD:
+        part = await reader.read(MOST_HEAD)
         if not part:
             return text
         text += part
-    head, _, body = text.partition(b"\r\n\r\n")
-    lengths = re.findall(rb"\r\ncontent-length:[ \t]*([0-9]{1,10})[ \t]*(?=\r\n|$)", head, re.IGNORECASE)
-    wanted = min(int(lengths[0]), MOST_BODY + 1) if len(lengths) == 1 else 0
+    head, end, body = text.partition(b"\r\n\r\n")
+    if len(head + end) > MOST_HEAD or not end:
+        return text[:MOST_HEAD]
+    wanted = body_length(head)
     while len(body) < wanted:
         part = await reader.read(wanted - len(body))
         if not part:
             break
         body += part
-        text += part
-    return text
+    return head + end + body[:wanted]
+
+
+def body_length(head):
+    """How many bytes of a body `serve` reads: none where the head alone is a fault."""
+    lengths = re.findall(rb"\r\ncontent-length[ \t]*:([^\r]*)", head, re.IGNORECASE)
+    if len(lengths) != 1 or not re.fullmatch(rb"[ \t]*[0-9]{1,10}[ \t]*", lengths[0]):
+        return 0
+    length = int(lengths[0])
+    return length if length <= MOST_BODY else 0
 
 
 def is_whole(answer):
