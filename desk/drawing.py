@@ -144,6 +144,8 @@ rect { stroke: var(--ink); vector-effect: non-scaling-stroke; } rect.lacking { s
 .sum { font-size: 1.25rem; font-weight: 600; margin-bottom: .6rem; } .balance { display: grid; gap: .3rem 1rem;
   grid-template-columns: max-content 1fr; align-items: center; max-width: 46rem; margin: 0 0 1rem; } dd { margin: 0; }
 .cards { display: flex; flex-wrap: wrap; gap: 1rem; align-items: flex-start; }
+td, h3, li, .why p { overflow-wrap: anywhere; } .n { overflow-wrap: normal; }
+.card { max-width: 100%; box-sizing: border-box; }
 .card { border: 2px solid var(--amber); background: var(--pale); border-radius: .4rem; padding: .6rem .8rem; }
 .card ol { list-style: none; display: flex; flex-wrap: wrap; gap: .35rem; margin: 0; padding: 0; }
 .card ol li { background: #fff; border: 1px solid var(--amber); border-radius: .25rem; padding: .2rem .45rem;
