@@ -14,6 +14,7 @@ CHANGES = ["import", "withdraw", "reinstate", "close-hall", "decide", "migrate"]
 MOST_COPIES = 50
 MOST_BYTES = 1 << 30
 PLACE = "copies"
+EMPTY_LOG = 41  # bytes of a second file that holds no change
 
 
 def keep_copy(command):
@@ -43,12 +44,12 @@ def drop(copy):
 
 
 def is_as_now(copy):
-    """Whether the office's two files still have the bytes of a copy."""
+    """Whether the office's two files still have the bytes of a copy; a second file without a change counts as none."""
     office = os.path.realpath(school.office_path())
-    pairs = [(office + ending, os.path.join(copy, base_name() + ending)) for ending in ("", "-wal")]
+    first, second = ((office + ending, os.path.join(copy, base_name() + ending)) for ending in ("", "-wal"))
     with contextlib.suppress(OSError):
-        return all(os.path.exists(one) == os.path.exists(other) for one, other in pairs) and all(
-            filecmp.cmp(one, other, shallow=False) for one, other in pairs if os.path.exists(one))
+        alike = all(not os.path.exists(path) or os.path.getsize(path) <= EMPTY_LOG for path in second)
+        return filecmp.cmp(*first, shallow=False) and (alike or filecmp.cmp(*second, shallow=False))
     return False
 
 

@@ -165,16 +165,25 @@ def damage(path):
 
 
 def holder():
-    """The process that has the file locked, as a pair of its number and its words; None where there is none."""
+    """A process that has the file open, as a pair of its number and its words; None where none is to be seen."""
     with contextlib.suppress(OSError):
-        found = os.stat(school.office_path())
-        device = f"{os.major(found.st_dev):02x}:{os.minor(found.st_dev):02x}:{found.st_ino}"
-        with open("/proc/locks", encoding="ascii") as locks:
-            holders = [int(line.split()[-4]) for line in locks if line.split()[-3] == device and "POSIX" in line]
-        for process in holders:
-            with open(f"/proc/{process}/cmdline", encoding="utf-8", errors="replace") as line:
-                return process, line.read().rstrip("\0").split("\0")
+        wanted = os.stat(school.office_path())
+        for process in filter(str.isdigit, os.listdir("/proc")):
+            if int(process) != os.getpid() and has_open(process, wanted):
+                with contextlib.suppress(OSError), open(f"/proc/{process}/cmdline", "rb") as line:
+                    return int(process), line.read().decode("utf-8", "replace").rstrip("\0").split("\0")
     return None
+
+
+def has_open(process, wanted):
+    """Whether a process has a file open; of another user's process that cannot be seen."""
+    folder = f"/proc/{process}/fd"
+    with contextlib.suppress(OSError):
+        for name in os.listdir(folder):
+            with contextlib.suppress(OSError):
+                if os.path.samestat(os.stat(f"{folder}/{name}"), wanted):
+                    return True
+    return False
 
 
 def may_pass():

@@ -7,12 +7,14 @@ from __future__ import annotations
 
 import contextlib
 import datetime
+import errno
 import html
 import os
 import pathlib
 import shutil
 import signal
 import sqlite3
+import stat
 import subprocess
 import sys
 import tempfile
@@ -187,6 +189,8 @@ def copy_file(source, target):
 def moment(path):
     """What tells one state of the first file and one beginning of the second from others; None just after a change."""
     first = os.stat(path)
+    if not stat.S_ISREG(first.st_mode):
+        raise OSError(errno.EINVAL, "is no file", path)
     if 0 <= time.time_ns() - first.st_mtime_ns < 20_000_000:  # a change within one tick of the clock is not seen
         return None
     try:

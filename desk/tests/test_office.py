@@ -89,6 +89,15 @@ class Causes(sample.SampleSchool):
         os.link(self.path, os.path.join(self.folder, "other.db"))
         self.assertIn("has a second name", self.cause())
 
+    def test_a_folder_and_a_pipe(self):
+        pipe = os.path.join(self.folder, "pipe.db")
+        os.mkfifo(pipe)
+        for path, text in [(self.folder, "is a folder"), (pipe, "is no file")]:
+            for words in (["check"], ["shortage", "MON-AM"], ["withdraw", "0001000", "MA-1"]):
+                self.assertIn(text, self.refused(*words, OFFICE=path))
+        self.assertIn("is no file", self.refused("why", "MON-AM", OFFICE=pipe))
+        self.assertFalse(os.path.exists(os.path.join(self.folder, "desk-pipe.db")))
+
     def test_a_journal(self):
         self.write("office.db-journal", "x")
         self.assertIn("office.db-journal lies beside", self.cause())
@@ -103,10 +112,12 @@ class Causes(sample.SampleSchool):
     def test_a_serve(self):
         line = [sample.built_program(), "--db", self.path, "--today", sample.TODAY, "serve", str(sample.free_port())]
         with subprocess.Popen(line, stdout=subprocess.PIPE) as process:
-            process.stdout.readline()
-            self.assertIn(f"a `serve` has it (process {process.pid})", self.cause())
-            self.assertIn("unseated 2", self.office("shortage", "MON-AM"))  # a sheet is made from a copy
-            process.terminate()
+            try:
+                process.stdout.readline()
+                self.assertIn(f"a `serve` has it (process {process.pid})", self.cause())
+                self.assertIn("unseated 2", self.office("shortage", "MON-AM"))  # a sheet is made from a copy
+            finally:
+                process.terminate()
 
     def test_another_program_is_waited_for(self):
         script = ("import sqlite3, sys, time\nfile = sqlite3.connect(sys.argv[1])\nfile.execute('BEGIN IMMEDIATE')\n"
@@ -159,6 +170,16 @@ class Back(sample.SampleSchool):
         self.assertIn("this copy is no good office (bad seat)", self.refused("back", "1", "--yes"))
         self.assertEqual(self.facts(), before)
         self.assertIn("there is no copy 2", self.refused("back", "2", "--yes"))
+
+    def test_a_copy_of_an_earlier_version_is_put_back(self):
+        with closing(sqlite3.connect(self.path)) as file:
+            file.execute("UPDATE office SET version = 2")
+            file.commit()
+        self.assertIn("`office migrate` carries it over", self.refused("shortage", "MON-AM"))
+        self.assertEqual(self.office("migrate"), "migrated 2 to 3\n")
+        self.office("back", "1", "--yes")
+        self.assertTrue(self.refused("check").startswith("refused 27\n"))
+        self.assertEqual(self.office("migrate"), "migrated 2 to 3\n")
 
     def test_a_damaged_office_is_replaced(self):
         before = self.facts()
