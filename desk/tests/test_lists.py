@@ -1,0 +1,235 @@
+"""The lists over the sample school: changes, look, summary, open appeals, dump, codes, and sheets as text."""
+import contextlib
+import csv
+import os
+import re
+import shutil
+import signal
+import sqlite3
+import stat
+import subprocess
+import time
+import unittest
+
+import sample
+
+import school  # beside the tests' folder
+
+APPEAL = "INSERT INTO appeal VALUES (?, ?, ?, ?, ?, ?, ?, ?, ?, ?, ?)"
+
+
+class Lists(sample.SampleSchool):
+    maxDiff = None
+
+    def change(self, statement, values=()):
+        with contextlib.closing(sqlite3.connect(self.path)) as file:
+            file.execute(statement, values)
+            file.commit()
+
+    def members(self, path):
+        """Who is in each session, with what, seated or not."""
+        with contextlib.closing(school.rows(path)) as connection:
+            return [[member._replace(hall=None, desk=None) for member in school.members(connection, session)]
+                    for session in ("MON-AM", "MON-PM", "TUE-AM")]
+
+    def copy(self):
+        folder = os.path.join(self.folder, "before")
+        os.mkdir(folder)
+        for name in ("office.db", "office.db-wal"):
+            with contextlib.suppress(FileNotFoundError):
+                shutil.copy2(os.path.join(self.folder, name), folder)
+        return folder
+
+    def test_changes(self):
+        before = self.copy()
+        self.assertEqual(self.office("changes", before), "nothing changed\n")
+        self.office("withdraw", "0001306", "LAT")
+        lines = self.office("changes", before).split("\n")
+        self.assertEqual(lines[-2:], ["1 to tell, 13 with another desk only", ""])
+        self.assertIn("! MON-AM 0001306 Sami Nagy: AULA desk 1 -> AULA desk 14, LAT -> MA-2, "
+                      "2027-06-07 09:00 to 10:30 -> 2027-06-07 09:00 to 11:30", lines)
+        self.assertIn("  MON-AM 0001068 Ed Costa: AULA desk 6 -> AULA desk 5", lines)
+        self.assertEqual(self.office("changes", "1"), "\n".join(lines))
+        self.assertEqual(self.office("changes", os.path.join(before, "office.db"), "TUE-AM"), "nothing changed\n")
+        self.office("close-hall", "MON-AM", "R12")
+        self.assertIn("! MON-AM 0001748 Tomas Costa: R12 desk 2 -> no desk\n", self.office("changes", "1"))
+        self.office("withdraw", "0001748", "MA-1")
+        self.assertIn("! MON-AM 0001748 Tomas Costa: left: MA-1, 2027-06-07 09:00 to 11:12, R12 desk 2\n",
+                      self.office("changes", before))
+
+    def test_changes_as_csv(self):
+        before = self.copy()
+        self.change("UPDATE candidate SET name = '=1+1' WHERE number = 1748")
+        self.office("close-hall", "MON-AM", "R12")
+        rows = list(csv.reader(self.office("changes", before, "--csv").split("\n")[:-1]))
+        self.assertEqual(rows[1:], [
+            ["yes", "MON-AM", "0001748", "'=1+1", "2027-06-07", "09:00", "11:12", "MA-1", "R12", "2", "2027-06-07",
+             "09:00", "11:12", "MA-1", "", "", "Mathematics 1", ""],
+            ["yes", "MON-AM", "0001289", "Rosa Tanaka", "2027-06-07", "09:00", "11:30", "MA-1", "R12", "1",
+             "2027-06-07", "09:00", "11:30", "MA-1", "", "", "Mathematics 1", ""]])
+        self.assertEqual({len(row) for row in rows}, {18})
+
+    def test_changes_of_no_backup(self):
+        self.assertIn("there is no copy 3", self.refused("changes", "3"))
+        self.assertIn("nowhere", self.refused("changes", "nowhere"))
+        self.assertIn("no session XX", self.refused("changes", self.copy(), "XX"))
+        self.assertIn("holds no office", self.refused("changes", self.write("rubbish.db", "rubbish" * 1000)))
+
+    def test_look(self):
+        self.change(APPEAL, [1051, "AR1", "MON-AM", 3, "", 6, 25, "a cast \u009b2J\u202e", 3, "no proof", "2027-05-02"])
+        self.assertEqual(self.office("look", "1051").split("\n"), [
+            "0001051 Di Berg",
+            "  2027-06-07 09:00 MON-AM: CS-1 Computer science: PC1 Computer room, desk 1, until 11:00",
+            "  2027-06-07 09:00 MON-AM: LAT Latin: not sat, since they sit CS-1 then",
+            "  2027-06-07 13:30 MON-PM: EN-1 English language: AULA Aula, main building, desk 2, until 15:00",
+            "  2027-06-08 09:00 TUE-AM: PH-1 Physics: AULA Aula, main building, desk 11, until 11:00",
+            "  appeal AR1 of 2027-05-02, MON-AM: arrangement screen+reader 25: refused",
+            "    reason: a cast ?2J?", "    answer: no proof", ""])
+        self.assertIn("0001051 Di Berg, access code VMGNZGEDP9\n", self.office("look", "0001051", "--codes"))
+        names = re.findall(r"^\d{7} (.*)", self.office("look", "SORENSEN"), re.MULTILINE)
+        self.assertEqual(names, ["Frida Sørensen", "Jonas Sørensen", "Petra Sørensen"])
+        self.assertIn("no candidate has nobody", self.refused("look", "nobody"))
+        self.assertIn("candidates; say more of the name", self.office("look", "a"))
+        self.office("withdraw", "0001051", "LAT")
+        self.assertIn("LAT Latin: withdrawn\n", self.office("look", "0001051"))
+        self.assertIn("  imported arrangement: needs -, extra 25\n", self.office("look", "0001034"))
+
+    def test_summary(self):
+        self.change(APPEAL, [1051, "HA1", "MON-AM", 1, "PC1", 0, 0, "", 1, None, "2027-05-02"])
+        rows = [line.split() for line in self.office("summary").split("\n")[1:-1]]
+        self.assertEqual(rows, [["MON-AM", "2027-06-07", "09:00", "60", "58", "2", "58", "0", "1"],
+                                ["MON-PM", "2027-06-07", "13:30", "60", "58", "2", "58", "0", "0"],
+                                ["TUE-AM", "2027-06-08", "09:00", "48", "46", "2", "56", "10", "0"]])
+
+    def test_open_appeals(self):
+        self.assertEqual(self.office("appeals-open"), "no appeal is open\n")
+        self.change(APPEAL, [1051, "HA1", "TUE-AM", 1, "AULA", 0, 0, "draught\u0085", 1, None, "2027-05-02"])
+        self.change(APPEAL, [1034, "CL1", "MON-AM", 2, "LAT", 0, 0, "", 1, None, "2027-05-03"])
+        self.change(APPEAL, [1034, "CL0", "MON-AM", 2, "LAT", 0, 0, "", 4, None, "2027-05-03"])
+        self.assertEqual(self.office("appeals-open", TODAY="2027-06-07"),
+                         "too late since 2027-06-07: MON-AM 0001034 Cy Ferrari: CL1 of 2027-05-03: clash LAT\n"
+                         "    no reason given\n"
+                         "decide by 2027-06-07: TUE-AM 0001051 Di Berg: HA1 of 2027-05-02: hall AULA\n    draught?\n")
+        self.assertIn("HA1", self.office("appeals-open", "TUE-AM"))
+        self.assertNotIn("CL1", self.office("appeals-open", "TUE-AM"))
+
+    def test_dump_is_the_same_again(self):
+        names = ["=1+1", '"q" , "q"', " lead", "\u202eright", "a\u2028b", "\u009b", "é" * 40]
+        for number, name in zip([1000, 1017, 1034, 1051, 1068, 1085, 1102], names):
+            self.change("UPDATE candidate SET name = ? WHERE number = ?", [name, number])
+        self.office("withdraw", "0001306", "LAT")
+        folder = os.path.join(self.folder, "facts")
+        said = self.office("dump", folder)
+        self.assertIn("NOTE: withdrawn entries: 1, not in entries.csv, but in withdrawn.txt\n", said)
+        with open(os.path.join(folder, "withdrawn.txt"), encoding="utf-8") as file:
+            self.assertEqual(file.read(), "0001306 LAT\n")
+        for kind in sample.KINDS:
+            path = os.path.join(folder, f"{kind}.csv")
+            self.assertRegex(self.office("import", kind, path), "^added 0 changed 0 same [1-9][0-9]*\n$")
+            self.assertEqual(stat.S_IMODE(os.stat(path).st_mode), 0o600)
+        other = os.path.join(self.folder, "other.db")
+        self.office("init", OFFICE=other)
+        for kind in sample.KINDS:
+            self.office("import", kind, os.path.join(folder, f"{kind}.csv"), OFFICE=other)
+        self.assertEqual(self.members(other), self.members(self.path))
+        self.assertIn("is there already", self.refused("dump", folder))
+
+    def test_codes(self):
+        path = self.write("c.csv", '\ufeffnumber,name,code\n0000001,"Lin, ""Ada""",\n0000002,=1+1,ABCDEFGH\n'
+                                   '0000001,"Lin, ""Ada""",\n0000003,Bo,\n')
+        self.assertEqual(self.office("codes", path), f"{path[:-4]}-with-codes.csv: 2 codes made for 4 rows\n")
+        with open(path[:-4] + "-with-codes.csv", encoding="utf-8-sig", newline="") as file:
+            rows = list(csv.reader(file))
+        self.assertEqual([row[:2] for row in rows[1:]],
+                         [["0000001", 'Lin, "Ada"'], ["0000002", "=1+1"], ["0000001", 'Lin, "Ada"'], ["0000003", "Bo"]])
+        first, kept, again, other = (row[2] for row in rows[1:])
+        self.assertEqual((kept, again, len({first, kept, other})), ("ABCDEFGH", first, 3))
+        self.assertRegex(first, "^[B-Z][B-Z2-9]{9}$")
+        self.assertEqual(stat.S_IMODE(os.stat(path[:-4] + "-with-codes.csv").st_mode), 0o600)
+        self.assertIn("is there already", self.refused("codes", path))
+        for text, said in [("number,name\n", "line 1 of"), ("number,name,code\n1,Bo,\n", "line 2 of"),
+                           ("number,name,code\n0000001,Bo,abc\n", "line 2 of"), ("", "line 1 of")]:
+            self.assertIn(said, self.refused("codes", self.write("bad.csv", text)))
+        self.assertFalse(os.path.exists(os.path.join(self.folder, "bad-with-codes.csv")))
+
+    def test_shortage(self):
+        for session, right in [("MON-AM", "right: 12 candidates = 10 desks + 2 unseated\n"),
+                               ("MON-PM", "right: 60 candidates = 58 desks + 2 unseated\n"),
+                               ("TUE-AM", "right: 4 candidates = 2 desks + 2 unseated\n")]:
+            sheet = self.office("shortage", session)
+            self.assertEqual(self.office("check-shortage", self.write("sheet", sheet)), right)
+            self.assertEqual(self.office("check-shortage", "-", stdin=sheet), right)
+
+    def test_wrong_shortages(self):
+        sheet = self.office("shortage", "TUE-AM")
+        for old, new, said in [
+                ("unseated 2", "unseated 1", "unseated: the sheet counts 1, and there are 2"),
+                ("hall LIB desks 2\n", "", "hall LIB with 2 desks suits one of the candidates, but is not listed"),
+                ("hall LIB desks 2", "hall LIB desks 3", "hall LIB with 3 desks is listed, but"),
+                ("hall LIB", "hall GYM desks 24\nhall LIB", "hall GYM with 24 desks is listed, but suits none"),
+                ("0001102\n", "0001102\n0001102\n", "0001102 is listed 2 times"),
+                ("0001102\n", "0009999\n", "0009999 is not a member of the session"),
+                ("candidates 4", "candidates 5", "5 candidates are not 2 desks and 2 unseated")]:
+            done = self.run_office("check-shortage", self.write("sheet", sheet.replace(old, new)))
+            self.assertEqual((done.returncode, done.stderr), (1, ""))
+            self.assertIn(said, done.stdout)
+        for text in ("", "nonsense", sheet + "more\n", sheet.replace("TUE-AM", "'; DROP")):
+            self.assertIn("does not belong", self.refused("check-shortage", self.write("sheet", text)))
+        self.assertIn("no session", self.refused("check-shortage", self.write("sheet", sheet.replace("TUE-AM", "XX"))))
+
+    def test_print_session(self):
+        self.change("UPDATE candidate SET name = ? WHERE number = 1493", ["W" * 78 + "\u0085"])
+        self.office("import", "openings", self.write(
+            "openings.csv", "session,hall,desks,until,reserved\nMON-AM,LIB,6,09:01,yes\n"))
+        pages = self.office("print-session", "MON-AM", "--lines", "20").split("\f")
+        self.assertEqual(max(page.count("\n") for page in pages), 20)
+        self.assertEqual(max(len(line) for page in pages for line in page.split("\n")), 76)
+        heads = [page.split("\n")[0] for page in pages]
+        self.assertIn("DOOR LIST session MON-AM hall GYM  page 2 of 2", heads)
+        self.assertEqual([head for head in heads if "LIB" in head], [])
+        self.assertEqual(heads[-1], "CLASHES session MON-AM")
+        text = self.office("print-session", "MON-PM", "--lines", "999")
+        [hall] = [page for page in text.split("\f") if page.startswith("DOOR LIST session MON-PM hall AULA\n")]
+        self.assertEqual(hall, self.office("door-list", "MON-PM", "AULA"))
+        self.assertIn("no session XX", self.refused("print-session", "XX"))
+        self.assertIn("10 lines", self.refused("print-session", "MON-AM", "--lines", "1"))
+
+    def test_a_refused_sheet_prints_nothing(self):
+        program = self.write("program", "#!/bin/sh\necho refused 24 >&2\nexit 1\n")
+        os.chmod(program, 0o700)
+        for command in ("print-session", "session-page"):
+            self.assertIn("refused 24; nothing is", self.refused(command, "MON-AM", EXAMOFFICE=program))
+
+    def test_signals_leave_nothing(self):
+        temporary = os.path.join(self.folder, "temporary")
+        os.mkdir(temporary)
+        slow = self.write("slow", f"#!/bin/sh\nsleep 30\n")
+        os.chmod(slow, 0o700)
+        for number in (signal.SIGHUP, signal.SIGINT, signal.SIGTERM):
+            environment = {**self.environment, "TMPDIR": temporary, "EXAMOFFICE": slow}
+            with subprocess.Popen([sample.DESK / "office", "print-session", "MON-AM"], env=environment,
+                                  stdout=subprocess.PIPE, stderr=subprocess.PIPE, start_new_session=True) as process:
+                until = time.monotonic() + 20
+                while not os.listdir(temporary) and time.monotonic() < until:
+                    time.sleep(0.02)
+                time.sleep(0.3)
+                os.kill(process.pid, number)
+                self.assertEqual(process.communicate(), (b"", b""))
+                self.assertEqual((process.returncode, os.listdir(temporary)), (128 + number, []))
+
+
+class NoOffice(sample.SampleSchool):
+    def test_each_command_says_so(self):
+        commands = [["slips"], ["board", "S"], ["doors", "S"], ["counts", "S"], ["session-page", "S"], ["look", "x"],
+                    ["print-session", "S"], ["changes", "x"], ["dump", "x"], ["summary"], ["appeals-open"]]
+        for words in commands:
+            for text in (None, "", "rubbish" * 1000):
+                path = os.path.join(self.folder, "none.db") if text is None else self.write("rubbish.db", text)
+                complaint = self.refused(*words, OFFICE=path)
+                self.assertRegex(complaint, "^office: [^\n]*\n$", words)
+            self.assertIn(f"office {words[0]}", self.office(words[0], "--help"))
+        self.assertFalse([name for name in os.listdir(self.folder) if name.startswith((".dump", "x"))])
+
+
+if __name__ == "__main__":
+    unittest.main()

@@ -1,0 +1,165 @@
+"""The papers for people over the sample school, and over one with hostile names."""
+import contextlib
+import html.parser
+import re
+import shutil
+import sqlite3
+import subprocess
+import unittest
+
+import sample
+
+HOSTILE = ["=1+1", "<script>alert(1)</script>", "\"quotes\" & 'more'", "C1 \u009b2J \u0085 end", "left \u202eright",
+           "line\u2028end", "</bdi></td></table>", "W" * 80, "\u00e9" * 40, "Ada Lin", " "]
+
+
+class Cells(html.parser.HTMLParser):
+    """The tables of a page as rows of texts; the parser also sees that every element is one of a table or known."""
+
+    known = set("html head meta title style body h1 h2 h3 p b i small span bdi br div section table thead tbody tr "
+                "th td header nav a ol ul li dl dt dd svg rect code".split())
+
+    def __init__(self, page):
+        super().__init__()
+        self.rows, self.strange = [], set()
+        self.feed(page)
+
+    def handle_starttag(self, tag, attrs):
+        self.strange |= {tag} - self.known
+        if tag == "tr":
+            self.rows.append([])
+        elif tag in ("td", "th"):
+            self.rows[-1].append("")
+        elif tag == "br" and self.rows and self.rows[-1]:
+            self.rows[-1][-1] += "|"
+
+    def handle_data(self, data):
+        if self.rows and self.rows[-1]:
+            self.rows[-1][-1] += data.strip("\n")
+
+
+class Papers(sample.SampleSchool):
+    maxDiff = None
+
+    def rows(self, *words):
+        return Cells(self.office(*words)).rows
+
+    def test_slips(self):
+        rows = self.rows("slips", "--only", "0001051", "--codes")
+        self.assertEqual(rows, [
+            ["access code VMGNZGEDP90001051Di Berg"], ["Day", "Time", "Paper", "Hall"],
+            ["Mon 7 June 2027", "09:00–11:00", "Computer science (CS-1)|not Latin (LAT), at the same time",
+             "Computer room (PC1)"],
+            ["Mon 7 June 2027", "13:30–15:00", "English language (EN-1)", "Aula, main building (AULA)"],
+            ["Tue 8 June 2027", "09:00–11:00", "Physics (PH-1)", "Aula, main building (AULA)"]])
+        text = self.office("slips")
+        self.assertEqual(text.count("<div class=slip>"), 60)
+        self.assertEqual(re.findall("access code|desk&nbsp;", text), [])
+        self.assertIn("with 50 % extra time, reader", text)
+        self.assertIn("<b>no desk yet: ask the office</b>", text)
+        self.assertIn("desk&nbsp;1<", self.office("slips", "--desks", "MON-AM"))
+        self.assertIn("sits nothing there", self.refused("slips", "--only", "1051"))
+        self.assertIn("no session S9", self.refused("slips", "S9"))
+
+    def test_board(self):
+        self.change("UPDATE candidate SET name = 'ada LIN' WHERE number = 1017")
+        rows = self.rows("board", "MON-AM")
+        self.assertEqual(rows[:3], [["Monday, 7 June 2027, 09:00 (MON-AM)"], ["Name", "Hall", "Desk"],
+                                    ["Di Berg", "PC1", "1"]])
+        self.assertEqual([row for row in rows if "lin" in row[0].lower().split()],
+                         [["Ada Lin 0001000", "AULA", "4"], ["ada LIN 0001017", "AULA", "5"],
+                          ["Olga Lin", "LIB", "4"], ["Uma Lin", "AULA", "9"]])
+        self.assertEqual(len(rows), 62)
+        self.assertEqual([row for row in rows if row[1:] == ["ask the office", ""]],
+                         [["Lena Braun", "ask the office", ""], ["Frida Sørensen", "ask the office", ""]])
+
+    def test_doors(self):
+        text = self.office("doors", "MON-AM")
+        self.assertEqual(text.count("<div class=sheet>"), 5)
+        rows = self.rows("doors", "MON-AM", "LIB")
+        self.assertEqual(rows[:3], [
+            ["Monday, 7 June 2027, 09:00 (MON-AM)|open until 14:00, last finish 12:08|6 desks, 6 seatedLibrary|LIB"],
+            ["Desk", "Number", "Name", "Paper", "Finish", "Arrangement", "Signature"],
+            ["1", "0001153", "Jana Roe", "LAT", "10:53", "25 % extra time, screen", ""]])
+        self.assertEqual((len(rows), rows[-1][0][:18]), (9, "Present: ________ "))
+        self.assertIn("nobody sits in PC9", self.refused("doors", "MON-AM", "PC9"))
+
+    def test_counts(self):
+        rows = self.rows("counts", "TUE-AM")
+        halls = [row for row in rows if len(row) == 4][1:]
+        papers = [row for row in rows if len(row) == 3][1:]
+        self.assertEqual(sum(int(row[2]) for row in halls), 48)
+        self.assertEqual({row[0]: sum(int(each[2]) for each in halls if each[1] == row[0]) for row in papers},
+                         {row[0]: int(row[1]) for row in papers})
+        self.assertEqual([row for row in halls if row[0] == "no desk"], [["no desk", "Biology (BI-1)", "2", "11:12"]])
+        self.assertIn(["Library (LIB)", "Chemistry (CH-1)", "1", "12:00"], halls)
+
+    def test_session_page(self):
+        text = self.office("session-page", "TUE-AM")
+        self.assertEqual(Cells(text).strange, set())
+        for part in ("48 candidates: 46 seated, 2 without a desk.", "4 candidates = 2 desks + 2 unseated",
+                     "Each of these 4 candidates can sit only in LIB, which has 2 desks.",
+                     "<li>AULA, GYM, PC1, R12, R14: <bdi>no reader</bdi></li>",
+                     "<li>LIB: <bdi>suits, but 2 of 2 desks are taken: "):
+            self.assertIn(part, text)
+        self.assertIn("no session XX", self.refused("session-page", "XX"))
+
+    def change(self, *statements):
+        """Changes rows that no seat depends on."""
+        with contextlib.closing(sqlite3.connect(self.path)) as file:
+            for statement in statements:
+                file.execute(*statement) if isinstance(statement, tuple) else file.execute(statement)
+            file.commit()
+
+    def make_hostile(self):
+        with contextlib.closing(sqlite3.connect(self.path)) as file:
+            numbers = [number for number, in file.execute("SELECT number FROM candidate ORDER BY number")]
+        self.change(*(("UPDATE candidate SET name = ? WHERE number = ?", [name, number])
+                      for name, number in zip(HOSTILE, numbers)),
+                    ("UPDATE hall SET title = ?", ["<img src=x onerror=alert(1)>\u202e"]),
+                    ("UPDATE paper SET title = ?", ["'><b onclick=x>\u0085"]))
+
+    def test_hostile_names(self):
+        self.make_hostile()
+        for words in (["slips", "--codes", "--desks"], ["board", "MON-AM"], ["doors", "MON-AM"], ["counts", "MON-AM"],
+                      ["session-page", "MON-AM"]):
+            text = self.office(*words)
+            page = Cells(text)
+            self.assertEqual((page.strange, re.findall("[\u0080-\u009f\u202a-\u202e\u2028]", text)), (set(), []), words)
+            if words[0] != "counts":
+                shown = "".join("".join(row) for row in page.rows)
+                for name in ("=1+1", "<script>alert(1)</script>", "C1 ?2J ? end", "left ?right", "line?end", "W" * 80):
+                    self.assertIn(name, shown, words)
+
+    def test_rows_that_no_office_has(self):
+        whole = self.write("whole.db", b"")
+        shutil.copy2(self.path, whole)
+        for change in ("UPDATE hall SET code = '<img>' WHERE code = 'GYM'", "UPDATE session SET day = '1 May\x9b2J'",
+                       "UPDATE session SET day = '2027-02-30'", "DELETE FROM hall WHERE code = 'GYM'",
+                       "UPDATE candidate SET code = 'A' || char(0) || '<img>'", "UPDATE seat SET hall = '<script>'",
+                       "UPDATE paper SET code = code || '\x9b'", "UPDATE session SET start = -1000000000000000000"):
+            shutil.copy2(whole, self.path)
+            self.change(change)
+            for words in (["slips", "--codes"], ["board", "MON-AM"], ["doors", "MON-AM"], ["counts", "MON-AM"],
+                          ["session-page", "MON-AM"], ["changes", whole], ["look", "Berg"], ["summary"]):
+                done = self.run_office(*words)
+                self.assertNotRegex(done.stdout + done.stderr, "<img>|<script>|[\x80-\x9f]|Traceback")
+                if done.returncode:
+                    self.assertRegex(done.stderr, "^office: [^\n]*\n$", words)
+
+    def test_nothing_is_cut_on_a4(self):
+        browser = shutil.which("chromium")
+        if not (browser and shutil.which("pdftotext")):
+            self.skipTest("there is no chromium or no pdftotext")
+        self.make_hostile()
+        for words in (["doors", "MON-AM"], ["slips"]):
+            page = self.write(f"{words[0]}.html", self.office(*words))
+            subprocess.run([browser, "--headless", "--no-sandbox", "--disable-gpu", "--no-pdf-header-footer",
+                            f"--user-data-dir={self.folder}/browser", f"--print-to-pdf={page}.pdf", f"file://{page}"],
+                           check=True, capture_output=True)
+            text = subprocess.run(["pdftotext", "-raw", f"{page}.pdf", "-"], check=True, capture_output=True).stdout
+            self.assertEqual(text.count(b"W") - text.count(b"Wanda") - text.count(b"Weiss") - text.count(b"Willem"), 80)
+
+
+if __name__ == "__main__":
+    unittest.main()
