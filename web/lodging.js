@@ -1,0 +1,150 @@
+// The form for an appeal.
+import { byId, element, fillChoices } from "./elements.js";
+import { TEXTS } from "./texts.js";
+import { dayText, fill } from "./wording.js";
+
+// The last day to lodge is so many days before the session.
+const KINDS = {
+  hall: { days: 2, prefix: "HA", none: "noHallHere" },
+  clash: { days: 5, prefix: "CL", none: "noClashHere" },
+  arrangement: { days: 10, prefix: "AR", none: "noSessionHere" },
+};
+const FEATURES = ["step-free", "screen", "reader", "small-room", "computer", "quiet"];
+const REASON_BYTES = 200;
+const NEAR = 60; // from so many bytes before the end of the reason on, the page says how many are left
+const DAY = 24 * 60 * 60 * 1000;
+
+export class LodgingForm {
+  #own;
+  #sent = new Map(); // the reference of each appeal that was sent and perhaps not answered, by its contents
+
+  /** @param {import("./views.js").Own} own */
+  constructor(own) {
+    this.#own = own;
+    byId("needs").replaceChildren(...FEATURES.map(featureChoice));
+    byId("lodge").addEventListener("change", ({ target }) => this.#changed(target));
+    byId("reason").addEventListener("input", () => this.#showRoom());
+  }
+
+  /** Forgets all that was entered and sent. */
+  clear(own) {
+    this.#sent.clear();
+    byId("lodge").reset();
+    this.show(own);
+    this.#takeArrangement();
+  }
+
+  /** Offers the sessions of the kind that is chosen. */
+  show(own) {
+    this.#own = own;
+    const kind = chosenKind();
+    for (const each of Object.keys(KINDS)) byId(`for-${each}`).hidden = each !== kind;
+    const sessions = this.#sessions(kind);
+    fillChoices(byId("session"), sessions.map((code) => ({ value: code, text: own.sessionText(code) })));
+    byId("no-session").hidden = sessions.length > 0;
+    byId("no-session").textContent = TEXTS[KINDS[kind].none];
+    byId("asked").hidden = sessions.length === 0;
+    this.#showSession();
+    this.#showRoom();
+  }
+
+  /** The appeal without its reference, or null after the candidate was told what is wrong with it. */
+  body(warn) {
+    const kind = chosenKind();
+    const session = byId("session").value;
+    const reason = cleaned(byId("reason").value);
+    const over = sizeOf(reason) - REASON_BYTES;
+    if (over > 0) return warn(fill(TEXTS.tooLong, { count: over }), byId("reason"));
+    const extra = byId("extra").value.trim();
+    if (kind === "arrangement" && !(/^[0-9]{1,3}$/.test(extra) && extra <= 100)) return warn(TEXTS.badExtra, byId("extra"));
+    const asked = {
+      hall: () => ({ hall: this.#own.seat(session).hall }),
+      clash: () => ({ paper: byId("paper").value }),
+      arrangement: () => ({ needs: chosenNeeds(), extra: Number(extra) }),
+    };
+    return { kind, session, reason, ...asked[kind]() };
+  }
+
+  /** The reference for an appeal: for the same contents the same one, until `answered`. */
+  reference(body) {
+    const contents = JSON.stringify(body);
+    if (!this.#sent.has(contents)) this.#sent.set(contents, this.#freeReference(body.kind));
+    return this.#sent.get(contents);
+  }
+
+  answered(body) {
+    this.#sent.delete(JSON.stringify(body));
+  }
+
+  /** Empties the reason, after the appeal was lodged. */
+  done() {
+    byId("reason").value = "";
+  }
+
+  #freeReference(kind) {
+    const taken = new Set([...this.#own.appeals.map(({ ref }) => ref), ...this.#sent.values()]);
+    let number = 1;
+    while (taken.has(`${KINDS[kind].prefix}${number}`)) number += 1;
+    return `${KINDS[kind].prefix}${number}`;
+  }
+
+  #sessions(kind) {
+    const has = {
+      hall: ({ hall }) => hall !== null,
+      clash: ({ session }) => this.#own.clashes.some((clash) => clash.session === session),
+      arrangement: () => true,
+    };
+    return this.#own.seats.filter(has[kind]).map(({ session }) => session);
+  }
+
+  #changed(target) {
+    if (target.name === "kind") this.show(this.#own);
+    if (target.id === "session") this.#showSession();
+    if (target.name === "kind" || target.id === "session") this.#takeArrangement();
+  }
+
+  #showSession() {
+    const seat = this.#own.seat(byId("session").value);
+    if (!seat) return;
+    const { titles, clashes } = this.#own;
+    byId("for-hall").textContent = seat.hall && fill(TEXTS.notThisHall, { hall: titles.hall(seat.hall) });
+    const papers = clashes.filter(({ session }) => session === seat.session);
+    fillChoices(byId("paper"), papers.map(({ paper }) => ({ value: paper, text: titles.paper(paper) })));
+    const last = new Date(Date.parse(`${seat.date}T00:00:00Z`) - KINDS[chosenKind()].days * DAY);
+    byId("until").textContent = fill(TEXTS.until, { day: dayText(last.toISOString().slice(0, 10)) });
+  }
+
+  /** An arrangement appeal begins with what the candidate has in the session. */
+  #takeArrangement() {
+    const { needs, extra } = this.#own.seat(byId("session").value) ?? { needs: "-", extra: 0 };
+    for (const box of byId("needs").querySelectorAll("input")) box.checked = needs.split("+").includes(box.value);
+    byId("extra").value = extra;
+  }
+
+  #showRoom() {
+    const count = REASON_BYTES - sizeOf(byId("reason").value);
+    const text = count < 0 ? fill(TEXTS.tooLong, { count: -count }) : fill(TEXTS.left, { count });
+    byId("left").textContent = count < NEAR ? text : "";
+    byId("left").className = count < 0 ? "lacking" : "";
+  }
+}
+
+function featureChoice(feature) {
+  const box = element("input", { type: "checkbox", value: feature });
+  return element("label", { className: "choice" }, box, ` ${TEXTS[feature]}`);
+}
+
+const chosenKind = () => document.querySelector("input[name=kind]:checked").value;
+
+function chosenNeeds() {
+  const boxes = [...byId("needs").querySelectorAll("input:checked")];
+  return boxes.map(({ value }) => value).join("+") || "-";
+}
+
+const sizeOf = (text) => new TextEncoder().encode(text).length;
+
+/** The reason in one line of well-formed Unicode, since the office takes no control characters. */
+function cleaned(text) {
+  const whole = new TextDecoder().decode(new TextEncoder().encode(text));
+  return whole.replace(/[\s\u0000-\u001f\u007f-\u009f]+/g, " ").trim();
+}
