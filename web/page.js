@@ -61,18 +61,22 @@ function tell(fault) {
 
 const waits = () => say(TEXTS.waiting);
 
+async function list(asked, name) {
+  const answer = await asked.ask("GET", name, undefined, waits);
+  if (!Array.isArray(answer[name])) throw new Fault(TEXTS.pageFault);
+  return answer[name];
+}
+
 /** Asks one after the other: the office answers one connection at a time. */
 async function look(asked) {
-  const { seats } = await asked.ask("GET", "seats", undefined, waits);
-  const { clashes } = await asked.ask("GET", "clashes", undefined, waits);
-  const { appeals } = await asked.ask("GET", "appeals", undefined, waits);
-  return new Own(titles, seats, clashes, appeals);
+  const seats = await list(asked, "seats");
+  const clashes = await list(asked, "clashes");
+  return new Own(titles, seats, clashes, await list(asked, "appeals"));
 }
 
 /** Lodging and taking back changes nothing but the appeals. */
 async function lookAtAppeals() {
-  const { appeals } = await candidate.ask("GET", "appeals", undefined, waits);
-  own = new Own(titles, own.seats, own.clashes, appeals);
+  own = new Own(titles, own.seats, own.clashes, await list(candidate, "appeals"));
 }
 
 function show() {

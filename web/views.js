@@ -45,7 +45,7 @@ export function seatTable({ seats, titles }) {
     seat.hall === null ? element("span", { className: "lacking" }, TEXTS.noHall) : data(titles.hall(seat.hall)),
     seat.desk ?? TEXTS.nothing,
     arrangementText(seat.needs, seat.extra),
-    seat.session,
+    element("span", { className: "code" }, seat.session),
   ]));
 }
 

@@ -63,6 +63,6 @@ export class Titles {
 
   #titled(kind, code) {
     const title = this.#of[kind].get(code);
-    return typeof title === "string" ? fill(TEXTS.titled, { title, code }) : code;
+    return typeof title === "string" ? fill(TEXTS.titled, { title: plain(title), code }) : code;
   }
 }
