@@ -76,9 +76,10 @@ export class LodgingForm {
     this.#sent.delete(JSON.stringify(body));
   }
 
-  /** Empties the reason, after the appeal was lodged. */
+  /** Makes room for another appeal, after one was lodged. */
   done() {
     byId("reason").value = "";
+    this.#takeArrangement();
   }
 
   #freeReference(kind) {
@@ -104,14 +105,13 @@ export class LodgingForm {
   }
 
   #showSession() {
-    const seat = this.#own.seat(byId("session").value);
-    if (!seat) return;
+    const session = byId("session").value;
     const { titles, clashes } = this.#own;
-    byId("for-hall").textContent = seat.hall && fill(TEXTS.notThisHall, { hall: titles.hall(seat.hall) });
-    const papers = clashes.filter(({ session }) => session === seat.session);
+    const { hall, date } = this.#own.seat(session) ?? {};
+    byId("for-hall").textContent = hall ? fill(TEXTS.notThisHall, { hall: titles.hall(hall) }) : "";
+    const papers = clashes.filter((clash) => clash.session === session);
     fillChoices(byId("paper"), papers.map(({ paper }) => ({ value: paper, text: titles.paper(paper) })));
-    const last = new Date(Date.parse(`${seat.date}T00:00:00Z`) - KINDS[chosenKind()].days * DAY);
-    byId("until").textContent = fill(TEXTS.until, { day: dayText(last.toISOString().slice(0, 10)) });
+    byId("until").textContent = date ? fill(TEXTS.until, { day: dayText(daysBefore(date, KINDS[chosenKind()].days)) }) : "";
   }
 
   /** An arrangement appeal begins with what the candidate has in the session. */
@@ -132,6 +132,10 @@ export class LodgingForm {
 function featureChoice(feature) {
   const box = element("input", { type: "checkbox", value: feature });
   return element("label", { className: "choice" }, box, ` ${TEXTS[feature]}`);
+}
+
+function daysBefore(date, days) {
+  return new Date(Date.parse(`${date}T00:00:00Z`) - days * DAY).toISOString().slice(0, 10);
 }
 
 const chosenKind = () => document.querySelector("input[name=kind]:checked").value;

@@ -126,6 +126,7 @@ function logOut() {
   lodging.clear(own);
   clearNotices();
   byId("retract").close();
+  byId("retract-ask").textContent = "";
   byId("who-number").textContent = "";
   byId("main").hidden = true;
   byId("login").hidden = false;

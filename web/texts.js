@@ -9,7 +9,7 @@ export const TEXTS = {
 
   loginHint: "Your number and your access code are on the slip that the exam office gave you.",
   number: "Candidate number",
-  numberHint: "Up to seven digits, such as 0001051",
+  numberHint: "Up to seven digits, such as 0012345",
   code: "Access code",
   showCode: "Show the code",
   login: "Show my seats",
