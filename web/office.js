@@ -2,7 +2,7 @@
 import { BUSY, ERRORS, TEXTS } from "./texts.js";
 
 const WAITS = [1, 2, 4, 8]; // seconds before each repeat; chance makes them longer, so that a class does not ask in step
-const PATIENCE = 40; // seconds that one try waits for an answer
+const PATIENCE = 60; // seconds that one try waits for an answer; the web server waits for 40
 
 /** What the candidate reads in the place of an answer. */
 export class Fault extends Error {

@@ -13,6 +13,8 @@ let own = new Own(titles);
 let busy = false;
 let retracting = null; // the appeal that the dialog asks about
 
+const TITLES_WAIT = 5000; // milliseconds
+const titlesLoaded = loadTitles();
 const lodging = new LodgingForm(own);
 
 function say(text) {
@@ -37,17 +39,22 @@ function clearNotices() {
 async function step(work) {
   if (busy) return;
   const asking = candidate;
-  busy = true;
-  document.body.setAttribute("aria-busy", "true");
+  setBusy(true);
   clearNotices();
   try {
     await work();
   } catch (fault) {
     if (!asking?.left) tell(fault);
   } finally {
-    busy = false;
-    document.body.removeAttribute("aria-busy");
+    setBusy(false);
   }
+}
+
+/** Marks the answers as about to change, but not the notices: a screen reader would keep them back. */
+function setBusy(on) {
+  busy = on;
+  document.body.classList.toggle("busy", on);
+  byId("main").setAttribute("aria-busy", String(on));
 }
 
 function tell(fault) {
@@ -96,6 +103,7 @@ async function logIn() {
   const entering = new Candidate(number.padStart(7, "0"), code);
   try {
     own = await look(entering);
+    await titlesLoaded;
   } catch (fault) {
     if (fault.number === 6) fault.field = byId("number");
     throw fault;
@@ -195,7 +203,7 @@ function showCode() {
 /** The page works without titles: then it shows codes. */
 async function loadTitles() {
   try {
-    const answer = await fetch("titles.json", { credentials: "omit" });
+    const answer = await fetch("titles.json", { credentials: "omit", signal: AbortSignal.timeout(TITLES_WAIT) });
     titles.take(await answer.json());
   } catch (fault) {
     console.info("no titles:", fault.message);
@@ -209,7 +217,7 @@ function onSubmit(id, work) {
   });
 }
 
-async function start() {
+function start() {
   document.documentElement.lang = LANGUAGE;
   document.documentElement.dir = DIRECTION;
   document.title = TEXTS.title;
@@ -223,7 +231,7 @@ async function start() {
   byId("logout").addEventListener("click", logOut);
   byId("retract").addEventListener("close", () => byId("retract").returnValue === "yes" && step(retract));
   addEventListener("pageshow", ({ persisted }) => persisted && logOut()); // what the browser kept of the page
-  await loadTitles();
+  byId("starting").remove();
   byId("login").hidden = false;
 }
 
