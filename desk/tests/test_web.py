@@ -1,9 +1,11 @@
 """The candidates' page as text, and the titles that it shows."""
+import contextlib
 import json
 import os
 import pathlib
 import re
 import shutil
+import socket
 import stat
 import subprocess
 import tempfile
@@ -107,7 +109,9 @@ class Page(unittest.TestCase):
 
 
 @unittest.skipUnless(shutil.which(PROGRAM), f"there is no program {PROGRAM}")
-class Titles(unittest.TestCase):
+class SampleSchool(unittest.TestCase):
+    """Tests over an office of the sample school, in a folder of its own."""
+
     def setUp(self):
         self.folder = tempfile.TemporaryDirectory()
         self.addCleanup(self.folder.cleanup)
@@ -117,9 +121,28 @@ class Titles(unittest.TestCase):
         for kind in KINDS:
             self.program("import", kind, str(TOP / f"examples/{kind}.csv"))
 
-    def program(self, *words):
-        subprocess.run([PROGRAM, "--db", self.office, "--today", "2027-05-01", *words], check=True, capture_output=True)
+    def line(self, *words):
+        return [PROGRAM, "--db", self.office, "--today", "2027-05-01", *words]
 
+    def program(self, *words):
+        subprocess.run(self.line(*words), check=True, capture_output=True)
+
+    def serve(self):
+        """Serves on a free port, which it gives, to the end of the test."""
+        for _ in range(5):  # another process can take the port first
+            with contextlib.closing(socket.socket()) as free:
+                free.bind(("127.0.0.1", 0))
+                port = free.getsockname()[1]
+            server = subprocess.Popen(self.line("serve", str(port)), stdout=subprocess.PIPE, stderr=subprocess.DEVNULL)
+            self.addCleanup(server.stdout.close)
+            self.addCleanup(server.wait)
+            self.addCleanup(server.terminate)
+            if server.stdout.readline():
+                return port
+        self.fail("the program does not serve")
+
+
+class Titles(SampleSchool):
     def titles(self, *words):
         return subprocess.run([TITLES, *words], env=self.environment, capture_output=True, text=True, check=False)
 
@@ -162,6 +185,23 @@ class Titles(unittest.TestCase):
         done = self.titles()
         self.assertEqual((done.returncode, done.stdout), (1, ""))
         self.assertRegex(done.stderr, r"^office: .*none\.db")
+
+
+@unittest.skipUnless(shutil.which("curl") and shutil.which("bash"), "there is no curl")
+class Document(SampleSchool):
+    def test_the_lines_of_the_document(self):
+        """Each `$` line of docs/HTTP.md gives what stands below it; `..` stands for more."""
+        blocks = re.findall(r"(?:^    .*\n)+", (TOP / "docs/HTTP.md").read_text("utf-8"), re.M)
+        text = "".join(line.removeprefix("    ") for block in blocks for line in block.splitlines(True))
+        commands = re.findall(r"^\$ (.*\n(?:> .*\n)*)((?:(?!\$ ).*\n)*)", text, re.M)
+        script = "".join(f"{command}\necho; echo ::\n" for command, _ in commands).replace("\n>  ", "\n")
+        script = script.replace("curl ", "curl -s ").replace(":8080", f":{self.serve()}")
+        done = subprocess.run(["bash", "-c", script], capture_output=True, text=True, check=True)
+        answers = done.stdout.split("::\n")
+        self.assertGreater(len(commands), 8)
+        for (command, wanted), answer in zip(commands, answers):
+            pattern = re.escape(re.sub(r"\n\s*", "", wanted)).replace(r"\.\.", ".*")
+            self.assertRegex(answer.strip(), f"^{pattern}$", command)
 
 
 if __name__ == "__main__":
