@@ -17,6 +17,14 @@ CHANGES = {"unlimited": ("rate=1r/s;", "rate=1000r/s;")}  # one candidate may as
 TRIES = 5  # another process can take a free port before it is used
 
 
+def clean_up_when_interrupted():
+    """HUP, INT and TERM end the script as a fault would: nothing goes on running, nothing is left."""
+    def leave(number, _):
+        raise SystemExit(128 + number)
+    for number in (signal.SIGHUP, signal.SIGINT, signal.SIGTERM):
+        signal.signal(number, leave)
+
+
 def missing(*commands):
     """What is not there: the program, or one of the commands."""
     return [name for name in commands if not shutil.which(name)] + ([] if find_program() else ["the program"])
@@ -136,7 +144,8 @@ class School(contextlib.ExitStack):
                          ("/usr/share/examoffice/web", str(TOP / "web")),
                          ("root /var/www/examoffice", f"root {self.public}"),
                          ("\nhttp {\n", f"\nhttp {{\n   {temporary}\n"), *self.changes]:
-            assert old in text, f"web/nginx.conf has no {old}"
+            if old not in text:
+                raise AssertionError(f"web/nginx.conf has no {old}")
             text = text.replace(old, new)
         return text
 
