@@ -31,8 +31,8 @@ class Browser:
     def __init__(self, folder):
         there, self._out = os.pipe()
         self._in, back = os.pipe()
-        line = [find_browser(), "--headless=new", "--disable-gpu", "--no-first-run", "--hide-scrollbars", "--disable-dev-shm-usage",
-                f"--user-data-dir={folder}/profile", "--remote-debugging-pipe", "about:blank"]
+        line = [find_browser(), "--headless=new", "--disable-gpu", "--no-first-run", "--hide-scrollbars",
+                "--disable-dev-shm-usage", f"--user-data-dir={folder}/profile", "--remote-debugging-pipe", "about:blank"]
         if os.getuid() == 0:
             line.insert(1, "--no-sandbox")
         environment = {**os.environ, "HOME": str(folder), "XDG_CONFIG_HOME": str(folder), "XDG_CACHE_HOME": str(folder)}
