@@ -16,7 +16,6 @@ const DAY = 24 * 60 * 60 * 1000;
 
 export class LodgingForm {
   #own;
-  #sent = new Map(); // the reference of each appeal that was sent and perhaps not answered, by its contents
 
   /** @param {import("./views.js").Own} own */
   constructor(own) {
@@ -26,9 +25,8 @@ export class LodgingForm {
     byId("reason").addEventListener("input", () => this.#showRoom());
   }
 
-  /** Forgets all that was entered and sent. */
+  /** Forgets all that was entered. */
   clear(own) {
-    this.#sent.clear();
     byId("lodge").reset();
     this.show(own);
     this.#takeArrangement();
@@ -65,28 +63,18 @@ export class LodgingForm {
     return { kind, session, reason, ...asked[kind]() };
   }
 
-  /** The reference for an appeal: for the same contents the same one, until `answered`. */
-  reference(body) {
-    const contents = JSON.stringify(body);
-    if (!this.#sent.has(contents)) this.#sent.set(contents, this.#freeReference(body.kind));
-    return this.#sent.get(contents);
-  }
-
-  answered(body) {
-    this.#sent.delete(JSON.stringify(body));
+  /** The next free reference. Until the appeals are looked at again it stays, so that an appeal keeps it in repeats. */
+  reference({ kind }) {
+    const taken = new Set(this.#own.appeals.map(({ ref }) => ref));
+    let number = 1;
+    while (taken.has(`${KINDS[kind].prefix}${number}`)) number += 1;
+    return `${KINDS[kind].prefix}${number}`;
   }
 
   /** Makes room for another appeal, after one was lodged. */
   done() {
     byId("reason").value = "";
     this.#takeArrangement();
-  }
-
-  #freeReference(kind) {
-    const taken = new Set([...this.#own.appeals.map(({ ref }) => ref), ...this.#sent.values()]);
-    let number = 1;
-    while (taken.has(`${KINDS[kind].prefix}${number}`)) number += 1;
-    return `${KINDS[kind].prefix}${number}`;
   }
 
   #sessions(kind) {

@@ -157,11 +157,9 @@ async function lodge() {
 async function lodged(body, tries) {
   try {
     const { state } = await candidate.ask("POST", "appeals", { ...body, ref: lodging.reference(body) }, waits);
-    lodging.answered(body);
     return state;
   } catch (fault) {
     if (fault.open) fault.message += ` ${TEXTS.mayHaveArrived}`;
-    else lodging.answered(body);
     if (fault.number !== 14 || tries === 1) throw fault;
   }
   await lookAtAppeals();
