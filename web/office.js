@@ -62,7 +62,6 @@ export class Candidate {
       await pause(wait * (1 + Math.random()), this.#leaving.signal);
       if (!this.left) answer = await answerTo(path, options, this.#leaving.signal);
     }
-    if (this.left) throw new Fault("");
     return read(answer);
   }
 }
