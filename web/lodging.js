@@ -54,7 +54,7 @@ export class LodgingForm {
     const over = sizeOf(reason) - REASON_BYTES;
     if (over > 0) return warn(fill(TEXTS.tooLong, { count: over }), byId("reason"));
     const extra = byId("extra").value.trim();
-    if (kind === "arrangement" && !(/^[0-9]{1,3}$/.test(extra) && extra <= 100)) return warn(TEXTS.badExtra, byId("extra"));
+    if (kind === "arrangement" && !isPercent(extra)) return warn(TEXTS.badExtra, byId("extra"));
     const asked = {
       hall: () => ({ hall: this.#own.seat(session).hall }),
       clash: () => ({ paper: byId("paper").value }),
@@ -99,7 +99,8 @@ export class LodgingForm {
     byId("for-hall").textContent = hall ? fill(TEXTS.notThisHall, { hall: titles.hall(hall) }) : "";
     const papers = clashes.filter((clash) => clash.session === session);
     fillChoices(byId("paper"), papers.map(({ paper }) => ({ value: paper, text: titles.paper(paper) })));
-    byId("until").textContent = date ? fill(TEXTS.until, { day: dayText(daysBefore(date, KINDS[chosenKind()].days)) }) : "";
+    const last = date && daysBefore(date, KINDS[chosenKind()].days);
+    byId("until").textContent = last ? fill(TEXTS.until, { day: dayText(last) }) : "";
   }
 
   /** An arrangement appeal begins with what the candidate has in the session. */
@@ -132,6 +133,8 @@ function chosenNeeds() {
   const boxes = [...byId("needs").querySelectorAll("input:checked")];
   return boxes.map(({ value }) => value).join("+") || "-";
 }
+
+const isPercent = (text) => /^[0-9]{1,3}$/.test(text) && text <= 100;
 
 const sizeOf = (text) => new TextEncoder().encode(text).length;
 

@@ -1,7 +1,8 @@
 // Asks the office, by docs/HTTP.md. Each request may be repeated: nothing is done twice.
 import { BUSY, ERRORS, TEXTS } from "./texts.js";
 
-const WAITS = [1, 2, 4, 8]; // seconds before each repeat; chance makes them longer, so that a class does not ask in step
+// Seconds before each repeat. Chance makes them longer, so that a class does not ask in step.
+const WAITS = [1, 2, 4, 8];
 const PATIENCE = 60; // seconds that one try waits for an answer; the web server waits for 40
 
 /** What the candidate reads in the place of an answer. */
@@ -52,7 +53,8 @@ export class Candidate {
    * @returns {Promise<object>}
    */
   async ask(method, route, body, waits = () => {}) {
-    const options = { method, headers: { "exam-code": this.#code }, cache: "no-store", credentials: "omit", redirect: "error" };
+    const headers = { "exam-code": this.#code };
+    const options = { method, headers, cache: "no-store", credentials: "omit", redirect: "error" };
     if (body) options.body = JSON.stringify(body);
     const path = `/candidates/${this.number}/${route}`;
     let answer = await answerTo(path, options, this.#leaving.signal);

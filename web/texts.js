@@ -1,5 +1,5 @@
-// All that the page says. To translate it, change the texts between quotes, LANGUAGE and DIRECTION. A word in braces stands
-// for a value. index.html has a head and a line of its own, for browsers that cannot run the page.
+// All that the page says. To translate it, change the texts between quotes, LANGUAGE and DIRECTION. A word in braces
+// stands for a value. index.html has a head and a line of its own, for browsers that cannot run the page.
 
 export const LANGUAGE = "en-GB"; // dates are written in this language
 export const DIRECTION = "ltr"; // or "rtl"
