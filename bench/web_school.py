@@ -7,6 +7,7 @@ import shutil
 import signal
 import socket
 import subprocess
+import sys
 import tempfile
 import time
 
@@ -25,16 +26,17 @@ def clean_up_when_interrupted():
         signal.signal(number, leave)
 
 
-def missing(*commands):
-    """What is not there: the program, or one of the commands."""
-    return [name for name in commands if not shutil.which(name)] + ([] if find_program() else ["the program"])
-
-
 def find_program():
     """EXAMOFFICE, else one beside the scripts, else the one that is built in the repository."""
     named = os.environ.get("EXAMOFFICE")
     places = [named] if named else [TOP / "bench/examoffice", TOP / "crates/examoffice/out/examoffice"]
     return next(filter(None, map(shutil.which, map(str, places))), None)
+
+
+def need_program():
+    """Ends the script where there is no program."""
+    if not find_program():
+        sys.exit("there is no program: EXAMOFFICE names one, and ./try-it --prove builds one")
 
 
 def free_port():
