@@ -258,7 +258,7 @@ class CheckOffice(SmallOffice):
     def test_help(self):
         status, out, _ = self.check("--help")
         self.assertEqual(status, 0)
-        self.assertIn("right: 3 sessions, 168 seats, 6 without a desk", out)
+        self.assertIn("right: 3 sessions, 162 seats, 6 without a desk", out)
 
 
     def test_stopped(self):
@@ -295,7 +295,7 @@ class WithTheProgram(SmallOffice):
             subprocess.run([PROGRAM, "--db", self.folder / "school.db", "--today", "2027-05-01", *words], check=True,
                            stdout=subprocess.DEVNULL)
         found = self.check(self.folder / "school.db", EXAMOFFICE=PROGRAM)
-        self.assertEqual(found, (0, "right: 3 sessions, 168 seats, 6 without a desk\n", ""))
+        self.assertEqual(found, (0, "right: 3 sessions, 162 seats, 6 without a desk\n", ""))
 
 
 if __name__ == "__main__":
