@@ -59,6 +59,8 @@ WRONG_ROWS = {
                          "session S2, candidate 0000002: 2 hall appeals are open"),
     "a standing hall appeal": ("INSERT INTO standing VALUES (1, 'HA1')", "the standing appeal HA1 is no arrangement"),
     "a standing appeal that is not there": ("INSERT INTO standing VALUES (5, 'AR1')", "the standing appeal AR1"),
+    "a standing appeal that was refused": ("UPDATE appeal SET state = 3 WHERE number = 2 AND ref = 'AR1'",
+                                           "candidate 0000002: the standing appeal AR1 is no arrangement"),
     "an unknown state": ("UPDATE appeal SET state = 6 WHERE ref = 'CL1'", "there is no such kind or state"),
     "an entry of a paper that is not there": ("INSERT INTO entry VALUES (6, 'XX-1', 0)", "there is no such paper"),
     "an entry of nobody": ("INSERT INTO entry VALUES (8, 'MA-1', 0)", "there is no such candidate"),
@@ -187,6 +189,54 @@ class CheckOffice(SmallOffice):
         self.edit("S1.attendance.MA-1", "1 A           1", "1 R           1", "2 A           2", "2 A           1",
                   "7 R           1", "7 A           2")
         self.assertEqual(self.check(self.path, self.sheets)[0:2], (0, "right: 3 sessions, 8 seats, 1 without a desk\n"))
+
+    def is_right(self):
+        self.assertEqual(self.call(self.path, self.sheets), (0, self.right, ""))
+
+    right = "right: 3 sessions, 8 seats, 1 without a desk\n"
+
+    def grant(self, number, ref, session, extra):
+        """Grants an arrangement that stands, and puts it onto the register, where it comes last or first."""
+        small_office.change(self.path, f"INSERT INTO appeal VALUES ({number}, '{ref}', '{session}', 3, '', 0, {extra}, '', 2, "
+                                       f"'', '2027-05-20'); INSERT INTO standing VALUES ({number}, '{ref}')")
+        return f"{number:07} {ref:16} arrangement granted    2027-05-20 - {extra}\n"
+
+    def add_session(self, code, day, appeal):
+        small_office.change(self.path, f"INSERT INTO session VALUES ('{code}', '{day}', 540)")
+        for sheet in ("export", "clashes", "shortage"):
+            text = small_office.SHEETS[f"S3.{sheet}"].replace("S3", code).replace("2027-06-03", day)
+            (self.sheets / f"{code}.{sheet}").write_text(text)
+        (self.sheets / f"{code}.appeals").write_text(f"APPEALS session {code}\nappeals 1\n{appeal}")
+        self.right = "right: 4 sessions, 8 seats, 1 without a desk\n"
+
+    def test_clash_appeal_of_a_withdrawn_entry(self):
+        small_office.change(self.path, "INSERT INTO entry VALUES (7, 'PH-2', 0); "
+                                       "INSERT INTO appeal VALUES (7, 'CL1', 'S1', 2, 'PH-2', 0, 0, '', 2, '', '2027-05-26')")
+        self.edit("S1.appeals", "appeals 3", "appeals 4", "05-26 PH-2\n",
+                  "05-26 PH-2\n0000007 CL1              clash       granted    2027-05-26 PH-2\n")
+        self.is_right()
+
+    def test_standing_grant_for_a_later_session(self):
+        line = self.grant(5, "AR1", "S2", 50)
+        self.edit("S2.appeals", "appeals 2", "appeals 3", "2027-05-30 A\n", f"2027-05-30 A\n{line}")
+        self.edit("S2.attendance.LA-1", "10:00 =", "10:30 =")
+        self.is_right()
+
+    def test_standing_grant_on_the_same_day(self):
+        small_office.change(self.path, "UPDATE session SET day = '2027-06-01' WHERE code = 'S2'")
+        for sheet in self.sheets.glob("S2.*"):
+            sheet.write_text(sheet.read_text("utf-8").replace("2027-06-02", "2027-06-01"), "utf-8")
+        self.is_right()
+
+    def test_the_latest_standing_grant(self):
+        self.add_session("S0", "2027-06-02", self.grant(1, "AA1", "S0", 50))
+        self.edit("S2.attendance.MB-1", "10:15", "10:30")
+        self.is_right()
+
+    def test_the_standing_grant_of_the_last_session_by_code(self):
+        self.add_session("S1B", "2027-06-01", self.grant(1, "AA1", "S1B", 75))
+        self.edit("S2.attendance.MB-1", "10:15", "10:45")
+        self.is_right()
 
     def test_wrong_rows(self):
         for what, (statements, said) in WRONG_ROWS.items():
