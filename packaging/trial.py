@@ -87,6 +87,9 @@ def in_fresh_debian(tarball, package):
         in_root(root, "root", "dpkg", "-i", "/tmp/examoffice.deb")
         same(oct((root / OFFICE).stat().st_mode & 0o7777), "0o700", "the mode of the office's folder")
         sample_day(lambda *words: in_root(root, "examoffice", *words), "/usr/share/examoffice/examples")
+        in_root(root, "root", "office", "--help")  # as root python leaves what it made of the scripts
+        in_root(root, "root", "dpkg", "-i", "/tmp/examoffice.deb")
+        same(in_root(root, "examoffice", "office", "check"), "good\n", "check after a second installation")
         remove(root, users)
         same(sorted(listing(root) ^ before), [], "left after the removal")
         tried = root / "tmp/tried"
