@@ -10,6 +10,7 @@ import subprocess
 import tempfile
 import time
 import unittest
+import unittest.mock
 
 import small_office
 
@@ -299,6 +300,18 @@ class CheckOffice(SmallOffice):
         self.assertEqual((status, out), (2, ""), err)
         self.assertTrue(err)
         self.assertNotIn("Traceback", err)
+
+    def test_changed_meanwhile(self):
+        copy_file = MODULE.shutil.copyfile
+
+        def change_too(source, target):
+            copy_file(source, target)
+            small_office.change(self.path, "UPDATE candidate SET name = 'Bo' WHERE number = 1")
+
+        with unittest.mock.patch.object(MODULE.shutil, "copyfile", change_too):
+            status, _, err = self.call(self.path, self.sheets)
+        self.assertEqual(status, 2)
+        self.assertIn("somebody changed the office meanwhile", err)
 
     def test_no_program(self):
         status, out, err = self.check(self.path, EXAMOFFICE="/missing/examoffice")
