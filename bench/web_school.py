@@ -3,46 +3,17 @@ import contextlib
 import os
 import pathlib
 import re
-import shutil
 import signal
 import socket
 import subprocess
-import sys
 import tempfile
 import time
 
-TOP = pathlib.Path(__file__).resolve().parent.parent
+import built
+
 KINDS = ["sessions", "papers", "halls", "openings", "candidates", "arrangements", "entries"]
 TODAY = "2027-05-01"
 CHANGES = {"unlimited": ("rate=1r/s;", "rate=1000r/s;")}  # one candidate may ask faster than a human can
-TRIES = 5  # another process can take a free port before it is used
-
-
-def clean_up_when_interrupted():
-    """HUP, INT and TERM end the script as a fault would: nothing goes on running, nothing is left."""
-    def leave(number, _):
-        raise SystemExit(128 + number)
-    for number in (signal.SIGHUP, signal.SIGINT, signal.SIGTERM):
-        signal.signal(number, leave)
-
-
-def find_program():
-    """EXAMOFFICE, else one beside the scripts, else the one that is built in the repository."""
-    named = os.environ.get("EXAMOFFICE")
-    places = [named] if named else [TOP / "bench/examoffice", TOP / "crates/examoffice/out/examoffice"]
-    return next(filter(None, map(shutil.which, map(str, places))), None)
-
-
-def need_program():
-    """Ends the script where there is no program."""
-    if not find_program():
-        sys.exit("there is no program: EXAMOFFICE names one, and ./try-it --prove builds one")
-
-
-def free_port():
-    with contextlib.closing(socket.socket()) as listener:
-        listener.bind(("127.0.0.1", 0))
-        return listener.getsockname()[1]
 
 
 def wait_for(ready, what, seconds=60):
@@ -78,21 +49,21 @@ class School(contextlib.ExitStack):
             self.callback(self.stop_serving)
             self.office("init")
             for kind in KINDS:
-                self.office("import", kind, str(TOP / f"examples/{kind}.csv"))
+                self.office("import", kind, str(built.TOP / f"examples/{kind}.csv"))
             self.behind = self.serve()
             self.front = self.start_nginx()
             undo.pop_all()
         return self
 
     def office(self, *words):
-        line = [find_program(), "--db", self.folder / "office.db", "--today", TODAY, *words]
+        line = [built.program(), "--db", self.folder / "office.db", "--today", TODAY, *words]
         return subprocess.run(line, check=True, capture_output=True, text=True).stdout
 
     def serve(self, port=None, today=TODAY):
         """Serves on the port, or on a free one, which it gives."""
-        for _ in range(TRIES):
-            chosen = port or free_port()
-            line = [find_program(), "--db", self.folder / "office.db", "--today", today, "serve", str(chosen)]
+        for _ in range(built.PORTS):
+            chosen = port or built.free_port()
+            line = [built.program(), "--db", self.folder / "office.db", "--today", today, "serve", str(chosen)]
             with open(self.folder / "faults", "ab") as faults:
                 self.server = subprocess.Popen(line, stdout=subprocess.PIPE, stderr=faults, text=True)
             if self.server.stdout.readline() == f"serving 127.0.0.1 {chosen}\n":
@@ -115,8 +86,8 @@ class School(contextlib.ExitStack):
         return "".join(path.read_text("utf-8", "replace") for path in self.folder.glob("*.log"))
 
     def start_nginx(self):
-        for _ in range(TRIES):
-            front = free_port()
+        for _ in range(built.PORTS):
+            front = built.free_port()
             (self.folder / "nginx.conf").write_text(self.configuration(front))
             line = ["nginx", "-e", self.folder / "start.log", "-p", self.folder, "-c", self.folder / "nginx.conf"]
             done = subprocess.run(line, capture_output=True, text=True, check=False)
@@ -134,7 +105,7 @@ class School(contextlib.ExitStack):
 
     def configuration(self, front):
         """web/nginx.conf with the ports and the places of this trial, and nothing else changed."""
-        text = (TOP / "web/nginx.conf").read_text("utf-8")
+        text = (built.TOP / "web/nginx.conf").read_text("utf-8")
         temporary = "".join(f" {kind}_temp_path {self.folder}/{kind};"
                             for kind in ("client_body", "proxy", "fastcgi", "uwsgi", "scgi"))
         for old, new in [("user www-data;", "user root;" if os.getuid() == 0 else ""),
@@ -143,7 +114,7 @@ class School(contextlib.ExitStack):
                          ("/var/log/nginx/", f"{self.folder}/"),
                          ("listen 127.0.0.1:8000;", f"listen 127.0.0.1:{front};"),
                          ("http://127.0.0.1:8080", f"http://127.0.0.1:{self.behind}"),
-                         ("/usr/share/examoffice/web", str(TOP / "web")),
+                         ("/usr/share/examoffice/web", str(built.TOP / "web")),
                          ("root /var/www/examoffice", f"root {self.public}"),
                          ("\nhttp {\n", f"\nhttp {{\n   {temporary}\n"), *self.changes]:
             if old not in text:
@@ -154,6 +125,6 @@ class School(contextlib.ExitStack):
 
 def codes():
     """The access code of each candidate of the sample school, by number."""
-    lines = (TOP / "examples/candidates.csv").read_text("utf-8").splitlines()[1:]
+    lines = (built.TOP / "examples/candidates.csv").read_text("utf-8").splitlines()[1:]
     return dict(re.fullmatch(r"(\d{7}),.*,(\w+)", line).groups() for line in lines)
 
