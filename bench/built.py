@@ -1,0 +1,56 @@
+"""The built program, and servers on ports of their own, for the scripts that look at it."""
+import contextlib
+import os
+import pathlib
+import shutil
+import signal
+import socket
+import subprocess
+import sys
+
+TOP = pathlib.Path(__file__).resolve().parent.parent
+PORTS = 20  # how often a port is chosen again that another process takes first
+
+
+def program():
+    """The program that EXAMOFFICE names, else the one that ./try-it --prove builds; ends the script where there is none."""
+    named = os.environ.get("EXAMOFFICE") or str(TOP / "crates/examoffice/out/examoffice")
+    found = shutil.which(named)
+    if found is None:
+        sys.exit(f"there is no program {named}: ./try-it --prove builds one")
+    return os.path.abspath(found)
+
+
+def skip(why):
+    """Ends a script that has nothing to look with."""
+    print(f"skipped: {why}")
+    sys.exit(0)
+
+
+def end_cleanly():
+    """HUP, INT and TERM end the script as a fault would, so that what it made goes again."""
+    def leave(number, _):
+        sys.exit(128 + number)
+    for number in (signal.SIGHUP, signal.SIGINT, signal.SIGTERM):
+        signal.signal(number, leave)
+
+
+def free_port():
+    with contextlib.closing(socket.socket()) as listener:
+        listener.bind(("127.0.0.1", 0))
+        return listener.getsockname()[1]
+
+
+@contextlib.contextmanager
+def serving(line, **streams):
+    """A server of a line without `serve` and port; gives the process and the port."""
+    for _ in range(PORTS):
+        port = free_port()
+        with subprocess.Popen([*line, "serve", str(port)], stdout=subprocess.PIPE, text=True, **streams) as server:
+            try:
+                if server.stdout.readline() == f"serving 127.0.0.1 {port}\n":
+                    yield server, port
+                    return
+            finally:
+                server.kill()
+    sys.exit("the program does not serve")

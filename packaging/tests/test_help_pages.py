@@ -1,0 +1,108 @@
+"""The man pages and the completion say what the program's help says."""
+import pathlib
+import re
+import shutil
+import subprocess
+import sys
+import tempfile
+import unittest
+
+sys.path.insert(0, str(pathlib.Path(__file__).resolve().parent.parent))
+import help_pages  # noqa: E402
+
+PROGRAM = """Seats candidates for exams.
+
+Usage: examoffice --db <db> --today <today> <COMMAND>
+
+Commands:
+  import      Adds the rows of a CSV file
+  close-hall  Closes a hall
+  init        Creates an office
+
+Options:
+      --db <db>        The file
+      --today <today>  Today's date, such as 2027-05-01
+  -h, --help           Print help
+
+Exit status: 0 done, 1 refused.
+
+It prints `refused` and a number:
+   1 a bad row
+  22 not enough memory
+'quoted' and .dotted lines
+"""
+IMPORT = """Adds the rows of a CSV file
+
+Usage: examoffice --db <db> --today <today> import <kind> <file>
+
+Arguments:
+  <kind>
+          What the file holds: sessions, papers or halls, which come first
+  <file>  The CSV file, such as examples/entries.csv
+          or another
+
+Options:
+  -h, --help  Print help
+"""
+CLOSE = IMPORT.replace("import <kind> <file>", "close-hall <session>").replace("<kind>", "<session>")
+INIT = "Creates an office\n\nUsage: examoffice init\n\nOptions:\n  -h, --help  Print help\n"
+
+
+class HelpPages(unittest.TestCase):
+    def setUp(self):
+        self.program = help_pages.read_help(PROGRAM)
+        self.commands = {"import": help_pages.read_help(IMPORT), "init": help_pages.read_help(INIT)}
+
+    def test_reads_help(self):
+        self.assertEqual(self.program.usage, "examoffice --db <db> --today <today> <COMMAND>")
+        self.assertEqual([name for name, _ in self.program.sections["Commands"]], ["import", "close-hall", "init"])
+        self.assertEqual(self.program.sections["Options"][0], ("--db <db>", "The file"))
+        self.assertIn("  22 not enough memory", self.program.after)
+        self.assertEqual(self.commands["import"].sections["Arguments"], [
+            ("<kind>", "What the file holds: sessions, papers or halls, which come first"),
+            ("<file>", "The CSV file, such as examples/entries.csv or another")])
+        with self.assertRaises(ValueError):
+            help_pages.read_help("line not understood\n")
+
+    @unittest.skipUnless(shutil.which("groff"), "groff is not installed")
+    def test_man_page(self):
+        page = help_pages.program_page("1.0.0", "2026-11-27", self.program, self.commands)
+        with tempfile.NamedTemporaryFile("w", encoding="utf-8") as file:
+            file.write(page)
+            file.flush()
+            line = ["groff", "-man", "-Tascii", "-ww", "-P-c", file.name]
+            done = subprocess.run(line, capture_output=True, text=True, check=True)
+        self.assertEqual(done.stderr, "")
+        shown = re.sub(".\\x08", "", done.stdout)  # what is bold is printed twice
+        for said in ("import <kind> <file>", "'quoted' and .dotted lines", "  22 not enough memory", "Print help"):
+            self.assertIn(said, shown)
+
+    def complete(self, *words):
+        """What bash offers for the last word."""
+        script = help_pages.completion(self.commands, ["why"])
+        given = " ".join(f"'{word}'" for word in words)
+        script += f'\nCOMP_WORDS=({given}); COMP_CWORD={len(words) - 1}\n_examoffice {words[0]}; echo "${{COMPREPLY[*]}}"\n'
+        with tempfile.TemporaryDirectory() as folder:
+            pathlib.Path(folder, "a file").touch()
+            done = subprocess.run(["bash", "-c", script], capture_output=True, text=True, cwd=folder, check=True)
+        return done.stdout.strip()
+
+    def test_completion(self):
+        for words, offered in (
+            (["examoffice", "--db", "office.db", "--today", "2027-05-01", "im"], "import"),
+            (["examoffice", "--d"], "--db"), (["examoffice", "--db", "a"], "a file"),
+            (["examoffice", "--db", "a", "--today", "b", "import", "pap"], "papers"),
+            (["office", ""], "import init why"), (["office", "import", ""], "sessions papers halls"),
+            (["office", "import", "halls", "a"], "a file"), (["office", "init", ""], "a file"),
+        ):
+            with self.subTest(words):
+                self.assertEqual(self.complete(*words), offered)
+
+    def test_choices(self):
+        self.assertEqual(help_pages.choices("The decision: granted, refused or standing, which grants"),
+                         ["granted", "refused", "standing"])
+        self.assertEqual(help_pages.choices("The code of a hall, such as GYM"), [])
+
+
+if __name__ == "__main__":
+    unittest.main()

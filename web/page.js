@@ -1,0 +1,236 @@
+// The candidates' page: logs in, shows seats, clashes and appeals, lodges and takes back appeals.
+import { calendarFile } from "./calendar.js";
+import { byId, element } from "./elements.js";
+import { LodgingForm } from "./lodging.js";
+import { Candidate, Fault } from "./office.js";
+import { DIRECTION, LANGUAGE, TEXTS } from "./texts.js";
+import { appealTable, clashTable, Own, seatTable } from "./views.js";
+import { dayText, fill, Titles } from "./wording.js";
+
+const titles = new Titles();
+let candidate = null; // who is logged in
+let own = new Own(titles);
+let busy = false;
+let retracting = null; // the appeal that the dialog asks about
+
+const TITLES_WAIT = 5000; // milliseconds
+const titlesLoaded = loadTitles();
+const lodging = new LodgingForm(own);
+
+function say(text) {
+  byId("status").textContent = text;
+}
+
+/** Says what is wrong, and leads to the field where it is. */
+function warn(text, field) {
+  byId("alert").textContent = text;
+  field?.setAttribute("aria-invalid", "true");
+  field?.focus();
+  return null;
+}
+
+function clearNotices() {
+  say("");
+  byId("alert").textContent = "";
+  for (const field of document.querySelectorAll("[aria-invalid]")) field.removeAttribute("aria-invalid");
+}
+
+/** Does one step at a time, and says what went wrong. */
+async function step(work) {
+  if (busy) return;
+  const asking = candidate;
+  setBusy(true);
+  clearNotices();
+  try {
+    await work();
+  } catch (fault) {
+    if (!asking?.left) tell(fault);
+  } finally {
+    setBusy(false);
+  }
+}
+
+/** Marks the answers as about to change, but not the notices: a screen reader would keep them back. */
+function setBusy(on) {
+  busy = on;
+  document.body.classList.toggle("busy", on);
+  byId("main").setAttribute("aria-busy", String(on));
+}
+
+function tell(fault) {
+  say("");
+  if (!(fault instanceof Fault)) {
+    console.error(fault);
+    return warn(TEXTS.pageFault);
+  }
+  return warn(fill(fault.message, { day: fault.day ? dayText(fault.day) : "" }), fault.field);
+}
+
+const waits = () => say(TEXTS.waiting);
+
+async function list(asked, name) {
+  const answer = await asked.ask("GET", name, undefined, waits);
+  if (!Array.isArray(answer[name])) throw new Fault(TEXTS.pageFault);
+  return answer[name];
+}
+
+/** Asks one after the other: the office answers one connection at a time. */
+async function look(asked) {
+  const seats = await list(asked, "seats");
+  const clashes = await list(asked, "clashes");
+  return new Own(titles, seats, clashes, await list(asked, "appeals"));
+}
+
+/** Lodging and taking back changes nothing but the appeals. */
+async function lookAtAppeals() {
+  own = new Own(titles, own.seats, own.clashes, await list(candidate, "appeals"));
+}
+
+function show() {
+  byId("seats").replaceChildren(seatTable(own));
+  byId("clashes").replaceChildren(clashTable(own));
+  byId("appeals").replaceChildren(appealTable(own, askRetract));
+  const time = new Date().toLocaleString(LANGUAGE, { dateStyle: "medium", timeStyle: "short" });
+  byId("as-of").textContent = fill(TEXTS.asOf, { time });
+  lodging.show(own);
+}
+
+async function logIn() {
+  const number = byId("number").value.trim();
+  const code = byId("code").value.trim().toUpperCase();
+  if (!/^[0-9]{1,7}$/.test(number)) return warn(TEXTS.badNumber, byId("number"));
+  if (!/^[A-Z0-9]{8,16}$/.test(code)) return warn(TEXTS.badCode, byId("code"));
+  const entering = new Candidate(number.padStart(7, "0"), code);
+  try {
+    own = await look(entering);
+    await titlesLoaded;
+  } catch (fault) {
+    if (fault.number === 6) fault.field = byId("number");
+    throw fault;
+  }
+  candidate = entering;
+  byId("login").reset();
+  showCode();
+  byId("who-number").textContent = candidate.number;
+  byId("login").hidden = true;
+  byId("main").hidden = false;
+  show();
+  lodging.clear(own);
+  say(fill(TEXTS.loaded, { exams: own.seats.length, appeals: own.appeals.length }));
+  return byId("who").focus();
+}
+
+async function lookAgain() {
+  own = await look(candidate);
+  show();
+  say(fill(TEXTS.loaded, { exams: own.seats.length, appeals: own.appeals.length }));
+}
+
+function logOut() {
+  candidate?.leave();
+  candidate = null;
+  own = new Own(titles);
+  show();
+  lodging.clear(own);
+  clearNotices();
+  byId("retract").close();
+  byId("retract-ask").textContent = "";
+  byId("who-number").textContent = "";
+  byId("main").hidden = true;
+  byId("login").hidden = false;
+  say(TEXTS.loggedOut);
+  byId("number").focus();
+}
+
+async function lodge() {
+  const body = lodging.body(warn);
+  if (!body) return;
+  const state = await lodged(body, 3);
+  await lookAtAppeals();
+  lodging.done();
+  show();
+  say(state === "open" ? TEXTS.lodgeDone : fill(TEXTS.lodgeKnown, { state: TEXTS[state] }));
+  byId("appeals-head").focus();
+}
+
+/** The state of the appeal once the office has it. Where another appeal has the reference it takes the next one. */
+async function lodged(body, tries) {
+  try {
+    const { state } = await candidate.ask("POST", "appeals", { ...body, ref: lodging.reference(body) }, waits);
+    return state;
+  } catch (fault) {
+    if (fault.open) fault.message += ` ${TEXTS.mayHaveArrived}`;
+    if (fault.number !== 14 || tries === 1) throw fault;
+  }
+  await lookAtAppeals();
+  lodging.show(own);
+  return lodged(body, tries - 1);
+}
+
+function askRetract(appeal) {
+  if (busy) return;
+  retracting = appeal;
+  const values = { about: own.aboutText(appeal), session: own.sessionText(appeal.session) };
+  byId("retract-ask").textContent = fill(TEXTS.retractAsk, values);
+  byId("retract").returnValue = "no";
+  byId("retract").showModal();
+}
+
+async function retract() {
+  await candidate.ask("DELETE", `appeals/${retracting.ref}`, undefined, waits);
+  await lookAtAppeals();
+  show();
+  say(TEXTS.retractDone);
+  byId("appeals-head").focus();
+}
+
+function saveCalendar() {
+  clearNotices();
+  const named = { paper: (code) => titles.paper(code), hall: (code) => titles.hall(code) };
+  const today = new Date().toLocaleDateString(LANGUAGE, { dateStyle: "medium" });
+  const text = calendarFile(candidate.number, own.seats, location.hostname, today, named);
+  const href = URL.createObjectURL(new Blob([text], { type: "text/calendar" }));
+  element("a", { href, download: "exams.ics" }).click();
+  setTimeout(() => URL.revokeObjectURL(href), 60000);
+}
+
+function showCode() {
+  byId("code").classList.toggle("shown", byId("show-code").checked);
+}
+
+/** The page works without titles: then it shows codes. */
+async function loadTitles() {
+  try {
+    const answer = await fetch("titles.json", { credentials: "omit", signal: AbortSignal.timeout(TITLES_WAIT) });
+    titles.take(await answer.json());
+  } catch (fault) {
+    console.info("no titles:", fault.message);
+  }
+}
+
+function onSubmit(id, work) {
+  byId(id).addEventListener("submit", (event) => {
+    event.preventDefault();
+    step(work);
+  });
+}
+
+function start() {
+  document.documentElement.lang = LANGUAGE;
+  document.documentElement.dir = DIRECTION;
+  document.title = TEXTS.title;
+  for (const place of document.querySelectorAll("[data-text]")) place.textContent = TEXTS[place.dataset.text];
+  onSubmit("login", logIn);
+  onSubmit("lodge", lodge);
+  byId("show-code").addEventListener("change", showCode);
+  byId("again").addEventListener("click", () => step(lookAgain));
+  byId("calendar").addEventListener("click", saveCalendar);
+  byId("print").addEventListener("click", () => print());
+  byId("logout").addEventListener("click", logOut);
+  byId("retract").addEventListener("close", () => byId("retract").returnValue === "yes" && step(retract));
+  addEventListener("pageshow", ({ persisted }) => persisted && logOut()); // what the browser kept of the page
+  byId("starting").remove();
+  byId("login").hidden = false;
+}
+
+start();
