@@ -54,10 +54,13 @@ DAY = [
 ]
 
 
+def is_done(answer):
+    return answer[0] == 0 if isinstance(answer, tuple) else answer.startswith((b"serving ", b"HTTP/1.1 200 "))
+
+
 def done(step, answer):
     """The answer of a step; where it is a refusal, the script ends, since it would show nothing."""
-    is_done = answer[0] == 0 if isinstance(answer, tuple) else answer.startswith((b"serving ", b"HTTP/1.1 200 "))
-    return answer if is_done else sys.exit(f"{step.name()} answers {answer} with no harm done")
+    return answer if is_done(answer) else sys.exit(f"{step.name()} answers {answer} with no harm done")
 
 
 def begin(name, words):
