@@ -132,7 +132,7 @@ def places(count, most):
     return range(count) if most is None or count <= most else sorted({n * (count - 1) // (most - 1) for n in range(most)})
 
 
-class Desk:
+class Office:
     """The program over the office of a folder, with a server where one was started."""
 
     def __init__(self, program, folder, environment=None):
