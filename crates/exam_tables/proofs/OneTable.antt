@@ -17,7 +17,7 @@ use Rattle.exam_types.proofs.DayFacts.{number_of_civil}
 use Rattle.exam_types.proofs.DayTexts.{day_text-is, parts_small, parts_of_text, only_parts}
 use Rattle.exam_types.proofs.FeatureFacts.{set_of_sum}
 use Rattle.exam_rules.specs.Orders.{KeysRise}
-use Rattle.exam_rules.specs.Relations.{Code, Relations, code_cmp, pair_cmp}
+use Rattle.exam_rules.specs.Relations.{Code, Relations, appeal_cmp, code_cmp, pair_cmp}
 use Rattle.exam_rules.specs.declared.rows.Subject.{Subject}
 use Rattle.exam_rules.specs.declared.rows.Subject.TheVariants as subject
 use Rattle.exam_rules.specs.declared.rows.Status.{Status}
@@ -259,6 +259,9 @@ codes_mirrored = nat_list_cmp_total.antisymm
 numbers_mirrored : IsMirrored nat_cmp
 numbers_mirrored = nat_cmp_total.antisymm
 
+pub appeals_mirrored : IsMirrored appeal_cmp
+appeals_mirrored = pairs_mirrored numbers_mirrored codes_mirrored
+
 -- ---- the facts and the seats
 
 pub one_facts : (all : Trees) (r s : Relations) → HoldsRelations all r → HoldsRelations all s → r ≡ s
@@ -270,8 +273,8 @@ one_facts all r s x y =
     let candidates = one_table numbers_mirrored (λ a b x y. candidate_tells a b tt tt) (all 7) _ _ x.candidates y.candidates in
     let entries = one_table (pairs_mirrored numbers_mirrored codes_mirrored) (λ a b x y. entry_tells a b tt tt) (all 10) _ _ x.entries y.entries in
     let arrangements = one_table numbers_mirrored (λ a b x y. arrangement_tells a b tt tt) (all 12) _ _ x.arrangements y.arrangements in
-    let appeals = one_table (pairs_mirrored numbers_mirrored codes_mirrored) (λ a b x y. appeal_tells a b x.6 y.6) (all 13) _ _ x.appeals y.appeals in
-    let standing = one_table (pairs_mirrored numbers_mirrored codes_mirrored) (λ a b x y. standing_tells a b tt tt) (all 17) _ _ x.standing y.standing in
+    let appeals = one_table appeals_mirrored (λ a b x y. appeal_tells a b x.6 y.6) (all 13) _ _ x.appeals y.appeals in
+    let standing = one_table appeals_mirrored (λ a b x y. standing_tells a b tt tt) (all 17) _ _ x.standing y.standing in
     λ i. record { sessions = sessions i; papers = papers i; halls = halls i; openings = openings i; candidates = candidates i; entries = entries i; arrangements = arrangements i; appeals = appeals i; standing = standing i }
 
 pub one_seats : (all : Trees) (p q : List ((Code × ℕ) × Code)) → HoldsSeats all p → HoldsSeats all q → p ≡ q

@@ -4,7 +4,7 @@ ghost use Rattle.std.specs.List.{AllByRecursion};
 ghost use Rattle.exam_rules.specs.Relations.{relations_of, same_code};
 ghost use Rattle.exam_tables.specs.Rows.{IsAppeal};
 ghost use Rattle.exam_tables.specs.Stored.{IsStatus, IsSubject};
-ghost use Rattle.exam_tables.specs.Streamed as spec;
+ghost use Rattle.exam_tables.specs.Appeals as spec;
 
 use exam_rules::{Appeal, Facts, Status, Subject};
 use exam_types::{Number, Reference, SessionCode};
