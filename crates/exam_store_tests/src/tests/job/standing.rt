@@ -103,3 +103,33 @@ appeals 0
 fn a_later_grant_ends_a_standing_one(rt: HostRuntime) -> Result<(), Fail> {
     play(&rt, &[TWO_SESSIONS, A_SCREEN_AND_NONE])
 }
+
+/// The second candidate takes hall A on both days, and so moves the first one twice.
+const A_RAMP: &str = r#"$ import entries f
+number,paper
+0000002,MA-1
+0000002,MB-1
+> added 2 changed 0 same 0
+$ export S2
+> session,number,paper,hall,desk
+S2,0000001,MB-1,A,1
+S2,0000002,MB-1,B,1
+$ POST /candidates/0000002/appeals on 2027-05-22
+{"extra":0,"kind":"arrangement","needs":"step-free","reason":"","ref":"AR1","session":"S1"}
+> {"state":"open"}
+$ decide 0000002 AR1 standing ok on 2027-05-31
+> decided granted hall A moved 2
+$ export S1
+> session,number,paper,hall,desk
+S1,0000001,MA-1,B,1
+S1,0000002,MA-1,A,1
+$ export S2
+> session,number,paper,hall,desk
+S2,0000001,MB-1,B,1
+S2,0000002,MB-1,A,1
+"#;
+
+#[test]
+fn who_moves_on_two_days_counts_twice(rt: HostRuntime) -> Result<(), Fail> {
+    play(&rt, &[TWO_SESSIONS, A_RAMP])
+}
