@@ -8,7 +8,7 @@ mod asking;
 
 use anyhow::{Context, Result};
 use asking::answer_to;
-use exam_job::{JobFault, print_fault, print_line_fault, run_job};
+use exam_job::{DONE, JobFault, print_fault, print_line_fault, print_ready, run_job};
 use exam_line::{Job, Line, parse_line};
 use exam_store::Store;
 use exam_types::Day;
@@ -67,6 +67,11 @@ fn run_words(rt: &HostRuntime, store: &mut Store<MemStore>, words: &[String]) {
 /// Carries out a command over the file that it imports, or over none.
 fn run_line(rt: &HostRuntime, store: &mut Store<MemStore>, line: Line<'_>) -> u8 {
     match line.job {
+        // The office is open already, so only what the program prints is left.
+        Job::Init => match print_ready(&mut rt.stdout()) {
+            Ok(()) => DONE,
+            Err(fault) => print_fault(&fault, &mut rt.stdout()),
+        },
         Job::Import { file, .. } => match File::open(rt, file) {
             Ok(mut file) => run_over(rt, store, line, &mut file),
             Err(_) => print_fault(&JobFault::File, &mut rt.stdout()),
