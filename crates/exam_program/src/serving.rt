@@ -20,10 +20,15 @@ const LONGEST_SILENCE: u64 = 2;
 /// How many seconds a connection may last, so that a slow client does not block the office.
 const LONGEST_CONNECTION: u64 = 10;
 
+/// How many milliseconds a read waits once its time is over. What has arrived by then is read all the same, so a program
+/// that was stopped and continued loses no request that has arrived.
+const LAST_LOOK: u64 = 1;
+
 /// The server ends after so many connections.
 const MOST_CONNECTIONS: usize = 4_294_967_295;
 
-/// A connection whose reads and writes fail once its time is over.
+/// A connection with a time for each read and write, and for the whole. Once the time is over, a read gives only what has
+/// arrived, and a write fails.
 #[derive(Drop)]
 struct Timed<'s> {
     stream: &'s TcpStream,
@@ -36,11 +41,7 @@ impl Timed<'_> {
     fn time_left(&self, began: Instant) -> io::Result<Duration> {
         let silence = left_of(self.rt, LONGEST_SILENCE, began)?;
         let connection = left_of(self.rt, LONGEST_CONNECTION, self.since)?;
-        let left = silence.min(connection);
-        if left.is_zero() {
-            return Err(io::Error::from(ErrorKind::TimedOut));
-        }
-        Ok(left)
+        Ok(silence.min(connection))
     }
 }
 
@@ -54,7 +55,8 @@ impl Read for Timed<'_> {
         let began = Instant::now(self.rt)?;
         let mut stream = self.stream;
         for _ in 0..u64::MAX {
-            self.stream.set_read_timeout(Some(self.time_left(began)?))?;
+            let wait = self.time_left(began)?.max(Duration::from_millis(LAST_LOOK));
+            self.stream.set_read_timeout(Some(wait))?;
             match stream.read(buf) {
                 // A signal interrupted the read, for example because the program was stopped and continued.
                 Err(error) if error.kind() == ErrorKind::Interrupted => {}
@@ -70,7 +72,11 @@ impl Write for Timed<'_> {
         let began = Instant::now(self.rt)?;
         let mut stream = self.stream;
         for _ in 0..u64::MAX {
-            self.stream.set_write_timeout(Some(self.time_left(began)?))?;
+            let left = self.time_left(began)?;
+            if left.is_zero() {
+                return Err(io::Error::from(ErrorKind::TimedOut));
+            }
+            self.stream.set_write_timeout(Some(left))?;
             match stream.write(buf) {
                 Err(error) if error.kind() == ErrorKind::Interrupted => {}
                 done => return done,
