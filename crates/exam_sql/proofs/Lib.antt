@@ -32,4 +32,5 @@ pub mod SessionAppeals
 pub mod KeptReferences
 pub mod StatementFails
 pub mod Statements
+pub mod Terms
 pub mod VersionFails

@@ -6,7 +6,7 @@ use Rattle.sqlite_value.specs.declared.value.Value.TheVariants.{Null}
 use Rattle.sqlite_value.specs.Order.{Row}
 use Rattle.sqlite_trees.specs.Tree.{Trees}
 use Rattle.sqlite_trees.proofs.ListLemmas.{map-map, filter_all, all_of}
-use Rattle.sqlite_sql.specs.Term.{Term, eval_all}
+use Rattle.sqlite_sql.specs.Term.{Term, col, eval_all}
 use Rattle.sqlite_sql.specs.Query.{IsAnswer}
 use Rattle.sqlite_sql.specs.Program.{overlay}
 use Rattle.sqlite_rules.proofs.ListLemmas.{all_has, has_got}
@@ -23,18 +23,27 @@ use Rattle.exam_sql.specs.Content.{places, bare, Holds, ContainsIn}
 use Rattle.exam_sql.specs.Loads.{IsLoad}
 use Rattle.exam_sql.specs.Plain.{one_table}
 use Rattle.exam_sql.specs.Refusals.{is_failure}
+use Rattle.exam_sql.specs.Tables.{Described, names}
 use Rattle.exam_sql.proofs.Queries.{picks, map_same}
 use Rattle.exam_sql.proofs.QueryFails.{query_fails}
 
+-- each column of a row
+abbrev pub column_terms : Table → List Term
+column_terms table = map (col 1) (places table)
+
 -- the load of this table
-pub load_of : (schema : Schema) (at : ℕ) (table : Table) (text : List ℕ) (project : List Term) (names : List (List ℕ)) → slice_get schema.tables at ≡ Some table
-    → command_of (understood schema text) ≡ Select (record { lets = []; body = one_table table.tree [] project [] }) names → IsPlain (understood schema text) → reads_listing schema text ≡ false
-    → ((db : Trees) → overlay db [] table.tree ≡ db table.tree) → ((r : Row) → Null ∷ eval_all project ([] ∷ r ∷ []) ≡ bare (places table) r) → IsLoad schema table.tree text
-load_of schema at table text project names place is plain unlisted own shows = record {
-  at = at;
-  table = table;
-  project = project;
-  names = names;
+pub load_of : (schema : Schema) (d : Described) → slice_get schema.tables d.at ≡ Some d.table
+    → command_of (understood schema d.load)
+    ≡ Select (record { lets = []; body = one_table d.table.tree [] (column_terms d.table) [] }) (names d.table)
+    → IsPlain (understood schema d.load) → reads_listing schema d.load ≡ false
+    → ((db : Trees) → overlay db [] d.table.tree ≡ db d.table.tree)
+    → ((r : Row) → Null ∷ eval_all (column_terms d.table) ([] ∷ r ∷ []) ≡ bare (places d.table) r)
+    → IsLoad schema d.table.tree d.load
+load_of schema d place is plain unlisted own shows = record {
+  at = d.at;
+  table = d.table;
+  project = column_terms d.table;
+  names = names d.table;
   tree_is = refl;
   place = place;
   is = is;

@@ -78,20 +78,11 @@ puts number reference session kind target needs extra reason state answer lodged
     (row number reference session kind target needs extra reason state answer lodged)
     (fits number reference session kind target needs extra reason state answer lodged) refl put_means
 
-abbrev shown_terms : List Term
-shown_terms = col 1 1 ∷ col 1 2 ∷ col 1 3 ∷ col 1 4 ∷ col 1 5 ∷ col 1 6 ∷ col 1 7 ∷ col 1 8 ∷ col 1 9 ∷ col 1 10 ∷ col 1 11 ∷ []
-
 -- the text that loads shows each column, with the table of marks or without it
 pub loads : (has_marks : Bool) → IsLoad (made_schema has_marks) appeal.table.tree appeal.load
 unfolding understood everything store_schema first_schema
-loads true = load_of (made_schema true) appeal.at appeal.table appeal.load shown_terms
-    (codes "number" ∷ codes "ref" ∷ codes "session" ∷ codes "kind" ∷ codes "target" ∷ codes "needs" ∷ codes "extra"
-    ∷ codes "reason" ∷ codes "state" ∷ codes "answer" ∷ codes "lodged" ∷ []) refl refl (refl, refl) refl (λ db. refl)
-    (λ r. refl)
-loads false = load_of (made_schema false) appeal.at appeal.table appeal.load shown_terms
-    (codes "number" ∷ codes "ref" ∷ codes "session" ∷ codes "kind" ∷ codes "target" ∷ codes "needs" ∷ codes "extra"
-    ∷ codes "reason" ∷ codes "state" ∷ codes "answer" ∷ codes "lodged" ∷ []) refl refl (refl, refl) refl (λ db. refl)
-    (λ r. refl)
+loads true = load_of (made_schema true) appeal refl refl (refl, refl) refl (λ db. refl) (λ r. refl)
+loads false = load_of (made_schema false) appeal refl refl (refl, refl) refl (λ db. refl) (λ r. refl)
 
 pub is_query : IsQuery appeal.load
 unfolding everything

@@ -1,12 +1,9 @@
 -- The table entry: how it is made, what its texts mean, and what they do.
-use Rattle.std.proofs.Common.{Bool, List, [], ap, codes, false, lit<, lit≤, refl, true, ℕ, ℤ, ◌||◌, ◌∷◌}
+use Rattle.std.proofs.Common.{Bool, List, [], ap, false, lit<, lit≤, refl, true, ℕ, ℤ, ◌||◌, ◌∷◌}
 use Rattle.std.proofs.lemmas.Bool.{and_parts, not-true}
 use Rattle.sqlite_value.specs.declared.value.Value.TheVariants.{Int, Null, Text}
 use Rattle.sqlite_value.specs.Order.{Row, value_cmp}
-use Rattle.sqlite_sql.specs.Term.{Term, col, lit}
-use Rattle.sqlite_schema.specs.declared.command.Conflict.TheVariants.{Replace}
-use Rattle.sqlite_schema.specs.declared.command.Command.TheVariants.{InsertOr}
-use Rattle.sqlite_schema.specs.declared.command.Source.TheVariants.{Values}
+use Rattle.sqlite_sql.specs.Term.{lit}
 use Rattle.sqlite_tied.specs.Compute.{everything}
 use Rattle.sqlite.specs.Listing.{understood}
 use lib.Utf8.{encode}
@@ -19,10 +16,11 @@ use Rattle.exam_sql.proofs.Fits.{Fits, fits_chosen}
 use Rattle.exam_sql.proofs.Keys.{cast_int}
 use Rattle.exam_sql.proofs.Loads.{load_of}
 use Rattle.exam_sql.specs.Keyed.{IsKeyed}
-use Rattle.exam_sql.proofs.Edits.{Means, PutsRow, replaces}
+use Rattle.exam_sql.proofs.Edits.{PutsRow, replaces}
 use Rattle.exam_sql.proofs.Keying.{by_index, or_false}
 use Rattle.exam_sql.proofs.Making.{Adds, IsCreate, adds_by}
 use Rattle.exam_sql.proofs.Quiet.{IsQuery}
+use Rattle.exam_sql.proofs.Terms.{Replaces, given_terms}
 
 -- the text that makes it is understood, and nothing forbids the table
 create : IsCreate (made entry.at) entry.create
@@ -31,38 +29,35 @@ create = (refl, refl, (refl, refl), (lit≤ tt, refl))
 
 pub adds : Adds entry
 unfolding everything encode value_cmp fits_kind is_free_name same_name begins lib.Ieee.is_nan lib.Ieee.lt made
-adds = adds_by entry create refl refl refl refl refl refl refl (entry.create, (refl, refl)) (entry.table.name, (refl, refl)) refl (lit< tt) (lit< tt) refl refl refl (lit< tt)
+adds =
+    adds_by entry create refl refl refl refl refl refl refl (entry.create, (refl, refl)) (entry.table.name, (refl, refl)) refl
+    (lit< tt) (lit< tt) refl refl refl (lit< tt)
 
 -- it has one key, and no foreign key acts on its rows
 pub keyed : IsKeyed store_schema entry.at entry.table entry.key entry.key
 unfolding store_schema
 keyed = by_index entry refl refl refl refl (λ a b. ap (λ x. same_rowid a b || x) (or_false _)) (λ a b. or_false _) (λ db s h. not-true _ (and_parts _ _ h).0)
 
-abbrev pub row : ℤ → (List ℕ) → ℤ → Row
-row number paper live = Int number ∷ Text paper ∷ Int live ∷ []
-
-fits : (number : ℤ) (paper : List ℕ) (live : ℤ) → Fits entry.table entry.key Null (row number paper live) (row number paper live)
-fits number paper live = fits_chosen entry.table entry.key (row number paper live) refl (simp (cast_int)) (λ v. refl)
-
-abbrev terms : List Term
-terms = lit Null ∷ col 0 0 ∷ col 0 1 ∷ col 0 2 ∷ []
-
-put_means : Means store_schema entry.put (InsertOr entry.at Replace (Values terms 4) []) 3
+put_means : Replaces entry
 unfolding understood everything store_schema
 put_means = (refl, (refl, refl), (lit≤ tt, refl))
 
--- the row replaces the one with its key
-pub puts : (number : ℤ) (paper : List ℕ) (live : ℤ) → PutsRow entry.table.tree entry.key entry.put (row number paper live)
-puts number paper live = replaces keyed entry.put terms 4 Null (row number paper live) (row number paper live) (fits number paper live) refl put_means
+module _ (number : ℤ) (paper : List ℕ) (live : ℤ) where
+  abbrev pub row : Row
+  row = Int number ∷ Text paper ∷ Int live ∷ []
 
-abbrev shown_terms : List Term
-shown_terms = col 1 1 ∷ col 1 2 ∷ col 1 3 ∷ []
+  fits : Fits entry.table entry.key Null row row
+  fits = fits_chosen entry.table entry.key row refl (simp (cast_int)) (λ v. refl)
+
+  -- the row replaces the one with its key
+  pub puts : PutsRow entry.table.tree entry.key entry.put row
+  puts = replaces keyed entry.put (given_terms entry.table) 4 Null row row fits refl put_means
 
 -- the text that loads shows each column, with the table of marks or without it
 pub loads : (has_marks : Bool) → IsLoad (made_schema has_marks) entry.table.tree entry.load
 unfolding understood everything store_schema first_schema
-loads true = load_of (made_schema true) entry.at entry.table entry.load shown_terms (codes "number" ∷ codes "paper" ∷ codes "live" ∷ []) refl refl (refl, refl) refl (λ db. refl) (λ r. refl)
-loads false = load_of (made_schema false) entry.at entry.table entry.load shown_terms (codes "number" ∷ codes "paper" ∷ codes "live" ∷ []) refl refl (refl, refl) refl (λ db. refl) (λ r. refl)
+loads true = load_of (made_schema true) entry refl refl (refl, refl) refl (λ db. refl) (λ r. refl)
+loads false = load_of (made_schema false) entry refl refl (refl, refl) refl (λ db. refl) (λ r. refl)
 
 pub is_query : IsQuery entry.load
 unfolding everything

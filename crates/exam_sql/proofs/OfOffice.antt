@@ -81,14 +81,11 @@ put_whole = (lit≤ tt, refl)
 pub put_answers : (old new : State) (version : ℤ) → old.now.schema ≡ store_schema → Answers put_text (Int version ∷ []) old new
 put_answers old new version has = answers put_text (Int version ∷ []) old new store_schema has _ put_is tt put_plain put_whole
 
-abbrev shown_terms : List Term
-shown_terms = col 1 0 ∷ col 1 2 ∷ []
-
 -- the text that loads shows each column, with the table of marks or without it
 pub loads : (has_marks : Bool) → IsLoad (made_schema has_marks) office.table.tree office.load
 unfolding understood everything store_schema first_schema
-loads true = load_of (made_schema true) office.at office.table office.load shown_terms (codes "one" ∷ codes "version" ∷ []) refl refl (refl, refl) refl (λ db. refl) (λ r. refl)
-loads false = load_of (made_schema false) office.at office.table office.load shown_terms (codes "one" ∷ codes "version" ∷ []) refl refl (refl, refl) refl (λ db. refl) (λ r. refl)
+loads true = load_of (made_schema true) office refl refl (refl, refl) refl (λ db. refl) (λ r. refl)
+loads false = load_of (made_schema false) office refl refl (refl, refl) refl (λ db. refl) (λ r. refl)
 
 pub is_query : IsQuery office.load
 unfolding everything

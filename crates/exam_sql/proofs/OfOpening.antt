@@ -1,21 +1,18 @@
 -- The table opening: how it is made, what its texts mean, and what they do.
-use Rattle.std.proofs.Common.{Bool, List, [], ap, ap₂, codes, false, lit<, lit≤, refl, true, ℕ, ℤ, ◌++◌, ◌||◌, ◌∷◌, ◌≡◌}
+use Rattle.std.proofs.Common.{Bool, List, [], ap, ap₂, false, lit<, lit≤, refl, true, ℕ, ℤ, ◌||◌, ◌∷◌, ◌≡◌}
 use Rattle.std.specs.List.{list_all}
 use Rattle.std.proofs.lemmas.Bool.{and_parts, not-true}
 use Rattle.sqlite_value.specs.declared.value.Value.TheVariants.{Int, Null, Text}
 use Rattle.sqlite_value.specs.Order.{Row, value_cmp}
 use Rattle.sqlite_trees.specs.Tree.{rowid}
-use Rattle.sqlite_sql.specs.Term.{Term, col, eval_all, holds, lit, op2}
-use Rattle.sqlite_schema.specs.declared.command.Conflict.TheVariants.{Abort}
-use Rattle.sqlite_schema.specs.declared.command.Command.TheVariants.{Delete, InsertOr}
-use Rattle.sqlite_schema.specs.declared.command.Source.TheVariants.{Values}
+use Rattle.sqlite_sql.specs.Term.{Term, col, holds, lit, op2}
+use Rattle.sqlite_schema.specs.declared.command.Command.TheVariants.{Delete}
 use Rattle.sqlite_tied.specs.Compute.{everything}
 use Rattle.sqlite.specs.Listing.{understood}
 use Rattle.sqlite_value.specs.declared.keys.Collation.TheVariants.{Binary}
 use Rattle.sqlite_value.specs.Keys.{first_key}
 use Rattle.sqlite_sql.specs.declared.ops.BinaryOp.TheVariants.{Compare}
 use Rattle.sqlite_sql.specs.declared.ops.CompareOp.TheVariants.{Eq}
-use Rattle.sqlite.specs.Rows.{shown}
 use lib.Utf8.{encode}
 use Rattle.sqlite_trees.specs.Sound.{begins, fits_kind, is_free_name, same_name}
 use Rattle.exam_sql.specs.Content.{bare, places, same_key, same_rowid}
@@ -26,13 +23,14 @@ use Rattle.exam_sql.specs.Texts.{delete_opening}
 use Rattle.exam_sql.proofs.Fits.{Fits, fits_chosen}
 use Rattle.exam_sql.proofs.Keys.{cast_int, text_same}
 use Rattle.exam_sql.proofs.Loads.{load_of}
-use Rattle.exam_sql.specs.Plain.{on_conflict, one_table}
+use Rattle.exam_sql.specs.Plain.{one_table}
 use Rattle.exam_sql.specs.Keyed.{IsKeyed}
 use Rattle.exam_sql.specs.Changes.{without_row}
 use Rattle.exam_sql.proofs.Edits.{Edits, Means, PutsRow, removes, upserts}
 use Rattle.exam_sql.proofs.Keying.{by_index, or_false}
 use Rattle.exam_sql.proofs.Making.{Adds, IsCreate, adds_by}
 use Rattle.exam_sql.proofs.Quiet.{IsQuery}
+use Rattle.exam_sql.proofs.Terms.{Becomes, Changes, Finds, changed_terms, found_terms, given_terms}
 
 -- the text that makes it is understood, and nothing forbids the table
 create : IsCreate (made opening.at) opening.create
@@ -41,55 +39,40 @@ create = (refl, refl, (refl, refl), (lit≤ tt, refl))
 
 pub adds : Adds opening
 unfolding everything encode value_cmp fits_kind is_free_name same_name begins lib.Ieee.is_nan lib.Ieee.lt made
-adds = adds_by opening create refl refl refl refl refl refl refl (opening.create, (refl, refl)) (opening.table.name, (refl, refl)) refl (lit< tt) (lit< tt) refl refl refl (lit< tt)
+adds =
+    adds_by opening create refl refl refl refl refl refl refl (opening.create, (refl, refl)) (opening.table.name, (refl, refl)) refl
+    (lit< tt) (lit< tt) refl refl refl (lit< tt)
 
 -- it has one key, and no foreign key acts on its rows
 pub keyed : IsKeyed store_schema opening.at opening.table opening.key opening.key
 unfolding store_schema
 keyed = by_index opening refl refl refl refl (λ a b. ap (λ x. same_rowid a b || x) (or_false _)) (λ a b. or_false _) (λ db s h. not-true _ (and_parts _ _ h).0)
 
-abbrev pub row : (List ℕ) → (List ℕ) → ℤ → ℤ → ℤ → Row
-row session hall desks until reserved = Text session ∷ Text hall ∷ Int desks ∷ Int until ∷ Int reserved ∷ []
-
-fits : (session : List ℕ) (hall : List ℕ) (desks : ℤ) (until : ℤ) (reserved : ℤ) → Fits opening.table opening.key Null (row session hall desks until reserved) (row session hall desks until reserved)
-fits session hall desks until reserved = fits_chosen opening.table opening.key (row session hall desks until reserved) refl (simp (cast_int)) (λ v. refl)
-
-abbrev terms : List Term
-terms = lit Null ∷ col 0 0 ∷ col 0 1 ∷ col 0 2 ∷ col 0 3 ∷ col 0 4 ∷ []
-
--- the row that is there
-abbrev there : List Term
-there = op2 (Compare Eq Binary) (col 1 0) (col 0 5) ∷ []
-
--- its rowid, and the row that it becomes
-abbrev project : List Term
-project = col 1 0 ∷ col 1 0 ∷ col 1 1 ∷ col 1 2 ∷ col 0 9 ∷ col 0 10 ∷ col 0 11 ∷ []
-
-put_means : Means store_schema opening.put (InsertOr opening.at Abort (Values terms 6) (on_conflict opening.key opening.table.tree there project ∷ [])) 5
+put_means : Changes opening opening.key
 unfolding understood everything store_schema
 put_means = (refl, (refl, refl), (lit≤ tt, refl))
 
-picked : (session : List ℕ) (hall : List ℕ) (desks : ℤ) (until : ℤ) (reserved : ℤ) (t r : Row) (id : ℤ)
-    → list_all (holds ((row session hall desks until reserved ++ rowid t
-    ∷ shown opening.table (Int id ∷ row session hall desks until reserved)) ∷ r ∷ [])) there ≡ same_rowid r t
-unfolding first_key
-picked session hall desks until reserved t r id = refl
+module _ (session hall : List ℕ) (desks until reserved : ℤ) where
+  abbrev pub row : Row
+  row = Text session ∷ Text hall ∷ Int desks ∷ Int until ∷ Int reserved ∷ []
 
-written : (session : List ℕ) (hall : List ℕ) (desks : ℤ) (until : ℤ) (reserved : ℤ) (t : Row) (id : ℤ)
-    → same_key opening.key (bare (places opening.table) t) (Null ∷ row session hall desks until reserved) ≡ true
-    → eval_all project ((row session hall desks until reserved ++ rowid t
-    ∷ shown opening.table (Int id ∷ row session hall desks until reserved)) ∷ t ∷ []) ≡ rowid t ∷ rowid t
-    ∷ row session hall desks until reserved
-unfolding first_key
-written session hall desks until reserved t id same =
-    let both = and_parts _ _ same in ap₂ (λ v w. rowid t ∷ rowid t ∷ v ∷ w ∷ Int desks ∷ Int until ∷ Int reserved ∷ []) (text_same _ _ both.0) (text_same _ _ (and_parts _ _ both.1).0)
+  fits : Fits opening.table opening.key Null row row
+  fits = fits_chosen opening.table opening.key row refl (simp (cast_int)) (λ v. refl)
 
--- the row replaces the one with its key
-pub puts : (session : List ℕ) (hall : List ℕ) (desks : ℤ) (until : ℤ) (reserved : ℤ) → PutsRow opening.table.tree opening.key opening.put (row session hall desks until reserved)
-puts session hall desks until reserved =
-    upserts keyed opening.put terms 6 Null (row session hall desks until reserved)
-    (row session hall desks until reserved) (fits session hall desks until reserved) refl there project put_means
-    (λ db. refl) (picked session hall desks until reserved) (written session hall desks until reserved)
+  finds : Finds opening row row
+  unfolding first_key
+  finds t r id = refl
+
+  becomes : Becomes opening row row
+  unfolding first_key
+  becomes t id same =
+      let both = and_parts _ _ same in ap₂ (λ v w. rowid t ∷ rowid t ∷ v ∷ w ∷ Int desks ∷ Int until ∷ Int reserved ∷ []) (text_same _ _ both.0) (text_same _ _ (and_parts _ _ both.1).0)
+
+  -- the row replaces the one with its key
+  pub puts : PutsRow opening.table.tree opening.key opening.put row
+  puts =
+      upserts keyed opening.put (given_terms opening.table) 6 Null row row fits refl (found_terms opening.table)
+      (changed_terms opening.table) put_means (λ db. refl) finds becomes
 
 abbrev key_terms : List Term
 key_terms = op2 (Compare Eq Binary) (col 1 1) (col 0 0) ∷ op2 (Compare Eq Binary) (col 1 2) (col 0 1) ∷ []
@@ -106,18 +89,11 @@ key_means params r = refl
 pub deletes : (session : List ℕ) (hall : List ℕ) → Edits (without_row opening.table.tree opening.key (Text session ∷ Text hall ∷ [])) delete_opening (Text session ∷ Text hall ∷ [])
 deletes session hall = removes keyed delete_opening key_terms (Text session ∷ Text hall ∷ []) delete_means (λ db. refl) (key_means (Text session ∷ Text hall ∷ []))
 
-abbrev shown_terms : List Term
-shown_terms = col 1 1 ∷ col 1 2 ∷ col 1 3 ∷ col 1 4 ∷ col 1 5 ∷ []
-
 -- the text that loads shows each column, with the table of marks or without it
 pub loads : (has_marks : Bool) → IsLoad (made_schema has_marks) opening.table.tree opening.load
 unfolding understood everything store_schema first_schema
-loads true = load_of (made_schema true) opening.at opening.table opening.load shown_terms
-    (codes "session" ∷ codes "hall" ∷ codes "desks" ∷ codes "until" ∷ codes "reserved" ∷ []) refl refl
-    (refl, refl) refl (λ db. refl) (λ r. refl)
-loads false = load_of (made_schema false) opening.at opening.table opening.load shown_terms
-    (codes "session" ∷ codes "hall" ∷ codes "desks" ∷ codes "until" ∷ codes "reserved" ∷ []) refl refl
-    (refl, refl) refl (λ db. refl) (λ r. refl)
+loads true = load_of (made_schema true) opening refl refl (refl, refl) refl (λ db. refl) (λ r. refl)
+loads false = load_of (made_schema false) opening refl refl (refl, refl) refl (λ db. refl) (λ r. refl)
 
 pub is_query : IsQuery opening.load
 unfolding everything

@@ -1,36 +1,28 @@
 -- The table paper: how it is made, what its texts mean, and what they do.
-use Rattle.std.proofs.Common.{Bool, List, [], ap, codes, false, lit<, lit≤, refl, true, ℕ, ℤ, ◌++◌, ◌||◌, ◌∷◌, ◌≡◌}
-use Rattle.std.specs.List.{list_all}
+use Rattle.std.proofs.Common.{Bool, List, [], ap, false, lit<, lit≤, refl, true, ℕ, ℤ, ◌||◌, ◌∷◌}
 use Rattle.std.proofs.lemmas.Bool.{and_parts, not-true}
 use Rattle.sqlite_value.specs.declared.value.Value.TheVariants.{Int, Null, Text}
 use Rattle.sqlite_value.specs.Order.{Row, value_cmp}
 use Rattle.sqlite_trees.specs.Tree.{rowid}
-use Rattle.sqlite_sql.specs.Term.{Term, col, eval_all, holds, lit, op2}
-use Rattle.sqlite_schema.specs.declared.command.Conflict.TheVariants.{Abort}
-use Rattle.sqlite_schema.specs.declared.command.Command.TheVariants.{InsertOr}
-use Rattle.sqlite_schema.specs.declared.command.Source.TheVariants.{Values}
+use Rattle.sqlite_sql.specs.Term.{lit}
 use Rattle.sqlite_tied.specs.Compute.{everything}
 use Rattle.sqlite.specs.Listing.{understood}
-use Rattle.sqlite_value.specs.declared.keys.Collation.TheVariants.{Binary}
 use Rattle.sqlite_value.specs.Keys.{first_key}
-use Rattle.sqlite_sql.specs.declared.ops.BinaryOp.TheVariants.{Compare}
-use Rattle.sqlite_sql.specs.declared.ops.CompareOp.TheVariants.{Eq}
-use Rattle.sqlite.specs.Rows.{shown}
 use lib.Utf8.{encode}
 use Rattle.sqlite_trees.specs.Sound.{begins, fits_kind, is_free_name, same_name}
-use Rattle.exam_sql.specs.Content.{bare, places, same_key, same_rowid}
+use Rattle.exam_sql.specs.Content.{same_rowid}
 use Rattle.exam_sql.specs.Loads.{IsLoad}
 use Rattle.exam_sql.specs.Made.{made_schema}
 use Rattle.exam_sql.specs.Tables.{paper, first_schema, made, store_schema}
 use Rattle.exam_sql.proofs.Fits.{Fits, fits_chosen}
 use Rattle.exam_sql.proofs.Keys.{cast_int, text_same}
 use Rattle.exam_sql.proofs.Loads.{load_of}
-use Rattle.exam_sql.specs.Plain.{on_conflict}
 use Rattle.exam_sql.specs.Keyed.{IsKeyed}
-use Rattle.exam_sql.proofs.Edits.{Means, PutsRow, upserts}
+use Rattle.exam_sql.proofs.Edits.{PutsRow, upserts}
 use Rattle.exam_sql.proofs.Keying.{by_index, or_false}
 use Rattle.exam_sql.proofs.Making.{Adds, IsCreate, adds_by}
 use Rattle.exam_sql.proofs.Quiet.{IsQuery}
+use Rattle.exam_sql.proofs.Terms.{Becomes, Changes, Finds, changed_terms, found_terms, given_terms}
 
 -- the text that makes it is understood, and nothing forbids the table
 create : IsCreate (made paper.at) paper.create
@@ -39,68 +31,45 @@ create = (refl, refl, (refl, refl), (lit≤ tt, refl))
 
 pub adds : Adds paper
 unfolding everything encode value_cmp fits_kind is_free_name same_name begins lib.Ieee.is_nan lib.Ieee.lt made
-adds = adds_by paper create refl refl refl refl refl refl refl (paper.create, (refl, refl)) (paper.table.name, (refl, refl)) refl (lit< tt) (lit< tt) refl refl refl (lit< tt)
+adds =
+    adds_by paper create refl refl refl refl refl refl refl (paper.create, (refl, refl)) (paper.table.name, (refl, refl)) refl
+    (lit< tt) (lit< tt) refl refl refl (lit< tt)
 
 -- it has one key, and no foreign key acts on its rows
 pub keyed : IsKeyed store_schema paper.at paper.table paper.key paper.key
 unfolding store_schema
 keyed = by_index paper refl refl refl refl (λ a b. ap (λ x. same_rowid a b || x) (or_false _)) (λ a b. or_false _) (λ db s h. not-true _ (and_parts _ _ h).0)
 
-abbrev pub row : (List ℕ) → (List ℕ) → (List ℕ) → ℤ → ℤ → Row
-row code title session minutes requires = Text code ∷ Text title ∷ Text session ∷ Int minutes ∷ Int requires ∷ []
-
-fits : (code : List ℕ) (title : List ℕ) (session : List ℕ) (minutes : ℤ) (requires : ℤ)
-    → Fits paper.table paper.key Null (row code title session minutes requires)
-    (row code title session minutes requires)
-fits code title session minutes requires = fits_chosen paper.table paper.key (row code title session minutes requires) refl (simp (cast_int)) (λ v. refl)
-
-abbrev terms : List Term
-terms = lit Null ∷ col 0 0 ∷ col 0 1 ∷ col 0 2 ∷ col 0 3 ∷ col 0 4 ∷ []
-
--- the row that is there
-abbrev there : List Term
-there = op2 (Compare Eq Binary) (col 1 0) (col 0 5) ∷ []
-
--- its rowid, and the row that it becomes
-abbrev project : List Term
-project = col 1 0 ∷ col 1 0 ∷ col 1 1 ∷ col 0 8 ∷ col 0 9 ∷ col 0 10 ∷ col 0 11 ∷ []
-
-put_means : Means store_schema paper.put (InsertOr paper.at Abort (Values terms 6) (on_conflict paper.key paper.table.tree there project ∷ [])) 5
+put_means : Changes paper paper.key
 unfolding understood everything store_schema
 put_means = (refl, (refl, refl), (lit≤ tt, refl))
 
-picked : (code : List ℕ) (title : List ℕ) (session : List ℕ) (minutes : ℤ) (requires : ℤ) (t r : Row) (id : ℤ)
-    → list_all (holds ((row code title session minutes requires ++ rowid t
-    ∷ shown paper.table (Int id ∷ row code title session minutes requires)) ∷ r ∷ [])) there ≡ same_rowid r t
-unfolding first_key
-picked code title session minutes requires t r id = refl
+module _ (code title session : List ℕ) (minutes requires : ℤ) where
+  abbrev pub row : Row
+  row = Text code ∷ Text title ∷ Text session ∷ Int minutes ∷ Int requires ∷ []
 
-written : (code : List ℕ) (title : List ℕ) (session : List ℕ) (minutes : ℤ) (requires : ℤ) (t : Row) (id : ℤ)
-    → same_key paper.key (bare (places paper.table) t) (Null ∷ row code title session minutes requires) ≡ true
-    → eval_all project ((row code title session minutes requires ++ rowid t
-    ∷ shown paper.table (Int id ∷ row code title session minutes requires)) ∷ t ∷ []) ≡ rowid t ∷ rowid t
-    ∷ row code title session minutes requires
-written code title session minutes requires t id same = ap (λ v. rowid t ∷ rowid t ∷ v ∷ Text title ∷ Text session ∷ Int minutes ∷ Int requires ∷ []) (text_same _ _ (and_parts _ _ same).0)
+  fits : Fits paper.table paper.key Null row row
+  fits = fits_chosen paper.table paper.key row refl (simp (cast_int)) (λ v. refl)
 
--- the row replaces the one with its key
-pub puts : (code : List ℕ) (title : List ℕ) (session : List ℕ) (minutes : ℤ) (requires : ℤ) → PutsRow paper.table.tree paper.key paper.put (row code title session minutes requires)
-puts code title session minutes requires =
-    upserts keyed paper.put terms 6 Null (row code title session minutes requires)
-    (row code title session minutes requires) (fits code title session minutes requires) refl there project put_means
-    (λ db. refl) (picked code title session minutes requires) (written code title session minutes requires)
+  finds : Finds paper row row
+  unfolding first_key
+  finds t r id = refl
 
-abbrev shown_terms : List Term
-shown_terms = col 1 1 ∷ col 1 2 ∷ col 1 3 ∷ col 1 4 ∷ col 1 5 ∷ []
+  becomes : Becomes paper row row
+  becomes t id same =
+      ap (λ v. rowid t ∷ rowid t ∷ v ∷ Text title ∷ Text session ∷ Int minutes ∷ Int requires ∷ []) (text_same _ _ (and_parts _ _ same).0)
+
+  -- the row replaces the one with its key
+  pub puts : PutsRow paper.table.tree paper.key paper.put row
+  puts =
+      upserts keyed paper.put (given_terms paper.table) 6 Null row row fits refl (found_terms paper.table)
+      (changed_terms paper.table) put_means (λ db. refl) finds becomes
 
 -- the text that loads shows each column, with the table of marks or without it
 pub loads : (has_marks : Bool) → IsLoad (made_schema has_marks) paper.table.tree paper.load
 unfolding understood everything store_schema first_schema
-loads true = load_of (made_schema true) paper.at paper.table paper.load shown_terms
-    (codes "code" ∷ codes "title" ∷ codes "session" ∷ codes "minutes" ∷ codes "requires" ∷ []) refl refl
-    (refl, refl) refl (λ db. refl) (λ r. refl)
-loads false = load_of (made_schema false) paper.at paper.table paper.load shown_terms
-    (codes "code" ∷ codes "title" ∷ codes "session" ∷ codes "minutes" ∷ codes "requires" ∷ []) refl refl
-    (refl, refl) refl (λ db. refl) (λ r. refl)
+loads true = load_of (made_schema true) paper refl refl (refl, refl) refl (λ db. refl) (λ r. refl)
+loads false = load_of (made_schema false) paper refl refl (refl, refl) refl (λ db. refl) (λ r. refl)
 
 pub is_query : IsQuery paper.load
 unfolding everything

@@ -1,13 +1,11 @@
 -- The table seat: how it is made, what its texts mean, and what they do.
-use Rattle.std.proofs.Common.{Bool, List, [], ap, codes, false, lit<, lit≤, refl, true, ℕ, ℤ, ◌||◌, ◌∷◌, ◌≡◌}
+use Rattle.std.proofs.Common.{Bool, List, [], ap, false, lit<, lit≤, refl, true, ℕ, ℤ, ◌||◌, ◌∷◌, ◌≡◌}
 use Rattle.std.specs.List.{list_all}
 use Rattle.std.proofs.lemmas.Bool.{and_parts, not-true}
 use Rattle.sqlite_value.specs.declared.value.Value.TheVariants.{Int, Null, Text}
 use Rattle.sqlite_value.specs.Order.{Row, value_cmp}
 use Rattle.sqlite_sql.specs.Term.{Term, col, holds, lit, op2}
-use Rattle.sqlite_schema.specs.declared.command.Conflict.TheVariants.{Replace}
-use Rattle.sqlite_schema.specs.declared.command.Command.TheVariants.{Delete, InsertOr}
-use Rattle.sqlite_schema.specs.declared.command.Source.TheVariants.{Values}
+use Rattle.sqlite_schema.specs.declared.command.Command.TheVariants.{Delete}
 use Rattle.sqlite_tied.specs.Compute.{everything}
 use Rattle.sqlite.specs.Listing.{understood}
 use Rattle.sqlite_value.specs.declared.keys.Collation.TheVariants.{Binary}
@@ -31,6 +29,7 @@ use Rattle.exam_sql.proofs.Edits.{Edits, Means, PutsRow, removes, replaces}
 use Rattle.exam_sql.proofs.Keying.{by_index, or_false}
 use Rattle.exam_sql.proofs.Making.{Adds, IsCreate, adds_by}
 use Rattle.exam_sql.proofs.Quiet.{IsQuery}
+use Rattle.exam_sql.proofs.Terms.{Replaces, given_terms}
 
 -- the text that makes it is understood, and nothing forbids the table
 create : IsCreate (made seat.at) seat.create
@@ -39,29 +38,29 @@ create = (refl, refl, (refl, refl), (lit≤ tt, refl))
 
 pub adds : Adds seat
 unfolding everything encode value_cmp fits_kind is_free_name same_name begins lib.Ieee.is_nan lib.Ieee.lt made
-adds = adds_by seat create refl refl refl refl refl refl refl (seat.create, (refl, refl)) (seat.table.name, (refl, refl)) refl (lit< tt) (lit< tt) refl refl refl (lit< tt)
+adds =
+    adds_by seat create refl refl refl refl refl refl refl (seat.create, (refl, refl)) (seat.table.name, (refl, refl)) refl
+    (lit< tt) (lit< tt) refl refl refl (lit< tt)
 
 -- it has one key, and no foreign key acts on its rows
 pub keyed : IsKeyed store_schema seat.at seat.table seat.key seat.key
 unfolding store_schema
 keyed = by_index seat refl refl refl refl (λ a b. ap (λ x. same_rowid a b || x) (or_false _)) (λ a b. or_false _) (λ db s h. not-true _ (and_parts _ _ h).0)
 
-abbrev pub row : (List ℕ) → ℤ → (List ℕ) → Row
-row session number hall = Text session ∷ Int number ∷ Text hall ∷ []
-
-fits : (session : List ℕ) (number : ℤ) (hall : List ℕ) → Fits seat.table seat.key Null (row session number hall) (row session number hall)
-fits session number hall = fits_chosen seat.table seat.key (row session number hall) refl (simp (cast_int)) (λ v. refl)
-
-abbrev terms : List Term
-terms = lit Null ∷ col 0 0 ∷ col 0 1 ∷ col 0 2 ∷ []
-
-put_means : Means store_schema seat.put (InsertOr seat.at Replace (Values terms 4) []) 3
+put_means : Replaces seat
 unfolding understood everything store_schema
 put_means = (refl, (refl, refl), (lit≤ tt, refl))
 
--- the row replaces the one with its key
-pub puts : (session : List ℕ) (number : ℤ) (hall : List ℕ) → PutsRow seat.table.tree seat.key seat.put (row session number hall)
-puts session number hall = replaces keyed seat.put terms 4 Null (row session number hall) (row session number hall) (fits session number hall) refl put_means
+module _ (session : List ℕ) (number : ℤ) (hall : List ℕ) where
+  abbrev pub row : Row
+  row = Text session ∷ Int number ∷ Text hall ∷ []
+
+  fits : Fits seat.table seat.key Null row row
+  fits = fits_chosen seat.table seat.key row refl (simp (cast_int)) (λ v. refl)
+
+  -- the row replaces the one with its key
+  pub puts : PutsRow seat.table.tree seat.key seat.put row
+  puts = replaces keyed seat.put (given_terms seat.table) 4 Null row row fits refl put_means
 
 abbrev key_terms : List Term
 key_terms = op2 (Compare Eq Binary) (col 1 1) (col 0 0) ∷ op2 (Compare Eq Binary) (col 1 2) (col 0 1) ∷ []
@@ -78,14 +77,11 @@ key_means params r = refl
 pub deletes : (session : List ℕ) (number : ℤ) → Edits (without_row seat.table.tree seat.key (Text session ∷ Int number ∷ [])) delete_seat (Text session ∷ Int number ∷ [])
 deletes session number = removes keyed delete_seat key_terms (Text session ∷ Int number ∷ []) delete_means (λ db. refl) (key_means (Text session ∷ Int number ∷ []))
 
-abbrev shown_terms : List Term
-shown_terms = col 1 1 ∷ col 1 2 ∷ col 1 3 ∷ []
-
 -- the text that loads shows each column, with the table of marks or without it
 pub loads : (has_marks : Bool) → IsLoad (made_schema has_marks) seat.table.tree seat.load
 unfolding understood everything store_schema first_schema
-loads true = load_of (made_schema true) seat.at seat.table seat.load shown_terms (codes "session" ∷ codes "number" ∷ codes "hall" ∷ []) refl refl (refl, refl) refl (λ db. refl) (λ r. refl)
-loads false = load_of (made_schema false) seat.at seat.table seat.load shown_terms (codes "session" ∷ codes "number" ∷ codes "hall" ∷ []) refl refl (refl, refl) refl (λ db. refl) (λ r. refl)
+loads true = load_of (made_schema true) seat refl refl (refl, refl) refl (λ db. refl) (λ r. refl)
+loads false = load_of (made_schema false) seat refl refl (refl, refl) refl (λ db. refl) (λ r. refl)
 
 pub is_query : IsQuery seat.load
 unfolding everything

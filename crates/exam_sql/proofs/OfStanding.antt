@@ -1,12 +1,9 @@
 -- The table standing: how it is made, what its texts mean, and what they do.
-use Rattle.std.proofs.Common.{List, [], ap, codes, lit<, lit≤, refl, ℕ, ℤ, ◌||◌, ◌∷◌}
+use Rattle.std.proofs.Common.{List, [], ap, lit<, lit≤, refl, ℕ, ℤ, ◌||◌, ◌∷◌}
 use Rattle.std.proofs.lemmas.Bool.{and_parts, not-true}
 use Rattle.sqlite_value.specs.declared.value.Value.TheVariants.{Int, Null, Text}
 use Rattle.sqlite_value.specs.Order.{Row, value_cmp}
-use Rattle.sqlite_sql.specs.Term.{Term, col, lit}
-use Rattle.sqlite_schema.specs.declared.command.Conflict.TheVariants.{Replace}
-use Rattle.sqlite_schema.specs.declared.command.Command.TheVariants.{InsertOr}
-use Rattle.sqlite_schema.specs.declared.command.Source.TheVariants.{Values}
+use Rattle.sqlite_sql.specs.Term.{lit}
 use Rattle.sqlite_tied.specs.Compute.{everything}
 use Rattle.sqlite.specs.Listing.{understood}
 use lib.Utf8.{encode}
@@ -18,10 +15,11 @@ use Rattle.exam_sql.proofs.Fits.{Fits, fits_chosen}
 use Rattle.exam_sql.proofs.Keys.{cast_int}
 use Rattle.exam_sql.proofs.Loads.{load_of}
 use Rattle.exam_sql.specs.Keyed.{IsKeyed}
-use Rattle.exam_sql.proofs.Edits.{Means, PutsRow, replaces}
+use Rattle.exam_sql.proofs.Edits.{PutsRow, replaces}
 use Rattle.exam_sql.proofs.Keying.{by_index, or_false}
 use Rattle.exam_sql.proofs.Making.{Adds, IsCreate, adds_by}
 use Rattle.exam_sql.proofs.Quiet.{IsQuery}
+use Rattle.exam_sql.proofs.Terms.{Replaces, given_terms}
 
 -- the text that makes it is understood, and nothing forbids the table
 create : IsCreate (made standing.at) standing.create
@@ -30,37 +28,34 @@ create = (refl, refl, (refl, refl), (lit≤ tt, refl))
 
 pub adds : Adds standing
 unfolding everything encode value_cmp fits_kind is_free_name same_name begins lib.Ieee.is_nan lib.Ieee.lt made
-adds = adds_by standing create refl refl refl refl refl refl refl (standing.create, (refl, refl)) (standing.table.name, (refl, refl)) refl (lit< tt) (lit< tt) refl refl refl (lit< tt)
+adds =
+    adds_by standing create refl refl refl refl refl refl refl (standing.create, (refl, refl)) (standing.table.name, (refl, refl)) refl
+    (lit< tt) (lit< tt) refl refl refl (lit< tt)
 
 -- it has one key, and no foreign key acts on its rows
 pub keyed : IsKeyed store_schema standing.at standing.table standing.key standing.key
 unfolding store_schema
 keyed = by_index standing refl refl refl refl (λ a b. ap (λ x. same_rowid a b || x) (or_false _)) (λ a b. or_false _) (λ db s h. not-true _ (and_parts _ _ h).0)
 
-abbrev pub row : ℤ → (List ℕ) → Row
-row number ref = Int number ∷ Text ref ∷ []
-
-fits : (number : ℤ) (ref : List ℕ) → Fits standing.table standing.key Null (row number ref) (row number ref)
-fits number ref = fits_chosen standing.table standing.key (row number ref) refl (simp (cast_int)) (λ v. refl)
-
-abbrev terms : List Term
-terms = lit Null ∷ col 0 0 ∷ col 0 1 ∷ []
-
-put_means : Means store_schema standing.put (InsertOr standing.at Replace (Values terms 3) []) 2
+put_means : Replaces standing
 unfolding understood everything store_schema
 put_means = (refl, (refl, refl), (lit≤ tt, refl))
 
--- the row replaces the one with its key
-pub puts : (number : ℤ) (ref : List ℕ) → PutsRow standing.table.tree standing.key standing.put (row number ref)
-puts number ref = replaces keyed standing.put terms 3 Null (row number ref) (row number ref) (fits number ref) refl put_means
+module _ (number : ℤ) (ref : List ℕ) where
+  abbrev pub row : Row
+  row = Int number ∷ Text ref ∷ []
 
-abbrev shown_terms : List Term
-shown_terms = col 1 1 ∷ col 1 2 ∷ []
+  fits : Fits standing.table standing.key Null row row
+  fits = fits_chosen standing.table standing.key row refl (simp (cast_int)) (λ v. refl)
+
+  -- the row replaces the one with its key
+  pub puts : PutsRow standing.table.tree standing.key standing.put row
+  puts = replaces keyed standing.put (given_terms standing.table) 3 Null row row fits refl put_means
 
 -- the text that loads shows each column
 pub loads : IsLoad store_schema standing.table.tree standing.load
 unfolding understood everything store_schema
-loads = load_of store_schema standing.at standing.table standing.load shown_terms (codes "number" ∷ codes "ref" ∷ []) refl refl (refl, refl) refl (λ db. refl) (λ r. refl)
+loads = load_of store_schema standing refl refl (refl, refl) refl (λ db. refl) (λ r. refl)
 
 pub is_query : IsQuery standing.load
 unfolding everything

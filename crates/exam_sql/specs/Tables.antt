@@ -1,5 +1,8 @@
 -- The eleven tables, each with its key and its texts.
-use Rattle.std.specs.Prelude.{codes, List, ℕ, [], ◌∷◌, Bool, true, false, Some, None, fold, take}
+use Rattle.std.specs.Prelude.{codes, List, ℕ, [], ◌∷◌, ◌++◌, ◌+◌, Bool, true, false, if◌then◌else◌, Option, Some, None}
+use Rattle.std.specs.Prelude.{drop, fold, get_or, length, map, take}
+use Rattle.std.specs.Fmt.{decimal}
+use Rattle.std.specs.List.{flat_map, range_with_len}
 use Rattle.sqlite.specs.Collation.TheVariants.{Binary}
 use Rattle.sqlite.specs.declared.types.Value.TheVariants.{Null}
 use Rattle.sqlite.specs.Kind.{Kind}
@@ -25,6 +28,12 @@ strict name kind not_null = record {
   default = Null;
   collation = Binary;
 }
+
+abbrev pub integer : List ℕ → Column
+integer name = strict name Integer true
+
+abbrev pub text : List ℕ → Column
+text name = strict name Text true
 
 -- a foreign key to the primary key of a table, with no action
 abbrev pub refers : List ℕ → List ℕ → List (List ℕ) → Reference
@@ -54,15 +63,15 @@ rowid_table tree name columns references = record {
   is_counted = false;
 }
 
--- a STRICT table with one key, at these places, beside the rowid
-abbrev pub strict_table : ℕ → List ℕ → List Column → List ℕ → List Reference → Table
-strict_table tree name columns key references = record {
+-- a STRICT table with one key beside the rowid: so many of its first columns
+abbrev pub strict_table : ℕ → List ℕ → List Column → ℕ → List Reference → Table
+strict_table tree name columns count references = record {
   name = name;
   tree = tree;
   columns = columns;
   key = None;
-  primary = key;
-  uniques = key ∷ [];
+  primary = range_with_len 1 count;
+  uniques = range_with_len 1 count ∷ [];
   orders = plain ∷ [];
   checks = [];
   references = references;
@@ -70,6 +79,74 @@ strict_table tree name columns key references = record {
   stamps = record { places = []; terms = []; formats = [] };
   is_counted = false;
 }
+
+-- ---- the texts of a table, whose key is its first columns
+
+-- words with a comma between each two
+abbrev pub in_list : List (List ℕ) → List ℕ
+in_list [] = []
+in_list (word ∷ words) = word ++ flat_map (λ (w : List ℕ). codes ", " ++ w) words
+
+abbrev pub in_brackets : List (List ℕ) → List ℕ
+in_brackets words = codes " (" ++ in_list words ++ codes ")"
+
+abbrev pub names : Table → List (List ℕ)
+names table = map (λ (c : Column). c.name) table.columns
+
+abbrev pub key_names : Table → List (List ℕ)
+key_names table = take (length table.primary) (names table)
+
+-- the name of the column whose value is at a place of a stored row, which begins with the rowid
+abbrev pub name_at : Table → ℕ → List ℕ
+name_at table place = get_or (name_of table.key ∷ names table) place []
+  where
+    name_of : Option ℕ → List ℕ
+    name_of None = []
+    name_of (Some at) = get_or (names table) at []
+
+abbrev pub kind_text : Kind → List ℕ
+kind_text Integer = codes " INTEGER"
+kind_text _ = codes " TEXT"
+
+abbrev pub column_text : Column → List ℕ
+column_text c = c.name ++ kind_text c.kind ++ (if c.not_null then codes " NOT NULL" else [])
+
+abbrev pub reference_text : Table → Reference → List ℕ
+reference_text table r =
+    codes "FOREIGN KEY" ++ in_brackets (map (name_at table) r.columns) ++ codes " REFERENCES " ++ r.parent
+    ++ in_brackets r.parent_columns
+
+-- the text that makes the table
+abbrev pub create_text : Table → List ℕ
+create_text table =
+    codes "CREATE TABLE " ++ table.name
+    ++ in_brackets (map column_text table.columns ++ (codes "PRIMARY KEY" ++ in_brackets (key_names table))
+    ∷ map (reference_text table) table.references)
+    ++ codes " STRICT"
+
+-- the text that loads all rows
+abbrev pub load_text : Table → List ℕ
+load_text table = codes "SELECT " ++ in_list (names table) ++ codes " FROM " ++ table.name
+
+-- what a row gives for each column
+abbrev pub values_text : Table → List ℕ
+values_text table =
+    table.name ++ in_brackets (names table) ++ codes " VALUES"
+    ++ in_brackets (map (λ (n : ℕ). codes "?" ++ decimal n) (range_with_len 1 (length table.columns)))
+
+-- the text that puts a row in the place of the one with its key, if there is one
+abbrev pub replace_text : Table → List ℕ
+replace_text table = codes "INSERT OR REPLACE INTO " ++ values_text table
+
+-- the text that puts a row, and changes the one with its key in place, if there is one
+abbrev pub change_text : Table → List ℕ
+change_text table =
+    codes "INSERT INTO " ++ values_text table ++ codes " ON CONFLICT" ++ in_brackets (key_names table)
+    ++ codes " DO UPDATE SET "
+    ++ in_list (map (λ (name : List ℕ). name ++ codes " = excluded." ++ name)
+    (drop (length table.primary) (names table)))
+
+-- ---- the tables
 
 -- all that is said of a table
 pub record Described : Type 0 where
@@ -84,176 +161,111 @@ pub record Described : Type 0 where
   pub put : List ℕ
   pub load : List ℕ
 
+-- the table at this place, whose rows are put by this text
+abbrev pub described : ℕ → (Table → List ℕ) → Table → Described
+described at put table = record {
+  at = at;
+  table = table;
+  key = range_with_len 1 (length table.primary);
+  create = create_text table;
+  put = put table;
+  load = load_text table;
+}
+
 -- the version
 abbrev pub office : Described
-office = record {
-  at = 0;
-  table = rowid_table 0 (codes "office")
-      (strict (codes "one") Integer true
-      ∷ strict (codes "version") Integer true ∷ [])
-      [];
-  key = 1 ∷ [];
-  create = codes "CREATE TABLE office (one INTEGER NOT NULL, version INTEGER NOT NULL, PRIMARY KEY (one)) STRICT";
-  put = codes "INSERT OR REPLACE INTO office (one, version) VALUES (1, ?1)";
-  load = codes "SELECT one, version FROM office";
-}
+office = described 0 (λ table. codes "INSERT OR REPLACE INTO office (one, version) VALUES (1, ?1)")
+    (rowid_table 0 (codes "office")
+      (integer (codes "one")
+      ∷ integer (codes "version") ∷ [])
+      [])
 
 abbrev pub session : Described
-session = record {
-  at = 1;
-  table = strict_table 1 (codes "session")
-      (strict (codes "code") Text true
-      ∷ strict (codes "day") Text true
-      ∷ strict (codes "start") Integer true ∷ []) (1 ∷ [])
-      [];
-  key = 1 ∷ [];
-  create = codes "CREATE TABLE session (code TEXT NOT NULL, day TEXT NOT NULL, start INTEGER NOT NULL, PRIMARY KEY (code)) STRICT";
-  put = codes "INSERT INTO session (code, day, start) VALUES (?1, ?2, ?3) ON CONFLICT (code) DO UPDATE SET day = excluded.day, start = excluded.start";
-  load = codes "SELECT code, day, start FROM session";
-}
+session = described 1 change_text (strict_table 1 (codes "session")
+      (text (codes "code")
+      ∷ text (codes "day")
+      ∷ integer (codes "start") ∷ []) 1
+      [])
 
 abbrev pub paper : Described
-paper = record {
-  at = 2;
-  table = strict_table 3 (codes "paper")
-      (strict (codes "code") Text true
-      ∷ strict (codes "title") Text true
-      ∷ strict (codes "session") Text true
-      ∷ strict (codes "minutes") Integer true
-      ∷ strict (codes "requires") Integer true ∷ []) (1 ∷ [])
-      (refers (3 ∷ []) (codes "session") (codes "code" ∷ []) ∷ []);
-  key = 1 ∷ [];
-  create = codes "CREATE TABLE paper (code TEXT NOT NULL, title TEXT NOT NULL, session TEXT NOT NULL, minutes INTEGER NOT NULL, requires INTEGER NOT NULL, PRIMARY KEY (code), FOREIGN KEY (session) REFERENCES session (code)) STRICT";
-  put = codes "INSERT INTO paper (code, title, session, minutes, requires) VALUES (?1, ?2, ?3, ?4, ?5) ON CONFLICT (code) DO UPDATE SET title = excluded.title, session = excluded.session, minutes = excluded.minutes, requires = excluded.requires";
-  load = codes "SELECT code, title, session, minutes, requires FROM paper";
-}
+paper = described 2 change_text (strict_table 3 (codes "paper")
+      (text (codes "code")
+      ∷ text (codes "title")
+      ∷ text (codes "session")
+      ∷ integer (codes "minutes")
+      ∷ integer (codes "requires") ∷ []) 1
+      (refers (3 ∷ []) (codes "session") (codes "code" ∷ []) ∷ []))
 
 abbrev pub hall : Described
-hall = record {
-  at = 3;
-  table = strict_table 5 (codes "hall")
-      (strict (codes "code") Text true
-      ∷ strict (codes "title") Text true
-      ∷ strict (codes "features") Integer true ∷ []) (1 ∷ [])
-      [];
-  key = 1 ∷ [];
-  create = codes "CREATE TABLE hall (code TEXT NOT NULL, title TEXT NOT NULL, features INTEGER NOT NULL, PRIMARY KEY (code)) STRICT";
-  put = codes "INSERT INTO hall (code, title, features) VALUES (?1, ?2, ?3) ON CONFLICT (code) DO UPDATE SET title = excluded.title, features = excluded.features";
-  load = codes "SELECT code, title, features FROM hall";
-}
+hall = described 3 change_text (strict_table 5 (codes "hall")
+      (text (codes "code")
+      ∷ text (codes "title")
+      ∷ integer (codes "features") ∷ []) 1
+      [])
 
 abbrev pub candidate : Described
-candidate = record {
-  at = 4;
-  table = rowid_table 7 (codes "candidate")
-      (strict (codes "number") Integer true
-      ∷ strict (codes "name") Text true
-      ∷ strict (codes "code") Text true ∷ [])
-      [];
-  key = 1 ∷ [];
-  create = codes "CREATE TABLE candidate (number INTEGER NOT NULL, name TEXT NOT NULL, code TEXT NOT NULL, PRIMARY KEY (number)) STRICT";
-  put = codes "INSERT INTO candidate (number, name, code) VALUES (?1, ?2, ?3) ON CONFLICT (number) DO UPDATE SET name = excluded.name, code = excluded.code";
-  load = codes "SELECT number, name, code FROM candidate";
-}
+candidate = described 4 change_text (rowid_table 7 (codes "candidate")
+      (integer (codes "number")
+      ∷ text (codes "name")
+      ∷ text (codes "code") ∷ [])
+      [])
 
 abbrev pub opening : Described
-opening = record {
-  at = 5;
-  table = strict_table 8 (codes "opening")
-      (strict (codes "session") Text true
-      ∷ strict (codes "hall") Text true
-      ∷ strict (codes "desks") Integer true
-      ∷ strict (codes "until") Integer true
-      ∷ strict (codes "reserved") Integer true ∷ []) (1 ∷ 2 ∷ [])
+opening = described 5 change_text (strict_table 8 (codes "opening")
+      (text (codes "session")
+      ∷ text (codes "hall")
+      ∷ integer (codes "desks")
+      ∷ integer (codes "until")
+      ∷ integer (codes "reserved") ∷ []) 2
       (refers (1 ∷ []) (codes "session") (codes "code" ∷ [])
-      ∷ refers (2 ∷ []) (codes "hall") (codes "code" ∷ []) ∷ []);
-  key = 1 ∷ 2 ∷ [];
-  create = codes "CREATE TABLE opening (session TEXT NOT NULL, hall TEXT NOT NULL, desks INTEGER NOT NULL, until INTEGER NOT NULL, reserved INTEGER NOT NULL, PRIMARY KEY (session, hall), FOREIGN KEY (session) REFERENCES session (code), FOREIGN KEY (hall) REFERENCES hall (code)) STRICT";
-  put = codes "INSERT INTO opening (session, hall, desks, until, reserved) VALUES (?1, ?2, ?3, ?4, ?5) ON CONFLICT (session, hall) DO UPDATE SET desks = excluded.desks, until = excluded.until, reserved = excluded.reserved";
-  load = codes "SELECT session, hall, desks, until, reserved FROM opening";
-}
+      ∷ refers (2 ∷ []) (codes "hall") (codes "code" ∷ []) ∷ []))
 
 abbrev pub entry : Described
-entry = record {
-  at = 6;
-  table = strict_table 10 (codes "entry")
-      (strict (codes "number") Integer true
-      ∷ strict (codes "paper") Text true
-      ∷ strict (codes "live") Integer true ∷ []) (1 ∷ 2 ∷ [])
+entry = described 6 replace_text (strict_table 10 (codes "entry")
+      (integer (codes "number")
+      ∷ text (codes "paper")
+      ∷ integer (codes "live") ∷ []) 2
       (refers (1 ∷ []) (codes "candidate") (codes "number" ∷ [])
-      ∷ refers (2 ∷ []) (codes "paper") (codes "code" ∷ []) ∷ []);
-  key = 1 ∷ 2 ∷ [];
-  create = codes "CREATE TABLE entry (number INTEGER NOT NULL, paper TEXT NOT NULL, live INTEGER NOT NULL, PRIMARY KEY (number, paper), FOREIGN KEY (number) REFERENCES candidate (number), FOREIGN KEY (paper) REFERENCES paper (code)) STRICT";
-  put = codes "INSERT OR REPLACE INTO entry (number, paper, live) VALUES (?1, ?2, ?3)";
-  load = codes "SELECT number, paper, live FROM entry";
-}
+      ∷ refers (2 ∷ []) (codes "paper") (codes "code" ∷ []) ∷ []))
 
 abbrev pub arrangement : Described
-arrangement = record {
-  at = 7;
-  table = rowid_table 12 (codes "arrangement")
-      (strict (codes "number") Integer true
-      ∷ strict (codes "needs") Integer true
-      ∷ strict (codes "extra") Integer true ∷ [])
-      (refers (0 ∷ []) (codes "candidate") (codes "number" ∷ []) ∷ []);
-  key = 1 ∷ [];
-  create = codes "CREATE TABLE arrangement (number INTEGER NOT NULL, needs INTEGER NOT NULL, extra INTEGER NOT NULL, PRIMARY KEY (number), FOREIGN KEY (number) REFERENCES candidate (number)) STRICT";
-  put = codes "INSERT OR REPLACE INTO arrangement (number, needs, extra) VALUES (?1, ?2, ?3)";
-  load = codes "SELECT number, needs, extra FROM arrangement";
-}
+arrangement = described 7 replace_text (rowid_table 12 (codes "arrangement")
+      (integer (codes "number")
+      ∷ integer (codes "needs")
+      ∷ integer (codes "extra") ∷ [])
+      (refers (0 ∷ []) (codes "candidate") (codes "number" ∷ []) ∷ []))
 
 abbrev pub appeal : Described
-appeal = record {
-  at = 8;
-  table = strict_table 13 (codes "appeal")
-      (strict (codes "number") Integer true
-      ∷ strict (codes "ref") Text true
-      ∷ strict (codes "session") Text true
-      ∷ strict (codes "kind") Integer true
-      ∷ strict (codes "target") Text true
-      ∷ strict (codes "needs") Integer true
-      ∷ strict (codes "extra") Integer true
-      ∷ strict (codes "reason") Text true
-      ∷ strict (codes "state") Integer true
+appeal = described 8 replace_text (strict_table 13 (codes "appeal")
+      (integer (codes "number")
+      ∷ text (codes "ref")
+      ∷ text (codes "session")
+      ∷ integer (codes "kind")
+      ∷ text (codes "target")
+      ∷ integer (codes "needs")
+      ∷ integer (codes "extra")
+      ∷ text (codes "reason")
+      ∷ integer (codes "state")
       ∷ strict (codes "answer") Text false
-      ∷ strict (codes "lodged") Text true ∷ []) (1 ∷ 2 ∷ [])
+      ∷ text (codes "lodged") ∷ []) 2
       (refers (1 ∷ []) (codes "candidate") (codes "number" ∷ [])
-      ∷ refers (3 ∷ []) (codes "session") (codes "code" ∷ []) ∷ []);
-  key = 1 ∷ 2 ∷ [];
-  create = codes "CREATE TABLE appeal (number INTEGER NOT NULL, ref TEXT NOT NULL, session TEXT NOT NULL, kind INTEGER NOT NULL, target TEXT NOT NULL, needs INTEGER NOT NULL, extra INTEGER NOT NULL, reason TEXT NOT NULL, state INTEGER NOT NULL, answer TEXT, lodged TEXT NOT NULL, PRIMARY KEY (number, ref), FOREIGN KEY (number) REFERENCES candidate (number), FOREIGN KEY (session) REFERENCES session (code)) STRICT";
-  put = codes "INSERT OR REPLACE INTO appeal (number, ref, session, kind, target, needs, extra, reason, state, answer, lodged) VALUES (?1, ?2, ?3, ?4, ?5, ?6, ?7, ?8, ?9, ?10, ?11)";
-  load = codes "SELECT number, ref, session, kind, target, needs, extra, reason, state, answer, lodged FROM appeal";
-}
+      ∷ refers (3 ∷ []) (codes "session") (codes "code" ∷ []) ∷ []))
 
 abbrev pub seat : Described
-seat = record {
-  at = 9;
-  table = strict_table 15 (codes "seat")
-      (strict (codes "session") Text true
-      ∷ strict (codes "number") Integer true
-      ∷ strict (codes "hall") Text true ∷ []) (1 ∷ 2 ∷ [])
+seat = described 9 replace_text (strict_table 15 (codes "seat")
+      (text (codes "session")
+      ∷ integer (codes "number")
+      ∷ text (codes "hall") ∷ []) 2
       (refers (2 ∷ []) (codes "candidate") (codes "number" ∷ [])
-      ∷ refers (1 ∷ 3 ∷ []) (codes "opening") (codes "session" ∷ codes "hall" ∷ []) ∷ []);
-  key = 1 ∷ 2 ∷ [];
-  create = codes "CREATE TABLE seat (session TEXT NOT NULL, number INTEGER NOT NULL, hall TEXT NOT NULL, PRIMARY KEY (session, number), FOREIGN KEY (number) REFERENCES candidate (number), FOREIGN KEY (session, hall) REFERENCES opening (session, hall)) STRICT";
-  put = codes "INSERT OR REPLACE INTO seat (session, number, hall) VALUES (?1, ?2, ?3)";
-  load = codes "SELECT session, number, hall FROM seat";
-}
+      ∷ refers (1 ∷ 3 ∷ []) (codes "opening") (codes "session" ∷ codes "hall" ∷ []) ∷ []))
 
 -- It is made last, even if all tables are new, so that a database that is brought to this version has the schema of a
 -- new one.
 abbrev pub standing : Described
-standing = record {
-  at = 10;
-  table = strict_table 17 (codes "standing")
-      (strict (codes "number") Integer true
-      ∷ strict (codes "ref") Text true ∷ []) (1 ∷ 2 ∷ [])
-      (refers (1 ∷ 2 ∷ []) (codes "appeal") (codes "number" ∷ codes "ref" ∷ []) ∷ []);
-  key = 1 ∷ 2 ∷ [];
-  create = codes "CREATE TABLE standing (number INTEGER NOT NULL, ref TEXT NOT NULL, PRIMARY KEY (number, ref), FOREIGN KEY (number, ref) REFERENCES appeal (number, ref)) STRICT";
-  put = codes "INSERT OR REPLACE INTO standing (number, ref) VALUES (?1, ?2)";
-  load = codes "SELECT number, ref FROM standing";
-}
+standing = described 10 replace_text (strict_table 17 (codes "standing")
+      (integer (codes "number")
+      ∷ text (codes "ref") ∷ []) 2
+      (refers (1 ∷ 2 ∷ []) (codes "appeal") (codes "number" ∷ codes "ref" ∷ []) ∷ []))
 
 -- the tables in the order in which they are made, each after those to which its rows refer
 abbrev pub all_tables : List Described

@@ -1,0 +1,68 @@
+-- The terms of the statements that put a row of a table.
+use Rattle.std.proofs.Common.{◌≡◌, ◌+◌, ◌-◌, ◌++◌, true, ℕ, ℤ, List, [], ◌∷◌, length, map, Option, None, Some}
+use Rattle.std.specs.List.{list_all, range_with_len}
+use Rattle.sqlite_value.specs.declared.keys.Collation.TheVariants.{Binary}
+use Rattle.sqlite_value.specs.declared.value.Value.TheVariants.{Int, Null}
+use Rattle.sqlite_value.specs.Order.{Row}
+use Rattle.sqlite_trees.specs.Tree.{rowid}
+use Rattle.sqlite_sql.specs.Term.{Term, col, eval_all, holds, lit, op2}
+use Rattle.sqlite_sql.specs.declared.ops.BinaryOp.TheVariants.{Compare}
+use Rattle.sqlite_sql.specs.declared.ops.CompareOp.TheVariants.{Eq}
+use Rattle.sqlite_schema.specs.declared.command.Command.TheVariants.{InsertOr}
+use Rattle.sqlite_schema.specs.declared.command.Conflict.TheVariants.{Abort, Replace}
+use Rattle.sqlite_schema.specs.declared.command.Source.TheVariants.{Values}
+use Rattle.sqlite_schema.specs.declared.schema.Table.{Table}
+use Rattle.sqlite.specs.Rows.{shown}
+use Rattle.exam_sql.specs.Content.{bare, places, same_key, same_rowid}
+use Rattle.exam_sql.specs.Plain.{on_conflict}
+use Rattle.exam_sql.specs.Tables.{Described, store_schema}
+use Rattle.exam_sql.proofs.Edits.{Means}
+
+-- what a statement gives for the rowid and for each column; a column that is the rowid is kept as NULL
+abbrev pub given_terms : Table → List Term
+given_terms table = given table.key
+  where
+    given : Option ℕ → List Term
+    given None = lit Null ∷ map (col 0) (range_with_len 0 (length table.columns))
+    given (Some at) = col 0 0 ∷ lit Null ∷ map (col 0) (range_with_len 1 (length table.columns - 1))
+
+-- the row that is there
+abbrev pub found_terms : Table → List Term
+found_terms table = op2 (Compare Eq Binary) (col 1 0) (col 0 (length table.columns)) ∷ []
+
+-- its rowid, and the row that it becomes: its key, and the other columns as they are given
+abbrev pub changed_terms : Table → List Term
+changed_terms table =
+    col 1 0 ∷ col 1 0 ∷ kept table.key
+    ++ map (col 0)
+    (range_with_len (length table.columns + length table.primary + 2) (length table.columns - length table.primary))
+  where
+    kept : Option ℕ → List Term
+    kept None = map (col 1) table.primary
+    kept (Some at) = lit Null ∷ []
+
+-- the text replaces the row with the key
+abbrev pub Replaces : Described → Type 0
+Replaces d =
+    Means store_schema d.put
+    (InsertOr d.at Replace (Values (given_terms d.table) (length d.table.columns + 1)) []) (length d.table.columns)
+
+-- the text changes the row with the key, whose places in a stored row these are
+abbrev pub Changes : Described → List ℕ → Type 0
+Changes d target =
+    Means store_schema d.put
+    (InsertOr d.at Abort (Values (given_terms d.table) (length d.table.columns + 1))
+    (on_conflict target d.table.tree (found_terms d.table) (changed_terms d.table) ∷ [])) (length d.table.columns)
+
+-- the row that is changed is the one with the rowid
+abbrev pub Finds : Described → Row → Row → Type 0
+Finds d columns row = (t r : Row) (id : ℤ)
+    → list_all (holds ((row ++ rowid t ∷ shown d.table (Int id ∷ columns)) ∷ r ∷ [])) (found_terms d.table)
+    ≡ same_rowid r t
+
+-- the row that has the key becomes the one that is given
+abbrev pub Becomes : Described → Row → Row → Type 0
+Becomes d columns row = (t : Row) (id : ℤ)
+    → same_key d.key (bare (places d.table) t) (Null ∷ row) ≡ true
+    → eval_all (changed_terms d.table) ((row ++ rowid t ∷ shown d.table (Int id ∷ columns)) ∷ t ∷ [])
+    ≡ rowid t ∷ rowid t ∷ columns
