@@ -5,14 +5,10 @@ use Rattle.std.proofs.lemmas.Bool.{and_parts, not-true}
 use Rattle.sqlite_value.specs.declared.value.Value.TheVariants.{Int, Null, Text}
 use Rattle.sqlite_value.specs.Order.{Row, value_cmp}
 use Rattle.sqlite_trees.specs.Tree.{rowid}
-use Rattle.sqlite_sql.specs.Term.{Term, col, holds, lit, op2}
-use Rattle.sqlite_schema.specs.declared.command.Command.TheVariants.{Delete}
+use Rattle.sqlite_sql.specs.Term.{holds, lit}
 use Rattle.sqlite_tied.specs.Compute.{everything}
 use Rattle.sqlite.specs.Listing.{understood}
-use Rattle.sqlite_value.specs.declared.keys.Collation.TheVariants.{Binary}
 use Rattle.sqlite_value.specs.Keys.{first_key}
-use Rattle.sqlite_sql.specs.declared.ops.BinaryOp.TheVariants.{Compare}
-use Rattle.sqlite_sql.specs.declared.ops.CompareOp.TheVariants.{Eq}
 use lib.Utf8.{encode}
 use Rattle.sqlite_trees.specs.Sound.{begins, fits_kind, is_free_name, same_name}
 use Rattle.exam_sql.specs.Content.{bare, places, same_key, same_rowid}
@@ -23,14 +19,13 @@ use Rattle.exam_sql.specs.Texts.{delete_opening}
 use Rattle.exam_sql.proofs.Fits.{Fits, fits_chosen}
 use Rattle.exam_sql.proofs.Keys.{cast_int, text_same}
 use Rattle.exam_sql.proofs.Loads.{load_of}
-use Rattle.exam_sql.specs.Plain.{one_table}
 use Rattle.exam_sql.specs.Keyed.{IsKeyed}
 use Rattle.exam_sql.specs.Changes.{without_row}
-use Rattle.exam_sql.proofs.Edits.{Edits, Means, PutsRow, removes, upserts}
+use Rattle.exam_sql.proofs.Edits.{Edits, PutsRow, removes, upserts}
 use Rattle.exam_sql.proofs.Keying.{by_index, or_false}
 use Rattle.exam_sql.proofs.Making.{Adds, IsCreate, adds_by}
 use Rattle.exam_sql.proofs.Quiet.{IsQuery}
-use Rattle.exam_sql.proofs.Terms.{Becomes, Changes, Finds, changed_terms, found_terms, given_terms}
+use Rattle.exam_sql.proofs.Terms.{Deletes, Becomes, Changes, Finds, changed_terms, found_terms, given_terms, key_terms}
 
 -- the text that makes it is understood, and nothing forbids the table
 create : IsCreate (made opening.at) opening.create
@@ -74,20 +69,21 @@ module _ (session hall : List ℕ) (desks until reserved : ℤ) where
       upserts keyed opening.put (given_terms opening.table) 6 Null row row fits refl (found_terms opening.table)
       (changed_terms opening.table) put_means (λ db. refl) finds becomes
 
-abbrev key_terms : List Term
-key_terms = op2 (Compare Eq Binary) (col 1 1) (col 0 0) ∷ op2 (Compare Eq Binary) (col 1 2) (col 0 1) ∷ []
-
-delete_means : Means store_schema delete_opening (Delete opening.at (record { lets = []; body = one_table opening.table.tree key_terms (col 1 0 ∷ []) [] })) 2
+delete_means : Deletes opening delete_opening
 unfolding understood everything store_schema
 delete_means = (refl, (refl, refl), (lit≤ tt, refl))
 
-key_means : (params r : Row) → list_all (holds (params ∷ r ∷ [])) key_terms ≡ same_key opening.key (bare (places opening.table) r) (Null ∷ params)
+key_means : (params r : Row) → list_all (holds (params ∷ r ∷ [])) (key_terms opening.table) ≡ same_key opening.key (bare (places opening.table) r) (Null ∷ params)
 unfolding first_key
 key_means params r = refl
 
--- the row with the key is taken away
-pub deletes : (session : List ℕ) (hall : List ℕ) → Edits (without_row opening.table.tree opening.key (Text session ∷ Text hall ∷ [])) delete_opening (Text session ∷ Text hall ∷ [])
-deletes session hall = removes keyed delete_opening key_terms (Text session ∷ Text hall ∷ []) delete_means (λ db. refl) (key_means (Text session ∷ Text hall ∷ []))
+module _ (session hall : List ℕ) where
+  abbrev key_row : Row
+  key_row = Text session ∷ Text hall ∷ []
+
+  -- the row with the key is taken away
+  pub deletes : Edits (without_row opening.table.tree opening.key key_row) delete_opening key_row
+  deletes = removes keyed delete_opening (key_terms opening.table) key_row delete_means (λ db. refl) (key_means key_row)
 
 -- the text that loads shows each column, with the table of marks or without it
 pub loads : (has_marks : Bool) → IsLoad (made_schema has_marks) opening.table.tree opening.load

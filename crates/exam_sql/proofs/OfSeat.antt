@@ -4,14 +4,10 @@ use Rattle.std.specs.List.{list_all}
 use Rattle.std.proofs.lemmas.Bool.{and_parts, not-true}
 use Rattle.sqlite_value.specs.declared.value.Value.TheVariants.{Int, Null, Text}
 use Rattle.sqlite_value.specs.Order.{Row, value_cmp}
-use Rattle.sqlite_sql.specs.Term.{Term, col, holds, lit, op2}
-use Rattle.sqlite_schema.specs.declared.command.Command.TheVariants.{Delete}
+use Rattle.sqlite_sql.specs.Term.{holds, lit}
 use Rattle.sqlite_tied.specs.Compute.{everything}
 use Rattle.sqlite.specs.Listing.{understood}
-use Rattle.sqlite_value.specs.declared.keys.Collation.TheVariants.{Binary}
 use Rattle.sqlite_value.specs.Keys.{first_key}
-use Rattle.sqlite_sql.specs.declared.ops.BinaryOp.TheVariants.{Compare}
-use Rattle.sqlite_sql.specs.declared.ops.CompareOp.TheVariants.{Eq}
 use lib.Utf8.{encode}
 use Rattle.sqlite_trees.specs.Sound.{begins, fits_kind, is_free_name, same_name}
 use Rattle.exam_sql.specs.Content.{bare, places, same_key, same_rowid}
@@ -22,14 +18,13 @@ use Rattle.exam_sql.specs.Texts.{delete_seat}
 use Rattle.exam_sql.proofs.Fits.{Fits, fits_chosen}
 use Rattle.exam_sql.proofs.Keys.{cast_int}
 use Rattle.exam_sql.proofs.Loads.{load_of}
-use Rattle.exam_sql.specs.Plain.{one_table}
 use Rattle.exam_sql.specs.Keyed.{IsKeyed}
 use Rattle.exam_sql.specs.Changes.{without_row}
-use Rattle.exam_sql.proofs.Edits.{Edits, Means, PutsRow, removes, replaces}
+use Rattle.exam_sql.proofs.Edits.{Edits, PutsRow, removes, replaces}
 use Rattle.exam_sql.proofs.Keying.{by_index, or_false}
 use Rattle.exam_sql.proofs.Making.{Adds, IsCreate, adds_by}
 use Rattle.exam_sql.proofs.Quiet.{IsQuery}
-use Rattle.exam_sql.proofs.Terms.{Replaces, given_terms}
+use Rattle.exam_sql.proofs.Terms.{Deletes, Replaces, given_terms, key_terms}
 
 -- the text that makes it is understood, and nothing forbids the table
 create : IsCreate (made seat.at) seat.create
@@ -62,20 +57,21 @@ module _ (session : List ℕ) (number : ℤ) (hall : List ℕ) where
   pub puts : PutsRow seat.table.tree seat.key seat.put row
   puts = replaces keyed seat.put (given_terms seat.table) 4 Null row row fits refl put_means
 
-abbrev key_terms : List Term
-key_terms = op2 (Compare Eq Binary) (col 1 1) (col 0 0) ∷ op2 (Compare Eq Binary) (col 1 2) (col 0 1) ∷ []
-
-delete_means : Means store_schema delete_seat (Delete seat.at (record { lets = []; body = one_table seat.table.tree key_terms (col 1 0 ∷ []) [] })) 2
+delete_means : Deletes seat delete_seat
 unfolding understood everything store_schema
 delete_means = (refl, (refl, refl), (lit≤ tt, refl))
 
-key_means : (params r : Row) → list_all (holds (params ∷ r ∷ [])) key_terms ≡ same_key seat.key (bare (places seat.table) r) (Null ∷ params)
+key_means : (params r : Row) → list_all (holds (params ∷ r ∷ [])) (key_terms seat.table) ≡ same_key seat.key (bare (places seat.table) r) (Null ∷ params)
 unfolding first_key
 key_means params r = refl
 
--- the row with the key is taken away
-pub deletes : (session : List ℕ) (number : ℤ) → Edits (without_row seat.table.tree seat.key (Text session ∷ Int number ∷ [])) delete_seat (Text session ∷ Int number ∷ [])
-deletes session number = removes keyed delete_seat key_terms (Text session ∷ Int number ∷ []) delete_means (λ db. refl) (key_means (Text session ∷ Int number ∷ []))
+module _ (session : List ℕ) (number : ℤ) where
+  abbrev key_row : Row
+  key_row = Text session ∷ Int number ∷ []
+
+  -- the row with the key is taken away
+  pub deletes : Edits (without_row seat.table.tree seat.key key_row) delete_seat key_row
+  deletes = removes keyed delete_seat (key_terms seat.table) key_row delete_means (λ db. refl) (key_means key_row)
 
 -- the text that loads shows each column, with the table of marks or without it
 pub loads : (has_marks : Bool) → IsLoad (made_schema has_marks) seat.table.tree seat.load

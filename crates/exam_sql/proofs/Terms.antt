@@ -8,13 +8,13 @@ use Rattle.sqlite_trees.specs.Tree.{rowid}
 use Rattle.sqlite_sql.specs.Term.{Term, col, eval_all, holds, lit, op2}
 use Rattle.sqlite_sql.specs.declared.ops.BinaryOp.TheVariants.{Compare}
 use Rattle.sqlite_sql.specs.declared.ops.CompareOp.TheVariants.{Eq}
-use Rattle.sqlite_schema.specs.declared.command.Command.TheVariants.{InsertOr}
+use Rattle.sqlite_schema.specs.declared.command.Command.TheVariants.{Delete, InsertOr}
 use Rattle.sqlite_schema.specs.declared.command.Conflict.TheVariants.{Abort, Replace}
 use Rattle.sqlite_schema.specs.declared.command.Source.TheVariants.{Values}
 use Rattle.sqlite_schema.specs.declared.schema.Table.{Table}
 use Rattle.sqlite.specs.Rows.{shown}
 use Rattle.exam_sql.specs.Content.{bare, places, same_key, same_rowid}
-use Rattle.exam_sql.specs.Plain.{on_conflict}
+use Rattle.exam_sql.specs.Plain.{on_conflict, one_table}
 use Rattle.exam_sql.specs.Tables.{Described, store_schema}
 use Rattle.exam_sql.proofs.Edits.{Means}
 
@@ -40,6 +40,17 @@ changed_terms table =
     kept : Option ℕ → List Term
     kept None = map (col 1) table.primary
     kept (Some at) = lit Null ∷ []
+
+-- the row has the key that is given
+abbrev pub key_terms : Table → List Term
+key_terms table = map (λ (p : ℕ). op2 (Compare Eq Binary) (col 1 p) (col 0 (p - 1))) table.primary
+
+-- the text deletes the row with the key
+abbrev pub Deletes : Described → List ℕ → Type 0
+Deletes d text =
+    Means store_schema text
+    (Delete d.at (record { lets = []; body = one_table d.table.tree (key_terms d.table) (col 1 0 ∷ []) [] }))
+    (length d.table.primary)
 
 -- the text replaces the row with the key
 abbrev pub Replaces : Described → Type 0

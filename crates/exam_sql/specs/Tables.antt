@@ -35,6 +35,9 @@ integer name = strict name Integer true
 abbrev pub text : List ℕ → Column
 text name = strict name Text true
 
+abbrev pub nullable_text : List ℕ → Column
+nullable_text name = strict name Text false
+
 -- a foreign key to the primary key of a table, with no action
 abbrev pub refers : List ℕ → List ℕ → List (List ℕ) → Reference
 refers columns parent parent_columns = record {
@@ -64,8 +67,8 @@ rowid_table tree name columns references = record {
 }
 
 -- a STRICT table with one key beside the rowid: so many of its first columns
-abbrev pub strict_table : ℕ → List ℕ → List Column → ℕ → List Reference → Table
-strict_table tree name columns count references = record {
+abbrev pub strict_table : ℕ → List ℕ → ℕ → List Column → List Reference → Table
+strict_table tree name count columns references = record {
   name = name;
   tree = tree;
   columns = columns;
@@ -128,6 +131,16 @@ create_text table =
 abbrev pub load_text : Table → List ℕ
 load_text table = codes "SELECT " ++ in_list (names table) ++ codes " FROM " ++ table.name
 
+-- the text that deletes the row with a key
+abbrev pub delete_text : Table → List ℕ
+delete_text table =
+    codes "DELETE FROM " ++ table.name ++ codes " WHERE " ++ equal_to 1 (key_names table)
+  where
+    equal_to : ℕ → List (List ℕ) → List ℕ
+    equal_to n [] = []
+    equal_to n (name ∷ []) = name ++ codes " = ?" ++ decimal n
+    equal_to n (name ∷ more) = name ++ codes " = ?" ++ decimal n ++ codes " AND " ++ equal_to (n + 1) more
+
 -- what a row gives for each column
 abbrev pub values_text : Table → List ℕ
 values_text table =
@@ -174,98 +187,69 @@ described at put table = record {
 
 -- the version
 abbrev pub office : Described
-office = described 0 (λ table. codes "INSERT OR REPLACE INTO office (one, version) VALUES (1, ?1)")
-    (rowid_table 0 (codes "office")
-      (integer (codes "one")
-      ∷ integer (codes "version") ∷ [])
-      [])
+office = described 0 (λ table. codes "INSERT OR REPLACE INTO office (one, version) VALUES (1, ?1)") (rowid_table 0 (codes "office")
+    (integer (codes "one") ∷ integer (codes "version") ∷ [])
+    [])
 
 abbrev pub session : Described
-session = described 1 change_text (strict_table 1 (codes "session")
-      (text (codes "code")
-      ∷ text (codes "day")
-      ∷ integer (codes "start") ∷ []) 1
-      [])
+session = described 1 change_text (strict_table 1 (codes "session") 1
+    (text (codes "code") ∷ text (codes "day") ∷ integer (codes "start") ∷ [])
+    [])
 
 abbrev pub paper : Described
-paper = described 2 change_text (strict_table 3 (codes "paper")
-      (text (codes "code")
-      ∷ text (codes "title")
-      ∷ text (codes "session")
-      ∷ integer (codes "minutes")
-      ∷ integer (codes "requires") ∷ []) 1
-      (refers (3 ∷ []) (codes "session") (codes "code" ∷ []) ∷ []))
+paper = described 2 change_text (strict_table 3 (codes "paper") 1
+    (text (codes "code") ∷ text (codes "title") ∷ text (codes "session") ∷ integer (codes "minutes")
+    ∷ integer (codes "requires") ∷ [])
+    (refers (3 ∷ []) (codes "session") (codes "code" ∷ []) ∷ []))
 
 abbrev pub hall : Described
-hall = described 3 change_text (strict_table 5 (codes "hall")
-      (text (codes "code")
-      ∷ text (codes "title")
-      ∷ integer (codes "features") ∷ []) 1
-      [])
+hall = described 3 change_text (strict_table 5 (codes "hall") 1
+    (text (codes "code") ∷ text (codes "title") ∷ integer (codes "features") ∷ [])
+    [])
 
 abbrev pub candidate : Described
 candidate = described 4 change_text (rowid_table 7 (codes "candidate")
-      (integer (codes "number")
-      ∷ text (codes "name")
-      ∷ text (codes "code") ∷ [])
-      [])
+    (integer (codes "number") ∷ text (codes "name") ∷ text (codes "code") ∷ [])
+    [])
 
 abbrev pub opening : Described
-opening = described 5 change_text (strict_table 8 (codes "opening")
-      (text (codes "session")
-      ∷ text (codes "hall")
-      ∷ integer (codes "desks")
-      ∷ integer (codes "until")
-      ∷ integer (codes "reserved") ∷ []) 2
-      (refers (1 ∷ []) (codes "session") (codes "code" ∷ [])
-      ∷ refers (2 ∷ []) (codes "hall") (codes "code" ∷ []) ∷ []))
+opening = described 5 change_text (strict_table 8 (codes "opening") 2
+    (text (codes "session") ∷ text (codes "hall") ∷ integer (codes "desks") ∷ integer (codes "until")
+    ∷ integer (codes "reserved") ∷ [])
+    (refers (1 ∷ []) (codes "session") (codes "code" ∷ [])
+    ∷ refers (2 ∷ []) (codes "hall") (codes "code" ∷ []) ∷ []))
 
 abbrev pub entry : Described
-entry = described 6 replace_text (strict_table 10 (codes "entry")
-      (integer (codes "number")
-      ∷ text (codes "paper")
-      ∷ integer (codes "live") ∷ []) 2
-      (refers (1 ∷ []) (codes "candidate") (codes "number" ∷ [])
-      ∷ refers (2 ∷ []) (codes "paper") (codes "code" ∷ []) ∷ []))
+entry = described 6 replace_text (strict_table 10 (codes "entry") 2
+    (integer (codes "number") ∷ text (codes "paper") ∷ integer (codes "live") ∷ [])
+    (refers (1 ∷ []) (codes "candidate") (codes "number" ∷ [])
+    ∷ refers (2 ∷ []) (codes "paper") (codes "code" ∷ []) ∷ []))
 
 abbrev pub arrangement : Described
 arrangement = described 7 replace_text (rowid_table 12 (codes "arrangement")
-      (integer (codes "number")
-      ∷ integer (codes "needs")
-      ∷ integer (codes "extra") ∷ [])
-      (refers (0 ∷ []) (codes "candidate") (codes "number" ∷ []) ∷ []))
+    (integer (codes "number") ∷ integer (codes "needs") ∷ integer (codes "extra") ∷ [])
+    (refers (0 ∷ []) (codes "candidate") (codes "number" ∷ []) ∷ []))
 
 abbrev pub appeal : Described
-appeal = described 8 replace_text (strict_table 13 (codes "appeal")
-      (integer (codes "number")
-      ∷ text (codes "ref")
-      ∷ text (codes "session")
-      ∷ integer (codes "kind")
-      ∷ text (codes "target")
-      ∷ integer (codes "needs")
-      ∷ integer (codes "extra")
-      ∷ text (codes "reason")
-      ∷ integer (codes "state")
-      ∷ strict (codes "answer") Text false
-      ∷ text (codes "lodged") ∷ []) 2
-      (refers (1 ∷ []) (codes "candidate") (codes "number" ∷ [])
-      ∷ refers (3 ∷ []) (codes "session") (codes "code" ∷ []) ∷ []))
+appeal = described 8 replace_text (strict_table 13 (codes "appeal") 2
+    (integer (codes "number") ∷ text (codes "ref") ∷ text (codes "session") ∷ integer (codes "kind")
+    ∷ text (codes "target") ∷ integer (codes "needs") ∷ integer (codes "extra") ∷ text (codes "reason")
+    ∷ integer (codes "state") ∷ nullable_text (codes "answer") ∷ text (codes "lodged") ∷ [])
+    (refers (1 ∷ []) (codes "candidate") (codes "number" ∷ [])
+    ∷ refers (3 ∷ []) (codes "session") (codes "code" ∷ []) ∷ []))
 
 abbrev pub seat : Described
-seat = described 9 replace_text (strict_table 15 (codes "seat")
-      (text (codes "session")
-      ∷ integer (codes "number")
-      ∷ text (codes "hall") ∷ []) 2
-      (refers (2 ∷ []) (codes "candidate") (codes "number" ∷ [])
-      ∷ refers (1 ∷ 3 ∷ []) (codes "opening") (codes "session" ∷ codes "hall" ∷ []) ∷ []))
+seat = described 9 replace_text (strict_table 15 (codes "seat") 2
+    (text (codes "session") ∷ integer (codes "number") ∷ text (codes "hall") ∷ [])
+    (refers (2 ∷ []) (codes "candidate") (codes "number" ∷ [])
+    ∷ refers (1 ∷ 3 ∷ []) (codes "opening") (codes "session" ∷ codes "hall" ∷ []) ∷ []))
 
 -- It is made last, even if all tables are new, so that a database that is brought to this version has the schema of a
 -- new one.
 abbrev pub standing : Described
-standing = described 10 replace_text (strict_table 17 (codes "standing")
-      (integer (codes "number")
-      ∷ text (codes "ref") ∷ []) 2
-      (refers (1 ∷ 2 ∷ []) (codes "appeal") (codes "number" ∷ codes "ref" ∷ []) ∷ []))
+standing = described 10 replace_text (strict_table 17 (codes "standing") 2
+    (integer (codes "number") ∷ text (codes "ref") ∷ [])
+    (refers (1 ∷ 2 ∷ []) (codes "appeal") (codes "number" ∷ codes "ref" ∷ []) ∷ []))
 
 -- the tables in the order in which they are made, each after those to which its rows refer
 abbrev pub all_tables : List Described

@@ -2,13 +2,13 @@
 -- the tables.
 use Rattle.std.specs.Prelude.{ℕ, List, [], ◌∷◌, ◌++◌, codes}
 use Rattle.exam_sql.specs.Tables.{office, session, paper, hall, candidate, opening, entry, arrangement, appeal}
-use Rattle.exam_sql.specs.Tables.{seat, standing}
+use Rattle.exam_sql.specs.Tables.{seat, standing, delete_text}
 
 abbrev pub delete_opening : List ℕ
-delete_opening = codes "DELETE FROM opening WHERE session = ?1 AND hall = ?2"
+delete_opening = delete_text opening.table
 
 abbrev pub delete_seat : List ℕ
-delete_seat = codes "DELETE FROM seat WHERE session = ?1 AND number = ?2"
+delete_seat = delete_text seat.table
 
 abbrev pub load_office : List ℕ
 load_office = office.load
