@@ -1,28 +1,36 @@
 -- The table appeal: how it is made, what its texts mean, and what they do.
-use Rattle.std.proofs.Common.{Bool, List, None, Some, Option, [], ap, codes, false, lit<, lit≤, refl, true, ℕ, ℤ, ◌||◌, ◌∷◌, ◌≡◌}
+use Rattle.std.proofs.Common.{Bool, List, None, Some, Option, [], ap, codes, false, lit<, lit≤, refl, true, ℕ, ℤ, ◌++◌, ◌||◌, ◌∷◌, ◌≡◌}
+use Rattle.std.specs.List.{list_all}
 use Rattle.std.proofs.lemmas.Bool.{and_parts, not-true}
 use Rattle.sqlite.specs.Kind.TheVariants.{Text as KindText}
 use Rattle.sqlite_rules.specs.Cast.{cast}
 use Rattle.sqlite_value.specs.declared.value.Value.TheVariants.{Int, Null, Text}
 use Rattle.sqlite_value.specs.Order.{Row, value_cmp}
-use Rattle.sqlite_sql.specs.Term.{Term, col, lit}
-use Rattle.sqlite_schema.specs.declared.command.Conflict.TheVariants.{Replace}
+use Rattle.sqlite_trees.specs.Tree.{rowid}
+use Rattle.sqlite_sql.specs.Term.{Term, col, eval_all, holds, lit, op2}
+use Rattle.sqlite_schema.specs.declared.command.Conflict.TheVariants.{Abort}
 use Rattle.sqlite_schema.specs.declared.command.Command.TheVariants.{InsertOr}
 use Rattle.sqlite_schema.specs.declared.command.Source.TheVariants.{Values}
 use Rattle.sqlite_tied.specs.Compute.{everything}
 use Rattle.sqlite.specs.Listing.{understood}
+use Rattle.sqlite_value.specs.declared.keys.Collation.TheVariants.{Binary}
+use Rattle.sqlite_value.specs.Keys.{first_key}
+use Rattle.sqlite_sql.specs.declared.ops.BinaryOp.TheVariants.{Compare}
+use Rattle.sqlite_sql.specs.declared.ops.CompareOp.TheVariants.{Eq}
+use Rattle.sqlite.specs.Rows.{shown}
 use Rattle.sqlite.specs.Values.{or_null}
 use lib.Utf8.{encode}
 use Rattle.sqlite_trees.specs.Sound.{begins, fits_kind, is_free_name, same_name}
-use Rattle.exam_sql.specs.Content.{same_rowid}
+use Rattle.exam_sql.specs.Content.{bare, places, same_key, same_rowid}
 use Rattle.exam_sql.specs.Loads.{IsLoad}
 use Rattle.exam_sql.specs.Made.{made_schema}
 use Rattle.exam_sql.specs.Tables.{appeal, first_schema, made, store_schema}
 use Rattle.exam_sql.proofs.Fits.{Fits, fits_chosen}
-use Rattle.exam_sql.proofs.Keys.{cast_int}
+use Rattle.exam_sql.proofs.Keys.{cast_int, text_same}
 use Rattle.exam_sql.proofs.Loads.{load_of}
+use Rattle.exam_sql.specs.Plain.{on_conflict}
 use Rattle.exam_sql.specs.Keyed.{IsKeyed}
-use Rattle.exam_sql.proofs.Edits.{Means, PutsRow, replaces}
+use Rattle.exam_sql.proofs.Edits.{Means, PutsRow, upserts}
 use Rattle.exam_sql.proofs.Keying.{by_index, or_false}
 use Rattle.exam_sql.proofs.Making.{Adds, IsCreate, adds_by}
 use Rattle.exam_sql.proofs.Quiet.{IsQuery}
@@ -63,9 +71,35 @@ fits number reference session kind target needs extra reason state answer lodged
 abbrev terms : List Term
 terms = lit Null ∷ col 0 0 ∷ col 0 1 ∷ col 0 2 ∷ col 0 3 ∷ col 0 4 ∷ col 0 5 ∷ col 0 6 ∷ col 0 7 ∷ col 0 8 ∷ col 0 9 ∷ col 0 10 ∷ []
 
-put_means : Means store_schema appeal.put (InsertOr appeal.at Replace (Values terms 12) []) 11
+-- the row that is there
+abbrev there : List Term
+there = op2 (Compare Eq Binary) (col 1 0) (col 0 11) ∷ []
+
+-- its rowid, and the row that it becomes: the number is written too, since SQL takes 1 and 1.0 for equal
+abbrev project : List Term
+project = col 1 0 ∷ col 1 0 ∷ col 0 13 ∷ col 1 2 ∷ col 0 15 ∷ col 0 16 ∷ col 0 17 ∷ col 0 18 ∷ col 0 19 ∷ col 0 20 ∷ col 0 21 ∷ col 0 22 ∷ col 0 23 ∷ []
+
+put_means : Means store_schema appeal.put (InsertOr appeal.at Abort (Values terms 12) (on_conflict appeal.key appeal.table.tree there project ∷ [])) 11
 unfolding understood everything store_schema
 put_means = (refl, (refl, refl), (lit≤ tt, refl))
+
+picked : (number : ℤ) (reference : List ℕ) (session : List ℕ) (kind : ℤ) (target : List ℕ) (needs : ℤ) (extra : ℤ)
+    (reason : List ℕ) (state : ℤ) (answer : Option (List ℕ)) (lodged : List ℕ) (t r : Row) (id : ℤ)
+    → list_all (holds ((row number reference session kind target needs extra reason state answer lodged ++ rowid t
+    ∷ shown appeal.table (Int id ∷ row number reference session kind target needs extra reason state answer lodged)) ∷ r ∷ [])) there ≡ same_rowid r t
+unfolding first_key
+picked number reference session kind target needs extra reason state answer lodged t r id = refl
+
+written : (number : ℤ) (reference : List ℕ) (session : List ℕ) (kind : ℤ) (target : List ℕ) (needs : ℤ) (extra : ℤ)
+    (reason : List ℕ) (state : ℤ) (answer : Option (List ℕ)) (lodged : List ℕ) (t : Row) (id : ℤ)
+    → same_key appeal.key (bare (places appeal.table) t) (Null ∷ row number reference session kind target needs extra reason state answer lodged) ≡ true
+    → eval_all project ((row number reference session kind target needs extra reason state answer lodged ++ rowid t
+    ∷ shown appeal.table (Int id ∷ row number reference session kind target needs extra reason state answer lodged))
+        ∷ t ∷ []) ≡ rowid t ∷ rowid t ∷ row number reference session kind target needs extra reason state answer lodged
+unfolding first_key
+written number reference session kind target needs extra reason state answer lodged t id same =
+    ap (λ v. rowid t ∷ rowid t ∷ Int number ∷ v ∷ Text session ∷ Int kind ∷ Text target ∷ Int needs ∷ Int extra ∷ Text reason
+    ∷ Int state ∷ or_null Text answer ∷ Text lodged ∷ []) (text_same _ _ (and_parts _ _ (and_parts _ _ same).1).0)
 
 -- the row replaces the one with its key
 pub puts : (number : ℤ) (reference : List ℕ) (session : List ℕ) (kind : ℤ) (target : List ℕ) (needs : ℤ) (extra : ℤ)
@@ -73,10 +107,12 @@ pub puts : (number : ℤ) (reference : List ℕ) (session : List ℕ) (kind : �
     → PutsRow appeal.table.tree appeal.key appeal.put
     (row number reference session kind target needs extra reason state answer lodged)
 puts number reference session kind target needs extra reason state answer lodged =
-    replaces keyed appeal.put terms 12 Null
+    upserts keyed appeal.put terms 12 Null
     (row number reference session kind target needs extra reason state answer lodged)
     (row number reference session kind target needs extra reason state answer lodged)
-    (fits number reference session kind target needs extra reason state answer lodged) refl put_means
+    (fits number reference session kind target needs extra reason state answer lodged) refl there project put_means
+    (λ db. refl) (picked number reference session kind target needs extra reason state answer lodged)
+    (written number reference session kind target needs extra reason state answer lodged)
 
 abbrev shown_terms : List Term
 shown_terms = col 1 1 ∷ col 1 2 ∷ col 1 3 ∷ col 1 4 ∷ col 1 5 ∷ col 1 6 ∷ col 1 7 ∷ col 1 8 ∷ col 1 9 ∷ col 1 10 ∷ col 1 11 ∷ []

@@ -221,7 +221,7 @@ appeal = record {
       ∷ refers (3 ∷ []) (codes "session") (codes "code" ∷ []) ∷ []);
   key = 1 ∷ 2 ∷ [];
   create = codes "CREATE TABLE appeal (number INTEGER NOT NULL, ref TEXT NOT NULL, session TEXT NOT NULL, kind INTEGER NOT NULL, target TEXT NOT NULL, needs INTEGER NOT NULL, extra INTEGER NOT NULL, reason TEXT NOT NULL, state INTEGER NOT NULL, answer TEXT, lodged TEXT NOT NULL, PRIMARY KEY (number, ref), FOREIGN KEY (number) REFERENCES candidate (number), FOREIGN KEY (session) REFERENCES session (code)) STRICT";
-  put = codes "INSERT OR REPLACE INTO appeal (number, ref, session, kind, target, needs, extra, reason, state, answer, lodged) VALUES (?1, ?2, ?3, ?4, ?5, ?6, ?7, ?8, ?9, ?10, ?11)";
+  put = codes "INSERT INTO appeal (number, ref, session, kind, target, needs, extra, reason, state, answer, lodged) VALUES (?1, ?2, ?3, ?4, ?5, ?6, ?7, ?8, ?9, ?10, ?11) ON CONFLICT (number, ref) DO UPDATE SET number = excluded.number, session = excluded.session, kind = excluded.kind, target = excluded.target, needs = excluded.needs, extra = excluded.extra, reason = excluded.reason, state = excluded.state, answer = excluded.answer, lodged = excluded.lodged";
   load = codes "SELECT number, ref, session, kind, target, needs, extra, reason, state, answer, lodged FROM appeal";
 }
 
