@@ -1,31 +1,37 @@
 -- The table appeal: how it is made, what its texts mean, and what they do.
-use Rattle.std.proofs.Common.{Bool, List, None, Some, Option, [], ap, codes, false, lit<, lit≤, refl, true, ℕ, ℤ, ◌||◌, ◌∷◌, ◌≡◌}
+use Rattle.std.proofs.Common.{Bool, map, List, None, Some, Option, [], ap, false, lit<, lit≤, refl, true, ℕ, ℤ, ◌++◌, ◌||◌, ◌∷◌, ◌≡◌}
 use Rattle.std.proofs.lemmas.Bool.{and_parts, not-true}
 use Rattle.sqlite.specs.Kind.TheVariants.{Text as KindText}
 use Rattle.sqlite_rules.specs.Cast.{cast}
 use Rattle.sqlite_value.specs.declared.value.Value.TheVariants.{Int, Null, Text}
 use Rattle.sqlite_value.specs.Order.{Row, value_cmp}
-use Rattle.sqlite_sql.specs.Term.{Term, col, lit}
-use Rattle.sqlite_schema.specs.declared.command.Conflict.TheVariants.{Replace}
+use Rattle.sqlite_trees.specs.Tree.{rowid}
+use Rattle.sqlite_sql.specs.Term.{Term, col, eval_all, lit}
+use Rattle.sqlite_schema.specs.declared.command.Conflict.TheVariants.{Abort}
 use Rattle.sqlite_schema.specs.declared.command.Command.TheVariants.{InsertOr}
 use Rattle.sqlite_schema.specs.declared.command.Source.TheVariants.{Values}
 use Rattle.sqlite_tied.specs.Compute.{everything}
 use Rattle.sqlite.specs.Listing.{understood}
+use Rattle.sqlite_value.specs.Keys.{first_key}
+use Rattle.sqlite.specs.Rows.{shown}
 use Rattle.sqlite.specs.Values.{or_null}
 use lib.Utf8.{encode}
 use Rattle.sqlite_trees.specs.Sound.{begins, fits_kind, is_free_name, same_name}
-use Rattle.exam_sql.specs.Content.{same_rowid}
+use Rattle.exam_sql.specs.Content.{bare, places, same_key, same_rowid}
 use Rattle.exam_sql.specs.Loads.{IsLoad}
 use Rattle.exam_sql.specs.Made.{made_schema}
 use Rattle.exam_sql.specs.Tables.{appeal, first_schema, made, store_schema}
 use Rattle.exam_sql.proofs.Fits.{Fits, fits_chosen}
-use Rattle.exam_sql.proofs.Keys.{cast_int}
+use Rattle.exam_sql.proofs.Keys.{cast_int, text_same}
 use Rattle.exam_sql.proofs.Loads.{load_of}
+use Rattle.exam_sql.specs.Plain.{on_conflict}
 use Rattle.exam_sql.specs.Keyed.{IsKeyed}
-use Rattle.exam_sql.proofs.Edits.{Means, PutsRow, replaces}
+use Rattle.exam_sql.proofs.Edits.{Means, PutsRow, upserts}
 use Rattle.exam_sql.proofs.Keying.{by_index, or_false}
 use Rattle.exam_sql.proofs.Making.{Adds, IsCreate, adds_by}
 use Rattle.exam_sql.proofs.Quiet.{IsQuery}
+use Rattle.std.specs.List.{range_with_len}
+use Rattle.exam_sql.proofs.Terms.{Finds, found_terms, given_terms}
 
 -- the text that makes it is understood, and nothing forbids the table
 create : IsCreate (made appeal.at) appeal.create
@@ -41,42 +47,47 @@ pub keyed : IsKeyed store_schema appeal.at appeal.table appeal.key appeal.key
 unfolding store_schema
 keyed = by_index appeal refl refl refl refl (λ a b. ap (λ x. same_rowid a b || x) (or_false _)) (λ a b. or_false _) (λ db s h. not-true _ (and_parts _ _ h).0)
 
-abbrev pub row : ℤ → (List ℕ) → (List ℕ) → ℤ → (List ℕ) → ℤ → ℤ → (List ℕ) → ℤ → (Option (List ℕ)) → (List ℕ) → Row
-row number reference session kind target needs extra reason state answer lodged =
-    Int number ∷ Text reference ∷ Text session ∷ Int kind ∷ Text target ∷ Int needs ∷ Int extra ∷ Text reason
-    ∷ Int state ∷ or_null Text answer ∷ Text lodged ∷ []
-
 cast_maybe : (o : Option (List ℕ)) → cast KindText (or_null Text o) ≡ or_null Text o
 cast_maybe None = refl
 cast_maybe (Some t) = refl
 
-fits : (number : ℤ) (reference : List ℕ) (session : List ℕ) (kind : ℤ) (target : List ℕ) (needs : ℤ) (extra : ℤ)
-    (reason : List ℕ) (state : ℤ) (answer : Option (List ℕ)) (lodged : List ℕ)
-    → Fits appeal.table appeal.key Null
-    (row number reference session kind target needs extra reason state answer lodged)
-    (row number reference session kind target needs extra reason state answer lodged)
-fits number reference session kind target needs extra reason state answer lodged =
-    fits_chosen appeal.table appeal.key
-    (row number reference session kind target needs extra reason state answer lodged) refl
-    (simp (cast_int, cast_maybe)) (λ v. refl)
+-- its rowid, and the row that it becomes: the number is written too, since SQL takes 1 and 1.0 for equal
+abbrev changed : List Term
+changed = col 1 0 ∷ col 1 0 ∷ col 0 13 ∷ col 1 2 ∷ map (col 0) (range_with_len 15 9)
 
-abbrev terms : List Term
-terms = lit Null ∷ col 0 0 ∷ col 0 1 ∷ col 0 2 ∷ col 0 3 ∷ col 0 4 ∷ col 0 5 ∷ col 0 6 ∷ col 0 7 ∷ col 0 8 ∷ col 0 9 ∷ col 0 10 ∷ []
-
-put_means : Means store_schema appeal.put (InsertOr appeal.at Replace (Values terms 12) []) 11
+put_means : Means store_schema appeal.put
+    (InsertOr appeal.at Abort (Values (given_terms appeal.table) 12)
+    (on_conflict appeal.key appeal.table.tree (found_terms appeal.table) changed ∷ [])) 11
 unfolding understood everything store_schema
 put_means = (refl, (refl, refl), (lit≤ tt, refl))
 
--- the row replaces the one with its key
-pub puts : (number : ℤ) (reference : List ℕ) (session : List ℕ) (kind : ℤ) (target : List ℕ) (needs : ℤ) (extra : ℤ)
-    (reason : List ℕ) (state : ℤ) (answer : Option (List ℕ)) (lodged : List ℕ)
-    → PutsRow appeal.table.tree appeal.key appeal.put
-    (row number reference session kind target needs extra reason state answer lodged)
-puts number reference session kind target needs extra reason state answer lodged =
-    replaces keyed appeal.put terms 12 Null
-    (row number reference session kind target needs extra reason state answer lodged)
-    (row number reference session kind target needs extra reason state answer lodged)
-    (fits number reference session kind target needs extra reason state answer lodged) refl put_means
+module _ (number : ℤ) (reference session : List ℕ) (kind : ℤ) (target : List ℕ) (needs extra : ℤ) (reason : List ℕ)
+    (state : ℤ) (answer : Option (List ℕ)) (lodged : List ℕ) where
+  abbrev pub row : Row
+  row =
+      Int number ∷ Text reference ∷ Text session ∷ Int kind ∷ Text target ∷ Int needs ∷ Int extra ∷ Text reason
+      ∷ Int state ∷ or_null Text answer ∷ Text lodged ∷ []
+
+  fits : Fits appeal.table appeal.key Null row row
+  fits = fits_chosen appeal.table appeal.key row refl (simp (cast_int, cast_maybe)) (λ v. refl)
+
+  finds : Finds appeal row row
+  unfolding first_key
+  finds t r id = refl
+
+  becomes : (t : Row) (id : ℤ) → same_key appeal.key (bare (places appeal.table) t) (Null ∷ row) ≡ true
+      → eval_all changed ((row ++ rowid t ∷ shown appeal.table (Int id ∷ row)) ∷ t ∷ []) ≡ rowid t ∷ rowid t ∷ row
+  unfolding first_key
+  becomes t id same =
+      ap (λ v. rowid t ∷ rowid t ∷ Int number ∷ v ∷ Text session ∷ Int kind ∷ Text target ∷ Int needs ∷ Int extra
+      ∷ Text reason ∷ Int state ∷ or_null Text answer ∷ Text lodged ∷ [])
+      (text_same _ _ (and_parts _ _ (and_parts _ _ same).1).0)
+
+  -- the row replaces the one with its key
+  pub puts : PutsRow appeal.table.tree appeal.key appeal.put row
+  puts =
+      upserts keyed appeal.put (given_terms appeal.table) 12 Null row row fits refl (found_terms appeal.table) changed
+      put_means (λ db. refl) finds becomes
 
 -- the text that loads shows each column, with the table of marks or without it
 pub loads : (has_marks : Bool) → IsLoad (made_schema has_marks) appeal.table.tree appeal.load

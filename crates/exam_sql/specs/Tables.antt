@@ -151,13 +151,15 @@ values_text table =
 abbrev pub replace_text : Table → List ℕ
 replace_text table = codes "INSERT OR REPLACE INTO " ++ values_text table
 
--- the text that puts a row, and changes the one with its key in place, if there is one
-abbrev pub change_text : Table → List ℕ
-change_text table =
+-- the text that puts a row, and sets these columns of the one with its key, if there is one
+abbrev pub set_text : (Table → List (List ℕ)) → Table → List ℕ
+set_text changed table =
     codes "INSERT INTO " ++ values_text table ++ codes " ON CONFLICT" ++ in_brackets (key_names table)
-    ++ codes " DO UPDATE SET "
-    ++ in_list (map (λ (name : List ℕ). name ++ codes " = excluded." ++ name)
-    (drop (length table.primary) (names table)))
+    ++ codes " DO UPDATE SET " ++ in_list (map (λ (name : List ℕ). name ++ codes " = excluded." ++ name) (changed table))
+
+-- the columns that are not of the key
+abbrev pub others : Table → List (List ℕ)
+others table = drop (length table.primary) (names table)
 
 -- ---- the tables
 
@@ -192,28 +194,28 @@ office = described 0 (λ table. codes "INSERT OR REPLACE INTO office (one, versi
     [])
 
 abbrev pub session : Described
-session = described 1 change_text (strict_table 1 (codes "session") 1
+session = described 1 (set_text others) (strict_table 1 (codes "session") 1
     (text (codes "code") ∷ text (codes "day") ∷ integer (codes "start") ∷ [])
     [])
 
 abbrev pub paper : Described
-paper = described 2 change_text (strict_table 3 (codes "paper") 1
+paper = described 2 (set_text others) (strict_table 3 (codes "paper") 1
     (text (codes "code") ∷ text (codes "title") ∷ text (codes "session") ∷ integer (codes "minutes")
     ∷ integer (codes "requires") ∷ [])
     (refers (3 ∷ []) (codes "session") (codes "code" ∷ []) ∷ []))
 
 abbrev pub hall : Described
-hall = described 3 change_text (strict_table 5 (codes "hall") 1
+hall = described 3 (set_text others) (strict_table 5 (codes "hall") 1
     (text (codes "code") ∷ text (codes "title") ∷ integer (codes "features") ∷ [])
     [])
 
 abbrev pub candidate : Described
-candidate = described 4 change_text (rowid_table 7 (codes "candidate")
+candidate = described 4 (set_text others) (rowid_table 7 (codes "candidate")
     (integer (codes "number") ∷ text (codes "name") ∷ text (codes "code") ∷ [])
     [])
 
 abbrev pub opening : Described
-opening = described 5 change_text (strict_table 8 (codes "opening") 2
+opening = described 5 (set_text others) (strict_table 8 (codes "opening") 2
     (text (codes "session") ∷ text (codes "hall") ∷ integer (codes "desks") ∷ integer (codes "until")
     ∷ integer (codes "reserved") ∷ [])
     (refers (1 ∷ []) (codes "session") (codes "code" ∷ [])
@@ -230,8 +232,9 @@ arrangement = described 7 replace_text (rowid_table 12 (codes "arrangement")
     (integer (codes "number") ∷ integer (codes "needs") ∷ integer (codes "extra") ∷ [])
     (refers (0 ∷ []) (codes "candidate") (codes "number" ∷ []) ∷ []))
 
+-- SQL takes 1.0 for equal to 1, so the number of the row with the key is set too.
 abbrev pub appeal : Described
-appeal = described 8 replace_text (strict_table 13 (codes "appeal") 2
+appeal = described 8 (set_text (λ table. codes "number" ∷ others table)) (strict_table 13 (codes "appeal") 2
     (integer (codes "number") ∷ text (codes "ref") ∷ text (codes "session") ∷ integer (codes "kind")
     ∷ text (codes "target") ∷ integer (codes "needs") ∷ integer (codes "extra") ∷ text (codes "reason")
     ∷ integer (codes "state") ∷ nullable_text (codes "answer") ∷ text (codes "lodged") ∷ [])

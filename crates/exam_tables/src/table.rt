@@ -23,8 +23,8 @@ use std::collections::BTreeMap;
 /// How the rows of a table are put and read.
 ///
 /// A row is put by its whole key, whether it exists or not. A row that others may refer to is changed in place: if it
-/// were replaced, it would be deleted first, and SQLite would look for its key in the tables that refer to it, which
-/// have no index for that.
+/// were replaced, it would be deleted first, and SQLite would look for its key in each table that refers to it, mostly
+/// without an index.
 pub trait StoredRows {
     type Key: Ord + Drop;
 

@@ -68,6 +68,8 @@ impl StoredRows for AppealTable {
     ghost ours = { appeals_ours };
 }
 
+/// Sets the row with this key. SQL finds a row whose number is equal, and takes 1.0 for equal to 1, so the number is set
+/// too.
 fn put_appeal<'a, S: Alter>(
     tx: &mut Transaction<'_, S>,
     key: &'a (Number, Reference),
@@ -81,7 +83,7 @@ fn put_appeal<'a, S: Alter>(
 {
     run(
         tx,
-        "INSERT OR REPLACE INTO appeal (number, ref, session, kind, target, needs, extra, reason, state, answer, lodged) VALUES (?1, ?2, ?3, ?4, ?5, ?6, ?7, ?8, ?9, ?10, ?11)",
+        "INSERT INTO appeal (number, ref, session, kind, target, needs, extra, reason, state, answer, lodged) VALUES (?1, ?2, ?3, ?4, ?5, ?6, ?7, ?8, ?9, ?10, ?11) ON CONFLICT (number, ref) DO UPDATE SET number = excluded.number, session = excluded.session, kind = excluded.kind, target = excluded.target, needs = excluded.needs, extra = excluded.extra, reason = excluded.reason, state = excluded.state, answer = excluded.answer, lodged = excluded.lodged",
         &[
             ValueRef::Int(i64::from(key.0.get())),
             ValueRef::Text(key.1.as_bytes()),
