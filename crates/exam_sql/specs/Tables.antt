@@ -1,7 +1,6 @@
 -- The eleven tables, each with its key and its texts.
-use Rattle.std.specs.Prelude.{codes, List, ℕ, [], ◌∷◌, ◌++◌, ◌+◌, Bool, true, false, if◌then◌else◌, Option, Some, None}
-use Rattle.std.specs.Prelude.{drop, fold, get_or, length, map, take}
-use Rattle.std.specs.Fmt.{decimal}
+use Rattle.std.specs.Prelude.{codes, List, ℕ, [], ◌∷◌, ◌++◌, ◌+◌, ◌-◌, ◌*◌, ◌/◌, nat_lt, Bool, true, false, if◌then◌else◌}
+use Rattle.std.specs.Prelude.{Option, Some, None, drop, fold, get_or, length, map, take}
 use Rattle.std.specs.List.{flat_map, range_with_len}
 use Rattle.sqlite.specs.Collation.TheVariants.{Binary}
 use Rattle.sqlite.specs.declared.types.Value.TheVariants.{Null}
@@ -93,6 +92,10 @@ in_list (word ∷ words) = word ++ flat_map (λ (w : List ℕ). codes ", " ++ w)
 abbrev pub in_brackets : List (List ℕ) → List ℕ
 in_brackets words = codes " (" ++ in_list words ++ codes ")"
 
+-- the parameter with this number, which is less than 100
+abbrev pub parameter : ℕ → List ℕ
+parameter n = codes "?" ++ (if nat_lt n 10 then [] else ((48 + n / 10) ∷ [])) ++ (48 + (n - n / 10 * 10)) ∷ []
+
 abbrev pub names : Table → List (List ℕ)
 names table = map (λ (c : Column). c.name) table.columns
 
@@ -138,14 +141,14 @@ delete_text table =
   where
     equal_to : ℕ → List (List ℕ) → List ℕ
     equal_to n [] = []
-    equal_to n (name ∷ []) = name ++ codes " = ?" ++ decimal n
-    equal_to n (name ∷ more) = name ++ codes " = ?" ++ decimal n ++ codes " AND " ++ equal_to (n + 1) more
+    equal_to n (name ∷ []) = name ++ codes " = " ++ parameter n
+    equal_to n (name ∷ more) = name ++ codes " = " ++ parameter n ++ codes " AND " ++ equal_to (n + 1) more
 
 -- what a row gives for each column
 abbrev pub values_text : Table → List ℕ
 values_text table =
     table.name ++ in_brackets (names table) ++ codes " VALUES"
-    ++ in_brackets (map (λ (n : ℕ). codes "?" ++ decimal n) (range_with_len 1 (length table.columns)))
+    ++ in_brackets (map parameter (range_with_len 1 (length table.columns)))
 
 -- the text that puts a row in the place of the one with its key, if there is one
 abbrev pub replace_text : Table → List ℕ

@@ -40,7 +40,7 @@ pub fn save<S: Alter>(alloc: Global, conn: &mut Connection<S>, draft: &Draft) ->
     // What a good office refers to exists, before the changes and after them.
     draft.show_good();
     let changes = changes_of(alloc, draft)?;
-    save_changes(alloc, conn, &changes)
+    save_changes(conn, &changes)
 }
 
 /// What turns the tables of the office before a command into those of the office after it. Reads only the tables that

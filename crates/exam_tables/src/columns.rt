@@ -166,18 +166,6 @@ pub fn small_at(row: &Row, at: usize) -> Result<u16, Refusal>
     }
 }
 
-/// The text of a day.
-pub fn day_text(alloc: Global, day: Day) -> Result<Vec<u8>, Refusal>
-    ensures text { IfOk result (λ text. text.items ≡ day_text day) }
-    ensures memory { IfErr result (λ e. e ≡ NoMemory) }
-{
-    let mut text = Vec::new(alloc);
-    match day.write_to(&mut text) {
-        Ok(()) => Ok(text),
-        Err(_) => Err(Refusal::NoMemory),
-    }
-}
-
 /// A reason. Refused with `BadStore` if the column holds none, and with `NoMemory` if there is not enough memory for
 /// it.
 pub fn reason_at(alloc: Global, row: &Row, at: usize) -> Result<Reason, Refusal>

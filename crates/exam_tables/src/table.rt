@@ -37,9 +37,8 @@ pub trait StoredRows {
     fn load_text() -> &'static str
         ensures { result.now ≡ form.load };
 
-    /// Sets the row with this key.
+    /// Sets the row with this key. Takes no memory of its own.
     fn put<'a, S: Alter>(
-        alloc: Global,
         tx: &mut Transaction<'_, S>,
         key: &'a Self::Key,
         value: &'a Self::Value,
@@ -93,7 +92,6 @@ pub trait Shrinks: StoredRows {
 
 /// Sets these rows.
 pub fn put_rows<T: StoredRows, S: Alter>(
-    alloc: Global,
     tx: &mut Transaction<'_, S>,
     rows: &[Keyed<'_, T::Key, T::Value>],
 ) -> Result<(), Refusal>
@@ -102,7 +100,7 @@ pub fn put_rows<T: StoredRows, S: Alter>(
         (with_put T.form rows.now) }
 {
     'rows: for row in rows {
-        T::put(alloc, tx, row.0, row.1)?;
+        T::put(tx, row.0, row.1)?;
     }
     Ok(())
 }

@@ -28,7 +28,6 @@ use crate::tables::standing::StandingTable;
 use exam_rules::{Appeal, Arrangement, Candidate, Entry, Hall, Opening, Paper, Session};
 use exam_types::{HallCode, Number, PaperCode, Reference, Refusal, SessionCode};
 use sqlite::{Alter, Connection, Transaction};
-use std::alloc::Global;
 
 /// What turns the tables of one office into those of another: the rows to put, and for the tables that can lose rows
 /// also the keys to delete.
@@ -47,23 +46,18 @@ pub struct Changes<'a> {
 }
 
 /// Puts the rows that are new or have changed, parents first, so that what a row refers to exists.
-fn put_all<S: Alter>(
-    alloc: Global,
-    tx: &mut Transaction<'_, S>,
-    changes: &Changes<'_>,
-) -> Result<(), Refusal>
+fn put_all<S: Alter>(tx: &mut Transaction<'_, S>, changes: &Changes<'_>) -> Result<(), Refusal>
     ensures same_reference { tx.new.conn.ghost_name ≡ tx.old.conn.ghost_name }
     ensures made { Makes (state S.Store tx.old.conn.now) (state S.Store tx.new.conn.now) result
         (all_put changes.now) }
 {
-    put_timetable(alloc, tx, changes)?;
-    put_halls(alloc, tx, changes)?;
-    put_candidates(alloc, tx, changes)?;
-    put_plans(alloc, tx, changes)
+    put_timetable(tx, changes)?;
+    put_halls(tx, changes)?;
+    put_candidates(tx, changes)?;
+    put_plans(tx, changes)
 }
 
 fn put_timetable<S: Alter>(
-    alloc: Global,
     tx: &mut Transaction<'_, S>,
     changes: &Changes<'_>,
 ) -> Result<(), Refusal>
@@ -71,25 +65,20 @@ fn put_timetable<S: Alter>(
     ensures made { Makes (state S.Store tx.old.conn.now) (state S.Store tx.new.conn.now) result
         (timetable_put changes.now) }
 {
-    put_rows::<SessionTable, S>(alloc, tx, changes.sessions.as_slice())?;
-    put_rows::<PaperTable, S>(alloc, tx, changes.papers.as_slice())
+    put_rows::<SessionTable, S>(tx, changes.sessions.as_slice())?;
+    put_rows::<PaperTable, S>(tx, changes.papers.as_slice())
 }
 
-fn put_halls<S: Alter>(
-    alloc: Global,
-    tx: &mut Transaction<'_, S>,
-    changes: &Changes<'_>,
-) -> Result<(), Refusal>
+fn put_halls<S: Alter>(tx: &mut Transaction<'_, S>, changes: &Changes<'_>) -> Result<(), Refusal>
     ensures same_reference { tx.new.conn.ghost_name ≡ tx.old.conn.ghost_name }
     ensures made { Makes (state S.Store tx.old.conn.now) (state S.Store tx.new.conn.now) result
         (halls_put changes.now) }
 {
-    put_rows::<HallTable, S>(alloc, tx, changes.halls.as_slice())?;
-    put_rows::<OpeningTable, S>(alloc, tx, changes.openings.put.as_slice())
+    put_rows::<HallTable, S>(tx, changes.halls.as_slice())?;
+    put_rows::<OpeningTable, S>(tx, changes.openings.put.as_slice())
 }
 
 fn put_candidates<S: Alter>(
-    alloc: Global,
     tx: &mut Transaction<'_, S>,
     changes: &Changes<'_>,
 ) -> Result<(), Refusal>
@@ -97,23 +86,19 @@ fn put_candidates<S: Alter>(
     ensures made { Makes (state S.Store tx.old.conn.now) (state S.Store tx.new.conn.now) result
         (candidates_put changes.now) }
 {
-    put_rows::<CandidateTable, S>(alloc, tx, changes.candidates.as_slice())?;
-    put_rows::<EntryTable, S>(alloc, tx, changes.entries.as_slice())?;
-    put_rows::<ArrangementTable, S>(alloc, tx, changes.arrangements.as_slice())
+    put_rows::<CandidateTable, S>(tx, changes.candidates.as_slice())?;
+    put_rows::<EntryTable, S>(tx, changes.entries.as_slice())?;
+    put_rows::<ArrangementTable, S>(tx, changes.arrangements.as_slice())
 }
 
-fn put_plans<S: Alter>(
-    alloc: Global,
-    tx: &mut Transaction<'_, S>,
-    changes: &Changes<'_>,
-) -> Result<(), Refusal>
+fn put_plans<S: Alter>(tx: &mut Transaction<'_, S>, changes: &Changes<'_>) -> Result<(), Refusal>
     ensures same_reference { tx.new.conn.ghost_name ≡ tx.old.conn.ghost_name }
     ensures made { Makes (state S.Store tx.old.conn.now) (state S.Store tx.new.conn.now) result
         (plans_put changes.now) }
 {
-    put_rows::<AppealTable, S>(alloc, tx, changes.appeals.as_slice())?;
-    put_rows::<StandingTable, S>(alloc, tx, changes.standing.as_slice())?;
-    put_rows::<SeatTable, S>(alloc, tx, changes.seats.put.as_slice())
+    put_rows::<AppealTable, S>(tx, changes.appeals.as_slice())?;
+    put_rows::<StandingTable, S>(tx, changes.standing.as_slice())?;
+    put_rows::<SeatTable, S>(tx, changes.seats.put.as_slice())
 }
 
 /// Deletes the rows that are gone. Seats that have moved out of a hall have been put before.
@@ -126,9 +111,9 @@ fn delete_all<S: Alter>(tx: &mut Transaction<'_, S>, changes: &Changes<'_>) -> R
     delete_rows::<OpeningTable, S>(tx, changes.openings.delete.as_slice())
 }
 
-/// Makes the changes in one transaction or not at all. Refused with `Store` if a transaction is already open.
+/// Makes the changes in one transaction or not at all. Takes no memory of its own, so only the database can run out of it.
+/// Refused with `Store` if a transaction is already open.
 pub fn save_changes<S: Alter>(
-    alloc: Global,
     conn: &mut Connection<S>,
     changes: &Changes<'_>,
 ) -> Result<(), Refusal>
@@ -145,12 +130,11 @@ pub fn save_changes<S: Alter>(
         return Err(Refusal::Store);
     }
     let mut tx = conn.transaction();
-    write_changes(alloc, &mut tx, changes)?;
+    write_changes(&mut tx, changes)?;
     commit(tx)
 }
 
 fn write_changes<S: Alter>(
-    alloc: Global,
     tx: &mut Transaction<'_, S>,
     changes: &Changes<'_>,
 ) -> Result<(), Refusal>
@@ -158,7 +142,7 @@ fn write_changes<S: Alter>(
     ensures made { Makes (state S.Store tx.old.conn.now) (state S.Store tx.new.conn.now) result
         (all_saved changes.now) }
 {
-    put_all(alloc, tx, changes)?;
+    put_all(tx, changes)?;
     delete_all(tx, changes)
 }
 

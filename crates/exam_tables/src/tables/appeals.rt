@@ -6,7 +6,7 @@ ghost use Rattle.exam_tables.specs.Forms as forms;
 ghost use Rattle.exam_tables.specs.Inside.{Makes};
 ghost use Rattle.exam_tables.specs.OurTables.{appeals_ours};
 
-use crate::columns::{day_at, day_text, number_at, reason_at, reference_at, session_code_at};
+use crate::columns::{day_at, number_at, reason_at, reference_at, session_code_at};
 use crate::statements::run;
 use crate::subjects::{
     answer_of, extra_of, kind_number, needs_of, state_number, status_at, subject_at, target_of,
@@ -33,12 +33,11 @@ impl StoredRows for AppealTable {
     }
 
     fn put<'a, S: Alter>(
-        alloc: Global,
         tx: &mut Transaction<'_, S>,
         key: &'a (Number, Reference),
         appeal: &'a Appeal,
     ) -> Result<(), Refusal> {
-        let lodged = day_text(alloc, appeal.lodged)?;
+        let lodged = appeal.lodged.text();
         put_appeal(tx, key, appeal, lodged.as_slice())
     }
 

@@ -26,7 +26,6 @@ impl StoredRows for ArrangementTable {
     }
 
     fn put<'a, S: Alter>(
-        _alloc: Global,
         tx: &mut Transaction<'_, S>,
         number: &'a Number,
         arrangement: &'a Arrangement,

@@ -26,7 +26,6 @@ impl StoredRows for CandidateTable {
     }
 
     fn put<'a, S: Alter>(
-        _alloc: Global,
         tx: &mut Transaction<'_, S>,
         number: &'a Number,
         candidate: &'a Candidate,

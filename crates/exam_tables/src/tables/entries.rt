@@ -26,7 +26,6 @@ impl StoredRows for EntryTable {
     }
 
     fn put<'a, S: Alter>(
-        _alloc: Global,
         tx: &mut Transaction<'_, S>,
         key: &'a (Number, PaperCode),
         entry: &'a Entry,

@@ -26,7 +26,6 @@ impl StoredRows for HallTable {
     }
 
     fn put<'a, S: Alter>(
-        _alloc: Global,
         tx: &mut Transaction<'_, S>,
         code: &'a HallCode,
         hall: &'a Hall,

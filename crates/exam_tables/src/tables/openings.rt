@@ -29,7 +29,6 @@ impl StoredRows for OpeningTable {
     }
 
     fn put<'a, S: Alter>(
-        _alloc: Global,
         tx: &mut Transaction<'_, S>,
         key: &'a (SessionCode, HallCode),
         opening: &'a Opening,

@@ -26,7 +26,6 @@ impl StoredRows for PaperTable {
     }
 
     fn put<'a, S: Alter>(
-        _alloc: Global,
         tx: &mut Transaction<'_, S>,
         code: &'a PaperCode,
         paper: &'a Paper,

@@ -26,7 +26,6 @@ impl StoredRows for SeatTable {
     }
 
     fn put<'a, S: Alter>(
-        _alloc: Global,
         tx: &mut Transaction<'_, S>,
         key: &'a (SessionCode, Number),
         hall: &'a HallCode,

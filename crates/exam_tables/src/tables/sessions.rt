@@ -7,7 +7,7 @@ ghost use Rattle.exam_tables.specs.Stored as stored;
 ghost use Rattle.exam_tables.specs.Forms as forms;
 ghost use Rattle.exam_tables.specs.OurTables.{sessions_ours};
 
-use crate::columns::{day_text, session_code_at, session_day_at, start_at};
+use crate::columns::{session_code_at, session_day_at, start_at};
 use crate::statements::run;
 use crate::table::StoredRows;
 use exam_rules::Session;
@@ -31,12 +31,11 @@ impl StoredRows for SessionTable {
     }
 
     fn put<'a, S: Alter>(
-        alloc: Global,
         tx: &mut Transaction<'_, S>,
         code: &'a SessionCode,
         session: &'a Session,
     ) -> Result<(), Refusal> {
-        let day = day_text(alloc, session.day.day())?;
+        let day = session.day.day().text();
         put_session(tx, code, day.as_slice(), session.start)
     }
 

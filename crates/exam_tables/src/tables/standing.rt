@@ -25,7 +25,6 @@ impl StoredRows for StandingTable {
     }
 
     fn put<'a, S: Alter>(
-        _alloc: Global,
         tx: &mut Transaction<'_, S>,
         key: &'a (Number, Reference),
         _mark: &'a (),
