@@ -23,6 +23,7 @@ pub mod OfPaper
 pub mod OfSeat
 pub mod OfSession
 pub mod OfStanding
+pub mod OneAppeal
 pub mod Queries
 pub mod QueryFails
 pub mod Quiet

@@ -19,6 +19,10 @@ load_seat = seat.load
 abbrev pub load_standing : List ℕ
 load_standing = standing.load
 
+-- the appeal of a candidate with a reference
+abbrev pub find_appeal : List ℕ
+find_appeal = appeal.load ++ codes " WHERE number = ?1 AND ref = ?2"
+
 -- the appeals of a session, by candidate and reference
 abbrev pub session_appeals : List ℕ
 session_appeals = codes "SELECT number, ref, session, kind, target, needs, extra, reason, state, answer, lodged FROM appeal WHERE session = ?1 ORDER BY number, ref"
