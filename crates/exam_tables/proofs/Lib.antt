@@ -1,9 +1,11 @@
+pub mod ByKey
 pub mod Committing
 pub mod Counted
 pub mod Creating
 pub mod Differing
 pub mod EachTree
 pub mod Exact
+pub mod FirstFrom
 pub mod Holding
 pub mod Inserting
 pub mod Leaving

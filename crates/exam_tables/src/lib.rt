@@ -7,6 +7,7 @@ mod columns;
 mod counting;
 mod differences;
 mod faults;
+mod finding;
 mod loading;
 mod schema;
 mod send_fault;
@@ -19,8 +20,9 @@ mod version;
 mod writing;
 
 pub use appeal_text::AppealText;
-pub use counting::count_appeals;
+pub use counting::{count_appeals, first_appeal};
 pub use differences::{Difference, Keyed, difference_of};
+pub use finding::confirm_appeal;
 pub use loading::load_facts;
 pub use schema::{has_marks, is_blank, version_of};
 pub use send_fault::SendFault;
