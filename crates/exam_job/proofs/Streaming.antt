@@ -1,6 +1,6 @@
 -- The appeals of a session, as they go out line by line, are its register.
 use Rattle.std.proofs.Common.{◌≡◌, ◌∙◌, ◌⊎◌, inl, inr, ℕ, List, [], ◌++◌, true, false, Option, Some, None, Result, Ok, Err, refl, sym, ap, subst, append-nil}
-use Rattle.std.specs.Prelude.{IsErrAnd, IsTrue, is_some}
+use Rattle.std.specs.Prelude.{IfErr, IsErrAnd, IsTrue, is_some}
 use Rattle.std.specs.Io.KnownBytes.{Appends}
 use Rattle.std.proofs.KnownBytes.{Appends-kept}
 use Rattle.sqlite_trees.specs.declared.store.Store.{Ghosts}
@@ -86,6 +86,15 @@ module _ {S : Type 0} (g : Ghosts S) (new : OfficeIn S) where
         (λ none. (is ∙ ap (λ f. Err (fault_of f)) (unknown none).0, (unknown none).1))
 
 -- ---- the faults
+
+-- a source with as many rows as were counted does not end sooner
+pub none_missing : {Refuses : Refusal → Type 0} {few : Type 0} → (few → ⊥) → (result : Result (Unit {0}) SheetFault) → IfErr result (registers.BreaksOff Refuses few)
+    → IfErr result (registers.BreaksOff Refuses ⊥)
+none_missing enough (Ok done) why = tt
+none_missing enough (Err faults.Write) why = tt
+none_missing enough (Err (faults.Refused e)) (inl short) = inl short
+none_missing enough (Err (faults.Refused e)) (inr (inl refused)) = inr (inl refused)
+none_missing enough (Err (faults.Refused e)) (inr (inr ended)) = absurd (enough ended.1)
 
 pub told : (result : Result (Unit {0}) JobFault) (fault : JobFault) → IsErrAnd result (λ f. f ≡ fault) → result ≡ Err fault
 told (Ok done) fault is = absurd is

@@ -29,7 +29,6 @@ pub mod QueryFails
 pub mod Quiet
 pub mod References
 pub mod RowLemmas
-pub mod SessionAppeals
 pub mod KeptReferences
 pub mod StatementFails
 pub mod Statements

@@ -1,5 +1,5 @@
--- The texts that delete an opening or a seat by its key, and that read the appeals of a session; the texts that load
--- the tables.
+-- The texts that delete an opening or a seat by its key, and that read an appeal by its key; the texts that load the
+-- tables.
 use Rattle.std.specs.Prelude.{ℕ, List, [], ◌∷◌, ◌++◌, codes}
 use Rattle.exam_sql.specs.Tables.{office, session, paper, hall, candidate, opening, entry, arrangement, appeal}
 use Rattle.exam_sql.specs.Tables.{seat, standing}
@@ -22,10 +22,6 @@ load_standing = standing.load
 -- the appeal of a candidate with a reference
 abbrev pub find_appeal : List ℕ
 find_appeal = appeal.load ++ codes " WHERE number = ?1 AND ref = ?2"
-
--- the appeals of a session, by candidate and reference
-abbrev pub session_appeals : List ℕ
-session_appeals = codes "SELECT number, ref, session, kind, target, needs, extra, reason, state, answer, lodged FROM appeal WHERE session = ?1 ORDER BY number, ref"
 
 -- the texts that load the tables of facts
 abbrev pub fact_texts : List (List ℕ)

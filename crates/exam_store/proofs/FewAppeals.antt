@@ -17,7 +17,7 @@ use Rattle.exam_commands.specs.Good.{IsGood, appeal_refers, appeals_refer, arran
 use Rattle.exam_commands.specs.Limits.{appeals_within, candidates_within, halls_within, members_within, most_appeals, most_candidates, openings_within, papers_within, sessions_within}
 use Rattle.exam_commands.specs.State.{State}
 use Rattle.exam_views.specs.Views.{appeal_row, appeals_of}
-use Rattle.exam_tables.specs.Streamed.{KeyedAppeal}
+use Rattle.exam_tables.specs.Appeals.{KeyedAppeal}
 
 fewer : {A : Type 0} (p q : A → Bool) (xs : List A) → length (filter p (filter q xs)) ≤ length (filter p xs)
 fewer p q [] = omega arith
@@ -71,7 +71,7 @@ bounded [] (a ∷ appeals) refer few = absurd cc
 bounded ((c, x) ∷ rows) appeals refer few =
     let others = filter (λ (a : KeyedAppeal). not (is_row_of c a)) appeals in
     let both = length-filter_both (λ (a : KeyedAppeal). is_row_of c a) (λ (a : KeyedAppeal). not (is_row_of c a)) (λ a. refl) appeals in
-    let own = few.0 in
+    let own : length (filter (λ (a : KeyedAppeal). is_row_of c a) appeals) ≤ 64 = few.0 in
     let rest = bounded rows others (others_refer c x rows appeals refer) (few_kept (λ (a : KeyedAppeal). not (is_row_of c a)) appeals (keys_of rows) few.1) in
     omega (arith, both, own, rest)
 

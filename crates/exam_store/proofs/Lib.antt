@@ -11,7 +11,6 @@ pub mod PutsAlone
 pub mod ReadInTurn
 pub mod RowsTurning
 pub mod Referring
-pub mod Registering
 pub mod Rekeeping
 pub mod Reopening
 pub mod Running

@@ -18,11 +18,10 @@ use Rattle.exam_rules.specs.Relations.{Code, appeal_cmp, same_code}
 use Rattle.exam_commands.specs.State.{State as Office}
 use Rattle.exam_views.specs.declared.view.AppealRow.{AppealRow}
 use Rattle.exam_views.specs.Sources.{Gives, is_source_refusal}
-use Rattle.exam_views.specs.Views.{appeal_row}
-use Rattle.exam_tables.specs.Appeals.{FailsToConfirm, appeals_from}
+use Rattle.exam_views.specs.Views.{appeal_row, appeals_of}
+use Rattle.exam_tables.specs.Appeals.{FailsToConfirm, KeyedAppeal, appeals_from, appeals_in}
 use Rattle.exam_tables.specs.Faults.{is_store_refusal}
 use Rattle.exam_tables.specs.Loaded.{IsLeft, OnlyReads}
-use Rattle.exam_tables.specs.Streamed.{KeyedAppeal}
 use Rattle.exam_tables.proofs.Leaving.{both_survive, left_then}
 use Rattle.exam_tables.proofs.OneByOne.{survives_itself}
 use Rattle.exam_store.specs.Kept.{Keeps}
@@ -92,9 +91,11 @@ pub fails_to_read : {S : Type 0} (g : Ghosts S) (office : Office) (old new : Hel
 fails_to_read g office old new it rises has refusal.NoMemory told fails = (refl, tt)
 fails_to_read g office old new it rises has refusal.Store told fails =
     (refl, λ clean. let why = (fails clean).told refl in (it.0, old, why.0, why.1, why.2))
-fails_to_read g office old new it rises has refusal.BadStore told fails =
-    (refl, λ clean keeps. let why = fails clean in let was = subst (λ (db : Database). Keeps db office) ((why.same refl).0.now_is) keeps in
-    why.none refl office.relations.appeals (record { all = was.all; contains = was.contains; rises = rises; same = was.held.facts.appeals }) has)
+fails_to_read g office old new it rises has refusal.BadStore told fails = (
+  refl,
+  λ clean keeps. let why = fails clean in let was = subst (λ (db : Database). Keeps db office) ((why.same refl).0.now_is) keeps in
+      why.none refl office.relations.appeals (record { all = was.all; contains = was.contains; rises = rises; same = was.held.facts.appeals }) has,
+)
 fails_to_read g office old new it rises has other told fails = absurd cc
 
 -- ---- what is given
@@ -120,3 +121,12 @@ refused_all g office old new it rises has (Err e) told fails = fails_to_read g o
 pub left_any : {A E S : Type 0} (g : Ghosts S) (old new : Held S) (result : Result A E) → OnlyReads (state g old) (state g new) result → (new ≡ old) ⊎ IsLeft (state g old) (state g new)
 left_any g old new (Ok value) same = inr (inl same)
 left_any g old new (Err e) left = inr left
+
+-- ---- from the start
+
+all_from : (appeals : List KeyedAppeal) → entries_between appeal_cmp Unbounded Unbounded appeals ≡ appeals
+all_from [] = refl
+all_from (a ∷ appeals) = ap (λ l. a ∷ l) (all_from appeals)
+
+pub rows_whole : (office : Office) (s : Code) → rows_from office s Unbounded ≡ appeals_of office.relations s
+rows_whole office s = ap (λ (l : List KeyedAppeal). map appeal_row (appeals_in l s)) (all_from office.relations.appeals)

@@ -80,16 +80,29 @@ impl<S: Alter> AppealSource for AppealRows<'_, S> {
         let row = self
             .store
             .read_appeal(self.alloc, &self.session, self.from)?;
-        if let Some(row) = &row {
-            self.from = Bound::Excluded((row.number, row.reference));
-        }
+        self.from = bound_after(self.from, &row);
         Ok(row)
     }
 
     ghost stays_itself = { λ a. (refl, read_itself S.Store a.store.now) };
 
-    ghost stays_then = { λ a b c first second. (second.0 ∙ first.0,
-        read_then S.Store a.store.now b.store.now c.store.now first.1 second.1) };
+    ghost stays_then = { λ a b c first second. (
+      second.0 ∙ first.0,
+      read_then S.Store a.store.now b.store.now c.store.now first.1 second.1,
+    ) };
+}
+
+/// From where the next appeal is looked for, after this one.
+fn bound_after(
+    from: Bound<(Number, Reference)>,
+    row: &Option<AppealRow>,
+) -> Bound<(Number, Reference)>
+    ensures { result ≡ spec.bound_after from row.now }
+{
+    match row {
+        Some(row) => Bound::Excluded((row.number, row.reference)),
+        None => from,
+    }
 }
 
 /// The session's first appeal with a key from `from` on, as the database confirms it.

@@ -2,7 +2,6 @@
 #![tactic(auto)]
 
 mod appeal_rows;
-mod appeals;
 mod laws;
 mod loading;
 mod migrating;

@@ -1,11 +1,11 @@
 //! An office in a database.
-ghost use Rattle.std.specs.Prelude.{◌≡◌, ◌≢◌, ◌⊎◌, true, false, length, Err, IsTrue, IsSome, IfOk, IfErr, OnOk, OnErr, MatchResult};
+ghost use Rattle.std.specs.Prelude.{◌≡◌, ◌⊎◌, true, false, length, IsTrue, IsSome, IfOk, IfErr, OnOk, OnErr, MatchResult};
 ghost use Rattle.std.specs.Borrow.{sem, RestsIfErr};
 ghost use Rattle.std.specs.Option.{option_map};
 ghost use Rattle.sqlite.specs.Held.{state};
 ghost use Rattle.sqlite.specs.State.{HasCleanDisk, Survives};
 ghost use Rattle.sqlite.specs.Steps.{over_memory};
-ghost use Rattle.exam_types.specs.declared.refusal.Refusal.TheVariants.{BadStore, NoMemory, UnknownSession};
+ghost use Rattle.exam_types.specs.declared.refusal.Refusal.TheVariants.{NoMemory, UnknownSession};
 ghost use Rattle.exam_rules.specs.Relations.{Code, code_cmp, has_row};
 ghost use Rattle.exam_rules.specs.Sessions.{IsSessionRefusal};
 ghost use Rattle.exam_commands.specs.Good.{IsGood};
@@ -23,22 +23,18 @@ ghost use Rattle.exam_tables.specs.Inside.{IsOurs};
 ghost use Rattle.exam_tables.specs.Transactions.{IsSound, Commits};
 ghost use Rattle.exam_store.specs.InTurn.{FailsToRead, OnlyIsRead, bound_after, rows_from};
 ghost use Rattle.exam_store.specs.contracts.store.Store.{the_row};
-ghost use Rattle.exam_store.specs.Kept.{IsKept, Keeps, KeepsOurs, Rekeeps};
+ghost use Rattle.exam_store.specs.Kept.{IsKept, KeepsOurs, Rekeeps};
 ghost use Rattle.exam_tables.specs.Loaded.{IsLeft, OnlyReads};
-ghost use Rattle.exam_tables.specs.Streamed as streamed;
-ghost use Rattle.exam_tables.specs.declared.send_fault.SendFault.TheVariants.{Refused};
 ghost use Rattle.exam_tables.specs.Versions.{FailsToCreate, IsBlank};
 
 use crate::appeal_rows::{AppealRows, read_appeal};
-use crate::appeals::send_kept;
 use crate::loading::load_version;
 use crate::saving::save;
 use exam_office::{AppealRow, Command, Draft, Office, Own, Reply, SessionView};
-use exam_tables::{AppealText, NEWEST, SendFault, count_appeals, is_blank, save_empty, version_of};
+use exam_tables::{NEWEST, count_appeals, is_blank, save_empty, version_of};
 use exam_types::{AccessCode, Day, Number, Reference, Refusal, SessionCode};
 use sqlite::{Alter, Connection, MemStore};
 use std::alloc::Global;
-use std::io::Write;
 use std::marker::Model;
 use std::mem;
 use std::ops::Bound;
@@ -272,39 +268,6 @@ impl<S: Alter> Store<S> {
         ensures same { self.new ≡ self.old }
     {
         self.office.own_without_desks(alloc, number)
-    }
-
-    /// Sends the text of the session's appeals, by candidate and reference, each as soon as the database shows it, so
-    /// no list of them is made. After a fault a beginning of the text may have been sent; an unknown session is refused
-    /// before anything is. The office and what keeps it stay as they were.
-    pub fn send_appeals<F: AppealText, W: Write>(
-        &mut self,
-        alloc: Global,
-        session: &SessionCode,
-        form: &F,
-        writer: &mut W,
-    ) -> Result<(), SendFault>
-        ensures sent { HasCleanDisk (state S.Store self.new.database)
-            → Keeps (state S.Store self.old.database).now self.old.office
-            → has_row code_cmp self.old.office.relations.sessions session.now ≡ true
-            → streamed.Sends W.contents result writer.old writer.new
-            (streamed.text_of (F.heading_text form.now) (F.line_text form.now)
-            (streamed.appeals_in self.old.office.relations.appeals session.now)) }
-        ensures good { HasCleanDisk (state S.Store self.new.database)
-            → Keeps (state S.Store self.old.database).now self.old.office
-            → has_row code_cmp self.old.office.relations.sessions session.now ≡ true
-            → IfErr result (λ e. e ≢ Refused BadStore) }
-        ensures unknown { has_row code_cmp self.old.office.relations.sessions session.now ≡ false
-            → (result ≡ Err (Refused UnknownSession)) × (self.new ≡ self.old) × (writer.new ≡ writer.old) }
-        ensures office { self.new.office ≡ self.old.office }
-        ensures left { HasCleanDisk (state S.Store self.new.database)
-            → has_row code_cmp self.old.office.relations.sessions session.now ≡ true
-            → OnlyReads (state S.Store self.old.database) (state S.Store self.new.database) result }
-        ensures survives { Survives (state S.Store self.old.database) (state S.Store self.new.database) (λ _. ⊥) }
-        ensures fault { has_row code_cmp self.old.office.relations.sessions session.now ≡ true
-            → IfErr result (λ e. IsTrue (streamed.is_send_fault e)) }
-    {
-        send_kept(alloc, &mut self.conn, &self.office, session, form, writer)
     }
 
     /// How many appeals the session has, and a source that gives them one by one. Refused with `UnknownSession` exactly

@@ -17,8 +17,7 @@ use Rattle.std.specs.Range.Bound.{IsForward}
 use Rattle.exam_rules.specs.declared.rows.Appeal.{Appeal}
 use Rattle.exam_rules.specs.Orders.{KeysRise}
 use Rattle.exam_rules.specs.Relations.{Code, appeal_cmp, same_code}
-use Rattle.exam_tables.specs.Appeals.{appeals_from}
-use Rattle.exam_tables.specs.Streamed.{KeyedAppeal, appeals_in}
+use Rattle.exam_tables.specs.Appeals.{KeyedAppeal, appeals_from, appeals_in}
 
 abbrev Key : Type 0
 Key = ℕ × Code

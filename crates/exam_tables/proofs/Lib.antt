@@ -1,4 +1,3 @@
-pub mod ByKey
 pub mod Committing
 pub mod Counted
 pub mod Creating

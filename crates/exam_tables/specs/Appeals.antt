@@ -1,5 +1,5 @@
 -- The appeals of a session from a key on, and one as the database shows it by its key.
-use Rattle.std.specs.Prelude.{◌≡◌, ◌&&◌, ℕ, Bool, nat_eq, List, [], ◌∷◌}
+use Rattle.std.specs.Prelude.{◌≡◌, ◌&&◌, ℕ, Bool, nat_eq, List, [], ◌∷◌, filter}
 use Rattle.std.specs.BTreeMap.Range.{entries_between}
 use Rattle.std.specs.declared.ops.Bound.{Bound}
 use Rattle.std.specs.declared.ops.Bound.TheVariants.{Unbounded}
@@ -14,6 +14,7 @@ use Rattle.exam_sql.specs.Texts.{find_appeal}
 use Rattle.exam_types.specs.declared.refusal.Refusal.{Refusal}
 use Rattle.exam_types.specs.declared.refusal.Refusal.TheVariants.{BadStore, Store}
 use Rattle.exam_rules.specs.contracts.rows.AppealPartialEq.TheImpl as appeal_eq
+use Rattle.exam_rules.specs.declared.rows.Appeal.{Appeal}
 use Rattle.exam_rules.specs.Orders.{KeysRise}
 use Rattle.exam_rules.specs.Relations.{Code, appeal_cmp, same_code}
 use Rattle.exam_tables.specs.Faults.{refusal_of}
@@ -22,7 +23,14 @@ use Rattle.exam_tables.specs.Held.{HasRows}
 use Rattle.exam_tables.specs.Inside.{Contains}
 use Rattle.exam_tables.specs.Rows.{appeal_row}
 use Rattle.exam_tables.specs.Stored.{whole}
-use Rattle.exam_tables.specs.Streamed.{KeyedAppeal, appeals_in}
+
+-- an appeal with its key
+abbrev pub KeyedAppeal : Type 0
+KeyedAppeal = (ℕ × Code) × Appeal
+
+-- the appeals of a session
+abbrev pub appeals_in : List KeyedAppeal → Code → List KeyedAppeal
+appeals_in appeals s = filter (λ (a : KeyedAppeal). same_code a.1.session s) appeals
 
 -- the database has exactly these appeals, whose keys rise, in its table
 pub record HasAppealRows (db : Database) (appeals : List KeyedAppeal) : Type 0 where

@@ -3,10 +3,9 @@ ghost use Rattle.std.specs.Prelude.{◌≡◌, if◌then◌else◌, [], ◌∷�
 ghost use Rattle.std.specs.List.{AllByRecursion};
 ghost use Rattle.std.specs.declared.ops.Bound.TheVariants.{Excluded};
 ghost use Rattle.exam_rules.specs.Relations.{relations_of, same_code};
-ghost use Rattle.exam_tables.specs.Appeals.{appeals_from};
 ghost use Rattle.exam_tables.specs.Rows.{IsAppeal};
 ghost use Rattle.exam_tables.specs.Stored.{IsStatus, IsSubject};
-ghost use Rattle.exam_tables.specs.Streamed as spec;
+ghost use Rattle.exam_tables.specs.Appeals as spec;
 
 use exam_rules::{Appeal, Facts, Status, Subject};
 use exam_types::{Number, Reference, SessionCode};
@@ -34,9 +33,9 @@ pub fn first_appeal<'a>(
     session: &SessionCode,
     from: Bound<(Number, Reference)>,
 ) -> Option<(&'a (Number, Reference), &'a Appeal)>
-    ensures { MatchOption result (appeals_from (relations_of facts.now).appeals session.now from ≡ [])
-        (λ it. appeals_from (relations_of facts.now).appeals session.now from ≡ (it.0.now, it.1.now)
-        ∷ appeals_from (relations_of facts.now).appeals session.now (Excluded it.0.now)) }
+    ensures { MatchOption result (spec.appeals_from (relations_of facts.now).appeals session.now from ≡ [])
+        (λ it. spec.appeals_from (relations_of facts.now).appeals session.now from ≡ (it.0.now, it.1.now)
+        ∷ spec.appeals_from (relations_of facts.now).appeals session.now (Excluded it.0.now)) }
 {
     'appeals: for (key, appeal) in facts.appeals.range((from, Bound::Unbounded)) {
         if appeal.session == *session {

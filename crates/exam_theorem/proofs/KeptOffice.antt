@@ -1,7 +1,7 @@
 -- The tables keep the office from one step to the next.
 use Rattle.std.proofs.Common.{◌≡◌, ◌≤◌, ◌∙◌, ◌⊎◌, Result, Ok, Err, sym, subst, inl, inr, arith}
 use Rattle.sqlite.specs.Effect.{Database}
-use Rattle.sqlite.specs.Held.{Held, state}
+use Rattle.sqlite.specs.Held.{state}
 use Rattle.sqlite.specs.State.{HasCleanDisk}
 use Rattle.sqlite_trees.specs.View.{doubt}
 use Rattle.sqlite_trees.specs.declared.store.Store.{Ghosts}
@@ -9,7 +9,7 @@ use Rattle.exam_commands.specs.State.{State}
 use Rattle.exam_tables.specs.Loaded.{IsLeft}
 use Rattle.exam_tables.specs.Transactions.{Commits, IsSound}
 use Rattle.exam_store.specs.InTurn.{OnlyIsRead}
-use Rattle.exam_store.specs.Kept.{IsKept, Keeps, Rekeeps}
+use Rattle.exam_store.specs.Kept.{Keeps, Rekeeps}
 use Rattle.exam_store.specs.Stores.{OfficeIn}
 use Rattle.exam_theorem.specs.Keeping.{KeepsIt, KeepsOn}
 
@@ -63,16 +63,11 @@ module _ {S : Type 0} (g : Ghosts S) where
 
     -- the appeals were read alone
     pub read_alone : OnlyIsRead g old new → KeepsOn g old new
-    unfolding KeepsIt
     read_alone read = record {
       was_sound = λ sound. (by (read.left sound.0)).was_sound sound;
       kept = λ sound. (by (read.left sound.0)).kept sound;
     }
       where
         by : (new.database ≡ old.database) ⊎ IsLeft (state g old.database) (state g new.database) → KeepsOn g old new
-        by (inl same) = record {
-          was_sound = λ sound. subst (λ (d : Held S). IsSound (state g d)) same sound;
-          kept = λ sound kept.
-              subst (λ (o : State). IsKept (state g new.database) o) (sym read.office) (subst (λ (d : Held S). IsKept (state g d) old.office) (sym same) kept);
-        }
+        by (inl same) = unchanged g old new (λ i. record { office = read.office i; database = same i })
         by (inr left) = left_kept read.office read.survives.clean left

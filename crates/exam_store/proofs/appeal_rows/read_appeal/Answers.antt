@@ -3,8 +3,7 @@ use Rattle.std.specs.declared.ops.Bound.TheVariants.{Excluded}
 use Rattle.sqlite.specs.Held.{state}
 use Rattle.exam_rules.specs.Relations.{Relations}
 use Rattle.exam_views.specs.Views.{appeal_row}
-use Rattle.exam_tables.specs.Appeals.{appeals_from}
-use Rattle.exam_tables.specs.Streamed.{KeyedAppeal}
+use Rattle.exam_tables.specs.Appeals.{KeyedAppeal, appeals_from}
 use Rattle.exam_tables.proofs.OneByOne.{survives_itself}
 use Rattle.exam_store.specs.InTurn.{rows_from}
 use Rattle.exam_store.proofs.ReadInTurn.{among, gives_ok, left_any, refused_all}

@@ -2,7 +2,7 @@ use Rattle.std.proofs.Common.{◌≡◌, length, ap, sym, ◌∙◌, arith}
 use Rattle.std.proofs.lemmas.List.{length-map}
 use Rattle.exam_rules.specs.Relations.{Relations}
 use Rattle.exam_views.specs.Views.{appeal_row, appeals_of}
-use Rattle.exam_tables.specs.Streamed.{appeals_in}
+use Rattle.exam_tables.specs.Appeals.{appeals_in}
 use Rattle.exam_store.proofs.FewAppeals.{few_appeals}
 use Rattle.exam_store.proofs.store.count_of.Goals as goal
 

@@ -5,9 +5,8 @@ use Rattle.sqlite.proofs.StateLemmas.{survives_weaker}
 use Rattle.exam_sql.specs.Texts.{find_appeal}
 use Rattle.exam_sql.proofs.OneAppeal.{find_is_query}
 use Rattle.exam_sql.proofs.Quiet.{commits_nothing, failed_unchanged, shown_unchanged}
-use Rattle.exam_tables.specs.Appeals.{appeal_key}
-use Rattle.exam_tables.specs.Streamed.{KeyedAppeal}
-use Rattle.exam_tables.proofs.ByKey.{not_confirmed, query_failed, shown_alone}
+use Rattle.exam_tables.specs.Appeals.{KeyedAppeal, appeal_key}
+use Rattle.exam_tables.proofs.OneByOne.{not_confirmed, query_failed, shown_alone}
 use Rattle.exam_tables.proofs.Leaving.{reads_only}
 use Rattle.exam_tables.proofs.Steps.{passed}
 use Rattle.exam_tables.proofs.finding.confirm_appeal.Goals as goal

@@ -1,5 +1,5 @@
 use Rattle.std.proofs.Common.{◌≡◌, rules, true, false, Err, sym, ◌∙◌}
-use Rattle.exam_tables.proofs.ByKey.{read_short, row_is, same_read}
+use Rattle.exam_tables.proofs.OneByOne.{read_short, row_is, same_read}
 use Rattle.exam_tables.proofs.finding.confirm_stored.Goals as goal
 
 pub returns-in_err-found-clause-bad : goal.returns-in_err-found-clause-bad
