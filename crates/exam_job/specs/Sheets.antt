@@ -18,7 +18,8 @@ use Rattle.exam_files.specs.Shortages.{shortage_text}
 use Rattle.exam_line.specs.declared.line.Sheet.{Sheet}
 use Rattle.exam_line.specs.declared.line.Sheet.TheVariants as sheet
 use Rattle.exam_send.specs.Sending.{AppendsBeginning}
-use Rattle.exam_store.specs.InTurn.{FailsToRead, OnlyIsRead}
+use Rattle.exam_store.specs.InTurn.{FailsToRead}
+use Rattle.exam_store.specs.OnlyRead.{OnlyIsRead}
 use Rattle.exam_store.specs.Stores.{OfficeIn}
 use Rattle.exam_job.specs.declared.report.JobFault.{JobFault}
 use Rattle.exam_job.specs.declared.report.JobFault.TheVariants.{File, Net, Refused, Write}

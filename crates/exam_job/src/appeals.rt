@@ -5,7 +5,8 @@ ghost use Rattle.exam_rules.specs.Relations.{code_cmp, has_row};
 ghost use Rattle.exam_views.specs.Views.{appeals_of};
 ghost use Rattle.exam_files.specs.Registers as registers;
 ghost use Rattle.exam_files.specs.declared.sheet_fault.SheetFault.TheVariants.{Refused};
-ghost use Rattle.exam_store.specs.InTurn.{FailsToRead, OnlyIsRead};
+ghost use Rattle.exam_store.specs.InTurn.{FailsToRead};
+ghost use Rattle.exam_store.specs.OnlyRead.{OnlyIsRead};
 ghost use Rattle.exam_job.specs.Sheets as spec;
 
 use crate::report::{JobFault, flush};

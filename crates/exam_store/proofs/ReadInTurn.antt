@@ -10,7 +10,7 @@ use Rattle.sqlite_rules.specs.Lists.{Has}
 use Rattle.sqlite_rules.proofs.ListLemmas.{has_filtered}
 use Rattle.sqlite.specs.Effect.{Database}
 use Rattle.sqlite.specs.Held.{Held, state}
-use Rattle.sqlite.specs.State.{State as Shown, HasCleanDisk, IsRolledBack, Survives}
+use Rattle.sqlite.specs.State.{State as Shown, HasCleanDisk, Survives}
 use Rattle.exam_types.specs.declared.refusal.Refusal.{Refusal}
 use Rattle.exam_types.specs.declared.refusal.Refusal.TheVariants as refusal
 use Rattle.exam_rules.specs.Orders.{KeysRise}
@@ -22,55 +22,13 @@ use Rattle.exam_views.specs.Views.{appeal_row, appeals_of}
 use Rattle.exam_tables.specs.Appeals.{FailsToConfirm, KeyedAppeal, appeals_from, appeals_in}
 use Rattle.exam_tables.specs.Faults.{is_store_refusal}
 use Rattle.exam_tables.specs.Loaded.{IsLeft, OnlyReads}
-use Rattle.exam_tables.proofs.Leaving.{both_survive, left_then}
-use Rattle.exam_tables.proofs.OneByOne.{survives_itself}
 use Rattle.exam_store.specs.Kept.{Keeps}
-use Rattle.exam_store.specs.InTurn.{FailsToRead, OnlyIsRead, bound_after, rows_from}
-use Rattle.exam_store.specs.Stores.{OfficeIn}
+use Rattle.exam_store.specs.InTurn.{FailsToRead, bound_after, rows_from}
 
 -- ---- what is left
 
-clean_before : (old new : Shown) → Survives old new (λ _. ⊥) → HasCleanDisk new → HasCleanDisk old
+pub clean_before : (old new : Shown) → Survives old new (λ _. ⊥) → HasCleanDisk new → HasCleanDisk old
 clean_before old new survives clean = let grows = survives.clean in omega (arith, grows, clean)
-
--- a transaction that was undone stays undone
-undone_then : (old mid new : Shown) → IsRolledBack old mid → IsLeft mid new → IsLeft old new
-undone_then old mid new first (inl same) = inr (record {
-  was_open = λ open_now. first.was_open same.0.was_open;
-  undone = λ open_now. let it = first.undone same.0.was_open in (same.0.now_is ∙ it.0, same.0.committed_is ∙ it.1);
-  autocommit = same.0.mode ∙ first.autocommit;
-  unmarked = same.2 ∙ first.unmarked;
-  counts = record { changes = same.1.changes ∙ first.counts.changes; last_rowid = same.1.last_rowid ∙ first.counts.last_rowid };
-})
-undone_then old mid new first (inr next) = inr (record {
-  was_open = λ open_now. first.was_open (next.was_open open_now);
-  undone = λ open_now. let it = first.undone (next.was_open open_now) in let last = next.undone open_now in (last.0 ∙ it.1, last.1 ∙ it.1);
-  autocommit = next.autocommit;
-  unmarked = next.unmarked;
-  counts = record { changes = next.counts.changes ∙ first.counts.changes; last_rowid = next.counts.last_rowid ∙ first.counts.last_rowid };
-})
-
-left_after : (old mid new : Shown) → IsLeft old mid → IsLeft mid new → IsLeft old new
-left_after old mid new (inl same) next = left_then old mid new same next
-left_after old mid new (inr back) next = undone_then old mid new back next
-
-module _ {S : Type 0} (g : Ghosts S) where
-  pub read_itself : (o : OfficeIn S) → OnlyIsRead g o o
-  read_itself o = record { office = refl; left = λ clean. inl refl; survives = survives_itself (state g o.database) }
-
-  pub read_then : (a b c : OfficeIn S) → OnlyIsRead g a b → OnlyIsRead g b c → OnlyIsRead g a c
-  read_then a b c first next = record {
-    office = next.office ∙ first.office;
-    left = λ clean. both (first.left (clean_before (state g b.database) (state g c.database) next.survives clean)) (next.left clean);
-    survives = both_survive (state g a.database) (state g b.database) (state g c.database) first.survives next.survives;
-  }
-    where
-      both : (b.database ≡ a.database) ⊎ IsLeft (state g a.database) (state g b.database) → (c.database ≡ b.database) ⊎ IsLeft (state g b.database) (state g c.database)
-          → (c.database ≡ a.database) ⊎ IsLeft (state g a.database) (state g c.database)
-      both (inl same) (inl still) = inl (still ∙ same)
-      both (inl same) (inr left) = inr (subst (λ (d : Held S). IsLeft (state g d) (state g c.database)) same left)
-      both (inr left) (inl still) = inr (subst (λ (d : Held S). IsLeft (state g a.database) (state g d)) (sym still) left)
-      both (inr left) (inr more) = inr (left_after (state g a.database) (state g b.database) (state g c.database) left more)
 
 -- ---- why nothing is read
 

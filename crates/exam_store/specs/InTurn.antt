@@ -1,11 +1,11 @@
 -- The appeals of a session, read from the database one by one.
-use Rattle.std.specs.Prelude.{◌≡◌, ◌⊎◌, ⊤, ℕ, List, map, Option, None, Some}
+use Rattle.std.specs.Prelude.{◌≡◌, ⊤, ℕ, List, map, Option, None, Some}
 use Rattle.std.specs.declared.ops.Bound.{Bound}
 use Rattle.std.specs.declared.ops.Bound.TheVariants.{Excluded}
 use Rattle.sqlite_trees.specs.declared.store.Store.{Ghosts}
 use Rattle.sqlite.specs.declared.error.Error.{Error}
 use Rattle.sqlite.specs.Held.{Held, state}
-use Rattle.sqlite.specs.State.{FailsToQuery, HasCleanDisk, Survives}
+use Rattle.sqlite.specs.State.{FailsToQuery, HasCleanDisk}
 use Rattle.exam_sql.specs.Texts.{find_appeal}
 use Rattle.exam_types.specs.declared.refusal.Refusal.{Refusal}
 use Rattle.exam_types.specs.declared.refusal.Refusal.TheVariants.{BadStore, NoMemory, Store}
@@ -15,7 +15,6 @@ use Rattle.exam_views.specs.declared.view.AppealRow.{AppealRow}
 use Rattle.exam_views.specs.Views.{appeal_row}
 use Rattle.exam_tables.specs.Appeals.{appeal_key, appeals_from}
 use Rattle.exam_tables.specs.Faults.{refusal_of}
-use Rattle.exam_tables.specs.Loaded.{IsLeft}
 use Rattle.exam_store.specs.Kept.{Keeps}
 use Rattle.exam_store.specs.Stores.{OfficeIn}
 
@@ -41,10 +40,3 @@ FailsToRead g new Store = HasCleanDisk (state g new.database) → FailedToFind g
 FailsToRead g new BadStore =
     HasCleanDisk (state g new.database) → Keeps (state g new.database).now new.office → ⊥
 FailsToRead g new other = ⊥
-
--- what reading leaves: the office stays, and the database only is read, also over a crash
-pub record OnlyIsRead {S : Type 0} (g : Ghosts S) (old new : OfficeIn S) : Type 0 where
-  pub office : new.office ≡ old.office
-  pub left : HasCleanDisk (state g new.database)
-      → (new.database ≡ old.database) ⊎ IsLeft (state g old.database) (state g new.database)
-  pub survives : Survives (state g old.database) (state g new.database) (λ _. ⊥)

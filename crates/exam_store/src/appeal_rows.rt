@@ -65,7 +65,7 @@ impl<S: Alter> AppealSource for AppealRows<'_, S> {
     ghost use Rattle.std.specs.Prelude.{◌≡◌, ⊤, refl};
     ghost use Rattle.std.proofs.Common.{◌∙◌};
     ghost use Rattle.exam_store.specs.InTurn as spec;
-    ghost use Rattle.exam_store.proofs.ReadInTurn.{read_itself, read_then};
+    ghost use Rattle.exam_store.specs.OnlyRead.{OnlyIsRead, read_itself, read_then};
 
     ghost coming = { λ r. spec.rows_from r.store.now.office r.session r.from };
 
@@ -74,7 +74,7 @@ impl<S: Alter> AppealSource for AppealRows<'_, S> {
     ghost Refuses = { λ r e. spec.FailsToRead S.Store r.store.now e };
 
     ghost Stays = { λ a b. (b.store.ghost_name ≡ a.store.ghost_name)
-        × spec.OnlyIsRead S.Store a.store.now b.store.now };
+        × OnlyIsRead S.Store a.store.now b.store.now };
 
     fn next(&mut self) -> Result<Option<AppealRow>, Refusal> {
         let row = self

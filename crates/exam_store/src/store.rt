@@ -21,9 +21,10 @@ ghost use Rattle.exam_tables.specs.Faults.{is_store_refusal};
 ghost use Rattle.exam_store.specs.Found.{FailsToOpen, Finds, MakesEmpty, is_open_refusal};
 ghost use Rattle.exam_tables.specs.Inside.{IsOurs};
 ghost use Rattle.exam_tables.specs.Transactions.{IsSound, Commits};
-ghost use Rattle.exam_store.specs.InTurn.{FailsToRead, OnlyIsRead, bound_after, rows_from};
+ghost use Rattle.exam_store.specs.InTurn.{FailsToRead, bound_after, rows_from};
 ghost use Rattle.exam_store.specs.contracts.store.Store.{the_row};
 ghost use Rattle.exam_store.specs.Kept.{IsKept, KeepsOurs, Rekeeps};
+ghost use Rattle.exam_store.specs.OnlyRead.{OnlyIsRead};
 ghost use Rattle.exam_tables.specs.Loaded.{IsLeft, OnlyReads};
 ghost use Rattle.exam_tables.specs.Versions.{FailsToCreate, IsBlank};
 

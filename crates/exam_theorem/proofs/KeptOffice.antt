@@ -8,8 +8,8 @@ use Rattle.sqlite_trees.specs.declared.store.Store.{Ghosts}
 use Rattle.exam_commands.specs.State.{State}
 use Rattle.exam_tables.specs.Loaded.{IsLeft}
 use Rattle.exam_tables.specs.Transactions.{Commits, IsSound}
-use Rattle.exam_store.specs.InTurn.{OnlyIsRead}
 use Rattle.exam_store.specs.Kept.{Keeps, Rekeeps}
+use Rattle.exam_store.specs.OnlyRead.{OnlyIsRead}
 use Rattle.exam_store.specs.Stores.{OfficeIn}
 use Rattle.exam_theorem.specs.Keeping.{KeepsIt, KeepsOn}
 

@@ -1,8 +1,8 @@
 use Rattle.std.proofs.Common.{rules, ◌≡◌, length, ap, sym, subst, ◌∙◌, arith}
 use Rattle.std.specs.Prelude.{IfErr}
 use Rattle.exam_files.specs.Registers.{BreaksOff, Streams, register_text}
-use Rattle.exam_store.specs.InTurn.{FailsToRead, OnlyIsRead, rows_from}
-use Rattle.exam_store.proofs.ReadInTurn.{read_itself}
+use Rattle.exam_store.specs.InTurn.{FailsToRead, rows_from}
+use Rattle.exam_store.specs.OnlyRead.{OnlyIsRead, read_itself}
 use Rattle.exam_job.proofs.Streaming.{none_missing}
 use Rattle.exam_job.proofs.appeals.send_appeals.Goals as goal
 
