@@ -8,7 +8,7 @@ pub returns-then-eq : goal.returns-then-eq
 returns-then-eq c =
     let rest = rest_more deref_pair _ _ _ _ c.in-Some.is c.next.ensures.steps in
     one_found c.args.session.now c.args.from c.args.facts.now.appeals.entries c.appeals.key-iterator c.next.new.self (c.in-Some.key, c.in-Some.appeal) c.appeals.invariant rest
-    c.range.ensures.ordered (sym c.eq.ensures ∙ c.if-eq.true)
+    c.range-key-items.ensures.ordered (sym c.eq.ensures ∙ c.if-eq.true)
 
 pub appeals-preserved : goal.appeals-preserved
 appeals-preserved c =
