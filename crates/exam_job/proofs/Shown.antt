@@ -1,6 +1,6 @@
 -- From what is shown of a session to the office.
 use Rattle.std.proofs.Common.{◌≡◌, ◌∙◌, ℕ, false, List, Option, Some, None, Result, Ok, Err, refl, sym, ap, subst, inl, inr}
-use Rattle.std.specs.Prelude.{IsErrAnd, is_some}
+use Rattle.std.specs.Prelude.{IsErrAnd, IsTrue, is_some}
 use Rattle.std.specs.Io.KnownBytes.{Appends}
 use Rattle.exam_send.specs.Sending.{AppendsBeginning}
 use Rattle.exam_types.specs.declared.refusal.Refusal.{Refusal}
@@ -14,7 +14,7 @@ use Rattle.exam_files.specs.Shortages.{shortage_text}
 use Rattle.exam_files.proofs.OfficeSheets.{attendance_is, clash_list_is, door_list_is, export_is, register_is}
 use Rattle.exam_line.specs.declared.line.Sheet.{Sheet}
 use Rattle.exam_line.specs.declared.line.Sheet.TheVariants as sheet
-use Rattle.exam_job.specs.Sheets.{IsSheetOf, IsSheetOfView, IsShortageSheet, PrintsSheet, PrintsView, Sends, SendsSheet, Streams}
+use Rattle.exam_job.specs.Sheets.{IsSheetOf, IsSheetOfView, IsShortageSheet, PrintsSheet, PrintsView, Sends, SendsSheet, Streams, is_break}
 use Rattle.exam_job.specs.declared.report.JobFault.{JobFault}
 use Rattle.exam_job.specs.declared.report.JobFault.TheVariants.{File, Net, Refused, Write}
 
@@ -32,7 +32,7 @@ sheet_of_office office s view sheet.Export text v is = is ∙ export_is office s
 -- what goes out at once may go out line by line
 by_lines : {W : Type 0} (contents : W → Option (List ℕ)) (text : Result (List ℕ) Refusal) (before : W)
     (result : Result (Unit {0}) JobFault) (after : W) → Sends contents text before result after
-    → Streams contents text before result after
+    → Streams (λ fault. IsTrue (is_break fault)) contents text before result after
 by_lines contents (Ok text) before (Ok done) after (bytes, is, sent) = let same : bytes ≡ text = cc in subst (Appends (contents before) (contents after)) same sent
 by_lines contents (Ok text) before (Err Write) after (bytes, is, sent) = let same : bytes ≡ text = cc in (refl, subst (AppendsBeginning (contents before) (contents after)) same sent)
 by_lines contents (Ok text) before (Err (Refused refusal)) after (is, same) = absurd cc

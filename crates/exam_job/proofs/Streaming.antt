@@ -1,112 +1,104 @@
 -- The appeals of a session, as they go out line by line, are its register.
-use Rattle.std.proofs.Common.{◌≡◌, ◌≢◌, ◌⊎◌, ◌∙◌, inl, inr, ℕ, List, [], ◌++◌, true, false, Option, Some, None, Result, Ok, Err, refl, sym, ap, ap₂, subst, append-nil}
-use Rattle.std.specs.Prelude.{IsErrAnd, IfErr, IsTrue, is_some}
+use Rattle.std.proofs.Common.{◌≡◌, ◌∙◌, ◌⊎◌, inl, inr, ℕ, List, [], ◌++◌, true, false, Option, Some, None, Result, Ok, Err, refl, sym, ap, subst, append-nil}
+use Rattle.std.specs.Prelude.{IfErr, IsErrAnd, IsTrue, is_some}
 use Rattle.std.specs.Io.KnownBytes.{Appends}
 use Rattle.std.proofs.KnownBytes.{Appends-kept}
-use Rattle.std.proofs.lemmas.List.{length-map}
-use Rattle.std.proofs.lemmas.List.Folds.{flat_map-map}
-use Rattle.sqlite.specs.State.{State as Shown, IsUnchanged}
+use Rattle.sqlite_trees.specs.declared.store.Store.{Ghosts}
+use Rattle.sqlite.specs.Held.{state}
+use Rattle.sqlite.specs.State.{HasCleanDisk}
 use Rattle.exam_send.specs.Sending.{AppendsBeginning}
+use Rattle.exam_types.specs.declared.refusal.Refusal.{Refusal}
 use Rattle.exam_types.specs.declared.refusal.Refusal.TheVariants.{BadStore, NoMemory, Store, UnknownSession}
 use Rattle.exam_rules.specs.declared.rows.Session.{Session}
 use Rattle.exam_rules.specs.Relations.{Code, code_cmp, has_row, row_at}
 use Rattle.exam_commands.specs.State.{State}
-use Rattle.exam_views.specs.Views.{appeal_row, appeals_of}
+use Rattle.exam_views.specs.Views.{appeals_of}
 use Rattle.exam_files.specs.OfficeSheets.{of_known, register_of}
-use Rattle.exam_files.specs.Registers.{appeal_line, register_heading, register_text}
-use Rattle.exam_tables.specs.declared.send_fault.SendFault.{SendFault}
-use Rattle.exam_tables.specs.declared.send_fault.SendFault.TheVariants as faults
-use Rattle.exam_tables.specs.Loaded.{OnlyReads}
-use Rattle.exam_tables.specs.Streamed.{appeals_in, is_send_fault, text_of}
-use Rattle.exam_job.specs.Printed.{Flushes, fault_of_send}
-use Rattle.exam_job.specs.Sheets.{Streams, is_break}
+use Rattle.exam_files.specs.Registers as registers
+use Rattle.exam_files.specs.Registers.{register_text}
+use Rattle.exam_files.specs.declared.sheet_fault.SheetFault.{SheetFault}
+use Rattle.exam_files.specs.declared.sheet_fault.SheetFault.TheVariants as faults
+use Rattle.exam_store.specs.InTurn.{FailsToRead}
+use Rattle.exam_store.specs.Kept.{Keeps}
+use Rattle.exam_store.specs.Stores.{OfficeIn}
+use Rattle.exam_job.specs.Printed.{Flushes, fault_of}
+use Rattle.exam_job.specs.Sheets.{BreaksOff, Streams, is_break}
 use Rattle.exam_job.specs.declared.report.JobFault.{JobFault}
-use Rattle.exam_job.specs.declared.report.JobFault.TheVariants.{Refused}
+use Rattle.exam_job.specs.declared.report.JobFault.TheVariants.{File, Net, Refused, Write}
 
--- a fault of the store, or a failed write
-pub breaks_off : (e : SendFault) → IsTrue (is_send_fault e) → IsTrue (is_break (fault_of_send e)) ⊎ (fault_of_send e ≡ Refused BadStore)
-breaks_off faults.Write h = inl refl
-breaks_off (faults.Refused NoMemory) h = inl refl
-breaks_off (faults.Refused Store) h = inl refl
-breaks_off (faults.Refused BadStore) h = inr refl
-breaks_off (faults.Refused other) h = absurd cc
+module _ {S : Type 0} (g : Ghosts S) (new : OfficeIn S) where
+  breaks : (fault : SheetFault) → registers.BreaksOff (FailsToRead g new) ⊥ fault → BreaksOff g new (fault_of fault)
+  breaks faults.Write why = tt
+  breaks (faults.Refused e) (inl short) = subst (FailsToRead g new) (sym short) tt
+  breaks (faults.Refused e) (inr (inl why)) = why.1
+  breaks (faults.Refused e) (inr (inr none)) = absurd none.1
 
--- of a good store
-breaks : (e : SendFault) → IsTrue (is_send_fault e) → e ≢ faults.Refused BadStore → IsTrue (is_break (fault_of_send e))
-breaks e fault good = by (breaks_off e fault)
-  where
-    named : (f : SendFault) → fault_of_send f ≡ Refused BadStore → f ≡ faults.Refused BadStore
-    named (faults.Refused refusal) is = let same : refusal ≡ BadStore = cc in ap faults.Refused same
-    named faults.Write is = absurd cc
+  -- where the tables keep the office, the fault is another one than `BadStore`
+  kept_break : HasCleanDisk (state g new.database) → Keeps (state g new.database).now new.office → (fault : JobFault) → BreaksOff g new fault → IsTrue (is_break fault)
+  kept_break clean keeps Write why = refl
+  kept_break clean keeps (Refused NoMemory) why = refl
+  kept_break clean keeps (Refused Store) why = refl
+  kept_break clean keeps (Refused BadStore) why = absurd (why clean keeps)
+  kept_break clean keeps (Refused other) why = absurd why
+  kept_break clean keeps File why = absurd why
+  kept_break clean keeps Net why = absurd why
 
-    by : IsTrue (is_break (fault_of_send e)) ⊎ (fault_of_send e ≡ Refused BadStore) → IsTrue (is_break (fault_of_send e))
-    by (inl is) = is
-    by (inr bad) = absurd (good (named e bad))
+  pub kept_streams : {W : Type 0} (contents : W → Option (List ℕ)) → HasCleanDisk (state g new.database) → Keeps (state g new.database).now new.office → (text : Result (List ℕ) Refusal) (before : W)
+      (result : Result (Unit {0}) JobFault) (after : W) → Streams (BreaksOff g new) contents text before result after → Streams (λ fault. IsTrue (is_break fault)) contents text before result after
+  kept_streams contents clean keeps (Ok text) before (Ok done) after sent = sent
+  kept_streams contents clean keeps (Ok text) before (Err fault) after sent = (kept_break clean keeps fault sent.0, sent.1)
+  kept_streams contents clean keeps (Err refusal) before result after sent = sent
 
-module _ (office : State) (s : Code) where
-  -- what goes out of the appeals of the office
-  abbrev pub streamed : List ℕ
-  streamed = text_of (register_heading s) (λ a. appeal_line (appeal_row a)) (appeals_in office.relations.appeals s)
+  module _ (office : State) (s : Code) {W : Type 0} (contents : W → Option (List ℕ)) (before : W) where
+    abbrev register : List ℕ
+    register = register_text s (appeals_of office.relations s)
 
-  abbrev register : List ℕ
-  register = register_text s (appeals_of office.relations s)
+    abbrev Sent : Result (List ℕ) Refusal → Result (Unit {0}) JobFault → W → Type 0
+    Sent text result after = Streams (BreaksOff g new) contents text before result after
 
-  pub streamed_is : streamed ≡ register
-  streamed_is =
-      let mine = appeals_in office.relations.appeals s in
-      ap₂ (λ count lines. register_heading s count ++ lines) (sym (length-map mine appeal_row)) (sym (flat_map-map appeal_line appeal_row mine))
-
-  module _ {W : Type 0} (contents : W → Option (List ℕ)) (before : W) where
     -- of a session that there is, and of one that there is not
-    of_row : (row : Option Session) (result : Result (Unit {0}) JobFault) (after : W)
-        → (is_some row ≡ true → Streams contents (Ok register) before result after)
-        → (is_some row ≡ false → (result ≡ Err (Refused UnknownSession)) × (after ≡ before)) → Streams contents (of_known (λ session. Ok register) row) before result after
+    of_row : (row : Option Session) (result : Result (Unit {0}) JobFault) (after : W) → (is_some row ≡ true → Sent (Ok register) result after)
+        → (is_some row ≡ false → (result ≡ Err (Refused UnknownSession)) × (after ≡ before)) → Sent (of_known (λ session. Ok register) row) result after
     of_row None result after known unknown = unknown refl
     of_row (Some row) result after known unknown = known refl
 
     -- all went out, and then the writer was flushed
-    flushed : (mid : W) (result : Result (Unit {0}) JobFault) (after : W) → Appends (contents before) (contents mid) register → Flushes contents mid result after
-        → Streams contents (Ok register) before result after
+    flushed : (mid : W) (result : Result (Unit {0}) JobFault) (after : W) → Appends (contents before) (contents mid) register → Flushes contents mid result after → Sent (Ok register) result after
     flushed mid (Ok done) after whole held = Appends-kept (contents before) (contents mid) (contents after) register whole held
     flushed mid (Err e) after whole (is, held) = (
-      subst (λ (f : JobFault). IsTrue (is_break f)) (sym is) refl,
+      subst (BreaksOff g new) (sym is) tt,
       (register, [], sym (append-nil register), Appends-kept (contents before) (contents mid) (contents after) register whole held),
     )
 
     -- the register of a session that there is
-    pub whole : (mid : W) (result : Result (Unit {0}) JobFault) (after : W) → (has_row code_cmp office.relations.sessions s ≡ true → Appends (contents before) (contents mid) streamed)
-        → (has_row code_cmp office.relations.sessions s ≡ false → ⊥) → Flushes contents mid result after → Streams contents (register_of office s) before result after
+    pub whole : (mid : W) (result : Result (Unit {0}) JobFault) (after : W) → (has_row code_cmp office.relations.sessions s ≡ true → Appends (contents before) (contents mid) register)
+        → (has_row code_cmp office.relations.sessions s ≡ false → ⊥) → Flushes contents mid result after → Sent (register_of office s) result after
     whole mid result after known unknown held =
-        of_row (row_at code_cmp office.relations.sessions s) result after
-        (λ there. flushed mid result after (subst (Appends (contents before) (contents mid)) streamed_is (known there)) held)
-        (λ none. absurd (unknown none))
+        of_row (row_at code_cmp office.relations.sessions s) result after (λ there. flushed mid result after (known there) held) (λ none. absurd (unknown none))
 
     -- a beginning of it, or nothing where the session is unknown
-    pub part : (fault : SendFault) (result : Result (Unit {0}) JobFault) (after : W) → result ≡ Err (fault_of_send fault)
-        → (has_row code_cmp office.relations.sessions s ≡ true → IsTrue (is_send_fault fault) × (fault ≢ faults.Refused BadStore) × AppendsBeginning (contents before) (contents after) streamed)
-        → (has_row code_cmp office.relations.sessions s ≡ false → (fault ≡ faults.Refused UnknownSession) × (after ≡ before)) → Streams contents (register_of office s) before result after
+    pub part : (fault : SheetFault) (result : Result (Unit {0}) JobFault) (after : W) → result ≡ Err (fault_of fault)
+        → (has_row code_cmp office.relations.sessions s ≡ true → registers.BreaksOff (FailsToRead g new) ⊥ fault × AppendsBeginning (contents before) (contents after) register)
+        → (has_row code_cmp office.relations.sessions s ≡ false → (fault ≡ faults.Refused UnknownSession) × (after ≡ before)) → Sent (register_of office s) result after
     part fault result after is known unknown =
         of_row (row_at code_cmp office.relations.sessions s) result after
-        (λ there. let sent = known there in
-        subst (λ r. Streams contents (Ok register) before r after) (sym is) (breaks fault sent.0 sent.1, subst (AppendsBeginning (contents before) (contents after)) streamed_is sent.2))
-        (λ none. let gone = unknown none in (is ∙ ap (λ f. Err (fault_of_send f)) gone.0, gone.1))
+        (λ there. subst (λ r. Sent (Ok register) r after) (sym is) (breaks fault (known there).0, (known there).1))
+        (λ none. (is ∙ ap (λ f. Err (fault_of f)) (unknown none).0, (unknown none).1))
 
 -- ---- the faults
+
+-- a source with as many rows as were counted does not end sooner
+pub none_missing : {Refuses : Refusal → Type 0} {few : Type 0} → (few → ⊥) → (result : Result (Unit {0}) SheetFault) → IfErr result (registers.BreaksOff Refuses few)
+    → IfErr result (registers.BreaksOff Refuses ⊥)
+none_missing enough (Ok done) why = tt
+none_missing enough (Err faults.Write) why = tt
+none_missing enough (Err (faults.Refused e)) (inl short) = inl short
+none_missing enough (Err (faults.Refused e)) (inr (inl refused)) = inr (inl refused)
+none_missing enough (Err (faults.Refused e)) (inr (inr ended)) = absurd (enough ended.1)
 
 pub told : (result : Result (Unit {0}) JobFault) (fault : JobFault) → IsErrAnd result (λ f. f ≡ fault) → result ≡ Err fault
 told (Ok done) fault is = absurd is
 told (Err f) fault is = ap Err is
 
--- a flush that failed is a failed write
-pub flush_fault : {W : Type 0} (contents : W → Option (List ℕ)) (mid : W) (result : Result (Unit {0}) JobFault)
-    (after : W) → Flushes contents mid result after → IfErr result (λ f. IsTrue (is_break f) ⊎ (f ≡ Refused BadStore))
-flush_fault contents mid (Ok done) after held = tt
-flush_fault contents mid (Err e) after held = subst (λ (f : JobFault). IsTrue (is_break f) ⊎ (f ≡ Refused BadStore)) (sym held.0) (inl refl)
-
--- nothing changed, whatever became of the flush
-pub read_only : {A E : Type 0} (old new : Shown) (result : Result A E) → IsUnchanged old new → OnlyReads old new result
-read_only old new (Ok a) same = same
-read_only old new (Err e) same = inl same
-
-pub unknown_fault : (e : SendFault) → ◌≡◌ {A = Result (Unit {0}) SendFault} (Err e) (Err (faults.Refused UnknownSession)) → e ≡ faults.Refused UnknownSession
+pub unknown_fault : (e : SheetFault) → ◌≡◌ {A = Result (Unit {0}) SheetFault} (Err e) (Err (faults.Refused UnknownSession)) → e ≡ faults.Refused UnknownSession
 unknown_fault e is = cc

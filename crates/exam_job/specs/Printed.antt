@@ -15,8 +15,6 @@ use Rattle.exam_files.specs.declared.sheet_fault.SheetFault.{SheetFault}
 use Rattle.exam_files.specs.declared.sheet_fault.SheetFault.TheVariants as sheet
 use Rattle.exam_line.specs.declared.line.LineFault.{LineFault}
 use Rattle.exam_line.specs.declared.line.LineFault.TheVariants as line
-use Rattle.exam_tables.specs.declared.send_fault.SendFault.{SendFault}
-use Rattle.exam_tables.specs.declared.send_fault.SendFault.TheVariants as sent
 use Rattle.exam_tables.specs.Versions.{version}
 use Rattle.exam_send.specs.Sending.{AppendsBeginning, AppendsPart}
 use Rattle.exam_job.specs.declared.report.JobFault.{JobFault}
@@ -115,11 +113,6 @@ not_understood_text = codes "line not understood\n"
 abbrev pub fault_of : SheetFault → JobFault
 fault_of (sheet.Refused refusal) = fault.Refused refusal
 fault_of sheet.Write = fault.Write
-
--- the fault of a sheet that was not written whole
-abbrev pub fault_of_send : SendFault → JobFault
-fault_of_send (sent.Refused refusal) = fault.Refused refusal
-fault_of_send sent.Write = fault.Write
 
 -- a line on standard output: the whole line, or a beginning of it if the writer fails
 abbrev pub Prints : {W : Type 0} → (W → Option (List ℕ)) → List ℕ → W → Result (Unit {0}) JobFault → W → Type 0

@@ -1,11 +1,9 @@
 -- What is printed of a session's sheet.
-use Rattle.std.specs.Prelude.{◌≡◌, ◌⊎◌, ℕ, Bool, true, false, IsTrue, List, Option, Some, None, Result, Ok, Err, IfErr}
+use Rattle.std.specs.Prelude.{◌≡◌, ◌⊎◌, ⊤, ℕ, Bool, true, false, IsTrue, List, Option, Some, None, Result, Ok, Err}
 use Rattle.std.specs.Io.KnownBytes.{Appends}
 use Rattle.sqlite_trees.specs.declared.store.Store.{Ghosts}
-use Rattle.sqlite.specs.Held.{state}
-use Rattle.sqlite.specs.State.{HasCleanDisk, Survives}
 use Rattle.exam_types.specs.declared.refusal.Refusal.{Refusal}
-use Rattle.exam_types.specs.declared.refusal.Refusal.TheVariants.{BadStore, NoMemory, Store, UnknownSession}
+use Rattle.exam_types.specs.declared.refusal.Refusal.TheVariants.{NoMemory, Store, UnknownSession}
 use Rattle.exam_rules.specs.declared.rows.Session.{Session}
 use Rattle.exam_rules.specs.Relations.{Code, code_cmp, has_row, row_at}
 use Rattle.exam_commands.specs.State.{State}
@@ -19,9 +17,9 @@ use Rattle.exam_files.specs.Registers.{appeal_register}
 use Rattle.exam_files.specs.Shortages.{shortage_text}
 use Rattle.exam_line.specs.declared.line.Sheet.{Sheet}
 use Rattle.exam_line.specs.declared.line.Sheet.TheVariants as sheet
-use Rattle.exam_tables.specs.Loaded.{OnlyReads}
 use Rattle.exam_send.specs.Sending.{AppendsBeginning}
-use Rattle.exam_store.specs.Kept.{Keeps}
+use Rattle.exam_store.specs.InTurn.{FailsToRead}
+use Rattle.exam_store.specs.OnlyRead.{OnlyIsRead}
 use Rattle.exam_store.specs.Stores.{OfficeIn}
 use Rattle.exam_job.specs.declared.report.JobFault.{JobFault}
 use Rattle.exam_job.specs.declared.report.JobFault.TheVariants.{File, Net, Refused, Write}
@@ -66,25 +64,35 @@ Sends contents text before (Err Write) after =
 Sends contents text before (Err File) after = ⊥
 Sends contents text before (Err Net) after = ⊥
 
--- why a sheet that is written line by line may break off: memory runs out, a call of the database fails, or a write
+-- A sheet that is written line by line: all of it; nothing, if it is refused; or a beginning after a fault for which it
+-- may break off.
+abbrev pub Streams : {W : Type 0} → (JobFault → Type 0) → (W → Option (List ℕ)) → Result (List ℕ) Refusal
+    → W → Result (Unit {0}) JobFault → W → Type 0
+Streams breaks contents (Ok text) before (Ok done) after = Appends (contents before) (contents after) text
+Streams breaks contents (Ok text) before (Err fault) after =
+    breaks fault × AppendsBeginning (contents before) (contents after) text
+Streams breaks contents (Err refusal) before result after = (result ≡ Err (Refused refusal)) × (after ≡ before)
+
+-- why the appeals may break off while the tables keep the office: memory runs out, a call of the database fails, or a
+-- write
 abbrev pub is_break : JobFault → Bool
 is_break (Refused NoMemory) = true
 is_break (Refused Store) = true
 is_break Write = true
 is_break _ = false
 
--- a sheet that is written line by line: all of it; nothing, if it is refused; or a beginning after a fault
-abbrev pub Streams : {W : Type 0} → (W → Option (List ℕ)) → Result (List ℕ) Refusal
-    → W → Result (Unit {0}) JobFault → W → Type 0
-Streams contents (Ok text) before (Ok done) after = Appends (contents before) (contents after) text
-Streams contents (Ok text) before (Err fault) after =
-    IsTrue (is_break fault) × AppendsBeginning (contents before) (contents after) text
-Streams contents (Err refusal) before result after = (result ≡ Err (Refused refusal)) × (after ≡ before)
+-- why they break off: an appeal is not read, or a write fails
+abbrev pub BreaksOff : {S : Type 0} → Ghosts S → OfficeIn S → JobFault → Type 0
+BreaksOff g new (Refused e) = FailsToRead g new e
+BreaksOff g new Write = ⊤
+BreaksOff g new File = ⊥
+BreaksOff g new Net = ⊥
 
 -- the appeals are written line by line, each other sheet at once
 abbrev pub SendsSheet : {W : Type 0} → (W → Option (List ℕ)) → Sheet → Result (List ℕ) Refusal
     → W → Result (Unit {0}) JobFault → W → Type 0
-SendsSheet contents sheet.Appeals text before result after = Streams contents text before result after
+SendsSheet contents sheet.Appeals text before result after =
+    Streams (λ fault. IsTrue (is_break fault)) contents text before result after
 SendsSheet contents which text before result after = Sends contents text before result after
 
 -- memory ran out, and nothing was written
@@ -106,17 +114,11 @@ PrintsSheet contents office s which before result after =
     ⊎ ((text : Result (List ℕ) Refusal) × IsSheetOf office s which text
     × SendsSheet contents which text before result after)
 
--- The appeals of a session, printed as the database shows them. They are the office's if the database keeps it. The
--- office stays as it is, and the database is only read.
+-- The appeals of a session, printed as the database shows them, are the office's. The office stays as it is, and the
+-- database is only read.
 pub record PrintsAppeals {S W : Type 0} (g : Ghosts S) (contents : W → Option (List ℕ)) (s : Code)
     (old : OfficeIn S) (before : W) (result : Result (Unit {0}) JobFault) (new : OfficeIn S) (after : W) : Type 0 where
-  pub sheet : HasCleanDisk (state g new.database) → Keeps (state g old.database).now old.office
-      → PrintsSheet contents old.office s sheet.Appeals before result after
+  pub sheet : Streams (BreaksOff g new) contents (register_of old.office s) before result after
   pub unknown : has_row code_cmp old.office.relations.sessions s ≡ false
       → (result ≡ Err (Refused UnknownSession)) × (new ≡ old) × (after ≡ before)
-  pub office : new.office ≡ old.office
-  pub left : HasCleanDisk (state g new.database) → has_row code_cmp old.office.relations.sessions s ≡ true
-      → OnlyReads (state g old.database) (state g new.database) result
-  pub survives : Survives (state g old.database) (state g new.database) (λ _. ⊥)
-  pub fault : has_row code_cmp old.office.relations.sessions s ≡ true → IfErr result (λ f.
-      IsTrue (is_break f) ⊎ (f ≡ Refused BadStore))
+  pub read : OnlyIsRead g old new

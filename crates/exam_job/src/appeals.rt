@@ -1,51 +1,21 @@
 //! The appeals of a session on standard output, each as soon as the database shows it.
+ghost use Rattle.std.specs.Prelude.{◌≡◌, true, false, Err, IfErr};
+ghost use Rattle.exam_types.specs.declared.refusal.Refusal.TheVariants.{UnknownSession};
+ghost use Rattle.exam_rules.specs.Relations.{code_cmp, has_row};
+ghost use Rattle.exam_views.specs.Views.{appeals_of};
+ghost use Rattle.exam_files.specs.Registers as registers;
+ghost use Rattle.exam_files.specs.declared.sheet_fault.SheetFault.TheVariants.{Refused};
+ghost use Rattle.exam_store.specs.InTurn.{FailsToRead};
+ghost use Rattle.exam_store.specs.OnlyRead.{OnlyIsRead};
 ghost use Rattle.exam_job.specs.Sheets as spec;
 
 use crate::report::{JobFault, flush};
-use exam_files::{register_heading, register_line};
-use exam_office::{AppealRow, state_of};
-use exam_rules::Appeal;
+use exam_files::{SheetFault, register_stream};
 use exam_store::Store;
-use exam_tables::AppealText;
-use exam_types::{Number, Reference, Refusal, SessionCode};
+use exam_types::SessionCode;
 use sqlite::Alter;
 use std::alloc::Global;
 use std::io::Write;
-
-/// How a session's appeal register is written.
-#[derive(Drop)]
-struct Register {
-    session: SessionCode,
-}
-
-impl AppealText for Register {
-    ghost use Rattle.exam_files.specs.Registers as registers;
-    ghost use Rattle.exam_views.specs.Views as views;
-
-    ghost heading_text = { λ form count. registers.register_heading form.session count };
-
-    ghost line_text = { λ form appeal. registers.appeal_line (views.appeal_row appeal) };
-
-    fn heading(&self, alloc: Global, count: usize) -> Result<Vec<u8>, Refusal> {
-        register_heading(alloc, &self.session, count)
-    }
-
-    fn line(
-        &self,
-        alloc: Global,
-        key: (Number, Reference),
-        appeal: &Appeal,
-    ) -> Result<Vec<u8>, Refusal> {
-        let row = AppealRow {
-            number: key.0,
-            reference: key.1,
-            subject: appeal.subject,
-            state: state_of(&appeal.status),
-            lodged: appeal.lodged,
-        };
-        register_line(alloc, &row)
-    }
-}
 
 /// Prints the appeal register of the session, line by line.
 pub fn print_appeals<S: Alter, O: Write>(
@@ -56,7 +26,28 @@ pub fn print_appeals<S: Alter, O: Write>(
 ) -> Result<(), JobFault>
     ensures { spec.PrintsAppeals S.Store O.contents session.now store.old out.old result store.new out.new }
 {
-    let form = Register { session: *session };
-    store.send_appeals(alloc, session, &form, out)?;
+    send_appeals(alloc, store, session, out)?;
     flush(out)
+}
+
+/// Writes the appeal register of the session, line by line.
+fn send_appeals<S: Alter, O: Write>(
+    alloc: Global,
+    store: &mut Store<S>,
+    session: &SessionCode,
+    out: &mut O,
+) -> Result<(), SheetFault>
+    ensures sent { has_row code_cmp store.old.office.relations.sessions session.now ≡ true
+        → registers.Streams O.contents result out.old out.new
+        (registers.register_text session.now (appeals_of store.old.office.relations session.now)) }
+    ensures fault { has_row code_cmp store.old.office.relations.sessions session.now ≡ true
+        → IfErr result (registers.BreaksOff (FailsToRead S.Store store.new) ⊥) }
+    ensures unknown { has_row code_cmp store.old.office.relations.sessions session.now ≡ false
+        → (result ≡ Err (Refused UnknownSession)) × (store.new ≡ store.old) × (out.new ≡ out.old) }
+    ensures read { OnlyIsRead S.Store store.old store.new }
+{
+    match store.appeals(alloc, session) {
+        Ok((count, mut rows)) => register_stream(alloc, session, count, &mut rows, out),
+        Err(refusal) => Err(SheetFault::Refused(refusal)),
+    }
 }

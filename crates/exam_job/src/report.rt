@@ -10,7 +10,6 @@ use crate::lines::{fault_line, version_line};
 use exam_files::SheetFault;
 use exam_line::LineFault;
 use exam_send::{WriteFailed, send};
-use exam_tables::SendFault;
 use exam_types::Refusal;
 use std::io::Write;
 
@@ -48,17 +47,6 @@ impl From<SheetFault> for JobFault {
         match fault {
             SheetFault::Refused(refusal) => JobFault::Refused(refusal),
             SheetFault::Write => JobFault::Write,
-        }
-    }
-}
-
-impl From<SendFault> for JobFault {
-    ghost from_gives = { λ sent fault. fault ≡ spec.fault_of_send sent };
-
-    fn from(fault: SendFault) -> JobFault {
-        match fault {
-            SendFault::Refused(refusal) => JobFault::Refused(refusal),
-            SendFault::Write => JobFault::Write,
         }
     }
 }

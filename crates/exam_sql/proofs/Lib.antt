@@ -23,12 +23,12 @@ pub mod OfPaper
 pub mod OfSeat
 pub mod OfSession
 pub mod OfStanding
+pub mod OneAppeal
 pub mod Queries
 pub mod QueryFails
 pub mod Quiet
 pub mod References
 pub mod RowLemmas
-pub mod SessionAppeals
 pub mod KeptReferences
 pub mod StatementFails
 pub mod Statements

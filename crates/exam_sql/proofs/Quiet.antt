@@ -12,13 +12,11 @@ use Rattle.sqlite_schema.specs.declared.command.Command.{Command}
 use Rattle.sqlite.specs.Clock.{timed}
 use Rattle.sqlite_resolve.specs.declared.compiled.Compiled.{Compiled}
 use Rattle.sqlite_resolve.specs.declared.error.CompileError.{CompileError}
-use Rattle.sqlite_tied.specs.Compute.{everything}
 use Rattle.sqlite.specs.declared.error.Error.{Error}
 use Rattle.sqlite.specs.Given.{HasBegun, HasGiven, Returns}
 use Rattle.sqlite.specs.Held.{Held, state}
 use Rattle.sqlite.specs.Listing.{understood, if_select, is_select, reads_listing, listing_schema}
 use Rattle.sqlite.specs.State.{State, CommitsShowing, Shown, FailsToQuery, FailsToShow, IsNotRun, IsUnchanged, IsRolledBack}
-use Rattle.exam_sql.specs.Texts.{session_appeals}
 
 -- the text has no RETURNING
 abbrev pub IsQuery : List ℕ → Type 0
@@ -90,7 +88,3 @@ failed_unchanged text params old new e (inr (c, it, fails)) = of_rows c.returnin
     of_rows None h = inl h.3
     of_rows (Some what) (inl h) = inl h.1
     of_rows (Some what) (inr (cause, told, has, back, tells)) = inr back
-
-pub session_appeals_is_query : IsQuery session_appeals
-unfolding everything
-session_appeals_is_query schema base = refl

@@ -6,8 +6,7 @@
 --   make of it
 -- - Keyed, Plain: what the lemmas ask of a table with one key; a query on one table
 -- - Loads: the text that loads a table
--- - Texts: the texts that delete an opening or a seat by its key, that load tables, and that read the appeals of a
---   session
+-- - Texts: the texts that delete an opening or a seat by its key, that load tables, and that read an appeal by its key
 -- - Refusals: why a statement on the rows of a table fails, and what one that succeeds makes of the
 --   database
 pub mod Tables

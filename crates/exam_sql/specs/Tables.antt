@@ -134,10 +134,9 @@ create_text table =
 abbrev pub load_text : Table → List ℕ
 load_text table = codes "SELECT " ++ in_list (names table) ++ codes " FROM " ++ table.name
 
--- the text that deletes the row with a key
-abbrev pub delete_text : Table → List ℕ
-delete_text table =
-    codes "DELETE FROM " ++ table.name ++ codes " WHERE " ++ equal_to 1 (key_names table)
+-- the end of a text that asks for the row with a key
+abbrev pub key_text : Table → List ℕ
+key_text table = codes " WHERE " ++ equal_to 1 (key_names table)
   where
     equal_to : ℕ → List (List ℕ) → List ℕ
     equal_to n [] = []

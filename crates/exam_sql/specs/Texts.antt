@@ -1,14 +1,14 @@
--- The texts that delete an opening or a seat by its key, and that read the appeals of a session; the texts that load
--- the tables.
+-- The texts that delete an opening or a seat by its key, and that read an appeal by its key; the texts that load the
+-- tables.
 use Rattle.std.specs.Prelude.{ℕ, List, [], ◌∷◌, ◌++◌, codes}
 use Rattle.exam_sql.specs.Tables.{office, session, paper, hall, candidate, opening, entry, arrangement, appeal}
-use Rattle.exam_sql.specs.Tables.{seat, standing, delete_text}
+use Rattle.exam_sql.specs.Tables.{seat, standing, key_text}
 
 abbrev pub delete_opening : List ℕ
-delete_opening = delete_text opening.table
+delete_opening = codes "DELETE FROM opening" ++ key_text opening.table
 
 abbrev pub delete_seat : List ℕ
-delete_seat = delete_text seat.table
+delete_seat = codes "DELETE FROM seat" ++ key_text seat.table
 
 abbrev pub load_office : List ℕ
 load_office = office.load
@@ -19,9 +19,9 @@ load_seat = seat.load
 abbrev pub load_standing : List ℕ
 load_standing = standing.load
 
--- the appeals of a session, by candidate and reference
-abbrev pub session_appeals : List ℕ
-session_appeals = codes "SELECT number, ref, session, kind, target, needs, extra, reason, state, answer, lodged FROM appeal WHERE session = ?1 ORDER BY number, ref"
+-- the appeal of a candidate with a reference
+abbrev pub find_appeal : List ℕ
+find_appeal = appeal.load ++ key_text appeal.table
 
 -- the texts that load the tables of facts
 abbrev pub fact_texts : List (List ℕ)

@@ -1,15 +1,16 @@
 pub mod Applying
 pub mod DaysKept
 pub mod Failing
+pub mod FewAppeals
 pub mod FormedRows
 pub mod KeysHold
 pub mod Marking
 pub mod Newest
 pub mod PlansTurning
 pub mod PutsAlone
+pub mod ReadInTurn
 pub mod RowsTurning
 pub mod Referring
-pub mod Registering
 pub mod Rekeeping
 pub mod Reopening
 pub mod Running

@@ -1,10 +1,11 @@
 //! An office in a database.
-ghost use Rattle.std.specs.Prelude.{◌≡◌, ◌≢◌, ◌⊎◌, true, false, Err, IsTrue, IsSome, IfOk, IfErr, OnErr, MatchResult};
+ghost use Rattle.std.specs.Prelude.{◌≡◌, ◌⊎◌, true, false, length, IsTrue, IsSome, IfOk, IfErr, OnOk, OnErr, MatchResult};
+ghost use Rattle.std.specs.Borrow.{sem, RestsIfErr};
 ghost use Rattle.std.specs.Option.{option_map};
 ghost use Rattle.sqlite.specs.Held.{state};
 ghost use Rattle.sqlite.specs.State.{HasCleanDisk, Survives};
 ghost use Rattle.sqlite.specs.Steps.{over_memory};
-ghost use Rattle.exam_types.specs.declared.refusal.Refusal.TheVariants.{BadStore, NoMemory, UnknownSession};
+ghost use Rattle.exam_types.specs.declared.refusal.Refusal.TheVariants.{NoMemory, UnknownSession};
 ghost use Rattle.exam_rules.specs.Relations.{Code, code_cmp, has_row};
 ghost use Rattle.exam_rules.specs.Sessions.{IsSessionRefusal};
 ghost use Rattle.exam_commands.specs.Good.{IsGood};
@@ -13,29 +14,31 @@ ghost use Rattle.exam_commands.specs.Orders.{IsInOrder};
 ghost use Rattle.exam_commands.specs.Own.{own_of, shown};
 ghost use Rattle.exam_commands.specs.State.{empty_state};
 ghost use Rattle.exam_views.specs.Desks.{rows_without_desks};
-ghost use Rattle.exam_views.specs.Views.{IsViewOf};
+ghost use Rattle.exam_views.specs.Sources.{Gives, is_source_refusal};
+ghost use Rattle.exam_views.specs.Views.{IsViewOf, appeals_of};
 ghost use Rattle.exam_store.specs.Applied.{MayApply, FailsToApply, TurnsBy, Applies, AreApplied};
 ghost use Rattle.exam_tables.specs.Faults.{is_store_refusal};
 ghost use Rattle.exam_store.specs.Found.{FailsToOpen, Finds, MakesEmpty, is_open_refusal};
 ghost use Rattle.exam_tables.specs.Inside.{IsOurs};
 ghost use Rattle.exam_tables.specs.Transactions.{IsSound, Commits};
-ghost use Rattle.exam_store.specs.Kept.{IsKept, Keeps, KeepsOurs, Rekeeps};
+ghost use Rattle.exam_store.specs.InTurn.{FailsToRead, bound_after, rows_from};
+ghost use Rattle.exam_store.specs.contracts.store.Store.{the_row};
+ghost use Rattle.exam_store.specs.Kept.{IsKept, KeepsOurs, Rekeeps};
+ghost use Rattle.exam_store.specs.OnlyRead.{OnlyIsRead};
 ghost use Rattle.exam_tables.specs.Loaded.{IsLeft, OnlyReads};
-ghost use Rattle.exam_tables.specs.Streamed as streamed;
-ghost use Rattle.exam_tables.specs.declared.send_fault.SendFault.TheVariants.{Refused};
 ghost use Rattle.exam_tables.specs.Versions.{FailsToCreate, IsBlank};
 
-use crate::appeals::send_kept;
+use crate::appeal_rows::{AppealRows, read_appeal};
 use crate::loading::load_version;
 use crate::saving::save;
-use exam_office::{Command, Draft, Office, Own, Reply, SessionView};
-use exam_tables::{AppealText, NEWEST, SendFault, is_blank, save_empty, version_of};
-use exam_types::{AccessCode, Day, Number, Refusal, SessionCode};
+use exam_office::{AppealRow, Command, Draft, Office, Own, Reply, SessionView};
+use exam_tables::{NEWEST, count_appeals, is_blank, save_empty, version_of};
+use exam_types::{AccessCode, Day, Number, Reference, Refusal, SessionCode};
 use sqlite::{Alter, Connection, MemStore};
 use std::alloc::Global;
-use std::io::Write;
 use std::marker::Model;
 use std::mem;
+use std::ops::Bound;
 
 /// An office whose tables are in a database. Each call refuses with `NoMemory` if there is not enough memory, and with
 /// `Store` if a call of the database failed.
@@ -268,37 +271,41 @@ impl<S: Alter> Store<S> {
         self.office.own_without_desks(alloc, number)
     }
 
-    /// Sends the text of the session's appeals, by candidate and reference, each as soon as the database shows it, so
-    /// no list of them is made. After a fault a beginning of the text may have been sent; an unknown session is refused
-    /// before anything is. The office and what keeps it stay as they were.
-    pub fn send_appeals<F: AppealText, W: Write>(
+    /// How many appeals the session has, and a source that gives them one by one. Refused with `UnknownSession` exactly
+    /// if the office has no such session. Takes no memory, and reads nothing yet.
+    pub fn appeals(
         &mut self,
         alloc: Global,
         session: &SessionCode,
-        form: &F,
-        writer: &mut W,
-    ) -> Result<(), SendFault>
-        ensures sent { HasCleanDisk (state S.Store self.new.database)
-            → Keeps (state S.Store self.old.database).now self.old.office
-            → has_row code_cmp self.old.office.relations.sessions session.now ≡ true
-            → streamed.Sends W.contents result writer.old writer.new
-            (streamed.text_of (F.heading_text form.now) (F.line_text form.now)
-            (streamed.appeals_in self.old.office.relations.appeals session.now)) }
-        ensures good { HasCleanDisk (state S.Store self.new.database)
-            → Keeps (state S.Store self.old.database).now self.old.office
-            → has_row code_cmp self.old.office.relations.sessions session.now ≡ true
-            → IfErr result (λ e. e ≢ Refused BadStore) }
-        ensures unknown { has_row code_cmp self.old.office.relations.sessions session.now ≡ false
-            → (result ≡ Err (Refused UnknownSession)) × (self.new ≡ self.old) × (writer.new ≡ writer.old) }
-        ensures office { self.new.office ≡ self.old.office }
-        ensures left { HasCleanDisk (state S.Store self.new.database)
-            → has_row code_cmp self.old.office.relations.sessions session.now ≡ true
-            → OnlyReads (state S.Store self.old.database) (state S.Store self.new.database) result }
-        ensures survives { Survives (state S.Store self.old.database) (state S.Store self.new.database) (λ _. ⊥) }
-        ensures fault { has_row code_cmp self.old.office.relations.sessions session.now ≡ true
-            → IfErr result (λ e. IsTrue (streamed.is_send_fault e)) }
+    ) -> Result<(u32, AppealRows<'_, S>), Refusal>
+        ensures* refused { sem 𝓛 (RestsIfErr (the_row S.row S.Store) self.entry (λ r. r.1.store.ghost_name) result
+            (λ last. last ≡ self.old)) }
+        ensures held { IfOk result (λ r. r.1.store.ghost_name ≡ self.entry.ghost_name) }
+        ensures same { IfOk result (λ r. r.1.store.now ≡ self.old) }
+        ensures known { OnOk result (has_row code_cmp self.old.office.relations.sessions session.now ≡ true) }
+        ensures rows { IfOk result (λ r. rows_from r.1.store.now.office r.1.session r.1.from
+            ≡ appeals_of self.old.office.relations session.now) }
+        ensures count { IfOk result (λ r. r.0 ≡ length (appeals_of self.old.office.relations session.now)) }
+        ensures refusal { IfErr result (λ e. (e ≡ UnknownSession)
+            × (has_row code_cmp self.old.office.relations.sessions session.now ≡ false)) }
     {
-        send_kept(alloc, &mut self.conn, &self.office, session, form, writer)
+        let count = count_of(&self.office, session)?;
+        Ok((count, AppealRows::new(self, alloc, *session)))
+    }
+
+    /// The session's first appeal with a key from `from` on, as the database confirms it.
+    pub(crate) fn read_appeal(
+        &mut self,
+        alloc: Global,
+        session: &SessionCode,
+        from: Bound<(Number, Reference)>,
+    ) -> Result<Option<AppealRow>, Refusal>
+        ensures row { IfOk result (λ row. Gives row (rows_from self.old.office session.now from)
+            (rows_from self.old.office session.now (bound_after from row))) }
+        ensures refusal { IfErr result (λ e. IsTrue (is_source_refusal e) × FailsToRead S.Store self.new e) }
+        ensures read { OnlyIsRead S.Store self.old self.new }
+    {
+        read_appeal(alloc, &mut self.conn, &self.office, session, from)
     }
 
     /// Returns the connection. Takes no memory.
@@ -308,6 +315,23 @@ impl<S: Alter> Store<S> {
         let Store { conn, office: _ } = self;
         conn
     }
+}
+
+/// How many appeals the session has.
+fn count_of(office: &Office, session: &SessionCode) -> Result<u32, Refusal>
+    ensures known { OnOk result (has_row code_cmp office.now.relations.sessions session.now ≡ true) }
+    ensures count { IfOk result (λ count. count ≡ length (appeals_of office.now.relations session.now)) }
+    ensures refusal { IfErr result (λ e. (e ≡ UnknownSession)
+        × (has_row code_cmp office.now.relations.sessions session.now ≡ false)) }
+{
+    let facts = office.facts();
+    if !facts.sessions.contains_key(session) {
+        return Err(Refusal::UnknownSession);
+    }
+    // A good office has few appeals, so the count fits.
+    office.show_good();
+    let count = count_appeals(facts, session);
+    Ok(count as u32)
 }
 
 /// The store of this office. Refused with `Store` if a transaction is open.

@@ -5,7 +5,7 @@ use Rattle.std.specs.Map.Iter.{deref_pair}
 use Rattle.exam_rules.specs.declared.rows.Appeal.{Appeal}
 use Rattle.exam_rules.specs.Relations.{Code, same_code}
 use Rattle.exam_tables.specs.Rows.{IsAppeal}
-use Rattle.exam_tables.specs.Streamed.{KeyedAppeal, appeals_in}
+use Rattle.exam_tables.specs.Appeals.{KeyedAppeal, appeals_in}
 
 abbrev pub HaveForms : List KeyedAppeal → Type 0
 HaveForms = AllByRecursion (λ (a : KeyedAppeal). IsAppeal a.0 a.1)

@@ -4,6 +4,7 @@ pub mod Creating
 pub mod Differing
 pub mod EachTree
 pub mod Exact
+pub mod FirstFrom
 pub mod Holding
 pub mod Inserting
 pub mod Leaving

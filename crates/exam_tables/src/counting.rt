@@ -1,13 +1,15 @@
-//! How many appeals of a session there are.
-ghost use Rattle.std.specs.Prelude.{◌≡◌, if◌then◌else◌, length};
+//! The appeals of a session in the facts: how many there are, and the first from a key on.
+ghost use Rattle.std.specs.Prelude.{◌≡◌, if◌then◌else◌, [], ◌∷◌, length, MatchOption};
 ghost use Rattle.std.specs.List.{AllByRecursion};
+ghost use Rattle.std.specs.declared.ops.Bound.TheVariants.{Excluded};
 ghost use Rattle.exam_rules.specs.Relations.{relations_of, same_code};
 ghost use Rattle.exam_tables.specs.Rows.{IsAppeal};
 ghost use Rattle.exam_tables.specs.Stored.{IsStatus, IsSubject};
-ghost use Rattle.exam_tables.specs.Streamed as spec;
+ghost use Rattle.exam_tables.specs.Appeals as spec;
 
 use exam_rules::{Appeal, Facts, Status, Subject};
 use exam_types::{Number, Reference, SessionCode};
+use std::ops::Bound;
 
 /// How many appeals there are for the session. Every appeal has the forms of its columns.
 pub fn count_appeals(facts: &Facts, session: &SessionCode) -> usize
@@ -25,6 +27,24 @@ pub fn count_appeals(facts: &Facts, session: &SessionCode) -> usize
     count
 }
 
+/// The session's first appeal with a key from `from` on.
+pub fn first_appeal<'a>(
+    facts: &'a Facts,
+    session: &SessionCode,
+    from: Bound<(Number, Reference)>,
+) -> Option<(&'a (Number, Reference), &'a Appeal)>
+    ensures { MatchOption result (spec.appeals_from (relations_of facts.now).appeals session.now from ≡ [])
+        (λ it. spec.appeals_from (relations_of facts.now).appeals session.now from ≡ (it.0.now, it.1.now)
+        ∷ spec.appeals_from (relations_of facts.now).appeals session.now (Excluded it.0.now)) }
+{
+    'appeals: for (key, appeal) in facts.appeals.range((from, Bound::Unbounded)) {
+        if appeal.session == *session {
+            return Some((key, appeal));
+        }
+    }
+    None
+}
+
 /// 1 if the appeal is for the session, otherwise 0.
 fn counted(appeal: &Appeal, session: &SessionCode) -> usize
     ensures { result ≡ (if same_code appeal.now.session session.now then 1 else 0) }
@@ -33,7 +53,7 @@ fn counted(appeal: &Appeal, session: &SessionCode) -> usize
 }
 
 /// An appeal has the forms of its columns. Does nothing at run time.
-fn show_form(key: &(Number, Reference), appeal: &Appeal)
+pub(crate) fn show_form(key: &(Number, Reference), appeal: &Appeal)
     ensures { IsAppeal key.now appeal.now }
 {
     // The contract of each call says that the part has its form.

@@ -2,29 +2,25 @@
 //! one transaction for all that changes.
 #![tactic(auto)]
 
-mod appeal_text;
 mod columns;
 mod counting;
 mod differences;
 mod faults;
+mod finding;
 mod loading;
 mod schema;
-mod send_fault;
 mod statements;
-mod streaming;
 mod subjects;
 mod table;
 mod tables;
 mod version;
 mod writing;
 
-pub use appeal_text::AppealText;
-pub use counting::count_appeals;
+pub use counting::{count_appeals, first_appeal};
 pub use differences::{Difference, Keyed, difference_of};
+pub use finding::confirm_appeal;
 pub use loading::load_facts;
 pub use schema::{has_marks, is_blank, version_of};
-pub use send_fault::SendFault;
-pub use streaming::send_appeals;
 pub use table::{StoredRows, load_rows, read_rows};
 pub use tables::appeals::AppealTable;
 pub use tables::arrangements::ArrangementTable;

@@ -1,14 +1,15 @@
 -- The tables keep the office from one step to the next.
-use Rattle.std.proofs.Common.{◌≡◌, ◌≤◌, ◌∙◌, Result, Ok, Err, sym, subst, inl, inr, arith}
+use Rattle.std.proofs.Common.{◌≡◌, ◌≤◌, ◌∙◌, ◌⊎◌, Result, Ok, Err, sym, subst, inl, inr, arith}
 use Rattle.sqlite.specs.Effect.{Database}
 use Rattle.sqlite.specs.Held.{state}
-use Rattle.sqlite.specs.State.{HasCleanDisk, Survives}
+use Rattle.sqlite.specs.State.{HasCleanDisk}
 use Rattle.sqlite_trees.specs.View.{doubt}
 use Rattle.sqlite_trees.specs.declared.store.Store.{Ghosts}
 use Rattle.exam_commands.specs.State.{State}
-use Rattle.exam_tables.specs.Loaded.{IsLeft, OnlyReads}
+use Rattle.exam_tables.specs.Loaded.{IsLeft}
 use Rattle.exam_tables.specs.Transactions.{Commits, IsSound}
 use Rattle.exam_store.specs.Kept.{Keeps, Rekeeps}
+use Rattle.exam_store.specs.OnlyRead.{OnlyIsRead}
 use Rattle.exam_store.specs.Stores.{OfficeIn}
 use Rattle.exam_theorem.specs.Keeping.{KeepsIt, KeepsOn}
 
@@ -60,14 +61,13 @@ module _ {S : Type 0} (g : Ghosts S) where
         );
       }
 
-      only_read : {A E : Type 0} (result : Result A E) → OnlyReads (state g old.database) (state g new.database) result → KeepsOn g old new
-      only_read (Ok done) same = left_kept (inl same)
-      only_read (Err e) left = left_kept left
-
-    -- it was read alone, as far as the disk was clean
-    pub read_alone : {A E : Type 0} (result : Result A E) → new.office ≡ old.office → Survives (state g old.database) (state g new.database) (λ _. ⊥)
-        → (HasCleanDisk (state g new.database) → OnlyReads (state g old.database) (state g new.database) result) → KeepsOn g old new
-    read_alone result office survives reads = record {
-      was_sound = λ sound. (only_read office survives.clean result (reads sound.0)).was_sound sound;
-      kept = λ sound. (only_read office survives.clean result (reads sound.0)).kept sound;
+    -- the appeals were read alone
+    pub read_alone : OnlyIsRead g old new → KeepsOn g old new
+    read_alone read = record {
+      was_sound = λ sound. (by (read.left sound.0)).was_sound sound;
+      kept = λ sound. (by (read.left sound.0)).kept sound;
     }
+      where
+        by : (new.database ≡ old.database) ⊎ IsLeft (state g old.database) (state g new.database) → KeepsOn g old new
+        by (inl same) = unchanged g old new (λ i. record { office = read.office i; database = same i })
+        by (inr left) = left_kept read.office read.survives.clean left

@@ -1,9 +1,10 @@
 -- A sheet is printed of an office, which is kept.
-use Rattle.std.proofs.Common.{◌≡◌, ℕ, Bool, true, false, List, Option, Some, Result, refl, ap, inr}
+use Rattle.std.proofs.Common.{◌≡◌, ℕ, true, List, Option, Some, Result, refl, ap, inr}
 use Rattle.std.specs.Prelude.{is_some}
 use Rattle.sqlite.specs.Held.{state}
 use Rattle.sqlite_trees.specs.declared.store.Store.{Ghosts}
-use Rattle.exam_rules.specs.Relations.{Code, code_cmp, has_row}
+use Rattle.exam_rules.specs.Relations.{Code}
+use Rattle.exam_files.specs.OfficeSheets.{register_of}
 use Rattle.exam_line.specs.Lines.{Job}
 use Rattle.exam_line.specs.Lines as line
 use Rattle.exam_line.specs.declared.line.Sheet.{Sheet}
@@ -13,6 +14,7 @@ use Rattle.exam_store.specs.Stores.{OfficeIn}
 use Rattle.exam_job.specs.Jobs.{Does}
 use Rattle.exam_job.specs.Sheets.{PrintsAppeals}
 use Rattle.exam_job.specs.declared.report.JobFault.{JobFault}
+use Rattle.exam_job.proofs.Streaming.{kept_streams}
 use Rattle.exam_theorem.specs.Following.{told}
 use Rattle.exam_theorem.specs.Keeping.{KeepsIt, KeepsOn}
 use Rattle.exam_theorem.specs.Orders.{sheet_of}
@@ -22,15 +24,11 @@ use Rattle.exam_theorem.proofs.KeptOffice.{read_alone, unchanged}
 module _ {S W : Type 0} (g : Ghosts S) (contents : W → Option (List ℕ)) (today : ℕ) (input rest : Option (List ℕ))
     (old new : OfficeIn S) (before : W) (result : Result (Unit {0}) JobFault) (after : W) where
   appeals_kept : (s : Code) → PrintsAppeals g contents s old before result new after → KeepsOn g old new
-  appeals_kept s prints = by (has_row code_cmp old.office.relations.sessions s) refl
-    where
-      by : (known : Bool) → has_row code_cmp old.office.relations.sessions s ≡ known → KeepsOn g old new
-      by true known = read_alone g old new result prints.office prints.survives (λ clean. prints.left clean known)
-      by false known = unchanged g old new (prints.unknown known).1
+  appeals_kept s prints = read_alone g old new prints.read
 
   -- a sheet leaves the office, and what keeps it
   pub sheet_keeps : (s : Code) (which : Sheet) → Does g contents (line.print s which) today input rest old before result new after → (new.office ≡ old.office) × KeepsOn g old new
-  sheet_keeps s sheet.Appeals h = (h.1.office, appeals_kept s h.1)
+  sheet_keeps s sheet.Appeals h = (h.1.read.office, appeals_kept s h.1)
   sheet_keeps s which h = (ap (λ (o : OfficeIn S). o.office) h.1, unchanged g old new h.1)
 
   pub job_keeps : (job : Job) → is_some (sheet_of job) ≡ true → Does g contents job today input rest old before result new after → (new.office ≡ old.office) × KeepsOn g old new
@@ -43,7 +41,10 @@ module _ {S W : Type 0} (g : Ghosts S) (contents : W → Option (List ℕ)) (tod
   printed : (s : Code) (which : Sheet) → Does g contents (line.print s which) today input rest old before result new after → RestsOn Rested which
       → PrintsAsked contents old.office (Some (s, which)) before (told result) after
   unfolding KeepsIt
-  printed s sheet.Appeals h rested = inr (result, refl, h.1.sheet rested.0.0 rested.1.0)
+  printed s sheet.Appeals h rested =
+      let text = register_of old.office s in
+      let kept = (appeals_kept s h.1).kept rested.0 rested.1 in
+      inr (result, refl, inr (text, refl, kept_streams g new contents rested.0.0 kept.0 text before result after h.1.sheet))
   printed s which h rested = inr (result, refl, h.2)
 
   pub job_printed : (job : Job) → is_some (sheet_of job) ≡ true → Does g contents job today input rest old before result new after → RestsOnAsked Rested (sheet_of job)

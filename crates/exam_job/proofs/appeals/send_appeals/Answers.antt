@@ -1,0 +1,34 @@
+use Rattle.std.proofs.Common.{rules, ◌≡◌, length, ap, sym, subst, ◌∙◌, arith}
+use Rattle.std.specs.Prelude.{IfErr}
+use Rattle.exam_files.specs.Registers.{BreaksOff, Streams, register_text}
+use Rattle.exam_store.specs.InTurn.{FailsToRead, rows_from}
+use Rattle.exam_store.specs.OnlyRead.{OnlyIsRead, read_itself}
+use Rattle.exam_job.proofs.Streaming.{none_missing}
+use Rattle.exam_job.proofs.appeals.send_appeals.Goals as goal
+
+pub returns-in-Ok-clause-sent : goal.returns-in-Ok-clause-sent
+returns-in-Ok-clause-sent g c = λ known.
+    let rows = c.in-Ok.rows in
+    let long : length (rows_from rows.store.now.office rows.session rows.from) ≡ c.in-Ok.count = ap length c.in-Ok.ensures.rows ∙ sym c.in-Ok.ensures.count in
+    subst (λ list. Streams g.O.Write.contents c.register_stream.result c.args.out.now c.register_stream.new.writer (register_text c.args.session.now list)) c.in-Ok.ensures.rows
+    (c.register_stream.ensures.sheet tt long)
+
+pub returns-in-Ok-clause-fault : goal.returns-in-Ok-clause-fault
+returns-in-Ok-clause-fault g c = λ known.
+    let rows = c.in-Ok.rows in
+    let long : length (rows_from rows.store.now.office rows.session rows.from) ≡ c.in-Ok.count = ap length c.in-Ok.ensures.rows ∙ sym c.in-Ok.ensures.count in
+    let fault : IfErr c.register_stream.result (BreaksOff (FailsToRead g.S.Store c.register_stream.new.source.store.now) ⊥) =
+    none_missing (λ short. let few = short tt in omega (arith, few, long)) c.register_stream.result c.register_stream.ensures.fault in
+    search rules
+
+pub returns-in-Ok-clause-read : goal.returns-in-Ok-clause-read
+returns-in-Ok-clause-read g c =
+    let new = c.register_stream.new.source.store.now in
+    let read : OnlyIsRead g.S.Store c.args.store.now new = subst (λ o. OnlyIsRead g.S.Store o new) c.in-Ok.ensures.same c.register_stream.ensures.stays.1 in
+    search rules
+
+pub returns-in-Err-clause-read : goal.returns-in-Err-clause-read
+returns-in-Err-clause-read g c =
+    let last = c.appeals.follows.lender-at-none in
+    let read : OnlyIsRead g.S.Store c.args.store.now last = subst (λ o. OnlyIsRead g.S.Store c.args.store.now o) (sym c.appeals.follows.holds-at-none) (read_itself g.S.Store c.args.store.now) in
+    search rules

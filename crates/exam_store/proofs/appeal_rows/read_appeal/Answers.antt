@@ -1,0 +1,38 @@
+use Rattle.std.proofs.Common.{◌≡◌, [], ◌∷◌, ap, map, subst, ◌∙◌}
+use Rattle.std.specs.declared.ops.Bound.TheVariants.{Excluded}
+use Rattle.sqlite.specs.Held.{state}
+use Rattle.exam_rules.specs.Relations.{Relations}
+use Rattle.exam_views.specs.Views.{appeal_row}
+use Rattle.exam_tables.specs.Appeals.{KeyedAppeal, appeals_from}
+use Rattle.exam_tables.proofs.OneByOne.{survives_itself}
+use Rattle.exam_store.specs.InTurn.{rows_from}
+use Rattle.exam_store.proofs.ReadInTurn.{among, gives_ok, left_any, refused_all}
+use Rattle.exam_store.proofs.appeal_rows.read_appeal.Goals as goal
+
+pub returns-in-Some-clause-row : goal.returns-in-Some-clause-row
+returns-in-Some-clause-row g c =
+    let it : KeyedAppeal = (c.in-Some.key.now, c.in-Some.appeal.now) in
+    let s = c.args.session.now in
+    let first = subst (λ (r : Relations). appeals_from r.appeals s c.args.from ≡ it ∷ appeals_from r.appeals s (Excluded it.0)) c.facts.ensures c.in-Some.ensures in
+    gives_ok c.args.office.now s c.args.from it first c.confirmed_row.result c.confirmed_row.ensures.row
+
+pub returns-in-Some-clause-refusal : goal.returns-in-Some-clause-refusal
+returns-in-Some-clause-refusal g c =
+    let it : KeyedAppeal = (c.in-Some.key.now, c.in-Some.appeal.now) in
+    let s = c.args.session.now in
+    let first = subst (λ (r : Relations). appeals_from r.appeals s c.args.from ≡ it ∷ appeals_from r.appeals s (Excluded it.0)) c.facts.ensures c.in-Some.ensures in
+    let has = among c.args.office.now.relations.appeals s c.args.from it _ first in
+    refused_all g.S.Store c.args.office.now c.args.conn.now c.confirmed_row.new.conn it c.show_order.ensures.tables.appeals has c.confirmed_row.result c.confirmed_row.ensures.told
+    c.confirmed_row.ensures.failed
+
+pub returns-in-Some-clause-left : goal.returns-in-Some-clause-left
+returns-in-Some-clause-left g c = λ clean. left_any g.S.Store c.args.conn.now c.confirmed_row.new.conn c.confirmed_row.result (c.confirmed_row.ensures.left clean)
+
+pub returns-in-None-clause-row : goal.returns-in-None-clause-row
+returns-in-None-clause-row g c =
+    let none = subst (λ (r : Relations). appeals_from r.appeals c.args.session.now c.args.from ≡ []) c.facts.ensures c.in-None.ensures in
+    let nothing : rows_from c.args.office.now c.args.session.now c.args.from ≡ [] = ap (map appeal_row) none in
+    (nothing, nothing)
+
+pub returns-in-None-clause-survives : goal.returns-in-None-clause-survives
+returns-in-None-clause-survives g c = survives_itself (state g.S.Store c.args.conn.now)

@@ -1,0 +1,163 @@
+//! The appeals of a session, read from the database one by one.
+ghost use Rattle.std.specs.Prelude.{◌≡◌, ◌⊎◌, false, Some, IsTrue, IfOk, IfErr};
+ghost use Rattle.std.specs.declared.ops.Bound.TheVariants.{Unbounded};
+ghost use Rattle.sqlite.specs.Held.{state};
+ghost use Rattle.sqlite.specs.State.{HasCleanDisk, Survives};
+ghost use Rattle.exam_views.specs.Sources.{Gives, is_source_refusal};
+ghost use Rattle.exam_views.specs.Views.{appeal_row};
+ghost use Rattle.exam_tables.specs.Appeals.{FailsToConfirm};
+ghost use Rattle.exam_tables.specs.Faults.{is_store_refusal};
+ghost use Rattle.exam_tables.specs.Loaded.{IsLeft, OnlyReads};
+ghost use Rattle.exam_store.specs.InTurn as spec;
+
+use crate::store::Store;
+use exam_office::{AppealRow, AppealSource, Office, state_of};
+use exam_rules::Appeal;
+use exam_tables::{confirm_appeal, first_appeal};
+use exam_types::{Number, Reference, Refusal, SessionCode};
+use sqlite::{Alter, Connection};
+use std::alloc::Global;
+use std::ops::Bound;
+
+/// The appeals of a session, by candidate and reference. Each is read from the database by its key; one that is not the
+/// office's is refused with `BadStore`.
+pub struct AppealRows<'s, S: Alter> {
+    store: &'s mut Store<S>,
+    alloc: Global,
+    session: SessionCode,
+    from: Bound<(Number, Reference)>,
+}
+
+impl<'s, S: Alter> AppealRows<'s, S> {
+    pub(crate) fn new(
+        store: &'s mut Store<S>,
+        alloc: Global,
+        session: SessionCode,
+    ) -> AppealRows<'s, S>
+        ensures held { result.store.ghost_name ≡ store.entry.ghost_name }
+        ensures same { result.store.now ≡ store.old }
+        ensures session { result.session ≡ session }
+        ensures from { result.from ≡ Unbounded }
+    {
+        AppealRows {
+            store,
+            alloc,
+            session,
+            from: Bound::Unbounded,
+        }
+    }
+}
+
+impl<S: Alter> Drop for AppealRows<'_, S> {
+    fn drop(self)
+        ensures { self.exit.0.now ≡ self.entry.store.now }
+    {
+        let AppealRows {
+            store: _,
+            alloc: _,
+            session: _,
+            from: _,
+        } = self;
+    }
+}
+
+impl<S: Alter> AppealSource for AppealRows<'_, S> {
+    ghost use Rattle.std.specs.Prelude.{◌≡◌, ⊤, refl};
+    ghost use Rattle.std.proofs.Common.{◌∙◌};
+    ghost use Rattle.exam_store.specs.InTurn as spec;
+    ghost use Rattle.exam_store.specs.OnlyRead.{OnlyIsRead, read_itself, read_then};
+
+    ghost coming = { λ r. spec.rows_from r.store.now.office r.session r.from };
+
+    ghost IsHonest = { λ r. ⊤ };
+
+    ghost Refuses = { λ r e. spec.FailsToRead S.Store r.store.now e };
+
+    ghost Stays = { λ a b. (b.store.ghost_name ≡ a.store.ghost_name)
+        × OnlyIsRead S.Store a.store.now b.store.now };
+
+    fn next(&mut self) -> Result<Option<AppealRow>, Refusal> {
+        let row = self
+            .store
+            .read_appeal(self.alloc, &self.session, self.from)?;
+        self.from = bound_after(self.from, &row);
+        Ok(row)
+    }
+
+    ghost stays_itself = { λ a. (refl, read_itself S.Store a.store.now) };
+
+    ghost stays_then = { λ a b c first second. (
+      second.0 ∙ first.0,
+      read_then S.Store a.store.now b.store.now c.store.now first.1 second.1,
+    ) };
+}
+
+/// From where the next appeal is looked for, after this one.
+fn bound_after(
+    from: Bound<(Number, Reference)>,
+    row: &Option<AppealRow>,
+) -> Bound<(Number, Reference)>
+    ensures { result ≡ spec.bound_after from row.now }
+{
+    match row {
+        Some(row) => Bound::Excluded((row.number, row.reference)),
+        None => from,
+    }
+}
+
+/// The session's first appeal with a key from `from` on, as the database confirms it.
+pub fn read_appeal<S: Alter>(
+    alloc: Global,
+    conn: &mut Connection<S>,
+    office: &Office,
+    session: &SessionCode,
+    from: Bound<(Number, Reference)>,
+) -> Result<Option<AppealRow>, Refusal>
+    ensures row { IfOk result (λ row. Gives row (spec.rows_from office.now session.now from)
+        (spec.rows_from office.now session.now (spec.bound_after from row))) }
+    ensures refusal { IfErr result (λ e. IsTrue (is_source_refusal e)
+        × spec.FailsToRead S.Store (record { office = office.now; database = conn.new }) e) }
+    ensures left { HasCleanDisk (state S.Store conn.new)
+        → (conn.new ≡ conn.old) ⊎ IsLeft (state S.Store conn.old) (state S.Store conn.new) }
+    ensures mode { conn.old.in_transaction ≡ false → conn.new.in_transaction ≡ false }
+    ensures survives { Survives (state S.Store conn.old) (state S.Store conn.new) (λ _. ⊥) }
+{
+    // This shows that the appeals are in the order of their keys.
+    office.show_order();
+    match first_appeal(office.facts(), session, from) {
+        Some((key, appeal)) => confirmed_row(alloc, conn, key, appeal),
+        None => Ok(None),
+    }
+}
+
+/// An appeal of the office, as a register lists it, if the database confirms it.
+fn confirmed_row<S: Alter>(
+    alloc: Global,
+    conn: &mut Connection<S>,
+    key: &(Number, Reference),
+    appeal: &Appeal,
+) -> Result<Option<AppealRow>, Refusal>
+    ensures row { IfOk result (λ row. row ≡ Some (appeal_row (key.now, appeal.now))) }
+    ensures failed { HasCleanDisk (state S.Store conn.new) → IfErr result
+        (FailsToConfirm (key.now, appeal.now) (state S.Store conn.old) (state S.Store conn.new)) }
+    ensures left { HasCleanDisk (state S.Store conn.new)
+        → OnlyReads (state S.Store conn.old) (state S.Store conn.new) result }
+    ensures mode { conn.old.in_transaction ≡ false → conn.new.in_transaction ≡ false }
+    ensures survives { Survives (state S.Store conn.old) (state S.Store conn.new) (λ _. ⊥) }
+    ensures told { IfErr result (λ e. IsTrue (is_store_refusal e)) }
+{
+    confirm_appeal(alloc, conn, key, appeal)?;
+    Ok(Some(row_of(key, appeal)))
+}
+
+fn row_of(key: &(Number, Reference), appeal: &Appeal) -> AppealRow
+    ensures { result ≡ appeal_row (key.now, appeal.now) }
+{
+    AppealRow {
+        number: key.0,
+        reference: key.1,
+        subject: appeal.subject,
+        state: state_of(&appeal.status),
+        lodged: appeal.lodged,
+    }
+}
