@@ -1,8 +1,8 @@
 //! What the READMEs of the crates of the office show.
 use super::office_of;
 use exam_changes::withdraw;
-use exam_office::{Command, Import, Kind, Reply, Row, first_bad_table, step, touched};
-use exam_school::{OPENED, School, Words, entry_of, school_with};
+use exam_office::{Command, Import, Kind, Reply, Row, Table, first_bad_table, step, touched};
+use exam_school::{OPENED, School, Words, arrangement_of, entry_of, school_with};
 use exam_types::Refusal;
 use std::test::Fail;
 
@@ -10,22 +10,23 @@ use std::test::Fail;
 const SEATED: &str = "entry 1 MA-1\nseat S1 1 A\n";
 
 #[test]
-fn an_import_refuses_two_rows_of_one_key(rt: HostRuntime) -> Result<(), Fail> {
-    let candidate = exam_school::candidate_of(rt.alloc(), &mut Words::of("1"))?.1;
-    let number = Words::of("1").number()?;
-    let other = exam_school::candidate_of(rt.alloc(), &mut Words::of("2"))?.1;
-    let mut import = Import::new(rt.alloc(), Kind::Candidates);
-    import.push(Row::OfCandidate(number, candidate))?;
-    import.push(Row::OfCandidate(number, other))?;
-    assert!(rt; import.rows().len() == 2);
+fn rows_of_one_key_are_equal(rt: HostRuntime) -> Result<(), Fail> {
+    let mut import = Import::new(rt.alloc(), Kind::Arrangements);
+    let (number, needs) = arrangement_of(&mut Words::of("1 step-free 0"))?;
+    let (_, others) = arrangement_of(&mut Words::of("1 screen 0"))?;
+    import.push(Row::OfArrangement(number, needs))?;
+    let refused = import.push(Row::OfArrangement(number, others)).err();
+    assert!(rt; refused == Some(Refusal::RowConflict { record: 2 }));
+    assert!(rt; import.rows().len() == 1);
     Ok(())
 }
 
 #[test]
 fn an_unseated_member_makes_the_seats_bad(rt: HostRuntime) -> Result<(), Fail> {
+    // Candidate 1 is entered, and both halls have a free desk.
     let school = school_with(rt.alloc(), &[OPENED, "entry 1 MA-1"])?;
     let bad = first_bad_table(rt.alloc(), &school.facts, &school.seats)?;
-    assert_eq!(rt; bad, Some(exam_office::Table::Seats));
+    assert!(rt; bad == Some(Table::Seats));
     Ok(())
 }
 
@@ -35,10 +36,13 @@ fn a_withdrawal_is_taken_back(rt: HostRuntime) -> Result<(), Fail> {
     let (number, paper) = entry_of(&mut Words::of("1 MA-1"))?;
     let undo = withdraw(&mut facts, number, paper)?;
     let again = withdraw(&mut facts, number, paper).err();
-    assert_eq!(rt; again, Some(Refusal::AlreadyWithdrawn));
+    assert!(rt; again == Some(Refusal::AlreadyWithdrawn));
     // Takes no memory.
     undo.take_back(&mut facts);
-    let is_live = facts.entries.get(&(number, paper)).is_some_and(|it| it.live);
+    let is_live = facts
+        .entries
+        .get(&(number, paper))
+        .is_some_and(|it| it.live);
     assert!(rt; is_live);
     Ok(())
 }
@@ -55,18 +59,5 @@ fn a_closed_hall_moves_who_sits_there(rt: HostRuntime) -> Result<(), Fail> {
     assert!(rt; reply == Reply::Closed);
     let number = Words::of("1").number()?;
     assert!(rt; office.seats().get(&(session, number)) == Some(&Words::of("B").hall()?));
-    Ok(())
-}
-
-#[test]
-fn a_view_shows_seats_and_shortage(rt: HostRuntime) -> Result<(), Fail> {
-    let alloc = rt.alloc();
-    let office = office_of(alloc, &["opening S1 A 1 12:00", SEATED, "entry 2 MA-1"])?;
-    let view = office.session_view(alloc, &Words::of("S1").session()?)?;
-    for seat in &view.seats(alloc)? {
-        assert_eq!(rt; seat.number.get() == 1, seat.desk == Some(1));
-    }
-    let short = view.shortage(alloc)?;
-    assert!(rt; short.unseated == 1 && short.candidates.len() == 2);
     Ok(())
 }
