@@ -7,6 +7,7 @@
 mod appeals;
 mod commands;
 mod decisions;
+mod examples;
 mod limits;
 mod opening;
 mod orders;

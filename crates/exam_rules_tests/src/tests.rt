@@ -1,4 +1,5 @@
 //! The calls of each crate over texts, small problems and small offices.
+mod examples;
 mod plan;
 mod rules;
 mod types;

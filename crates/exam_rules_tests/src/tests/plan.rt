@@ -69,7 +69,7 @@ fn problem_of(alloc: Global, desks: [u32; 3], fits: &[[bool; 3]]) -> Result<Prob
 }
 
 /// A problem with a desk in each of so many halls.
-fn masked_problem(alloc: Global, halls: usize, masks: &[Mask]) -> Result<Problem, Refusal>
+pub fn masked_problem(alloc: Global, halls: usize, masks: &[Mask]) -> Result<Problem, Refusal>
     requires few_halls { halls ≤ most_halls }
     requires few { length masks.now ≤ most_members }
     requires exist { All (λ set. set < 2 ^ halls) (sets_of masks.now) }
