@@ -24,7 +24,9 @@ struct Course {
     files: Files<Fused>,
     /// Their rows.
     before: String,
-    /// What is seen after the step. The same step is then taken again.
+    /// The files after the step.
+    behind: Files<Fused>,
+    /// What is seen in them. The same step is then taken again.
     after: Seen,
 }
 
@@ -52,21 +54,17 @@ fn seen_behind(alloc: Global, files: &Files<Fused>, step: &Step<'_>) -> Result<S
     seen_in(alloc, files, step)
 }
 
-/// Takes the step. Gives the files after it too.
-fn course_of(
-    alloc: Global,
-    files: Files<Fused>,
-    step: &Step<'_>,
-) -> Result<(Course, Files<Fused>), Fail> {
+/// Takes the step.
+fn course_of(alloc: Global, files: Files<Fused>, step: &Step<'_>) -> Result<Course, Fail> {
     let before = rows_of(alloc, &files)?;
     let behind = files_behind(alloc, &files, step)?;
     let after = seen_behind(alloc, &behind, step)?;
-    let course = Course {
+    Ok(Course {
         files,
         before,
+        behind,
         after,
-    };
-    Ok((course, behind))
+    })
 }
 
 /// Whether an answer says that memory ran out or that the files cannot be used. A sheet that is read from the files may
@@ -105,7 +103,7 @@ fn expect_seen(
     expect_same(again, step.answer, place)
 }
 
-/// The files hold the tables before the step or after all of it.
+/// The files hold the tables before the step or after all of it. Files with the bytes of those need no look.
 fn expect_whole(
     alloc: Global,
     course: &Course,
@@ -114,7 +112,9 @@ fn expect_whole(
     files: Files<Fused>,
     place: &str,
 ) -> Result<(), Fail> {
-    if !is_answered && are_same(&files, &course.files) {
+    let is_known = are_same(&files, &course.behind)
+        || (!is_answered && are_same(&files, &course.files));
+    if is_known {
         return Ok(());
     }
     let seen = seen_in(alloc, files, step)?;
@@ -202,10 +202,10 @@ fn refuse(
     step: &Step<'_>,
     ways: &[Unsynced],
 ) -> Result<Files<Fused>, Fail> {
-    let (course, files) = course_of(alloc, files, step)?;
+    let course = course_of(alloc, files, step)?;
     refuse_each(alloc, &course, step, true, ways)?;
     refuse_each(alloc, &course, step, false, ways)?;
-    Ok(files)
+    Ok(course.behind)
 }
 
 /// Refuses each step of a text, over files that hold the days before.
