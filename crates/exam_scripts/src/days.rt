@@ -441,3 +441,29 @@ $ export S2
 S2,0000001,MB-1,B,1
 S2,0000002,MB-1,A,1
 "#;
+
+/// The tables as they were in version 1.
+pub const OF_VERSION_1: &str = "\
+$ sql
+DROP TABLE standing; UPDATE office SET version = 1
+";
+
+pub const FROM_VERSION_1: &str = "\
+$ migrate
+> migrated 1 to 3
+$ migrate
+> already 3
+";
+
+/// The tables as they were in version 2.
+pub const OF_VERSION_2: &str = "\
+$ sql
+UPDATE office SET version = 2
+";
+
+pub const FROM_VERSION_2: &str = "\
+$ migrate
+> migrated 2 to 3
+$ migrate
+> already 3
+";

@@ -2,7 +2,10 @@
 use super::disks::Unsynced;
 use super::refusing::{INIT, NOBODY_SITS, ONE_SITS, TWO_SIT, refuse_in_turn};
 use exam_school::{FIRST_TAKES_A, PEOPLE, SECOND_NEEDS_A, TIMETABLE};
-use exam_scripts::days::{BARRED_FROM_B, MOVED_TWICE, THREE_COME, TWO_SESSIONS, WITHDRAWN};
+use exam_scripts::days::{
+    BARRED_FROM_B, FROM_VERSION_1, FROM_VERSION_2, MOVED_TWICE, OF_VERSION_1, OF_VERSION_2,
+    THREE_COME, TWO_SESSIONS, WITHDRAWN,
+};
 use std::test::Fail;
 
 /// What was written and not synced is lost, kept, or kept in part.
@@ -28,19 +31,6 @@ fn an_entry_is_withdrawn_whole_or_not_at_all(rt: HostRuntime) -> Result<(), Fail
     refuse_in_turn(&rt, NOBODY_SITS, WITHDRAWN, STOPPED)
 }
 
-/// The tables as they were in version 1.
-const OF_VERSION_1: &str = "\
-$ sql
-DROP TABLE standing; UPDATE office SET version = 1
-";
-
-const FROM_VERSION_1: &str = "\
-$ migrate
-> migrated 1 to 3
-$ migrate
-> already 3
-";
-
 #[test]
 fn a_migration_from_version_1_is_made_whole_or_not_at_all(rt: HostRuntime) -> Result<(), Fail> {
     let days = &[
@@ -53,19 +43,6 @@ fn a_migration_from_version_1_is_made_whole_or_not_at_all(rt: HostRuntime) -> Re
     ];
     refuse_in_turn(&rt, days, FROM_VERSION_1, STOPPED)
 }
-
-/// The tables as they were in version 2.
-const OF_VERSION_2: &str = "\
-$ sql
-UPDATE office SET version = 2
-";
-
-const FROM_VERSION_2: &str = "\
-$ migrate
-> migrated 2 to 3
-$ migrate
-> already 3
-";
 
 /// A standing grant is among the tables.
 #[test]

@@ -1,6 +1,10 @@
 //! Arrangements that stand for later sessions: two days, with what each command prints.
 use super::play;
-use exam_scripts::days::{MOVED_TWICE, THREE_COME, TWO_SESSIONS};
+use exam_school::FIRST_TAKES_A;
+use exam_scripts::days::{
+    FROM_VERSION_1, FROM_VERSION_2, MOVED_TWICE, OF_VERSION_1, OF_VERSION_2, THREE_COME,
+    TWO_SESSIONS,
+};
 use std::test::Fail;
 
 const A_QUARTER_MORE: &str = r#"$ POST /candidates/0000001/appeals on 2027-05-22
@@ -77,4 +81,26 @@ fn a_later_grant_ends_a_standing_one(rt: HostRuntime) -> Result<(), Fail> {
 #[test]
 fn who_moves_in_two_sessions_counts_twice(rt: HostRuntime) -> Result<(), Fail> {
     play(&rt, &[TWO_SESSIONS, THREE_COME, MOVED_TWICE])
+}
+
+const STILL_STANDS: &str = "\
+$ sql
+SELECT number, ref FROM standing
+> 2|AR1|
+";
+
+#[test]
+fn a_migration_names_both_versions(rt: HostRuntime) -> Result<(), Fail> {
+    play(&rt, &[FIRST_TAKES_A, OF_VERSION_1, FROM_VERSION_1])?;
+    play(
+        &rt,
+        &[
+            TWO_SESSIONS,
+            THREE_COME,
+            MOVED_TWICE,
+            OF_VERSION_2,
+            FROM_VERSION_2,
+            STILL_STANDS,
+        ],
+    )
 }
