@@ -274,8 +274,12 @@ fn a_desk_comes_free_whole_or_not_at_all(rt: HostRuntime) -> Result<(), Fail> {
 
 #[test]
 fn needs_are_imported_whole_or_not_at_all(rt: HostRuntime) -> Result<(), Fail> {
-    let days = &[INIT, TIMETABLE, PEOPLE, THREE_HALLS];
-    refuse_in_turn(&rt, days, THREE_NEEDS, IS_THERE)
+    refuse_in_turn(
+        &rt,
+        &[INIT, TIMETABLE, PEOPLE, THREE_HALLS],
+        THREE_NEEDS,
+        IS_THERE,
+    )
 }
 
 #[test]
@@ -295,8 +299,12 @@ fn a_clash_is_made_whole_or_not_at_all(rt: HostRuntime) -> Result<(), Fail> {
 
 #[test]
 fn a_clash_is_turned_whole_or_not_at_all(rt: HostRuntime) -> Result<(), Fail> {
-    let days = &[INIT, TIMETABLE, PEOPLE, TWO_PAPERS_AT_ONCE];
-    refuse_in_turn(&rt, days, CLASH_IS_GRANTED, IS_THERE)
+    refuse_in_turn(
+        &rt,
+        &[INIT, TIMETABLE, PEOPLE, TWO_PAPERS_AT_ONCE],
+        CLASH_IS_GRANTED,
+        IS_THERE,
+    )
 }
 
 #[test]
@@ -341,8 +349,12 @@ fn a_hall_is_closed_whole_or_not_at_all(rt: HostRuntime) -> Result<(), Fail> {
 
 #[test]
 fn a_standing_grant_moves_others_whole_or_not_at_all(rt: HostRuntime) -> Result<(), Fail> {
-    let days = &[INIT, TIMETABLE, PEOPLE, TWO_SESSIONS, THREE_COME];
-    refuse_in_turn(&rt, days, MOVED_TWICE, IS_THERE)
+    refuse_in_turn(
+        &rt,
+        &[INIT, TIMETABLE, PEOPLE, TWO_SESSIONS, THREE_COME],
+        MOVED_TWICE,
+        IS_THERE,
+    )
 }
 
 /// The first candidate posts an appeal too late, in time, and again, then another under its reference, and takes the first

@@ -33,28 +33,36 @@ fn an_entry_is_withdrawn_whole_or_not_at_all(rt: HostRuntime) -> Result<(), Fail
 
 #[test]
 fn a_migration_from_version_1_is_made_whole_or_not_at_all(rt: HostRuntime) -> Result<(), Fail> {
-    let days = &[
-        INIT,
-        TIMETABLE,
-        PEOPLE,
-        FIRST_TAKES_A,
-        SECOND_NEEDS_A,
-        OF_VERSION_1,
-    ];
-    refuse_in_turn(&rt, days, FROM_VERSION_1, STOPPED)
+    refuse_in_turn(
+        &rt,
+        &[
+            INIT,
+            TIMETABLE,
+            PEOPLE,
+            FIRST_TAKES_A,
+            SECOND_NEEDS_A,
+            OF_VERSION_1,
+        ],
+        FROM_VERSION_1,
+        STOPPED,
+    )
 }
 
 /// A standing grant is among the tables.
 #[test]
 fn a_migration_from_version_2_is_made_whole_or_not_at_all(rt: HostRuntime) -> Result<(), Fail> {
-    let days = &[
-        INIT,
-        TIMETABLE,
-        PEOPLE,
-        TWO_SESSIONS,
-        THREE_COME,
-        MOVED_TWICE,
-        OF_VERSION_2,
-    ];
-    refuse_in_turn(&rt, days, FROM_VERSION_2, STOPPED)
+    refuse_in_turn(
+        &rt,
+        &[
+            INIT,
+            TIMETABLE,
+            PEOPLE,
+            TWO_SESSIONS,
+            THREE_COME,
+            MOVED_TWICE,
+            OF_VERSION_2,
+        ],
+        FROM_VERSION_2,
+        STOPPED,
+    )
 }
