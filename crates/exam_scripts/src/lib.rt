@@ -11,6 +11,7 @@
 #![tactic(auto)]
 
 mod commands;
+pub mod days;
 mod faults;
 mod requests;
 mod steps;
