@@ -1,5 +1,5 @@
 -- The tables of each version are tables of its schema.
-use Rattle.std.proofs.Common.{◌≡◌, ◌&&◌, ◌||◌, codes, Bool, true, false, not, refl, ap, sym, ◌∙◌}
+use Rattle.std.proofs.Common.{◌≡◌, ◌&&◌, ◌||◌, codes, Bool, true, false, refl, ap, ◌∙◌}
 use Rattle.std.specs.List.{list_all}
 use Rattle.std.proofs.lemmas.Bool.{and_parts}
 use Rattle.sqlite_schema.specs.declared.schema.Schema.{Schema}
