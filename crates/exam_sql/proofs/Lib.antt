@@ -1,5 +1,6 @@
 pub mod AllTables
 pub mod Changes
+pub mod Constant
 pub mod CreateFails
 pub mod Creates
 pub mod Deletes
@@ -10,6 +11,7 @@ pub mod InOrder
 pub mod Keying
 pub mod Keys
 pub mod KeysHold
+pub mod Listed
 pub mod Loads
 pub mod Making
 pub mod OfAppeal

@@ -1,3 +1,4 @@
+pub mod Asking
 pub mod Committing
 pub mod Counted
 pub mod Creating

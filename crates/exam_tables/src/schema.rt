@@ -1,25 +1,29 @@
 //! The tables of each version of the schema, and how an older version becomes the newest.
-ghost use Rattle.std.specs.Prelude.{◌≡◌, [], ◌∷◌, map, IsTrue, IfOk, IfErr, OnOk};
+ghost use Rattle.std.specs.Prelude.{◌≡◌, [], ◌∷◌, false, map, IsTrue, IfOk, IfErr, OnOk};
 ghost use Rattle.std.specs.Bool.{Decides};
+ghost use Rattle.std.specs.List.{list_all};
 ghost use Rattle.sqlite.specs.Held.{state};
 ghost use Rattle.sqlite.specs.State.{HasCleanDisk, IsLive, IsUnchanged, Survives};
 ghost use Rattle.sqlite_value.specs.Order.{column};
-ghost use Rattle.exam_sql.specs.Made.{ContainsMade, lists_marks};
+ghost use Rattle.exam_sql.specs.Made.{ContainsMade, is_free, is_table, lists_marks, lists_tables};
 ghost use Rattle.exam_sql.specs.Tables as tables;
 ghost use Rattle.exam_sql.specs.Texts.{load_office};
 ghost use Rattle.exam_types.specs.declared.refusal.Refusal.TheVariants.{BadStore};
 ghost use Rattle.exam_tables.specs.Faults.{is_store_refusal};
 ghost use Rattle.exam_tables.specs.Stored.{whole};
+ghost use Rattle.exam_tables.specs.Unasked.{FailsToAsk, IsUnasked};
 ghost use Rattle.exam_tables.specs.Versions.{HasOlder, HasFirst, HasNewest, HasNoRows, HasRuled, HasVersion};
 ghost use Rattle.exam_tables.specs.Versions.{IsBlank, IsKnown, IsMade, IsVersion, Leads, version_row};
 ghost use Rattle.exam_tables.specs.Loaded.{FailsToLoad, IsLoadRefusal, IsUnderstood, OnlyReads};
 
 use crate::columns::whole_at;
+use crate::faults::refusal_of;
 use crate::statements::{all_rows, run};
 use crate::version::{FIRST, NEWEST, SECOND, Version};
 use exam_types::Refusal;
 use sqlite::types::ValueRef;
 use sqlite::{Alter, Connection, Row, Transaction};
+use sqlite_schema::schema::Schema;
 
 /// Whether the database has no table, no index and no view.
 pub fn is_blank<S: Alter>(conn: &Connection<S>) -> bool
@@ -132,8 +136,70 @@ fn create_first<S: Alter>(tx: &mut Transaction<'_, S>, statements: &[&str]) -> R
     Ok(())
 }
 
-/// The version of the office. Refused with `BadStore` if the table `office` holds none.
+/// The names of these tables, in the same order.
+const FIRST_NAMES: [&str; 10] = [
+    "office",
+    "session",
+    "paper",
+    "hall",
+    "candidate",
+    "opening",
+    "entry",
+    "arrangement",
+    "appeal",
+    "seat",
+];
+
+/// Whether the names of the tables are those of tables. A view of such a name would be read as the table is, and a
+/// query on a view may have no end.
+fn lists_tables<S: Alter>(conn: &Connection<S>) -> bool
+    ensures { result ≡ lists_tables (state S.Store conn.now).now.schema }
+{
+    let schema = conn.schema();
+    are_tables(schema, &FIRST_NAMES) && (has_marks(conn) || is_free(schema, "standing"))
+}
+
+/// Whether each name is that of a table of the schema.
+fn are_tables(schema: &Schema, names: &[&str]) -> bool
+    ensures { result ≡ list_all (λ n. is_table schema.now n.now) names.now }
+{
+    names
+        .iter()
+        .all(|name| schema.table_named(name.as_bytes()).is_some())
+}
+
+/// Whether nothing in the schema has this name.
+fn is_free(schema: &Schema, name: &str) -> bool
+    ensures { result ≡ is_free schema.now name.now }
+{
+    let name = name.as_bytes();
+    schema.table_named(name).is_none()
+        && schema.index_named(name).is_none()
+        && schema.view_named(name).is_none()
+}
+
+/// Refuses if no statement can be run, since a failure has shut the connection or memory runs out. Reads no row.
+fn ask_nothing<S: Alter>(conn: &mut Connection<S>) -> Result<(), Refusal>
+    ensures ok { HasCleanDisk (state S.Store conn.new)
+        → OnOk result (IsUnchanged (state S.Store conn.old) (state S.Store conn.new)) }
+    ensures failed { HasCleanDisk (state S.Store conn.new)
+        → IfErr result (FailsToAsk (state S.Store conn.old) (state S.Store conn.new)) }
+    ensures survives { Survives (state S.Store conn.old) (state S.Store conn.new) (λ _. ⊥) }
+    ensures told { IfErr result (λ e. IsTrue (is_store_refusal e)) }
+{
+    if let Err(error) = conn.prepare("SELECT 1") {
+        return Err(refusal_of(error));
+    }
+    Ok(())
+}
+
+/// The version of the office. Refused with `BadStore`, before any query, if a table is missing or its name is that of a
+/// view, and if the table `office` holds no version.
 pub fn version_of<S: Alter>(conn: &mut Connection<S>) -> Result<Version, Refusal>
+    ensures listed { OnOk result (IsTrue (lists_tables (state S.Store conn.old).now.schema)) }
+    ensures unlisted { HasCleanDisk (state S.Store conn.new)
+        → lists_tables (state S.Store conn.old).now.schema ≡ false
+        → IfErr result (IsUnasked (state S.Store conn.old) (state S.Store conn.new)) }
     ensures ok { HasCleanDisk (state S.Store conn.new) → IfOk result (λ version. (all : _)
         → ContainsMade (state S.Store conn.old).now all
         → HasVersion version.number all × IsUnchanged (state S.Store conn.old) (state S.Store conn.new)) }
@@ -152,6 +218,10 @@ pub fn version_of<S: Alter>(conn: &mut Connection<S>) -> Result<Version, Refusal
     ensures early { HasCleanDisk (state S.Store conn.new) → HasCleanDisk (state S.Store conn.old) }
     ensures told { IfErr result (λ e. IsTrue (is_store_refusal e)) }
 {
+    if !lists_tables(conn) {
+        ask_nothing(conn)?;
+        return Err(Refusal::BadStore);
+    }
     let rows = all_rows(conn, "SELECT one, version FROM office")?;
     version_in(rows.as_slice())
 }

@@ -51,6 +51,7 @@ bad office: DELETE FROM office
 bad office: DROP TABLE office
 bad office: DROP TABLE standing
 bad office: DROP TABLE seat; UPDATE paper SET minutes = 601
+bad office: DROP TABLE seat; UPDATE office SET version = 2
 bad office: DROP TABLE arrangement; CREATE TABLE arrangement (number INTEGER NOT NULL, needs INTEGER NOT NULL, PRIMARY KEY (number)) STRICT
 ";
 
@@ -229,11 +230,10 @@ fn candidates_and_members_have_limits(rt: HostRuntime) -> Result<(), Fail> {
     Ok(())
 }
 
-/// What makes an office one of each older version, whatever else is wrong with it.
+/// What makes an office one of each older version, whatever else is wrong with its rows.
 const OLDER: &str = "\
 DROP TABLE standing; UPDATE office SET version = 1
 DROP TABLE standing; UPDATE office SET version = 1; DELETE FROM seat
-DROP TABLE standing; UPDATE office SET version = 1; DROP TABLE seat
 UPDATE office SET version = 2
 UPDATE office SET version = 2; DELETE FROM seat
 UPDATE office SET version = 2; DROP TABLE standing

@@ -5,6 +5,7 @@ use Rattle.exam_sql.specs.Texts.{load_office}
 use Rattle.exam_sql.proofs.Loads.{load_fails, shown_by}
 use Rattle.exam_sql.proofs.OfOffice as office
 use Rattle.exam_sql.proofs.Quiet.{shown_unchanged, failed_unchanged}
+use Rattle.exam_tables.proofs.Asking.{asks_as_load, asks_left, asks_not_bad, never_unlisted, ok_listed, unlisted_none}
 use Rattle.exam_tables.proofs.Leaving.{bad_unchanged, query_survives, reads_only, shown_understood, understood_still, fails_to_load}
 use Rattle.exam_tables.proofs.Versioned.{version_held, version_shown}
 use Rattle.exam_tables.proofs.schema.version_of.Goals as goal
@@ -37,7 +38,7 @@ returns-clause-left g c = λ clean.
 
 pub returns-in_err-rows-clause-left : goal.returns-in_err-rows-clause-left
 returns-in_err-rows-clause-left g c = λ clean.
-    let is : c.from_residual.result ≡ Err c.in_err-rows.field-0.0 = search rules in
+    let is : c.from_residual-in_err-rows.result ≡ Err c.in_err-rows.field-0.0 = search rules in
     let it = c.in_err-rows.ensures.failed clean in
     rw is (failed_unchanged load_office [] (state g.S.Store c.args.conn.now) (state g.S.Store c.all_rows.new.conn) it.0 it.2)
 
@@ -49,7 +50,7 @@ returns-in_err-rows-clause-survives g c = query_survives load_office office.is_q
 
 pub returns-in_err-rows-clause-bad : goal.returns-in_err-rows-clause-bad
 returns-in_err-rows-clause-bad g c = λ clean.
-    let is : c.from_residual.result ≡ Err c.in_err-rows.field-0.0 = search rules in
+    let is : c.from_residual-in_err-rows.result ≡ Err c.in_err-rows.field-0.0 = search rules in
     rw is (inr (inl (fails_to_load {V = Unit {0}} load_office
     (λ old new has_marks. load_fails (office.loads has_marks) old new) (state g.S.Store c.args.conn.now)
     (state g.S.Store c.all_rows.new.conn) (Err c.in_err-rows.field-0.0) (c.in_err-rows.ensures.failed clean))))
@@ -69,6 +70,52 @@ returns-clause-unchanged g c = λ clean.
 
 pub returns-in_err-rows-clause-unchanged : goal.returns-in_err-rows-clause-unchanged
 returns-in_err-rows-clause-unchanged g c = λ clean.
-    let is : c.from_residual.result ≡ Err c.in_err-rows.field-0.0 = search rules in
+    let is : c.from_residual-in_err-rows.result ≡ Err c.in_err-rows.field-0.0 = search rules in
     let it = c.in_err-rows.ensures.failed clean in
     rw is (λ bad. bad_unchanged load_office [] (state g.S.Store c.args.conn.now) (state g.S.Store c.all_rows.new.conn) it.0 it.2 (sym it.1 ∙ bad))
+
+-- ---- the names of the tables
+
+pub returns-clause-listed : goal.returns-clause-listed
+returns-clause-listed g c = ok_listed c.version_in.result (sym c.lists_tables.ensures ∙ c.if-not-lists_tables.false)
+
+pub returns-clause-unlisted : goal.returns-clause-unlisted
+returns-clause-unlisted g c = λ clean none. never_unlisted _ c.version_in.result (sym c.lists_tables.ensures ∙ c.if-not-lists_tables.false) none
+
+pub returns-in_err-rows-clause-unlisted : goal.returns-in_err-rows-clause-unlisted
+returns-in_err-rows-clause-unlisted g c = λ clean none. never_unlisted _ c.from_residual-in_err-rows.result (sym c.lists_tables.ensures ∙ c.if-not-lists_tables.false) none
+
+pub returns-then-not-lists_tables-clause-unlisted : goal.returns-then-not-lists_tables-clause-unlisted
+returns-then-not-lists_tables-clause-unlisted g c = λ clean none. inl (refl, c.in_ok-ask_nothing.ensures.ok clean)
+
+pub returns-then-not-lists_tables-clause-bad : goal.returns-then-not-lists_tables-clause-bad
+returns-then-not-lists_tables-clause-bad g c = λ clean. inr (inr (refl, λ all was version one held.
+    unlisted_none (state g.S.Store c.args.conn.now).now all (sym c.lists_tables.ensures ∙ c.if-not-lists_tables.true) was))
+
+pub returns-then-not-lists_tables-clause-left : goal.returns-then-not-lists_tables-clause-left
+returns-then-not-lists_tables-clause-left g c = λ clean. inl (c.in_ok-ask_nothing.ensures.ok clean)
+
+pub returns-then-not-lists_tables-clause-unchanged : goal.returns-then-not-lists_tables-clause-unchanged
+returns-then-not-lists_tables-clause-unchanged g c = λ clean bad. c.in_ok-ask_nothing.ensures.ok clean
+
+-- where no statement can be run
+
+pub returns-in_err-ask_nothing-clause-unlisted : goal.returns-in_err-ask_nothing-clause-unlisted
+returns-in_err-ask_nothing-clause-unlisted g c = λ clean none.
+    let is : c.from_residual.result ≡ Err c.in_err-ask_nothing.field-0.0 = search rules in
+    rw is (inr (c.in_err-ask_nothing.ensures.failed clean))
+
+pub returns-in_err-ask_nothing-clause-bad : goal.returns-in_err-ask_nothing-clause-bad
+returns-in_err-ask_nothing-clause-bad g c = λ clean.
+    let is : c.from_residual.result ≡ Err c.in_err-ask_nothing.field-0.0 = search rules in
+    rw is (inr (inl (asks_as_load load_office (state g.S.Store c.args.conn.now) (state g.S.Store c.ask_nothing.new.conn) c.in_err-ask_nothing.field-0.0 (c.in_err-ask_nothing.ensures.failed clean))))
+
+pub returns-in_err-ask_nothing-clause-left : goal.returns-in_err-ask_nothing-clause-left
+returns-in_err-ask_nothing-clause-left g c = λ clean.
+    let is : c.from_residual.result ≡ Err c.in_err-ask_nothing.field-0.0 = search rules in
+    rw is (asks_left (state g.S.Store c.args.conn.now) (state g.S.Store c.ask_nothing.new.conn) c.in_err-ask_nothing.field-0.0 (c.in_err-ask_nothing.ensures.failed clean))
+
+pub returns-in_err-ask_nothing-clause-unchanged : goal.returns-in_err-ask_nothing-clause-unchanged
+returns-in_err-ask_nothing-clause-unchanged g c = λ clean.
+    let is : c.from_residual.result ≡ Err c.in_err-ask_nothing.field-0.0 = search rules in
+    rw is (λ bad. absurd (asks_not_bad (state g.S.Store c.args.conn.now) (state g.S.Store c.ask_nothing.new.conn) c.in_err-ask_nothing.field-0.0 (c.in_err-ask_nothing.ensures.failed clean) bad))

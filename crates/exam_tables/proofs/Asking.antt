@@ -1,0 +1,46 @@
+-- A database that is refused before it is asked anything.
+use Rattle.std.proofs.Common.{◌≡◌, ℕ, List, Bool, true, false, Result, Ok, Err, OnOk, IfErr, inl, inr, ap, sym, ◌∙◌}
+use Rattle.std.proofs.lemmas.Bool.{both_ways}
+use Rattle.sqlite_trees.specs.Tree.{Trees}
+use Rattle.sqlite_trees.specs.declared.error.StoreError.{StoreError}
+use Rattle.sqlite_trees.specs.declared.error.StoreError.TheVariants as cause
+use Rattle.sqlite.specs.Effect.{Database}
+use Rattle.sqlite.specs.State.{State, FailsToQuery, IsNotRun, store_error}
+use Rattle.exam_types.specs.declared.refusal.Refusal.{Refusal}
+use Rattle.exam_types.specs.declared.refusal.Refusal.TheVariants.{BadStore}
+use Rattle.exam_sql.specs.Made.{ContainsMade, lists_tables}
+use Rattle.exam_sql.proofs.Listed.{tables_listed}
+use Rattle.exam_tables.specs.Faults.{refusal_of}
+use Rattle.exam_tables.specs.Loaded.{FailsToLoad, IsLeft}
+use Rattle.exam_tables.specs.Unasked.{FailsToAsk}
+
+not_bad : (why : StoreError) → refusal_of (store_error why) ≡ BadStore → ⊥
+not_bad cause.OutOfMemory e = absurd cc
+not_bad cause.Io e = absurd cc
+not_bad cause.Corrupt e = absurd cc
+not_bad cause.Full e = absurd cc
+not_bad cause.Broken e = absurd cc
+not_bad cause.Unstorable e = absurd cc
+
+pub asks_not_bad : (old new : State) (e : Refusal) → FailsToAsk old new e → e ≡ BadStore → ⊥
+asks_not_bad old new e (error, is, (why, told, has, back, tells)) bad = not_bad why (sym (is ∙ ap refusal_of told) ∙ bad)
+
+-- so no query could be run either
+pub asks_as_load : (text : List ℕ) (old new : State) (e : Refusal) → FailsToAsk old new e → FailsToLoad text old new e
+unfolding FailsToQuery IsNotRun
+asks_as_load text old new e (error, is, fails) = ((error, is, inl (inr fails)), λ there bad. asks_not_bad old new e (error, is, fails) bad)
+
+pub asks_left : (old new : State) (e : Refusal) → FailsToAsk old new e → IsLeft old new
+asks_left old new e (error, is, (why, told, has, back, tells)) = inr back
+
+-- the tables of every version are listed
+pub unlisted_none : (db : Database) (all : Trees) → lists_tables db.schema ≡ false → ContainsMade db all → ⊥
+unlisted_none db all without was = let both : true ≡ false = sym (tables_listed db all was) ∙ without in absurd cc
+
+-- whatever is answered once the tables are listed
+pub ok_listed : {A : Type 0} {listed : Bool} (result : Result A Refusal) → listed ≡ true → OnOk result (listed ≡ true)
+ok_listed (Ok value) is = is
+ok_listed (Err e) is = tt
+
+pub never_unlisted : {A : Type 0} {listed : Bool} (P : Refusal → Type 0) (result : Result A Refusal) → listed ≡ true → listed ≡ false → IfErr result P
+never_unlisted P result is none = absurd (both_ways _ none is)
