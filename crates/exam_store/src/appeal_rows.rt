@@ -1,14 +1,14 @@
 //! The appeals of a session, read from the database one by one.
-ghost use Rattle.std.specs.Prelude.{◌≡◌, ◌⊎◌, false, Some, IsTrue, IfOk, IfErr};
-ghost use Rattle.std.specs.declared.ops.Bound.TheVariants.{Unbounded};
+ghost use Rattle.std.specs.Prelude.{◌≡◌, false, Some, IsTrue, IfOk, IfErr};
 ghost use Rattle.sqlite.specs.Held.{state};
 ghost use Rattle.sqlite.specs.State.{HasCleanDisk, Survives};
 ghost use Rattle.exam_views.specs.Sources.{Gives, is_source_refusal};
-ghost use Rattle.exam_views.specs.Views.{appeal_row};
+ghost use Rattle.exam_views.specs.Views.{appeal_row, appeals_of};
 ghost use Rattle.exam_tables.specs.Appeals.{FailsToConfirm};
 ghost use Rattle.exam_tables.specs.Faults.{is_store_refusal};
-ghost use Rattle.exam_tables.specs.Loaded.{IsLeft, OnlyReads};
+ghost use Rattle.exam_tables.specs.Loaded.{OnlyReads};
 ghost use Rattle.exam_store.specs.InTurn as spec;
+ghost use Rattle.exam_store.specs.OnlyRead.{OnlyIsRead};
 
 use crate::store::Store;
 use exam_office::{AppealRow, AppealSource, Office, state_of};
@@ -36,8 +36,8 @@ impl<'s, S: Alter> AppealRows<'s, S> {
     ) -> AppealRows<'s, S>
         ensures held { result.store.ghost_name ≡ store.entry.ghost_name }
         ensures same { result.store.now ≡ store.old }
-        ensures session { result.session ≡ session }
-        ensures from { result.from ≡ Unbounded }
+        ensures rows { spec.rows_from result.store.now.office result.session result.from
+            ≡ appeals_of store.old.office.relations session }
     {
         AppealRows {
             store,
@@ -84,11 +84,11 @@ impl<S: Alter> AppealSource for AppealRows<'_, S> {
         Ok(row)
     }
 
-    ghost stays_itself = { λ a. (refl, read_itself S.Store a.store.now) };
+    ghost stays_itself = { λ a. (refl, read_itself _ a.store.now) };
 
     ghost stays_then = { λ a b c first second. (
       second.0 ∙ first.0,
-      read_then S.Store a.store.now b.store.now c.store.now first.1 second.1,
+      read_then _ a.store.now b.store.now c.store.now first.1 second.1,
     ) };
 }
 
@@ -117,10 +117,9 @@ pub fn read_appeal<S: Alter>(
         (spec.rows_from office.now session.now (spec.bound_after from row))) }
     ensures refusal { IfErr result (λ e. IsTrue (is_source_refusal e)
         × spec.FailsToRead S.Store (record { office = office.now; database = conn.new }) e) }
-    ensures left { HasCleanDisk (state S.Store conn.new)
-        → (conn.new ≡ conn.old) ⊎ IsLeft (state S.Store conn.old) (state S.Store conn.new) }
+    ensures read { OnlyIsRead S.Store (record { office = office.now; database = conn.old })
+        (record { office = office.now; database = conn.new }) }
     ensures mode { conn.old.in_transaction ≡ false → conn.new.in_transaction ≡ false }
-    ensures survives { Survives (state S.Store conn.old) (state S.Store conn.new) (λ _. ⊥) }
 {
     // This shows that the appeals are in the order of their keys.
     office.show_order();

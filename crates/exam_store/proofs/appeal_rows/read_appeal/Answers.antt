@@ -1,12 +1,12 @@
-use Rattle.std.proofs.Common.{◌≡◌, [], ◌∷◌, ap, map, subst, ◌∙◌}
+use Rattle.std.proofs.Common.{◌≡◌, [], ◌∷◌, refl, ap, map, subst, ◌∙◌}
 use Rattle.std.specs.declared.ops.Bound.TheVariants.{Excluded}
 use Rattle.sqlite.specs.Held.{state}
 use Rattle.exam_rules.specs.Relations.{Relations}
 use Rattle.exam_views.specs.Views.{appeal_row}
 use Rattle.exam_tables.specs.Appeals.{KeyedAppeal, appeals_from}
-use Rattle.exam_tables.proofs.OneByOne.{survives_itself}
 use Rattle.exam_store.specs.InTurn.{rows_from}
-use Rattle.exam_store.proofs.ReadInTurn.{among, gives_ok, left_any, refused_all}
+use Rattle.exam_store.specs.OnlyRead.{read_itself}
+use Rattle.exam_store.proofs.ReadInTurn.{among, clean_before, gives_ok, left_any, refused_all}
 use Rattle.exam_store.proofs.appeal_rows.read_appeal.Goals as goal
 
 pub returns-in-Some-clause-row : goal.returns-in-Some-clause-row
@@ -25,8 +25,15 @@ returns-in-Some-clause-refusal g c =
     refused_all g.S.Store c.args.office.now c.args.conn.now c.confirmed_row.new.conn it c.show_order.ensures.tables.appeals has c.confirmed_row.result c.confirmed_row.ensures.told
     c.confirmed_row.ensures.failed
 
-pub returns-in-Some-clause-left : goal.returns-in-Some-clause-left
-returns-in-Some-clause-left g c = λ clean. left_any g.S.Store c.args.conn.now c.confirmed_row.new.conn c.confirmed_row.result (c.confirmed_row.ensures.left clean)
+pub returns-in-Some-clause-read : goal.returns-in-Some-clause-read
+returns-in-Some-clause-read g c =
+    let survives = c.confirmed_row.ensures.survives in
+    record {
+      office = refl;
+      clean = clean_before (state g.S.Store c.args.conn.now) (state g.S.Store c.confirmed_row.new.conn) survives;
+      left = λ clean. left_any g.S.Store c.args.conn.now c.confirmed_row.new.conn c.confirmed_row.result (c.confirmed_row.ensures.left clean);
+      survives = survives;
+    }
 
 pub returns-in-None-clause-row : goal.returns-in-None-clause-row
 returns-in-None-clause-row g c =
@@ -34,5 +41,5 @@ returns-in-None-clause-row g c =
     let nothing : rows_from c.args.office.now c.args.session.now c.args.from ≡ [] = ap (map appeal_row) none in
     (nothing, nothing)
 
-pub returns-in-None-clause-survives : goal.returns-in-None-clause-survives
-returns-in-None-clause-survives g c = survives_itself (state g.S.Store c.args.conn.now)
+pub returns-in-None-clause-read : goal.returns-in-None-clause-read
+returns-in-None-clause-read g c = read_itself g.S.Store (record { office = c.args.office.now; database = c.args.conn.now })

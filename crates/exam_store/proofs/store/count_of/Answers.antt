@@ -6,8 +6,8 @@ use Rattle.exam_tables.specs.Appeals.{appeals_in}
 use Rattle.exam_store.proofs.FewAppeals.{few_appeals}
 use Rattle.exam_store.proofs.store.count_of.Goals as goal
 
-pub overflow_cast-count : goal.overflow_cast-count
-overflow_cast-count c =
+pub overflow_cast-result : goal.overflow_cast-result
+overflow_cast-result c =
     let s = c.args.session.now in
     let many : c.count_appeals-count.result ≡ length (appeals_of c.args.office.now.relations s) =
     c.count_appeals-count.ensures.many ∙ ap (λ (r : Relations). length (appeals_in r.appeals s)) c.facts-facts.ensures
