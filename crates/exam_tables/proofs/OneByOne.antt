@@ -23,10 +23,9 @@ use Rattle.sqlite_schema.specs.Rules.{equal}
 use Rattle.sqlite_trees.specs.declared.store.Store.{Ghosts}
 use Rattle.sqlite_trees.specs.Tree.{Trees}
 use Rattle.sqlite_trees.proofs.ListLemmas.{filter-map, map-map, IsPermutation-filter}
-use Rattle.sqlite.specs.Given.{Advances, GivesOn, HasGiven, IsRefused}
+use Rattle.sqlite.specs.Given.{Advances, GivesOn, HasGiven}
 use Rattle.sqlite.specs.Held.{Held, state}
-use Rattle.sqlite.specs.declared.error.Error.{Error}
-use Rattle.sqlite.specs.State.{State, FailsToQuery, HasCleanDisk, IsUnchanged, Shown, Survives}
+use Rattle.sqlite.specs.State.{IsUnchanged, Shown}
 use Rattle.sqlite.proofs.Callers.{unchanged_then}
 use Rattle.exam_send.specs.Sending.{AppendsBeginning, AppendsPart}
 use Rattle.exam_sql.specs.Texts.{session_appeals}
@@ -48,6 +47,7 @@ use Rattle.exam_tables.specs.Streamed.{HasAppeals, KeyedAppeal, LacksNext, Sends
 use Rattle.exam_tables.proofs.Counted.{HaveForms}
 use Rattle.exam_tables.proofs.Leaving.{not_bad_store}
 use Rattle.exam_tables.proofs.OneTable.{appeal_tells}
+pub use Rattle.exam_tables.proofs.RowByRow.{refused_fails, survives_itself}
 
 -- ---- the order
 
@@ -248,10 +248,6 @@ module _ (heading : ℕ → List ℕ) (line : KeyedAppeal → List ℕ) (count :
 
 -- ---- rows that are read one by one
 
--- a call that does nothing leaves what there was
-pub survives_itself : (s : State) → Survives s s (λ _. ⊥)
-survives_itself s = record { clean = omega arith; shield = λ x. x; counts = omega arith; limit = refl; closes = λ clean going. inl going; crash = λ clean db may. inl may }
-
 module _ {S W : Type 0} (g : Ghosts S) (contents : W → Option (List ℕ)) (heading : ℕ → List ℕ) (line : KeyedAppeal → List ℕ) (count : ℕ) (old : Held S) (before : W) where
   -- so many appeals were read, and their text went out
   pub record HasSent (place : ℕ) (now : Held S) (after : W) : Type 0 where
@@ -352,10 +348,3 @@ row_lacks g old new row shown is advances same (Err e) (inr none) = λ bad s giv
       same,
       λ key appeal form stored_as. none.1 (key, appeal) form stored_as,
     ))
-
--- a query that was refused
-pub refused_fails : {S X : Type 0} (g : Ghosts S) (sql : List ℕ) (params : Row) (old new : Held S)
-    (result : Result X Error) (e : Error) → result ≡ Err e → OnErr result (IsRefused g sql params old result new)
-    → HasCleanDisk (state g new) → FailsToQuery sql params (state g old) (state g new) e
-refused_fails g sql params old new (Ok rows) e is held clean = absurd cc
-refused_fails g sql params old new (Err f) e is held clean = let same : f ≡ e = cc in subst (FailsToQuery sql params (state g old) (state g new)) same (held.err clean)
