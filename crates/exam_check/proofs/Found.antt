@@ -1,11 +1,9 @@
 -- What reading the tables one after the other finds.
-use Rattle.std.proofs.Common.{◌≡◌, ◌⊎◌, ℕ, List, Option, Some, None, MatchOption, inl, inr, sym, subst, ◌∙◌}
+use Rattle.std.proofs.Common.{◌≡◌, ℕ, List, Option, Some, None, MatchOption, inl, inr, sym, subst}
 use Rattle.std.specs.BTreeMap.{BTreeMap}
 use Rattle.sqlite_trees.specs.Tree.{Trees}
 use Rattle.sqlite.specs.Effect.{Database}
 use Rattle.sqlite.specs.State.{State, IsUnchanged}
-use Rattle.exam_types.specs.declared.refusal.Refusal.{Refusal}
-use Rattle.exam_types.specs.declared.refusal.Refusal.TheVariants.{NoMemory, BadStore}
 use Rattle.exam_commands.specs.declared.table.Table.{Table as OfficeTable}
 use Rattle.exam_tables.specs.Forms.{Form}
 use Rattle.exam_tables.specs.Held.{HasTable}
@@ -36,8 +34,3 @@ pub noted_as : {K X : Type 0} (form : Form K X) (t : OfficeTable) (all : Trees) 
     → IsReadAs t before after (HasTable form made.entries all) HoldsNone
 noted_as {K} {X} form t all None made before after told is none = inr (none is, told)
 noted_as {K} {X} form t all (Some table) made before after told is none = inl (subst (λ (m : BTreeMap K X). HasTable form m.entries all) (sym told.0) is, told.1)
-
--- what is said of rows that are refused as a bad store
-pub of_bad : {P : Type 0} (e : Refusal) → e ≡ BadStore → (e ≡ NoMemory) ⊎ ((e ≡ BadStore) × P) → P
-of_bad e bad (inl lacks) = absurd (let same : NoMemory ≡ BadStore = sym lacks ∙ bad in cc)
-of_bad e bad (inr (is, says)) = says

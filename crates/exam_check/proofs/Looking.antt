@@ -1,7 +1,9 @@
 -- Calls that only read, one after the other.
-use Rattle.std.proofs.Common.{◌≡◌, ◌⊎◌, ℕ, List, [], inl, inr, Result, Ok, Err, IfErr, IsTrue, refl, sym, subst, ◌∙◌}
+use Rattle.std.proofs.Common.{◌≡◌, ◌⊎◌, ℕ, List, [], inl, inr, Option, Result, Ok, Err, IfOk, IfErr, IsTrue, refl, sym, subst, ◌∙◌}
 use Rattle.std.proofs.lemmas.Result.{IfErr-weaker}
+use Rattle.std.specs.BTreeMap.{BTreeMap}
 use Rattle.std.specs.List as lists
+use Rattle.std.specs.declared.cmp.Ordering.{Ordering}
 use Rattle.sqlite_trees.specs.declared.store.Store.{Ghosts}
 use Rattle.sqlite_trees.specs.Tree.{Trees}
 use Rattle.sqlite.specs.Effect.{Database}
@@ -13,14 +15,15 @@ use Rattle.exam_types.specs.declared.refusal.Refusal.TheVariants.{NoMemory, Stor
 use Rattle.exam_sql.specs.Made.{ContainsMade}
 use Rattle.exam_sql.specs.Texts.{load_office, load_texts}
 use Rattle.exam_tables.specs.Faults.{is_store_refusal}
-use Rattle.exam_tables.specs.Inside.{Contains}
+use Rattle.exam_tables.specs.Forms.{Form, IsOurTable}
 use Rattle.exam_tables.specs.Loaded.{FailsToLoad, FailsToLoadFrom, IsLoadRefusal, OnlyReads, Told}
+use Rattle.exam_tables.specs.Scanned.{Scans}
 use Rattle.exam_tables.specs.Versions.{HasVersion, IsOlder, IsVersion, version}
 use Rattle.exam_tables.proofs.Leaving.{bad_unchanged, both_survive, reads_only, still_itself, still_then, then_reads}
 use Rattle.exam_tables.specs.OurTables.{office_loads}
 use Rattle.exam_store.proofs.Marking.{made_of, opens_as}
 use Rattle.exam_check.specs.FirstBad.{HasGoodVersion}
-use Rattle.exam_check.specs.Reading.{Looks}
+use Rattle.exam_check.specs.Reading.{IsRead, Looks, read_part}
 use Rattle.exam_check.specs.Refused.{FailsToCheck}
 
 -- a call that reads, after one that succeeded
@@ -83,24 +86,38 @@ module _ {S : Type 0} (g : Ghosts S) (old new : Held S) where
   fails_as text loads e told (inr (inr store)) =
       inr (inr (inl ((old, still_itself (state g old), text, loads, (told, λ there bad. let same : Store ≡ BadStore = sym store ∙ bad in absurd cc)), store)))
 
-  -- the query that shows a table
-  pub query_looks : {A : Type 0} (text : List ℕ) (Holds : Database → Trees → Type 0) (result : Result A Refusal)
-      → lists.Contains load_texts text → ((db : Database) (all : Trees) → Contains db all → Holds db all)
-      → (HasCleanDisk (state g new) → HasCleanDisk (state g old)) → Survives (state g old) (state g new) (λ _. ⊥) → (HasCleanDisk (state g new) → OnlyReads (state g old) (state g new) result)
-      → (HasCleanDisk (state g new) → IfErr result (FailsToLoadFrom Holds text (state g old) (state g new))) → IfErr result (λ e. IsTrue (is_store_refusal e)) → Looks g old new result
-  query_looks text Holds result loads newest early survives left failed told = record {
-    early = early;
-    survives = survives;
-    left = left;
-    bad = λ clean. IfErr-weaker result _ _ (λ e fails bad.
-        (bad_unchanged text [] (state g old) (state g new) fails.0.0 fails.0.2 (sym fails.0.1 ∙ bad), λ all good. fails.1 (all, newest (state g old).now all good.0.0) bad)) (failed clean);
-    refused = λ clean. both result (λ e fails named. fails_as text loads e fails.0 (one_of e named)) (failed clean) told;
-    told = IfErr-weaker result _ _ opens_as told;
-  }
+  -- the scan of a table
+  pub scan_looks : {K X : Type 0} {cmp : K → K → Ordering} (form : Form K X) (result : Result (Option (BTreeMap K X)) Refusal) → IsOurTable cmp form
+      → (HasCleanDisk (state g new) → HasCleanDisk (state g old)) → Survives (state g old) (state g new) (λ _. ⊥)
+      → (HasCleanDisk (state g new) → Scans g cmp form old new result) → IfErr result (λ e. IsTrue (is_store_refusal e)) → Looks g old new result
+  scan_looks form (Ok found) ours early survives scans told =
+      record { early = early; survives = survives; left = λ clean. (scans clean).0; bad = λ clean. tt; refused = λ clean. tt; told = tt }
+  scan_looks form (Err e) ours early survives scans told =
+      record {
+        early = early;
+        survives = survives;
+        left = λ clean. (scans clean).0;
+        bad = λ clean is. bad (scans clean).1 is;
+        refused = λ clean. refused (scans clean).1;
+        told = opens_as e told;
+      }
     where
-      both : {A : Type 0} {P Q R : Refusal → Type 0} (r : Result A Refusal) → ((e : Refusal) → P e → Q e → R e) → IfErr r P → IfErr r Q → IfErr r R
-      both (Ok x) f p q = tt
-      both (Err e) f p q = f e p q
+      bad : (e ≡ NoMemory) ⊎ FailsToLoadFrom form.Holds form.load (state g old) (state g new) e → e ≡ BadStore
+          → IsUnchanged (state g old) (state g new) × ((all : Trees) → HasGoodVersion (state g old).now all → ⊥)
+      bad (inl lacks) is = absurd (let same : NoMemory ≡ BadStore = sym lacks ∙ is in cc)
+      bad (inr fails) is = (
+        bad_unchanged form.load [] (state g old) (state g new) fails.0.0 fails.0.2 (sym fails.0.1 ∙ is),
+        λ all good. fails.1 (all, ours.newest (state g old).now all good.0.0) is,
+      )
+
+      refused : (e ≡ NoMemory) ⊎ FailsToLoadFrom form.Holds form.load (state g old) (state g new) e → (e ≡ BadStore) ⊎ FailsToCheck g old new e
+      refused (inl lacks) = inr (inl lacks)
+      refused (inr fails) = fails_as form.load ours.loads e fails.0 (one_of e told)
+
+  pub scan_reads : {K X : Type 0} {cmp : K → K → Ordering} (form : Form K X) (result : Result (Option (BTreeMap K X)) Refusal) → IsOurTable cmp form
+      → Scans g cmp form old new result → IfOk result (IsRead (read_part cmp form) (state g old).now)
+  scan_reads form (Ok found) ours scans = (scans.1, λ all was. scans.2 all (ours.newest (state g old).now all was))
+  scan_reads form (Err e) ours scans = tt
 
   no_version : (e : Refusal)
       → IsLoadRefusal (FailsToLoad load_office (state g old) (state g new))

@@ -15,7 +15,7 @@ use exam_office::{Seats as Plans, Table as OfficeTable};
 use exam_rules::Facts;
 use exam_tables::{
     AppealTable, ArrangementTable, CandidateTable, EntryTable, HallTable, OpeningTable, PaperTable,
-    SeatTable, SessionTable, StandingTable, StoredRows, read_rows,
+    SeatTable, SessionTable, StandingTable, StoredRows, scan_table,
 };
 use exam_types::{HallCode, Number, Refusal, SessionCode};
 use sqlite::{Alter, Connection};
@@ -164,10 +164,5 @@ fn read_table<T: StoredRows, S: Alter>(
     ensures read { HasCleanDisk (state S.Store conn.new)
         → IfOk result (spec.IsRead (spec.read_part T.Key.cmp T.form) (state S.Store conn.old).now) }
 {
-    let rows = T::shown(conn)?;
-    match read_rows::<T>(alloc, rows.as_slice()) {
-        Ok(rows) => Ok(Some(rows)),
-        Err(Refusal::BadStore) => Ok(None),
-        Err(refusal) => Err(refusal),
-    }
+    scan_table::<T, S>(alloc, conn)
 }

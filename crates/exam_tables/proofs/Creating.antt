@@ -32,7 +32,7 @@ use Rattle.exam_sql.proofs.VersionFails.{version_fails}
 use Rattle.exam_tables.specs.Faults.{refusal_of, is_store_refusal}
 use Rattle.exam_tables.specs.Inside.{Ran}
 use Rattle.exam_tables.specs.Versions.{HasFirst, HasNoRows, HasRuled, IsBlank, Leads, FailsToMake, FailsToCreate, version}
-use Rattle.exam_tables.proofs.OneByOne.{survives_itself}
+use Rattle.exam_tables.proofs.RowByRow.{survives_itself}
 use Rattle.exam_tables.proofs.Steps.{down_later, fails_for}
 
 -- a disk that is clean was so before

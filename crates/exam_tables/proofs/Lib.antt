@@ -16,6 +16,7 @@ pub mod OneTable
 pub mod PartByPart
 pub mod Reading
 pub mod Refusing
+pub mod RowByRow
 pub mod RowTurning
 pub mod SavedRows
 pub mod Steps

@@ -20,7 +20,7 @@ use Rattle.sqlite_rules.specs.Lists.{Has}
 use Rattle.sqlite_rules.proofs.ListLemmas.{all_has, has_contained}
 use Rattle.sqlite_rules.proofs.ProbeLemmas.{mapped_has}
 use Rattle.sqlite.specs.declared.error.Error.{Error}
-use Rattle.sqlite.specs.State.{State, FailsToQuery, Shown, Survives}
+use Rattle.sqlite.specs.State.{State, FailsToQuery, Shown}
 use Rattle.exam_sql.specs.Texts.{find_appeal}
 use Rattle.exam_sql.proofs.OneAppeal.{find_fails, find_is_query, has_key, shows_key}
 use Rattle.exam_sql.proofs.Queries.{has_permuted}
@@ -41,10 +41,6 @@ use Rattle.exam_tables.specs.Rows.{IsAppeal, appeal_row}
 use Rattle.exam_tables.proofs.Exact.{appeals_exact}
 use Rattle.exam_tables.proofs.Leaving.{bad_unchanged, not_bad_store}
 use Rattle.exam_tables.proofs.OneTable.{appeal_tells}
-
--- a call that does nothing leaves what there was
-pub survives_itself : (s : State) → Survives s s (λ _. ⊥)
-survives_itself s = record { clean = omega arith; shield = λ x. x; counts = omega arith; limit = refl; closes = λ clean going. inl going; crash = λ clean db may. inl may }
 
 appeals_mirrored : (j k : ℕ × Code) → appeal_cmp j k ≡ ordering_reverse (appeal_cmp k j)
 appeals_mirrored = (then_total (on_total (λ (k : ℕ × Code). k.0) nat_cmp_total) (on_total (λ (k : ℕ × Code). k.1) nat_list_cmp_total)).antisymm

@@ -10,8 +10,9 @@ ghost use Rattle.exam_tables.specs.Loaded.{AreUnderstood, FailsThen, IsLoadRefus
 ghost use Rattle.exam_tables.specs.Parts.{Loading, Part, marks_part, table_part, then_part};
 ghost use Rattle.exam_sql.specs.Texts.{fact_texts, load_standing};
 
+use crate::scanning::load_rows;
 use crate::schema::has_marks;
-use crate::table::{StoredRows, load_rows};
+use crate::table::StoredRows;
 use crate::tables::appeals::AppealTable;
 use crate::tables::arrangements::ArrangementTable;
 use crate::tables::candidates::CandidateTable;

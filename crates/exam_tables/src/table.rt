@@ -1,24 +1,15 @@
 //! A table of the office.
-ghost use Rattle.std.specs.Prelude.{◌≡◌, ◌⊎◌, ℕ, List, [], ◌∷◌, IsTrue, IfOk, IfErr, OnOk, map, IsPermutation};
-ghost use Rattle.sqlite.specs.Effect.{Database};
+ghost use Rattle.std.specs.Prelude.{◌≡◌, ℕ, List, [], ◌∷◌, map};
 ghost use Rattle.sqlite.specs.Held.{state};
-ghost use Rattle.sqlite.specs.State.{HasCleanDisk, IsUnchanged, Survives};
-ghost use Rattle.sqlite_trees.specs.Tree.{Trees};
-ghost use Rattle.sqlite_value.specs.declared.value.Value.TheVariants.{Null};
 ghost use Rattle.sqlite_value.specs.Order.{Row as Columns};
-ghost use Rattle.exam_tables.specs.Faults.{is_store_refusal};
 ghost use Rattle.exam_tables.specs.Forms.{Form, IsOurTable, row_put, with_put};
 ghost use Rattle.exam_tables.specs.Inside.{Makes, delete_of};
-ghost use Rattle.exam_types.specs.declared.refusal.Refusal.TheVariants.{NoMemory, BadStore};
-ghost use Rattle.exam_tables.specs.Loaded.{AreRowsOf, FailsToLoadFrom, HoldsTable, IsLoadRefusal, IsUnderstood, OnlyReads};
 ghost use Rattle.exam_tables.specs.Reading.{MayRead, WantsMemoryOfRow};
 
 use crate::differences::Keyed;
-use crate::statements::{add_row, all_rows};
 use exam_types::Refusal;
-use sqlite::{Alter, Connection, Row, Transaction};
+use sqlite::{Alter, Row, Transaction};
 use std::alloc::Global;
-use std::collections::BTreeMap;
 
 /// How the rows of a table are put and read.
 ///
@@ -51,26 +42,6 @@ pub trait StoredRows {
     fn read(alloc: Global, row: &Row) -> Result<(Self::Key, Self::Value), Refusal>
         ensures read { MayRead (λ p. form.IsRow p.0 p.1) (λ p. form.row p.0 p.1) row.now result }
         ensures memory { WantsMemoryOfRow row.now result };
-
-    /// All rows, as the query shows them.
-    final fn shown<S: Alter>(conn: &mut Connection<S>) -> Result<Vec<Row>, Refusal>
-        ensures rows { HasCleanDisk (state S.Store conn.new) → IfOk result (λ rows. (all : _)
-            → form.Holds (state S.Store conn.old).now all
-            → IsPermutation (all form.tree) (map (λ row. Null ∷ row) rows.items)
-            × IsUnchanged (state S.Store conn.old) (state S.Store conn.new)) }
-        ensures failed { HasCleanDisk (state S.Store conn.new)
-            → IfErr result (FailsToLoadFrom form.Holds form.load
-            (state S.Store conn.old) (state S.Store conn.new)) }
-        ensures left { HasCleanDisk (state S.Store conn.new)
-            → OnlyReads (state S.Store conn.old) (state S.Store conn.new) result }
-        ensures survives { Survives (state S.Store conn.old) (state S.Store conn.new) (λ _. ⊥) }
-        ensures understood { HasCleanDisk (state S.Store conn.new)
-            → OnOk result (IsUnderstood (state S.Store conn.old).now form.load) }
-        ensures early { HasCleanDisk (state S.Store conn.new) → HasCleanDisk (state S.Store conn.old) }
-        ensures told { IfErr result (λ e. IsTrue (is_store_refusal e)) }
-    {
-        all_rows(conn, Self::load_text())
-    }
 
     /// What the texts of all tables have in common.
     ghost ours: { IsOurTable Self.Key.cmp form };
@@ -118,48 +89,4 @@ pub fn delete_rows<T: Shrinks, S: Alter>(
         T::delete(tx, key)?;
     }
     Ok(())
-}
-
-/// The whole table.
-pub fn load_rows<T: StoredRows, S: Alter>(
-    alloc: Global,
-    conn: &mut Connection<S>,
-) -> Result<BTreeMap<T::Key, T::Value>, Refusal>
-    ensures rows { HasCleanDisk (state S.Store conn.new) → IfOk result (λ table. (all : _)
-        → T.form.Holds (state S.Store conn.old).now all
-        → HoldsTable T.Key.cmp T.form.IsRow T.form.row table.entries (all T.form.tree)
-        × IsUnchanged (state S.Store conn.old) (state S.Store conn.new)) }
-    ensures bad { HasCleanDisk (state S.Store conn.new)
-        → IfErr result (IsLoadRefusal (FailsToLoadFrom T.form.Holds T.form.load
-        (state S.Store conn.old) (state S.Store conn.new))
-        ((all : _) → T.form.Holds (state S.Store conn.old).now all
-        → (entries : _) → HoldsTable T.Key.cmp T.form.IsRow T.form.row entries (all T.form.tree) → ⊥)) }
-    ensures left { HasCleanDisk (state S.Store conn.new)
-        → OnlyReads (state S.Store conn.old) (state S.Store conn.new) result }
-    ensures survives { Survives (state S.Store conn.old) (state S.Store conn.new) (λ _. ⊥) }
-    ensures understood { HasCleanDisk (state S.Store conn.new)
-        → OnOk result (IsUnderstood (state S.Store conn.old).now T.form.load) }
-    ensures early { HasCleanDisk (state S.Store conn.new) → HasCleanDisk (state S.Store conn.old) }
-    ensures told { IfErr result (λ e. IsTrue (is_store_refusal e)) }
-{
-    let rows = T::shown(conn)?;
-    read_rows::<T>(alloc, rows.as_slice())
-}
-
-/// The table with these rows. Refused with `BadStore` if they are the rows of none.
-pub fn read_rows<T: StoredRows>(
-    alloc: Global,
-    rows: &[Row],
-) -> Result<BTreeMap<T::Key, T::Value>, Refusal>
-    ensures rows { IfOk result (λ table. AreRowsOf T.Key.cmp T.form.IsRow T.form.row rows.now table.entries) }
-    ensures bad { IfErr result (λ e. (e ≡ NoMemory) ⊎ ((e ≡ BadStore)
-        × ((entries : _) → AreRowsOf T.Key.cmp T.form.IsRow T.form.row rows.now entries → ⊥))) }
-    ensures told { IfErr result (λ e. IsTrue (is_store_refusal e)) }
-{
-    let mut table = BTreeMap::new(alloc);
-    'rows: for row in rows {
-        let (key, value) = T::read(alloc, row)?;
-        add_row(&mut table, key, value)?;
-    }
-    Ok(table)
 }

@@ -17,7 +17,7 @@ use Rattle.exam_tables.specs.Loaded.{IsLeft}
 use Rattle.exam_tables.specs.Transactions.{Commits, IsSound}
 use Rattle.exam_tables.specs.Versions.{HasVersion, IsVersion, version}
 use Rattle.exam_tables.proofs.Committing.{then_commits}
-use Rattle.exam_tables.proofs.OneByOne.{survives_itself}
+use Rattle.exam_tables.proofs.RowByRow.{survives_itself}
 use Rattle.exam_store.specs.Found.{Finds, HoldsGood}
 use Rattle.exam_store.specs.Kept.{Keeps, Migrates}
 use Rattle.exam_store.specs.Stops.{HasDays}
