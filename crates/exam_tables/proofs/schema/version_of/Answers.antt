@@ -89,8 +89,11 @@ pub returns-then-not-lists_tables-clause-unlisted : goal.returns-then-not-lists_
 returns-then-not-lists_tables-clause-unlisted g c = λ clean none. inl (refl, c.in_ok-ask_nothing.ensures.ok clean)
 
 pub returns-then-not-lists_tables-clause-bad : goal.returns-then-not-lists_tables-clause-bad
-returns-then-not-lists_tables-clause-bad g c = λ clean. inr (inr (refl, λ all was version one held.
-    unlisted_none (state g.S.Store c.args.conn.now).now all (sym c.lists_tables.ensures ∙ c.if-not-lists_tables.true) was))
+returns-then-not-lists_tables-clause-bad g c = λ clean. inr (inr (
+  refl,
+  λ all was version one held.
+      unlisted_none (state g.S.Store c.args.conn.now).now all (sym c.lists_tables.ensures ∙ c.if-not-lists_tables.true) was,
+))
 
 pub returns-then-not-lists_tables-clause-left : goal.returns-then-not-lists_tables-clause-left
 returns-then-not-lists_tables-clause-left g c = λ clean. inl (c.in_ok-ask_nothing.ensures.ok clean)
