@@ -88,13 +88,16 @@ module _ {S : Type 0} (g : Ghosts S) (new : OfficeIn S) where
 -- ---- the faults
 
 -- a source with as many rows as were counted does not end sooner
-pub none_missing : {Refuses : Refusal → Type 0} {few : Type 0} → (few → ⊥) → (result : Result (Unit {0}) SheetFault) → IfErr result (registers.BreaksOff Refuses few)
+enough_rows : (Refuses : Refusal → Type 0) (few : Type 0) → (few → ⊥) → (fault : SheetFault) → registers.BreaksOff Refuses few fault → registers.BreaksOff Refuses ⊥ fault
+enough_rows Refuses few enough faults.Write why = tt
+enough_rows Refuses few enough (faults.Refused e) (inl short) = inl short
+enough_rows Refuses few enough (faults.Refused e) (inr (inl refused)) = inr (inl refused)
+enough_rows Refuses few enough (faults.Refused e) (inr (inr ended)) = absurd (enough ended.1)
+
+pub none_missing : (Refuses : Refusal → Type 0) (few : Type 0) → (few → ⊥) → (result : Result (Unit {0}) SheetFault) → IfErr result (registers.BreaksOff Refuses few)
     → IfErr result (registers.BreaksOff Refuses ⊥)
-none_missing enough (Ok done) why = tt
-none_missing enough (Err faults.Write) why = tt
-none_missing enough (Err (faults.Refused e)) (inl short) = inl short
-none_missing enough (Err (faults.Refused e)) (inr (inl refused)) = inr (inl refused)
-none_missing enough (Err (faults.Refused e)) (inr (inr ended)) = absurd (enough ended.1)
+none_missing Refuses few enough (Ok done) why = tt
+none_missing Refuses few enough (Err fault) why = enough_rows Refuses few enough fault why
 
 pub told : (result : Result (Unit {0}) JobFault) (fault : JobFault) → IsErrAnd result (λ f. f ≡ fault) → result ≡ Err fault
 told (Ok done) fault is = absurd is

@@ -1,5 +1,5 @@
-use Rattle.std.proofs.Common.{rules, ◌≡◌, length, ap, sym, subst, ◌∙◌, arith}
-use Rattle.std.specs.Prelude.{IfErr}
+use Rattle.std.proofs.Common.{rules, ◌≡◌, ◌<◌, Err, length, ap, sym, subst, ◌∙◌, arith}
+use Rattle.std.specs.Prelude.{⊤, IfErr, OnErr}
 use Rattle.exam_files.specs.Registers.{BreaksOff, Streams, register_text}
 use Rattle.exam_store.specs.InTurn.{FailsToRead, rows_from}
 use Rattle.exam_store.specs.OnlyRead.{OnlyIsRead, read_itself}
@@ -17,8 +17,9 @@ pub returns-in-Ok-clause-fault : goal.returns-in-Ok-clause-fault
 returns-in-Ok-clause-fault g c = λ known.
     let rows = c.in-Ok.rows in
     let long : length (rows_from rows.store.now.office rows.session rows.from) ≡ c.in-Ok.count = ap length c.in-Ok.ensures.rows ∙ sym c.in-Ok.ensures.count in
-    let fault : IfErr c.register_stream.result (BreaksOff (FailsToRead g.S.Store c.register_stream.new.source.store.now) ⊥) =
-    none_missing (λ short. let few = short tt in omega (arith, few, long)) c.register_stream.result c.register_stream.ensures.fault in
+    let refuses = FailsToRead g.S.Store c.register_stream.new.source.store.now in
+    let enough : (⊤ → length (rows_from rows.store.now.office rows.session rows.from) < c.in-Ok.count) → ⊥ = λ short. let few = short tt in omega (arith, few, long) in
+    let fault : IfErr c.register_stream.result (BreaksOff refuses ⊥) = none_missing refuses _ enough c.register_stream.result c.register_stream.ensures.fault in
     search rules
 
 pub returns-in-Ok-clause-read : goal.returns-in-Ok-clause-read
@@ -29,6 +30,9 @@ returns-in-Ok-clause-read g c =
 
 pub returns-in-Err-clause-read : goal.returns-in-Err-clause-read
 returns-in-Err-clause-read g c =
+    let old = c.args.store.now in
     let last = c.appeals.follows.lender-at-none in
-    let read : OnlyIsRead g.S.Store c.args.store.now last = subst (λ o. OnlyIsRead g.S.Store c.args.store.now o) (sym c.appeals.follows.holds-at-none) (read_itself g.S.Store c.args.store.now) in
+    let is : c.appeals.result ≡ Err c.in-Err.refusal = search rules in
+    let same : last ≡ old = subst (λ r. OnErr r (last ≡ old)) is c.appeals.follows.holds-at-none in
+    let read : OnlyIsRead g.S.Store old last = subst (λ o. OnlyIsRead g.S.Store old o) (sym same) (read_itself g.S.Store old) in
     search rules
