@@ -11,7 +11,6 @@
 #![tactic(auto)]
 
 mod commands;
-pub mod days;
 mod faults;
 mod requests;
 mod steps;

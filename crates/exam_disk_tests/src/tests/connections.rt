@@ -1,8 +1,8 @@
 //! Connections within this machine, served one after the other.
 use super::refusing::INIT;
+use super::{PEOPLE, TIMETABLE};
 use exam_job::JobFault;
 use exam_program::serve_each;
-use exam_school::{FIRST_TAKES_A, PEOPLE, TIMETABLE};
 use exam_scripts::{Step, answer_to, expect_same};
 use exam_store::Store;
 use exam_types::Day;
@@ -14,6 +14,13 @@ use std::test::Fail;
 
 /// The last day on which an appeal against a hall can be lodged.
 const LAST_DAY: &str = "2027-05-30";
+
+const ENTERED: &str = "\
+$ import entries f
+number,paper
+0000001,MA-1
+> added 1 changed 0 same 0
+";
 
 /// What a client sends, how many bytes follow that nobody reads, and what it gets. The first one sends nothing.
 const CLIENTS: &[(&str, usize, &str)] = &[
@@ -72,7 +79,7 @@ fn played(
 /// An office in memory, in which one candidate sits.
 fn office(alloc: Global) -> Result<Store<MemStore>, Fail> {
     let mut conn = Connection::open_in_memory(alloc).ok().ok_or("open")?;
-    for day in [INIT, TIMETABLE, PEOPLE, FIRST_TAKES_A] {
+    for day in [INIT, TIMETABLE, PEOPLE, ENTERED] {
         conn = played(alloc, conn, day)?;
     }
     Ok(Store::open(alloc, conn).ok().ok_or("office")?)

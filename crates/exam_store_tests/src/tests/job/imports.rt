@@ -1,11 +1,20 @@
 //! Import files that are refused, in words and in bytes, and files past the limits.
 use super::{expect, office_after, play};
-use exam_scripts::days::REFUSED_FILES;
 use std::test::Fail;
 
-/// Records of other lengths or without their values, records that contradict each other, and one that names what is not
-/// there.
+/// Files whose records are bad, contradict each other, or name what is not there.
 const REFUSED: &str = "\
+$ import candidates f
+number,name,code
+0000006,Flo Ray,CODE0006
+0000007,Gil Moe,CODE0007
+000003,Cy Dahl,CODE0003
+! refused 1 record 3 column 1
+$ import candidates f
+! refused 2
+$ import candidates f
+number,name,code
+> added 0 changed 0 same 0
 $ import entries f
 number,paper
 0000001
@@ -50,7 +59,7 @@ SELECT count(*) FROM candidate
 
 #[test]
 fn refused_imports_keep_no_row(rt: HostRuntime) -> Result<(), Fail> {
-    play(&rt, &[REFUSED_FILES, REFUSED, NOTHING_KEPT])
+    play(&rt, &[REFUSED, NOTHING_KEPT])
 }
 
 /// Runs an import of bytes at the base office, and compares its answer.
