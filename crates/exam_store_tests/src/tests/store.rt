@@ -3,7 +3,6 @@ mod doctored;
 mod lists;
 mod migrating;
 mod opening;
-mod tables;
 
 use crate::tests::offices::{InMemory, after, office_of, refusal_of_opening};
 use exam_store::Store;
