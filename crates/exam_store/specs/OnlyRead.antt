@@ -6,7 +6,7 @@ use Rattle.sqlite.specs.Held.{Held, state}
 use Rattle.sqlite.specs.State.{State as Shown, HasCleanDisk, IsRolledBack, Survives}
 use Rattle.exam_tables.specs.Loaded.{IsLeft}
 use Rattle.exam_tables.proofs.Leaving.{both_survive, left_then}
-use Rattle.exam_tables.proofs.OneByOne.{survives_itself}
+use Rattle.exam_tables.proofs.RowByRow.{survives_itself}
 use Rattle.exam_store.specs.Stores.{OfficeIn}
 
 -- What reading leaves: the office stays, no fault of the disk is forgotten, and the database only is read, also over a
