@@ -138,8 +138,8 @@ impl Draft {
     }
 }
 
-/// Carries out a command on a day over the part of an office that it reads, and puts the new plans among the seats of the
-/// office. After a refusal everything is as before.
+/// Carries out a command on a day over the part of an office that it reads, and puts the new plans among the seats of
+/// the office. After a refusal everything is as before.
 fn step_office(
     alloc: Global,
     part: &mut Part,
