@@ -40,8 +40,8 @@ fn reply_of(
     today: Day,
 ) -> Result<Result<Reply, Refusal>, Fail> {
     let mut part = match Part::of(alloc, copy_of(alloc, office)?, command) {
-        Ok((part, _)) => part,
-        Err((refusal, _)) => return Err(Fail::from(refusal)),
+        Ok((part, _seats)) => part,
+        Err((refusal, _office)) => return Err(Fail::from(refusal)),
     };
     let answer = step_part(alloc, &mut part, command, today);
     let reply = step(alloc, office, command, today);
