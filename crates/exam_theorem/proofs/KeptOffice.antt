@@ -69,5 +69,5 @@ module _ {S : Type 0} (g : Ghosts S) where
     }
       where
         by : (new.database ≡ old.database) ⊎ IsLeft (state g old.database) (state g new.database) → KeepsOn g old new
-        by (inl same) = unchanged g old new (λ i. record { office = read.office i; database = same i })
+        by (inl same) = unchanged old new (λ i. record { office = read.office i; database = same i })
         by (inr left) = left_kept read.office read.survives.clean left

@@ -87,7 +87,7 @@ module _ {S W : Type 0} (g : Ghosts S) (settled : IsSettled g) (one_result : One
     imported kind days (short gave stops) = unchanged_settles g settled Failed (Led (Some (import_command (import_of kind file)))) old new stops.1
 
     printed : (s : Code) (which : Sheet) → Does g contents (line.print s which) today (Some file) rest old before result new after → Settled (command_of (line.print s which) file)
-    printed s sheet.Appeals h = reading_settles g settled Failed (Led None) old new h.1.office h.1.survives on
+    printed s sheet.Appeals h = reading_settles g settled Failed (Led None) old new h.1.read.office h.1.read.survives on
     printed s which h = unchanged_settles g settled Failed (Led None) old new h.1
 
     pub line_settles : (job : Job) → GivesDays (command_of job file) → Does g contents job today (Some file) rest old before result new after → Settled (command_of job file)
