@@ -43,13 +43,14 @@ def opened(path):
         yield file
 
 
-def write(path, rows, version):
-    """Writes an office of a version into a new file. `rows` gives tables but `office`, and rows for each."""
+def write(path, rows, version, number=None):
+    """Writes an office with the tables of a version into a new file, and the number of that version or another. `rows` gives tables
+    but `office`, and rows for each."""
     with opened(path) as file:
         file.execute("BEGIN")
         for table, columns in of_version(version).items():
             file.execute(f"CREATE TABLE {table} ({columns}) STRICT")
-        file.execute("INSERT INTO office VALUES (1, ?)", (version,))
+        file.execute("INSERT INTO office VALUES (1, ?)", (version if number is None else number,))
         for table, found in rows:
             marks = ", ".join("?" * len(file.execute(f"PRAGMA table_info({table})").fetchall()))
             file.executemany(f"INSERT INTO {table} VALUES ({marks})", found)
