@@ -14,7 +14,8 @@ HALL, CLASH, ARRANGEMENT = 1, 2, 3
 OPEN, GRANTED, REFUSED, RETRACTED, SUPERSEDED = 1, 2, 3, 4, 5
 KINDS = {HALL: "hall", CLASH: "clash", ARRANGEMENT: "arrangement"}
 STATES = {OPEN: "open", GRANTED: "granted", REFUSED: "refused", RETRACTED: "retracted", SUPERSEDED: "superseded"}
-TEXTS = ["Bo Berg", "O'Neill, Zo\u00eb", '"Ada"', "=1+1", "<script>alert(1)</script>", "'); DROP TABLE seat; --", "a\u202eb", " ", "\u00df" * 40]
+TEXTS = ["Bo Berg", "O'Neill, Zo\u00eb", '"Ada"', "=1+1", "<script>alert(1)</script>", "'); DROP TABLE seat; --", "a\u202eb", " ",
+         "\u00df" * 40]
 
 Session = collections.namedtuple("Session", "code day start")
 Paper = collections.namedtuple("Paper", "code title session minutes requires")
