@@ -93,6 +93,8 @@ def cure(column, field):
     text = field.decode("utf-8", "replace")
     if column in ("name", "title"):
         return name_cure(field)
+    if column == "code" and not field:
+        return "`office codes` fills the codes that are empty, in a new file"
     if (number := with_zeros(field)) != field and column == "number":
         return f"leading zeros lost? {number.decode()} ({CURES[column]})"
     text = text.strip(" %'")
@@ -273,7 +275,7 @@ def row_notes(kind, found, known):
     for record in found:
         key = files.key_of(kind, record)
         if kind == "candidates":
-            others = known.codes[record.fields[2]] - {record.fields[0]}
+            others = known.codes[record.fields[2]] - {record.fields[0]} if record.fields[2] else set()
             twins = [number.decode() for number in sorted(others) if names.get(number) == record.fields[1]]
             if others:
                 shown = ", ".join(number.decode("utf-8", "replace") for number in sorted(others)[:3])

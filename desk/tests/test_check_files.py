@@ -143,6 +143,11 @@ class Words(unittest.TestCase):
             "semicolons part the columns: save it with commas", "write WK3DEGZDPC (8 to 16 of A-Z and 0-9)",
             "leading zeros lost? 0001000 (seven digits (format the column as text))", "1 to 80 bytes; it has 0"])
 
+    def test_empty_codes_are_named_with_their_cure_and_are_not_compared(self):
+        text = b"number,name,code\n0001000,Ada Lin,\n0001017,Ada Lin,\n"
+        self.assertEqual(self.mistakes_in("candidates", text),
+                         (["`office codes` fills the codes that are empty, in a new file"] * 2, []))
+
     def test_notes_for_a_human_eye(self):
         text = ("number,name,code\n0000001,FranÃ§ois,CODE0001\n0000002,Bo Berg,CODE0002\n0000003,Bo Berg,CODE0002\n"
                 "0000002,Bo Berg,CODE0002\n0000004,Di,10000000000\n").encode()
