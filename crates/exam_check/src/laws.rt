@@ -24,8 +24,7 @@ pub fn check_finds_nothing_exactly_where_open_accepts<S: Alter>()
         → ContainsMade (state S.Store old).now all → HasCleanDisk (state S.Store new)
         → Finds (state S.Store old) (state S.Store new) office → IsGood office
         → IsFirstBadTable (state S.Store old).now all None }
-    ensures refused { (old new : Held S) (e : Refusal) (all : Trees)
-        → ContainsMade (state S.Store old).now all → FailsToOpen S.Store old new e
+    ensures refused { (old new : Held S) (e : Refusal) (all : Trees) → FailsToOpen S.Store old new e
         → e ≢ refusal.NoMemory → e ≢ refusal.Store
         → IsFirstBadTable (state S.Store old).now all None → ⊥ }
 {}

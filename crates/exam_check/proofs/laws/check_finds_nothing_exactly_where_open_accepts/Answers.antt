@@ -8,4 +8,4 @@ pub returns-clause-accepted : goal.returns-clause-accepted
 returns-clause-accepted g c = λ old new office all was clean finds good. accepted g.S.Store old new all was office clean finds good
 
 pub returns-clause-refused : goal.returns-clause-refused
-returns-clause-refused g c = λ old new e all was fails some sound none. refused g.S.Store old new all was e fails some sound none
+returns-clause-refused g c = λ old new e all fails some sound none. refused g.S.Store old new all e fails some sound none
