@@ -8,24 +8,18 @@ use Rattle.exam_plan.specs.Matching.{SamePlan}
 use Rattle.exam_rules.specs.declared.lists.Entrant.{Entrant}
 use Rattle.exam_rules.specs.declared.lists.SessionLists.{SessionLists}
 use Rattle.exam_rules.specs.Lists.{listed}
-use Rattle.exam_rules.specs.Relations.{Code, Relations, relations_of, same_code}
+use Rattle.exam_rules.specs.Relations.{Code, Relations, same_code}
 use Rattle.exam_rules.specs.Seatings.{plan_of}
 use Rattle.exam_commands.specs.declared.command.Command.{Command}
 use Rattle.exam_commands.specs.declared.command.Command.TheVariants as command
 use Rattle.exam_commands.specs.declared.command.Reply.{Reply}
-use Rattle.exam_commands.specs.declared.part.Part.{Part}
 use Rattle.exam_commands.specs.Appeals.{appeal_at}
-use Rattle.exam_commands.specs.Good.{IsGood}
 use Rattle.exam_commands.specs.Orders.{IsInOrder}
 use Rattle.exam_commands.specs.Repairs.{IsRepaired}
 use Rattle.exam_commands.specs.Replies.{reply_of}
 use Rattle.exam_commands.specs.State.{Seats, State}
 use Rattle.exam_commands.specs.Steps.{change, first_seated}
 use Rattle.exam_commands.specs.Touched.{is_appeal_for, touches}
-
--- its facts and its plans
-abbrev pub state_of : Part → State
-state_of part = record { relations = relations_of part.facts; seats = part.plans.entries }
 
 -- The command reads the plan of each session that it touches; a lodging also that of the session it names; a decision,
 -- whatever its outcome, also that of the appeal's session.
@@ -46,10 +40,6 @@ pub record Agrees (done : Command) (office part : State) : Type 0 where
   pub read : (s : Code) → reads office.relations done s ≡ true
       → SamePlan (plan_of part.seats s) (plan_of office.seats s)
   pub others : (s : Code) → reads office.relations done s ≡ false → SamePlan (plan_of part.seats s) (λ c. None)
-
--- there is a good office with which it agrees
-abbrev pub IsPartFor : Command → State → Type 0
-IsPartFor done part = (office : State) × IsGood office × IsInOrder office × Agrees done office part
 
 -- The office with the part put back: the facts of the part, its plans of the sessions that the command reads, and the
 -- office's own plan of every other session.

@@ -8,8 +8,7 @@ use Rattle.exam_rules.specs.Relations.{Code, Relations, has_row, relations_of, r
 use Rattle.exam_rules.specs.Seatings.{plan_of}
 use Rattle.exam_commands.specs.declared.command.Command.{Command}
 use Rattle.exam_commands.specs.declared.command.Reply.{Reply}
-use Rattle.exam_commands.specs.declared.part.Part.{Part}
-use Rattle.exam_office.specs.declared.part_steps.Made.{Made}
+use Rattle.exam_office.specs.declared.part.Part.{Part}
 use Rattle.exam_office.specs.Drafts.{AreMixed, HasOld, IsDraftOf, seats_after, seats_before, state_after, state_before}
 use Rattle.exam_commands.specs.Exchanges.{all_put, taken_back, without_old}
 use Rattle.exam_commands.specs.FactsMade.{WasMade}
@@ -17,9 +16,9 @@ use Rattle.exam_commands.specs.Good.{IsGood, marks_were_granted, refers}
 use Rattle.exam_commands.specs.Limits.{within_limits}
 use Rattle.exam_commands.specs.NextPlans.{Plans, PlansBack}
 use Rattle.exam_commands.specs.Orders.{IsInOrder}
-use Rattle.exam_commands.specs.Parts.{Agrees, IsMadeIn, IsPutBack, reads, state_of}
-use Rattle.exam_office.specs.Relisting.{ListsBack}
-use Rattle.exam_changes.specs.Undoing.{TakesBack}
+use Rattle.exam_commands.specs.Parts.{Agrees, IsPutBack, reads}
+use Rattle.exam_office.specs.HeldParts.{HasLists, IsStep, part_state}
+use Rattle.exam_office.proofs.SteppedParts.{lists_again}
 use Rattle.exam_commands.specs.Singles.{AreSingle}
 use Rattle.exam_commands.specs.State.{Seats, State}
 use Rattle.exam_commands.specs.Steps.{Step, StepTo}
@@ -176,27 +175,19 @@ good_after done today office after told old was within step = record {
     to = subst (StepTo done office (Ok told) after) (new_facts done today office told after step) step
 
 -- carried out on the office, the command may still be taken back
-pub drafted : (done : Command) (today : ℕ) (office old : State) (part : Part) (was lists : SessionLists) (seats : Seats) (made : Made)
-    → IsGood office → IsInOrder office → Agrees done office old → KeysRise seat_cmp old.seats → KeysRise seat_cmp part.plans.entries → AreInOrder (relations_of part.facts)
-    → IsMadeIn done today old (state_of part) made.reply → IsTrue (within_limits (relations_of part.facts)) → WasMade done old.relations (relations_of part.facts)
-    → TakesBack made.facts (relations_of part.facts) old.relations → AreListsOf (relations_of part.facts) lists → AreListsOf old.relations was → ListsBack made.lists lists was
-    → PlansBack done old.relations made.plans part.plans.entries old.seats → seats ≡ seats_put made.plans office.seats part.plans.entries
-    → IsDraftOf done today office part lists seats made
-drafted done today office old part was lists seats made good up agrees ordered rises order is within was_made facts_back lists_now lists_were lists_back plans_back put = record {
+pub drafted : (done : Command) (today : ℕ) (office : State) (old part : Part) (seats : Seats) (told : Reply)
+    → IsGood office → IsInOrder office → Agrees done office (part_state old) → KeysRise seat_cmp old.plans.entries → KeysRise seat_cmp part.plans.entries → AreInOrder (relations_of part.facts)
+    → HasLists old → IsStep done today old part told → seats ≡ seats_put part.undo.plans office.seats part.plans.entries
+    → IsDraftOf done today office part seats told
+drafted done today office old part seats told good up agrees ordered rises order lists_were is put = record {
   draft = record {
-    good = good_after done today office after made.reply old.relations was_made within step;
-    listed_now = lists_now;
+    good = good_after done today office after told (relations_of old.facts) is.change is.limits step;
+    listed_now = is.lists;
     was_good = subst IsGood (sym before) good;
-    were_lists = λ back were. subst (λ (r : Relations). AreListsOf r back) (sym facts_back.1) (record {
-      numbers = lists_were.numbers;
-      members = λ s. were.0 s ∙ lists_back.members s ∙ lists_were.members s;
-      halls = λ s. were.1 s ∙ lists_back.halls s ∙ lists_were.halls s;
-      rising = lists_were.rising;
-    });
-    there = facts_back.0;
-    list = lists_back.there;
-    mixed = subst (AreMixed made.plans new) (sym put) (mixed_put done office old up agrees t new rises made.plans plans_back);
-    order = (subst (StepTo done office (Ok made.reply) after) (new_facts done today office made.reply after step) step).3;
+    were_lists = lists_again done today old part told is lists_were;
+    there = (is.facts_back.0, is.lists_back.there);
+    mixed = subst (AreMixed part.undo.plans new) (sym put) (mixed_put done office (part_state old) up agrees t new rises part.undo.plans is.plans_back);
+    order = (subst (StepTo done office (Ok told) after) (new_facts done today office told after step) step).3;
     was_order = subst IsInOrder (sym before) up;
   };
   before = before;
@@ -210,16 +201,16 @@ drafted done today office old part was lists seats made good up agrees ordered r
     new = part.plans.entries
 
     after : State
-    after = state_after part seats made
+    after = state_after part seats
 
-    before : state_before part seats made ≡ office
+    before : state_before part seats ≡ office
     before =
-        ap (λ (r : Relations). let x : State = record { relations = r; seats = seats_before made.plans new seats } in x) (facts_back.1 ∙ agrees.facts)
+        ap (λ (r : Relations). let x : State = record { relations = r; seats = seats_before part.undo.plans new seats } in x) (is.facts_back.1 ∙ agrees.facts)
         ∙ ap (λ (q : Seats). let x : State = record { relations = office.relations; seats = q } in x)
-        (ap (seats_before made.plans new) put ∙ seats_were done office old up agrees t new rises made.plans plans_back)
+        (ap (seats_before part.undo.plans new) put ∙ seats_were done office (part_state old) up agrees t new rises part.undo.plans is.plans_back)
 
-    step : Step done today office (Ok made.reply) after
+    step : Step done today office (Ok told) after
     step =
-        made_back today office old after good up (state_of part) ordered done made.reply agrees
-        (subst (λ (q : Seats). IsPutBack done office (state_of part) (record { relations = t; seats = seats_after made.plans new q })) (sym put)
-        (put_back done office old up agrees t new rises order made.plans plans_back)) is
+        made_back today office (part_state old) after good up (part_state part) ordered done told agrees
+        (subst (λ (q : Seats). IsPutBack done office (part_state part) (record { relations = t; seats = seats_after part.undo.plans new q })) (sym put)
+        (put_back done office (part_state old) up agrees t new rises order part.undo.plans is.plans_back)) is.made

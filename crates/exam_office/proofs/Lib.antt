@@ -6,3 +6,4 @@ pub mod KeptLists
 pub mod KeptImports
 pub mod EnteredRows
 pub mod ListsPutBack
+pub mod SteppedParts

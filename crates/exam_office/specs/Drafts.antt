@@ -1,21 +1,20 @@
 -- A command that is carried out on an office and may still be taken back.
 use Rattle.std.specs.Prelude.{◌≡◌, ⊤, ℕ, true, false, IsTrue, Option, None, Some, Ok}
 use Rattle.exam_rules.specs.declared.lists.SessionLists.{SessionLists}
-use Rattle.exam_rules.specs.Lists.{AreListsOf, listed}
+use Rattle.exam_rules.specs.Lists.{AreListsOf}
 use Rattle.exam_rules.specs.Relations.{Code, has_row, relations_of, row_at, seat_cmp}
 use Rattle.exam_commands.specs.declared.command.Command.{Command}
 use Rattle.exam_commands.specs.declared.command.Reply.{Reply}
-use Rattle.exam_commands.specs.declared.part.Part.{Part}
-use Rattle.exam_office.specs.declared.part_steps.Made.{Made}
 use Rattle.exam_commands.specs.Exchanges.{taken_back, without_old}
 use Rattle.exam_commands.specs.Good.{IsGood}
 use Rattle.exam_commands.specs.NextPlans.{Plans}
 use Rattle.exam_commands.specs.Orders.{IsInOrder}
 use Rattle.exam_commands.specs.Parts.{Agrees}
-use Rattle.exam_office.specs.Relisting.{HasList, halls_before, members_before}
 use Rattle.exam_commands.specs.State.{Seats, State}
 use Rattle.exam_commands.specs.Steps.{Step}
-use Rattle.exam_changes.specs.Undoing.{IsThere, restored}
+use Rattle.exam_changes.specs.Undoing.{restored}
+use Rattle.exam_office.specs.declared.part.Part.{Part}
+use Rattle.exam_office.specs.HeldParts.{CanGoBack, WereLists, part_state}
 
 -- the office before the command and after it, and what the command answers
 pub record DraftIn : Type 0 where
@@ -49,36 +48,29 @@ abbrev pub AreMixed : Option Plans → Seats → Seats → Type 0
 AreMixed None new seats = ⊤
 AreMixed (Some old) new seats = MixesPlans old.entries new seats
 
-abbrev pub state_before : Part → Seats → Made → State
-state_before part seats made = record {
-  relations = restored made.facts (relations_of part.facts);
-  seats = seats_before made.plans part.plans.entries seats;
+abbrev pub state_before : Part → Seats → State
+state_before part seats = record {
+  relations = restored part.undo.facts (relations_of part.facts);
+  seats = seats_before part.undo.plans part.plans.entries seats;
 }
 
-abbrev pub state_after : Part → Seats → Made → State
-state_after part seats made = record {
+abbrev pub state_after : Part → Seats → State
+state_after part seats = record {
   relations = relations_of part.facts;
-  seats = seats_after made.plans part.plans.entries seats;
+  seats = seats_after part.undo.plans part.plans.entries seats;
 }
-
--- the second lists are those before the command, if the first are those after it
-abbrev pub WereLists : Made → SessionLists → SessionLists → Type 0
-WereLists made after before =
-    ((s : Code) → listed before.members.entries s ≡ members_before made.lists after s)
-    × ((s : Code) → listed before.halls.entries s ≡ halls_before made.lists after s)
 
 -- what a draft keeps so that it can be finished and taken back
-pub record IsDraft (part : Part) (lists : SessionLists) (seats : Seats) (made : Made) : Type 0 where
-  pub good : IsGood (state_after part seats made)
-  pub listed_now : AreListsOf (relations_of part.facts) lists
-  pub was_good : IsGood (state_before part seats made)
-  pub were_lists : (old : SessionLists) → WereLists made lists old
-      → AreListsOf (restored made.facts (relations_of part.facts)) old
-  pub there : IsThere made.facts (relations_of part.facts)
-  pub list : HasList made.lists lists
-  pub mixed : AreMixed made.plans part.plans.entries seats
-  pub order : IsInOrder (state_after part seats made)
-  pub was_order : IsInOrder (state_before part seats made)
+pub record IsDraft (part : Part) (seats : Seats) : Type 0 where
+  pub good : IsGood (state_after part seats)
+  pub listed_now : AreListsOf (relations_of part.facts) part.lists
+  pub was_good : IsGood (state_before part seats)
+  pub were_lists : (old : SessionLists) → WereLists part old
+      → AreListsOf (restored part.undo.facts (relations_of part.facts)) old
+  pub there : CanGoBack part
+  pub mixed : AreMixed part.undo.plans part.plans.entries seats
+  pub order : IsInOrder (state_after part seats)
+  pub was_order : IsInOrder (state_before part seats)
 
 -- the office is good, these are its seats, and the part agrees with it on what the command reads
 abbrev pub IsOfficeOf : Command → Seats → State → State → Type 0
@@ -86,8 +78,7 @@ IsOfficeOf done seats part office =
     IsGood office × IsInOrder office × (office.seats ≡ seats) × Agrees done office part
 
 -- the draft of the command over the office
-pub record IsDraftOf (done : Command) (today : ℕ) (office : State)
-    (part : Part) (lists : SessionLists) (seats : Seats) (made : Made) : Type 0 where
-  pub draft : IsDraft part lists seats made
-  pub before : state_before part seats made ≡ office
-  pub step : Step done today office (Ok made.reply) (state_after part seats made)
+pub record IsDraftOf (done : Command) (today : ℕ) (office : State) (part : Part) (seats : Seats) (reply : Reply) : Type 0 where
+  pub draft : IsDraft part seats
+  pub before : state_before part seats ≡ office
+  pub step : Step done today office (Ok reply) (state_after part seats)

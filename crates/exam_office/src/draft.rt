@@ -1,25 +1,23 @@
 //! A command that is carried out on an office and may still be taken back.
-ghost use Rattle.std.specs.Prelude.{◌≡◌, ◌⊎◌, Ok, Err, IfOk, IfErr, OnOk, OnErr};
+ghost use Rattle.std.specs.Prelude.{◌≡◌, ◌⊎◌, Ok, Err, IfOk, IfErr, OnErr};
 ghost use Rattle.exam_types.specs.declared.refusal.Refusal.TheVariants.{NoMemory};
-ghost use Rattle.exam_rules.specs.Lists.{AreListsOf, listed};
-ghost use Rattle.exam_rules.specs.Relations.{Code, relations_of};
+ghost use Rattle.exam_rules.specs.Relations.{relations_of};
 ghost use Rattle.exam_office.specs.Drafts as spec;
+ghost use Rattle.exam_office.specs.HeldParts as held;
 ghost use Rattle.exam_commands.specs.Good.{IsGood};
 ghost use Rattle.exam_commands.specs.Orders.{IsInOrder};
-ghost use Rattle.exam_commands.specs.Parts.{IsRefusedIn, state_of};
-ghost use Rattle.exam_office.specs.Relisting.{HasList, halls_before, members_before};
+ghost use Rattle.exam_commands.specs.Parts.{IsRefusedIn};
 ghost use Rattle.exam_commands.specs.State.{State};
 ghost use Rattle.exam_commands.specs.Steps.{Step};
 ghost use Rattle.exam_changes.specs.TablesBefore.{WerePlans, WereTables};
-ghost use Rattle.exam_changes.specs.Undoing.{IsThere, restored};
 
-use crate::lending::read_plans;
 use crate::office::Office;
-use crate::part_steps::{Made, make};
+use crate::part::Part;
+use crate::part_steps::step_part;
 use crate::seat_changes::{drop_old_seats, put_seats, take_back_seats};
 use exam_changes::{PlansBefore, TablesBefore};
-use exam_commands::{Command, Part, Reply, Seats};
-use exam_rules::{Facts, SessionLists};
+use exam_commands::{Command, Reply, Seats};
+use exam_rules::Facts;
 use exam_types::{Day, Refusal};
 use std::alloc::Global;
 use std::marker::Model;
@@ -28,13 +26,11 @@ use std::marker::Model;
 /// it and taking it back take no memory, so neither can fail.
 #[derive(Drop)]
 pub struct Draft {
-    /// The facts after the command, and the plans after it of the sessions that it reads.
+    /// The part of the office that the command reads, after the command.
     part: Part,
-    /// The lists of these facts.
-    lists: SessionLists,
     /// The seats: those of the new plans are in, and those of the old plans are not yet taken away.
     seats: Seats,
-    made: Made,
+    reply: Reply,
 }
 
 impl Model for Draft {
@@ -43,12 +39,12 @@ impl Model for Draft {
     ghost Value = { DraftIn };
 
     ghost view = { λ d. record {
-      before = state_before d.part d.seats.entries d.made;
-      after = state_after d.part d.seats.entries d.made;
-      reply = d.made.reply;
+      before = state_before d.part d.seats.entries;
+      after = state_after d.part d.seats.entries;
+      reply = d.reply;
     } };
 
-    ghost invariant = { λ d. IsDraft d.part d.lists d.seats.entries d.made };
+    ghost invariant = { λ d. IsDraft d.part d.seats.entries };
 }
 
 impl Draft {
@@ -67,20 +63,10 @@ impl Draft {
     {
         office.show_good();
         office.show_order();
-        let plans = match read_plans(alloc, &office, command) {
-            Ok(plans) => plans,
-            Err(refusal) => return Err((refusal, office)),
-        };
-        let (facts, mut lists, mut seats) = office.into_parts();
-        let mut part = Part { facts, plans };
-        match made(alloc, &mut part, &mut lists, &mut seats, command, today) {
-            Ok(made) => Ok(Draft {
-                part,
-                lists,
-                seats,
-                made,
-            }),
-            Err(refusal) => Err((refusal, Office::holding(part.facts, lists, seats))),
+        let (mut part, mut seats) = Part::of(alloc, office, command)?;
+        match step_office(alloc, &mut part, &mut seats, command, today) {
+            Ok(reply) => Ok(Draft { part, seats, reply }),
+            Err(refusal) => Err((refusal, Office::holding(part.facts, part.lists, seats))),
         }
     }
 
@@ -91,14 +77,13 @@ impl Draft {
     {
         let Draft {
             part,
-            lists,
             mut seats,
-            made,
+            reply,
         } = self;
-        if let Some(old) = &made.plans {
+        if let Some(old) = &part.undo.plans {
             drop_old_seats(&mut seats, old, &part.plans);
         }
-        (Office::holding(part.facts, lists, seats), made.reply)
+        (Office::holding(part.facts, part.lists, seats), reply)
     }
 
     /// The office before the command.
@@ -107,12 +92,11 @@ impl Draft {
     {
         let Draft {
             mut part,
-            mut lists,
             mut seats,
-            made,
+            reply: _,
         } = self;
-        take_back(&mut part, &mut lists, &mut seats, made);
-        Office::holding(part.facts, lists, seats)
+        take_back(&mut part, &mut seats);
+        Office::holding(part.facts, part.lists, seats)
     }
 
     /// The facts after the command.
@@ -127,7 +111,7 @@ impl Draft {
         ensures { WereTables result self.now.before.relations self.now.after.relations }
     {
         self.part.facts.show_order();
-        self.made.facts.tables_before()
+        self.part.undo.facts.tables_before()
     }
 
     /// The plans that the command may have changed, before it and after it.
@@ -136,7 +120,7 @@ impl Draft {
     {
         // The contract of `len` says that the keys rise.
         let _ = self.seats.len();
-        match &self.made.plans {
+        match &self.part.undo.plans {
             Some(old) => PlansBefore::Plans(old, &self.part.plans),
             None => PlansBefore::Same,
         }
@@ -154,62 +138,52 @@ impl Draft {
     }
 }
 
-/// Carries out a command on a day over a part of an office, and puts the new plans among the seats. After a refusal
-/// everything is as before.
-fn made(
+/// Carries out a command on a day over the part of an office that it reads, and puts the new plans among the seats of the
+/// office. After a refusal everything is as before.
+fn step_office(
     alloc: Global,
     part: &mut Part,
-    lists: &mut SessionLists,
     seats: &mut Seats,
     command: &Command,
     today: Day,
-) -> Result<Made, Refusal>
+) -> Result<Reply, Refusal>
+    requires part { held.IsPartFor command.now part.old }
     requires office { (office : State)
-        × spec.IsOfficeOf command.now seats.old.entries (state_of part.old) office }
-    requires lists { AreListsOf (relations_of part.old.facts) lists.old }
-    ensures ok { IfOk result (λ made. (office : State)
-        → spec.IsOfficeOf command.now seats.old.entries (state_of part.old) office
-        → spec.IsDraftOf command.now today office part.new lists.new seats.new.entries made) }
-    ensures refusal { IfErr result (IsRefusedIn command.now today (state_of part.old)) }
-    ensures facts { OnErr result (relations_of part.new.facts ≡ relations_of part.old.facts) }
+        × spec.IsOfficeOf command.now seats.old.entries (held.part_state part.old) office }
+    ensures ok { IfOk result (λ reply. (office : State)
+        → spec.IsOfficeOf command.now seats.old.entries (held.part_state part.old) office
+        → spec.IsDraftOf command.now today office part.new seats.new.entries reply) }
+    ensures refusal { IfErr result (IsRefusedIn command.now today (held.part_state part.old)) }
+    ensures part { OnErr result (held.part_state part.new ≡ held.part_state part.old) }
+    ensures lists { OnErr result (held.HasLists part.new) }
     ensures seats { OnErr result (seats.new.entries ≡ seats.old.entries) }
-    ensures listed { OnErr result (AreListsOf (relations_of part.old.facts) lists.new) }
 {
     part.show_order();
-    let made = make(alloc, part, lists, command, today)?;
+    let reply = step_part(alloc, part, command, today)?;
     part.facts.show_order();
     part.show_order();
-    match &made.plans {
+    match &part.undo.plans {
         Some(_) => match put_seats(seats, &part.plans) {
-            Ok(()) => Ok(made),
+            Ok(()) => Ok(reply),
             Err(refusal) => {
-                take_back(part, lists, seats, made);
+                take_back(part, seats);
                 Err(refusal)
             }
         },
-        None => Ok(made),
+        None => Ok(reply),
     }
 }
 
-/// Takes the command back.
-fn take_back(part: &mut Part, lists: &mut SessionLists, seats: &mut Seats, made: Made)
-    requires facts { IsThere made.facts (relations_of part.old.facts) }
-    requires lists { HasList made.lists lists.old }
-    requires seats { spec.HasOld made.plans seats.old.entries }
-    ensures facts { relations_of part.new.facts ≡ restored made.facts (relations_of part.old.facts) }
-    ensures members { (s : Code) → listed lists.new.members.entries s ≡ members_before made.lists lists.old s }
-    ensures halls { (s : Code) → listed lists.new.halls.entries s ≡ halls_before made.lists lists.old s }
-    ensures seats { seats.new.entries ≡ spec.seats_before made.plans part.old.plans.entries seats.old.entries }
+/// Takes the step of the part back, and puts its old plans among the seats of the office.
+fn take_back(part: &mut Part, seats: &mut Seats)
+    requires part { held.CanGoBack part.old }
+    requires seats { spec.HasOld part.old.undo.plans seats.old.entries }
+    ensures part { held.IsBack part.old part.new }
+    ensures seats { seats.new.entries
+        ≡ spec.seats_before part.old.undo.plans part.old.plans.entries seats.old.entries }
 {
-    let Made {
-        reply: _,
-        facts,
-        lists: listed,
-        plans,
-    } = made;
-    facts.take_back(&mut part.facts);
-    listed.take_back(lists);
-    if let Some(old) = plans {
-        take_back_seats(seats, &old, &part.plans);
+    if let Some(old) = &part.undo.plans {
+        take_back_seats(seats, old, &part.plans);
     }
+    part.take_back();
 }

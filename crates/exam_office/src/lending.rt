@@ -10,37 +10,23 @@ ghost use Rattle.exam_commands.specs.Parts as spec;
 
 use crate::office::Office;
 use exam_commands::granting::is_grant;
-use exam_commands::{Command, Decision, Part, Seats};
+use exam_commands::{Command, Decision, Seats};
 use exam_judging::{add_seat, touched};
 use exam_rules::{Facts, SessionLists};
 use exam_types::{Number, Refusal, SessionCode};
 use std::alloc::Global;
 use std::collections::BTreeMap;
 
-/// A copy of the facts of the office, and its plans of the sessions that the command reads.
-pub fn part_for(alloc: Global, office: &Office, command: &Command) -> Result<Part, Refusal>
-    ensures agrees { IfOk result (λ part. spec.Agrees command.now office.now (spec.state_of part)) }
-    ensures good { IfOk result (λ part. spec.IsPartFor command.now (spec.state_of part)) }
-    ensures memory { IfErr result (λ e. e ≡ NoMemory) }
-{
-    office.show_good();
-    office.show_order();
-    let plans = read_plans(alloc, office, command)?;
-    let facts = copied_facts(office.facts())?;
-    Ok(Part { facts, plans })
-}
-
-fn copied_facts(facts: &Facts) -> Result<Facts, Refusal>
-    ensures ok { IfOk result (λ copy. relations_of copy ≡ relations_of facts.now) }
-    ensures memory { IfErr result (λ e. e ≡ NoMemory) }
-{
-    Ok(facts.clone()?)
-}
-
-/// The plans of the sessions that the command reads; nobody is seated in other sessions.
-pub fn read_plans(alloc: Global, office: &Office, command: &Command) -> Result<Seats, Refusal>
-    ensures ok { IfOk result (λ plans. spec.Agrees command.now office.now
-        (record { relations = office.now.relations; seats = plans.entries })) }
+/// The sessions whose plans the command reads, and these plans; nobody is seated in other sessions.
+pub fn read_plans(
+    alloc: Global,
+    office: &Office,
+    command: &Command,
+) -> Result<(Vec<SessionCode>, Seats), Refusal>
+    ensures sessions { IfOk result (λ read. (s : Code)
+        → Contains read.0.items s ↔ IsTrue (spec.reads office.now.relations command.now s)) }
+    ensures plans { IfOk result (λ read. spec.Agrees command.now office.now
+        (record { relations = office.now.relations; seats = read.1.entries })) }
     ensures memory { IfErr result (λ e. e ≡ NoMemory) }
 {
     office.show_good();
@@ -49,7 +35,7 @@ pub fn read_plans(alloc: Global, office: &Office, command: &Command) -> Result<S
     for session in &sessions {
         copy_plan(office.lists(), office.seats(), session, &mut plans)?;
     }
-    Ok(plans)
+    Ok((sessions, plans))
 }
 
 /// Seats the members of the session where they sit in the office.

@@ -4,6 +4,7 @@
 mod draft;
 mod lending;
 mod office;
+mod part;
 mod part_steps;
 mod relisting;
 mod seat_changes;
@@ -14,7 +15,7 @@ pub use draft::Draft;
 pub use exam_changes::{Before, PlansBefore, TablesBefore};
 pub use exam_commands::{
     AppealState, Command, Decision, Import, Kind, Lodging, Outcome, Own, OwnAppeal, OwnSession,
-    Part, Reply, Row, Seats, Table, kind_word, state_of, state_word, status_word, write_subject,
+    Reply, Row, Seats, Table, kind_word, state_of, state_word, status_word, write_subject,
 };
 pub use exam_judging::{first_bad_table, touched};
 pub use exam_laws::{
@@ -28,7 +29,7 @@ pub use exam_laws::{
 pub use exam_views::{
     AppealRow, AppealSource, Clash, ListedAppeals, Seat, SessionShortage, SessionView,
 };
-pub use lending::part_for;
 pub use office::Office;
+pub use part::Part;
 pub use part_steps::step_part;
 pub use steps::{run, step};

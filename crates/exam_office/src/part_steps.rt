@@ -1,6 +1,6 @@
 //! One command over a part of an office.
-ghost use Rattle.std.specs.Prelude.{◌≡◌, ◌⊎◌, false, true, Contains, IsTrue, IfOk, IfErr, OnOk, OnErr};
-ghost use Rattle.exam_types.specs.declared.refusal.Refusal.TheVariants.{NoMemory, TooMany};
+ghost use Rattle.std.specs.Prelude.{◌≡◌, ◌⊎◌, false, true, IsTrue, IfOk, IfErr, OnOk, OnErr};
+ghost use Rattle.exam_types.specs.declared.refusal.Refusal.TheVariants.{NoMemory};
 ghost use Rattle.exam_rules.specs.Lists.{AreListsOf};
 ghost use Rattle.exam_rules.specs.Relations.{Code, Relations, relations_of};
 ghost use Rattle.exam_commands.specs.FactsMade.{WasMade, early_refusal, facts_made, may_pass_limit};
@@ -9,94 +9,69 @@ ghost use Rattle.exam_commands.specs.Limits.{within_limits};
 ghost use Rattle.exam_commands.specs.NextPlans as planning;
 ghost use Rattle.exam_commands.specs.Orders.{IsInOrder};
 ghost use Rattle.exam_commands.specs.Parts as spec;
+ghost use Rattle.exam_office.specs.declared.part.Part.{Part as Held};
+ghost use Rattle.exam_office.specs.HeldParts as held;
 ghost use Rattle.exam_office.specs.Relisting as listing;
 ghost use Rattle.exam_commands.specs.Singles.{AreSingle};
 ghost use Rattle.exam_commands.specs.State.{State};
 ghost use Rattle.exam_commands.specs.Steps as steps;
 ghost use Rattle.exam_changes.specs.Undoing as undoing;
 
+use crate::part::{Part, PartUndo};
 use crate::relisting::{ListUndo, relist};
 use crate::staying::stays_within;
 use exam_changes::{
     Undo, close, decide, decided_reply, import_rows, lodge, newly_decided, reinstate, retract,
     withdraw,
 };
-use exam_commands::{Command, Decision, Outcome, Part, Reply, Seats, stored_state};
-use exam_judging::{repaired_among, touched};
-use exam_rules::{Facts, SessionLists, session_lists};
+use exam_commands::{Command, Decision, Outcome, Reply, Seats, stored_state};
+use exam_judging::repaired_among;
+use exam_rules::{Facts, SessionLists};
 use exam_types::{Day, Refusal, SessionCode};
 use std::alloc::Global;
 use std::mem;
 
-/// What a command has made of a part: what it answers, and how to take it back.
-#[derive(Drop)]
-pub struct Made {
-    pub reply: Reply,
-    pub facts: Undo,
-    pub lists: ListUndo,
-    /// The plans as they were, if they have changed.
-    pub plans: Option<Seats>,
-}
-
 /// Carries out a command on a day over a part that agrees with a good office on what the command reads, or refuses it.
-/// The reply is that of `step` over that office, and the office with the part put back is the office after `step`.
-/// After a refusal the part is as before.
+/// The reply is that of `step` over that office, and the office with the part put back is the office after `step`. The
+/// part can take the step back. After a refusal it is as before.
 pub fn step_part(
     alloc: Global,
     part: &mut Part,
     command: &Command,
     today: Day,
 ) -> Result<Reply, Refusal>
-    requires { spec.IsPartFor command.now (spec.state_of part.old) }
+    requires { held.IsPartFor command.now part.old }
     ensures step { (office after : State) → IsGood office → IsInOrder office
-        → spec.Agrees command.now office (spec.state_of part.old)
-        → spec.IsPutBack command.now office (spec.state_of part.new) after
+        → spec.Agrees command.now office (held.part_state part.old)
+        → spec.IsPutBack command.now office (held.part_state part.new) after
         → steps.MayStep command.now today office result after }
-    ensures err { OnErr result (spec.state_of part.new ≡ spec.state_of part.old) }
+    ensures made { IfOk result (held.IsStep command.now today part.old part.new) }
+    ensures back { OnOk result (held.CanGoBack part.new) }
+    ensures again { OnOk result ((back : Held) → held.IsBack part.new back → held.IsPartFor command.now back) }
+    ensures refusal { IfErr result (spec.IsRefusedIn command.now today (held.part_state part.old)) }
+    ensures err { OnErr result (held.part_state part.new ≡ held.part_state part.old) }
+    ensures ready { OnErr result (held.IsPartFor command.now part.new) }
 {
     part.show_order();
-    let mut lists = session_lists(alloc, &part.facts)?;
-    let made = make(alloc, part, &mut lists, command, today)?;
-    Ok(made.reply)
-}
-
-/// Carries out a command on a day over a part, with the lists of its facts. After a refusal both are as before.
-pub fn make(
-    alloc: Global,
-    part: &mut Part,
-    lists: &mut SessionLists,
-    command: &Command,
-    today: Day,
-) -> Result<Made, Refusal>
-    requires part { spec.IsPartFor command.now (spec.state_of part.old) }
-    requires lists { AreListsOf (relations_of part.old.facts) lists.old }
-    ensures ok { IfOk result (λ made. spec.IsMadeIn command.now today (spec.state_of part.old)
-        (spec.state_of part.new) made.reply) }
-    ensures lists { OnOk result (AreListsOf (relations_of part.new.facts) lists.new) }
-    ensures limits { OnOk result (IsTrue (within_limits (relations_of part.new.facts))) }
-    ensures made { OnOk result (WasMade command.now (relations_of part.old.facts)
-        (relations_of part.new.facts)) }
-    ensures facts_back { IfOk result (λ made. undoing.TakesBack made.facts (relations_of part.new.facts)
-        (relations_of part.old.facts)) }
-    ensures lists_back { IfOk result (λ made. listing.ListsBack made.lists lists.new lists.old) }
-    ensures plans_back { IfOk result (λ made. planning.PlansBack command.now (relations_of part.old.facts)
-        made.plans part.new.plans.entries part.old.plans.entries) }
-    ensures refusal { IfErr result (spec.IsRefusedIn command.now today (spec.state_of part.old)) }
-    ensures same { OnErr result (spec.state_of part.new ≡ spec.state_of part.old) }
-    ensures same_lists { OnErr result (listing.SameLists lists.old lists.new) }
-{
-    let sessions = touched(alloc, &part.facts, command)?;
     let decided = newly_decided(&part.facts, command);
     let (facts, reply) = change(alloc, &mut part.facts, &part.plans, command, today)?;
-    match settled(alloc, &part.facts, lists, &sessions, &part.plans, command) {
-        Ok((listed, next)) => {
+    match settled(
+        alloc,
+        &part.facts,
+        &mut part.lists,
+        &part.sessions,
+        &part.plans,
+        command,
+    ) {
+        Ok((lists, next)) => {
             let reply = last_reply(&part.facts, &part.plans, &next, decided, command, reply);
-            Ok(Made {
-                reply,
+            let plans = put_plans(&mut part.plans, next);
+            part.undo = PartUndo {
                 facts,
-                lists: listed,
-                plans: put_plans(&mut part.plans, next),
-            })
+                lists,
+                plans,
+            };
+            Ok(reply)
         }
         Err(refusal) => {
             facts.take_back(&mut part.facts);

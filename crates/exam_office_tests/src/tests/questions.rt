@@ -1,9 +1,7 @@
 //! What an office answers to a command or a question.
 use super::orders::order_of;
 use super::own::own_text;
-use exam_office::{
-    Command, Office, Part, Reply, Seats, part_for, run, state_of, step, step_part, touched,
-};
+use exam_office::{Command, Office, Part, Reply, Seats, run, state_of, step, step_part, touched};
 use exam_rules::{Facts, finish};
 use exam_school::{Words, appeal_key, entry_of};
 use exam_types::{Day, Number, PaperCode, Reference, Refusal, SessionCode};
@@ -26,18 +24,35 @@ fn are_seated(office: &Office, part: &Part) -> bool {
         .all(|(key, hall)| office.seats().get(key) == Some(hall))
 }
 
-/// What a command answers on the office. First carries it out over the part of the office that it reads, and compares
-/// that it answers the same and seats as the office does afterwards.
+/// An office with equal facts and seats.
+fn copy_of(alloc: Global, office: &Office) -> Result<Office, Fail> {
+    let facts = office.facts().clone()?;
+    let seats = office.seats().clone()?;
+    Ok(Office::from_parts(alloc, facts, seats)?)
+}
+
+/// What a command answers on the office. First carries it out over the part of the office that it reads, takes it back
+/// and carries it out again, and compares that it answers the same each time and seats as the office does afterwards.
 fn reply_of(
     alloc: Global,
     office: &mut Office,
     command: &Command,
     today: Day,
 ) -> Result<Result<Reply, Refusal>, Fail> {
-    let mut part = part_for(alloc, office, command)?;
+    let mut part = match Part::of(alloc, copy_of(alloc, office)?, command) {
+        Ok((part, _)) => part,
+        Err((refusal, _)) => return Err(Fail::from(refusal)),
+    };
+    let first = step_part(alloc, &mut part, command, today);
+    if first.is_ok() {
+        part.take_back();
+        if !are_seated(office, &part) {
+            return Err(Fail::new("the part taken back seats otherwise"));
+        }
+    }
     let answer = step_part(alloc, &mut part, command, today);
     let reply = step(alloc, office, command, today);
-    if answer != reply || !are_seated(office, &part) {
+    if first != reply || answer != reply || !are_seated(office, &part) {
         return Err(Fail::new("the part answers otherwise"));
     }
     Ok(reply)

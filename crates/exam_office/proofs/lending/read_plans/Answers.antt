@@ -26,8 +26,8 @@ loop-session-preserved c = λ s d.
     (c.loop-session.invariant s d) (λ same away. unlisted c.args.office.now c.lists.result.now c.show_good.ensures c.lists.ensures t s d same away) step
     ∙ ap (λ b. if b then mine else None) (sym (any_more p (take i items) (take (i + 1) items) t longer))
 
-pub returns-clause-ok : goal.returns-clause-ok
-returns-clause-ok c =
+pub returns-clause-plans : goal.returns-clause-plans
+returns-clause-plans c =
     let items = c.deref-session-items.result.now in
     let whole : take c.loop-session.session-index items ≡ items = take_whole items c.loop-session.session-index (omega (arith, c.loop-session-test.false)) in
     plans_agree c.args.command.now c.args.office.now c.loop-session.plans.entries items

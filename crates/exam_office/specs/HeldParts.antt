@@ -1,0 +1,78 @@
+-- The part of an office that a command reads, as the program holds it, and how a step over it is taken back.
+use Rattle.std.specs.Prelude.{◌≡◌, ◌↔◌, ℕ, Contains, IsTrue, Option, None, Some}
+use Rattle.exam_rules.specs.declared.lists.SessionLists.{SessionLists}
+use Rattle.exam_rules.specs.Lists.{AreListsOf, listed}
+use Rattle.exam_rules.specs.Relations.{Code, relations_of}
+use Rattle.exam_commands.specs.declared.command.Command.{Command}
+use Rattle.exam_commands.specs.declared.command.Reply.{Reply}
+use Rattle.exam_commands.specs.FactsMade.{WasMade}
+use Rattle.exam_commands.specs.Good.{IsGood}
+use Rattle.exam_commands.specs.Limits.{within_limits}
+use Rattle.exam_commands.specs.NextPlans.{Plans, PlansBack}
+use Rattle.exam_commands.specs.Orders.{IsInOrder}
+use Rattle.exam_commands.specs.Parts.{Agrees, IsMadeIn, reads}
+use Rattle.exam_commands.specs.State.{Seats, State}
+use Rattle.exam_changes.specs.Undoing.{IsThere, TakesBack, restored}
+use Rattle.exam_office.specs.declared.part.Part.{Part}
+use Rattle.exam_office.specs.Relisting.{HasList, ListsBack, halls_before, members_before}
+
+-- its facts and its plans
+abbrev pub part_state : Part → State
+part_state part = record { relations = relations_of part.facts; seats = part.plans.entries }
+
+-- The part is one for the command: it agrees with some good office, its lists are those of its facts, and its sessions
+-- are those whose plans the command reads.
+pub record IsPartFor (done : Command) (part : Part) : Type 0 where
+  pub office : State
+  pub good : IsGood office
+  pub order : IsInOrder office
+  pub agrees : Agrees done office (part_state part)
+  pub lists : AreListsOf (relations_of part.facts) part.lists
+  pub sessions : (s : Code) → Contains part.sessions.items s ↔ IsTrue (reads (relations_of part.facts) done s)
+
+-- its lists are those of its facts
+abbrev pub HasLists : Part → Type 0
+HasLists part = AreListsOf (relations_of part.facts) part.lists
+
+-- ---- a step taken back
+
+-- the plans before the step, if these are the ones after it
+abbrev pub plans_before : Option Plans → Seats → Seats
+plans_before None new = new
+plans_before (Some old) new = old.entries
+
+-- the facts and the plans before the step
+abbrev pub part_before : Part → State
+part_before part = record {
+  relations = restored part.undo.facts (relations_of part.facts);
+  seats = plans_before part.undo.plans part.plans.entries;
+}
+
+-- these are the lists before the step
+abbrev pub WereLists : Part → SessionLists → Type 0
+WereLists part before =
+    ((s : Code) → listed before.members.entries s ≡ members_before part.undo.lists part.lists s)
+    × ((s : Code) → listed before.halls.entries s ≡ halls_before part.undo.lists part.lists s)
+
+-- what the step has changed is there, so that putting it back needs no memory
+abbrev pub CanGoBack : Part → Type 0
+CanGoBack part = IsThere part.undo.facts (relations_of part.facts) × HasList part.undo.lists part.lists
+
+-- the part with its step taken back
+pub record IsBack (part back : Part) : Type 0 where
+  pub state : part_state back ≡ part_before part
+  pub lists : WereLists part back.lists
+  pub sessions : back.sessions ≡ part.sessions
+
+-- ---- a step
+
+-- What an accepted command makes of a part: the new facts, which are within every limit, their lists, the new plans and
+-- the reply; and what leads back to the old part.
+pub record IsStep (done : Command) (today : ℕ) (old new : Part) (reply : Reply) : Type 0 where
+  pub made : IsMadeIn done today (part_state old) (part_state new) reply
+  pub change : WasMade done (relations_of old.facts) (relations_of new.facts)
+  pub limits : IsTrue (within_limits (relations_of new.facts))
+  pub lists : AreListsOf (relations_of new.facts) new.lists
+  pub facts_back : TakesBack new.undo.facts (relations_of new.facts) (relations_of old.facts)
+  pub lists_back : ListsBack new.undo.lists new.lists old.lists
+  pub plans_back : PlansBack done (relations_of old.facts) new.undo.plans new.plans.entries old.plans.entries
