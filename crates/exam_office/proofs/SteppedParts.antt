@@ -1,10 +1,9 @@
 -- A step over a part: what it makes, and the part after a refusal or with its step taken back.
-use Rattle.std.proofs.Common.{◌≡◌, ◌↔◌, ℕ, Bool, true, false, IsTrue, List, [], Contains, Option, None, Some, Vec, refl, ap, sym, subst, ◌∙◌}
+use Rattle.std.proofs.Common.{◌≡◌, ◌<◌, ◌↔◌, ℕ, Bool, true, false, IsTrue, List, [], Contains, Option, None, Some, Vec, refl, ap, sym, subst, arith, ◌∙◌}
 use Rattle.std.specs.Global.{Global}
 use Rattle.exam_rules.specs.declared.lists.SessionLists.{SessionLists}
 use Rattle.exam_rules.specs.Lists.{AreListsOf}
 use Rattle.exam_rules.specs.Relations.{Code, Relations, relations_of}
-use Rattle.exam_rules.specs.Seatings.{plan_of}
 use Rattle.exam_commands.specs.declared.command.Command.{Command}
 use Rattle.exam_commands.specs.declared.command.Command.TheVariants as command
 use Rattle.exam_commands.specs.declared.command.Outcome.{Outcome}
@@ -38,16 +37,19 @@ changed_read (command.Retract c reference) r s changes = refl
 changed_read (command.Decide d) r s changes = grant_reads r d s (grants d.outcome changes)
   where
     grants : (o : Outcome) → refuses o ≡ false → is_grant o ≡ true
-    grants outcome.Grant no = refl
-    grants outcome.Standing no = refl
-    grants outcome.Refuse no = absurd (let differ : true ≡ false = no in cc)
+    grants outcome.Grant changes = refl
+    grants outcome.Standing changes = refl
+    grants outcome.Refuse changes = absurd (let differ : true ≡ false = changes in cc)
 
 module _ (done : Command) (r : Relations) (sessions : List Code) (exact : (s : Code) → Contains sessions s ↔ IsTrue (reads r done s)) where
   touched : keeps_plans done ≡ false → (s : Code) → Contains sessions s ↔ IsTrue (touches r done s)
   touched changes s = subst (λ (b : Bool). Contains sessions s ↔ IsTrue b) (changed_read done r s changes) (exact s)
 
+  none_among : (s : Code) → Contains [] s → ⊥
+  none_among s among = let below : among.0 < 0 = among.1 in omega arith
+
   none : keeps_plans done ≡ true → (s : Code) → Contains [] s ↔ IsTrue (touches r done s)
-  none keeps s = (λ among. absurd among, λ here. absurd (let differ : true ≡ false = sym here ∙ none_touched done r s keeps in cc))
+  none keeps s = (λ among. absurd (none_among s among), λ here. absurd (let differ : true ≡ false = sym here ∙ none_touched done r s keeps in cc))
 
   pub read_back : (t : Relations) (old new : Seats) (o : Option Plans) → AreNext done t sessions old o
       → (given : Option Plans) → ArePut o old new given → PlansBack done r given new old
