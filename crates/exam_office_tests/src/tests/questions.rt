@@ -43,16 +43,22 @@ fn reply_of(
         Ok((part, _)) => part,
         Err((refusal, _)) => return Err(Fail::from(refusal)),
     };
-    let first = step_part(alloc, &mut part, command, today);
-    if first.is_ok() {
-        part.take_back();
-        if !are_seated(office, &part) {
-            return Err(Fail::new("the part taken back seats otherwise"));
+    let answer = match step_part(alloc, &mut part, command, today) {
+        Ok(first) => {
+            part.take_back();
+            if !are_seated(office, &part) {
+                return Err(Fail::new("the part taken back seats otherwise"));
+            }
+            let second = step_part(alloc, &mut part, command, today);
+            if second != Ok(first) {
+                return Err(Fail::new("the part answers otherwise the second time"));
+            }
+            second
         }
-    }
-    let answer = step_part(alloc, &mut part, command, today);
+        Err(refusal) => Err(refusal),
+    };
     let reply = step(alloc, office, command, today);
-    if first != reply || answer != reply || !are_seated(office, &part) {
+    if answer != reply || !are_seated(office, &part) {
         return Err(Fail::new("the part answers otherwise"));
     }
     Ok(reply)
