@@ -20,15 +20,15 @@ const LONGEST_SILENCE: u64 = 2;
 /// How many seconds a connection may last, so that a slow client does not block the office.
 const LONGEST_CONNECTION: u64 = 10;
 
-/// How many milliseconds a read waits once its time is over. What has arrived by then is read all the same, so a program
-/// that was stopped and continued loses no request that has arrived.
+/// How many milliseconds a read waits once its time is over. What has arrived by then is read all the same, so a
+/// program that was stopped and continued loses no request that has arrived.
 const LAST_LOOK: u64 = 1;
 
 /// The server ends after so many connections.
 const MOST_CONNECTIONS: usize = 4_294_967_295;
 
-/// A connection with a time for each read and write, and for the whole. Once the time is over, a read gives only what has
-/// arrived, and a write fails.
+/// A connection with a time for each read and write, and for the whole. Once the time is over, a read gives only what
+/// has arrived, and a write fails.
 #[derive(Drop)]
 struct Timed<'s> {
     stream: &'s TcpStream,

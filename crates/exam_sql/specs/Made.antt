@@ -13,8 +13,8 @@ abbrev pub made_schema : Bool → Schema
 made_schema true = store_schema
 made_schema false = first_schema
 
--- The name is that of a table of the schema, whatever the case of its letters. A query on the name then reads this table,
--- and no view.
+-- The name is that of a table of the schema, whatever the case of its letters. A query on the name then reads this
+-- table, and no view.
 abbrev pub is_table : Schema → List ℕ → Bool
 is_table schema name = is_some (table_named schema name)
 

@@ -111,8 +111,8 @@ fn delete_all<S: Alter>(tx: &mut Transaction<'_, S>, changes: &Changes<'_>) -> R
     delete_rows::<OpeningTable, S>(tx, changes.openings.delete.as_slice())
 }
 
-/// Makes the changes in one transaction or not at all. Takes no memory of its own, so only the database can run out of it.
-/// Refused with `Store` if a transaction is already open.
+/// Makes the changes in one transaction or not at all. Takes no memory of its own, so only the database can run out of
+/// it. Refused with `Store` if a transaction is already open.
 pub fn save_changes<S: Alter>(
     conn: &mut Connection<S>,
     changes: &Changes<'_>,

@@ -67,8 +67,8 @@ impl StoredRows for AppealTable {
     ghost ours = { appeals_ours };
 }
 
-/// Sets the row with this key. SQL finds a row whose number is equal, and takes 1.0 for equal to 1, so the number is set
-/// too.
+/// Sets the row with this key. SQL finds a row whose number is equal, and takes 1.0 for equal to 1, so the number is
+/// set too.
 fn put_appeal<'a, S: Alter>(
     tx: &mut Transaction<'_, S>,
     key: &'a (Number, Reference),
