@@ -32,7 +32,13 @@ use Rattle.exam_sql.proofs.Loads.{column_terms}
 use Rattle.exam_sql.proofs.Terms.{key_terms}
 use Rattle.exam_sql.proofs.OfAppeal as appeal
 
-query_is : command_of (understood store_schema find_appeal) ≡ Select (record { lets = []; body = one_table 13 (key_terms tables.appeal.table) (column_terms tables.appeal.table) [] }) (tables.names tables.appeal.table)
+query_is : command_of (understood store_schema find_appeal)
+    ≡ Select (record {
+      lets = [];
+      body =
+          one_table 13 (key_terms tables.appeal.table) (column_terms tables.appeal.table) [];
+    })
+    (tables.names tables.appeal.table)
 unfolding understood everything store_schema
 query_is = refl
 
