@@ -9,7 +9,6 @@ mod headers;
 mod imports;
 mod laws;
 mod records;
-mod register_parts;
 mod registers;
 mod row_of_record;
 mod sending;
@@ -29,7 +28,6 @@ pub use laws::{
     door_lists_have_a_line_for_each_occupant, exports_are_of_the_office,
     shortage_sheets_are_of_the_facts,
 };
-pub use register_parts::{register_heading, register_line};
 pub use registers::appeal_register;
 pub use sheet_fault::SheetFault;
 pub use shortages::shortage_sheet;
