@@ -1,5 +1,5 @@
 -- What passes only among the rows of a candidate is looked for among these alone.
-use Rattle.std.proofs.Common.{◌≡◌, ℕ, ◌&&◌, ◌||◌, Bool, true, false, cond, List, [], ◌∷◌, filter, Some, refl, ap, sym, ◌∙◌}
+use Rattle.std.proofs.Common.{◌≡◌, ℕ, nat_eq, ◌&&◌, ◌||◌, Bool, true, false, cond, List, [], ◌∷◌, filter, Some, refl, ap, sym, ◌∙◌}
 use Rattle.std.specs.List.{find, list_any}
 use Rattle.exam_rules.specs.declared.rows.Appeal.{Appeal}
 use Rattle.exam_rules.specs.declared.rows.Subject.{Subject}
@@ -25,10 +25,20 @@ module _ {A : Type 0} (p q : A → Bool) (only : (x : A) → q x ≡ false → p
       inner true here rest = ap (λ t. cond (p x) (Some x) t) rest
       inner false away rest = rest ∙ sym (ap (λ b. cond b (Some x) (find p xs)) (only x away))
 
+-- an open appeal for the session of the kind of this subject, whosever it is
+abbrev pub is_open_for : Code → Subject → (ℕ × Code) × Appeal → Bool
+is_open_for s asked a = same_code a.1.session s && (same_kind a.1.subject asked && is_open a.1.status)
+
 module _ (c : ℕ) (s : Code) (asked : Subject) where
-  pub open_among : (rows : List ((ℕ × Code) × Appeal)) → list_any (is_open_appeal c s asked) (filter (is_row_of c) rows) ≡ list_any (is_open_appeal c s asked) rows
-  open_among = any_among (is_open_appeal c s asked) (is_row_of c)
-      (λ a away. ap (λ b. b && (same_code a.1.session s && (same_kind a.1.subject asked && is_open a.1.status))) away)
+  -- such an appeal among the candidate's own is one of all
+  pub open_among : (rows : List ((ℕ × Code) × Appeal)) → list_any (is_open_for s asked) (filter (is_row_of c) rows) ≡ list_any (is_open_appeal c s asked) rows
+  open_among [] = refl
+  open_among (a ∷ rows) = inner (nat_eq a.0.0 c) (open_among rows)
+    where
+      inner : (b : Bool) → list_any (is_open_for s asked) (filter (is_row_of c) rows) ≡ list_any (is_open_appeal c s asked) rows
+          → list_any (is_open_for s asked) (cond b (a ∷ filter (is_row_of c) rows) (filter (is_row_of c) rows)) ≡ ((b && is_open_for s asked a) || list_any (is_open_appeal c s asked) rows)
+      inner true rest = ap (λ t. is_open_for s asked a || t) rest
+      inner false rest = rest
 
   pub earlier_among : (rows : List ((ℕ × Code) × Appeal)) → find (is_earlier c s asked) (filter (is_row_of c) rows) ≡ find (is_earlier c s asked) rows
   earlier_among = find_among (is_earlier c s asked) (is_row_of c)

@@ -6,7 +6,7 @@ use Rattle.std.specs.Cmp.Lexicographic.{texts_ties}
 use Rattle.exam_rules.specs.declared.rows.Entry.{Entry}
 use Rattle.exam_rules.specs.declared.rows.Hall.{Hall}
 use Rattle.exam_rules.specs.declared.rows.Opening.{Opening}
-use Rattle.exam_rules.specs.Relations.{Code, Relations, code_cmp, opening_cmp, has_row, is_row_of, leading, row_at, same_code}
+use Rattle.exam_rules.specs.Relations.{Code, Relations, code_cmp, opening_cmp, has_row, is_row_of, row_at, same_code}
 use Rattle.exam_rules.specs.Sessions.{has_live_entry, is_live_entry, is_member, is_paper_of}
 use Rattle.std.proofs.lemmas.List.Elements.{All-head, All-tail}
 use Rattle.exam_commands.specs.Imports.{AreOfKind, kind_of}
@@ -15,7 +15,7 @@ use Rattle.exam_commands.specs.declared.import_row.Row.{Row}
 use Rattle.exam_commands.specs.declared.import_row.Row.TheVariants as row
 use Rattle.exam_commands.specs.Touched.{has_standing_member, is_of_sessions, is_session_row, names, names_hall, names_session, row_reaches}
 use Rattle.exam_commands.proofs.ImportKeys.{code_flips}
-use Rattle.exam_judging.proofs.Writing.{then_eq}
+use Rattle.exam_rules.proofs.Writing.{then_eq}
 
 pub taken : (b x : Bool) → cond b true x ≡ (b || x)
 taken true x = refl
@@ -191,18 +191,19 @@ dated_last false false d so o n w = either_last o n w
 -- ---- the entries of a candidate
 
 module _ (r : Relations) (s : Code) (c : ℕ) where
-  own_any : (es : List ((ℕ × Code) × Entry)) → list_any (is_live_entry r s c) (filter (is_row_of c) es) ≡ list_any (is_live_entry r s c) es
-  own_any [] = refl
-  own_any (e ∷ es) = inner (nat_eq e.0.0 c) refl (own_any es)
-    where
-      inner : (b : Bool) → nat_eq e.0.0 c ≡ b → list_any (is_live_entry r s c) (filter (is_row_of c) es) ≡ list_any (is_live_entry r s c) es
-          → list_any (is_live_entry r s c) (cond b (e ∷ filter (is_row_of c) es) (filter (is_row_of c) es)) ≡ (is_live_entry r s c e || list_any (is_live_entry r s c) es)
-      inner true is rest = ap (λ t. is_live_entry r s c e || t) rest
-      inner false is rest = rest ∙ sym (ap (λ b. (b && (e.1.live && is_paper_of r s e.0.1)) || list_any (is_live_entry r s c) es) is)
+  -- an entry that counts for the session, whosever it is
+  abbrev pub is_entered : (ℕ × Code) × Entry → Bool
+  is_entered e = e.1.live && is_paper_of r s e.0.1
 
-  -- the first rows of these are all that the candidate has
-  pub own_rows : (rows : List ((ℕ × Code) × Entry)) → leading (is_row_of c) rows ≡ filter (is_row_of c) r.entries → list_any (is_live_entry r s c) (leading (is_row_of c) rows) ≡ has_live_entry r s c
-  own_rows rows is = ap (list_any (is_live_entry r s c)) is ∙ own_any r.entries
+  -- such an entry among the candidate's own is one of all
+  pub own_any : (es : List ((ℕ × Code) × Entry)) → list_any is_entered (filter (is_row_of c) es) ≡ list_any (is_live_entry r s c) es
+  own_any [] = refl
+  own_any (e ∷ es) = inner (nat_eq e.0.0 c) (own_any es)
+    where
+      inner : (b : Bool) → list_any is_entered (filter (is_row_of c) es) ≡ list_any (is_live_entry r s c) es
+          → list_any is_entered (cond b (e ∷ filter (is_row_of c) es) (filter (is_row_of c) es)) ≡ ((b && is_entered e) || list_any (is_live_entry r s c) es)
+      inner true rest = ap (λ t. is_entered e || t) rest
+      inner false rest = rest
 
 -- ---- the codes that exist
 

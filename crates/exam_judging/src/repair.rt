@@ -14,10 +14,9 @@ ghost use Rattle.exam_rules.specs.Lists.{AreListsOf};
 ghost use Rattle.exam_commands.specs.NextPlans.{AreRepaired};
 ghost use Rattle.exam_commands.specs.Repairs.{IsRepaired};
 
-use exam_commands::{Seats, stored_plan};
 use exam_plan::{Plan, Problem, keep_lawful, sweep};
-use exam_rules::{Facts, SessionLists, indexed_problem};
-use exam_types::{HallCode, Number, Refusal, SessionCode};
+use exam_rules::{Facts, Seats, SessionLists, indexed_problem, stored_plan, write_plan};
+use exam_types::{Number, Refusal, SessionCode};
 use std::alloc::Global;
 use std::collections::BTreeMap;
 
@@ -133,64 +132,4 @@ fn place_among(numbers: &[Number], number: &Number) -> Option<usize>
     ensures { result ≡ position (nat_eq number.now) numbers.now }
 {
     numbers.iter().position(|other| *number == *other)
-}
-
-/// Adds the seats of a plan by indices.
-fn write_plan(
-    session: &SessionCode,
-    numbers: &[Number],
-    halls: &[HallCode],
-    plan: &[Option<usize>],
-    seats: &mut Seats,
-) -> Result<(), Refusal>
-    requires long { length plan.now ≡ length numbers.now }
-    requires exist { All (λ place. IfSome place (λ h. h < length halls.now)) plan.now }
-    requires fresh { (c : ℕ) → plan_of seats.old.entries session.now c ≡ None }
-    ensures ok { OnOk result ((r : Relations) → ListsRise r session.now
-        → numbers.now ≡ members r session.now → halls.now ≡ open_halls r session.now
-        → SamePlan (plan_of seats.new.entries session.now) (named_plan r session.now (plan_at plan.now))) }
-    ensures others { OnOk result ((s : Code) (c : ℕ) → same_code session.now s ≡ false
-        → plan_of seats.new.entries s c ≡ plan_of seats.old.entries s c) }
-    ensures memory { IfErr result (λ e. e ≡ NoMemory) }
-{
-    for (index, number) in numbers.iter().enumerate() {
-        add_place(seats, session, *number, halls, plan[index])?;
-    }
-    Ok(())
-}
-
-/// Seats a candidate in the hall at the place, if there is one.
-fn add_place(
-    seats: &mut Seats,
-    session: &SessionCode,
-    number: Number,
-    halls: &[HallCode],
-    place: Option<usize>,
-) -> Result<(), Refusal>
-    requires { IfSome place (λ h. h < length halls.now) }
-    ensures ok { OnOk result ((s : Code) (c : ℕ) → plan_of seats.new.entries s c
-        ≡ (if same_code session.now s && nat_eq number c
-        then option_or (option_map (λ h. slice_index_or halls.now h []) place) (plan_of seats.old.entries s c)
-        else plan_of seats.old.entries s c)) }
-    ensures memory { IfErr result (λ e. e ≡ NoMemory) }
-{
-    match place {
-        Some(place) => add_seat(seats, session, number, halls[place]),
-        None => Ok(()),
-    }
-}
-
-/// Seats a candidate.
-pub fn add_seat(
-    seats: &mut Seats,
-    session: &SessionCode,
-    number: Number,
-    hall: HallCode,
-) -> Result<(), Refusal>
-    ensures ok { OnOk result ((s : Code) (c : ℕ) → plan_of seats.new.entries s c
-        ≡ (if same_code session.now s && nat_eq number c then Some hall else plan_of seats.old.entries s c)) }
-    ensures memory { IfErr result (λ e. e ≡ NoMemory) }
-{
-    seats.insert((*session, number), hall)?;
-    Ok(())
 }

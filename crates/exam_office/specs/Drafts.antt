@@ -1,6 +1,6 @@
 -- A command that is carried out on an office and may still be taken back.
 use Rattle.std.specs.Prelude.{◌≡◌, ⊤, ℕ, true, false, IsTrue, Option, None, Some, Ok}
-use Rattle.exam_rules.specs.declared.lists.SessionLists.{SessionLists}
+use Rattle.exam_rules.specs.declared.listing.SessionLists.{SessionLists}
 use Rattle.exam_rules.specs.Lists.{AreListsOf}
 use Rattle.exam_rules.specs.Relations.{Code, has_row, relations_of, row_at, seat_cmp}
 use Rattle.exam_commands.specs.declared.command.Command.{Command}

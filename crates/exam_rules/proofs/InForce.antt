@@ -13,7 +13,7 @@ use Rattle.exam_rules.specs.Sessions.{arrangement_by, arrangement_in_force, aske
 use Rattle.exam_rules.specs.Sessions.{granted_arrangement_in, has_standing_grant, head_of, is_granted}
 use Rattle.exam_rules.specs.Sessions.{is_granted_appeal, is_marked, is_standing, no_arrangement, session_day}
 use Rattle.exam_rules.specs.Sessions.{standing_grant, standing_grants, standing_grants_in}
-use Rattle.exam_rules.proofs.Together.{filter_and}
+use Rattle.exam_rules.proofs.Together.{filter_both}
 use Rattle.exam_plan.proofs.Small.{none_kept}
 
 abbrev pub Appeals : Type 0
@@ -126,10 +126,10 @@ standing_alone r c appeals = left_out (is_granted_arrangement c) (is_standing r 
 
 -- candidates with the same appeals have the same grants
 pub grants_of_own : (c : ℕ) (one other : Appeals) → filter (is_row_of c) other ≡ filter (is_row_of c) one → filter (is_granted_arrangement c) other ≡ filter (is_granted_arrangement c) one
-grants_of_own c one other same = sym (alone other) ∙ ap (filter (is_granted_arrangement c)) same ∙ alone one
+grants_of_own c one other same = sym (filter_both (is_row_of c) grants other) ∙ ap (filter grants) same ∙ filter_both (is_row_of c) grants one
   where
-    alone : (rows : Appeals) → filter (is_granted_arrangement c) (filter (is_row_of c) rows) ≡ filter (is_granted_arrangement c) rows
-    alone rows = filter_and (is_row_of c) (λ (a : (ℕ × Code) × Appeal). is_granted a.1.status && is_some (asked_arrangement a.1.subject)) rows
+    grants : (ℕ × Code) × Appeal → Bool
+    grants a = is_granted a.1.status && is_some (asked_arrangement a.1.subject)
 
 -- ---- the same grounds, the same arrangement
 

@@ -1,9 +1,9 @@
 -- One turn of a loop that appends.
-use Rattle.std.proofs.Common.{◌≡◌, ℕ, ◌+◌, ◌<◌, true, List, [], ◌∷◌, ◌++◌, length, map, filter, get_or, drop, drop-cons, append_assoc, add-one, nat_eq, Option, sym, ap, ◌∙◌}
+use Rattle.std.proofs.Common.{◌≡◌, ℕ, ◌+◌, ◌<◌, true, List, [], ◌∷◌, ◌++◌, length, map, filter, get_or, drop, drop-cons, append_assoc, add-one, Option, sym, ap, ◌∙◌}
 use Rattle.std.specs.List.{flat_map}
 use Rattle.exam_rules.specs.declared.rows.Entry.{Entry}
-use Rattle.exam_rules.specs.Relations.{Code, Relations, is_row_of, leading}
-use Rattle.exam_rules.specs.Sessions.{is_paper_of, live_papers_in, is_clash}
+use Rattle.exam_rules.specs.Relations.{Code, Relations}
+use Rattle.exam_rules.specs.Sessions.{is_paper_of, papers_among, is_clash}
 
 -- after the pieces of one more element have been appended
 pub flat_step : {A Y : Type 0} (f : A → List Y) (xs : List A) (i : ℕ) (d : A) (before after whole : List Y) → i < length xs
@@ -17,9 +17,9 @@ push_step before after rest whole y pushed so_far = rw (pushed, append_assoc) so
 
 module _ (r : Relations) (s : Code) (n : ℕ) (sat : Option Code) where
   abbrev pub clashes_left : List ((ℕ × Code) × Entry) → List (ℕ × Code)
-  clashes_left rows = map (λ p. (n, p)) (filter (is_clash sat) (live_papers_in r (leading (is_row_of n) rows) s n))
+  clashes_left rows = map (λ p. (n, p)) (filter (is_clash sat) (papers_among r s rows))
 
-  -- a row of the candidate that is a clash comes first
-  pub clash_turn : (k : ℕ × Code) (e : Entry) (rows : List ((ℕ × Code) × Entry)) → nat_eq k.0 n ≡ true → e.live ≡ true → is_paper_of r s k.1 ≡ true → is_clash sat k.1 ≡ true
+  -- a row that is a clash comes first
+  pub clash_turn : (k : ℕ × Code) (e : Entry) (rows : List ((ℕ × Code) × Entry)) → e.live ≡ true → is_paper_of r s k.1 ≡ true → is_clash sat k.1 ≡ true
       → clashes_left ((k, e) ∷ rows) ≡ (n, k.1) ∷ clashes_left rows
-  clash_turn k e rows own live of_session clash = simp (own, live, of_session, clash)
+  clash_turn k e rows live of_session clash = simp (live, of_session, clash)

@@ -7,8 +7,8 @@ use Rattle.std.specs.Map.{keys_of}
 use Rattle.std.specs.Option.{option_map, option_map_or}
 use Rattle.std.specs.Ordering.{nat_cmp, is_lt, match_ordering}
 use Rattle.exam_rules.specs.declared.rows.Entry.{Entry}
-use Rattle.exam_rules.specs.declared.lists.Entrant.{Entrant}
-use Rattle.exam_rules.specs.declared.lists.SessionLists.{SessionLists}
+use Rattle.exam_rules.specs.declared.listing.Entrant.{Entrant}
+use Rattle.exam_rules.specs.declared.listing.SessionLists.{SessionLists}
 use Rattle.exam_rules.specs.Relations.{Code, Relations, code_cmp, entry_cmp, opening_cmp, same_code}
 use Rattle.exam_rules.specs.Relations.{has_row, put_row, remove_row, row_at}
 use Rattle.exam_rules.specs.Sessions.{members, is_paper_of, least_live_paper}

@@ -1,6 +1,6 @@
 -- The facts as relations: of each table the rows with their keys, in the order of the keys, which are distinct; and the
 -- words for looking up a row and for changing one.
-use Rattle.std.specs.Prelude.{ℕ, ◌==◌, Bool, List, [], ◌∷◌, Option, is_some, nat_eq, if◌then◌else◌}
+use Rattle.std.specs.Prelude.{ℕ, ◌==◌, Bool, List, [], Option, is_some, nat_eq}
 use Rattle.std.specs.declared.cmp.Ordering.{Ordering}
 use Rattle.std.specs.Ordering.{nat_cmp, ordering_then}
 use Rattle.std.specs.Cmp.Lexicographic.{slice_cmp, pointwise}
@@ -100,8 +100,3 @@ module _ {K X : Type 0} (cmp : K → K → Ordering) where
 -- a row of the candidate, in a table whose keys begin with a number
 abbrev pub is_row_of : {B X : Type 0} → ℕ → (ℕ × B) × X → Bool
 is_row_of c e = e.0.0 == c
-
--- the rows at the beginning that pass, up to the first that does not
-abbrev pub leading : {A : Type 0} → (A → Bool) → List A → List A
-leading p [] = []
-leading p (x ∷ xs) = if p x then x ∷ leading p xs else []

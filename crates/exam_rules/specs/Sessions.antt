@@ -43,6 +43,12 @@ is_live_entry r s c e = (e.0.0 == c) && (e.1.live && is_paper_of r s e.0.1)
 abbrev pub live_papers_in : Relations → List ((ℕ × Code) × Entry) → Code → ℕ → List Code
 live_papers_in r entries s c = map (λ (e : (ℕ × Code) × Entry). e.0.1) (filter (is_live_entry r s c) entries)
 
+-- the papers of those of these entries, all of one candidate, that are live and of the session
+abbrev pub papers_among : Relations → Code → List ((ℕ × Code) × Entry) → List Code
+papers_among r s entries =
+    map (λ (e : (ℕ × Code) × Entry). e.0.1)
+    (filter (λ (e : (ℕ × Code) × Entry). e.1.live && is_paper_of r s e.0.1) entries)
+
 abbrev pub live_papers : Relations → Code → ℕ → List Code
 live_papers r s c = live_papers_in r r.entries s c
 
@@ -101,6 +107,12 @@ appeal_count r c = length (filter (is_row_of c) r.appeals)
 abbrev pub granted_subjects : List ((ℕ × Code) × Appeal) → Code → ℕ → List Subject
 granted_subjects appeals s c =
     map (λ (a : (ℕ × Code) × Appeal). a.1.subject) (filter (is_granted_appeal s c) appeals)
+
+-- what those of these appeals, all of one candidate, ask that are granted for the session
+abbrev pub subjects_among : Code → List ((ℕ × Code) × Appeal) → List Subject
+subjects_among s appeals =
+    map (λ (a : (ℕ × Code) × Appeal). a.1.subject)
+    (filter (λ (a : (ℕ × Code) × Appeal). same_code a.1.session s && is_granted a.1.status) appeals)
 
 abbrev pub granted_paper_in : List ((ℕ × Code) × Appeal) → Code → ℕ → Option Code
 granted_paper_in appeals s c = head_of (filter_map asked_paper (granted_subjects appeals s c))
@@ -177,6 +189,12 @@ standing_grant r a =
 abbrev pub standing_grants_in : Relations → List ((ℕ × Code) × Appeal) → ℕ → List StandingGrant
 standing_grants_in r appeals c =
     filter_map (λ (a : (ℕ × Code) × Appeal). standing_grant r a.1) (filter (is_standing r c) appeals)
+
+-- what the standing grants among these appeals give, all of one candidate
+abbrev pub grants_among : Relations → List ((ℕ × Code) × Appeal) → List StandingGrant
+grants_among r appeals =
+    filter_map (λ (a : (ℕ × Code) × Appeal). standing_grant r a.1)
+    (filter (λ (a : (ℕ × Code) × Appeal). is_granted a.1.status && is_marked r a.0) appeals)
 
 abbrev pub standing_grants : Relations → ℕ → List StandingGrant
 standing_grants r c = standing_grants_in r r.appeals c

@@ -2,7 +2,7 @@
 ghost use Rattle.std.specs.Prelude.{◌≡◌, ◌↔◌, [], None, Some, filter, codes, Contains, IsTrue, if◌then◌else◌};
 ghost use Rattle.std.specs.BTreeMap.Range.{entries_between};
 ghost use Rattle.std.specs.declared.ops.Bound.TheVariants.{Unbounded, Excluded};
-ghost use Rattle.exam_rules.specs.Relations.{Code, relations_of, entry_cmp, is_row_of, leading};
+ghost use Rattle.exam_rules.specs.Relations.{Code, relations_of, entry_cmp, is_row_of};
 ghost use Rattle.exam_rules.specs.Sessions as spec;
 
 use crate::appeals::{granted_arrangement, granted_paper};
@@ -11,15 +11,23 @@ use crate::rows::{Arrangement, Entry};
 use crate::standing::standing_arrangement;
 use exam_types::{Extra, Features, Number, PaperCode, SessionCode};
 use std::collections::btree_map::Range;
+use std::ops::Bound;
 
-/// The least paper code, with which a candidate's entries begin.
+/// The least paper code.
 fn least_paper() -> PaperCode
     ensures { result ≡ codes "-" }
 {
     PaperCode::parse(b"-").unwrap()
 }
 
-/// The candidate has no entry before the least key. Only the proof of `entries_from` uses it.
+/// The greatest paper code.
+fn greatest_paper() -> PaperCode
+    ensures { result ≡ codes "ZZZZZZZZZZZZ" }
+{
+    PaperCode::parse(b"ZZZZZZZZZZZZ").unwrap()
+}
+
+/// The candidate has no entry before this key. Only the proof of `entries_of` uses it.
 fn no_entry_before(facts: &Facts, number: Number, least: PaperCode)
     requires { least ≡ codes "-" }
     ensures { filter (is_row_of number)
@@ -34,17 +42,33 @@ fn no_entry_before(facts: &Facts, number: Number, least: PaperCode)
     }
 }
 
-/// The entries from the candidate's first on; those of later numbers follow.
-pub fn entries_from<'a>(facts: &'a Facts, number: Number) -> Range<'a, (Number, PaperCode), Entry>
-    // The leading rows with this number are all of the candidate's.
-    ensures rows { leading (is_row_of number) result ≡ filter (is_row_of number) facts.now.entries.entries }
-    ensures live { (s : Code)
-        → spec.live_papers_in (relations_of facts.now) (leading (is_row_of number) result) s number
+/// The candidate has no entry after this key. Only the proof of `entries_of` uses it.
+fn no_entry_after(facts: &Facts, number: Number, greatest: PaperCode)
+    requires { greatest ≡ codes "ZZZZZZZZZZZZ" }
+    ensures { filter (is_row_of number)
+        (entries_between entry_cmp (Excluded (number, greatest)) Unbounded facts.now.entries.entries) ≡ [] }
+{
+    let later = (Bound::Excluded((number, greatest)), Bound::Unbounded);
+    match facts.entries.range(later).next() {
+        Some((key, _)) => {
+            // Reading the bytes shows that no code is greater, so the row after is another candidate's.
+            let _code = key.1.as_bytes();
+        }
+        None => {}
+    }
+}
+
+/// The entries of the candidate, by paper code.
+pub fn entries_of<'a>(facts: &'a Facts, number: Number) -> Range<'a, (Number, PaperCode), Entry>
+    ensures rows { result ≡ filter (is_row_of number) facts.now.entries.entries }
+    ensures live { (s : Code) → spec.papers_among (relations_of facts.now) s result
         ≡ spec.live_papers (relations_of facts.now) s number }
 {
     let least = least_paper();
+    let greatest = greatest_paper();
     no_entry_before(facts, number, least);
-    facts.entries.range((number, least)..)
+    no_entry_after(facts, number, greatest);
+    facts.entries.range((number, least)..=(number, greatest))
 }
 
 /// Whether the paper exists and is of the session.
@@ -76,10 +100,7 @@ pub fn is_live_paper(
 pub fn least_live_paper(facts: &Facts, session: &SessionCode, number: Number) -> Option<PaperCode>
     ensures { result ≡ spec.least_live_paper (relations_of facts.now) session.now number }
 {
-    for (key, row) in entries_from(facts, number) {
-        if key.0 != number {
-            break;
-        }
+    for (key, row) in entries_of(facts, number) {
         if row.live && is_paper_of(facts, session, &key.1) {
             return Some(key.1);
         }

@@ -1,5 +1,4 @@
-use Rattle.std.proofs.Common.{◌≡◌, ◌++◌, true, nat_eq, ap, sym, ◌∙◌, arith, rules}
-use Rattle.std.proofs.lemmas.Bool.Decides.{nat_tests}
+use Rattle.std.proofs.Common.{◌≡◌, ◌++◌, true, ap, sym, ◌∙◌, rules}
 use Rattle.exam_rules.specs.Relations.{relations_of}
 use Rattle.exam_rules.specs.Sessions.{is_paper_of, is_clash}
 use Rattle.exam_rules.proofs.Turns.{clashes_left, clash_turn, push_step}
@@ -7,7 +6,6 @@ use Rattle.exam_rules.proofs.clashing.push_clashes.Goals as goal
 
 pub loop-key-preserved-then-is_clash : goal.loop-key-preserved-then-is_clash
 loop-key-preserved-then-is_clash c =
-    let own : nat_eq c.in-Some.key.now.0 c.args.number ≡ true = grind (arith, nat_tests) in
     let of_session : is_paper_of (relations_of c.args.facts.now) c.args.session.now c.in-Some.key.now.1 ≡ true = search rules in
     let clash : is_clash c.sitting_by_entries-sat.result c.in-Some.key.now.1 ≡ true = search rules in (
       tt,
@@ -18,7 +16,7 @@ loop-key-preserved-then-is_clash c =
           c.in_ok-push.ensures.items
           (ap (λ t. c.loop-key.list.items ++ t)
           (sym (clash_turn (relations_of c.args.facts.now) c.args.session.now c.args.number
-          c.sitting_by_entries-sat.result c.in-Some.key.now c.in-Some.entry.now c.next.new.self own c.if-entry.true
+          c.sitting_by_entries-sat.result c.in-Some.key.now c.in-Some.entry.now c.next.new.self c.if-entry.true
           of_session clash))
           ∙ ap (λ rows. c.loop-key.list.items ++ clashes_left (relations_of c.args.facts.now) c.args.session.now c.args.number c.sitting_by_entries-sat.result rows) (sym c.in-Some.ensures.steps)
           ∙ c.loop-key.invariant.2),
