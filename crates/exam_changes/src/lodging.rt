@@ -13,7 +13,10 @@ use crate::rows::put;
 use crate::undo::Undo;
 use crate::unknown::check_candidate;
 use exam_commands::{Lodging, has_open_appeal, is_same_subject, notice_days};
-use exam_rules::{Appeal, Arrangement, Facts, Seats, Session, Status, Subject, arrangement_in_force, entries_of, is_clash, is_live_paper, is_member, is_paper_of, sitting_by_entries};
+use exam_rules::{
+    Appeal, Arrangement, Facts, Seats, Session, Status, Subject, arrangement_in_force, entries_of,
+    is_clash, is_live_paper, is_member, is_paper_of, sitting_by_entries,
+};
 use exam_types::{Day, HallCode, Number, PaperCode, Refusal, SessionCode};
 
 /// Stores the appeal, open and lodged on the day, unless an equal one is stored under its reference. Returns how to

@@ -1,15 +1,14 @@
 //! The repair of the plans after a change of the facts.
-ghost use Rattle.std.specs.Prelude.{◌≡◌, ◌<◌, ◌≤◌, ◌&&◌, nat_eq, position, All, slice_index_or, [], if◌then◌else◌, Some, ℕ, false, length, IsTrue, None, IfOk, IfErr, OnOk, IfSome};
-ghost use Rattle.std.specs.Option.{option_map, option_and_then, option_or};
+ghost use Rattle.std.specs.Prelude.{◌≡◌, ◌<◌, ◌≤◌, nat_eq, position, ℕ, false, length, IsTrue, None, IfOk, IfErr, OnOk, IfSome};
+ghost use Rattle.std.specs.Option.{option_and_then};
 ghost use Rattle.exam_types.specs.declared.refusal.Refusal.TheVariants.{NoMemory};
-ghost use Rattle.exam_plan.specs.Matching.{SamePlan, IsBest};
+ghost use Rattle.exam_plan.specs.Matching.{IsBest};
 ghost use Rattle.exam_plan.specs.HallSets.{most_halls};
 ghost use Rattle.exam_plan.specs.Problems.{IsPlan, most_members, seating_of, plan_at};
 ghost use Rattle.exam_plan.specs.Repair.{IsRepair};
-ghost use Rattle.exam_rules.specs.Relations.{Code, Relations, relations_of, code_cmp, has_row, same_code};
+ghost use Rattle.exam_rules.specs.Relations.{Code, relations_of, code_cmp, has_row, same_code};
 ghost use Rattle.exam_rules.specs.Sessions.{members};
 ghost use Rattle.exam_rules.specs.Seatings.{open_halls, plan_of};
-ghost use Rattle.exam_rules.specs.Names.{ListsRise, named_plan};
 ghost use Rattle.exam_rules.specs.Lists.{AreListsOf};
 ghost use Rattle.exam_commands.specs.NextPlans.{AreRepaired};
 ghost use Rattle.exam_commands.specs.Repairs.{IsRepaired};

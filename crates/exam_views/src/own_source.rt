@@ -18,7 +18,11 @@ ghost use Rattle.exam_commands.specs.Own as spec;
 ghost use Rattle.exam_views.specs.Desks.{rows_without_desks, session_without_desk};
 
 use exam_commands::{Own, OwnAppeal, OwnSession};
-use exam_rules::{Appeal, BySession, Candidate, DeskKey, Entrant, Facts, Seats, Session, SessionLists, appeals_of, append_by_session, arrangement_in_force, comes_before, desk_key_among, entered_session, entries_of, finish_beside, sitting_beside};
+use exam_rules::{
+    Appeal, BySession, Candidate, DeskKey, Entrant, Facts, Seats, Session, SessionLists,
+    appeals_of, append_by_session, arrangement_in_force, comes_before, desk_key_among,
+    entered_session, entries_of, finish_beside, sitting_beside,
+};
 use exam_types::{HallCode, Number, PaperCode, Reference, Refusal, SessionCode};
 use std::alloc::Global;
 use std::collections::BTreeMap;
