@@ -1,43 +1,38 @@
 -- No table is bad exactly where the tables of the newest version hold a good office.
-use Rattle.std.proofs.Common.{◌≡◌, ◌≢◌, ◌⊎◌, List, [], ◌∷◌, Option, None, Some, Result, Ok, Err, Bool, true, false, inl, inr, refl, sym, subst, ◌∙◌}
+use Rattle.std.proofs.Common.{◌≡◌, ◌≢◌, ◌⊎◌, List, [], ◌∷◌, Option, None, Some, Result, Ok, Err, Bool, true, false, IsTrue, inl, inr, refl, sym, subst, ◌∙◌}
 use Rattle.std.specs.Prelude.{option_map}
 use Rattle.std.specs.Cmp.Derive.{both_true}
 use Rattle.std.specs.List.{AllByRecursion}
 use Rattle.std.specs.List.Sorted.{IsPermutation}
-use Rattle.std.proofs.lemmas.Bool.{and_parts}
+use Rattle.std.proofs.lemmas.Bool.{and_parts, both_ways}
 use Rattle.std.proofs.lemmas.List.Sorted.{IsPermutation-sym, IsPermutation-trans}
-use Rattle.sqlite_tied.specs.Compute.{everything}
 use Rattle.sqlite_trees.specs.declared.store.Store.{Ghosts}
 use Rattle.sqlite_trees.specs.Tree.{Trees}
-use Rattle.sqlite_resolve.specs.declared.compiled.Compiled.{Compiled}
-use Rattle.sqlite_resolve.specs.declared.error.CompileError.{CompileError}
 use Rattle.sqlite_resolve.specs.declared.error.CompileError.TheVariants.{NoSuchTable, NoSuchColumn}
 use Rattle.sqlite.specs.declared.error.Error.{Error}
 use Rattle.sqlite.specs.declared.error.Error.TheVariants.{SqliteFailure, SqlInputError}
 use Rattle.sqlite.specs.declared.error.ErrorCode.TheVariants.{OutOfMemory}
 use Rattle.sqlite.specs.Effect.{Database}
 use Rattle.sqlite.specs.Held.{Held, state}
-use Rattle.sqlite.specs.Listing.{understood, listing_schema}
 use Rattle.sqlite.specs.State.{HasCleanDisk}
 use Rattle.exam_types.specs.declared.refusal.Refusal.{Refusal}
 use Rattle.exam_types.specs.declared.refusal.Refusal.TheVariants.{NoMemory, Store, BadStore}
 use Rattle.exam_commands.specs.Good.{IsGood, IsTableGood, tables}
 use Rattle.exam_commands.specs.State.{State}
 use Rattle.exam_commands.specs.declared.table.Table.{Table as OfficeTable}
-use Rattle.exam_sql.specs.Content.{ContainsIn}
-use Rattle.exam_sql.specs.Made.{ContainsMade, made_schema}
-use Rattle.exam_sql.specs.Tables.{first_schema, store_schema}
-use Rattle.exam_sql.specs.Texts.{load_standing}
+use Rattle.exam_sql.specs.Made.{ContainsMade, lists_newest}
+use Rattle.exam_sql.specs.Tables.{store_schema}
+use Rattle.exam_sql.proofs.Listed.{marks_newest, newest_listed, tables_listed}
 use Rattle.exam_tables.specs.Faults.{refusal_of}
 use Rattle.exam_tables.specs.Inside.{Contains}
-use Rattle.exam_tables.specs.Loaded.{IsUnderstood}
 use Rattle.exam_tables.specs.Versions.{HasVersion, version, version_row}
 use Rattle.exam_tables.proofs.Versioned.{version_held}
 use Rattle.exam_store.specs.Found.{Finds, FailsToOpen, HoldsGood}
 use Rattle.exam_store.specs.Refused.{HoldsFormed, HoldsNone, IsGoodIn}
-use Rattle.exam_store.proofs.Marking.{no_older, of_newest, one_version}
+use Rattle.exam_store.proofs.Marking.{is_of, listed_of, made_of, no_older, of_newest, one_version}
 use Rattle.exam_store.proofs.Unique.{one_office}
 use Rattle.exam_check.specs.FirstBad.{HasGoodVersion, HoldsTableOf, IsFirstBadIn, IsFirstBadTable, table_of}
+use Rattle.exam_check.specs.declared.tables.Table.{Table}
 use Rattle.exam_check.specs.declared.tables.Table.TheVariants as table
 
 -- ---- none of these tables is bad
@@ -153,26 +148,6 @@ named (SqlInputError NoSuchTable) = inl refl
 named (SqlInputError NoSuchColumn) = inl refl
 named _ = inr (inr refl)
 
--- in version 1 the text that loads the marks is not understood
-first_unknown : understood first_schema load_standing ≡ Err NoSuchTable
-unfolding understood everything first_schema listing_schema
-first_unknown = refl
-
-err_is_ok : (r : Result Compiled CompileError) (c : Compiled) → r ≡ Err NoSuchTable → r ≡ Ok c → ⊥
-err_is_ok (Ok d) c none is = absurd cc
-err_is_ok (Err e) c none is = absurd cc
-
-first_understood : (c : Compiled) → understood first_schema load_standing ≡ Ok c → ⊥
-first_understood c is = err_is_ok (understood first_schema load_standing) c first_unknown is
-
--- where it is, the tables are those of the newest version
-pub newest_tables : (db : Database) (all : Trees) → IsUnderstood db load_standing → ContainsMade db all → Contains db all
-newest_tables db all (c, known) was = inner was.has_marks was.contains
-  where
-    inner : (has_marks : Bool) → ContainsIn (made_schema has_marks) db all → Contains db all
-    inner true contains = contains
-    inner false contains = absurd (first_understood c (subst (λ s. understood s load_standing ≡ Ok c) contains.schema_is known))
-
 -- two lists of rows of the table `office`, both as it has them
 version_of_all : (db : Database) (one other : Trees) → Contains db one → Contains db other → HasVersion version one → HasVersion version other
 unfolding store_schema
@@ -180,13 +155,15 @@ version_of_all db one other a b has =
     let same : IsPermutation (other 0) (one 0) = IsPermutation-trans _ _ _ (IsPermutation-sym _ _ b.rows.0.same) a.rows.0.same in
     version_held version (other 0) (version_row version ∷ []) (subst (IsPermutation (other 0)) has same) refl
 
-module _ {S : Type 0} (g : Ghosts S) (old new : Held S) (all : Trees) (was : ContainsMade (state g old).now all) where
+module _ {S : Type 0} (g : Ghosts S) (old new : Held S) (all : Trees) where
   -- what is opened has no bad table
-  pub accepted : (o : State) → HasCleanDisk (state g new) → Finds (state g old) (state g new) o → IsGood o → IsFirstBadTable (state g old).now all None
-  accepted o clean finds good =
+  pub accepted : (IsTrue (lists_newest (state g old).now.schema) → ContainsMade (state g old).now all) → (o : State)
+      → HasCleanDisk (state g new) → Finds (state g old) (state g new) o → IsGood o
+      → IsFirstBadTable (state g old).now all None
+  accepted was o clean finds good =
       let db = (state g old).now in
-      let known = (finds.understood clean).1.1.1.1.1.1.1.1.1.1.0 in
-      let contains = newest_tables db all known was in
+      let listed = finds.listed clean in
+      let contains = (is_of version db all (marks_newest db.schema listed) (was listed)).0 in
       let kept = finds.kept clean (all, contains) in
       none_found db all (of_newest db all contains, version_of_all db kept.all all kept.contains contains kept.version, o, finds.formed clean all contains, (good, refl))
 
@@ -201,6 +178,9 @@ module _ {S : Type 0} (g : Ghosts S) (old new : Held S) (all : Trees) (was : Con
   refused e (inl (inl lacks)) some sound none = some lacks
   refused e (inl (inr (inl (mid, still, text, loads, fails)))) some sound none = told fails.0.0 fails.0.1
     where
+      was : ContainsMade (state g old).now all
+      was = made_of version (state g old).now all (holds_good (state g old).now all none).0
+
       told : (error : Error) → e ≡ refusal_of error → ⊥
       told error is = elim (named error) [
         | inl bad ↦ fails.1 (all, subst (λ (db : Database). ContainsMade db all) (sym still.now) was) (is ∙ bad)
@@ -212,5 +192,17 @@ module _ {S : Type 0} (g : Ghosts S) (old new : Held S) (all : Trees) (was : Con
       none_held e (none all good.0) good
   refused e (inr (is, old_one)) some sound first =
       let good = holds_good (state g old).now all first in
-      let before = old_one all was in
+      let before = old_one all (made_of version (state g old).now all good.0) in
       absurd (no_older before.0 before.1 (one_version before.0 version all before.2 good.1))
+
+  -- where one of the names is that of no table, nothing is opened, and the tables are not those of the newest version
+  module _ (none : lists_newest (state g old).now.schema ≡ false) where
+    pub not_opened : (o : State) → HasCleanDisk (state g new) → Finds (state g old) (state g new) o → ⊥
+    not_opened o clean finds = both_ways _ none (finds.listed clean)
+
+    pub office_bad : (found : Option Table) → IsFirstBadTable (state g old).now all found → found ≡ Some table.Office
+    office_bad found (inl (wrong, is)) = is
+    office_bad found (inr (good, o, bad, judged, is)) =
+        let db = (state g old).now in
+        let listed = newest_listed db.schema (tables_listed db all (made_of version db all good.0)) (listed_of version db all good.0) in
+        absurd (both_ways _ none listed)

@@ -1,5 +1,6 @@
 -- Calls that only read, one after the other.
-use Rattle.std.proofs.Common.{◌≡◌, ◌⊎◌, ℕ, List, [], inl, inr, Option, Result, Ok, Err, IfOk, IfErr, IsTrue, refl, sym, subst, ◌∙◌}
+use Rattle.std.proofs.Common.{◌≡◌, ◌⊎◌, ℕ, false, List, [], inl, inr, Option, Result, Ok, Err, IfOk, IfErr, IsTrue, refl, sym, ap, subst, ◌∙◌}
+use Rattle.std.proofs.lemmas.Bool.{both_ways}
 use Rattle.std.proofs.lemmas.Result.{IfErr-weaker}
 use Rattle.std.specs.BTreeMap.{BTreeMap}
 use Rattle.std.specs.List as lists
@@ -12,7 +13,7 @@ use Rattle.sqlite.specs.State.{HasCleanDisk, IsUnchanged, Survives}
 use Rattle.sqlite.proofs.Callers.{unchanged_then}
 use Rattle.exam_types.specs.declared.refusal.Refusal.{Refusal}
 use Rattle.exam_types.specs.declared.refusal.Refusal.TheVariants.{NoMemory, Store, BadStore, OldSchema}
-use Rattle.exam_sql.specs.Made.{ContainsMade}
+use Rattle.exam_sql.specs.Made.{ContainsMade, lists_marks}
 use Rattle.exam_sql.specs.Texts.{load_office, load_texts}
 use Rattle.exam_tables.specs.Faults.{is_store_refusal}
 use Rattle.exam_tables.specs.Forms.{Form, IsOurTable}
@@ -21,7 +22,7 @@ use Rattle.exam_tables.specs.Scanned.{Scans}
 use Rattle.exam_tables.specs.Versions.{HasVersion, IsOlder, IsVersion, version}
 use Rattle.exam_tables.proofs.Leaving.{bad_unchanged, both_survive, reads_only, still_itself, still_then, then_reads}
 use Rattle.exam_tables.specs.OurTables.{office_loads}
-use Rattle.exam_store.proofs.Marking.{made_of, opens_as}
+use Rattle.exam_store.proofs.Marking.{listed_of, made_of, opens_as}
 use Rattle.exam_check.specs.FirstBad.{HasGoodVersion}
 use Rattle.exam_check.specs.Reading.{IsRead, Looks, read_part}
 use Rattle.exam_check.specs.Refused.{FailsToCheck}
@@ -170,5 +171,19 @@ module _ {S : Type 0} (g : Ghosts S) (old new : Held S) where
     left = λ clean. inl (left clean);
     bad = λ clean bad. let same : OldSchema ≡ BadStore = bad in absurd cc;
     refused = λ clean. inr (inr (inr (refl, first clean)));
+    told = refl;
+  }
+
+  -- no table has the name of the marks, as one has since version 2
+  pub looks_unmarked : {A : Type 0} → (HasCleanDisk (state g new) → HasCleanDisk (state g old))
+      → Survives (state g old) (state g new) (λ _. ⊥)
+      → (HasCleanDisk (state g new) → IsUnchanged (state g old) (state g new))
+      → lists_marks (state g new).now.schema ≡ false → Looks {A = A} g old new (Err BadStore)
+  looks_unmarked early survives left none = record {
+    early = early;
+    survives = survives;
+    left = λ clean. inl (left clean);
+    bad = λ clean bad. (left clean, λ all good. both_ways _ none (ap (λ (db : Database). lists_marks db.schema) (left clean).0.now_is ∙ listed_of version (state g old).now all good.0));
+    refused = λ clean. inl refl;
     told = refl;
   }

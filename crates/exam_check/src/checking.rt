@@ -1,12 +1,13 @@
 //! The first bad table of a database.
-ghost use Rattle.std.specs.Prelude.{◌≡◌, ◌⊎◌, IsTrue, IfOk, IfErr, OnOk};
+ghost use Rattle.std.specs.Prelude.{◌≡◌, ◌⊎◌, false, IsTrue, IfOk, IfErr, MatchResult, OnOk};
 ghost use Rattle.sqlite.specs.Held.{state};
 ghost use Rattle.sqlite.specs.State.{HasCleanDisk, Survives};
 ghost use Rattle.exam_commands.specs.Good.{tables};
 ghost use Rattle.exam_commands.specs.State.{State};
-ghost use Rattle.exam_sql.specs.Made.{ContainsMade};
+ghost use Rattle.exam_sql.specs.Made.{ContainsMade, lists_newest, lists_tables};
 ghost use Rattle.exam_sql.specs.Texts.{load_texts};
 ghost use Rattle.exam_tables.specs.Loaded.{AreUnderstood, OnlyReads};
+ghost use Rattle.exam_tables.specs.Unasked.{FailsToAsk, IsUnasked};
 ghost use Rattle.exam_check.specs.FirstBad.{HasGoodVersion, IsFirstBadIn, IsFirstBadTable};
 ghost use Rattle.exam_check.specs.Reading.{Looks};
 ghost use Rattle.exam_check.specs.Refused.{FailsToCheck, is_check_refusal};
@@ -14,7 +15,7 @@ ghost use Rattle.exam_check.specs.Refused.{FailsToCheck, is_check_refusal};
 use crate::reading::read_tables;
 use crate::tables::{Table, first_of, table_of};
 use exam_office::{Table as OfficeTable, first_bad_table};
-use exam_tables::{NEWEST, version_of};
+use exam_tables::{NEWEST, has_marks, version_of};
 use exam_types::Refusal;
 use sqlite::{Alter, Connection};
 use std::alloc::Global;
@@ -27,6 +28,12 @@ pub fn check<S: Alter>(alloc: Global, conn: &mut Connection<S>) -> Result<Option
         → IsFirstBadTable (state S.Store conn.old).now all found) }
     ensures understood { HasCleanDisk (state S.Store conn.new) → IfOk result (λ found.
         (found ≡ Some Table.Office) ⊎ AreUnderstood (state S.Store conn.old).now load_texts) }
+    ensures listed { HasCleanDisk (state S.Store conn.new) → IfOk result (λ found.
+        (found ≡ Some Table.Office) ⊎ IsTrue (lists_newest (state S.Store conn.old).now.schema)) }
+    ensures unlisted { HasCleanDisk (state S.Store conn.new)
+        → lists_tables (state S.Store conn.old).now.schema ≡ false
+        → MatchResult result (λ found. found ≡ Some Table.Office)
+        (FailsToAsk (state S.Store conn.old) (state S.Store conn.new)) }
     ensures left { HasCleanDisk (state S.Store conn.new)
         → OnlyReads (state S.Store conn.old) (state S.Store conn.new) result }
     ensures survives { Survives (state S.Store conn.old) (state S.Store conn.new) (λ _. ⊥) }
@@ -43,7 +50,7 @@ pub fn check<S: Alter>(alloc: Global, conn: &mut Connection<S>) -> Result<Option
 }
 
 /// The first bad table of an office of the newest version. Refused with `BadStore` if a table, a column or the version
-/// is missing.
+/// is missing; a view is no table.
 fn first_bad<S: Alter>(
     alloc: Global,
     conn: &mut Connection<S>,
@@ -54,10 +61,18 @@ fn first_bad<S: Alter>(
         → HasGoodVersion (state S.Store conn.old).now all × (o : State) × IsFirstBadIn all o tables bad) }
     ensures understood { HasCleanDisk (state S.Store conn.new)
         → OnOk result (AreUnderstood (state S.Store conn.old).now load_texts) }
+    ensures listed { HasCleanDisk (state S.Store conn.new)
+        → OnOk result (IsTrue (lists_newest (state S.Store conn.old).now.schema)) }
+    ensures unlisted { HasCleanDisk (state S.Store conn.new)
+        → lists_tables (state S.Store conn.old).now.schema ≡ false
+        → IfErr result (IsUnasked (state S.Store conn.old) (state S.Store conn.new)) }
 {
     let version = version_of(conn)?;
     if version.number != NEWEST.number {
         return Err(Refusal::OldSchema);
+    }
+    if !has_marks(conn) {
+        return Err(Refusal::BadStore);
     }
     let read = read_tables(alloc, conn)?;
     let bad = first_bad_table(alloc, &read.facts, &read.seats)?;

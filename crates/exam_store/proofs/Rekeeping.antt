@@ -1,5 +1,5 @@
 -- The database that kept the old office keeps the new one.
-use Rattle.std.proofs.Common.{◌≡◌, [], length, Ok, Err, Result, OnOk, IfOk, refl, sym, ap, subst, ◌∙◌}
+use Rattle.std.proofs.Common.{◌≡◌, [], true, length, Ok, Err, Result, OnOk, IfOk, refl, sym, ap, subst, ◌∙◌}
 use Rattle.std.proofs.lemmas.List.Sorted.{IsPermutation-refl}
 use Rattle.sqlite_trees.specs.Tree.{Trees}
 use Rattle.sqlite.specs.Effect.{Database}
@@ -18,7 +18,8 @@ use Rattle.exam_store.specs.Refused.{HoldsFormed}
 use Rattle.exam_tables.specs.Loaded.{AreUnderstood, IsUnderstood, OnlyReads}
 use Rattle.exam_tables.proofs.Leaving.{both_survive}
 use Rattle.exam_store.proofs.Marking.{made_of, of_newest, one_version, still_made}
-use Rattle.exam_sql.specs.Made.{ContainsMade}
+use Rattle.exam_sql.specs.Made.{ContainsMade, lists_marks, lists_tables}
+use Rattle.exam_sql.proofs.Listed.{newest_listed}
 use Rattle.sqlite.proofs.Callers.{unchanged_then}
 use Rattle.exam_sql.specs.Texts.{load_office}
 use Rattle.exam_tables.proofs.Holding.{held_facts}
@@ -98,12 +99,15 @@ held_office all office formed = record { facts = held_facts all office.relations
 pub loaded : (old mid new : Shown) (result : Result State Refusal) → (HasCleanDisk new → HasCleanDisk mid)
     → (HasCleanDisk mid → (all : Trees) → ContainsMade old.now all → HasVersion version all)
     → (HasCleanDisk mid → IsUnchanged old mid)
-    → (HasCleanDisk mid → IsUnderstood old.now load_office)
+    → (HasCleanDisk mid → IsUnderstood old.now load_office) → lists_tables old.now.schema ≡ true
+    → (HasCleanDisk new → OnOk result (lists_marks mid.now.schema ≡ true))
     → (HasCleanDisk new → IfOk result
     (λ office. (all : Trees) → ContainsMade mid.now all → HoldsFormed all office × IsUnchanged mid new))
     → (HasCleanDisk new → OnOk result (AreUnderstood mid.now (version_texts version)))
     → (HasCleanDisk new → OnlyReads mid new result) → Survives old mid (λ _. ⊥) → Survives mid new (λ _. ⊥) → IfOk result (Finds old new)
-loaded old mid new (Ok office) before held same known rows understood left first next = record {
+loaded old mid new (Ok office) before held same known listed marks rows understood left first next = record {
+  listed = λ clean. newest_listed old.now.schema listed
+      (ap (λ (db : Database). lists_marks db.schema) (sym (same (before clean)).0.now_is) ∙ marks clean);
   understood = λ clean. (known (before clean), subst (λ (db : Database). AreUnderstood db (version_texts version)) (same (before clean)).0.now_is (understood clean));
   formed = λ clean all was. (rows clean all (still_made old mid all (same (before clean)) (made_of version old.now all (of_newest old.now all was)))).0;
   newest = λ clean v known all was has. one_version v version all has (held (before clean) all was);
@@ -118,7 +122,7 @@ loaded old mid new (Ok office) before held same known rows understood left first
       };
   survives = both_survive old mid new first next;
 }
-loaded old mid new (Err e) before held same known rows understood left first next = tt
+loaded old mid new (Err e) before held same known listed marks rows understood left first next = tt
 
 -- what opening found is kept by what is seen after it
 pub finds_kept : (old new : Shown) (result : Result State Refusal) → IfOk result (Finds old new) → IfOk result (KeepsOurs new)

@@ -8,7 +8,7 @@ use Rattle.sqlite.specs.Held.{Held, state}
 use Rattle.exam_types.specs.declared.refusal.Refusal.{Refusal}
 use Rattle.exam_types.specs.declared.refusal.Refusal.TheVariants.{Store, OldSchema}
 use Rattle.exam_commands.specs.State.{State as Office, empty_state}
-use Rattle.exam_sql.specs.Made.{ContainsMade}
+use Rattle.exam_sql.specs.Made.{ContainsMade, lists_newest}
 use Rattle.exam_sql.specs.Texts.{held_texts, load_office, load_standing, load_texts}
 use Rattle.exam_tables.specs.Inside.{Contains, IsOurs}
 use Rattle.exam_store.specs.Kept.{Keeps}
@@ -21,9 +21,10 @@ use Rattle.exam_store.specs.Refused.{HoldsFormed, HoldsNone, IsGoodIn}
 abbrev pub IsNoOlder : Database → Type 0
 IsNoOlder db = (v : ℕ) → IsVersion v → (all : Trees) → ContainsMade db all → HasVersion v all → v ≡ version
 
--- No table or column is missing. If the tables are ours, they keep the office, whose values have the forms of their
--- columns. The office is of no older version. Nothing changes, even over a crash.
+-- Each of the eleven names is that of a table, and no column is missing. If the tables are ours, they keep the office,
+-- whose values have the forms of their columns. The office is of no older version. Nothing changes, even over a crash.
 pub record Finds (old new : State) (office : Office) : Type 0 where
+  pub listed : HasCleanDisk new → IsTrue (lists_newest old.now.schema)
   pub understood : HasCleanDisk new → AreUnderstood old.now load_texts
   pub kept : HasCleanDisk new → IsOurs old.now → Keeps old.now office
   pub formed : HasCleanDisk new → (all : Trees) → Contains old.now all → HoldsFormed all office

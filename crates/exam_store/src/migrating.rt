@@ -1,15 +1,16 @@
 //! Bringing an office of an older version to the newest.
-ghost use Rattle.std.specs.Prelude.{◌≡◌, ◌∷◌, IsTrue, IfOk, IfErr};
+ghost use Rattle.std.specs.Prelude.{◌≡◌, ◌∷◌, false, IsTrue, IfOk, IfErr, OnOk};
 ghost use Rattle.sqlite.specs.Held.{state};
 ghost use Rattle.sqlite.specs.State.{HasCleanDisk, IsUnchanged, Survives};
 ghost use Rattle.exam_tables.specs.Faults.{is_store_refusal};
 ghost use Rattle.exam_tables.specs.Loaded.{AreUnderstood, FailsThen, IsLoadRefusal, OnlyReads};
 ghost use Rattle.exam_tables.specs.Transactions.{Commits};
+ghost use Rattle.exam_tables.specs.Unasked.{IsUnasked};
 ghost use Rattle.exam_tables.specs.Versions.{ContainsOf, IsKnown, IsVersion, version};
 ghost use Rattle.exam_store.specs.Found.{FailsToMigrate, HoldsGood, version_texts};
 ghost use Rattle.exam_store.specs.Kept.{Migrates};
 ghost use Rattle.exam_store.specs.Refused.{HoldsNone};
-ghost use Rattle.exam_sql.specs.Made.{ContainsMade};
+ghost use Rattle.exam_sql.specs.Made.{ContainsMade, lists_tables};
 ghost use Rattle.exam_sql.specs.Texts.{load_office as office_text};
 
 use crate::loading::load_version;
@@ -34,6 +35,11 @@ pub fn migrate<S: Alter>(alloc: Global, conn: &mut Connection<S>) -> Result<(u8,
         × Survives (state S.Store conn.old) (state S.Store conn.new) (λ _. ⊥)) }
     ensures refusal { HasCleanDisk (state S.Store conn.new)
         → IfErr result (FailsToMigrate S.Store conn.old conn.new) }
+    ensures listed { HasCleanDisk (state S.Store conn.new)
+        → OnOk result (IsTrue (lists_tables (state S.Store conn.old).now.schema)) }
+    ensures unlisted { HasCleanDisk (state S.Store conn.new) → conn.old.in_transaction ≡ false
+        → lists_tables (state S.Store conn.old).now.schema ≡ false
+        → IfErr result (IsUnasked (state S.Store conn.old) (state S.Store conn.new)) }
     ensures told { IfErr result (λ e. IsTrue (is_store_refusal e)) }
 {
     if !conn.is_autocommit() {
@@ -58,6 +64,10 @@ fn judged_version<S: Alter>(alloc: Global, conn: &mut Connection<S>) -> Result<V
     ensures bad { HasCleanDisk (state S.Store conn.new) → IfErr result (IsLoadRefusal
         (FailsThen S.Store conn.old conn.new) ((v : _) → IsVersion v → (all : _)
         → ContainsOf v (state S.Store conn.old).now all → HoldsNone v all)) }
+    ensures listed { OnOk result (IsTrue (lists_tables (state S.Store conn.old).now.schema)) }
+    ensures unlisted { HasCleanDisk (state S.Store conn.new)
+        → lists_tables (state S.Store conn.old).now.schema ≡ false
+        → IfErr result (IsUnasked (state S.Store conn.old) (state S.Store conn.new)) }
     ensures left { HasCleanDisk (state S.Store conn.new)
         → OnlyReads (state S.Store conn.old) (state S.Store conn.new) result }
     ensures survives { Survives (state S.Store conn.old) (state S.Store conn.new) (λ _. ⊥) }

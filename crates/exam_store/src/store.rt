@@ -16,6 +16,7 @@ ghost use Rattle.exam_commands.specs.State.{empty_state};
 ghost use Rattle.exam_views.specs.Desks.{rows_without_desks};
 ghost use Rattle.exam_views.specs.Sources.{Gives, is_source_refusal};
 ghost use Rattle.exam_views.specs.Views.{IsViewOf, appeals_of};
+ghost use Rattle.exam_sql.specs.Made.{lists_tables};
 ghost use Rattle.exam_store.specs.Applied.{MayApply, FailsToApply, TurnsBy, Applies, AreApplied};
 ghost use Rattle.exam_tables.specs.Faults.{is_store_refusal};
 ghost use Rattle.exam_store.specs.Found.{FailsToOpen, Finds, MakesEmpty, is_open_refusal};
@@ -26,6 +27,7 @@ ghost use Rattle.exam_store.specs.contracts.store.Store.{the_row};
 ghost use Rattle.exam_store.specs.Kept.{IsKept, KeepsOurs, Rekeeps};
 ghost use Rattle.exam_store.specs.OnlyRead.{OnlyIsRead};
 ghost use Rattle.exam_tables.specs.Loaded.{IsLeft, OnlyReads};
+ghost use Rattle.exam_tables.specs.Unasked.{IsUnasked};
 ghost use Rattle.exam_tables.specs.Versions.{FailsToCreate, IsBlank};
 
 use crate::appeal_rows::{AppealRows, read_appeal};
@@ -109,6 +111,9 @@ impl<S: Alter> Store<S> {
         ensures refusal { IfErr result (λ e. HasCleanDisk (state S.Store e.1)
             → (IsBlank (state S.Store conn).now → ⊥) → ((e.0 ≡ Refusal.Store) × IsTrue e.1.in_transaction)
             ⊎ FailsToOpen S.Store conn e.1 e.0) }
+        ensures unlisted { IfErr result (λ e. HasCleanDisk (state S.Store e.1)
+            → (IsBlank (state S.Store conn).now → ⊥) → lists_tables (state S.Store conn).now.schema ≡ false
+            → IsUnasked (state S.Store conn) (state S.Store e.1) e.0) }
         ensures same { IfErr result (λ e. HasCleanDisk (state S.Store e.1)
             → (IsBlank (state S.Store conn).now → ⊥) → IsLeft (state S.Store conn) (state S.Store e.1)) }
         ensures survives { IfErr result (λ e. (IsBlank (state S.Store conn).now → ⊥)
@@ -135,6 +140,9 @@ impl<S: Alter> Store<S> {
         ensures refusal { IfErr result (λ e. HasCleanDisk (state S.Store e.1)
             → ((e.0 ≡ Refusal.Store) × IsTrue e.1.in_transaction)
             ⊎ FailsToOpen S.Store conn e.1 e.0) }
+        ensures unlisted { IfErr result (λ e. HasCleanDisk (state S.Store e.1)
+            → lists_tables (state S.Store conn).now.schema ≡ false
+            → IsUnasked (state S.Store conn) (state S.Store e.1) e.0) }
         ensures same { IfErr result (λ e. HasCleanDisk (state S.Store e.1)
             → IsLeft (state S.Store conn) (state S.Store e.1)) }
         ensures survives { IfErr result (λ e. Survives (state S.Store conn) (state S.Store e.1) (λ _. ⊥)) }
@@ -366,6 +374,9 @@ fn create_office<S: Alter>(alloc: Global, conn: &mut Connection<S>) -> Result<Of
         → IfErr result (FailsToCreate (state S.Store conn.old) (state S.Store conn.new)) }
     ensures refusal { HasCleanDisk (state S.Store conn.new) → (IsBlank (state S.Store conn.old).now → ⊥)
         → IfErr result (FailsToOpen S.Store conn.old conn.new) }
+    ensures unlisted { HasCleanDisk (state S.Store conn.new) → (IsBlank (state S.Store conn.old).now → ⊥)
+        → lists_tables (state S.Store conn.old).now.schema ≡ false
+        → IfErr result (IsUnasked (state S.Store conn.old) (state S.Store conn.new)) }
     ensures left { HasCleanDisk (state S.Store conn.new) → (IsBlank (state S.Store conn.old).now → ⊥)
         → OnlyReads (state S.Store conn.old) (state S.Store conn.new) result }
     ensures survives { (IsBlank (state S.Store conn.old).now → ⊥)
@@ -385,6 +396,9 @@ fn load_kept<S: Alter>(alloc: Global, conn: &mut Connection<S>) -> Result<Office
     ensures kept { IfOk result (KeepsOurs (state S.Store conn.new)) }
     ensures refusal { HasCleanDisk (state S.Store conn.new)
         → IfErr result (FailsToOpen S.Store conn.old conn.new) }
+    ensures unlisted { HasCleanDisk (state S.Store conn.new)
+        → lists_tables (state S.Store conn.old).now.schema ≡ false
+        → IfErr result (IsUnasked (state S.Store conn.old) (state S.Store conn.new)) }
     ensures left { HasCleanDisk (state S.Store conn.new)
         → OnlyReads (state S.Store conn.old) (state S.Store conn.new) result }
     ensures survives { Survives (state S.Store conn.old) (state S.Store conn.new) (λ _. ⊥) }

@@ -4,3 +4,4 @@ mod http;
 mod job;
 mod offices;
 mod store;
+mod views;

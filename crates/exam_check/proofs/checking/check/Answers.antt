@@ -1,6 +1,8 @@
-use Rattle.std.proofs.Common.{Some, inl, refl, sym, subst}
+use Rattle.std.proofs.Common.{Some, inl, inr, refl, sym, subst}
+use Rattle.std.proofs.lemmas.Bool.{both_ways}
 use Rattle.std.specs.Prelude.{option_map}
 use Rattle.sqlite.specs.Held.{state}
+use Rattle.exam_sql.proofs.Listed.{listed_newest}
 use Rattle.exam_check.specs.FirstBad.{IsFirstBadTable, table_of}
 use Rattle.exam_check.proofs.Judging.{found_as}
 use Rattle.exam_check.proofs.checking.check.Goals as goal
@@ -18,3 +20,11 @@ returns-in-Ok-Some-clause-found g c = λ clean all was.
 
 pub returns-in-Err-BadStore-clause-found : goal.returns-in-Err-BadStore-clause-found
 returns-in-Err-BadStore-clause-found g c = λ clean all was. inl (((c.in-Err-BadStore.ensures.looks.bad clean) c.in-Err-BadStore.field-0-is).1 all, refl)
+
+-- ---- the names of the tables
+
+pub returns-in-Ok-None-clause-unlisted : goal.returns-in-Ok-None-clause-unlisted
+returns-in-Ok-None-clause-unlisted g c = λ clean none. absurd (both_ways _ none (listed_newest _ (c.in-Ok-None.ensures.listed clean)))
+
+pub returns-in-Ok-Some-clause-unlisted : goal.returns-in-Ok-Some-clause-unlisted
+returns-in-Ok-Some-clause-unlisted g c = λ clean none. absurd (both_ways _ none (listed_newest _ (c.in-Ok-Some.ensures.listed clean)))

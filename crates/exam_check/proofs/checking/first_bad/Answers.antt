@@ -1,15 +1,17 @@
-use Rattle.std.proofs.Common.{◌≡◌, Err, refl, subst, rules}
+use Rattle.std.proofs.Common.{◌≡◌, true, Err, refl, sym, ap, subst, rules, ◌∙◌}
+use Rattle.std.proofs.lemmas.Bool.{both_ways}
 use Rattle.sqlite.specs.Effect.{Database}
 use Rattle.sqlite.specs.Held.{state}
+use Rattle.exam_sql.specs.Made.{lists_marks}
+use Rattle.exam_sql.proofs.Listed.{newest_listed}
 use Rattle.exam_tables.specs.Inside.{Contains}
 use Rattle.exam_tables.specs.Versions.{HasVersion, version}
-use Rattle.exam_store.proofs.Marking.{of_newest, older, still_made}
+use Rattle.exam_store.proofs.Marking.{is_of, of_newest, older, still_made}
 use Rattle.exam_commands.specs.Good.{tables}
 use Rattle.exam_check.specs.Reading.{office_in, table_texts}
 use Rattle.exam_check.proofs.First.{first_in}
 use Rattle.exam_check.proofs.Found.{all_before, in_load_order}
-use Rattle.exam_check.proofs.Judging.{newest_tables}
-use Rattle.exam_check.proofs.Looking.{fails_then, looks_ok, looks_old, looks_on, looks_then, version_looks}
+use Rattle.exam_check.proofs.Looking.{fails_then, looks_ok, looks_old, looks_on, looks_then, looks_unmarked, version_looks}
 use Rattle.exam_check.proofs.checking.first_bad.Goals as goal
 
 pub returns-in_err-version-clause-looks : goal.returns-in_err-version-clause-looks
@@ -64,8 +66,8 @@ returns-clause-found g c = λ clean all was.
     let mid = state g.S.Store c.version_of.new.conn in
     let it = c.in_ok-version.ensures.ok (c.in_ok-read.ensures.looks.early clean) all was in
     let newest : c.in_ok-version.version.number ≡ version = search rules in
-    let known = (c.in_ok-read.ensures.understood clean).1.1.1.1.1.1.1.1.0 in
-    let contains = newest_tables mid.now all known (still_made old mid all it.1 was) in (
+    let marks : lists_marks mid.now.schema ≡ true = sym c.has_marks.ensures ∙ c.if-not-has_marks.false in
+    let contains = (is_of version mid.now all marks (still_made old mid all it.1 was)).0 in (
       (of_newest old.now all (subst (λ (db : Database). Contains db all) it.1.0.now_is contains), subst (λ v. HasVersion v all) newest it.0),
       office_in c.in_ok-read.read,
       first_in all (office_in c.in_ok-read.read) c.in_ok-bad.bad c.in_ok-read.read.unread c.first_of.result 0 tables
@@ -73,3 +75,34 @@ returns-clause-found g c = λ clean all was.
           (c.in_ok-read.ensures.read clean all contains)
           c.in_ok-bad.ensures.ok c.first_of.ensures,
     )
+
+-- ---- the names of the tables
+
+pub returns-clause-listed : goal.returns-clause-listed
+returns-clause-listed g c = λ clean.
+    let same = c.in_ok-version.ensures.left (c.in_ok-read.ensures.looks.early clean) in
+    newest_listed (state g.S.Store c.args.conn.now).now.schema c.in_ok-version.ensures.listed
+    (ap (λ (db : Database). lists_marks db.schema) (sym same.0.now_is)
+    ∙ (sym c.has_marks.ensures ∙ c.if-not-has_marks.false))
+
+pub returns-then-not-has_marks-clause-looks : goal.returns-then-not-has_marks-clause-looks
+returns-then-not-has_marks-clause-looks g c =
+    looks_unmarked g.S.Store c.args.conn.now c.version_of.new.conn c.version_of.ensures.early c.version_of.ensures.survives
+    c.in_ok-version.ensures.left (sym c.has_marks.ensures ∙ c.if-not-has_marks.true)
+
+pub returns-in_err-version-clause-unlisted : goal.returns-in_err-version-clause-unlisted
+returns-in_err-version-clause-unlisted g c = λ clean none.
+    let is : c.from_residual.result ≡ Err c.in_err-version.field-0.0 = search rules in
+    rw is (c.in_err-version.ensures.unlisted clean none)
+
+pub returns-then-version-clause-unlisted : goal.returns-then-version-clause-unlisted
+returns-then-version-clause-unlisted g c = λ clean none. absurd (both_ways _ none c.in_ok-version.ensures.listed)
+
+pub returns-then-not-has_marks-clause-unlisted : goal.returns-then-not-has_marks-clause-unlisted
+returns-then-not-has_marks-clause-unlisted g c = λ clean none. absurd (both_ways _ none c.in_ok-version.ensures.listed)
+
+pub returns-in_err-read-clause-unlisted : goal.returns-in_err-read-clause-unlisted
+returns-in_err-read-clause-unlisted g c = λ clean none. absurd (both_ways _ none c.in_ok-version.ensures.listed)
+
+pub returns-in_err-bad-clause-unlisted : goal.returns-in_err-bad-clause-unlisted
+returns-in_err-bad-clause-unlisted g c = λ clean none. absurd (both_ways _ none c.in_ok-version.ensures.listed)

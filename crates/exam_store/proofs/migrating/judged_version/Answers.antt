@@ -1,4 +1,5 @@
 use Rattle.std.proofs.Common.{◌≡◌, Err, inl, sym, ap, subst, ◌∙◌, rules}
+use Rattle.std.proofs.lemmas.Bool.{both_ways}
 use Rattle.sqlite.specs.Effect.{Database}
 use Rattle.sqlite.specs.Held.{state}
 use Rattle.sqlite.proofs.Callers.{unchanged_then}
@@ -83,3 +84,11 @@ pub returns-in_err-office-clause-survives : goal.returns-in_err-office-clause-su
 returns-in_err-office-clause-survives g c =
     both_survive (state g.S.Store c.args.conn.now) (state g.S.Store c.version_of.new.conn)
     (state g.S.Store c.load_version.new.conn) c.version_of.ensures.survives c.load_version.ensures.survives
+
+pub returns-in_err-office-clause-unlisted : goal.returns-in_err-office-clause-unlisted
+returns-in_err-office-clause-unlisted g c = λ clean none. absurd (both_ways _ none c.in_ok-version.ensures.listed)
+
+pub returns-in_err-version-clause-unlisted : goal.returns-in_err-version-clause-unlisted
+returns-in_err-version-clause-unlisted g c = λ clean none.
+    let is : c.from_residual.result ≡ Err c.in_err-version.field-0.0 = search rules in
+    rw is (c.in_err-version.ensures.unlisted clean none)

@@ -1,4 +1,5 @@
 use Rattle.std.proofs.Common.{◌≡◌, IsTrue, Ok, Err, false, inl, inr, arith, subst, rules}
+use Rattle.std.proofs.lemmas.Bool.{both_ways}
 use Rattle.sqlite.specs.State.{HasCleanDisk}
 use Rattle.sqlite.specs.Held.{state}
 use Rattle.exam_sql.specs.Texts.{held_texts}
@@ -76,3 +77,13 @@ returns-then-version-clause-made g c =
     (λ all was. subst (λ v. HasVersion v all) newest (c.in_ok-version.ensures.found clean all was).1))
     (λ trees is may. g.met.S.Store.settled new.store trees is may)
     c.judged_version.ensures.survives
+
+-- where the names of the tables are not those of tables
+
+pub returns-in_err-save_widened-clause-unlisted : goal.returns-in_err-save_widened-clause-unlisted
+returns-in_err-save_widened-clause-unlisted g c = λ clean calm none. absurd (both_ways _ none c.in_ok-version.ensures.listed)
+
+pub returns-in_err-version-clause-unlisted : goal.returns-in_err-version-clause-unlisted
+returns-in_err-version-clause-unlisted g c = λ clean calm none.
+    let is : c.from_residual.result ≡ Err c.in_err-version.field-0.0 = search rules in
+    rw is (c.in_err-version.ensures.unlisted clean none)
