@@ -103,7 +103,8 @@ after_it from [] rises done e post is = none_at done e post is
 after_it from (x ∷ rows) rises done e post is = by (λ ds rest. after_it from rows rises.1 ds e post rest) (is_in from x.0) refl
   where
     -- an appeal before it is left out
-    left_out : ((ds : List KeyedAppeal) → from_on from rows ≡ ds ++ e ∷ post → from_on (Excluded e.0) rows ≡ post) → (ds : List KeyedAppeal) → from_on from rows ≡ ds ++ e ∷ post → from_on (Excluded e.0) (x ∷ rows) ≡ post
+    left_out : ((ds : List KeyedAppeal) → from_on from rows ≡ ds ++ e ∷ post → from_on (Excluded e.0) rows ≡ post)
+        → (ds : List KeyedAppeal) → from_on from rows ≡ ds ++ e ∷ post → from_on (Excluded e.0) (x ∷ rows) ≡ post
     left_out later ds rest =
         let below = at_place (λ k. appeal_cmp x.0 k ≡ Less) ds e post
         (subst (λ (l : List KeyedAppeal). AllByRecursion (λ k. appeal_cmp x.0 k ≡ Less) (keys_of l)) rest (all_kept (λ k. appeal_cmp x.0 k ≡ Less) (λ a. is_in from a.0) rows rises.0)) in
