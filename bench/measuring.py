@@ -38,7 +38,7 @@ def called(call):
 
 
 def ran(words):
-    """What a command takes from its start to its end, and what it prints."""
+    """What a command takes from its start to its end, and what it prints. Its memory is at least this script's own."""
     with tempfile.TemporaryFile() as out:
         began = time.perf_counter()
         child = subprocess.Popen(words, stdout=out)
