@@ -1,5 +1,6 @@
-"""The built program, and servers on ports of their own, for the scripts that look at it."""
+"""The built program, the sample school, and servers on ports of their own, for the scripts that look at it."""
 import contextlib
+import csv
 import os
 import pathlib
 import shutil
@@ -9,16 +10,25 @@ import subprocess
 import sys
 
 TOP = pathlib.Path(__file__).resolve().parent.parent
+EXAMPLES = TOP / "examples"  # the sample school
+KINDS = ["sessions", "papers", "halls", "openings", "candidates", "arrangements", "entries"]  # in the order of imports
 PORTS = 20  # how often a port is chosen again that another process takes first
 
 
-def program():
-    """The program that EXAMOFFICE names, else the one that ./try-it --prove builds; ends the script where there is none."""
-    named = os.environ.get("EXAMOFFICE") or str(TOP / "crates/examoffice/out/examoffice")
+def program(named=None):
+    """The program of this name, else the one that EXAMOFFICE names, else the one that ./try-it --prove builds; ends the
+    script where there is none."""
+    named = named or os.environ.get("EXAMOFFICE") or str(TOP / "crates/examoffice/out/examoffice")
     found = shutil.which(named)
     if found is None:
         sys.exit(f"there is no program {named}: ./try-it --prove builds one")
     return os.path.abspath(found)
+
+
+def codes():
+    """The access code of each candidate of the sample school."""
+    with open(EXAMPLES / "candidates.csv", encoding="utf-8", newline="") as file:
+        return {row["number"]: row["code"] for row in csv.DictReader(file)}
 
 
 def skip(why):

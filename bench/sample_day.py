@@ -1,9 +1,7 @@
-"""What lose-power and short-reads share: a day at the sample school of ../examples, and the office's files."""
+"""A day at the sample school of ../examples, and the office's files, for the scripts that harm them."""
 import contextlib
-import csv
 import os
 import shutil
-import signal
 import socket
 import sqlite3
 import subprocess
@@ -11,10 +9,7 @@ import sys
 import tempfile
 from typing import NamedTuple, Optional
 
-HERE = os.path.dirname(os.path.abspath(__file__))
-EXAMPLES = os.path.join(HERE, "../examples")
-BUILT = os.path.join(HERE, "../crates/examoffice/out/examoffice")
-KINDS = ["sessions", "papers", "halls", "openings", "candidates", "arrangements", "entries"]
+import built
 
 
 class Step(NamedTuple):
@@ -37,7 +32,7 @@ def lodging(number, members, ref):
 
 DAY = [
     Step("2027-05-01", ["init"]),
-    *[Step("2027-05-01", ["import", kind, os.path.join(EXAMPLES, f"{kind}.csv")]) for kind in KINDS],
+    *[Step("2027-05-01", ["import", kind, str(built.EXAMPLES / f"{kind}.csv")]) for kind in built.KINDS],
     Step("2027-05-02", ["withdraw", "0001017", "MA-1"]),
     Step("2027-05-02", ["reinstate", "0001017", "MA-1"]),
     Step("2027-05-03", ["close-hall", "TUE-AM", "R14"]),
@@ -63,32 +58,15 @@ def done(step, answer):
     return answer if is_done(answer) else sys.exit(f"{step.name()} answers {answer} with no harm done")
 
 
-def begin(name, words):
-    """The number and the program of the script's own words; the number is none where there is no word."""
-    for end in (signal.SIGHUP, signal.SIGINT, signal.SIGTERM):
-        signal.signal(end, lambda *_: sys.exit(1))
-    if words and words[0] in ("-h", "--help"):
-        print(sys.modules["__main__"].__doc__)
-        sys.exit(0)
-    if len(words) > 2 or (words and not (words[0].isascii() and words[0].isdigit() and 1 < int(words[0]) < 10**6)):
-        sys.exit(f"{name}: the words are a number from 2 on, and a program; --help says more")
-    program = words[1] if len(words) > 1 else os.environ.get("EXAMOFFICE") or BUILT
-    if not os.access(program, os.X_OK) or os.path.isdir(program):
-        sys.exit(f"{name}: there is no program {program!a}; ./try-it --prove builds it")
-    return int(words[0]) if words else None, os.path.abspath(program)
-
-
 def memory_folder():
     """A folder for what is tried, in memory where there is such a file system: an fsync there takes no time."""
     return tempfile.TemporaryDirectory(dir="/dev/shm" if os.access("/dev/shm", os.W_OK | os.X_OK) else None)
 
 
-def compiled(folder, text):
-    """A library of the C text, to be loaded before the C library."""
-    with open(f"{folder}/library.c", "w", encoding="ascii") as file:
-        file.write(text)
+def compiled(folder, source):
+    """A library of a C file of this folder, to be loaded before the C library."""
     try:
-        subprocess.run(["cc", "-O2", "-shared", "-fPIC", "-o", f"{folder}/library.so", f"{folder}/library.c"], check=True)
+        subprocess.run(["cc", "-O2", "-shared", "-fPIC", "-o", f"{folder}/library.so", built.TOP / "bench" / source], check=True)
     except (OSError, subprocess.CalledProcessError) as error:
         sys.exit(f"a C compiler, cc, is needed: {error}")
     return f"{folder}/library.so"
@@ -139,8 +117,7 @@ class Office:
         self.program, self.folder, self.environment = program, folder, environment
         self.server: Optional[subprocess.Popen] = None
         self.port = 0
-        with open(os.path.join(EXAMPLES, "candidates.csv"), encoding="utf-8", newline="") as file:
-            self.codes = {row["number"]: row["code"] for row in csv.DictReader(file)}
+        self.codes = built.codes()
 
     def line(self, day, *words):
         return [self.program, "--db", "office.db", "--today", day, *words]
@@ -148,27 +125,33 @@ class Office:
     def run(self, day, words):
         """The exit status and both outputs of a command line."""
         ran = subprocess.run(self.line(day, *words), cwd=self.folder, env=self.environment, capture_output=True, check=False,
-                             timeout=120)
+                             timeout=600)
         return ran.returncode, ran.stdout, ran.stderr
 
     def serve(self, day):
-        """Starts a server at a free port, and answers its line without the port."""
-        with socket.socket() as free:
-            free.bind(("127.0.0.1", 0))
-            self.port = free.getsockname()[1]
-        self.server = subprocess.Popen(self.line(day, "serve", str(self.port)), cwd=self.folder, env=self.environment,
-                                       stdout=subprocess.PIPE, stderr=subprocess.PIPE)
-        line = self.server.stdout.readline()
-        return line.replace(str(self.port).encode(), b"PORT") if line else self.server.stderr.read()
+        """Starts a server at a free port, and answers its line without the port, or its complaint."""
+        for _ in range(built.PORTS):
+            self.port = built.free_port()
+            self.server = subprocess.Popen(self.line(day, "serve", str(self.port)), cwd=self.folder, env=self.environment,
+                                           stdout=subprocess.PIPE, stderr=subprocess.PIPE)
+            line = self.server.stdout.readline() or self.server.stderr.read()
+            if line != b"net fault\n":
+                break
+            self.stop()
+        return line.replace(str(self.port).encode(), b"PORT")
+
+    def request(self, step):
+        """The bytes of a request."""
+        body = step.body.encode()
+        head = (f"{step.method} /candidates/{step.number}/{step.page} HTTP/1.1\r\nHost: x\r\n"
+                f"Exam-Code: {self.codes.get(step.number, 'NOCODE00')}\r\nContent-Length: {len(body)}\r\n\r\n")
+        return head.encode() + body
 
     def ask(self, step):
         """The bytes of the server's answer to a request."""
-        body = step.body.encode()
-        head = (f"{step.method} /candidates/{step.number}/{step.page} HTTP/1.1\r\nHost: x\r\n"
-                f"Exam-Code: {self.codes[step.number]}\r\nContent-Length: {len(body)}\r\n\r\n")
         parts = []
-        with socket.create_connection(("127.0.0.1", self.port), timeout=60) as client:
-            client.sendall(head.encode() + body)
+        with socket.create_connection(("127.0.0.1", self.port), timeout=600) as client, contextlib.suppress(ConnectionError):
+            client.sendall(self.request(step))
             while part := client.recv(65536):
                 parts.append(part)
         return b"".join(parts)

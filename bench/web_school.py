@@ -2,7 +2,6 @@
 import contextlib
 import os
 import pathlib
-import re
 import signal
 import socket
 import subprocess
@@ -11,7 +10,6 @@ import time
 
 import built
 
-KINDS = ["sessions", "papers", "halls", "openings", "candidates", "arrangements", "entries"]
 TODAY = "2027-05-01"
 CHANGES = {"unlimited": ("rate=1r/s;", "rate=1000r/s;")}  # one candidate may ask faster than a human can
 
@@ -48,8 +46,8 @@ class School(contextlib.ExitStack):
             self.server = None
             self.callback(self.stop_serving)
             self.office("init")
-            for kind in KINDS:
-                self.office("import", kind, str(built.TOP / f"examples/{kind}.csv"))
+            for kind in built.KINDS:
+                self.office("import", kind, built.EXAMPLES / f"{kind}.csv")
             self.behind = self.serve()
             self.front = self.start_nginx()
             undo.pop_all()
@@ -121,10 +119,3 @@ class School(contextlib.ExitStack):
                 raise AssertionError(f"web/nginx.conf has no {old}")
             text = text.replace(old, new)
         return text
-
-
-def codes():
-    """The access code of each candidate of the sample school, by number."""
-    lines = (built.TOP / "examples/candidates.csv").read_text("utf-8").splitlines()[1:]
-    return dict(re.fullmatch(r"(\d{7}),.*,(\w+)", line).groups() for line in lines)
-

@@ -9,16 +9,19 @@ import school
 LIMITS = {"sessions": 400, "papers": 2000, "halls": 500, "candidates": 20000}
 MOST_MEMBERS, MOST_OPENINGS = 4096, 256  # of a session
 CODE = "1 to 12 of A-Z, 0-9 and -"
-TIME = "write the time as 09:00 (format the column as text)"
+TIME = "a time as 09:00; format the column as text"
 FEATURES = f"features are {', '.join(school.FEATURES)}, in this order, joined by +; - for none"
 CURES = {
-    "number": "seven digits (format the column as text)", "session": CODE, "paper": CODE,
+    "number": "seven digits; format the column as text", "session": CODE, "paper": CODE,
     "hall": "1 to 8 of A-Z and 0-9", "code": "8 to 16 of A-Z and 0-9",
-    "date": "write the date as 2027-06-07 (format the column as text), from 2000-01-11",
+    "date": "a date as 2027-06-07, from 2000-01-11; format the column as text",
+    "name": "1 to 80 bytes", "title": "1 to 80 bytes",
     "start": TIME, "until": TIME, "reserved": "yes or no", "minutes": "a whole number from 1 to 600",
     "desks": "a whole number from 1 to 2000", "extra": "a whole number from 0 to 100, without %",
     "requires": FEATURES, "features": FEATURES, "needs": FEATURES,
 }
+COMMAS = [(b",", ""), (b";", "semicolons part the columns: save it with commas"),
+          (b"\t", "tabs part the columns: save it with commas")]
 EMPTY_ROW = "an empty row of the spreadsheet: delete it"
 RIGHT = {column: right for kind, header in files.HEADERS.items() for column, right in zip(header, files.FORMS[kind])}
 WRONG_LETTERS = re.compile("Ã.|Â.|â€|Å[\x80-\xbf¡-ÿ€-™]|\ufffd")
@@ -98,13 +101,20 @@ def cure(column, field):
     if (number := with_zeros(field)) != field and column == "number":
         return f"leading zeros lost? {number.decode()} ({CURES[column]})"
     text = text.strip(" %'")
-    for better in (text, text.upper(), text.lower(), "0" + text if ":" in text else ""):
+    time = re.sub("(:[0-9]{2}):00$", r"\1", text).zfill(5)
+    for better in (text, text.upper(), text.lower(), time, date_in_order(text)):
         if better and RIGHT[column](better.encode()):
             return f"write {better} ({CURES[column]})"
     parts = text.split("+")
     if CURES[column] == FEATURES and set(parts) <= set(school.FEATURES):
         return "write " + "+".join(name for name in school.FEATURES if name in parts) + " (this order, each once)"
     return CURES[column]
+
+
+def date_in_order(text):
+    """A date with points, in which the day comes first; every other text is none."""
+    match = re.fullmatch(r"([0-9]{1,2})\. ?([0-9]{1,2})\. ?([0-9]{4})", text)
+    return f"{match[3]}-{match[2]:0>2}-{match[1]:0>2}" if match else ""
 
 
 def with_zeros(field):
@@ -148,7 +158,7 @@ def first_refusal(kind, text, known):
 def looked_through(kind, text, known):
     """All mistakes of a file and all notes on it; what it brings is known afterwards."""
     mistakes, notes = [], []
-    found, header = table_of(kind, text, mistakes)
+    found, header, missing = table_of(kind, text, mistakes)
     if found is None:
         if kind in known.keys:
             known.keys[kind] = None
@@ -165,52 +175,71 @@ def looked_through(kind, text, known):
     known.take(kind, [record.fields for record in whole])
     if passed := known.passed_limit():
         mistakes.append(Mistake(1, "file", passed))
+    mistakes = [mistake for mistake in mistakes if mistake.what.split(" ")[0] not in missing]
     return sorted(mistakes), sorted(notes + row_notes(kind, whole, known))
 
 
 def table_of(kind, text, mistakes):
-    """The records after the header, even where that is wrong in one of the usual ways; else None, and why."""
+    """The records after the header, even where that is wrong in one of the usual ways, else None; why there are none;
+    and the columns that the header lacks, whose fields are empty."""
     if len(text) > files.MOST_BYTES:
         mistakes.append(Mistake(1, "file", f"{len(text)} bytes; a file holds {files.MOST_BYTES}: split it"))
     if text[:2] in (b"\xff\xfe", b"\xfe\xff"):
         mistakes.append(Mistake(1, "file", "saved as Unicode text (UTF-16): save it as CSV UTF-8"))
         text = text.decode("utf-16", "replace").encode()
-    for comma, name in [(b",", ""), (b";", "semicolons part the columns: save it with commas"),
-                        (b"\t", "tabs part the columns: save it with commas")]:
+    wanted = files.HEADERS[kind]
+    for comma, name in COMMAS:
         found = list(files.records(text, comma))
-        place = header_place(kind, found)
+        place, missing = header_place(kind, found)
         if place is not None:
-            header_mistakes(kind, found[place], place, name, mistakes)
-            columns = len(files.HEADERS[kind])
-            if len(found[place].fields) > columns:
-                found = [record._replace(fields=trimmed(record.fields, columns)) for record in found]
-            return found[place + 1:], ""
+            header_mistakes(kind, found[place], place, name, missing, mistakes)
+            fields = [trimmed(record.fields, len(wanted)) for record in found[place + 1:]]
+            if missing:
+                fields = [filled(row, wanted, missing) for row in fields]
+            elif len(found[place].fields) <= len(wanted):
+                fields = [record.fields for record in found[place + 1:]]
+            return [record._replace(fields=row) for record, row in zip(found[place + 1:], fields)], "", missing
     first = next(files.records(text), None)
     others = [other for other in files.HEADERS if files.is_header(other, first)]
     why = f"these are {others[0]}" if others else "the file is empty" if first is None else "no such header is found"
-    return None, f"the first line must be {','.join(files.HEADERS[kind])}; {why}"
+    return None, f"the first line must be {','.join(wanted)}; {why}", []
 
 
 def header_place(kind, found):
-    """Where the header stands among the first records, however it is spelt, or none."""
+    """Where the header stands among the first records, however it is spelt, or none; and the columns that it lacks. None
+    of these makes the key or refers to another file."""
     wanted = files.HEADERS[kind]
+    needed = {*wanted[:files.KEYS.get(kind, 1)], *(wanted[column] for column, _ in files.REFERENCES.get(kind, []))}
     for place, record in enumerate(found[:4]):
         head = [field.decode("utf-8", "replace").strip().lower() for field in record.fields]
-        if trimmed(head, len(wanted)) == wanted:
-            return place
-    return None
+        missing = [name for name in wanted if name not in head]
+        there = [name for name in wanted if name in head]
+        if needed.isdisjoint(missing) and len(there) > 1 and trimmed(head, len(there)) == there:
+            return place, missing
+    return None, []
 
 
-def header_mistakes(kind, record, place, commas, mistakes):
+def filled(fields, wanted, missing):
+    """A row with an empty field for each column that is missing, if it has all others."""
+    if len(fields) != len(wanted) - len(missing):
+        return fields
+    rest = iter(fields)
+    return [b"" if name in missing else next(rest) for name in wanted]
+
+
+def header_mistakes(kind, record, place, commas, missing, mistakes):
     """What is wrong with a header that was found."""
     wanted = [name.encode() for name in files.HEADERS[kind]]
     if place:
         mistakes.append(Mistake(1, "file", f"the header stands in line {record.line}: delete what is before it"))
     if commas:
         mistakes.append(Mistake(record.line, "file", commas))
-    if len(record.fields) > len(wanted):
+    for name in missing:
+        how = "leave it empty, and `office codes` fills it" if name == "code" else CURES[name]
+        mistakes.append(Mistake(record.line, "file", f"the column {name} is missing: add it ({how})"))
+    if len(record.fields) > len(wanted) - len(missing):
         mistakes.append(Mistake(record.line, "file", "empty columns at the end: delete them"))
-    if trimmed(record.fields, len(wanted)) != wanted:
+    if not missing and trimmed(record.fields, len(wanted)) != wanted:
         mistakes.append(Mistake(record.line, "file", f"the header must be {','.join(files.HEADERS[kind])}"))
 
 

@@ -34,6 +34,8 @@ def spoiled():
     yield "candidates", b"sep=,\n" + people
     yield "candidates", people.replace(b"number,name,code", b"Number,Name,Code", 1)
     yield "candidates", people.replace(b"\n", b",,\n")
+    yield "candidates", people.replace(b"number,name,code", b"number,name", 1)
+    yield "candidates", b"".join(line.rpartition(b",")[0] + b"\n" for line in people.splitlines())
     yield "candidates", people + b",,\n"
     yield "candidates", people.replace(b"\n000", b"\n")
     yield "candidates", people.replace(b"\n", b"\r\n")
@@ -141,7 +143,25 @@ class Words(unittest.TestCase):
         text = b"number;name;code\n1000;Ada Lin;wk3degzdpc\n0001017;;F54ERF5DHQ\n"
         self.assertEqual(self.mistakes_in("candidates", text)[0], [
             "semicolons part the columns: save it with commas", "write WK3DEGZDPC (8 to 16 of A-Z and 0-9)",
-            "leading zeros lost? 0001000 (seven digits (format the column as text))", "1 to 80 bytes; it has 0"])
+            "leading zeros lost? 0001000 (seven digits; format the column as text)", "1 to 80 bytes; it has 0"])
+
+    def test_a_missing_column_is_named_and_hides_no_other_mistake(self):
+        text = b"number;name\n1000;Ada Lin\n0001017;\n0001034\n"
+        self.assertEqual(self.mistakes_in("candidates", text), ([
+            "semicolons part the columns: save it with commas",
+            "the column code is missing: add it (leave it empty, and `office codes` fills it)",
+            "leading zeros lost? 0001000 (seven digits; format the column as text)", "1 to 80 bytes; it has 0",
+            "1 fields in place of 3; values are missing"], []))
+        self.assertEqual(self.mistakes_in("openings", b"session,desks,until,reserved\nS1,1,12:00,no\n")[0],
+                         ["the first line must be session,hall,desks,until,reserved; no such header is found"])
+
+    def test_dates_and_times_are_put_right(self):
+        text = b"session,date,start\nS1,15.1.2027,9:00\nS2,2027-01-15,13:30:00\nS3,1/2/2027,09:00\n"
+        self.assertEqual(self.mistakes_in("sessions", text)[0], [
+            "write 2027-01-15 (a date as 2027-06-07, from 2000-01-11; format the column as text)",
+            "write 09:00 (a time as 09:00; format the column as text)",
+            "write 13:30 (a time as 09:00; format the column as text)",
+            "a date as 2027-06-07, from 2000-01-11; format the column as text"])
 
     def test_empty_codes_are_named_with_their_cure_and_are_not_compared(self):
         text = b"number,name,code\n0001000,Ada Lin,\n0001017,Ada Lin,\n"

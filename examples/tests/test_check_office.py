@@ -354,11 +354,17 @@ class WithTheProgram(SmallOffice):
         self.assertEqual((self.path.read_bytes(), self.check(self.path, printed)), (before, found))
 
     def test_sample_school(self):
-        for words in [["init"], *(["import", kind, TESTS.parent / f"{kind}.csv"] for kind in KINDS)]:
-            subprocess.run([PROGRAM, "--db", self.folder / "school.db", "--today", "2027-05-01", *words], check=True,
-                           stdout=subprocess.DEVNULL)
-        found = self.check(self.folder / "school.db", EXAMOFFICE=PROGRAM)
-        self.assertEqual(found, (0, "right: 3 sessions, 162 seats, 6 without a desk\n", ""))
+        """Before and after room 21 opens, for which others move."""
+        path, printed = self.folder / "school.db", self.folder / "printed"
+        files = [TESTS.parent / f"{kind}.csv" for kind in KINDS]
+        more = [TESTS.parent / f"room-21/{kind}.csv" for kind in ("halls", "openings")]
+        for words, said in (([["init"], *(["import", file.stem, file] for file in files)], "162 seats, 6 without a desk"),
+                            ([["import", file.stem, file] for file in more], "164 seats, 4 without a desk")):
+            for line in words:
+                subprocess.run([PROGRAM, "--db", path, "--today", "2027-05-01", *line], check=True, stdout=subprocess.DEVNULL)
+            found = self.check(path, EXAMOFFICE=PROGRAM)
+            self.assertEqual(found, (0, f"right: 3 sessions, {said}\n", ""))
+        self.assertEqual((self.check("--print", path, printed, EXAMOFFICE=PROGRAM), self.check(path, printed)), (found, found))
 
 
 if __name__ == "__main__":
