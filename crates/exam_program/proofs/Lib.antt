@@ -1,2 +1,5 @@
-mod Found
+mod Keeping
+mod OneSchema
 mod Opened
+mod Ran
+mod Shown

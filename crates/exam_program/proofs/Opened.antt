@@ -1,26 +1,148 @@
--- The office that is opened for a job.
-use Rattle.std.proofs.Common.{◌≡◌, refl, sym, subst}
+-- The office that is opened for a job, and why none is.
+use Rattle.std.proofs.Common.{◌≡◌, ◌⊎◌, ◌∙◌, List, [], ◌∷◌, inl, inr, arith, refl, sym, ap, subst}
+use Rattle.std.specs.Prelude.{length, Result, Ok, Err, IfOk, IfErr, IsTrue, MatchResult}
+use Rattle.sqlite.specs.Effect.{Database}
+use Rattle.sqlite.specs.Held.{Held, state}
+use Rattle.sqlite.specs.State.{State, HasCleanDisk, Survives}
+use Rattle.sqlite.proofs.StateLemmas.{survives_weaker}
+use Rattle.sqlite_schema.specs.declared.schema.Index.{Index}
+use Rattle.sqlite_schema.specs.declared.schema.Schema.{Schema}
+use Rattle.sqlite_schema.specs.declared.schema.Table.{Table}
+use Rattle.sqlite_schema.specs.declared.schema.View.{View}
 use Rattle.sqlite_trees.specs.declared.store.Store.{Ghosts}
-use Rattle.sqlite_wal.specs.Recovery.{Image}
-use Rattle.exam_line.specs.Lines.{job_shown}
-use Rattle.exam_line.specs.declared.line.Job.{Job}
+use Rattle.exam_types.specs.declared.refusal.Refusal.{Refusal}
+use Rattle.exam_commands.specs.State.{State as Office, empty_state}
+use Rattle.exam_line.specs.Lines.{Job, job_shown}
+use Rattle.exam_line.specs.Lines as line
+use Rattle.exam_line.specs.declared.line.Job as coded
 use Rattle.exam_line.specs.declared.line.Job.TheVariants as job
+use Rattle.exam_sql.specs.Tables.{no_schema, store_schema}
+use Rattle.exam_tables.specs.Inside.{IsOurs}
+use Rattle.exam_tables.specs.Loaded.{IsLeft}
+use Rattle.exam_tables.specs.Transactions.{Commits, IsSound}
+use Rattle.exam_tables.specs.Versions.{FailsToCreate, IsBlank}
+use Rattle.exam_store.specs.Found.{Finds, MakesEmpty, is_open_refusal}
+use Rattle.exam_store.specs.Kept.{IsKept, Keeps}
 use Rattle.exam_store.specs.Stores.{OfficeIn}
-use Rattle.exam_program.specs.Opening.{MakesIn, OpensIn}
-use Rattle.exam_program.specs.Running.{OpensFor}
+use Rattle.exam_program.specs.Opening.{FailsToFind, FailsToOpenFor, IsNotOpened, MakesNew, OpensFor}
+use Rattle.exam_program.specs.Running.{IsReady}
 
-module _ {S : Type 0} (g : Ghosts S) (image : Image) (office : OfficeIn S) where
-  pub for_init : (j : Job) → j ≡ job.Init → MakesIn g image office.database office.office
-      → OpensFor g image (job_shown j) office
-  for_init j is made = subst (λ j. OpensFor g image (job_shown j) office) (sym is) made
+-- ---- a database with no table
 
-  -- for each other job
-  pub for_other : (j : Job) → (j ≡ job.Init → ⊥) → OpensIn g image office.database office.office
-      → OpensFor g image (job_shown j) office
-  for_other job.Init other found = absurd (other refl)
-  for_other job.Migrate other found = found
-  for_other job.Check other found = found
-  for_other (job.Import kind file) other found = found
-  for_other (job.Apply command) other found = found
-  for_other (job.Serve port) other found = found
-  for_other (job.Sheet session sheet) other found = found
+is_none : (tables : List Table) (indexes : List Index) (views : List View)
+    → (record { tables = tables; indexes = indexes; views = views } ≡ no_schema) ⊎ (record { tables = tables; indexes = indexes; views = views } ≡ no_schema → ⊥)
+is_none [] [] [] = inl refl
+is_none (x ∷ tables) indexes views = inr (λ is. let same : x ∷ tables ≡ [] = ap (λ (s : Schema). s.tables) is in cc)
+is_none [] (x ∷ indexes) views = inr (λ is. let same : x ∷ indexes ≡ [] = ap (λ (s : Schema). s.indexes) is in cc)
+is_none [] [] (x ∷ views) = inr (λ is. let same : x ∷ views ≡ [] = ap (λ (s : Schema). s.views) is in cc)
+
+blank_or_not : (db : Database) → IsBlank db ⊎ (IsBlank db → ⊥)
+blank_or_not db = is_none db.schema.tables db.schema.indexes db.schema.views
+
+some_tables : store_schema ≡ no_schema → ⊥
+unfolding store_schema
+some_tables is = let lengths : 11 ≡ 0 = ap (λ (s : Schema). length s.tables) is in omega (arith, lengths)
+
+ours_not_blank : (db : Database) → IsOurs db → IsBlank db → ⊥
+ours_not_blank db ours blank = some_tables (sym ours.1.schema_is ∙ blank)
+
+-- ---- the office that is opened
+
+module _ {S : Type 0} (g : Ghosts S) (was : Held S) where
+  pub made_for : (result : Result (OfficeIn S) (Refusal × Held S)) → (IsBlank (state g was).now → IfOk result (λ it. it.office ≡ empty_state))
+      → (IsBlank (state g was).now → MatchResult result (λ it. Commits (state g was) (state g it.database) result MakesEmpty) (λ e. Commits (state g was) (state g e.1) result MakesEmpty))
+      → ((IsBlank (state g was).now → ⊥) → IfOk result (λ it. Finds (state g was) (state g it.database) it.office))
+      → IfOk result (λ it. OpensFor line.init (state g was) (state g it.database) it.office)
+  made_for (Ok it) empty made found = (
+    λ blank. let m = made blank in (
+      empty blank,
+      record { turned = m.turned; same = m.same; was_open = m.was_open; settled = m.settled; survives = m.survives },
+    ),
+    found,
+  )
+  made_for (Err e) empty made found = tt
+
+  pub found_for : (j : coded.Job) → (j ≡ job.Init → ⊥) → (result : Result (OfficeIn S) (Refusal × Held S)) → IfOk result (λ it. Finds (state g was) (state g it.database) it.office)
+      → IfOk result (λ it. OpensFor (job_shown j) (state g was) (state g it.database) it.office)
+  found_for job.Init other result found = absurd (other refl)
+  found_for job.Migrate other result found = found
+  found_for job.Check other result found = found
+  found_for (job.Import kind file) other result found = found
+  found_for (job.Apply command) other result found = found
+  found_for (job.Serve port) other result found = found
+  found_for (job.Sheet session sheet) other result found = found
+
+  -- ---- none is opened
+
+  left_commit : (now : Held S) → IsLeft (state g was) (state g now) → IsSound (state g now) → (state g now).committed ≡ (state g was).committed
+  left_commit now (inl same) sound = same.0.committed_is
+  left_commit now (inr back) sound = (back.undone sound.1).1
+
+  pub not_made : (result : Result (OfficeIn S) (Refusal × Held S))
+      → (IsBlank (state g was).now → MatchResult result (λ it. Commits (state g was) (state g it.database) result MakesEmpty) (λ e. Commits (state g was) (state g e.1) result MakesEmpty))
+      → IfErr result (λ e. HasCleanDisk (state g e.1) → IsBlank (state g was).now → FailsToCreate (state g was) (state g e.1) e.0)
+      → IfErr result (λ e. HasCleanDisk (state g e.1) → (IsBlank (state g was).now → ⊥) → FailsToFind g was e.1 e.0)
+      → IfErr result (λ e. HasCleanDisk (state g e.1) → (IsBlank (state g was).now → ⊥) → IsLeft (state g was) (state g e.1))
+      → IfErr result (λ e. (IsBlank (state g was).now → ⊥) → Survives (state g was) (state g e.1) (λ _. ⊥)) → IfErr result (λ e. IsTrue (is_open_refusal e.0))
+      → IfErr result (λ e. IsNotOpened g line.init was e.0 e.1)
+  not_made (Ok it) made blank refusal same survives told = tt
+  not_made (Err e) made blank refusal same survives told = record {
+    told = told;
+    reason = λ clean. (blank clean, refusal clean);
+    same = λ sound. elim (blank_or_not (state g was).now) [
+      | inl none ↦ ((made none).same sound).1
+      | inr other ↦ left_commit e.1 (same sound.0 other) sound
+    ];
+    survives = elim (blank_or_not (state g was).now) [
+      | inl none ↦ survives_weaker (state g was) (state g e.1) _ _ (λ clean trees it. (none, it.0, it.1, it.2)) (made none).survives
+      | inr other ↦ survives_weaker (state g was) (state g e.1) _ _ (λ clean trees nothing. absurd nothing) (survives other)
+    ];
+  }
+
+  module _ (result : Result (OfficeIn S) (Refusal × Held S)) (refusal : IfErr result (λ e. HasCleanDisk (state g e.1) → FailsToFind g was e.1 e.0))
+      (same : IfErr result (λ e. HasCleanDisk (state g e.1) → IsLeft (state g was) (state g e.1))) (survives : IfErr result (λ e. Survives (state g was) (state g e.1) (λ _. ⊥)))
+      (told : IfErr result (λ e. IsTrue (is_open_refusal e.0))) where
+    not_found : (j : Job) → ((now : Held S) (e : Refusal) → FailsToFind g was now e → FailsToOpenFor g j was now e) → IfErr result (λ e. IsNotOpened g j was e.0 e.1)
+    not_found j reason = by result refusal same survives told
+      where
+        by : (r : Result (OfficeIn S) (Refusal × Held S)) → IfErr r (λ e. HasCleanDisk (state g e.1) → FailsToFind g was e.1 e.0)
+            → IfErr r (λ e. HasCleanDisk (state g e.1) → IsLeft (state g was) (state g e.1)) → IfErr r (λ e. Survives (state g was) (state g e.1) (λ _. ⊥))
+            → IfErr r (λ e. IsTrue (is_open_refusal e.0)) → IfErr r (λ e. IsNotOpened g j was e.0 e.1)
+        by (Ok it) refusal same survives told = tt
+        by (Err e) refusal same survives told = record {
+          told = told;
+          reason = λ clean. reason e.1 e.0 (refusal clean);
+          same = λ sound. left_commit e.1 (same sound.0) sound;
+          survives = survives_weaker (state g was) (state g e.1) _ _ (λ clean trees nothing. absurd nothing) survives;
+        }
+
+    pub not_found_for : (j : coded.Job) → (j ≡ job.Init → ⊥) → IfErr result (λ e. IsNotOpened g (job_shown j) was e.0 e.1)
+    not_found_for job.Init other = absurd (other refl)
+    not_found_for job.Migrate other = not_found line.migrate (λ now e h. h)
+    not_found_for job.Check other = not_found line.check (λ now e h. h)
+    not_found_for (job.Import kind file) other = not_found (line.import kind file.now) (λ now e h. h)
+    not_found_for (job.Apply command) other = not_found (line.apply command.0) (λ now e h. h)
+    not_found_for (job.Serve port) other = not_found (line.serve port) (λ now e h. h)
+    not_found_for (job.Sheet session sheet) other = not_found (line.print session sheet) (λ now e h. h)
+
+-- ---- the tables keep the office that was opened
+
+module _ (old new : State) (office : Office) where
+  found_kept : Finds old new office → old.committed ≡ old.now → IsOurs old.now → HasCleanDisk new → IsKept new office
+  found_kept finds settled ours clean =
+      let same = (finds.same clean).0 in
+      (subst (λ (db : Database). Keeps db office) (sym same.now_is) (finds.kept clean ours), same.committed_is ∙ settled ∙ sym same.now_is)
+
+  made_kept : MakesNew old new office → HasCleanDisk new → IsKept new office
+  made_kept (empty, made) clean =
+      let turned = made.turned clean in (subst (λ (o : Office). Keeps new.now o) (sym empty) turned.0, turned.1)
+
+  pub opened_kept : (j : Job) → OpensFor j old new office → IsReady j old → HasCleanDisk new → IsKept new office
+  opened_kept line.init opens (settled, inl blank) clean = made_kept (opens.0 blank) clean
+  opened_kept line.init opens (settled, inr ours) clean = found_kept (opens.1 (ours_not_blank old.now ours)) settled ours clean
+  opened_kept line.migrate opens (settled, ours) clean = found_kept opens settled ours clean
+  opened_kept line.check opens (settled, ours) clean = found_kept opens settled ours clean
+  opened_kept (line.import kind file) opens (settled, ours) clean = found_kept opens settled ours clean
+  opened_kept (line.apply done) opens (settled, ours) clean = found_kept opens settled ours clean
+  opened_kept (line.serve port) opens (settled, ours) clean = found_kept opens settled ours clean
+  opened_kept (line.print session sheet) opens (settled, ours) clean = found_kept opens settled ours clean

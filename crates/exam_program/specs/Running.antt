@@ -1,29 +1,25 @@
--- What a command line comes to, from the bytes that the files of its database held to the exit status and both outputs.
-use Rattle.std.specs.Prelude.{◌≡◌, ◌⊎◌, ℕ, List, Bool, Option, Some, Result, Ok, Err, IfErr, IsTrue}
-use Rattle.sqlite.specs.Held.{Held}
+-- What a command line comes to over an open database: its result, both outputs, and the database afterwards.
+use Rattle.std.specs.Prelude.{◌≡◌, ◌⊎◌, ℕ, List, Option, Some, None, Result, Ok, Err, IfErr}
+use Rattle.sqlite.specs.Held.{Held, state}
+use Rattle.sqlite.specs.State.{State}
 use Rattle.sqlite_trees.specs.declared.store.Store.{Ghosts}
-use Rattle.sqlite_wal.specs.Recovery.{Image}
 use Rattle.exam_types.specs.declared.refusal.Refusal.{Refusal}
 use Rattle.exam_rules.specs.Relations.{Code}
 use Rattle.exam_commands.specs.Headline.{IsSeated}
-use Rattle.exam_line.specs.Lines.{Answers, Job, Said, shown}
+use Rattle.exam_commands.specs.State.{State as Office}
+use Rattle.exam_line.specs.Lines.{Job, Said}
 use Rattle.exam_line.specs.Lines as line
-use Rattle.exam_line.specs.declared.line.Line.{Line}
-use Rattle.exam_line.specs.declared.line.LineFault.{LineFault}
-use Rattle.exam_tables.specs.Faults.{is_store_refusal}
-use Rattle.exam_store.specs.Found.{is_open_refusal}
+use Rattle.exam_tables.specs.Transactions.{IsSound}
+use Rattle.exam_store.specs.Kept.{IsKept}
 use Rattle.exam_store.specs.Stores.{OfficeIn}
-use Rattle.exam_check.specs.Refused.{is_check_refusal}
-use Rattle.exam_check.specs.declared.tables.Table.{Table}
-use Rattle.exam_check.specs.declared.tables.Table.TheVariants.{Office}
 use Rattle.exam_http.specs.Serving.{AreServedOn}
 use Rattle.exam_job.specs.Jobs.{Does}
 use Rattle.exam_job.specs.Migrations.{Migrates}
-use Rattle.exam_job.specs.Printed.{Contents, Prints, Reports, ReportsNoLine, ready_text, serving_text}
+use Rattle.exam_job.specs.Printed.{Contents, Prints, ready_text, serving_text}
 use Rattle.exam_job.specs.declared.report.JobFault.{JobFault}
 use Rattle.exam_job.specs.declared.report.JobFault.TheVariants.{Net, Refused}
-use Rattle.exam_program.specs.Checking.{FoundIn, TellsTable, status_of}
-use Rattle.exam_program.specs.Opening.{IsOver, MakesIn, OpensIn}
+use Rattle.exam_program.specs.Checking.{Checks, status_of}
+use Rattle.exam_program.specs.Opening.{HasTables, IsNotOpened, OpensFor}
 
 -- ---- over an open office
 
@@ -54,84 +50,52 @@ CarriesOut g contents job today old before untold result new after told =
     × ((input : Option (List ℕ)) × (rest : Option (List ℕ))
     × Does g contents job today input rest old before result new after)
 
--- a line is carried out over an open office, and every session is seated as promised afterwards
-abbrev pub RunsOver : {S O E : Type 0} → Ghosts S → Contents O → Said → OfficeIn S → O → E
-    → Result (Unit {0}) JobFault → O → E → Type 0
-RunsOver {S} g contents said old before untold result after told =
-    (new : OfficeIn S) × CarriesOut g contents said.job said.today old before untold result new after told
-    × ((s : Code) → IsSeated new.office s)
+-- ---- over an open database
 
--- ---- from the bytes of the files
+-- The connection sees what is committed, which has the tables that the job needs.
+abbrev pub IsReady : Job → State → Type 0
+IsReady job s = (s.committed ≡ s.now) × HasTables job s.now
 
--- no database was opened, for one of these reasons, and nothing was printed
-abbrev pub IsNotOpened : {A O : Type 0} → (Refusal → Bool) → O → Result A JobFault → O → Type 0
-IsNotOpened may before result after =
-    (refusal : Refusal) × IsTrue (may refusal) × (result ≡ Err (Refused refusal)) × (after ≡ before)
+-- The office in a database is opened, or `init` makes one. The line is carried out over it, and every session is seated
+-- as promised afterwards.
+pub record RunsOver {S O E : Type 0} (g : Ghosts S) (contents : Contents O) (said : Said) (was : Held S) (before : O)
+    (untold : E) (result : Result (Unit {0}) JobFault) (now : Held S) (office : Office) (after : O) (told : E)
+    : Type 0 where
+  pub first : OfficeIn S
+  pub opened : OpensFor said.job (state g was) (state g first.database) first.office
+  pub last : OfficeIn S
+  pub ends : (last.office ≡ office) × (last.database ≡ now)
+  pub done : CarriesOut g contents said.job said.today first before untold result last after told
+  pub seated : (s : Code) → IsSeated office s
+  -- The tables keep the one office before the line and the other after it, both committed, if the disk has returned
+  -- what was written and the connection is open in the end.
+  pub kept : IsReady said.job (state g was) → IsSound (state g now)
+      → IsKept (state g first.database) first.office × IsKept (state g now) office
 
--- the office that is opened for a job: `init` may make an empty one
-abbrev pub OpensFor : {S : Type 0} → Ghosts S → Image → Job → OfficeIn S → Type 0
-OpensFor g image line.init office = MakesIn g image office.database office.office
-OpensFor g image job office = OpensIn g image office.database office.office
+-- no office is opened, and nothing is printed
+abbrev pub IsRefused : {S O E : Type 0} → Ghosts S → Job → Held S → O → E → Result (Unit {0}) JobFault → Held S → O → E
+    → Type 0
+IsRefused g job was before untold result now after told =
+    (refusal : Refusal) × IsNotOpened g job was refusal now × (result ≡ Err (Refused refusal)) × (after ≡ before)
+    × (told ≡ untold)
 
--- the line is carried out over the office that the files held, or none is opened
-abbrev pub RunsOpened : {S O E : Type 0} → Ghosts S → Image → Contents O → Said → O → E
-    → Result (Unit {0}) JobFault → O → E → Type 0
-RunsOpened {S} g image contents said before untold result after told =
-    (IsNotOpened is_open_refusal before result after × (told ≡ untold))
-    ⊎ ((old : OfficeIn S) × OpensFor g image said.job old
-    × RunsOver g contents said old before untold result after told)
+-- A line that needs an office, and the office that is in the database in the end, if one was opened.
+abbrev pub RunsOpened : {S O E : Type 0} → Ghosts S → Contents O → Said → Held S → O → E → Result (Unit {0}) JobFault
+    → Held S → Option Office → O → E → Type 0
+RunsOpened g contents said was before untold result now None after told =
+    IsRefused g said.job was before untold result now after told
+RunsOpened g contents said was before untold result now (Some office) after told =
+    RunsOver g contents said was before untold result now office after told
 
--- the database that the files held is brought to the newest version, or none is opened
-abbrev pub MigratesIn : {S O : Type 0} → Ghosts S → Image → Contents O → O → Result (Unit {0}) JobFault → O → Type 0
-MigratesIn {S} g image contents before result after =
-    IsNotOpened is_store_refusal before result after
-    ⊎ ((old : Held S) × (new : Held S) × IsOver g image old new × Migrates g contents old before result new after)
-
--- the first bad table of the database that the files held; or that they held none, which is a bad office
-abbrev pub ChecksIn : {S O : Type 0} → Ghosts S → Image → Contents O → O → Result ℕ JobFault → O → Type 0
-ChecksIn {S} g image contents before result after =
-    IsNotOpened is_check_refusal before result after
-    ⊎ (TellsTable contents (Some Office) before result after
-    ⊎ ((was : Held S) × (now : Held S) × (found : Option Table) × IsOver g image was now
-    × FoundIn g was now found × TellsTable contents found before result after))
-
--- what a line does, by its job, before its fault is reported
-abbrev pub RunsJob : {S O E : Type 0} → Ghosts S → Image → Contents O → Said → Job → O → E
-    → Result ℕ JobFault → O → E → Type 0
-RunsJob g image contents said line.migrate before untold result after told =
-    (told ≡ untold)
-    × ((done : Result (Unit {0}) JobFault) × MigratesIn g image contents before done after
+-- What a line comes to over a database, by its job: `migrate` and `check` open no office.
+abbrev pub RunsOn : {S O E : Type 0} → Ghosts S → Contents O → Said → Job → Held S → O → E → Result ℕ JobFault
+    → Held S → Option Office → O → E → Type 0
+RunsOn g contents said line.migrate was before untold result now office after told =
+    (told ≡ untold) × (office ≡ None)
+    × ((done : Result (Unit {0}) JobFault) × Migrates g contents was before done now after
     × (result ≡ status_of 0 done))
-RunsJob g image contents said line.check before untold result after told =
-    (told ≡ untold) × ChecksIn g image contents before result after
-RunsJob g image contents said job before untold result after told =
-    (done : Result (Unit {0}) JobFault) × RunsOpened g image contents said before untold done after told
+RunsOn g contents said line.check was before untold result now office after told =
+    (told ≡ untold) × (office ≡ None) × Checks g contents was before result now after
+RunsOn g contents said job was before untold result now office after told =
+    (done : Result (Unit {0}) JobFault) × RunsOpened g contents said was before untold done now office after told
     × (result ≡ status_of 0 done)
-
--- ---- from the words
-
--- the exit status, and the line of a fault on standard error
-abbrev pub Ends : {E : Type 0} → Contents E → Result ℕ JobFault → E → ℕ → E → Type 0
-Ends errors (Ok status) before ended after = (ended ≡ status) × (after ≡ before)
-Ends errors (Err fault) before ended after = Reports errors (Err fault) before ended after
-
--- a line is carried out over the files that it names, and its fault is reported
-abbrev pub RunsLine : {S O E : Type 0} → Ghosts S → Image → Contents O → Contents E → Said → O → E → ℕ → O → E → Type 0
-RunsLine {S} {O} {E} g image contents errors said before untold status after told =
-    (result : Result ℕ JobFault) × (mid : E) × RunsJob g image contents said said.job before untold result after mid
-    × Ends errors result mid status told
-
--- a line is carried out; or the words say none, and that is reported
-abbrev pub RunsParsed : {S O E : Type 0} → Ghosts S → Image → Contents O → Contents E → Result Line LineFault
-    → O → E → ℕ → O → E → Type 0
-RunsParsed g image contents errors (Ok parsed) before untold status after told =
-    RunsLine g image contents errors (shown parsed) before untold status after told
-RunsParsed g image contents errors (Err fault) before untold status after told =
-    ReportsNoLine contents errors fault before untold status after told
-
--- the same of the words themselves
-abbrev pub RunsWords : {S O E : Type 0} → Ghosts S → Image → Contents O → Contents E → List (List ℕ)
-    → O → E → ℕ → O → E → Type 0
-RunsWords g image contents errors words before untold status after told =
-    (parsed : Result Line LineFault) × Answers parsed words
-    × RunsParsed g image contents errors parsed before untold status after told

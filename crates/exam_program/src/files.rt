@@ -1,135 +1,57 @@
 //! The database and the import file at a path.
 ghost use Rattle.std.specs.Prelude.{◌≡◌, ◌≢◌, false, IfOk, IfErr, IsTrue};
 ghost use Rattle.sqlite.specs.State.{HasCleanDisk};
-ghost use Rattle.sqlite.specs.Files.{file_state, over_files, IsBlankAs};
+ghost use Rattle.sqlite.specs.Files.{file_state, IsBlankAs};
 ghost use Rattle.sqlite_store.specs.FileStore.{view};
 ghost use Rattle.sqlite_wal.specs.Files.{image_at};
 ghost use Rattle.exam_tables.specs.Faults.{is_store_refusal};
-ghost use Rattle.exam_tables.specs.Versions.{IsBlank};
-ghost use Rattle.exam_store.specs.Found.{Finds, is_open_refusal};
-ghost use Rattle.exam_store.specs.Kept.{KeepsOurs};
-ghost use Rattle.exam_check.specs.Refused.{is_check_refusal};
 ghost use Rattle.exam_job.specs.Reading.{IsReadFault};
-ghost use Rattle.exam_program.specs.Checking.{FoundIn, TellsTable};
-ghost use Rattle.exam_program.specs.Opening.{IsOver, MakesIn, MakesNew, OpensIn, opening_refusal};
-ghost use Rattle.exam_program.specs.Running.{ChecksIn, MigratesIn};
+ghost use Rattle.exam_program.specs.Opening.{opening_refusal};
+ghost use Rattle.exam_program.specs.Words.{IsOver};
 
-use exam_check::{Table, check, check_line};
-use exam_job::{DONE, FAILED, JobFault, migrate_office, print};
-use exam_store::Store;
+use exam_job::JobFault;
+use exam_line::{Job, Line};
 use exam_types::Refusal;
 use sqlite::{Connection, Error, ErrorCode, FileFrom, FileStore, Start};
-use sqlite_trees::store::Store as Trees;
-use std::alloc::Global;
 use std::fs::{self, File, OpenOptions};
-use std::io::{ErrorKind, Write};
+use std::io::ErrorKind;
 use std::os::unix::fs::OpenOptionsExt;
 
 /// Only its owner can read and write a new database, since it holds access codes.
 const NEW_FILE_MODE: u32 = 0o600;
 
-/// What holds the tables of a file. `S` represents what the file held when it was opened, so that a contract can speak
-/// of it.
-pub type OfficeFile<S> = FileStore<FileFrom<S>>;
+/// A connection to the files at a path. `S` represents what the files held when they were opened, so that a contract
+/// can speak of it.
+pub type FileConnection<S> = Connection<FileStore<FileFrom<S>>>;
 
-/// Opens the office at the path, or makes an empty one if there is no file.
-pub fn create_office<S: Start>(
+/// Opens the database that the line names. Only `init` makes one if there is no file.
+pub fn open_named<S: Start>(
+    rt: &HostRuntime,
+    line: &Line<'_>,
+    start: S,
+) -> Result<FileConnection<S>, Refusal>
+    ensures over { IfOk result (IsOver (image_at S.Start)) }
+    ensures told { IfErr result (λ refusal. IsTrue (is_store_refusal refusal)) }
+{
+    match line.job {
+        Job::Init => open_or_make(rt, line.db, start),
+        _ => open_present(rt, line.db, start),
+    }
+}
+
+/// Opens the database at the path, or makes an empty one if there is no file.
+fn open_or_make<S: Start>(
     rt: &HostRuntime,
     path: &str,
     start: S,
-) -> Result<Store<OfficeFile<S>>, Refusal>
-    ensures found { IfOk result (λ store. MakesIn over_files (image_at S.Start) store.database store.office) }
-    ensures kept { IfOk result (λ store. KeepsOurs (file_state store.database) store.office) }
-    ensures told { IfErr result (λ refusal. IsTrue (is_open_refusal refusal)) }
+) -> Result<FileConnection<S>, Refusal>
+    ensures over { IfOk result (IsOver (image_at S.Start)) }
+    ensures told { IfErr result (λ refusal. IsTrue (is_store_refusal refusal)) }
 {
     if !has_file(rt, path)? {
         make_file(rt, path)?;
     }
-    let conn = open_database(rt, path, start)?;
-    create_over(rt.alloc(), conn)
-}
-
-/// Opens the office that the database holds, or makes an empty one if it is empty. Closes the database if this is
-/// refused.
-fn create_over<S: Start>(
-    alloc: Global,
-    conn: Connection<OfficeFile<S>>,
-) -> Result<Store<OfficeFile<S>>, Refusal>
-    ensures made { IsBlank (file_state conn).now
-        → IfOk result (λ store. MakesNew (file_state conn) (file_state store.database) store.office) }
-    ensures found { (IsBlank (file_state conn).now → ⊥)
-        → IfOk result (λ store. Finds (file_state conn) (file_state store.database) store.office) }
-    ensures kept { IfOk result (λ store. KeepsOurs (file_state store.database) store.office) }
-    ensures told { IfErr result (λ refusal. IsTrue (is_open_refusal refusal)) }
-{
-    match Store::create(alloc, conn) {
-        Ok(store) => Ok(store),
-        Err((refusal, conn)) => Err(close_after(refusal, conn)),
-    }
-}
-
-/// Opens the office at the path. Refused with `BadStore` if there is no file or an empty one; makes none.
-pub fn open_office<S: Start>(
-    rt: &HostRuntime,
-    path: &str,
-    start: S,
-) -> Result<Store<OfficeFile<S>>, Refusal>
-    ensures found { IfOk result (λ store. OpensIn over_files (image_at S.Start) store.database store.office) }
-    ensures kept { IfOk result (λ store. KeepsOurs (file_state store.database) store.office) }
-    ensures told { IfErr result (λ refusal. IsTrue (is_open_refusal refusal)) }
-{
-    let conn = open_present(rt, path, start)?;
-    open_over(rt.alloc(), conn)
-}
-
-/// Opens the office that the database holds. Closes the database if this is refused.
-fn open_over<S: Start>(
-    alloc: Global,
-    conn: Connection<OfficeFile<S>>,
-) -> Result<Store<OfficeFile<S>>, Refusal>
-    ensures found { IfOk result (λ store. Finds (file_state conn) (file_state store.database) store.office) }
-    ensures kept { IfOk result (λ store. KeepsOurs (file_state store.database) store.office) }
-    ensures told { IfErr result (λ refusal. IsTrue (is_open_refusal refusal)) }
-{
-    match Store::open(alloc, conn) {
-        Ok(store) => Ok(store),
-        Err((refusal, conn)) => Err(close_after(refusal, conn)),
-    }
-}
-
-/// Brings the office at the path to the newest version, and prints its version before and after. Refused with
-/// `BadStore` if there is no file; makes none.
-pub fn migrate_file<S: Start, O: Write>(
-    rt: &HostRuntime,
-    path: &str,
-    start: S,
-    out: &mut O,
-) -> Result<(), JobFault>
-    ensures { MigratesIn ⟦<OfficeFile<S> as Trees>⟧ (image_at S.Start) O.contents out.old result out.new }
-{
-    let mut conn = open_present(rt, path, start)?;
-    let told = migrate_office(rt.alloc(), &mut conn, out);
-    // The migration is already committed, so a failure here undoes nothing.
-    let _ = conn.close();
-    told
-}
-
-/// Prints `good`, or the first bad table of the database at the path, and returns the exit status. If there is no file,
-/// or it is no database, the bad table is `office`. Makes no file.
-pub fn check_file<S: Start, O: Write>(
-    rt: &HostRuntime,
-    path: &str,
-    start: S,
-    out: &mut O,
-) -> Result<u8, JobFault>
-    ensures { ChecksIn ⟦<OfficeFile<S> as Trees>⟧ (image_at S.Start) O.contents out.old result out.new }
-{
-    let found = match open_present(rt, path, start) {
-        Ok(conn) => check_over(rt.alloc(), conn)?,
-        Err(Refusal::BadStore) => Some(Table::Office),
-        Err(refusal) => return Err(JobFault::Refused(refusal)),
-    };
-    tell_table(found, out)
+    open_database(rt, path, start)
 }
 
 /// Opens the database at the path. Refused with `BadStore` if there is no file, an empty one, or one that is no
@@ -138,39 +60,14 @@ fn open_present<S: Start>(
     rt: &HostRuntime,
     path: &str,
     start: S,
-) -> Result<Connection<OfficeFile<S>>, Refusal>
-    ensures found { IfOk result (λ conn. IsOver over_files (image_at S.Start) conn conn) }
+) -> Result<FileConnection<S>, Refusal>
+    ensures over { IfOk result (IsOver (image_at S.Start)) }
     ensures told { IfErr result (λ refusal. IsTrue (is_store_refusal refusal)) }
 {
     if !has_file(rt, path)? || length_of(rt, path)? == 0 {
         return Err(Refusal::BadStore);
     }
     open_database(rt, path, start)
-}
-
-/// Finds the first bad table of the database, and closes it. Nothing was written, so a failure to close changes
-/// nothing.
-fn check_over<S: Start>(
-    alloc: Global,
-    mut conn: Connection<OfficeFile<S>>,
-) -> Result<Option<Table>, Refusal>
-    ensures found { IfOk result (λ found. (now : _) × FoundIn over_files conn now found) }
-    ensures told { IfErr result (λ refusal. IsTrue (is_check_refusal refusal)) }
-{
-    let found = check(alloc, &mut conn);
-    let _ = conn.close();
-    found
-}
-
-/// Prints the line for the first bad table, or for none, and returns the exit status.
-fn tell_table<O: Write>(found: Option<Table>, out: &mut O) -> Result<u8, JobFault>
-    ensures { TellsTable O.contents found out.old result out.new }
-{
-    print(out, check_line(found))?;
-    match found {
-        None => Ok(DONE),
-        Some(_) => Ok(FAILED),
-    }
 }
 
 /// Opens an import file.
@@ -251,8 +148,8 @@ fn open_database<S: Start>(
     rt: &HostRuntime,
     path: &str,
     start: S,
-) -> Result<Connection<OfficeFile<S>>, Refusal>
-    ensures found { IfOk result (λ conn. IsOver over_files (image_at S.Start) conn conn) }
+) -> Result<FileConnection<S>, Refusal>
+    ensures over { IfOk result (IsOver (image_at S.Start)) }
     ensures plain { IfOk result (λ conn. HasCleanDisk (file_state conn) → IsBlankAs false (image_at S.Start)
         → (view conn.store).has_sums ≡ false) }
     ensures told { IfErr result (λ refusal. IsTrue (is_store_refusal refusal)) }
@@ -272,11 +169,4 @@ fn open_refusal(error: &Error) -> Refusal
         Error::SqliteFailure(ErrorCode::NotADatabase) => Refusal::BadStore,
         _ => Refusal::Store,
     }
-}
-
-fn close_after<S: Start>(refusal: Refusal, conn: Connection<OfficeFile<S>>) -> Refusal
-    ensures { result ≡ refusal }
-{
-    let _ = conn.close();
-    refusal
 }

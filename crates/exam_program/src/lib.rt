@@ -2,9 +2,13 @@
 //! that the gate proves them once for the program and for its tests.
 #![tactic(auto)]
 
+mod databases;
 mod files;
+mod laws;
 mod running;
 mod serving;
 
+pub use databases::run_database;
+pub use laws::files_show_their_office;
 pub use running::run;
 pub use serving::serve_each;
