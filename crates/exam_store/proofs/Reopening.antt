@@ -1,8 +1,11 @@
 -- What the next run opens after a stop in the middle of a command.
-use Rattle.std.proofs.Common.{◌≡◌, ℕ, Result, Ok, Err, OnOk, inl, inr, sym, ap, subst, ◌∙◌}
+use Rattle.std.proofs.Common.{◌≡◌, ℕ, false, IsTrue, Result, Ok, Err, OnOk, inl, inr, sym, ap, subst, ◌∙◌}
+use Rattle.std.proofs.lemmas.Bool.{both_ways, cases_Bool}
 use Rattle.std.specs.List.{AllByRecursion}
+use Rattle.sqlite_trees.specs.declared.store.Store.{Ghosts}
 use Rattle.sqlite_trees.specs.Tree.{Trees}
 use Rattle.sqlite.specs.Effect.{Database}
+use Rattle.sqlite.specs.Held.{state}
 use Rattle.sqlite.specs.State.{State as Shown, HasCleanDisk}
 use Rattle.exam_types.specs.declared.refusal.Refusal.{Refusal}
 use Rattle.exam_sql.specs.Content.{Holds, places}
@@ -15,10 +18,11 @@ use Rattle.exam_commands.specs.Steps.{Step, StepTo}
 use Rattle.exam_laws.proofs.Lasting.{new_facts}
 use Rattle.exam_laws.proofs.OneResult.{one_result}
 use Rattle.exam_tables.specs.Inside.{IsOurs}
-use Rattle.exam_tables.specs.Transactions.{Commits}
-use Rattle.exam_store.specs.Applied.{MayApply, TurnsBy}
+use Rattle.exam_tables.specs.Transactions.{Commits, IsSound}
+use Rattle.exam_store.specs.Applied.{IsApplied, MayApply, TurnsBy}
 use Rattle.exam_store.specs.Kept.{IsKept, Keeps}
-use Rattle.exam_store.specs.Stops.{IsBeforeOrAfter, IsFoundAs, Reopens}
+use Rattle.exam_store.specs.Stops.{IsBeforeOrAfter, IsFoundAs, Reopens, WritesNothing}
+use Rattle.exam_store.specs.Stores.{OfficeIn}
 use Rattle.exam_store.proofs.FormedRows.{same_office}
 
 -- the office after an accepted command is in order
@@ -62,3 +66,18 @@ module _ (crashed was now : Shown) (found : State) (opens : Reopens crashed was 
         let same : made.1 ≡ after = (one_result done before made.1 after (Ok made.0) (Ok reply) today made.2 step).1 in
         let keeps : Keeps crashed.now after = subst (Keeps crashed.now) same (made.3 kept.0) in
         found_as crashed.now after keeps (commits.settled clean was.now.trees opens.left ∙ ap (λ (db : Database). db.trees) turned.1) (in_order done today before after reply step)
+
+-- over a connection that is shut
+module _ {S : Type 0} (g : Ghosts S) (done : Command) (today : ℕ) (old new : OfficeIn S)
+    (shut : (state g old.database).is_open ≡ false) (clean : HasCleanDisk (state g new.database)) where
+  was_shut : IsTrue (state g new.database).is_open → (IsSound (state g new.database) → IsTrue (state g old.database).is_open) → ⊥
+  was_shut now was_open = both_ways _ shut (was_open (clean, now))
+
+  pub writes_nothing : (answer : Result Reply Refusal) → IsApplied g done today old answer new → WritesNothing g old answer new
+  writes_nothing (Ok reply) applied = absurd (was_shut (applied.made.turned clean).2 applied.made.was_open)
+  writes_nothing (Err e) applied = record {
+    refused = tt;
+    office = applied.step.0;
+    shut = elim (cases_Bool (state g new.database).is_open) [ inl now ↦ absurd (was_shut now applied.made.was_open) | inr none ↦ none ];
+    stop = λ trees may. elim ((applied.shut shut).crash clean trees may) [ inl before ↦ before | inr none ↦ absurd none ];
+  }

@@ -1,9 +1,9 @@
 -- A command that is applied to an office in a database.
-use Rattle.std.specs.Prelude.{◌≡◌, ◌⊎◌, ℕ, All, IsTrue, List, [], ◌∷◌, Result, Ok, Err, IfErr, if◌then◌else◌}
+use Rattle.std.specs.Prelude.{◌≡◌, ◌⊎◌, ℕ, All, false, IsTrue, List, [], ◌∷◌, Result, Ok, Err, IfErr, if◌then◌else◌}
 use Rattle.sqlite.specs.Effect.{Database}
 use Rattle.sqlite_trees.specs.declared.store.Store.{Ghosts}
 use Rattle.sqlite.specs.Held.{state}
-use Rattle.sqlite.specs.State.{State as Shown, HasCleanDisk}
+use Rattle.sqlite.specs.State.{State as Shown, HasCleanDisk, Survives}
 use Rattle.exam_types.specs.declared.refusal.Refusal.{Refusal}
 use Rattle.exam_types.specs.declared.refusal.Refusal.TheVariants.{NoMemory}
 use Rattle.exam_commands.specs.declared.command.Command.{Command}
@@ -69,6 +69,7 @@ pub record IsApplied {S : Type 0} (g : Ghosts S) (done : Command) (today : ℕ) 
   pub made : Commits (state g old.database) (state g new.database) reply (TurnsBy done today old.office)
   pub refusal : HasCleanDisk (state g new.database) → IsOurs (state g old.database).now
       → IfErr reply (FailsToApply done today old.office (state g old.database) (state g new.database))
+  pub shut : (state g old.database).is_open ≡ false → Survives (state g old.database) (state g new.database) (λ _. ⊥)
 
 -- each command of a list is applied to what the one before it left
 abbrev pub AreApplied : {S : Type 0} → Ghosts S → List (Command × ℕ) → OfficeIn S

@@ -1,9 +1,13 @@
 -- A stop in the middle of a command, and what the next run opens.
-use Rattle.std.specs.Prelude.{◌≡◌, ◌⊎◌, ℕ, All, Ok}
+use Rattle.std.specs.Prelude.{◌≡◌, ◌⊎◌, ℕ, All, false, Result, Ok, OnOk}
 use Rattle.std.specs.Map.{values_of}
+use Rattle.sqlite_trees.specs.declared.store.Store.{Ghosts}
+use Rattle.sqlite_trees.specs.Tree.{Trees}
 use Rattle.sqlite.specs.Effect.{Database}
+use Rattle.sqlite.specs.Held.{state}
 use Rattle.sqlite.specs.State.{State as Shown, HasCleanDisk}
 use Rattle.exam_types.specs.Days.{IsDay}
+use Rattle.exam_types.specs.declared.refusal.Refusal.{Refusal}
 use Rattle.exam_rules.specs.declared.rows.Appeal.{Appeal}
 use Rattle.exam_rules.specs.declared.rows.Session.{Session}
 use Rattle.exam_rules.specs.Relations.{Relations}
@@ -17,6 +21,7 @@ use Rattle.exam_commands.specs.Steps.{Step}
 use Rattle.exam_tables.specs.Inside.{IsOurs}
 use Rattle.exam_store.specs.Found.{Finds}
 use Rattle.exam_store.specs.Kept.{Keeps}
+use Rattle.exam_store.specs.Stores.{OfficeIn}
 
 -- The day of each session and of each appeal is from 2000-01-01 to 2199-12-31: only these days have texts of their own
 -- in the tables.
@@ -51,3 +56,12 @@ abbrev pub IsBeforeOrAfter : Command → ℕ → State → Database → State �
 IsBeforeOrAfter done today before db found =
     IsFoundAs db found before
     ⊎ ((reply : Reply) × (after : State) × Step done today before (Ok reply) after × IsFoundAs db found after)
+
+-- The command is refused, the office stays, and the connection stays shut. A stop leaves only what it would have left
+-- before the command.
+pub record WritesNothing {S : Type 0} (g : Ghosts S) (old : OfficeIn S) (answer : Result Reply Refusal) (new : OfficeIn S)
+    : Type 0 where
+  pub refused : OnOk answer ⊥
+  pub office : new.office ≡ old.office
+  pub shut : (state g new.database).is_open ≡ false
+  pub stop : (trees : Trees) → (state g new.database).may_leave trees → (state g old.database).may_leave trees

@@ -1,5 +1,5 @@
 //! Laws of stored offices.
-ghost use Rattle.std.specs.Prelude.{◌≡◌, ◌⊎◌, ℕ, IsTrue, List, map, Result, Ok, Err, OnOk};
+ghost use Rattle.std.specs.Prelude.{◌≡◌, ◌⊎◌, ℕ, false, IsTrue, List, map, Result, Ok, Err, OnOk};
 ghost use Rattle.sqlite_trees.specs.Tree.{Trees};
 ghost use Rattle.sqlite.specs.Effect.{Database};
 ghost use Rattle.sqlite.specs.Held.{Held, state};
@@ -22,7 +22,7 @@ ghost use Rattle.exam_commands.specs.Steps.{Run, Step};
 ghost use Rattle.exam_store.specs.Applied.{Applies, FailsInStore, IsApplied, MayApply, NoneFails, in_memory};
 ghost use Rattle.exam_store.specs.Kept.{HaveSameTables, IsKept, Keeps};
 ghost use Rattle.exam_store.specs.Refused.{HoldsFormed};
-ghost use Rattle.exam_store.specs.Stops.{HasDays, HasRowDays, IsBeforeOrAfter, IsFoundAs, Reopens};
+ghost use Rattle.exam_store.specs.Stops.{HasDays, HasRowDays, IsBeforeOrAfter, IsFoundAs, Reopens, WritesNothing};
 ghost use Rattle.exam_store.specs.Stores.{OfficeIn};
 
 use sqlite::Alter;
@@ -102,7 +102,8 @@ pub fn repeated_decision_is_applied_once()
 /// A store that was open and kept its office stops at any moment of a command, and what the stop left is opened. Then
 /// the office that opening finds is the one before the command or the one after it; once the command has answered, it
 /// is the one after it. A stop in the middle of a call is a disk that fails from some call on, so `new` is what the
-/// call gave on such a disk, and its `may_leave` is what a crash may have left on the disk.
+/// call gave on such a disk, and its `may_leave` is what a crash may have left on the disk. If a failure has shut the
+/// connection before, the command is refused, and a stop leaves only what it would have left before the command.
 pub fn stopped_command_is_made_or_not<S: Alter, T: Alter>()
     ensures any_moment { (done : Command) (today : ℕ) (old new : OfficeIn S) (answer : Result Reply Refusal)
         (was now : Held T) (found : State)
@@ -117,6 +118,10 @@ pub fn stopped_command_is_made_or_not<S: Alter, T: Alter>()
         → IsApplied S.Store done today old answer new → HasCleanDisk (state S.Store new.database)
         → Reopens (state S.Store new.database) (state T.Store was) (state T.Store now) found
         → OnOk answer (IsFoundAs (state T.Store was).now found new.office) }
+    ensures shut { (done : Command) (today : ℕ) (old new : OfficeIn S) (answer : Result Reply Refusal)
+        → (state S.Store old.database).is_open ≡ false
+        → IsApplied S.Store done today old answer new → HasCleanDisk (state S.Store new.database)
+        → WritesNothing S.Store old answer new }
 {}
 
 /// The day of each session and of each appeal is from 2000-01-01 to 2199-12-31 in the empty office and in one that was

@@ -154,7 +154,8 @@ impl<S: Alter> Store<S> {
         }
     }
 
-    /// Carries out a command on a day, in one transaction, or refuses it. After a refusal everything is as before.
+    /// Carries out a command on a day, in one transaction, or refuses it. After a refusal everything is as before. Over a
+    /// connection that is shut nothing is written.
     pub fn apply(&mut self, alloc: Global, command: &Command, today: Day) -> Result<Reply, Refusal>
         ensures step { MayApply command.now today self.old.office result self.new.office }
         ensures kept { IsSound (state S.Store self.new.database) → Rekeeps self.old.office self.new.office
@@ -165,6 +166,8 @@ impl<S: Alter> Store<S> {
             → IsOurs (state S.Store self.old.database).now
             → IfErr result (FailsToApply command.now today self.old.office
             (state S.Store self.old.database) (state S.Store self.new.database)) }
+        ensures shut { (state S.Store self.old.database).is_open ≡ false
+            → Survives (state S.Store self.old.database) (state S.Store self.new.database) (λ _. ⊥) }
     {
         // The draft holds the office until it is saved or taken back.
         let office = mem::replace(&mut self.office, Office::empty(alloc));

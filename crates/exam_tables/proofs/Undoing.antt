@@ -1,14 +1,15 @@
 -- Why what was written is not committed.
-use Rattle.std.proofs.Common.{◌≡◌, ◌≤◌, inl, inr, ap, ◌∙◌, Result, Ok, Err, IfErr, IsTrue}
+use Rattle.std.proofs.Common.{◌≡◌, ◌≤◌, List, inl, inr, ap, sym, subst, ◌∙◌, Result, Ok, Err, IfErr, IsTrue}
 use Rattle.std.proofs.lemmas.Bool.{both_ways}
 use Rattle.sqlite_trees.specs.Tree.{Trees}
 use Rattle.sqlite_trees.specs.declared.error.StoreError.TheVariants.{OutOfMemory, Io, Corrupt, Full, Broken, Unstorable}
 use Rattle.sqlite.specs.declared.error.Error.{Error}
-use Rattle.sqlite.specs.State.{State, HasCleanDisk, Survives}
+use Rattle.sqlite.specs.State.{State, HasCleanDisk, IsUnchanged, Survives}
 use Rattle.sqlite.specs.Steps.{FailsToCommit}
 use Rattle.exam_types.specs.declared.refusal.Refusal.{Refusal}
 use Rattle.exam_tables.specs.Faults.{refusal_of}
-use Rattle.exam_tables.specs.Inside.{FailsFor}
+use Rattle.exam_tables.specs.Inside.{FailsFor, FailsToWrite, IsOurs, RefusesOne, Write}
+use Rattle.exam_tables.specs.Unasked.{FailsToAsk}
 use Rattle.exam_tables.proofs.Steps.{down_later, down_longer}
 
 -- what was written is undone
@@ -32,3 +33,29 @@ module _ (Against : Type 0) {P Q : Trees → Type 0} (old last end : State) (bef
   pub uncommitted : (result : Result (Unit {0}) Refusal) → IfErr result (λ e. (error : Error) × (e ≡ refusal_of error) × FailsToCommit last end error) → IfErr result (FailsFor Against old end)
   uncommitted (Ok u) failed = tt
   uncommitted (Err e) failed = not_committed e failed.0 failed.1 failed.2
+
+-- no statement could be run
+pub unasked : (Against : Type 0) (old new : State) (e : Refusal) → FailsToAsk old new e → FailsFor Against old new e
+unasked Against old new e (error, is, (OutOfMemory, told, why, back, tells)) = inl (is ∙ ap refusal_of told)
+unasked Against old new e (error, is, (Io, told, why, back, tells)) = inr (is ∙ ap refusal_of told, inl (inl why))
+unasked Against old new e (error, is, (Corrupt, told, why, back, tells)) = inr (is ∙ ap refusal_of told, inl (inl why))
+unasked Against old new e (error, is, (Full, told, why, back, tells)) = inr (is ∙ ap refusal_of told, inl (inl why))
+unasked Against old new e (error, is, (Broken, told, why, back, tells)) = inr (is ∙ ap refusal_of told, inl (inr why))
+unasked Against old new e (error, is, (Unstorable, told, why, back, tells)) = absurd why
+
+-- what is not written after a call that left the database as it was
+module _ (writes : List Write) {P : Trees → Type 0} (old mid new : State) (before : Survives old mid P) (clean : HasCleanDisk mid)
+    (up : mid.faults ≤ new.faults) (same : IsUnchanged old mid) where
+  not_written : (e : Refusal) → FailsToWrite writes mid new e → FailsToWrite writes old new e
+  not_written e (inl lacks) = inl lacks
+  not_written e (inr (told, inl down)) = inr (told, inl (down_later old mid new before clean up down))
+  not_written e (inr (told, inr refused)) =
+      inr (
+        told,
+        inr (subst (λ limit. RefusesOne writes limit old.now) before.limit
+            (subst (λ db. RefusesOne writes mid.step_limit db) same.0.now_is refused)),
+      )
+
+  pub written_later : IsOurs old.now → (result : Result (Unit {0}) Refusal) → (IsOurs mid.now → IfErr result (FailsToWrite writes mid new)) → IfErr result (FailsToWrite writes old new)
+  written_later ours (Ok u) failed = tt
+  written_later ours (Err e) failed = not_written e (failed (subst IsOurs (sym same.0.now_is) ours))

@@ -179,12 +179,13 @@ fn is_free(schema: &Schema, name: &str) -> bool
 }
 
 /// Refuses if no statement can be run, since a failure has shut the connection or memory runs out. Reads no row.
-fn ask_nothing<S: Alter>(conn: &mut Connection<S>) -> Result<(), Refusal>
+pub fn ask_nothing<S: Alter>(conn: &mut Connection<S>) -> Result<(), Refusal>
     ensures ok { HasCleanDisk (state S.Store conn.new)
         → OnOk result (IsUnchanged (state S.Store conn.old) (state S.Store conn.new)) }
     ensures failed { HasCleanDisk (state S.Store conn.new)
         → IfErr result (FailsToAsk (state S.Store conn.old) (state S.Store conn.new)) }
     ensures survives { Survives (state S.Store conn.old) (state S.Store conn.new) (λ _. ⊥) }
+    ensures ended { conn.old.in_transaction ≡ false → conn.new.in_transaction ≡ false }
     ensures told { IfErr result (λ e. IsTrue (is_store_refusal e)) }
 {
     if let Err(error) = conn.prepare("SELECT 1") {

@@ -13,7 +13,7 @@ ghost use Rattle.exam_tables.specs.Writes.{all_deleted, all_saved};
 
 use crate::differences::{Difference, Keyed};
 use crate::faults::refusal_of;
-use crate::schema::{create_tables, has_marks, show_rules, widen_tables};
+use crate::schema::{ask_nothing, create_tables, has_marks, show_rules, widen_tables};
 use crate::table::{delete_rows, put_rows};
 use crate::tables::appeals::AppealTable;
 use crate::tables::arrangements::ArrangementTable;
@@ -123,12 +123,31 @@ pub fn save_changes<S: Alter>(
         → IsOurs (state S.Store conn.old).now → IfErr result
         (FailsToWrite (all_saved changes.now) (state S.Store conn.old) (state S.Store conn.new)) }
     ensures busy { IsTrue conn.old.in_transaction → (result ≡ Err Refusal.Store) × (conn.new ≡ conn.old) }
+    ensures shut { (state S.Store conn.old).is_open ≡ false
+        → Survives (state S.Store conn.old) (state S.Store conn.new) (λ _. ⊥) }
     ensures ended { conn.old.in_transaction ≡ false → conn.new.in_transaction ≡ false }
     ensures told { IfErr result (λ e. IsTrue (is_store_refusal e)) }
 {
     if !conn.is_autocommit() {
         return Err(Refusal::Store);
     }
+    // A connection that is shut refuses here, so that no commit is tried over it, not even one of no change.
+    ask_nothing(conn)?;
+    commit_changes(conn, changes)
+}
+
+fn commit_changes<S: Alter>(conn: &mut Connection<S>, changes: &Changes<'_>) -> Result<(), Refusal>
+    requires { conn.old.in_transaction ≡ false }
+    ensures made { Commits (state S.Store conn.old) (state S.Store conn.new) result
+        (Becomes (all_saved changes.now)) }
+    ensures failed { HasCleanDisk (state S.Store conn.new) → IsOurs (state S.Store conn.old).now
+        → IfErr result
+        (FailsToWrite (all_saved changes.now) (state S.Store conn.old) (state S.Store conn.new)) }
+    ensures ended { conn.new.in_transaction ≡ false }
+    ensures told { IfErr result (λ e. IsTrue (is_store_refusal e)) }
+{
+    // The contract of `is_autocommit` says that what is seen was committed.
+    let _ = conn.is_autocommit();
     let mut tx = conn.transaction();
     write_changes(&mut tx, changes)?;
     commit(tx)

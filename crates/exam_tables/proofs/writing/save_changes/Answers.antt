@@ -1,60 +1,57 @@
-use Rattle.std.proofs.Common.{◌≡◌, IsTrue, Err, IfErr, arith, refl, sym, subst, rules}
+use Rattle.std.proofs.Common.{◌≡◌, IsTrue, Err, arith, rules}
+use Rattle.std.proofs.lemmas.Bool.{both_ways}
 use Rattle.sqlite.specs.Held.{state}
 use Rattle.sqlite.specs.State.{HasCleanDisk}
-use Rattle.sqlite.proofs.Callers.{survives_begin}
+use Rattle.sqlite.proofs.StateLemmas.{survives_then}
 use Rattle.exam_tables.specs.Inside.{Becomes}
 use Rattle.exam_tables.specs.Writes.{all_saved}
-use Rattle.exam_tables.specs.Transactions.{Commits}
-use Rattle.exam_tables.specs.Inside.{FailsToWrite, RefusesOne}
-use Rattle.exam_tables.proofs.Committing.{committed_by}
-use Rattle.exam_tables.proofs.Undoing.{uncommitted, undone}
+use Rattle.exam_tables.proofs.Asking.{asks_left}
+use Rattle.exam_tables.proofs.Committing.{reads_commit, then_commits}
+use Rattle.exam_tables.proofs.Undoing.{unasked, written_later}
 use Rattle.exam_tables.proofs.writing.save_changes.Goals as goal
 
 pub returns-clause-made : goal.returns-clause-made
 returns-clause-made g c =
-    let old = state g.S.Store c.args.conn.now in
-    let last = c.write_changes.new.tx.conn.now in
-    let end = c.commit.new.tx.0 in
-    let change = all_saved c.args.changes.now in
-    let made = rw c.transaction-tx.ensures.begun at c.in_ok-write_changes.ensures.made in
-    let settled : IsTrue old.is_open → old.now ≡ old.committed = search rules in
-    let same : end ≡ c.conn-2-1.given.0 = search rules in
-    subst (λ h. Commits old (state g.S.Store h) c.commit.result (Becomes change)) same
-    (committed_by old (state g.S.Store last) (state g.S.Store end) c.commit.result (Becomes change) settled
-    (λ clean. made.made clean refl)
-    (λ clean. let kept = made.kept clean in record { was_open = kept.was_open; committed = kept.committed })
-    (survives_begin g.S.Store c.args.conn.now (state g.S.Store last) _ made.survives) c.commit.ensures.ok
-    c.commit.ensures.failed c.commit.ensures.survives
-    (λ trees is may. g.met.S.Store.settled end.store trees is may))
+    then_commits (state g.S.Store c.args.conn.now) (state g.S.Store c.ask_nothing.new.conn)
+    (state g.S.Store c.commit_changes.new.conn) c.commit_changes.result (Becomes (all_saved c.args.changes.now))
+    c.in_ok-ask_nothing.ensures.ok c.ask_nothing.ensures.survives c.commit_changes.ensures.made
 
 pub returns-clause-failed : goal.returns-clause-failed
 returns-clause-failed g c = λ ended clean ours.
     let old = state g.S.Store c.args.conn.now in
-    let last = state g.S.Store c.write_changes.new.tx.conn.now in
-    let end = c.commit.new.tx.0 in
-    let writes = all_saved c.args.changes.now in
-    let made = rw c.transaction-tx.ensures.begun at c.in_ok-write_changes.ensures.made in
-    let same : end ≡ c.conn-2-1.given.0 = search rules in
-    let clean_end : HasCleanDisk (state g.S.Store end) = subst (λ h. HasCleanDisk (state g.S.Store h)) (sym same) clean in
-    let clean_last : HasCleanDisk last = omega (arith, c.commit.ensures.survives.clean, clean_end) in
-    let going = (made.made clean_last refl).1 in
-    subst (λ h. IfErr c.commit.result (FailsToWrite writes old (state g.S.Store h))) same
-    (uncommitted (RefusesOne writes old.step_limit old.now) old last (state g.S.Store end)
-    (survives_begin g.S.Store c.args.conn.now last _ made.survives) c.commit.ensures.survives clean_last going
-    c.commit.result (c.commit.ensures.failed clean_end))
+    let mid = state g.S.Store c.ask_nothing.new.conn in
+    let new = state g.S.Store c.commit_changes.new.conn in
+    let after = c.commit_changes.ensures.made.survives in
+    let clean_mid : HasCleanDisk mid = omega (arith, after.clean, clean) in
+    written_later (all_saved c.args.changes.now) old mid new c.ask_nothing.ensures.survives clean_mid after.counts
+    (c.in_ok-ask_nothing.ensures.ok clean_mid) ours c.commit_changes.result (c.commit_changes.ensures.failed clean)
 
-pub returns-in_err-write_changes-clause-failed : goal.returns-in_err-write_changes-clause-failed
-returns-in_err-write_changes-clause-failed g c = λ ended clean ours.
+pub returns-clause-shut : goal.returns-clause-shut
+returns-clause-shut g c = λ shut.
     let old = state g.S.Store c.args.conn.now in
-    let last = state g.S.Store c.write_changes.new.tx.conn.now in
-    let end = c.drop-tx.new.self.0 in
-    let writes = all_saved c.args.changes.now in
-    let made = rw c.transaction-tx.ensures.begun at c.in_err-write_changes.ensures.made in
-    let e = c.in_err-write_changes.field-0.0 in
+    let mid = state g.S.Store c.ask_nothing.new.conn in
+    let new = state g.S.Store c.commit_changes.new.conn in
+    let after = c.commit_changes.ensures.made.survives in
+    survives_then old mid new _ _ _ (λ _ trees none. none)
+    (λ clean trees may. absurd (both_ways _ shut (c.in_ok-ask_nothing.ensures.ok (omega (arith, after.clean))).0.was_open))
+    c.ask_nothing.ensures.survives after
+
+-- where no statement can be run
+
+pub returns-in_err-ask_nothing-clause-made : goal.returns-in_err-ask_nothing-clause-made
+returns-in_err-ask_nothing-clause-made g c =
+    let old = state g.S.Store c.args.conn.now in
+    let new = state g.S.Store c.ask_nothing.new.conn in
+    let e = c.in_err-ask_nothing.field-0.0 in
     let is : c.from_residual.result ≡ Err e = search rules in
-    let same : end ≡ c.conn-1.given.0 = search rules in
-    let clean_end : HasCleanDisk (state g.S.Store end) = subst (λ h. HasCleanDisk (state g.S.Store h)) (sym same) clean in
-    let clean_last : HasCleanDisk last = omega (arith, c.drop-tx.ensures.survives.clean, clean_end) in
-    rw is (subst (λ h. FailsToWrite writes old (state g.S.Store h) e) same
-    (undone (RefusesOne writes old.step_limit old.now) old last
-    (state g.S.Store end) e c.drop-tx.ensures.survives.counts (made.failed clean_last refl ours)))
+    let settled : IsTrue old.is_open → old.now ≡ old.committed = search rules in
+    rw is (reads_commit old new e (Becomes (all_saved c.args.changes.now)) settled
+    (λ clean. asks_left old new e (c.in_err-ask_nothing.ensures.failed clean)) c.ask_nothing.ensures.survives)
+
+pub returns-in_err-ask_nothing-clause-failed : goal.returns-in_err-ask_nothing-clause-failed
+returns-in_err-ask_nothing-clause-failed g c = λ ended clean ours.
+    let old = state g.S.Store c.args.conn.now in
+    let new = state g.S.Store c.ask_nothing.new.conn in
+    let e = c.in_err-ask_nothing.field-0.0 in
+    let is : c.from_residual.result ≡ Err e = search rules in
+    rw is (unasked _ old new e (c.in_err-ask_nothing.ensures.failed clean))

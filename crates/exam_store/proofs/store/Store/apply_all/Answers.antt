@@ -28,7 +28,7 @@ commands-preserved g c =
           (applied_more g.S.Store
           (take i done) x c.commands.replies.items c.apply.result c.args.self.now c.commands.self c.apply.new.self
           c.commands.invariant.each
-          (record { step = c.apply.ensures.step; made = made; refusal = c.apply.ensures.refusal })));
+          (record { step = c.apply.ensures.step; made = made; refusal = c.apply.ensures.refusal; shut = c.apply.ensures.shut })));
       kept = λ sound was. c.apply.ensures.kept sound (c.commands.invariant.kept (back sound) was);
       was_open = λ sound. c.commands.invariant.was_open (back sound);
       answered = omega (arith, c.push_reserved.ensures.len, c.commands.invariant.answered);
