@@ -72,7 +72,13 @@ module _ {S : Type 0} (g : Ghosts S) where
     module _ (Failed : Type 0) (Leads : State → Type 0) where
       -- nothing was done
       itself : (it : OfficeIn S) → Settles g Failed Leads it it
-      itself it = record { was_clean = λ clean. clean; was_sound = λ sound. sound; rests = λ rest sound. rest; stop = λ rest clean trees may. inl (left_at_rest it rest trees may) }
+      itself it = record {
+        was_clean = λ clean. clean;
+        was_sound = λ sound. sound;
+        rests = λ rest sound. rest;
+        stop = λ rest clean trees may. inl (left_at_rest it rest trees may);
+        shut = λ closed clean trees may. may;
+      }
 
       pub unchanged_settles : (old new : OfficeIn S) → new ≡ old → Settles g Failed Leads old new
       unchanged_settles old new same = subst (λ (o : OfficeIn S). Settles g Failed Leads old o) (sym same) (itself old)
@@ -80,6 +86,11 @@ module _ {S : Type 0} (g : Ghosts S) where
       module _ (old new : OfficeIn S) where
         grown : {P : Trees → Type 0} → Survives (state g old.database) (state g new.database) P → HasCleanDisk (state g new.database) → HasCleanDisk (state g old.database)
         grown survives clean = omega (arith, survives.clean, clean)
+
+        -- a stop leaves only what it would have left before
+        leaves_earlier : Survives (state g old.database) (state g new.database) (λ _. ⊥) → HasCleanDisk (state g new.database) → (trees : Trees)
+            → (state g new.database).may_leave trees → (state g old.database).may_leave trees
+        leaves_earlier survives clean trees may = elim (survives.crash clean trees may) [ inl earlier ↦ earlier | inr none ↦ absurd none ]
 
         -- the database was only read
         pub reading_settles : new.office ≡ old.office → Survives (state g old.database) (state g new.database) (λ _. ⊥) → KeepsOn g old new → Settles g Failed Leads old new
@@ -91,6 +102,7 @@ module _ {S : Type 0} (g : Ghosts S) where
             | inl earlier ↦ inl (subst (λ (o : State). LeavesOffice o trees) (sym same) (left_at_rest old rest trees earlier))
             | inr none ↦ absurd none
           ];
+          shut = λ closed. leaves_earlier survives;
         }
 
         -- a command was applied
@@ -121,6 +133,7 @@ module _ {S : Type 0} (g : Ghosts S) where
                   stepped_has (state g new.database).now new.office reply rest applied.step keeps,
                   applied.made.settled clean trees may ∙ ap (λ (db : Database). db.trees) turned.1,
                 );
+            shut = λ closed. leaves_earlier (applied.shut closed);
           }
 
           -- a step that is refused has no other result
@@ -151,6 +164,7 @@ module _ {S : Type 0} (g : Ghosts S) where
                     (turned.0, stepped_has turned.0 by.1 by.0 rest by.2 (by.3 rest.kept.0), turned.2),
                   )
             ];
+            shut = λ closed. leaves_earlier (applied.shut closed);
           }
 
           pub applied_settles : (answered : Result Reply Refusal) → ((e : Refusal) → answered ≡ Err e → IsTrue (is_store_refusal e) → Failed)
@@ -168,4 +182,5 @@ settles_more g F G L M fails leads old new s = record {
     | inl stays ↦ inl stays
     | inr other ↦ inr (fails other.0, other.1, other.2, leads other.2 other.3, other.4)
   ];
+  shut = s.shut;
 }

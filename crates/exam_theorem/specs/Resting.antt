@@ -1,5 +1,5 @@
 -- The office that a database has, in whichever version, and what a stop leaves of it.
-use Rattle.std.specs.Prelude.{◌≡◌, ◌⊎◌, ℕ, IsTrue}
+use Rattle.std.specs.Prelude.{◌≡◌, ◌⊎◌, ℕ, false, IsTrue}
 use Rattle.sqlite_trees.specs.declared.store.Store.{Ghosts}
 use Rattle.sqlite_trees.specs.Tree.{Trees}
 use Rattle.sqlite.specs.Effect.{Database}
@@ -88,3 +88,6 @@ pub record Settles {S : Type 0} (g : Ghosts S) (Failed : Type 0) (Leads : Office
       → (state g new.database).may_leave trees
       → LeavesOffice new.office trees
       ⊎ (Failed × (new.office ≡ old.office) × (at : Office) × Leads at × LeavesOffice at trees)
+  -- once a failure has shut the connection, a stop leaves only what it would have left before the call
+  pub shut : (state g old.database).is_open ≡ false → HasCleanDisk (state g new.database) → (trees : Trees)
+      → (state g new.database).may_leave trees → (state g old.database).may_leave trees
