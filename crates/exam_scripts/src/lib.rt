@@ -11,12 +11,15 @@
 #![tactic(auto)]
 
 mod commands;
+pub mod days;
 mod faults;
+mod playing;
 mod requests;
 mod steps;
 mod tables;
 
 pub use commands::words_of;
 pub use exam_school::{Step, expect_same};
+pub use playing::played;
 pub use requests::request_of;
 pub use steps::answer_to;

@@ -1,9 +1,9 @@
 //! Connections within this machine, served one after the other.
 use super::refusing::INIT;
-use super::{PEOPLE, TIMETABLE};
 use exam_job::JobFault;
 use exam_program::serve_each;
-use exam_scripts::{Step, answer_to, expect_same};
+use exam_school::{FIRST_TAKES_A, PEOPLE, TIMETABLE};
+use exam_scripts::played;
 use exam_store::Store;
 use exam_types::Day;
 use sqlite::{Connection, MemStore};
@@ -14,13 +14,6 @@ use std::test::Fail;
 
 /// The last day on which an appeal against a hall can be lodged.
 const LAST_DAY: &str = "2027-05-30";
-
-const ENTERED: &str = "\
-$ import entries f
-number,paper
-0000001,MA-1
-> added 1 changed 0 same 0
-";
 
 /// What a client sends, how many bytes follow that nobody reads, and what it gets. The first one sends nothing.
 const CLIENTS: &[(&str, usize, &str)] = &[
@@ -60,27 +53,13 @@ The lamp above the desk flickers, and nobody could mend it in time for the exam.
 const SHOW_APPEALS: &str =
     "GET /candidates/0000001/appeals HTTP/1.1\r\nHost: 127.0.0.1\r\nExam-Code: CODE0001\r\n\r\n";
 
-/// Plays a day over the office that the connection has.
-fn played(
-    alloc: Global,
-    conn: Connection<MemStore>,
-    day: &str,
-) -> Result<Connection<MemStore>, Fail> {
-    let mut conn = conn;
-    for part in day.split("$ ").skip(1) {
-        let step = Step::parse(part).ok_or("step")?;
-        let (left, told) = answer_to(alloc, conn, step.line, step.file.as_bytes());
-        expect_same(told?.as_str(), step.answer, step.line)?;
-        conn = left;
-    }
-    Ok(conn)
-}
-
 /// An office in memory, in which one candidate sits.
 fn office(alloc: Global) -> Result<Store<MemStore>, Fail> {
     let mut conn = Connection::open_in_memory(alloc).ok().ok_or("open")?;
-    for day in [INIT, TIMETABLE, PEOPLE, ENTERED] {
-        conn = played(alloc, conn, day)?;
+    for day in [INIT, TIMETABLE, PEOPLE, FIRST_TAKES_A] {
+        let (left, compared) = played(alloc, conn, day);
+        compared?;
+        conn = left;
     }
     Ok(Store::open(alloc, conn).ok().ok_or("office")?)
 }

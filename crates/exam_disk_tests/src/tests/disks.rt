@@ -18,6 +18,14 @@ pub struct Left<D: Disk> {
     pub files: Files<D>,
 }
 
+/// The options of the program, but for room for fewer pages, which is made anew at each opening. An office of the tests
+/// has fewer.
+fn options() -> Options {
+    let mut options = Options::new(1);
+    options.cache_pages = 100;
+    options
+}
+
 fn connect<D: Disk + Drop>(
     alloc: Global,
     files: Files<D>,
@@ -25,7 +33,7 @@ fn connect<D: Disk + Drop>(
     if !files.may_be_used() {
         return Err(files);
     }
-    match Connection::open_files(alloc, files, Options::new(1)) {
+    match Connection::open_files(alloc, files, options()) {
         Ok(conn) => Ok(conn),
         Err((_, left)) => Err(left.into_files()),
     }

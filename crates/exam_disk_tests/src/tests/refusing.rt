@@ -3,7 +3,13 @@ use super::disks::{
     Fused, Left, Seen, Unsynced, are_same, are_whole, copied, files_after, files_left, remains_of,
     same, seen_in, taken,
 };
-use super::{PEOPLE, TIMETABLE};
+use exam_school::{FIRST_TAKES_A, PEOPLE, SECOND_NEEDS_A, TIMETABLE};
+use exam_scripts::days::{
+    A_QUARTER_MORE, BARRED_FROM_A, BARRED_FROM_B, CLASH_IS_GRANTED, CLOSED, FEWER_DESKS,
+    MOVED_BY_A_CHAIN, MOVED_TWICE, NOBODY_IS_SHORT, ONE_HAS_NO_DESK, ONE_OPENING_MORE,
+    REFUSED_FILES, THIRD_IS_SHORT, THREE_COME, THREE_HALLS, THREE_NEEDS, TWO_PAPERS_AT_ONCE,
+    TWO_PAPERS_IN_A_HALL, TWO_SESSIONS,
+};
 use exam_scripts::{Step, expect_same};
 use sqlite::Files;
 use std::alloc::Global;
@@ -19,7 +25,9 @@ struct Course {
     files: Files<Fused>,
     /// Their rows.
     before: String,
-    /// What is seen after the step. The same step is then taken again.
+    /// The files after the step.
+    behind: Files<Fused>,
+    /// What is seen in them. The same step is then taken again.
     after: Seen,
 }
 
@@ -47,21 +55,17 @@ fn seen_behind(alloc: Global, files: &Files<Fused>, step: &Step<'_>) -> Result<S
     seen_in(alloc, files, step)
 }
 
-/// Takes the step. Gives the files after it too.
-fn course_of(
-    alloc: Global,
-    files: Files<Fused>,
-    step: &Step<'_>,
-) -> Result<(Course, Files<Fused>), Fail> {
+/// Takes the step.
+fn course_of(alloc: Global, files: Files<Fused>, step: &Step<'_>) -> Result<Course, Fail> {
     let before = rows_of(alloc, &files)?;
     let behind = files_behind(alloc, &files, step)?;
     let after = seen_behind(alloc, &behind, step)?;
-    let course = Course {
+    Ok(Course {
         files,
         before,
+        behind,
         after,
-    };
-    Ok((course, behind))
+    })
 }
 
 /// Whether an answer says that memory ran out or that the files cannot be used. A sheet that is read from the files may
@@ -100,7 +104,7 @@ fn expect_seen(
     expect_same(again, step.answer, place)
 }
 
-/// The files hold the tables before the step or after all of it.
+/// The files hold the tables before the step or after all of it. Files with the bytes of those need no look.
 fn expect_whole(
     alloc: Global,
     course: &Course,
@@ -109,7 +113,9 @@ fn expect_whole(
     files: Files<Fused>,
     place: &str,
 ) -> Result<(), Fail> {
-    if !is_answered && are_same(&files, &course.files) {
+    let is_known = are_same(&files, &course.behind)
+        || (!is_answered && are_same(&files, &course.files));
+    if is_known {
         return Ok(());
     }
     let seen = seen_in(alloc, files, step)?;
@@ -197,10 +203,10 @@ fn refuse(
     step: &Step<'_>,
     ways: &[Unsynced],
 ) -> Result<Files<Fused>, Fail> {
-    let (course, files) = course_of(alloc, files, step)?;
+    let course = course_of(alloc, files, step)?;
     refuse_each(alloc, &course, step, true, ways)?;
     refuse_each(alloc, &course, step, false, ways)?;
-    Ok(files)
+    Ok(course.behind)
 }
 
 /// Refuses each step of a text, over files that hold the days before.
@@ -222,6 +228,11 @@ pub fn refuse_in_turn(
 /// The program goes on, or another opens the files: what was written is there.
 const IS_THERE: &[Unsynced] = &[Unsynced::Kept];
 
+pub const INIT: &str = "\
+$ init
+> ready
+";
+
 #[test]
 fn an_office_is_made_whole_or_not_at_all(rt: HostRuntime) -> Result<(), Fail> {
     refuse_in_turn(&rt, &[], INIT, IS_THERE)
@@ -237,32 +248,91 @@ fn people_are_imported_whole_or_not_at_all(rt: HostRuntime) -> Result<(), Fail> 
     refuse_in_turn(&rt, &[INIT, TIMETABLE], PEOPLE, IS_THERE)
 }
 
+/// The days at the school before anybody is entered.
+pub const NOBODY_SITS: &[&str] = &[INIT, TIMETABLE, PEOPLE];
+
+/// The days before a second candidate comes. An office that is there already is ready.
+pub const ONE_SITS: &[&str] = &[INIT, TIMETABLE, PEOPLE, FIRST_TAKES_A, INIT];
+
+/// The days before a third one comes.
+pub const TWO_SIT: &[&str] = &[INIT, TIMETABLE, PEOPLE, FIRST_TAKES_A, SECOND_NEEDS_A];
+
 #[test]
-fn candidates_are_entered_whole_or_not_at_all(rt: HostRuntime) -> Result<(), Fail> {
-    refuse_in_turn(&rt, &[INIT, TIMETABLE, PEOPLE], ENTERED, IS_THERE)
+fn the_first_entry_is_made_whole_or_not_at_all(rt: HostRuntime) -> Result<(), Fail> {
+    refuse_in_turn(&rt, NOBODY_SITS, NOBODY_IS_SHORT, IS_THERE)?;
+    refuse_in_turn(&rt, NOBODY_SITS, FIRST_TAKES_A, IS_THERE)
 }
 
-/// The days before two candidates sit.
-const TWO_SIT: &[&str] = &[INIT, TIMETABLE, PEOPLE, ENTERED];
-
 #[test]
-fn an_entry_is_left_whole_or_not_at_all(rt: HostRuntime) -> Result<(), Fail> {
-    refuse_in_turn(&rt, TWO_SIT, LEFT, IS_THERE)
+fn an_entry_without_a_seat_is_made_whole_or_not_at_all(rt: HostRuntime) -> Result<(), Fail> {
+    refuse_in_turn(&rt, TWO_SIT, THIRD_IS_SHORT, IS_THERE)
 }
 
 #[test]
-fn an_entry_is_taken_again_whole_or_not_at_all(rt: HostRuntime) -> Result<(), Fail> {
+fn sheets_after_a_grant_change_nothing(rt: HostRuntime) -> Result<(), Fail> {
     refuse_in_turn(
         &rt,
-        &[INIT, TIMETABLE, PEOPLE, ENTERED, LEFT],
-        BACK,
+        &[
+            INIT,
+            TIMETABLE,
+            PEOPLE,
+            FIRST_TAKES_A,
+            SECOND_NEEDS_A,
+            BARRED_FROM_B,
+        ],
+        ONE_HAS_NO_DESK,
         IS_THERE,
     )
 }
 
 #[test]
-fn an_appeal_is_granted_whole_or_not_at_all(rt: HostRuntime) -> Result<(), Fail> {
-    refuse_in_turn(&rt, TWO_SIT, GRANTED, IS_THERE)
+fn a_desk_comes_free_whole_or_not_at_all(rt: HostRuntime) -> Result<(), Fail> {
+    refuse_in_turn(&rt, NOBODY_SITS, BARRED_FROM_A, IS_THERE)
+}
+
+#[test]
+fn needs_are_imported_whole_or_not_at_all(rt: HostRuntime) -> Result<(), Fail> {
+    refuse_in_turn(
+        &rt,
+        &[INIT, TIMETABLE, PEOPLE, THREE_HALLS],
+        THREE_NEEDS,
+        IS_THERE,
+    )
+}
+
+#[test]
+fn a_hall_closes_sooner_whole_or_not_at_all(rt: HostRuntime) -> Result<(), Fail> {
+    refuse_in_turn(&rt, NOBODY_SITS, A_QUARTER_MORE, IS_THERE)
+}
+
+#[test]
+fn entries_for_two_papers_are_made_whole_or_not_at_all(rt: HostRuntime) -> Result<(), Fail> {
+    refuse_in_turn(&rt, NOBODY_SITS, TWO_PAPERS_IN_A_HALL, IS_THERE)
+}
+
+#[test]
+fn a_clash_is_made_whole_or_not_at_all(rt: HostRuntime) -> Result<(), Fail> {
+    refuse_in_turn(&rt, NOBODY_SITS, TWO_PAPERS_AT_ONCE, IS_THERE)
+}
+
+#[test]
+fn a_clash_is_turned_whole_or_not_at_all(rt: HostRuntime) -> Result<(), Fail> {
+    refuse_in_turn(
+        &rt,
+        &[INIT, TIMETABLE, PEOPLE, TWO_PAPERS_AT_ONCE],
+        CLASH_IS_GRANTED,
+        IS_THERE,
+    )
+}
+
+#[test]
+fn a_refused_file_changes_nothing(rt: HostRuntime) -> Result<(), Fail> {
+    refuse_in_turn(&rt, NOBODY_SITS, REFUSED_FILES, IS_THERE)
+}
+
+#[test]
+fn an_appeal_is_lodged_and_taken_back_whole_or_not_at_all(rt: HostRuntime) -> Result<(), Fail> {
+    refuse_in_turn(&rt, TWO_SIT, LODGED_ONCE, IS_THERE)
 }
 
 #[test]
@@ -271,133 +341,101 @@ fn an_appeal_is_refused_whole_or_not_at_all(rt: HostRuntime) -> Result<(), Fail>
 }
 
 #[test]
-fn an_appeal_is_taken_back_whole_or_not_at_all(rt: HostRuntime) -> Result<(), Fail> {
-    refuse_in_turn(&rt, TWO_SIT, TAKEN_BACK, IS_THERE)
+fn a_request_to_see_changes_nothing(rt: HostRuntime) -> Result<(), Fail> {
+    refuse_in_turn(&rt, ONE_SITS, SEEN, IS_THERE)
 }
 
 #[test]
-fn an_arrangement_is_granted_whole_or_not_at_all(rt: HostRuntime) -> Result<(), Fail> {
-    refuse_in_turn(&rt, TWO_SIT, STANDING, IS_THERE)
+fn desks_are_taken_away_whole_or_not_at_all(rt: HostRuntime) -> Result<(), Fail> {
+    refuse_in_turn(&rt, NOBODY_SITS, FEWER_DESKS, IS_THERE)
 }
 
 #[test]
-fn what_only_reads_changes_nothing(rt: HostRuntime) -> Result<(), Fail> {
+fn an_opening_too_many_changes_nothing(rt: HostRuntime) -> Result<(), Fail> {
     refuse_in_turn(
         &rt,
-        &[INIT, TIMETABLE, PEOPLE, ENTERED, LODGED],
-        READ,
+        &[INIT, TIMETABLE, ALL_OPENED],
+        ONE_OPENING_MORE,
         IS_THERE,
     )
 }
 
 #[test]
-fn an_office_is_migrated_whole_or_not_at_all(rt: HostRuntime) -> Result<(), Fail> {
+fn a_grant_moves_another_whole_or_not_at_all(rt: HostRuntime) -> Result<(), Fail> {
+    refuse_in_turn(&rt, ONE_SITS, MOVED_BY_A_CHAIN, IS_THERE)
+}
+
+#[test]
+fn a_hall_is_closed_whole_or_not_at_all(rt: HostRuntime) -> Result<(), Fail> {
+    refuse_in_turn(&rt, NOBODY_SITS, CLOSED, IS_THERE)
+}
+
+#[test]
+fn a_standing_grant_moves_others_whole_or_not_at_all(rt: HostRuntime) -> Result<(), Fail> {
     refuse_in_turn(
         &rt,
-        &[INIT, TIMETABLE, PEOPLE, ENTERED, OLDER],
-        MIGRATED,
+        &[INIT, TIMETABLE, PEOPLE, TWO_SESSIONS, THREE_COME],
+        MOVED_TWICE,
         IS_THERE,
     )
 }
 
-pub const INIT: &str = "\
-$ init
-> ready
-";
+/// The first candidate posts an appeal too late, in time, and again, then another under its reference, and takes the first
+/// one back twice.
+const LODGED_ONCE: &str = r#"$ POST /candidates/0000001/appeals on 2027-05-31
+{"hall":"B","kind":"hall","reason":"","ref":"HA1","session":"S1"}
+> {"day":"2027-05-30","error":13}
+$ POST /candidates/0000001/appeals on 2027-05-30
+{"hall":"B","kind":"hall","reason":"","ref":"HA1","session":"S1"}
+> {"state":"open"}
+$ POST /candidates/0000001/appeals on 2027-05-31
+{"hall":"B","kind":"hall","reason":"","ref":"HA1","session":"S1"}
+> {"state":"open"}
+$ POST /candidates/0000001/appeals on 2027-05-31
+{"hall":"A","kind":"hall","reason":"","ref":"HA1","session":"S1"}
+> {"error":14}
+$ DELETE /candidates/0000001/appeals/HA1 on 2027-05-31
+> {"state":"retracted"}
+$ DELETE /candidates/0000001/appeals/HA1 on 2027-05-31
+> {"state":"retracted"}
+"#;
 
-/// The first candidate has the desk of hall A, and moves to hall B for the second one.
-pub const ENTERED: &str = "\
-$ import entries f
-number,paper
-0000001,MA-1
-> added 1 changed 0 same 0
-$ import arrangements f
-number,needs,extra
-0000002,step-free,0
-> added 1 changed 0 same 0
-$ import entries f
-number,paper
-0000002,MA-1
-> added 1 changed 0 same 0
-";
-
-/// An import of the file again leaves the entry withdrawn.
-const LEFT: &str = "\
-$ withdraw 0000001 MA-1
-> withdrawn
-$ import entries f
-number,paper
-0000001,MA-1
-0000002,MA-1
-> added 0 changed 0 same 2
-";
-
-const BACK: &str = "\
-$ reinstate 0000001 MA-1
-> reinstated
-$ close-hall S1 A
-> closed
-";
-
-/// A hall appeal of each of the two.
-pub const LODGED: &str = r#"$ POST /candidates/0000001/appeals on 2027-05-30
+/// Each of the two candidates appeals, and one appeal is refused. The sheet reads the appeals from the files, one after
+/// the other.
+const REFUSED: &str = r#"$ POST /candidates/0000001/appeals on 2027-05-30
 {"hall":"B","kind":"hall","reason":"","ref":"HA1","session":"S1"}
 > {"state":"open"}
 $ POST /candidates/0000002/appeals on 2027-05-30
 {"hall":"A","kind":"hall","reason":"","ref":"HA1","session":"S1"}
 > {"state":"open"}
-"#;
-
-const GRANTED: &str = r#"$ POST /candidates/0000001/appeals on 2027-05-30
-{"hall":"B","kind":"hall","reason":"","ref":"HA1","session":"S1"}
-> {"state":"open"}
-$ decide 0000001 HA1 granted ok on 2027-05-31
-> decided granted hall - moved 0
-"#;
-
-const REFUSED: &str = r#"$ POST /candidates/0000002/appeals on 2027-05-30
-{"hall":"A","kind":"hall","reason":"","ref":"HA1","session":"S1"}
-> {"state":"open"}
 $ decide 0000002 HA1 refused no on 2027-05-31
 > decided refused hall A moved 0
-"#;
-
-const TAKEN_BACK: &str = r#"$ POST /candidates/0000001/appeals on 2027-05-22
-{"extra":25,"kind":"arrangement","needs":"-","reason":"","ref":"AR1","session":"S1"}
-> {"state":"open"}
-$ DELETE /candidates/0000001/appeals/AR1 on 2027-05-22
-> {"state":"retracted"}
-"#;
-
-/// It is granted for later sessions too.
-const STANDING: &str = r#"$ POST /candidates/0000001/appeals on 2027-05-22
-{"extra":25,"kind":"arrangement","needs":"-","reason":"","ref":"AR1","session":"S1"}
-> {"state":"open"}
-$ decide 0000001 AR1 standing ok on 2027-05-22
-> decided granted hall B moved 0
-"#;
-
-/// Two sheets, the second one read from the files, and the view of a candidate.
-const READ: &str = r#"$ door-list S1 A
-> DOOR LIST session S1 hall A
-date 2027-06-01 start 09:00 desks 1 seated 1
-   1 0000002 MA-1         Ada Lin
 $ appeals S1
 > APPEALS session S1
 appeals 2
 0000001 HA1              hall        open       2027-05-30 B
-0000002 HA1              hall        open       2027-05-30 A
-$ GET /candidates/0000001/seats
-> {"seats":[{"date":"2027-06-01","desk":1,"extra":0,"finish":"10:00","hall":"B","needs":"-","paper":"MA-1","session":"S1","start":"09:00"}]}
+0000002 HA1              hall        refused    2027-05-30 A
 "#;
 
-/// The tables as they were in version 1.
-pub const OLDER: &str = "\
-$ sql
-DROP TABLE standing; UPDATE office SET version = 1
-";
+/// The first candidate sees the seat. With another code nobody does, and under an unknown number nobody sees anything.
+const SEEN: &str = r#"$ GET /candidates/0000001/seats
+> {"seats":[{"date":"2027-06-01","desk":1,"extra":0,"finish":"10:00","hall":"A","needs":"-","paper":"MA-1","session":"S1","start":"09:00"}]}
+$ GET /candidates/0000001/seats as CODE0009
+> {"error":6}
+$ GET /candidates/9999999/seats as CODE0001
+> {"error":6}
+"#;
 
-pub const MIGRATED: &str = "\
-$ migrate
-> migrated 1 to 3
+/// From two halls to 256, all of them opened, and another hall.
+const ALL_OPENED: &str = "\
+$ sql
+INSERT INTO hall SELECT code || 'C', title, 0 FROM hall;
+INSERT INTO hall SELECT code || 'D', title, 0 FROM hall;
+INSERT INTO hall SELECT code || 'E', title, 0 FROM hall;
+INSERT INTO hall SELECT code || 'F', title, 0 FROM hall;
+INSERT INTO hall SELECT code || 'G', title, 0 FROM hall;
+INSERT INTO hall SELECT code || 'H', title, 0 FROM hall;
+INSERT INTO hall SELECT code || 'I', title, 0 FROM hall;
+INSERT INTO opening SELECT 'S1', code, 1, 720, 0 FROM hall;
+INSERT INTO hall VALUES ('Z', 'Hall Z', 0)
 ";

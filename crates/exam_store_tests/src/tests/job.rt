@@ -10,57 +10,14 @@ mod standing;
 mod theorem;
 
 use crate::tests::offices::{InMemory, empty_office};
-use exam_school::{PEOPLE, Step, TIMETABLE, expect_same};
-use exam_scripts::answer_to;
+use exam_school::{PEOPLE, TIMETABLE};
+use exam_scripts::played;
 use std::alloc::Global;
 use std::test::Fail;
 
-/// Takes a step. It is dear to prove, as each call that takes a connection in memory for one of any kind.
-fn answer_in_memory(
-    alloc: Global,
-    conn: InMemory,
-    line: &str,
-    file: &[u8],
-) -> (InMemory, Result<String, Fail>) {
-    answer_to(alloc, conn, line, file)
-}
-
-/// Takes a step, and compares its answer.
-fn expect(
-    alloc: Global,
-    conn: InMemory,
-    line: &str,
-    file: &[u8],
-    wanted: &str,
-) -> (InMemory, Result<(), Fail>) {
-    let (conn, answer) = answer_in_memory(alloc, conn, line, file);
-    let compared = match answer {
-        Ok(answer) => expect_same(answer.as_str(), wanted, line),
-        Err(fail) => Err(fail),
-    };
-    (conn, compared)
-}
-
-/// Takes the step that stands behind a `$ `.
-fn expect_part(alloc: Global, conn: InMemory, part: &str) -> (InMemory, Result<(), Fail>) {
-    match Step::parse(part) {
-        Some(step) => expect(alloc, conn, step.line, step.file.as_bytes(), step.answer),
-        None => (conn, Err(Fail::new("step"))),
-    }
-}
-
-/// Plays a day.
-fn played(alloc: Global, conn: InMemory, day: &str) -> (InMemory, Result<(), Fail>) {
-    let mut conn = conn;
-    for part in day.split("$ ").skip(1) {
-        let (left, compared) = expect_part(alloc, conn, part);
-        conn = left;
-        match compared {
-            Ok(()) => {}
-            Err(fail) => return (conn, Err(fail)),
-        }
-    }
-    (conn, Ok(()))
+/// Plays a text. It is dear to prove, as each call that takes a connection in memory for one of any kind.
+fn played_in_memory(alloc: Global, conn: InMemory, text: &str) -> (InMemory, Result<(), Fail>) {
+    played(alloc, conn, text)
 }
 
 /// The texts of these days as one, behind that of the base office: the school with its halls opened.
@@ -77,7 +34,7 @@ fn text_of(alloc: Global, days: &[&str]) -> Result<String, Fail> {
 fn office_after(alloc: Global, days: &[&str]) -> Result<InMemory, Fail> {
     let text = text_of(alloc, days)?;
     let conn = empty_office(alloc)?;
-    let (conn, compared) = played(alloc, conn, text.as_str());
+    let (conn, compared) = played_in_memory(alloc, conn, text.as_str());
     compared?;
     Ok(conn)
 }

@@ -1,116 +1,34 @@
 //! Appeals that candidates post to the server, what the office decides of them, and who moves then.
 use super::play;
-use super::seating::TWO_PAPERS_AT_ONCE;
 use exam_school::{FIRST_TAKES_A, SECOND_NEEDS_A};
+use exam_scripts::days::{
+    BARRED_FROM_A, BARRED_FROM_B, CLASH_IS_GRANTED, MOVED_BY_A_CHAIN, ONE_HAS_NO_DESK,
+    TWO_PAPERS_AT_ONCE,
+};
 use std::test::Fail;
-
-/// The first candidate sits in hall B, and hall A does not come free.
-const BARRED_FROM_B: &str = r#"$ POST /candidates/0000001/appeals on 2027-05-30
-{"hall":"B","kind":"hall","reason":"","ref":"HA1","session":"S1"}
-> {"state":"open"}
-$ decide 0000001 HA2 granted ok on 2027-05-31
-! refused 15
-$ decide 0000001 HA1 granted ok on 2027-06-01
-! refused 17
-$ decide 0000001 HA1 granted ok on 2027-05-31
-> decided granted hall - moved 0
-$ decide 0000001 HA1 granted ok on 2027-05-31
-> unchanged
-$ decide 0000001 HA1 refused ok on 2027-05-31
-! refused 16
-$ door-list S1 A
-> DOOR LIST session S1 hall A
-date 2027-06-01 start 09:00 desks 1 seated 1
-   1 0000002 MA-1         Ada Lin
-$ door-list S1 B
-> DOOR LIST session S1 hall B
-date 2027-06-01 start 09:00 desks 1 seated 0
-$ shortage S1
-> SHORTAGE session S1
-unseated 1
-halls 1 desks 1
-hall A desks 1
-candidates 2
-0000001
-0000002
-$ appeals S1
-> APPEALS session S1
-appeals 1
-0000001 HA1              hall        granted    2027-05-30 B
-$ export S1
-> session,number,paper,hall,desk
-S1,0000001,MA-1,-,-
-S1,0000002,MA-1,A,1
-"#;
 
 #[test]
 fn a_grant_unseats_the_appellant_alone(rt: HostRuntime) -> Result<(), Fail> {
-    play(&rt, &[FIRST_TAKES_A, SECOND_NEEDS_A, BARRED_FROM_B])
+    play(
+        &rt,
+        &[
+            FIRST_TAKES_A,
+            SECOND_NEEDS_A,
+            BARRED_FROM_B,
+            ONE_HAS_NO_DESK,
+        ],
+    )
 }
-
-const BARRED_FROM_A: &str = r#"$ close-hall S1 B
-> closed
-$ import entries f
-number,paper
-0000001,MA-1
-0000002,MA-1
-> added 2 changed 0 same 0
-$ door-list S1 A
-> DOOR LIST session S1 hall A
-date 2027-06-01 start 09:00 desks 1 seated 1
-   1 0000001 MA-1         Bo Berg
-$ POST /candidates/0000001/appeals on 2027-05-30
-{"hall":"A","kind":"hall","reason":"","ref":"HA1","session":"S1"}
-> {"state":"open"}
-$ decide 0000001 HA1 granted ok on 2027-05-31
-> decided granted hall - moved 0
-$ door-list S1 A
-> DOOR LIST session S1 hall A
-date 2027-06-01 start 09:00 desks 1 seated 1
-   1 0000002 MA-1         Ada Lin
-$ shortage S1
-> SHORTAGE session S1
-unseated 1
-halls 0 desks 0
-candidates 1
-0000001
-"#;
 
 #[test]
 fn the_desk_of_an_appellant_goes_to_another(rt: HostRuntime) -> Result<(), Fail> {
     play(&rt, &[BARRED_FROM_A])
 }
 
-const MOVED_BY_A_CHAIN: &str = r#"$ import entries f
-number,paper
-0000002,MA-1
-> added 1 changed 0 same 0
-$ POST /candidates/0000002/appeals on 2027-05-30
-{"hall":"B","kind":"hall","reason":"","ref":"HA1","session":"S1"}
-> {"state":"open"}
-$ decide 0000002 HA1 granted ok on 2027-05-31
-> decided granted hall A moved 1
-$ export S1
-> session,number,paper,hall,desk
-S1,0000001,MA-1,B,1
-S1,0000002,MA-1,A,1
-"#;
-
 #[test]
 fn a_grant_moves_another_by_a_chain(rt: HostRuntime) -> Result<(), Fail> {
     play(&rt, &[FIRST_TAKES_A, MOVED_BY_A_CHAIN])
 }
-
-const CLASH_IS_GRANTED: &str = r#"$ POST /candidates/0000003/appeals on 2027-05-27
-{"kind":"clash","paper":"PH-2","reason":"","ref":"CA1","session":"S1"}
-> {"state":"open"}
-$ decide 0000003 CA1 granted ok on 2027-05-27
-> decided granted hall C moved 0
-$ clashes S1
-> CLASHES session S1
-date 2027-06-01 clashes 1
-0000003 sits PH-2         clash MA-1
-"#;
 
 #[test]
 fn a_granted_clash_turns_the_sitting_paper(rt: HostRuntime) -> Result<(), Fail> {

@@ -1,56 +1,12 @@
 //! Withdrawals, reinstatements and closed halls.
 use super::play;
+use exam_scripts::days::{CLOSED, WITHDRAWN};
 use std::test::Fail;
-
-const WITHDRAWN: &str = "\
-$ import entries f
-number,paper
-0000001,MA-1
-0000002,MA-1
-> added 2 changed 0 same 0
-$ withdraw 0000001 MA-1
-> withdrawn
-$ import entries f
-number,paper
-0000001,MA-1
-0000002,MA-1
-> added 0 changed 0 same 2
-$ door-list S1 A
-> DOOR LIST session S1 hall A
-date 2027-06-01 start 09:00 desks 1 seated 0
-$ reinstate 0000001 MA-1
-> reinstated
-$ door-list S1 A
-> DOOR LIST session S1 hall A
-date 2027-06-01 start 09:00 desks 1 seated 1
-   1 0000001 MA-1         Bo Berg
-";
 
 #[test]
 fn a_withdrawn_entry_stays_withdrawn_after_the_same_import(rt: HostRuntime) -> Result<(), Fail> {
     play(&rt, &[WITHDRAWN])
 }
-
-const CLOSED: &str = "\
-$ import entries f
-number,paper
-0000001,MA-1
-> added 1 changed 0 same 0
-$ close-hall S1 A
-> closed
-$ door-list S1 B
-> DOOR LIST session S1 hall B
-date 2027-06-01 start 09:00 desks 1 seated 1
-   1 0000001 MA-1         Bo Berg
-$ close-hall S1 A
-! refused 25
-$ door-list S1 A
-! refused 25
-$ close-hall S9 A
-! refused 4
-$ close-hall S1 C
-! refused 7
-";
 
 #[test]
 fn a_closed_hall_is_closed_once(rt: HostRuntime) -> Result<(), Fail> {

@@ -1,20 +1,11 @@
-//! Import files that are refused, in words and in bytes, and files past the limits.
-use super::{expect, office_after, play};
+//! Import files that are refused, and files past the limits.
+use super::play;
+use exam_scripts::days::{ONE_OPENING_MORE, REFUSED_FILES};
 use std::test::Fail;
 
-/// Files whose records are bad, contradict each other, or name what is not there.
+/// Records of other lengths or without their values, records that contradict each other, and one that names what is not
+/// there.
 const REFUSED: &str = "\
-$ import candidates f
-number,name,code
-0000006,Flo Ray,CODE0006
-0000007,Gil Moe,CODE0007
-000003,Cy Dahl,CODE0003
-! refused 1 record 3 column 1
-$ import candidates f
-! refused 2
-$ import candidates f
-number,name,code
-> added 0 changed 0 same 0
 $ import entries f
 number,paper
 0000001
@@ -59,30 +50,16 @@ SELECT count(*) FROM candidate
 
 #[test]
 fn refused_imports_keep_no_row(rt: HostRuntime) -> Result<(), Fail> {
-    play(&rt, &[REFUSED, NOTHING_KEPT])
-}
-
-/// Runs an import of bytes at the base office, and compares its answer.
-fn expect_refused(rt: &HostRuntime, line: &str, file: &[u8], wanted: &str) -> Result<(), Fail> {
-    let conn = office_after(rt.alloc(), &[])?;
-    let (conn, compared) = expect(rt.alloc(), conn, line, file, wanted);
-    drop(conn);
-    compared
-}
-
-#[test]
-fn bytes_that_are_no_text_are_refused(rt: HostRuntime) -> Result<(), Fail> {
-    let file = b"number,name,code\n0000001,B\xff Berg,CODE0001\n";
-    let wanted = "! refused 1 record 1 column 2\n";
-    expect_refused(&rt, "import candidates f", file, wanted)
+    play(&rt, &[REFUSED_FILES, REFUSED, NOTHING_KEPT])
 }
 
 #[test]
 fn a_file_has_at_most_4194304_bytes(rt: HostRuntime) -> Result<(), Fail> {
-    let mut file = vec![in rt.alloc(); b'\n'; 4_194_304]?;
-    expect_refused(&rt, "import halls f", file.as_slice(), "! refused 2\n")?;
-    file.push(b'\n')?;
-    expect_refused(&rt, "import halls f", file.as_slice(), "! refused 20\n")
+    let lines = "\n".repeat(rt.alloc(), 4_194_304)?;
+    let text = format!(in rt.alloc();
+        "$ import halls f\n{lines}! refused 2\n$ import halls f\n{lines}\n! refused 20\n"
+    )?;
+    play(&rt, &[text.as_str()])
 }
 
 #[test]
@@ -99,12 +76,5 @@ fn opening_257_is_too_many(rt: HostRuntime) -> Result<(), Fail> {
     }
     halls.push_str("> added 255 changed 0 same 0\n")?;
     openings.push_str("> added 254 changed 0 same 0\n")?;
-    play(&rt, &[halls.as_str(), openings.as_str(), ONE_MORE])
+    play(&rt, &[halls.as_str(), openings.as_str(), ONE_OPENING_MORE])
 }
-
-const ONE_MORE: &str = "\
-$ import openings f
-session,hall,desks,until,reserved
-S1,Z,1,12:00,no
-! refused 20
-";

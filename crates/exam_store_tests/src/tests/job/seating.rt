@@ -1,6 +1,10 @@
 //! Who sits where after imports, withdrawals and a smaller hall, and the sheets that say so.
 use super::play;
 use exam_school::{FIRST_TAKES_A, SECOND_NEEDS_A};
+use exam_scripts::days::{
+    A_QUARTER_MORE, FEWER_DESKS, NOBODY_IS_SHORT, THIRD_IS_SHORT, THREE_HALLS, THREE_NEEDS,
+    TWO_PAPERS_AT_ONCE, TWO_PAPERS_IN_A_HALL,
+};
 use std::test::Fail;
 
 #[test]
@@ -42,31 +46,6 @@ $ shortage S9
 fn need_moves_another_by_a_chain(rt: HostRuntime) -> Result<(), Fail> {
     play(&rt, &[FIRST_TAKES_A, SECOND_NEEDS_A, SHEETS])
 }
-
-const NOBODY_IS_SHORT: &str = "\
-$ shortage S1
-> SHORTAGE session S1
-unseated 0
-halls 0 desks 0
-candidates 0
-";
-
-const THIRD_IS_SHORT: &str = "\
-$ import entries f
-number,paper
-0000003,MA-1
-> added 1 changed 0 same 0
-$ shortage S1
-> SHORTAGE session S1
-unseated 1
-halls 2 desks 2
-hall A desks 1
-hall B desks 1
-candidates 3
-0000001
-0000002
-0000003
-";
 
 #[test]
 fn shortage_names_seated_and_unseated(rt: HostRuntime) -> Result<(), Fail> {
@@ -146,40 +125,6 @@ fn who_fits_no_hall_is_short_beside_who_finds_no_desk(rt: HostRuntime) -> Result
     play(&rt, &[TWO_ARE_SHORT])
 }
 
-/// Three halls; any two have a feature in common.
-const THREE_HALLS: &str = "\
-$ import halls f
-hall,title,features
-A,Hall A,step-free+reader
-B,Hall B,screen+reader
-C,Hall C,step-free+screen
-> added 1 changed 2 same 0
-$ import openings f
-session,hall,desks,until,reserved
-S1,C,1,12:00,no
-> added 1 changed 0 same 0
-";
-
-const THREE_NEEDS: &str = "\
-$ import arrangements f
-number,needs,extra
-0000001,step-free,0
-0000002,screen,0
-0000003,reader,0
-> added 3 changed 0 same 0
-$ import entries f
-number,paper
-0000001,MA-1
-0000002,MA-1
-0000003,MA-1
-> added 3 changed 0 same 0
-$ export S1
-> session,number,paper,hall,desk
-S1,0000001,MA-1,C,1
-S1,0000002,MA-1,B,1
-S1,0000003,MA-1,A,1
-";
-
 #[test]
 fn least_of_two_short_chains_is_taken(rt: HostRuntime) -> Result<(), Fail> {
     play(&rt, &[THREE_HALLS, THREE_NEEDS])
@@ -209,49 +154,6 @@ S1,0000003,P-3,A,1
 fn what_papers_require_seats_as_needs_do(rt: HostRuntime) -> Result<(), Fail> {
     play(&rt, &[THREE_HALLS, THREE_PAPERS])
 }
-
-/// 90 minutes and a quarter are 112 and a half, so the candidate ends at 10:53.
-const A_QUARTER_MORE: &str = "\
-$ import papers f
-paper,title,session,minutes,requires
-MA-1,Maths,S1,90,-
-> added 0 changed 1 same 0
-$ import openings f
-session,hall,desks,until,reserved
-S1,A,1,10:52,no
-S1,B,1,10:53,no
-> added 0 changed 2 same 0
-$ import arrangements f
-number,needs,extra
-0000001,-,25
-> added 1 changed 0 same 0
-$ import entries f
-number,paper
-0000001,MA-1
-> added 1 changed 0 same 0
-$ attendance S1 MA-1
-> ATTENDANCE session S1 paper MA-1
-date 2027-06-01 start 09:00 candidates 1
-0000001 B           1 10:53 Bo Berg
-$ door-list S1 A
-> DOOR LIST session S1 hall A
-date 2027-06-01 start 09:00 desks 1 seated 0
-$ door-list S1 B
-> DOOR LIST session S1 hall B
-date 2027-06-01 start 09:00 desks 1 seated 1
-   1 0000001 MA-1         Bo Berg
-$ import openings f
-session,hall,desks,until,reserved
-S1,B,1,10:52,no
-> added 0 changed 1 same 0
-$ attendance S1 MA-1
-> ATTENDANCE session S1 paper MA-1
-date 2027-06-01 start 09:00 candidates 1
-0000001 -           - 10:53 Bo Berg
-$ door-list S1 B
-> DOOR LIST session S1 hall B
-date 2027-06-01 start 09:00 desks 1 seated 0
-";
 
 #[test]
 fn a_hall_fits_that_closes_no_sooner_than_the_end(rt: HostRuntime) -> Result<(), Fail> {
@@ -291,27 +193,6 @@ fn no_hall_is_open_at_the_latest_end(rt: HostRuntime) -> Result<(), Fail> {
     play(&rt, &[THE_LATEST_END])
 }
 
-const TWO_PAPERS_IN_A_HALL: &str = "\
-$ import papers f
-paper,title,session,minutes,requires
-PH-2,Physics,S1,60,-
-> added 1 changed 0 same 0
-$ import openings f
-session,hall,desks,until,reserved
-S1,A,2,12:00,no
-> added 0 changed 1 same 0
-$ import entries f
-number,paper
-0000002,PH-2
-0000005,MA-1
-> added 2 changed 0 same 0
-$ door-list S1 A
-> DOOR LIST session S1 hall A
-date 2027-06-01 start 09:00 desks 2 seated 2
-   1 0000005 MA-1         Ed Poe
-   2 0000002 PH-2         Ada Lin
-";
-
 #[test]
 fn desks_are_counted_by_paper_before_number(rt: HostRuntime) -> Result<(), Fail> {
     play(&rt, &[TWO_PAPERS_IN_A_HALL])
@@ -349,41 +230,6 @@ date 2027-06-01 start 09:00 desks 2000 seated 0
 fn wide_codes_fill_their_columns(rt: HostRuntime) -> Result<(), Fail> {
     play(&rt, &[WIDE_COLUMNS])
 }
-
-const FEWER_DESKS: &str = "\
-$ close-hall S1 B
-> closed
-$ import openings f
-session,hall,desks,until,reserved
-S1,A,2,12:00,no
-> added 0 changed 1 same 0
-$ import entries f
-number,paper
-0000004,MA-1
-0000001,MA-1
-> added 2 changed 0 same 0
-$ door-list S1 A
-> DOOR LIST session S1 hall A
-date 2027-06-01 start 09:00 desks 2 seated 2
-   1 0000001 MA-1         Bo Berg
-   2 0000004 MA-1         Di Roe
-$ import openings f
-session,hall,desks,until,reserved
-S1,A,1,12:00,no
-> added 0 changed 1 same 0
-$ door-list S1 A
-> DOOR LIST session S1 hall A
-date 2027-06-01 start 09:00 desks 1 seated 1
-   1 0000001 MA-1         Bo Berg
-$ shortage S1
-> SHORTAGE session S1
-unseated 1
-halls 1 desks 1
-hall A desks 1
-candidates 2
-0000001
-0000004
-";
 
 #[test]
 fn fewer_desks_put_the_greater_number_out(rt: HostRuntime) -> Result<(), Fail> {
@@ -426,37 +272,6 @@ fn extra_time_opens_a_reserved_hall_and_moves_nobody_by_itself(
 ) -> Result<(), Fail> {
     play(&rt, &[A_IS_RESERVED])
 }
-
-/// The third candidate is entered for two papers of the session. Only hall C fits the second one.
-pub const TWO_PAPERS_AT_ONCE: &str = "\
-$ import papers f
-paper,title,session,minutes,requires
-PH-2,Physics,S1,60,computer
-> added 1 changed 0 same 0
-$ import halls f
-hall,title,features
-C,Hall C,computer
-> added 1 changed 0 same 0
-$ import openings f
-session,hall,desks,until,reserved
-S1,C,1,12:00,no
-> added 1 changed 0 same 0
-$ import entries f
-number,paper
-0000003,MA-1
-0000003,PH-2
-> added 2 changed 0 same 0
-$ export S1
-> session,number,paper,hall,desk
-S1,0000003,MA-1,A,1
-$ clashes S1
-> CLASHES session S1
-date 2027-06-01 clashes 1
-0000003 sits MA-1         clash PH-2
-$ attendance S1 PH-2
-> ATTENDANCE session S1 paper PH-2
-date 2027-06-01 start 09:00 candidates 0
-";
 
 const ONE_IS_LEFT: &str = "\
 $ withdraw 0000003 MA-1

@@ -1,37 +1,11 @@
 //! Arrangements that stand for later sessions: two days, with what each command prints.
 use super::play;
+use exam_school::FIRST_TAKES_A;
+use exam_scripts::days::{
+    FROM_VERSION_1, FROM_VERSION_2, MOVED_TWICE, OF_VERSION_1, OF_VERSION_2, THREE_COME,
+    TWO_SESSIONS,
+};
 use std::test::Fail;
-
-/// A second session on the day after, in which hall A closes at 10:00. The first candidate is entered for both.
-const TWO_SESSIONS: &str = "\
-$ import sessions f
-session,date,start
-S2,2027-06-02,09:00
-> added 1 changed 0 same 0
-$ import papers f
-paper,title,session,minutes,requires
-MB-1,Maths,S2,60,-
-> added 1 changed 0 same 0
-$ import openings f
-session,hall,desks,until,reserved
-S2,A,1,10:00,no
-S2,B,1,12:00,no
-> added 2 changed 0 same 0
-$ import entries f
-number,paper
-0000001,MA-1
-0000001,MB-1
-> added 2 changed 0 same 0
-$ export S1
-> session,number,paper,hall,desk
-S1,0000001,MA-1,A,1
-$ attendance S2 MB-1
-> ATTENDANCE session S2 paper MB-1
-date 2027-06-02 start 09:00 candidates 1
-0000001 A           1 10:00 Bo Berg
-$ attendance S1 MB-1
-! refused 5
-";
 
 const A_QUARTER_MORE: &str = r#"$ POST /candidates/0000001/appeals on 2027-05-22
 {"extra":25,"kind":"arrangement","needs":"-","reason":"","ref":"AR1","session":"S1"}
@@ -102,4 +76,31 @@ appeals 0
 #[test]
 fn a_later_grant_ends_a_standing_one(rt: HostRuntime) -> Result<(), Fail> {
     play(&rt, &[TWO_SESSIONS, A_SCREEN_AND_NONE])
+}
+
+#[test]
+fn who_moves_in_two_sessions_counts_twice(rt: HostRuntime) -> Result<(), Fail> {
+    play(&rt, &[TWO_SESSIONS, THREE_COME, MOVED_TWICE])
+}
+
+const STILL_STANDS: &str = "\
+$ sql
+SELECT number, ref FROM standing
+> 2|AR1|
+";
+
+#[test]
+fn a_migration_names_both_versions(rt: HostRuntime) -> Result<(), Fail> {
+    play(&rt, &[FIRST_TAKES_A, OF_VERSION_1, FROM_VERSION_1])?;
+    play(
+        &rt,
+        &[
+            TWO_SESSIONS,
+            THREE_COME,
+            MOVED_TWICE,
+            OF_VERSION_2,
+            FROM_VERSION_2,
+            STILL_STANDS,
+        ],
+    )
 }

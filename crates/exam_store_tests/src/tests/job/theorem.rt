@@ -4,7 +4,8 @@ use super::{office_after, play, text_of};
 use crate::tests::offices::InMemory;
 use exam_job::JobFault;
 use exam_line::LineFault;
-use exam_school::{Step, Words, dated, expect_same};
+use exam_school::{FIRST_TAKES_A, Step, Words, dated, expect_same};
+use exam_scripts::days::OF_VERSION_1;
 use exam_scripts::{request_of, words_of};
 use exam_store::Store;
 use exam_theorem::{Answered, EndOfDay, LineEnd, LineStop, Order, Outcome, live, print_after};
@@ -150,16 +151,6 @@ fn a_day_ends_in_its_door_list(rt: HostRuntime) -> Result<(), Fail> {
     play(&rt, &[DAY])
 }
 
-/// The first candidate sits in hall A. Then the tables become those of version 1.
-const OLDER: &str = "\
-$ import entries f
-number,paper
-0000001,MA-1
-> added 1 changed 0 same 0
-$ sql
-DROP TABLE standing; UPDATE office SET version = 1
-";
-
 const SECOND_IN_B: &str = "\
 DOOR LIST session S1 hall B
 date 2027-06-01 start 09:00 desks 1 seated 1
@@ -194,6 +185,10 @@ fn an_office_of_version_1_lives_on(rt: HostRuntime) -> Result<(), Fail> {
         words: words.as_slice(),
         file: b"number,paper\n0000002,MA-1\n",
     };
-    let printed = lived(alloc, office_after(alloc, &[OLDER])?, &order)?;
+    let printed = lived(
+        alloc,
+        office_after(alloc, &[FIRST_TAKES_A, OF_VERSION_1])?,
+        &order,
+    )?;
     expect_same(printed.as_str(), SECOND_IN_B, "door list")
 }

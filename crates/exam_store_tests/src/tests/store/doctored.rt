@@ -1,6 +1,7 @@
 //! Tables that hold no office are refused.
-use super::{BAD_STORE, BASE, expect_each, refusal_of_creating};
+use super::{BAD_STORE, expect_each, refusal_of_creating};
 use crate::tests::offices::{InMemory, after, office_of, refusal_of_opening};
+use exam_school::ROWS;
 use sqlite::Connection;
 use std::alloc::Global;
 use std::test::Fail;
@@ -36,7 +37,7 @@ INSERT INTO arrangement VALUES (1, 0, 101)
 
 #[test]
 fn a_value_out_of_range_is_refused(rt: HostRuntime) -> Result<(), Fail> {
-    expect_each(&rt, &[BASE], OUT_OF_RANGE, "", BAD_STORE)
+    expect_each(&rt, &[ROWS], OUT_OF_RANGE, "", BAD_STORE)
 }
 
 /// Kinds, subjects, states, answers, references and days that no appeal has.
@@ -68,8 +69,8 @@ const AN_APPEAL: &str =
 
 #[test]
 fn an_appeal_of_no_form_is_refused(rt: HostRuntime) -> Result<(), Fail> {
-    expect_each(&rt, &[BASE], NO_APPEALS, "", BAD_STORE)?;
-    expect_each(&rt, &[BASE], AN_APPEAL, "", 0)
+    expect_each(&rt, &[ROWS], NO_APPEALS, "", BAD_STORE)?;
+    expect_each(&rt, &[ROWS], AN_APPEAL, "", 0)
 }
 
 /// Another version, a table that is missing, and one with fewer columns.
@@ -131,8 +132,8 @@ SELECT number, 'R2', session, kind, target, needs, extra, reason, state, answer,
 
 #[test]
 fn an_appeal_that_may_stand_once_is_refused_twice(rt: HostRuntime) -> Result<(), Fail> {
-    expect_each(&rt, &[BASE], SINGLES, AGAIN, BAD_STORE)?;
-    expect_each(&rt, &[BASE], SEVERAL, AGAIN, 0)
+    expect_each(&rt, &[ROWS], SINGLES, AGAIN, BAD_STORE)?;
+    expect_each(&rt, &[ROWS], SEVERAL, AGAIN, 0)
 }
 
 /// Hall and clash appeals, and arrangements that are open, refused or retracted.
@@ -154,13 +155,13 @@ const MARK: &str = "INSERT INTO standing VALUES (1, 'R1')";
 
 #[test]
 fn a_mark_of_what_was_never_granted_is_refused(rt: HostRuntime) -> Result<(), Fail> {
-    expect_each(&rt, &[BASE], UNMARKED, MARK, BAD_STORE)?;
-    expect_each(&rt, &[BASE], MARKED, MARK, 0)
+    expect_each(&rt, &[ROWS], UNMARKED, MARK, BAD_STORE)?;
+    expect_each(&rt, &[ROWS], MARKED, MARK, 0)
 }
 
-/// The base office with that many more halls.
+/// The school with that many more halls.
 fn office_of_halls(alloc: Global, halls: u32) -> Result<InMemory, Fail> {
-    let mut conn = office_of(alloc, &[BASE])?;
+    let mut conn = office_of(alloc, &[ROWS])?;
     for number in 0..halls {
         let sql = format!(in alloc; "INSERT INTO hall VALUES ('H{number}', 'Hall', 0)")?;
         conn = after(conn, sql.as_str())?;
@@ -179,7 +180,7 @@ fn with_appeals(alloc: Global, conn: InMemory, appeals: u32) -> Result<InMemory,
     Ok(conn)
 }
 
-/// How many halls there are beside the two of the base, how many appeals of a candidate, and the number of the refusal.
+/// How many halls there are beside the two of the school, how many appeals of a candidate, and the number of the refusal.
 const MANY: &[(u32, u32, u16)] = &[(498, 64, 0), (499, 64, BAD_STORE), (498, 65, BAD_STORE)];
 
 /// There may be 500 halls, and 64 appeals of a candidate.

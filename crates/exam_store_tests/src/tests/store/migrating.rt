@@ -1,7 +1,8 @@
 //! Offices of older versions are brought to the newest, whole or not at all.
-use super::{BAD_STORE, BASE, FIRST_SEATED, expect_each, refusal_of_creating};
+use super::{BAD_STORE, expect_each, refusal_of_creating};
 use crate::tests::offices::{InMemory, after, office_of, opened, refusal_of_opening};
 use exam_office::{Command, Reply};
+use exam_school::{ONE_SITS, ROWS};
 use exam_store::{Store, migrate};
 use exam_types::{Day, Number, PaperCode};
 use sqlite::{Connection, MemStore};
@@ -20,7 +21,7 @@ const OLD_SCHEMA: u16 = 27;
 
 /// An office of an older version, made so by the first text, with one candidate seated, after these statements.
 fn old_office(alloc: Global, back: &str, sql: &str) -> Result<InMemory, Fail> {
-    office_of(alloc, &[BASE, FIRST_SEATED, sql, back])
+    office_of(alloc, &[ROWS, ONE_SITS, sql, back])
 }
 
 /// Expects that an office of an older version is refused as such, whatever else is wrong with its rows.
@@ -31,7 +32,7 @@ fn expect_old<R: Abort + AllocGlobal>(rt: &R, back: &str) -> Result<(), Fail> {
         OLD_SCHEMA
     );
     let statements = "UPDATE seat SET hall = 'B'\nDELETE FROM seat\n";
-    expect_each(rt, &[BASE, FIRST_SEATED], statements, back, OLD_SCHEMA)
+    expect_each(rt, &[ROWS, ONE_SITS], statements, back, OLD_SCHEMA)
 }
 
 #[test]
@@ -204,6 +205,6 @@ fn what_is_no_good_office_is_not_migrated(rt: HostRuntime) -> Result<(), Fail> {
     expect_refused(&rt, Connection::open_in_memory(alloc)?, "nothing");
     // A bad office of the newest version is refused too.
     let sql = "UPDATE paper SET minutes = 601";
-    expect_refused(&rt, office_of(alloc, &[BASE, sql])?, sql);
+    expect_refused(&rt, office_of(alloc, &[ROWS, sql])?, sql);
     Ok(())
 }

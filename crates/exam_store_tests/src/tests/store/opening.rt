@@ -1,6 +1,7 @@
 //! Offices that were closed are opened again, if their plan is still a best one.
-use super::{BAD_STORE, BASE, FIRST_SEATED, expect_each, refusal_of_creating};
+use super::{BAD_STORE, expect_each, refusal_of_creating};
 use crate::tests::offices::refusal_of_opening;
+use exam_school::{ONE_SITS, ROWS};
 use sqlite::Connection;
 use std::test::Fail;
 
@@ -19,7 +20,7 @@ const OTHER_BEST_PLAN: &str = "UPDATE seat SET hall = 'B'";
 
 #[test]
 fn a_plan_that_a_sweep_would_change_is_refused(rt: HostRuntime) -> Result<(), Fail> {
-    let seated = [BASE, FIRST_SEATED];
+    let seated = [ROWS, ONE_SITS];
     expect_each(&rt, &seated, OTHER_PLANS, "", BAD_STORE)?;
     expect_each(&rt, &seated, OTHER_BEST_PLAN, "", 0)
 }
