@@ -121,7 +121,7 @@ module _ (office : State) (good : IsGood office) where
       let few : length r.candidates ≤ 20000 = grind (arith, of_candidates) in
       let mine = kept (λ (a : KeyedAppeal). same_code a.1.session s) r.appeals in
       let listed : length (appeals_of r s) ≡ length (filter (λ (a : KeyedAppeal). same_code a.1.session s) r.appeals) =
-          length-map (filter (λ (a : KeyedAppeal). same_code a.1.session s) r.appeals) appeal_row in
+      length-map (filter (λ (a : KeyedAppeal). same_code a.1.session s) r.appeals) appeal_row in
       omega (arith, all, few, mine, listed)
     where
       kept : (p : KeyedAppeal → Bool) (xs : List KeyedAppeal) → length (filter p xs) ≤ length xs

@@ -66,7 +66,7 @@ gives_first office s from it row is first =
 
 pub gives_ok : (office : Office) (s : Code) (from : Bound (ℕ × Code)) (it : KeyedAppeal) → appeals_from office.relations.appeals s from ≡ it ∷ appeals_from office.relations.appeals s (Excluded it.0)
     → (result : Result (Option AppealRow) Refusal) → IfOk result (λ row. row ≡ Some (appeal_row it))
-        → IfOk result (λ row. Gives row (rows_from office s from) (rows_from office s (bound_after from row)))
+    → IfOk result (λ row. Gives row (rows_from office s from) (rows_from office s (bound_after from row)))
 gives_ok office s from it first (Err e) is = tt
 gives_ok office s from it first (Ok row) is =
     subst (λ (r : Option AppealRow). Gives r (rows_from office s from) (rows_from office s (bound_after from r))) (sym is) (gives_first office s from it (appeal_row it) refl first)
