@@ -2,8 +2,7 @@
 ghost use Rattle.std.specs.Prelude.{◌≡◌};
 ghost use Rattle.exam_changes.specs.TablesBefore as spec;
 
-use exam_commands::Seats;
-use exam_rules::{Appeal, Arrangement, Candidate, Entry, Hall, Opening, Paper, Session};
+use exam_rules::{Appeal, Arrangement, Candidate, Entry, Hall, Opening, Paper, Seats, Session};
 use exam_types::{HallCode, Number, PaperCode, Reference, SessionCode};
 use std::collections::BTreeMap;
 

@@ -17,8 +17,8 @@ use crate::kept::{KeptRows, put_kept};
 use crate::moves::moved;
 use crate::undo::Undo;
 use exam_commands::granting::{bears_mark, earlier_grant, is_grant};
-use exam_commands::{Command, Decision, Outcome, Reply, Seats, is_open, stored_state};
-use exam_rules::{Appeal, Facts, Status, Subject, is_live_paper, is_member};
+use exam_commands::{Command, Decision, Outcome, Reply, is_open, stored_state};
+use exam_rules::{Appeal, Facts, Seats, Status, Subject, is_live_paper, is_member};
 use exam_types::{Day, Number, PaperCode, Reason, Reference, Refusal, SessionCode};
 use std::alloc::Global;
 

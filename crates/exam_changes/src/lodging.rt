@@ -12,10 +12,10 @@ ghost use Rattle.exam_changes.specs.Undoing as undoing;
 use crate::rows::put;
 use crate::undo::Undo;
 use crate::unknown::check_candidate;
-use exam_commands::{Lodging, Seats, has_open_appeal, is_same_subject, notice_days};
+use exam_commands::{Lodging, has_open_appeal, is_same_subject, notice_days};
 use exam_rules::{
-    Appeal, Arrangement, Facts, Session, Status, Subject, arrangement_in_force, entries_from,
-    is_clash, is_live_paper, is_member, is_paper_of, sitting_by_entries,
+    Appeal, Arrangement, Facts, Seats, Session, Status, Subject, arrangement_in_force,
+    entries_from, is_clash, is_live_paper, is_member, is_paper_of, sitting_by_entries,
 };
 use exam_types::{Day, HallCode, Number, PaperCode, Refusal, SessionCode};
 

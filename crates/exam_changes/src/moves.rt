@@ -2,7 +2,7 @@
 ghost use Rattle.std.specs.Prelude.{◌≡◌};
 ghost use Rattle.exam_commands.specs.Moves as spec;
 
-use exam_commands::Seats;
+use exam_rules::Seats;
 use exam_types::{HallCode, Number, SessionCode};
 
 /// How many others than the candidate sit in another hall after than before, over all sessions in which they sit both

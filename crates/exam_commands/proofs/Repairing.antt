@@ -17,12 +17,13 @@ use Rattle.exam_rules.specs.Relations.{Code, Relations, same_code}
 use Rattle.exam_rules.specs.Sessions.{members}
 use Rattle.exam_rules.specs.Seatings.{indexed_seating, seating, problem_of, plan_of, open_halls, desks, fitting_places}
 use Rattle.exam_rules.specs.Names.{naming, first_place, ListsRise, number_at, index_of, hall_index, named_plan, indexed_plan}
+use Rattle.exam_rules.specs.Plans.{place_of, places_of}
 use Rattle.exam_rules.proofs.Naming.{renames}
 use Rattle.exam_rules.proofs.Following.{follows}
 use Rattle.exam_plan.proofs.KeptNames.{IsRepair-named}
 use Rattle.exam_rules.proofs.PlanLists.{list_is_plan}
 use Rattle.exam_commands.specs.State.{Seats}
-use Rattle.exam_commands.specs.Repairs.{place_of, places_of, IsRepaired}
+use Rattle.exam_commands.specs.Repairs.{IsRepaired}
 
 first_from : {A : Type 0} (p : A → Bool) (n : ℕ) (xs : List A) → position_from p n xs ≡ first_place p n xs
 first_from p n [] = refl

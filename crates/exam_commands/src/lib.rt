@@ -7,9 +7,7 @@ pub mod granting;
 mod import;
 mod import_row;
 mod own;
-mod seats;
 mod single;
-mod stored_plans;
 mod table;
 mod words;
 
@@ -18,8 +16,6 @@ pub use command::{AppealState, Command, Decision, Lodging, Outcome, Reply};
 pub use import::Import;
 pub use import_row::{Kind, Row};
 pub use own::{Own, OwnAppeal, OwnSession};
-pub use seats::Seats;
 pub use single::Single;
-pub use stored_plans::stored_plan;
 pub use table::Table;
 pub use words::{kind_word, state_word, status_word, write_subject};

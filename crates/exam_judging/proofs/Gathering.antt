@@ -15,7 +15,7 @@ use Rattle.exam_commands.specs.declared.import_row.Row.{Row}
 use Rattle.exam_commands.specs.declared.import_row.Row.TheVariants as row
 use Rattle.exam_commands.specs.Touched.{has_standing_member, is_of_sessions, is_session_row, names, names_hall, names_session, row_reaches}
 use Rattle.exam_commands.proofs.ImportKeys.{code_flips}
-use Rattle.exam_judging.proofs.Writing.{then_eq}
+use Rattle.exam_rules.proofs.Writing.{then_eq}
 
 pub taken : (b x : Bool) → cond b true x ≡ (b || x)
 taken true x = refl

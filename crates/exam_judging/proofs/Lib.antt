@@ -1,4 +1,3 @@
-pub mod Writing
 pub mod SingleKeys
 pub mod FirstBad
 pub mod Gathering

@@ -13,8 +13,8 @@ ghost use Rattle.exam_commands.specs.State as state;
 ghost use Rattle.exam_commands.specs.declared.table.Table.TheVariants as table;
 
 use crate::{limits, references, repair, singles};
-use exam_commands::{Seats, Table};
-use exam_rules::{Facts, SessionLists, session_lists};
+use exam_commands::Table;
+use exam_rules::{Facts, Seats, SessionLists, session_lists};
 use exam_types::Refusal;
 use std::alloc::Global;
 

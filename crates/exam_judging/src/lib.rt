@@ -10,5 +10,5 @@ mod singles;
 mod touching;
 
 pub use judging::{first_bad_listed, first_bad_table};
-pub use repair::{add_seat, repaired_among};
+pub use repair::repaired_among;
 pub use touching::touched;

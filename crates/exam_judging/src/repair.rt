@@ -1,23 +1,22 @@
 //! The repair of the plans after a change of the facts.
-ghost use Rattle.std.specs.Prelude.{◌≡◌, ◌<◌, ◌≤◌, ◌&&◌, nat_eq, position, All, slice_index_or, [], if◌then◌else◌, Some, ℕ, false, length, IsTrue, None, IfOk, IfErr, OnOk, IfSome};
-ghost use Rattle.std.specs.Option.{option_map, option_and_then, option_or};
+ghost use Rattle.std.specs.Prelude.{◌≡◌, ◌<◌, ◌≤◌, nat_eq, position, ℕ, false, length, IsTrue, None};
+ghost use Rattle.std.specs.Prelude.{IfOk, IfErr, OnOk, IfSome};
+ghost use Rattle.std.specs.Option.{option_and_then};
 ghost use Rattle.exam_types.specs.declared.refusal.Refusal.TheVariants.{NoMemory};
-ghost use Rattle.exam_plan.specs.Matching.{SamePlan, IsBest};
+ghost use Rattle.exam_plan.specs.Matching.{IsBest};
 ghost use Rattle.exam_plan.specs.HallSets.{most_halls};
 ghost use Rattle.exam_plan.specs.Problems.{IsPlan, most_members, seating_of, plan_at};
 ghost use Rattle.exam_plan.specs.Repair.{IsRepair};
-ghost use Rattle.exam_rules.specs.Relations.{Code, Relations, relations_of, code_cmp, has_row, same_code};
+ghost use Rattle.exam_rules.specs.Relations.{Code, relations_of, code_cmp, has_row, same_code};
 ghost use Rattle.exam_rules.specs.Sessions.{members};
 ghost use Rattle.exam_rules.specs.Seatings.{open_halls, plan_of};
-ghost use Rattle.exam_rules.specs.Names.{ListsRise, named_plan};
 ghost use Rattle.exam_rules.specs.Lists.{AreListsOf};
 ghost use Rattle.exam_commands.specs.NextPlans.{AreRepaired};
 ghost use Rattle.exam_commands.specs.Repairs.{IsRepaired};
 
-use exam_commands::{Seats, stored_plan};
 use exam_plan::{Plan, Problem, keep_lawful, sweep};
-use exam_rules::{Facts, SessionLists, indexed_problem};
-use exam_types::{HallCode, Number, Refusal, SessionCode};
+use exam_rules::{Facts, Seats, SessionLists, indexed_problem, stored_plan, write_plan};
+use exam_types::{Number, Refusal, SessionCode};
 use std::alloc::Global;
 use std::collections::BTreeMap;
 
@@ -133,64 +132,4 @@ fn place_among(numbers: &[Number], number: &Number) -> Option<usize>
     ensures { result ≡ position (nat_eq number.now) numbers.now }
 {
     numbers.iter().position(|other| *number == *other)
-}
-
-/// Adds the seats of a plan by indices.
-fn write_plan(
-    session: &SessionCode,
-    numbers: &[Number],
-    halls: &[HallCode],
-    plan: &[Option<usize>],
-    seats: &mut Seats,
-) -> Result<(), Refusal>
-    requires long { length plan.now ≡ length numbers.now }
-    requires exist { All (λ place. IfSome place (λ h. h < length halls.now)) plan.now }
-    requires fresh { (c : ℕ) → plan_of seats.old.entries session.now c ≡ None }
-    ensures ok { OnOk result ((r : Relations) → ListsRise r session.now
-        → numbers.now ≡ members r session.now → halls.now ≡ open_halls r session.now
-        → SamePlan (plan_of seats.new.entries session.now) (named_plan r session.now (plan_at plan.now))) }
-    ensures others { OnOk result ((s : Code) (c : ℕ) → same_code session.now s ≡ false
-        → plan_of seats.new.entries s c ≡ plan_of seats.old.entries s c) }
-    ensures memory { IfErr result (λ e. e ≡ NoMemory) }
-{
-    for (index, number) in numbers.iter().enumerate() {
-        add_place(seats, session, *number, halls, plan[index])?;
-    }
-    Ok(())
-}
-
-/// Seats a candidate in the hall at the place, if there is one.
-fn add_place(
-    seats: &mut Seats,
-    session: &SessionCode,
-    number: Number,
-    halls: &[HallCode],
-    place: Option<usize>,
-) -> Result<(), Refusal>
-    requires { IfSome place (λ h. h < length halls.now) }
-    ensures ok { OnOk result ((s : Code) (c : ℕ) → plan_of seats.new.entries s c
-        ≡ (if same_code session.now s && nat_eq number c
-        then option_or (option_map (λ h. slice_index_or halls.now h []) place) (plan_of seats.old.entries s c)
-        else plan_of seats.old.entries s c)) }
-    ensures memory { IfErr result (λ e. e ≡ NoMemory) }
-{
-    match place {
-        Some(place) => add_seat(seats, session, number, halls[place]),
-        None => Ok(()),
-    }
-}
-
-/// Seats a candidate.
-pub fn add_seat(
-    seats: &mut Seats,
-    session: &SessionCode,
-    number: Number,
-    hall: HallCode,
-) -> Result<(), Refusal>
-    ensures ok { OnOk result ((s : Code) (c : ℕ) → plan_of seats.new.entries s c
-        ≡ (if same_code session.now s && nat_eq number c then Some hall else plan_of seats.old.entries s c)) }
-    ensures memory { IfErr result (λ e. e ≡ NoMemory) }
-{
-    seats.insert((*session, number), hall)?;
-    Ok(())
 }

@@ -6,12 +6,12 @@ use Rattle.std.specs.Prelude.{◌↔◌}
 use Rattle.std.specs.List.{list_any}
 use Rattle.std.specs.Option.{option_map_or, option_or}
 use Rattle.std.proofs.lemmas.List.Folds.{list_any-append}
-use Rattle.exam_rules.specs.declared.lists.Entrant.{Entrant}
+use Rattle.exam_rules.specs.declared.listing.Entrant.{Entrant}
 use Rattle.exam_rules.specs.declared.rows.Appeal.{Appeal}
 use Rattle.std.specs.Bool.{Decides}
 use Rattle.std.proofs.lemmas.Bool.Decides.{Decides-eqb}
 use Rattle.std.proofs.lemmas.Map.Made.{is_member-Decides}
-use Rattle.exam_rules.specs.declared.lists.SessionLists.{SessionLists}
+use Rattle.exam_rules.specs.declared.listing.SessionLists.{SessionLists}
 use Rattle.exam_rules.specs.Lists.{AreListsOf, listed}
 use Rattle.exam_rules.specs.Relations.{Code, Relations, code_cmp, has_row, same_code}
 use Rattle.exam_rules.specs.Seatings.{plan_of}

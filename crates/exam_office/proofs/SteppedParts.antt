@@ -1,7 +1,7 @@
 -- A step over a part: what it makes, and the part after a refusal or with its step taken back.
 use Rattle.std.proofs.Common.{◌≡◌, ◌<◌, ◌↔◌, ℕ, Bool, true, false, IsTrue, List, [], Contains, Option, None, Some, Vec, refl, ap, sym, subst, arith, ◌∙◌}
 use Rattle.std.specs.Global.{Global}
-use Rattle.exam_rules.specs.declared.lists.SessionLists.{SessionLists}
+use Rattle.exam_rules.specs.declared.listing.SessionLists.{SessionLists}
 use Rattle.exam_rules.specs.Lists.{AreListsOf}
 use Rattle.exam_rules.specs.Relations.{Code, Relations, relations_of}
 use Rattle.exam_commands.specs.declared.command.Command.{Command}

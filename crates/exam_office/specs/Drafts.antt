@@ -1,6 +1,6 @@
 -- A command that is carried out on an office and may still be taken back.
 use Rattle.std.specs.Prelude.{◌≡◌, ⊤, ℕ, true, false, IsTrue, Option, None, Some, Ok}
-use Rattle.exam_rules.specs.declared.lists.SessionLists.{SessionLists}
+use Rattle.exam_rules.specs.declared.listing.SessionLists.{SessionLists}
 use Rattle.exam_rules.specs.Lists.{AreListsOf}
 use Rattle.exam_rules.specs.Relations.{Code, has_row, relations_of, row_at, seat_cmp}
 use Rattle.exam_commands.specs.declared.command.Command.{Command}
@@ -78,7 +78,8 @@ IsOfficeOf done seats part office =
     IsGood office × IsInOrder office × (office.seats ≡ seats) × Agrees done office part
 
 -- the draft of the command over the office
-pub record IsDraftOf (done : Command) (today : ℕ) (office : State) (part : Part) (seats : Seats) (reply : Reply) : Type 0 where
+pub record IsDraftOf (done : Command) (today : ℕ) (office : State) (part : Part) (seats : Seats) (reply : Reply)
+    : Type 0 where
   pub draft : IsDraft part seats
   pub before : state_before part seats ≡ office
   pub step : Step done today office (Ok reply) (state_after part seats)

@@ -1,6 +1,6 @@
 -- The part of an office that a command reads, as the program holds it, and how a step over it is taken back.
 use Rattle.std.specs.Prelude.{◌≡◌, ◌↔◌, ℕ, Contains, IsTrue, Option, None, Some}
-use Rattle.exam_rules.specs.declared.lists.SessionLists.{SessionLists}
+use Rattle.exam_rules.specs.declared.listing.SessionLists.{SessionLists}
 use Rattle.exam_rules.specs.Lists.{AreListsOf, listed}
 use Rattle.exam_rules.specs.Relations.{Code, relations_of}
 use Rattle.exam_commands.specs.declared.command.Command.{Command}

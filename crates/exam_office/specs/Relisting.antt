@@ -2,8 +2,8 @@
 use Rattle.std.specs.Prelude.{◌≡◌, ℕ, ⊤, Bool, true, false, IsTrue, List, None, Option, Vec, if◌then◌else◌}
 use Rattle.std.specs.Global.{Global}
 use Rattle.std.specs.Option.{option_and_then, option_map_or}
-use Rattle.exam_rules.specs.declared.lists.Entrant.{Entrant}
-use Rattle.exam_rules.specs.declared.lists.SessionLists.{SessionLists}
+use Rattle.exam_rules.specs.declared.listing.Entrant.{Entrant}
+use Rattle.exam_rules.specs.declared.listing.SessionLists.{SessionLists}
 use Rattle.exam_rules.specs.Lists.{entered_session, listed}
 use Rattle.exam_rules.specs.Orders.{AreInOrder}
 use Rattle.exam_rules.specs.Relations.{Code, Relations, code_cmp, entry_cmp, has_row, row_at, same_code}

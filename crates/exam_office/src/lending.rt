@@ -10,9 +10,9 @@ ghost use Rattle.exam_commands.specs.Parts as spec;
 
 use crate::office::Office;
 use exam_commands::granting::is_grant;
-use exam_commands::{Command, Decision, Seats};
-use exam_judging::{add_seat, touched};
-use exam_rules::{Facts, SessionLists};
+use exam_commands::{Command, Decision};
+use exam_judging::touched;
+use exam_rules::{Facts, Seats, SessionLists, add_seat};
 use exam_types::{Number, Refusal, SessionCode};
 use std::alloc::Global;
 use std::collections::BTreeMap;

@@ -15,7 +15,7 @@ pub use draft::Draft;
 pub use exam_changes::{Before, PlansBefore, TablesBefore};
 pub use exam_commands::{
     AppealState, Command, Decision, Import, Kind, Lodging, Outcome, Own, OwnAppeal, OwnSession,
-    Reply, Row, Seats, Table, kind_word, state_of, state_word, status_word, write_subject,
+    Reply, Row, Table, kind_word, state_of, state_word, status_word, write_subject,
 };
 pub use exam_judging::{first_bad_table, touched};
 pub use exam_laws::{
@@ -26,6 +26,7 @@ pub use exam_laws::{
     repeated_import_changes_nothing, repeated_import_makes_the_same_facts,
     repeated_lodging_changes_nothing, repeated_retraction_changes_nothing, untouched_session_stays,
 };
+pub use exam_rules::Seats;
 pub use exam_views::{
     AppealRow, AppealSource, Clash, ListedAppeals, Seat, SessionShortage, SessionView,
 };

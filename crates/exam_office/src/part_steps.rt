@@ -24,9 +24,9 @@ use exam_changes::{
     Undo, close, decide, decided_reply, import_rows, lodge, newly_decided, reinstate, retract,
     withdraw,
 };
-use exam_commands::{Command, Decision, Outcome, Reply, Seats, stored_state};
+use exam_commands::{Command, Decision, Outcome, Reply, stored_state};
 use exam_judging::repaired_among;
-use exam_rules::{Facts, SessionLists};
+use exam_rules::{Facts, Seats, SessionLists};
 use exam_types::{Day, Refusal, SessionCode};
 use std::alloc::Global;
 use std::mem;

@@ -1,7 +1,7 @@
 //! The lists of members and open halls after a command.
 ghost use Rattle.std.specs.Prelude.{◌≡◌, ◌∷◌, List, IsTrue, IfOk, IfErr, OnOk, OnErr};
 ghost use Rattle.exam_types.specs.declared.refusal.Refusal.TheVariants.{NoMemory};
-ghost use Rattle.exam_rules.specs.declared.lists.SessionLists.{SessionLists as Lists};
+ghost use Rattle.exam_rules.specs.declared.listing.SessionLists.{SessionLists as Lists};
 ghost use Rattle.exam_rules.specs.Lists.{AreListsOf, closed, listed};
 ghost use Rattle.exam_rules.specs.Orders.{AreInOrder};
 ghost use Rattle.exam_rules.specs.Relations.{Code, Relations, code_cmp, has_row, relations_of};

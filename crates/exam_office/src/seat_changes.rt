@@ -6,7 +6,7 @@ ghost use Rattle.exam_rules.specs.Relations.{Code, has_row, row_at, seat_cmp};
 ghost use Rattle.exam_commands.specs.Exchanges as spec;
 
 use exam_changes::rows::set;
-use exam_commands::Seats;
+use exam_rules::Seats;
 use exam_types::Refusal;
 
 /// Seats everybody as in the new plans. After a refusal some of them may already be seated so, and all others are as

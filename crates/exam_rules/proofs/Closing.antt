@@ -14,15 +14,15 @@ use Rattle.std.proofs.lemmas.Cmp.{tied_itself}
 use Rattle.std.proofs.lemmas.List.Kept.{IsStrictlySortedBy-filter}
 use Rattle.std.proofs.lemmas.Map.Keys.{sorted_head, sorted_tail}
 use Rattle.std.proofs.lemmas.Map.Lookups.{CmpEqualImpliesEq, exact_bytes, exact_pairs}
-use Rattle.exam_rules.specs.declared.lists.Entrant.{Entrant}
-use Rattle.exam_rules.specs.declared.lists.SessionLists.{SessionLists}
+use Rattle.exam_rules.specs.declared.listing.Entrant.{Entrant}
+use Rattle.exam_rules.specs.declared.listing.SessionLists.{SessionLists}
 use Rattle.exam_rules.specs.declared.rows.Opening.{Opening}
 use Rattle.exam_rules.specs.Lists.{AreListsOf, closed, entrants, listed, without_hall}
 use Rattle.exam_rules.specs.Orders.{AreInOrder}
 use Rattle.exam_rules.specs.Relations.{Code, Relations, code_cmp, opening_cmp, remove_row, same_code}
 use Rattle.exam_rules.specs.Seatings.{open_halls}
 use Rattle.exam_rules.specs.Sessions as sessions
-use Rattle.exam_rules.proofs.Listing.{entrants_are_members}
+use Rattle.exam_rules.proofs.Listed.{entrants_are_members}
 use Rattle.exam_rules.proofs.Naming.{halls_rise, later_is_other, same_code_exact, same_code_itself}
 
 openings_exact : CmpEqualImpliesEq opening_cmp

@@ -8,8 +8,9 @@ pub mod Ranking
 pub mod Sitters
 pub mod Together
 pub mod Turns
-pub mod Listing
-pub mod Entering
+pub mod Writing
+pub mod Listed
+pub mod Entered
 pub mod Closing
 pub mod InForce
 pub mod InOrder

@@ -19,15 +19,15 @@ use Rattle.exam_rules.specs.declared.rows.Entry.{Entry}
 use Rattle.exam_rules.specs.declared.rows.Paper.{Paper}
 use Rattle.exam_rules.specs.declared.rows.Candidate.{Candidate}
 use Rattle.exam_rules.specs.declared.rows.Opening.{Opening}
-use Rattle.exam_rules.specs.declared.lists.Entrant.{Entrant}
-use Rattle.exam_rules.specs.declared.lists.SessionLists.{SessionLists}
+use Rattle.exam_rules.specs.declared.listing.Entrant.{Entrant}
+use Rattle.exam_rules.specs.declared.listing.SessionLists.{SessionLists}
 use Rattle.exam_rules.specs.Relations.{Code, Relations, code_cmp, same_code, entry_cmp, row_at, has_row, put_row}
 use Rattle.exam_rules.specs.Sessions.{head_of, is_live_entry, is_paper_of, least_live_paper}
 use Rattle.exam_rules.specs.Names.{ListsRise}
 use Rattle.exam_rules.specs.Orders.{AreInOrder}
 use Rattle.exam_rules.specs.Lists.{listed, entrant, entrants, placed, listed_paper, SetsEntry, AreListsOf}
 use Rattle.exam_rules.proofs.InOrder.{lists_rise}
-use Rattle.exam_rules.proofs.Listing.{listed_with, entrants_are_members}
+use Rattle.exam_rules.proofs.Listed.{listed_with, entrants_are_members}
 use Rattle.exam_rules.proofs.Naming.{same_code_exact}
 
 -- ---- a row that is put

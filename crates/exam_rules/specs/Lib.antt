@@ -13,6 +13,7 @@
 -- - Names: the index of a number and of a code, and what an index names: the naming of a session, and its plans and
 --   chains read by it; that members and open halls rise
 -- - Orders: that the keys of every table rise
+-- - Plans: a plan by the places of halls, read from where candidates sit
 -- - Examples: worked cases, computed by the check: 90 minutes and 25 percent from 09:00 end at 10:53; a withdrawn entry
 --   does not count; a standing grant counts from its session's date on
 pub mod Relations
@@ -23,3 +24,4 @@ pub mod Names
 pub mod Granted
 pub mod Lists
 pub mod Orders
+pub mod Plans

@@ -6,7 +6,7 @@ ghost use Rattle.exam_rules.specs.Relations.{relations_of, code_cmp, has_row};
 ghost use Rattle.exam_rules.specs.Sessions as spec;
 
 use crate::facts::Facts;
-use crate::lists::{lists_with, numbers_of};
+use crate::listing::{lists_with, numbers_of};
 use crate::sessions::{entries_from, is_clash, is_paper_of, sitting_by_entries};
 use exam_types::{Number, PaperCode, Refusal, SessionCode};
 use std::alloc::Global;

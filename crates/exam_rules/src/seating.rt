@@ -1,29 +1,24 @@
 //! The seating problem of a session.
-ghost use Rattle.std.specs.Prelude.{◌≡◌, ◌⊎◌, ◌<◌, ◌≤◌, ℕ, All, length, map, count_by, IsTrue, IfOk, IfErr, OnOk};
-ghost use Rattle.std.specs.Prelude.{IsSorted};
-ghost use Rattle.std.specs.Ordering.{is_lt, nat_cmp};
+ghost use Rattle.std.specs.Prelude.{◌≡◌, ◌⊎◌, ◌<◌, ◌≤◌, ℕ, All, length, map, IsTrue, IfOk, IfErr, OnOk};
+ghost use Rattle.std.specs.Ordering.{nat_cmp};
 ghost use Rattle.std.specs.List.Sorted.{IsStrictlySortedBy};
 ghost use Rattle.exam_plan.specs.HallSets.{most_halls, holds, halls_below, sets_of};
 ghost use Rattle.exam_plan.specs.Problems.{most_members};
 ghost use Rattle.exam_rules.specs.Names.{ListsRise};
-ghost use Rattle.exam_rules.specs.Lists as listing;
 ghost use Rattle.exam_rules.specs.Lists.{AreListsOf};
-ghost use Rattle.exam_rules.specs.declared.lists.Entrant.{Entrant};
 ghost use Rattle.exam_types.specs.declared.refusal.Refusal.TheVariants.{NoMemory, TooMany};
 ghost use Rattle.exam_rules.specs.Relations.{relations_of, code_cmp, has_row};
 ghost use Rattle.exam_rules.specs.Sessions as spec;
 ghost use Rattle.exam_rules.specs.Seatings as seatings;
 
+use crate::desk_order::{DeskKey, entrant_keys, ranks};
 use crate::facts::Facts;
 use crate::fit::{Room, fitting_places, opened_room};
-use crate::lists::{Entrant, SessionLists, lists_with, numbers_of};
-use crate::sessions::sitting_beside;
+use crate::listing::{SessionLists, lists_with, numbers_of};
+use crate::plans::ListedProblem;
 use exam_plan::{MOST_HALLS, MOST_MEMBERS, Mask, Problem};
-use exam_types::{HallCode, Number, PaperCode, Refusal, SessionCode};
+use exam_types::{HallCode, Number, Refusal, SessionCode};
 use std::alloc::Global;
-
-/// What the order of desks compares: the sitting paper, and then the number.
-type DeskKey = (Option<PaperCode>, Number);
 
 /// The desks of the hall in the session.
 fn desks(facts: &Facts, session: &SessionCode, hall: &HallCode) -> u32
@@ -97,51 +92,6 @@ fn fit_rows(
     Ok(rows)
 }
 
-/// What the order of desks compares, for each of these members.
-fn entrant_keys(
-    alloc: Global,
-    facts: &Facts,
-    session: &SessionCode,
-    entrants: &[Entrant],
-) -> Result<Vec<DeskKey>, Refusal>
-    requires { entrants.now ≡ listing.entrants (relations_of facts.now) session.now }
-    ensures ok { IfOk result (λ keys. keys.items
-        ≡ map (seatings.desk_key (relations_of facts.now) session.now)
-        (map (λ (entrant : Entrant). entrant.number) entrants.now)) }
-    ensures memory { IfErr result (λ e. e ≡ NoMemory) }
-{
-    let mut keys = Vec::with_capacity(alloc, entrants.len())?;
-    for entrant in entrants {
-        let sat = sitting_beside(facts, session, entrant.number, entrant.paper);
-        keys.push((sat, entrant.number))?;
-    }
-    Ok(keys)
-}
-
-/// For each key, how many keys are less.
-fn ranks(alloc: Global, keys: &[DeskKey]) -> Result<Vec<u32>, Refusal>
-    requires { length keys.now ≤ most_members }
-    ensures ok { IfOk result (λ ranks. ranks.items ≡ seatings.ranks_of keys.now) }
-    ensures memory { IfErr result (λ e. e ≡ NoMemory) }
-{
-    let mut sorted = Vec::from_slice(alloc, keys)?;
-    sorted.sort()?;
-    let mut ranks = Vec::new(alloc);
-    for key in keys {
-        ranks.push(place_in(&sorted, key))?;
-    }
-    Ok(ranks)
-}
-
-/// How many keys of a sorted list are less than a key.
-fn place_in(sorted: &[DeskKey], key: &DeskKey) -> u32
-    requires few { length sorted.now ≤ most_members }
-    requires sorted { IsSorted seatings.desk_cmp sorted.now }
-    ensures { result ≡ count_by (λ other. is_lt (seatings.desk_cmp other key.now)) sorted.now }
-{
-    sorted.partition_point(|other| *other < *key) as u32
-}
-
 /// For each member, the places of the halls that fit, as a mask.
 fn fit_table(
     alloc: Global,
@@ -163,16 +113,6 @@ fn fit_table(
 {
     let rooms = rooms(alloc, facts, session, halls)?;
     fit_rows(alloc, facts, session, keys, &rooms)
-}
-
-/// A session's seating problem, with the members and halls that its indices name.
-#[derive(Drop)]
-pub struct ListedProblem {
-    /// The i-th number is candidate i of the problem.
-    pub numbers: Vec<Number>,
-    /// The j-th code is hall j of the problem.
-    pub halls: Vec<HallCode>,
-    pub problem: Problem,
 }
 
 /// The seating problem of the session, with its members and its open halls, from the lists of all sessions.

@@ -20,7 +20,7 @@ use Rattle.exam_rules.specs.Relations.{Code, Relations, code_cmp, has_row, is_ro
 use Rattle.exam_rules.specs.Lists.{entered_session, listed}
 use Rattle.exam_rules.specs.Orders.{KeysRise}
 use Rattle.exam_rules.specs.Sessions.{has_live_entry, head_of, is_live_entry, is_member, is_paper_of, least_live_paper, live_papers, live_papers_in, members}
-use Rattle.exam_rules.proofs.Listing.{counts_for}
+use Rattle.exam_rules.proofs.Listed.{counts_for}
 use Rattle.exam_rules.proofs.Sitters.{known_listed}
 use Rattle.exam_rules.proofs.Turns.{push_step}
 use Rattle.exam_commands.proofs.Repeating.{past_all, same_rows}

@@ -32,7 +32,7 @@ use Rattle.exam_plan.proofs.KeptNames.{name_of_index}
 use Rattle.exam_rules.proofs.PlanLists.{named_at_index}
 use Rattle.exam_plan.proofs.Carrying.{IsBest-indexed, IsCertificate-named, IsContested-named, IsContested-indexed, desk_number-named, unseated-named, member_index, contains_map, from_map}
 use Rattle.exam_commands.specs.State.{State, Seats}
-use Rattle.exam_commands.specs.Repairs.{places_of}
+use Rattle.exam_rules.specs.Plans.{places_of}
 use Rattle.exam_views.specs.Views.{View, IsView, IsViewOf, Report, ShowsShortage, IsShortageOf, seats_from, seat_at}
 use Rattle.exam_views.specs.Views.{seats_of, seat_of, seat_in, member_of, hall_of, number_of, hall_with_desks}
 use Rattle.exam_views.specs.Views.{openings_of, papers_of, clash_of, appeals_of}

@@ -17,19 +17,16 @@ ghost use Rattle.exam_commands.specs.Headline.{desk_of};
 ghost use Rattle.exam_commands.specs.Own as spec;
 ghost use Rattle.exam_views.specs.Desks.{rows_without_desks, session_without_desk};
 
-use exam_commands::{Own, OwnAppeal, OwnSession, Seats};
+use exam_commands::{Own, OwnAppeal, OwnSession};
 use exam_rules::{
-    Appeal, BySession, Candidate, Entrant, Facts, Session, SessionLists, appeals_from,
-    append_by_session, arrangement_in_force, entered_session, entries_from, finish_beside,
-    sitting_among, sitting_beside,
+    Appeal, BySession, Candidate, DeskKey, Entrant, Facts, Seats, Session, SessionLists,
+    appeals_from, append_by_session, arrangement_in_force, comes_before, desk_key_among,
+    entered_session, entries_from, finish_beside, sitting_beside,
 };
 use exam_types::{HallCode, Number, PaperCode, Reference, Refusal, SessionCode};
 use std::alloc::Global;
 use std::collections::BTreeMap;
 use std::collections::btree_map::Range;
-
-/// What the order of desks compares: the sitting paper, and then the number.
-type DeskKey = (Option<PaperCode>, Number);
 
 /// A session that the candidate is a member of, and their live papers in it, by code.
 #[derive(Drop)]
@@ -277,7 +274,7 @@ fn seated_before(
     // Only the proof needs that the tables rise.
     facts.show_order();
     let members = lists.members_of(session);
-    let own = (sitting_among(facts, members, session, number), number);
+    let own = desk_key_among(facts, members, session, number);
     let mut count = 0;
     for (key, other) in seats_of(facts, seats, session) {
         if *hall == *other && is_before(facts, members, session, key.1, &own) {
@@ -298,7 +295,7 @@ fn is_before(
     requires { members.now ≡ entrants (relations_of facts.now) session.now }
     ensures { result ≡ is_lt (desk_cmp (desk_key (relations_of facts.now) session.now number) key.now) }
 {
-    (sitting_among(facts, members, session, number), number) < *key
+    comes_before(&desk_key_among(facts, members, session, number), key)
 }
 
 /// The seats of the session, numbers rising. Everybody who sits is a candidate, so the numbers are between those of the

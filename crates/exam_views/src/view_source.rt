@@ -13,10 +13,10 @@ ghost use Rattle.exam_commands.specs.Limits.{within_limits};
 ghost use Rattle.exam_views.specs.Views as views;
 
 use crate::view::{AppealRow, Clash, Member, SessionView};
-use exam_commands::{Seats, state_of, stored_plan};
+use exam_commands::state_of;
 use exam_rules::{
-    Appeal, Entrant, Facts, ListedProblem, Opening, Session, SessionLists, clashes_among,
-    finish_by_entries, indexed_problem, sitting_among, sitting_by_entries,
+    Appeal, Entrant, Facts, ListedProblem, Opening, Seats, Session, SessionLists, clashes_among,
+    finish_by_entries, indexed_problem, sitting_among, sitting_by_entries, stored_plan,
 };
 use exam_types::{HallCode, Number, PaperCode, Reference, Refusal, SessionCode};
 use std::alloc::Global;

@@ -3,7 +3,7 @@ use Rattle.exam_plan.specs.Matching.{IsBest}
 use Rattle.exam_plan.specs.Problems.{seating_of, plan_at}
 use Rattle.exam_plan.specs.Repair.{IsRepair}
 use Rattle.exam_rules.specs.Relations.{relations_of}
-use Rattle.exam_commands.specs.Repairs.{places_of}
+use Rattle.exam_rules.specs.Plans.{places_of}
 use Rattle.exam_commands.proofs.Repairing.{is_plan, is_repaired, on_ok}
 use Rattle.exam_judging.proofs.repair.repair_session.Goals as goal
 

@@ -3,7 +3,7 @@ use Rattle.std.specs.Prelude.{◌&&◌, ◌≤◌, if◌then◌else◌}
 use Rattle.std.specs.List.{list_any}
 use Rattle.std.specs.Option.{option_or}
 use Rattle.std.proofs.lemmas.List.{take_more}
-use Rattle.exam_rules.specs.declared.lists.Entrant.{Entrant}
+use Rattle.exam_rules.specs.declared.listing.Entrant.{Entrant}
 use Rattle.exam_rules.specs.Lists.{listed}
 use Rattle.exam_rules.specs.Relations.{same_code}
 use Rattle.exam_rules.specs.Seatings.{plan_of}

@@ -2,7 +2,7 @@ use Rattle.std.proofs.Common.{◌≡◌, ℕ, take}
 use Rattle.std.specs.Prelude.{◌&&◌, nat_eq, if◌then◌else◌}
 use Rattle.std.specs.List.{list_any}
 use Rattle.std.specs.Option.{option_or}
-use Rattle.exam_rules.specs.declared.lists.Entrant.{Entrant}
+use Rattle.exam_rules.specs.declared.listing.Entrant.{Entrant}
 use Rattle.exam_rules.specs.Lists.{listed}
 use Rattle.exam_rules.specs.Relations.{Code, same_code}
 use Rattle.exam_rules.specs.Seatings.{plan_of}

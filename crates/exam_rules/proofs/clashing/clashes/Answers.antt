@@ -1,6 +1,6 @@
 use Rattle.std.proofs.Common.{◌≡◌, ℕ, List, IfOk, map, ap, subst, ◌∙◌}
 use Rattle.std.specs.List.{flat_map}
-use Rattle.exam_rules.specs.declared.lists.Entrant.{Entrant}
+use Rattle.exam_rules.specs.declared.listing.Entrant.{Entrant}
 use Rattle.exam_rules.specs.Relations.{relations_of}
 use Rattle.exam_rules.specs.Sessions.{clashes_of, members}
 use Rattle.exam_rules.proofs.clashing.clashes.Goals as goal

@@ -10,12 +10,11 @@ loop-key-init c = (
   tt,
   tt,
   zero-add _
-      ∙ ap (before_among (relations_of c.args.facts.now) c.args.session.now c.args.hall.now
-      (c.sitting_among.result, c.args.number))
+      ∙ ap (before_among (relations_of c.args.facts.now) c.args.session.now c.args.hall.now c.desk_key_among-own.result)
       (c.into_iter-key-iterator.ensures.into_iter_gives ∙ c.seats_of-key-items.ensures.value)
-      ∙ ap (λ p. before_among (relations_of c.args.facts.now) c.args.session.now c.args.hall.now (p, c.args.number)
+      ∙ ap (λ key. before_among (relations_of c.args.facts.now) c.args.session.now c.args.hall.now key
       (filter (λ (e : (Code × ℕ) × Code). same_code e.0.0 c.args.session.now) c.args.seats.now.entries))
-      c.sitting_among.ensures
+      c.desk_key_among-own.ensures
       ∙ counted_before (relations_of c.args.facts.now) c.args.seats.now.entries c.args.session.now c.seats_of-key-items.ensures.rising (c.requires.good.best c.args.session.now).lawful c.args.hall.now
       (lists_rise (relations_of c.args.facts.now) c.args.session.now c.show_order.ensures).numbers c.args.number,
 )

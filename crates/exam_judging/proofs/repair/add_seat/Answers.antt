@@ -1,7 +1,0 @@
-use Rattle.std.proofs.Common.{cond, Some, ap, ◌∙◌}
-use Rattle.exam_rules.specs.Seatings.{plan_of}
-use Rattle.exam_judging.proofs.Writing.{seat_at}
-use Rattle.exam_judging.proofs.repair.add_seat.Goals as goal
-
-pub returns-clause-ok : goal.returns-clause-ok
-returns-clause-ok c = λ s d. c.in_ok-insert.ensures.updates.0 (s, d) ∙ ap (λ b. cond b (Some c.args.hall) (plan_of c.args.seats.now.entries s d)) (seat_at c.args.session.now s c.args.number d)
