@@ -1,7 +1,6 @@
--- The repair of all sessions, one after the other.
+-- Sessions that are there, and sessions that are not there: in these nobody sits, before a repair and after it.
 use Rattle.std.proofs.Common.{◌≡◌, ℕ, ◌≤◌, ◌&&◌, ◌||◌, not, Bool, true, false, IsTrue, cond, List, [], ◌∷◌, length, filter, Option, None, Some, IfSome, is_some, refl, ap, sym, subst, ◌∙◌, inr, arith}
 use Rattle.std.specs.List.{list_any, AllByRecursion}
-use Rattle.std.specs.List.Sorted.{IsStrictlySortedBy}
 use Rattle.std.specs.Map.{keys_of}
 use Rattle.std.specs.Option.{option_and_then, option_map}
 use Rattle.std.specs.Ordering.{is_eq}
@@ -9,7 +8,6 @@ use Rattle.std.specs.BTreeMap.{is_at}
 use Rattle.std.specs.declared.cmp.Ordering.TheVariants.{Less}
 use Rattle.std.specs.Cmp.Lexicographic.{texts_ties}
 use Rattle.std.proofs.Math.Path.{fun_ext}
-use Rattle.std.proofs.lemmas.Map.Keys.{sorted_head, sorted_tail}
 use Rattle.exam_plan.specs.Matching.{Seating, Plan, IsLawful, IsBest, is_hall, size}
 use Rattle.exam_plan.specs.Chains.{Chain, IsChain, Leads}
 use Rattle.exam_plan.specs.Repair.{is_member as is_member_of, kept_part, where_fitting, where_room, fitting_part, Sweeps, IsRepair, sweep_order}
@@ -18,7 +16,6 @@ use Rattle.exam_rules.specs.Relations.{Code, Relations, code_cmp, same_code, row
 use Rattle.exam_rules.specs.declared.fit.Terms.{Terms}
 use Rattle.exam_rules.specs.Sessions.{has_live_entry, barred_halls, sitting_row, arrangement_in_force}
 use Rattle.exam_rules.specs.Seatings.{seating, plan_of, fits, suits_opened, sitting_terms, terms_of, opened_room}
-use Rattle.exam_rules.proofs.Naming.{same_code_exact, same_code_itself}
 use Rattle.exam_commands.specs.State.{Seats}
 use Rattle.exam_commands.specs.Repairs.{IsRepaired}
 
@@ -95,7 +92,7 @@ unknown_repaired r first before after s unknown none =
       best = subst (IsBest (seating r s)) same (best_empty (seating r s) (unknown_fits r s unknown));
     }
 
--- ---- session by session
+-- ---- a session that is there is among them
 
 -- the session is among these
 abbrev pub is_among : {X : Type 0} → Code → List (Code × X) → Bool
@@ -114,57 +111,3 @@ known_among {X} s (row ∷ rows) = inner (is_at (code_cmp s) row.0) (same_code s
 pub none_later : (s : Code) (keys : List Code) → AllByRecursion (λ y. code_cmp s y ≡ Less) keys → list_any (same_code s) keys ≡ false
 none_later s [] less = refl
 none_later s (k ∷ keys) less = ap (λ b. b || list_any (same_code s) keys) (texts_ties s k ∙ ap is_eq less.0) ∙ none_later s keys less.1
-
--- what holds while these sessions are left
-pub record IsRepairedBut {X : Type 0} (r : Relations) (first : Option ℕ) (before after : Seats) (rest : List (Code × X)) : Type 0 where
-  pub rising : IsStrictlySortedBy code_cmp (keys_of rest)
-  pub waiting : (s : Code) (c : ℕ) → is_among s rest ≡ true → plan_of after s c ≡ None
-  pub settled : (s : Code) → is_among s rest ≡ false → IsRepaired r first before after s
-
-pub start : (r : Relations) (first : Option ℕ) (before : Seats) → IsStrictlySortedBy code_cmp (keys_of r.sessions) → IsRepairedBut r first before [] r.sessions
-start r first before up = record {
-  rising = up;
-  waiting = λ s c among. refl;
-  settled = λ s not_among. unknown_repaired r first before [] s (known_among s r.sessions ∙ not_among) (λ c. refl);
-}
-
-module _ {X : Type 0} (r : Relations) (first : Option ℕ) (before old new : Seats) (s : Code) (x : X) (rest : List (Code × X)) where
-  -- nobody of the next session is seated yet
-  pub next_waits : IsRepairedBut r first before old ((s, x) ∷ rest) → (c : ℕ) → plan_of old s c ≡ None
-  next_waits so_far c = so_far.waiting s c (ap (λ b. b || is_among s rest) (same_code_itself s))
-
-  pub one_more : IsRepairedBut r first before old ((s, x) ∷ rest) → IsRepaired r first before new s
-      → ((t : Code) (c : ℕ) → same_code s t ≡ false → plan_of new t c ≡ plan_of old t c) → IsRepairedBut r first before new rest
-  one_more so_far done others = record {
-    rising = sorted_tail code_cmp s (keys_of rest) so_far.rising;
-    waiting = λ t c among. others t c (apart t among) ∙ so_far.waiting t c (ap (λ b. same_code t s || b) among ∙ or_true (same_code t s));
-    settled = λ t left. inner t left (same_code s t) refl;
-  }
-    where
-      or_true : (b : Bool) → (b || true) ≡ true
-      or_true true = refl
-      or_true false = refl
-
-      apart : (t : Code) → is_among t rest ≡ true → same_code s t ≡ false
-      apart t among = case (same_code s t) refl
-        where
-          case : (b : Bool) → same_code s t ≡ b → b ≡ false
-          case true e =
-              let here : is_among s rest ≡ true = ap (λ u. is_among u rest) (same_code_exact s t e) ∙ among in
-              let later : is_among s rest ≡ false = none_later s (keys_of rest) (sorted_head code_cmp s (keys_of rest) so_far.rising) in
-              let both : true ≡ false = sym here ∙ later in cc
-          case false e = refl
-
-      flipped : (t : Code) → same_code s t ≡ false → same_code t s ≡ false
-      flipped t e = case (same_code t s) refl
-        where
-          case : (b : Bool) → same_code t s ≡ b → b ≡ false
-          case true k = let both : true ≡ false = sym (same_code_itself s) ∙ ap (same_code s) (sym (same_code_exact t s k)) ∙ e in cc
-          case false k = refl
-
-      inner : (t : Code) → is_among t rest ≡ false → (b : Bool) → same_code s t ≡ b → IsRepaired r first before new t
-      inner t left true e = subst (IsRepaired r first before new) (same_code_exact s t e) done
-      inner t left false e =
-          let was : IsRepaired r first before old t = so_far.settled t (ap (λ b. b || is_among t rest) (flipped t e) ∙ left) in
-          let same : plan_of old t ≡ plan_of new t = sym (fun_ext (λ c. others t c e)) in
-          record { repair = subst (IsRepair (seating r t) first (plan_of before t)) same was.repair; best = subst (IsBest (seating r t)) same was.best }

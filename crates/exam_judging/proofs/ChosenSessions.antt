@@ -3,12 +3,17 @@ use Rattle.std.proofs.Common.{◌≡◌, ℕ, ◌||◌, Bool, true, false, List,
 use Rattle.std.specs.List.Sorted.{IsStrictlySortedBy}
 use Rattle.std.specs.Map.{keys_of}
 use Rattle.std.proofs.Math.Path.{fun_ext}
+use Rattle.std.specs.Cmp.Lexicographic.{nat_list_cmp_total}
+use Rattle.std.proofs.lemmas.Cmp.{eq_by_cmp_equiv}
 use Rattle.std.proofs.lemmas.Map.Keys.{sorted_head, sorted_tail}
+use Rattle.std.proofs.lemmas.Map.Lookups.{exact_bytes}
+use Rattle.std.proofs.lemmas.Map.Views.{Contains-keys_from_lookup, IsSome-lookup_from_Contains, tells_apart}
 use Rattle.exam_plan.specs.Matching.{IsBest}
 use Rattle.exam_plan.specs.Repair.{IsRepair}
-use Rattle.exam_rules.specs.Relations.{Code, Relations, code_cmp, same_code}
+use Rattle.exam_rules.specs.Relations.{Code, Relations, code_cmp, has_row, same_code}
 use Rattle.exam_rules.specs.Seatings.{plan_of, seating}
 use Rattle.exam_rules.proofs.Naming.{same_code_exact, same_code_itself}
+use Rattle.exam_commands.specs.NextPlans.{AreRepaired}
 use Rattle.exam_commands.specs.Repairs.{IsRepaired}
 use Rattle.exam_commands.specs.State.{Seats}
 use Rattle.exam_commands.proofs.AllSessions.{is_among, known_among, none_later, unknown_repaired}
@@ -95,3 +100,13 @@ module _ {X : Type 0} (chosen : List Code) (r : Relations) (first : Option ℕ) 
       inner : (t : Code) → is_among t rest ≡ false → Contains chosen t → (b : Bool) → same_code s t ≡ b → IsRepaired r first before old t
       inner t left among true e = absurd (out (subst (Contains chosen) (sym (same_code_exact s t e)) among))
       inner t left among false e = was t left e among
+
+-- if all sessions are chosen, each is repaired
+pub all_chosen : (r : Relations) (first : Option ℕ) (before after : Seats) (chosen : List Code)
+    → chosen ≡ keys_of r.sessions → AreRepaired r first chosen before after → (s : Code) → IsRepaired r first before after s
+all_chosen r first before after chosen all done s = inner (has_row code_cmp r.sessions s) refl
+  where
+    inner : (b : Bool) → has_row code_cmp r.sessions s ≡ b → IsRepaired r first before after s
+    inner true e = done.repaired s (subst (λ codes. Contains codes s) (sym all) (Contains-keys_from_lookup (tells_apart exact_bytes) s r.sessions e))
+    inner false e = unknown_repaired r first before after s e (λ c. done.others s c (λ here.
+        let known : true ≡ false = sym (IsSome-lookup_from_Contains (eq_by_cmp_equiv nat_list_cmp_total) s r.sessions (subst (λ codes. Contains codes s) all here)) ∙ e in cc))

@@ -12,10 +12,11 @@ ghost use Rattle.exam_commands.specs.Singles.{AreSingle};
 ghost use Rattle.exam_commands.specs.State as state;
 ghost use Rattle.exam_commands.specs.declared.table.Table.TheVariants as table;
 
-use crate::{limits, references, repair, singles};
+use crate::repair::repaired_among;
+use crate::{limits, references, singles};
 use exam_commands::Table;
 use exam_rules::{Facts, Seats, SessionLists, session_lists};
-use exam_types::Refusal;
+use exam_types::{Refusal, SessionCode};
 use std::alloc::Global;
 
 /// The first table that is not good, or none if these facts and plans are a good office.
@@ -159,7 +160,8 @@ fn are_seats_good(
         → IsBest (seating (relations_of facts.now) s) (plan_of seats.now.entries s))) }
     ensures memory { IfErr result (λ e. e ≡ NoMemory) }
 {
-    let repaired = repair::repaired(alloc, facts, lists, seats, None)?;
+    let sessions: Vec<SessionCode> = facts.sessions.keys().copied().collect(alloc)?;
+    let repaired = repaired_among(alloc, facts, lists, &sessions, seats, None)?;
     Ok(same_seats(&repaired, seats))
 }
 

@@ -20,30 +20,6 @@ use exam_types::{Number, Refusal, SessionCode};
 use std::alloc::Global;
 use std::collections::BTreeMap;
 
-/// The plans of all sessions, each repaired; `first` is seated first if they are a member.
-pub fn repaired(
-    alloc: Global,
-    facts: &Facts,
-    lists: &SessionLists,
-    seats: &Seats,
-    first: Option<Number>,
-) -> Result<Seats, Refusal>
-    requires lists { AreListsOf (relations_of facts.now) lists.now }
-    requires few { (s : Code) → IsTrue (has_row code_cmp facts.now.sessions.entries s)
-        → length (members (relations_of facts.now) s) ≤ most_members }
-    requires few_halls { (s : Code) → IsTrue (has_row code_cmp facts.now.sessions.entries s)
-        → length (open_halls (relations_of facts.now) s) ≤ most_halls }
-    ensures ok { IfOk result (λ new. (s : Code)
-        → IsRepaired (relations_of facts.now) first seats.now.entries new.entries s) }
-    ensures memory { IfErr result (λ e. e ≡ NoMemory) }
-{
-    let mut repaired = BTreeMap::new(alloc);
-    for (session, _) in &facts.sessions {
-        repair_session(alloc, facts, lists, session, seats, &first, &mut repaired)?;
-    }
-    Ok(repaired)
-}
-
 /// The plans of these sessions, each repaired; `first` is seated first if they are a member. Nobody is seated in other
 /// sessions.
 pub fn repaired_among(
