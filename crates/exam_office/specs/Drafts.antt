@@ -78,7 +78,8 @@ IsOfficeOf done seats part office =
     IsGood office × IsInOrder office × (office.seats ≡ seats) × Agrees done office part
 
 -- the draft of the command over the office
-pub record IsDraftOf (done : Command) (today : ℕ) (office : State) (part : Part) (seats : Seats) (reply : Reply) : Type 0 where
+pub record IsDraftOf (done : Command) (today : ℕ) (office : State) (part : Part) (seats : Seats) (reply : Reply)
+    : Type 0 where
   pub draft : IsDraft part seats
   pub before : state_before part seats ≡ office
   pub step : Step done today office (Ok reply) (state_after part seats)
