@@ -10,6 +10,8 @@ use Rattle.std.proofs.lemmas.List.Elements.{All-head, All-tail}
 use Rattle.exam_rules.specs.declared.rows.Appeal.{Appeal}
 use Rattle.exam_rules.specs.declared.rows.Entry.{Entry}
 use Rattle.exam_rules.specs.Orders.{KeysRise}
+use Rattle.exam_rules.specs.Tables.{cmp_of, rows_of}
+use Rattle.exam_rules.specs.Tables as table
 use Rattle.exam_rules.specs.Relations.{Code, Relations, appeal_cmp, code_cmp, entry_cmp, has_row, opening_cmp, put_row, remove_row, row_at}
 use Rattle.exam_commands.specs.declared.import_row.Kind.{Kind}
 use Rattle.exam_commands.specs.declared.import_row.Kind.TheVariants as kind
@@ -20,7 +22,7 @@ use Rattle.exam_commands.specs.Changes.{with_row, with_rows}
 use Rattle.exam_commands.specs.Imports.{AreOfKind, kind_of}
 use Rattle.exam_changes.specs.declared.kept.KeptRows.{KeptRows}
 use Rattle.exam_commands.specs.Exchanges.{GoBack, put_back as put_rows_back}
-use Rattle.exam_changes.specs.Undoing.{AreNone, ChangesOnly, RowsGoBack, TakesBack}
+use Rattle.exam_changes.specs.Undoing.{AreNone, ChangesOnly, RowsGoBack, TakesBack, kept_of}
 use Rattle.exam_commands.proofs.AppealKeys.{appeals_total}
 use Rattle.exam_commands.proofs.Repeating.{put_found, put_same}
 
@@ -82,62 +84,22 @@ none_goes_back cmp was rows none = record {
 
 -- if nothing is kept yet, nothing has changed
 pub none_back : (kept : KeptRows) (r : Relations) → AreNone kept → RowsGoBack kept r r
-none_back kept r none = record {
-  sessions = none_goes_back code_cmp kept.sessions.entries r.sessions none.sessions;
-  papers = none_goes_back code_cmp kept.papers.entries r.papers none.papers;
-  halls = none_goes_back code_cmp kept.halls.entries r.halls none.halls;
-  openings = none_goes_back opening_cmp kept.openings.entries r.openings none.openings;
-  candidates = none_goes_back nat_cmp kept.candidates.entries r.candidates none.candidates;
-  entries = none_goes_back entry_cmp kept.entries.entries r.entries none.entries;
-  arrangements = none_goes_back nat_cmp kept.arrangements.entries r.arrangements none.arrangements;
-  appeals = none_goes_back appeal_cmp kept.appeals.entries r.appeals none.appeals;
-  standing = none_goes_back appeal_cmp kept.standing.entries r.standing none.standing;
-}
-
--- table by table
-pub all_back : {kept : KeptRows} {t r : Relations} → GoBack code_cmp kept.sessions.entries t.sessions r.sessions
-    → GoBack code_cmp kept.papers.entries t.papers r.papers → GoBack code_cmp kept.halls.entries t.halls r.halls
-    → GoBack opening_cmp kept.openings.entries t.openings r.openings → GoBack nat_cmp kept.candidates.entries t.candidates r.candidates → GoBack entry_cmp kept.entries.entries t.entries r.entries
-    → GoBack nat_cmp kept.arrangements.entries t.arrangements r.arrangements
-    → GoBack appeal_cmp kept.appeals.entries t.appeals r.appeals
-    → GoBack appeal_cmp kept.standing.entries t.standing r.standing
-    → RowsGoBack kept t r
-all_back sessions papers halls openings candidates entries arrangements appeals standing = record {
-  sessions = sessions;
-  papers = papers;
-  halls = halls;
-  openings = openings;
-  candidates = candidates;
-  entries = entries;
-  arrangements = arrangements;
-  appeals = appeals;
-  standing = standing;
-}
+none_back kept r none t = none_goes_back (cmp_of t) (kept_of kept t) (rows_of r t) (none t)
 
 -- with all rows as they were the facts are the first ones
 pub rows_back : (kept : KeptRows) (t r : Relations) → RowsGoBack kept t r → TakesBack (undo.Rows kept) t r
 rows_back kept t r back = (
-  record {
-    sessions = back.sessions.there;
-    papers = back.papers.there;
-    halls = back.halls.there;
-    openings = back.openings.there;
-    candidates = back.candidates.there;
-    entries = back.entries.there;
-    arrangements = back.arrangements.there;
-    appeals = back.appeals.there;
-    standing = back.standing.there;
-  },
+  λ name. (back name).there,
   λ i. record {
-    sessions = back.sessions.back i;
-    papers = back.papers.back i;
-    halls = back.halls.back i;
-    openings = back.openings.back i;
-    candidates = back.candidates.back i;
-    entries = back.entries.back i;
-    arrangements = back.arrangements.back i;
-    appeals = back.appeals.back i;
-    standing = back.standing.back i;
+    sessions = (back table.Sessions).back i;
+    papers = (back table.Papers).back i;
+    halls = (back table.Halls).back i;
+    openings = (back table.Openings).back i;
+    candidates = (back table.Candidates).back i;
+    entries = (back table.Entries).back i;
+    arrangements = (back table.Arrangements).back i;
+    appeals = (back table.Appeals).back i;
+    standing = (back table.Standing).back i;
   },
 )
 

@@ -1,8 +1,8 @@
 -- What the tables of an office were before a command.
 use Rattle.std.specs.Prelude.{◌≡◌, ℕ, true, false, IsTrue, List, ◌||◌}
 use Rattle.std.specs.declared.cmp.Ordering.{Ordering}
-use Rattle.std.specs.Ordering.{nat_cmp}
-use Rattle.exam_rules.specs.Relations.{Code, Relations, appeal_cmp, code_cmp, entry_cmp, has_row, opening_cmp, remove_row, row_at, seat_cmp}
+use Rattle.exam_rules.specs.Relations.{Code, Relations, has_row, remove_row, row_at, seat_cmp}
+use Rattle.exam_rules.specs.Tables.{Table, Sessions, Papers, Halls, Openings, Candidates, Entries, Arrangements, Appeals, Standing, KeyOf, RowOf, cmp_of, rows_of}
 use Rattle.exam_changes.specs.declared.before.Before.{Before}
 use Rattle.exam_changes.specs.declared.before.Before.TheVariants as was
 use Rattle.exam_changes.specs.declared.before.PlansBefore.{PlansBefore}
@@ -20,17 +20,21 @@ WasTable cmp (was.Rows rows) before after =
     HasRows cmp rows.now.entries after × (before ≡ put_back cmp after rows.now.entries)
 WasTable cmp (was.Table rows) before after = rows.now.entries ≡ before
 
+-- what is said of a table
+abbrev pub said_of : Told → (t : Table) → Before (KeyOf t) (RowOf t)
+said_of told Sessions = told.sessions
+said_of told Papers = told.papers
+said_of told Halls = told.halls
+said_of told Openings = told.openings
+said_of told Candidates = told.candidates
+said_of told Entries = told.entries
+said_of told Arrangements = told.arrangements
+said_of told Appeals = told.appeals
+said_of told Standing = told.standing
+
 -- each table of facts was what this says
-pub record WereTables (told : Told) (before after : Relations) : Type 0 where
-  pub sessions : WasTable code_cmp told.sessions before.sessions after.sessions
-  pub papers : WasTable code_cmp told.papers before.papers after.papers
-  pub halls : WasTable code_cmp told.halls before.halls after.halls
-  pub openings : WasTable opening_cmp told.openings before.openings after.openings
-  pub candidates : WasTable nat_cmp told.candidates before.candidates after.candidates
-  pub entries : WasTable entry_cmp told.entries before.entries after.entries
-  pub arrangements : WasTable nat_cmp told.arrangements before.arrangements after.arrangements
-  pub appeals : WasTable appeal_cmp told.appeals before.appeals after.appeals
-  pub standing : WasTable appeal_cmp told.standing before.standing after.standing
+abbrev pub WereTables : Told → Relations → Relations → Type 0
+WereTables told before after = (t : Table) → WasTable (cmp_of t) (said_of told t) (rows_of before t) (rows_of after t)
 
 -- each table was the same
 abbrev pub all_same : Told

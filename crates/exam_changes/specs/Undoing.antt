@@ -3,6 +3,7 @@ use Rattle.std.specs.Prelude.{◌≡◌, ⊤, ℕ, Bool, IsTrue, List, [], Optio
 use Rattle.std.specs.Ordering.{nat_cmp}
 use Rattle.exam_rules.specs.declared.rows.Appeal.{Appeal}
 use Rattle.exam_rules.specs.Relations.{Code, Relations, appeal_cmp, code_cmp, entry_cmp, has_row, opening_cmp, put_row, remove_row}
+use Rattle.exam_rules.specs.Tables.{Table, Sessions, Papers, Halls, Openings, Candidates, Entries, Arrangements, Appeals, Standing, KeyOf, RowOf, cmp_of, rows_of}
 use Rattle.exam_commands.specs.declared.import_row.Kind.{Kind}
 use Rattle.exam_commands.specs.declared.import_row.Kind.TheVariants as kind
 use Rattle.exam_changes.specs.declared.kept.KeptRows.{KeptRows}
@@ -12,29 +13,25 @@ use Rattle.exam_commands.specs.Exchanges.{GoBack, HasRows, put_back}
 
 -- ---- the rows of an import
 
+-- the changed keys of a table, each with the row that it had, or none
+abbrev pub kept_of : KeptRows → (t : Table) → List (KeyOf t × Option (RowOf t))
+kept_of kept Sessions = kept.sessions.entries
+kept_of kept Papers = kept.papers.entries
+kept_of kept Halls = kept.halls.entries
+kept_of kept Openings = kept.openings.entries
+kept_of kept Candidates = kept.candidates.entries
+kept_of kept Entries = kept.entries.entries
+kept_of kept Arrangements = kept.arrangements.entries
+kept_of kept Appeals = kept.appeals.entries
+kept_of kept Standing = kept.standing.entries
+
 -- no row is kept
-pub record AreNone (kept : KeptRows) : Type 0 where
-  pub sessions : kept.sessions.entries ≡ []
-  pub papers : kept.papers.entries ≡ []
-  pub halls : kept.halls.entries ≡ []
-  pub openings : kept.openings.entries ≡ []
-  pub candidates : kept.candidates.entries ≡ []
-  pub entries : kept.entries.entries ≡ []
-  pub arrangements : kept.arrangements.entries ≡ []
-  pub appeals : kept.appeals.entries ≡ []
-  pub standing : kept.standing.entries ≡ []
+abbrev pub AreNone : KeptRows → Type 0
+AreNone kept = (t : Table) → kept_of kept t ≡ []
 
 -- each key that was changed has a row, so that putting it back, or taking it away, needs no memory
-pub record AreThere (kept : KeptRows) (r : Relations) : Type 0 where
-  pub sessions : HasRows code_cmp kept.sessions.entries r.sessions
-  pub papers : HasRows code_cmp kept.papers.entries r.papers
-  pub halls : HasRows code_cmp kept.halls.entries r.halls
-  pub openings : HasRows opening_cmp kept.openings.entries r.openings
-  pub candidates : HasRows nat_cmp kept.candidates.entries r.candidates
-  pub entries : HasRows entry_cmp kept.entries.entries r.entries
-  pub arrangements : HasRows nat_cmp kept.arrangements.entries r.arrangements
-  pub appeals : HasRows appeal_cmp kept.appeals.entries r.appeals
-  pub standing : HasRows appeal_cmp kept.standing.entries r.standing
+abbrev pub AreThere : KeptRows → Relations → Type 0
+AreThere kept r = (t : Table) → HasRows (cmp_of t) (kept_of kept t) (rows_of r t)
 
 -- the facts with the rows as they were
 abbrev pub with_kept : KeptRows → Relations → Relations
@@ -51,16 +48,8 @@ with_kept kept r = record r {
 }
 
 -- the new facts become the old ones, table by table
-pub record RowsGoBack (kept : KeptRows) (new old : Relations) : Type 0 where
-  pub sessions : GoBack code_cmp kept.sessions.entries new.sessions old.sessions
-  pub papers : GoBack code_cmp kept.papers.entries new.papers old.papers
-  pub halls : GoBack code_cmp kept.halls.entries new.halls old.halls
-  pub openings : GoBack opening_cmp kept.openings.entries new.openings old.openings
-  pub candidates : GoBack nat_cmp kept.candidates.entries new.candidates old.candidates
-  pub entries : GoBack entry_cmp kept.entries.entries new.entries old.entries
-  pub arrangements : GoBack nat_cmp kept.arrangements.entries new.arrangements old.arrangements
-  pub appeals : GoBack appeal_cmp kept.appeals.entries new.appeals old.appeals
-  pub standing : GoBack appeal_cmp kept.standing.entries new.standing old.standing
+abbrev pub RowsGoBack : KeptRows → Relations → Relations → Type 0
+RowsGoBack kept new old = (t : Table) → GoBack (cmp_of t) (kept_of kept t) (rows_of new t) (rows_of old t)
 
 -- ---- the rows of a decision
 

@@ -8,7 +8,8 @@ use Rattle.std.specs.Option.{option_map}
 use Rattle.std.proofs.lemmas.Bool.{and_from, and_parts, not-false, not-true, or_parts}
 use Rattle.exam_rules.specs.declared.rows.Entry.{Entry}
 use Rattle.exam_rules.proofs.Naming.{same_code_itself}
-use Rattle.exam_rules.specs.Orders.{AreInOrder, KeysRise}
+use Rattle.exam_rules.specs.Orders.{AreInOrder}
+use Rattle.exam_rules.specs.Tables as table
 use Rattle.exam_rules.specs.Relations.{Code, Relations, code_cmp, entry_cmp, opening_cmp, appeal_cmp, has_row, put_row, row_at}
 use Rattle.exam_commands.specs.declared.import_row.Row.{Row}
 use Rattle.exam_commands.specs.declared.import_row.Row.TheVariants as row
@@ -40,52 +41,25 @@ entry_total = then_total (on_total (λ (k : ℕ × Code). k.0) nat_cmp_total) (o
 
 -- ---- the tables stay in order
 
-in_order : (r : Relations) → KeysRise code_cmp r.sessions → KeysRise code_cmp r.papers → KeysRise code_cmp r.halls → KeysRise opening_cmp r.openings
-    → KeysRise nat_cmp r.candidates → KeysRise entry_cmp r.entries → KeysRise nat_cmp r.arrangements → KeysRise appeal_cmp r.appeals → KeysRise appeal_cmp r.standing → AreInOrder r
-in_order r sessions papers halls openings candidates entries arrangements appeals standing = record {
-  sessions = sessions;
-  papers = papers;
-  halls = halls;
-  openings = openings;
-  candidates = candidates;
-  entries = entries;
-  arrangements = arrangements;
-  appeals = appeals;
-  standing = standing;
-}
-
 row_in_order : (r : Relations) (x : Row) → AreInOrder r → AreInOrder (with_row r x)
 row_in_order r (row.OfSession s x) up =
-    in_order (with_row r (row.OfSession s x))
-    (put_rises code_cmp nat_list_cmp_total r.sessions s x up.sessions) up.papers up.halls up.openings up.candidates
-    up.entries up.arrangements up.appeals up.standing
+    elim [ table.Sessions ↦ put_rises code_cmp nat_list_cmp_total r.sessions s x (up table.Sessions) | t ↦ up t ]
 row_in_order r (row.OfPaper p x) up =
-    in_order (with_row r (row.OfPaper p x)) up.sessions
-    (put_rises code_cmp nat_list_cmp_total r.papers p x up.papers) up.halls up.openings up.candidates up.entries
-    up.arrangements up.appeals up.standing
+    elim [ table.Papers ↦ put_rises code_cmp nat_list_cmp_total r.papers p x (up table.Papers) | t ↦ up t ]
 row_in_order r (row.OfHall h x) up =
-    in_order (with_row r (row.OfHall h x)) up.sessions up.papers
-    (put_rises code_cmp nat_list_cmp_total r.halls h x up.halls) up.openings up.candidates up.entries up.arrangements
-    up.appeals up.standing
+    elim [ table.Halls ↦ put_rises code_cmp nat_list_cmp_total r.halls h x (up table.Halls) | t ↦ up t ]
 row_in_order r (row.OfOpening s h x) up =
-    in_order (with_row r (row.OfOpening s h x)) up.sessions up.papers up.halls
-    (put_rises opening_cmp opening_total r.openings (s, h) x up.openings) up.candidates up.entries up.arrangements
-    up.appeals up.standing
+    elim [ table.Openings ↦ put_rises opening_cmp opening_total r.openings (s, h) x (up table.Openings) | t ↦ up t ]
 row_in_order r (row.OfCandidate c x) up =
-    in_order (with_row r (row.OfCandidate c x)) up.sessions up.papers up.halls up.openings
-    (put_rises nat_cmp nat_cmp_total r.candidates c x up.candidates) up.entries up.arrangements up.appeals up.standing
+    elim [ table.Candidates ↦ put_rises nat_cmp nat_cmp_total r.candidates c x (up table.Candidates) | t ↦ up t ]
 row_in_order r (row.OfEntry c p) up = inner (has_row entry_cmp r.entries (c, p))
   where
     inner : (b : Bool) → AreInOrder (cond b r (record r { entries = put_row entry_cmp r.entries (c, p) (record { live = true }) }))
     inner true = up
-    inner false = in_order
-        (record r { entries = put_row entry_cmp r.entries (c, p) (record { live = true }) }) up.sessions up.papers
-        up.halls up.openings up.candidates
-        (put_rises entry_cmp entry_total r.entries (c, p) (record { live = true }) up.entries) up.arrangements
-        up.appeals up.standing
+    inner false =
+        elim [ table.Entries ↦ put_rises entry_cmp entry_total r.entries (c, p) (record { live = true }) (up table.Entries) | t ↦ up t ]
 row_in_order r (row.OfArrangement c x) up =
-    in_order (with_row r (row.OfArrangement c x)) up.sessions up.papers up.halls up.openings up.candidates up.entries
-    (put_rises nat_cmp nat_cmp_total r.arrangements c x up.arrangements) up.appeals up.standing
+    elim [ table.Arrangements ↦ put_rises nat_cmp nat_cmp_total r.arrangements c x (up table.Arrangements) | t ↦ up t ]
 
 pub rows_in_order : (r : Relations) (rows : List Row) → AreInOrder r → AreInOrder (with_rows r rows)
 rows_in_order r [] up = up
@@ -138,13 +112,13 @@ stored_same r (row.OfArrangement c x) e =
 -- ---- a stored row put again
 
 pub row_again : (r : Relations) (x : Row) → AreInOrder r → IsStored r x → with_row r x ≡ r
-row_again r (row.OfSession s x) up at = ap (λ rows. record r { sessions = rows }) (put_same code_cmp nat_list_cmp_total r.sessions s x up.sessions at)
-row_again r (row.OfPaper p x) up at = ap (λ rows. record r { papers = rows }) (put_same code_cmp nat_list_cmp_total r.papers p x up.papers at)
-row_again r (row.OfHall h x) up at = ap (λ rows. record r { halls = rows }) (put_same code_cmp nat_list_cmp_total r.halls h x up.halls at)
-row_again r (row.OfOpening s h x) up at = ap (λ rows. record r { openings = rows }) (put_same opening_cmp opening_total r.openings (s, h) x up.openings at)
-row_again r (row.OfCandidate c x) up at = ap (λ rows. record r { candidates = rows }) (put_same nat_cmp nat_cmp_total r.candidates c x up.candidates at)
+row_again r (row.OfSession s x) up at = ap (λ rows. record r { sessions = rows }) (put_same code_cmp nat_list_cmp_total r.sessions s x (up table.Sessions) at)
+row_again r (row.OfPaper p x) up at = ap (λ rows. record r { papers = rows }) (put_same code_cmp nat_list_cmp_total r.papers p x (up table.Papers) at)
+row_again r (row.OfHall h x) up at = ap (λ rows. record r { halls = rows }) (put_same code_cmp nat_list_cmp_total r.halls h x (up table.Halls) at)
+row_again r (row.OfOpening s h x) up at = ap (λ rows. record r { openings = rows }) (put_same opening_cmp opening_total r.openings (s, h) x (up table.Openings) at)
+row_again r (row.OfCandidate c x) up at = ap (λ rows. record r { candidates = rows }) (put_same nat_cmp nat_cmp_total r.candidates c x (up table.Candidates) at)
 row_again r (row.OfEntry c p) up at = ap (λ b. cond b r (record r { entries = put_row entry_cmp r.entries (c, p) (record { live = true }) })) at
-row_again r (row.OfArrangement c x) up at = ap (λ rows. record r { arrangements = rows }) (put_same nat_cmp nat_cmp_total r.arrangements c x up.arrangements at)
+row_again r (row.OfArrangement c x) up at = ap (λ rows. record r { arrangements = rows }) (put_same nat_cmp nat_cmp_total r.arrangements c x (up table.Arrangements) at)
 
 pub rows_again : (r : Relations) (rows : List Row) → AreInOrder r → AllByRecursion (IsStored r) rows → with_rows r rows ≡ r
 rows_again r [] up every = refl

@@ -1,8 +1,8 @@
 -- The rows that a command leaves in the tables: all except the opening that closing a hall takes away.
-use Rattle.std.specs.Prelude.{◌≡◌, IsTrue, List}
+use Rattle.std.specs.Prelude.{◌≡◌, Bool, true, false, IsTrue, List}
 use Rattle.std.specs.declared.cmp.Ordering.{Ordering}
-use Rattle.std.specs.Ordering.{nat_cmp}
-use Rattle.exam_rules.specs.Relations.{Code, Relations, appeal_cmp, code_cmp, entry_cmp, has_row, opening_cmp}
+use Rattle.exam_rules.specs.Relations.{Code, Relations, has_row, opening_cmp}
+use Rattle.exam_rules.specs.Tables.{Table, Openings, cmp_of, rows_of}
 use Rattle.exam_commands.specs.declared.command.Command.{Command}
 use Rattle.exam_commands.specs.declared.command.Command.TheVariants as command
 
@@ -10,16 +10,15 @@ use Rattle.exam_commands.specs.declared.command.Command.TheVariants as command
 abbrev pub KeepsKeys : {K X : Type 0} → (K → K → Ordering) → List (K × X) → List (K × X) → Type 0
 KeepsKeys {K} cmp before after = (k : K) → IsTrue (has_row cmp before k) → IsTrue (has_row cmp after k)
 
--- each table of facts except that of openings keeps its keys
-pub record KeepsRows (before after : Relations) : Type 0 where
-  pub sessions : KeepsKeys code_cmp before.sessions after.sessions
-  pub papers : KeepsKeys code_cmp before.papers after.papers
-  pub halls : KeepsKeys code_cmp before.halls after.halls
-  pub candidates : KeepsKeys nat_cmp before.candidates after.candidates
-  pub entries : KeepsKeys entry_cmp before.entries after.entries
-  pub arrangements : KeepsKeys nat_cmp before.arrangements after.arrangements
-  pub appeals : KeepsKeys appeal_cmp before.appeals after.appeals
-  pub standing : KeepsKeys appeal_cmp before.standing after.standing
+-- commands take rows away from no table but that of openings
+abbrev pub may_lose_rows : Table → Bool
+may_lose_rows Openings = true
+may_lose_rows _ = false
+
+-- every other table keeps its keys
+abbrev pub KeepsRows : Relations → Relations → Type 0
+KeepsRows before after =
+    (t : Table) → may_lose_rows t ≡ false → KeepsKeys (cmp_of t) (rows_of before t) (rows_of after t)
 
 -- the command closes this hall for this session
 abbrev pub IsClosing : Command → Code × Code → Type 0

@@ -15,9 +15,9 @@ use Rattle.exam_job.specs.Printed.{Prints, migration_text}
 use Rattle.exam_job.specs.declared.report.JobFault.{JobFault}
 use Rattle.exam_job.specs.declared.report.JobFault.TheVariants.{Refused}
 
--- What is done with an office of an earlier version or of the newest one. The versions before and after are those of the
--- tables, which held a good office; the database keeps it in the newest version, in one transaction or not at all; over
--- an office of the newest version nothing is written; why this is refused.
+-- What is done with an office of an earlier version or of the newest one. The versions before and after are those of
+-- the tables, which held a good office; the database keeps it in the newest version, in one transaction or not at all;
+-- over an office of the newest version nothing is written; why this is refused.
 pub record IsMigrated {S : Type 0} (g : Ghosts S) (old : Held S) (answered : Result (ℕ × ℕ) Refusal) (new : Held S)
     : Type 0 where
   pub versions : IfOk answered (λ v. IsVersion v.0 × (v.1 ≡ version))

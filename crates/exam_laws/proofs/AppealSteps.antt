@@ -25,6 +25,7 @@ use Rattle.exam_rules.specs.Relations.{Code, Relations, appeal_cmp, code_cmp, ha
 use Rattle.exam_rules.specs.Sessions.{appeal_count, asked_arrangement, barred_halls, clash_papers, has_live_entry, is_granted, is_live, is_live_paper, is_member, is_paper_of, sitting}
 use Rattle.exam_rules.specs.Seatings.{fits, opened_room, plan_of, seating, sitting_terms, suits_opened}
 use Rattle.exam_rules.proofs.Naming.{same_code_exact}
+use Rattle.exam_rules.specs.Tables as table
 use Rattle.exam_commands.specs.declared.command.AppealState.{AppealState}
 use Rattle.exam_commands.specs.declared.command.Command.TheVariants as command
 use Rattle.exam_commands.specs.declared.command.Lodging.{Lodging}
@@ -235,7 +236,7 @@ count_same : (r : Relations) (k : ℕ × Code) (a b : Appeal) → AreInOrder r �
 count_same r k a b up at =
     let counts : appeal_count (with_appeals r (put_row appeal_cmp r.appeals k a)) ≡ appeal_count r =
     fun_ext (λ c. count_replaced appeal_cmp appeals_total
-    (λ (key : ℕ × Code). key.0 == c) r.appeals k a b up.appeals at) in
+    (λ (key : ℕ × Code). key.0 == c) r.appeals k a b (up table.Appeals) at) in
     ap (λ (count : ℕ → ℕ). sessions_within r
     && (papers_within r &&
     (halls_within r && (openings_within r

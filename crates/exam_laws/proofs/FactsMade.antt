@@ -6,6 +6,7 @@ use Rattle.exam_types.specs.declared.refusal.Refusal.{Refusal}
 use Rattle.exam_types.specs.declared.refusal.Refusal.TheVariants as refusal
 use Rattle.exam_rules.specs.Orders.{AreInOrder}
 use Rattle.exam_rules.specs.Relations.{Relations}
+use Rattle.exam_rules.specs.Tables as table
 use Rattle.exam_commands.specs.declared.command.Command.{Command}
 use Rattle.exam_commands.specs.declared.command.Command.TheVariants as command
 use Rattle.exam_commands.specs.Changes.{first_refusal, too_many, unless, with_live, with_rows, without_opening}
@@ -64,7 +65,7 @@ module _ (today : ℕ) (before : State) (good : IsGood before) (up : AreInOrder 
   within_still (command.CloseHall s h) not_one ok = closing_within before.relations s h good.limits
   within_still (command.Lodge l) not_one ok = absurd (let differ : true ≡ false = not_one in cc)
   within_still (command.Retract c reference) not_one ok = (retraction_within before good c reference up ok).within
-  within_still (command.Decide d) not_one ok = decision_within before.relations d up.appeals ∙ good.limits
+  within_still (command.Decide d) not_one ok = decision_within before.relations d (up table.Appeals) ∙ good.limits
 
   -- what they refer to is there
   pub made_refers : (done : Command) → early_refusal done today before ≡ None → refers (facts_made done today before) ≡ true

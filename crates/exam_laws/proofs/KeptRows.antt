@@ -7,6 +7,8 @@ use Rattle.exam_types.specs.declared.refusal.Refusal.TheVariants as refusal
 use Rattle.exam_rules.specs.declared.rows.Appeal.{Appeal}
 use Rattle.exam_rules.specs.declared.rows.Subject.{Subject}
 use Rattle.exam_rules.specs.Relations.{Code, Relations, appeal_cmp, code_cmp, entry_cmp, opening_cmp, has_row, put_row, row_at}
+use Rattle.exam_rules.specs.Tables.{Table, cmp_of, rows_of}
+use Rattle.exam_rules.specs.Tables as table
 use Rattle.exam_commands.specs.declared.command.Command.{Command}
 use Rattle.exam_commands.specs.declared.command.Command.TheVariants as command
 use Rattle.exam_commands.specs.declared.command.Decision.{Decision}
@@ -34,143 +36,28 @@ use Rattle.exam_commands.proofs.OtherRows.{key_apart, removed_elsewhere}
 use Rattle.exam_commands.proofs.AppealKeys.{openings_exact}
 
 -- no table loses a key
-record Keeps (r t : Relations) : Type 0 where
-  rows : KeepsRows r t
-  openings : KeepsKeys opening_cmp r.openings t.openings
+abbrev Keeps : Relations → Relations → Type 0
+Keeps r t = (name : Table) → KeepsKeys (cmp_of name) (rows_of r name) (rows_of t name)
 
 keeps_itself : (r : Relations) → Keeps r r
-keeps_itself r = record {
-  rows = record { sessions = λ k h. h; papers = λ k h. h; halls = λ k h. h; candidates = λ k h. h; entries = λ k h. h; arrangements = λ k h. h; appeals = λ k h. h; standing = λ k h. h };
-  openings = λ k h. h;
-}
+keeps_itself r name k has = has
 
 -- one more row of an import
 keeps_row : (r : Relations) (x : Row) → Keeps r (with_row r x)
-keeps_row r (row.OfSession s x) = let same = (keeps_itself r).rows in record {
-  rows = record {
-    sessions = λ k h. has_put code_cmp r.sessions s k x h;
-    papers = same.papers;
-    halls =
-        same.halls;
-    candidates = same.candidates;
-    entries = same.entries;
-    arrangements = same.arrangements;
-    appeals =
-        same.appeals;
-    standing = same.standing;
-  };
-  openings = λ k h. h;
-}
-keeps_row r (row.OfPaper p x) = let same = (keeps_itself r).rows in record {
-  rows = record {
-    sessions = same.sessions;
-    papers = λ k h. has_put code_cmp r.papers p k x h;
-    halls =
-        same.halls;
-    candidates = same.candidates;
-    entries = same.entries;
-    arrangements = same.arrangements;
-    appeals =
-        same.appeals;
-    standing = same.standing;
-  };
-  openings = λ k h. h;
-}
-keeps_row r (row.OfHall j x) = let same = (keeps_itself r).rows in record {
-  rows = record {
-    sessions = same.sessions;
-    papers = same.papers;
-    halls =
-        λ k h. has_put code_cmp r.halls j k x h;
-    candidates = same.candidates;
-    entries = same.entries;
-    arrangements =
-        same.arrangements;
-    appeals = same.appeals;
-    standing = same.standing;
-  };
-  openings = λ k h. h;
-}
-keeps_row r (row.OfOpening s j x) = let same = (keeps_itself r).rows in record {
-  rows = record {
-    sessions = same.sessions;
-    papers = same.papers;
-    halls = same.halls;
-    candidates =
-        same.candidates;
-    entries = same.entries;
-    arrangements = same.arrangements;
-    appeals = same.appeals;
-    standing =
-        same.standing;
-  };
-  openings = λ k h. has_put opening_cmp r.openings (s, j) k x h;
-}
-keeps_row r (row.OfCandidate c x) = let same = (keeps_itself r).rows in record {
-  rows = record {
-    sessions = same.sessions;
-    papers = same.papers;
-    halls = same.halls;
-    candidates =
-        λ k h. has_put nat_cmp r.candidates c k x h;
-    entries = same.entries;
-    arrangements = same.arrangements;
-    appeals =
-        same.appeals;
-    standing = same.standing;
-  };
-  openings = λ k h. h;
-}
+keeps_row r (row.OfSession s x) = elim [ table.Sessions ↦ λ k. has_put code_cmp r.sessions s k x | _ ↦ λ k has. has ]
+keeps_row r (row.OfPaper p x) = elim [ table.Papers ↦ λ k. has_put code_cmp r.papers p k x | _ ↦ λ k has. has ]
+keeps_row r (row.OfHall j x) = elim [ table.Halls ↦ λ k. has_put code_cmp r.halls j k x | _ ↦ λ k has. has ]
+keeps_row r (row.OfOpening s j x) = elim [ table.Openings ↦ λ k. has_put opening_cmp r.openings (s, j) k x | _ ↦ λ k has. has ]
+keeps_row r (row.OfCandidate c x) = elim [ table.Candidates ↦ λ k. has_put nat_cmp r.candidates c k x | _ ↦ λ k has. has ]
 keeps_row r (row.OfEntry c p) = inner (has_row entry_cmp r.entries (c, p))
   where
     inner : (b : Bool) → Keeps r (cond b r (record r { entries = put_row entry_cmp r.entries (c, p) (record { live = true }) }))
     inner true = keeps_itself r
-    inner false = let same = (keeps_itself r).rows in record {
-      rows = record {
-        sessions = same.sessions;
-        papers = same.papers;
-        halls = same.halls;
-        candidates =
-            same.candidates;
-        entries =
-            λ k h. has_put entry_cmp r.entries (c, p) k (record { live = true }) h;
-        arrangements =
-            same.arrangements;
-        appeals = same.appeals;
-        standing = same.standing;
-      };
-      openings = λ k h. h;
-    }
-keeps_row r (row.OfArrangement c x) = let same = (keeps_itself r).rows in record {
-  rows = record {
-    sessions = same.sessions;
-    papers = same.papers;
-    halls = same.halls;
-    candidates =
-        same.candidates;
-    entries = same.entries;
-    arrangements = λ k h. has_put nat_cmp r.arrangements c k x h;
-    appeals =
-        same.appeals;
-    standing = same.standing;
-  };
-  openings = λ k h. h;
-}
+    inner false = elim [ table.Entries ↦ λ k. has_put entry_cmp r.entries (c, p) k (record { live = true }) | _ ↦ λ k has. has ]
+keeps_row r (row.OfArrangement c x) = elim [ table.Arrangements ↦ λ k. has_put nat_cmp r.arrangements c k x | _ ↦ λ k has. has ]
 
 keeps_both : (r t u : Relations) → Keeps r t → Keeps t u → Keeps r u
-keeps_both r t u one two = record {
-  rows = record {
-    sessions = λ k h. two.rows.sessions k (one.rows.sessions k h);
-    papers = λ k h. two.rows.papers k (one.rows.papers k h);
-    halls = λ k h. two.rows.halls k (one.rows.halls k h);
-    candidates = λ k h. two.rows.candidates k (one.rows.candidates k h);
-    entries = λ k h. two.rows.entries k (one.rows.entries k h);
-    arrangements = λ k h. two.rows.arrangements k (one.rows.arrangements k h);
-    appeals = λ k h. two.rows.appeals k (one.rows.appeals k h);
-    standing = λ k h. two.rows.standing k (one.rows.standing k h);
-  };
-  openings = λ k h. two.openings k (one.openings k h);
-}
+keeps_both r t u one two name k has = two name k (one name k has)
 
 keeps_rows : (r : Relations) (rows : List Row) → Keeps r (with_rows r rows)
 keeps_rows r [] = keeps_itself r
@@ -178,38 +65,11 @@ keeps_rows r (x ∷ rows) = keeps_both r (with_row r x) (with_rows (with_row r x
 
 -- entries, or appeals and marks, keep their keys, and the rest stays
 keeps_entries : (r : Relations) (c : ℕ) (p : Code) (live : Bool) → Keeps r (with_live r c p live)
-keeps_entries r c p live = let same = (keeps_itself r).rows in record {
-  rows = record {
-    sessions = same.sessions;
-    papers = same.papers;
-    halls = same.halls;
-    candidates =
-        same.candidates;
-    entries = λ k h. has_put entry_cmp r.entries (c, p) k (record { live = live }) h;
-    arrangements =
-        same.arrangements;
-    appeals = same.appeals;
-    standing = same.standing;
-  };
-  openings = λ k h. h;
-}
+keeps_entries r c p live = elim [ table.Entries ↦ λ k. has_put entry_cmp r.entries (c, p) k (record { live = live }) | _ ↦ λ k has. has ]
 
 keeps_appeals : (r : Relations) (appeals : List ((ℕ × Code) × Appeal)) (marks : List ((ℕ × Code) × Unit {0})) → KeepsKeys appeal_cmp r.appeals appeals → KeepsKeys appeal_cmp r.standing marks
     → Keeps r (record r { appeals = appeals; standing = marks })
-keeps_appeals r appeals marks stay bear = let same = (keeps_itself r).rows in record {
-  rows = record {
-    sessions = same.sessions;
-    papers = same.papers;
-    halls = same.halls;
-    candidates =
-        same.candidates;
-    entries = same.entries;
-    arrangements = same.arrangements;
-    appeals = stay;
-    standing = bear;
-  };
-  openings = λ k h. h;
-}
+keeps_appeals r appeals marks stay bear = elim [ table.Appeals ↦ stay | table.Standing ↦ bear | _ ↦ λ k has. has ]
 
 put_appeal : (r : Relations) (k : ℕ × Code) (a : Appeal) → Keeps r (record r { appeals = put_row appeal_cmp r.appeals k a })
 put_appeal r k a = keeps_appeals r (put_row appeal_cmp r.appeals k a) r.standing (λ q h. has_put appeal_cmp r.appeals k q a h) (λ q h. h)
@@ -276,7 +136,7 @@ decision_keeps r day d stand ok = inner (appeal_at r d.number d.reference) refl
 
 -- what keeps all keys keeps those that stay
 all_stay : (done : Command) (r t : Relations) → Keeps r t → KeepsRows r t × KeepsOpenings done r t
-all_stay done r t keeps = (keeps.rows, λ k apart. keeps.openings k)
+all_stay done r t keeps = (λ name stays. keeps name, λ k apart. keeps table.Openings k)
 
 change_keeps : (done : Command) (day : ℕ) (before : State) (t : Relations) → IsGood before → change done day before ≡ Ok t → KeepsRows before.relations t × KeepsOpenings done before.relations t
 change_keeps (command.Import import) day before t fine is =
@@ -298,17 +158,7 @@ change_keeps (command.CloseHall s h) day before t fine is =
     let r = before.relations in
     let new = made (closing_refusal r s h) (without_opening r s h) t is in (
       subst (KeepsRows r) new
-          (record {
-            sessions = λ k i. i;
-            papers = λ k i. i;
-            halls = λ k i. i;
-            candidates = λ k i. i;
-            entries =
-                λ k i. i;
-            arrangements = λ k i. i;
-            appeals = λ k i. i;
-            standing = λ k i. i;
-          }),
+          (elim [ table.Openings ↦ λ stays. absurd (let differ : true ≡ false = stays in cc) | _ ↦ λ stays k has. has ]),
       subst (KeepsOpenings (command.CloseHall s h) r) new
           (λ k apart has. ap is_some
           (removed_elsewhere opening_cmp openings_exact r.openings (s, h) k

@@ -19,6 +19,7 @@ use Rattle.exam_rules.specs.declared.rows.Subject.TheVariants as subject
 use Rattle.exam_rules.specs.Relations.{Code, Relations, appeal_cmp, code_cmp, has_row, is_row_of, row_at, same_code}
 use Rattle.exam_rules.specs.Sessions.{appeal_count, clash_papers, finish, has_live_entry, is_member, live_papers, sitting}
 use Rattle.exam_rules.proofs.Sitters.{known_listed}
+use Rattle.exam_rules.specs.Tables as table
 use Rattle.exam_commands.specs.declared.command.AppealState.{AppealState}
 use Rattle.exam_commands.specs.declared.command.AppealState.TheVariants as state
 use Rattle.exam_commands.specs.declared.command.Command.TheVariants as command
@@ -173,7 +174,7 @@ module _ (office : State) (today : ℕ) (l : Lodging) (good : IsGood office) (up
   subject_told x seen (subject.Hall h) = refl
   subject_told x seen (subject.Clash p) =
       ap (λ (b : Bool). (length (clash_papers r s c) == 0, refusal.NoClash) ∷ (not b, refusal.NoEntry) ∷ (option_map_or (same_code p) (sitting r s c) false, refusal.NothingToChange) ∷ [])
-      (live_found r s c p r.entries up.tables.entries)
+      (live_found r s c p r.entries (up.tables table.Entries))
       ∙ ap (λ (o : Option Code). (length (clash_papers r s c) == 0, refusal.NoClash)
       ∷ (not (list_any (same_code p) (live_papers r s c)), refusal.NoEntry)
       ∷ (option_map_or (same_code p) o false, refusal.NothingToChange) ∷ [])
@@ -194,7 +195,7 @@ module _ (office : State) (today : ℕ) (l : Lodging) (good : IsGood office) (up
       ≡ new_shown l today (own_among c r.appeals) (session_at s (own_sessions office c))
   new_told there none =
       inner (is_member r s c) refl (row_at code_cmp r.sessions s) refl
-      ∙ ap (new_shown l today (own_among c r.appeals)) (sym (session_found (λ (t : Code). is_member r t c) (own_session office c) (session_named office c) s r.sessions up.tables.sessions))
+      ∙ ap (new_shown l today (own_among c r.appeals)) (sym (session_found (λ (t : Code). is_member r t c) (own_session office c) (session_named office c) s r.sessions (up.tables table.Sessions)))
     where
       inner : (b : Bool) → is_member r s c ≡ b → (o : Option Session) → row_at code_cmp r.sessions s ≡ o → new_by b o ≡ new_shown l today (own_among c r.appeals) (seen_by b o)
       inner true member None held = refl

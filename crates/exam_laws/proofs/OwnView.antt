@@ -32,6 +32,7 @@ use Rattle.exam_rules.specs.Sessions.{arrangement_by, asked_arrangement, asked_p
 use Rattle.exam_rules.specs.Sessions.{is_clash, is_granted, is_granted_appeal, is_live_paper, is_marked, is_member}
 use Rattle.exam_rules.specs.Sessions.{least_live_paper, live_papers, option_filter, session_day, standing_grants}
 use Rattle.exam_rules.specs.Seatings.{desk_cmp, plan_of, seating}
+use Rattle.exam_rules.specs.Tables as table
 use Rattle.exam_commands.specs.declared.command.Command.TheVariants as command
 use Rattle.exam_commands.specs.declared.command.Lodging.{Lodging}
 use Rattle.exam_commands.specs.declared.command.Reply.{Reply}
@@ -281,7 +282,7 @@ module _ (office : State) (day : ℕ) (l : Lodging) (good : IsGood office) where
     where
       inner : (o : Option Appeal) → appeal_at office.relations l.number l.reference ≡ o
           → own_of (state_of (cond (is_none o) (spec.with_appeal office.relations day l) office.relations) office.seats) l.number ≡ lodged_view l day o (own_of office l.number)
-      inner None none = put_own office.relations office.seats (l.number, l.reference) (made l day) (lodging_put none) up.tables.appeals
+      inner None none = put_own office.relations office.seats (l.number, l.reference) (made l day) (lodging_put none) (up.tables table.Appeals)
       inner (Some a) at = refl
 
   lodged_other : (c : ℕ) → nat_eq l.number c ≡ false → own_of lodged_office c ≡ own_of office c
@@ -368,7 +369,7 @@ module _ (office : State) (c : ℕ) (reference : Code) (good : IsGood office) wh
           → own_of (state_of (cond b office.relations (spec.with_retracted_appeal office.relations c reference a)) office.seats) c
           ≡ cond b (own_of office c) (option_map (with_one reference (retracted_one a)) (own_of office c))
       by_status a at true = refl
-      by_status a at false = put_own office.relations office.seats (c, reference) (retracted_one a) (retraction_put ok a at) up.tables.appeals
+      by_status a at false = put_own office.relations office.seats (c, reference) (retracted_one a) (retraction_put ok a at) (up.tables table.Appeals)
 
       inner : (o : Option Appeal) → appeal_at office.relations c reference ≡ o
           → own_of (state_of (spec.with_retracted office.relations c reference o) office.seats) c

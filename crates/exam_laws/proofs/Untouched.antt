@@ -28,6 +28,7 @@ use Rattle.exam_rules.specs.Sessions.{is_member, is_paper_of, is_standing, sessi
 use Rattle.exam_rules.specs.Seatings.{fits, opened_room, plan_of, seating, sitting_terms, suits_opened}
 use Rattle.exam_laws.proofs.Reaching.{untouched_is_unreached, untouched_is_unset}
 use Rattle.exam_rules.proofs.Naming.{same_code_exact, same_code_itself}
+use Rattle.exam_rules.specs.Tables as table
 use Rattle.exam_commands.specs.declared.command.Command.{Command}
 use Rattle.exam_commands.specs.declared.command.Command.TheVariants as command
 use Rattle.exam_commands.specs.declared.command.Decision.{Decision}
@@ -617,7 +618,7 @@ module _ (before : State) (good : IsGood before) (up : IsInOrder before) (today 
       let none = unrefused (import_refusal r import.rows) (with_rows r import.rows) t is in
       let checked = neither (rows_refusal r import.rows) (first_refusal (too_many (with_rows r import.rows) ∷ [])) none in
       subst (λ u. SameSeating (seating r s) (seating u s)) (made (import_refusal r import.rows) (with_rows r import.rows) t is)
-      (alike_seating r (with_rows r import.rows) s (import_spares r good.refer s up.tables.candidates import.rows unset
+      (alike_seating r (with_rows r import.rows) s (import_spares r good.refer s (up.tables table.Candidates) import.rows unset
       (neither_any (list_any (λ (x : Row). row_reaches r x s) import.rows) (is_of_sessions import.kind && has_standing_member r s) away).0 checked.0))
   spared_by (command.Withdraw c p) t is unset away =
       let r = before.relations in

@@ -12,6 +12,7 @@ use Rattle.exam_rules.specs.Lists.{MakesLive, entered_session}
 use Rattle.exam_rules.specs.Relations.{Code, Relations, code_cmp, entry_cmp, has_row, put_row, row_at, same_code}
 use Rattle.exam_rules.specs.Sessions.{is_paper_of}
 use Rattle.exam_rules.proofs.Naming.{same_code_itself}
+use Rattle.exam_rules.specs.Tables as table
 use Rattle.exam_commands.specs.declared.import_row.Kind.TheVariants as kind
 use Rattle.exam_commands.specs.declared.import_row.Row.{Row}
 use Rattle.exam_commands.specs.declared.import_row.Row.TheVariants as row
@@ -103,7 +104,7 @@ module _ (r t : Relations) (c : ℕ) (p : Code) (later : List Row) (enters : Ent
           → (with_row r (row.OfEntry c p)).entries ≡ put_row entry_cmp r.entries (c, p) (record { live = true })
       live_then e true live at =
           ap (λ (u : Relations). u.entries) (by_has true (ap is_some at))
-          ∙ sym (put_same entry_cmp entry_total r.entries (c, p) (record { live = true }) enters.order.entries (at ∙ ap (λ (b : Bool). Some (record { live = b })) live))
+          ∙ sym (put_same entry_cmp entry_total r.entries (c, p) (record { live = true }) (enters.order table.Entries) (at ∙ ap (λ (b : Bool). Some (record { live = b })) live))
       live_then e false live at =
           absurd (let differ : Some s ≡ None = sym counts ∙ now_is e (old_stays e at) ∙ ap (λ b. cond b (option_map (λ (paper : Paper). paper.session) (row_at code_cmp r.papers p)) None) live in cc)
 

@@ -19,6 +19,7 @@ use Rattle.exam_rules.specs.Relations.{Code, Relations}
 use Rattle.exam_rules.specs.Sessions.{has_live_entry, is_live_entry, least_live_paper}
 use Rattle.exam_rules.proofs.Listed.{entrants_are_members}
 use Rattle.exam_rules.proofs.Together.{any_is}
+use Rattle.exam_rules.specs.Tables as table
 use Rattle.exam_commands.specs.declared.command.Command.TheVariants as command
 use Rattle.exam_commands.specs.declared.import_row.Kind.{Kind}
 use Rattle.exam_commands.specs.declared.import_row.Kind.TheVariants as kind
@@ -119,7 +120,7 @@ module _ (r : Relations) (lists : SessionLists) (are : AreListsOf r lists) where
       inner kind.Openings keeps of only = absurd (let differ : false ≡ true = keeps in cc)
       inner kind.Candidates keeps of only =
           subst (λ (t : Relations). AreListsOf t lists) (sym only)
-          (with_candidates (with_rows r rows).candidates (λ s. (import_spares r refer s up.candidates rows (none_set s rows of) (none_reached r s rows of) known).candidates))
+          (with_candidates (with_rows r rows).candidates (λ s. (import_spares r refer s (up table.Candidates) rows (none_set s rows of) (none_reached r s rows of) known).candidates))
       inner kind.Entries keeps of only = absurd (let differ : false ≡ true = keeps in cc)
       inner kind.Arrangements keeps of only = subst (λ (t : Relations). AreListsOf t lists) (sym only) (with_others r.sessions r.halls (with_rows r rows).arrangements)
 

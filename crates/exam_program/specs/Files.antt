@@ -33,8 +33,9 @@ pub record HoldOffice {D : Type 0} (g : disk.Ghosts D) (files : Files D) (office
 abbrev pub Closed : (D : Type 0) → disk.Ghosts D → Type 0
 Closed D g = Result (Files D) (Error × FileStore D g)
 
--- The files that come back can be used. If their disks have returned what was written, they hold what this connection had
--- committed, and the database file holds it alone. If the connection could not be closed, a crash leaves nothing new.
+-- The files that come back can be used. If their disks have returned what was written, they hold what this connection
+-- had committed, and the database file holds it alone. If the connection could not be closed, a crash leaves nothing
+-- new.
 abbrev pub Closes : {D : Type 0} {g : disk.Ghosts D} → Held (FileStore D g) → Closed D g → Type 0
 Closes {D} {g} now (Ok files) =
     (IsTrue (g.is_usable files.log) × IsTrue (g.is_usable files.db))

@@ -19,6 +19,7 @@ use Rattle.exam_rules.specs.declared.listing.SessionLists.{SessionLists}
 use Rattle.exam_rules.specs.declared.rows.Opening.{Opening}
 use Rattle.exam_rules.specs.Lists.{AreListsOf, closed, entrants, listed, without_hall}
 use Rattle.exam_rules.specs.Orders.{AreInOrder}
+use Rattle.exam_rules.specs.Tables.{Openings}
 use Rattle.exam_rules.specs.Relations.{Code, Relations, code_cmp, opening_cmp, remove_row, same_code}
 use Rattle.exam_rules.specs.Seatings.{open_halls}
 use Rattle.exam_rules.specs.Sessions as sessions
@@ -124,7 +125,7 @@ module _ (s h : Code) where
   }
     where
       here : open_halls (closed r s h) s ≡ without_hall h (open_halls r s)
-      here = removed_here r.openings up.openings
+      here = removed_here r.openings (up Openings)
 
       halls : (t : Code) (b : Bool) → same_code s t ≡ b → cond b list (listed old.halls.entries t) ≡ open_halls (closed r s h) t
       halls t true same = is ∙ ap (without_hall h) (are.halls s) ∙ sym here ∙ ap (open_halls (closed r s h)) (same_code_exact s t same)

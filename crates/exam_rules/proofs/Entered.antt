@@ -29,6 +29,7 @@ use Rattle.exam_rules.specs.Relations.{Code, Relations, code_cmp, same_code, ent
 use Rattle.exam_rules.specs.Sessions.{has_live_entry, head_of, is_live_entry, is_paper_of, least_live_paper}
 use Rattle.exam_rules.specs.Names.{ListsRise}
 use Rattle.exam_rules.specs.Orders.{AreInOrder, KeysRise}
+use Rattle.exam_rules.specs.Tables.{Candidates, Entries, Openings}
 use Rattle.exam_rules.specs.Lists.{listed, entrant, entrants, entered, lesser_paper, lowered, SetsEntry, MakesLive, AreListsOf}
 use Rattle.exam_rules.proofs.Listed.{listed_with}
 use Rattle.exam_rules.proofs.Naming.{halls_rise}
@@ -197,7 +198,7 @@ module _ (before after : Relations) (s : Code) (c : ℕ) (p : Code) (made : Make
       ap (λ (rows : List (ℕ × Candidate)). listed_with (least_live_paper after s) (keys_of rows)) made.candidates
       ∙ entered_lists (least_live_paper before s) (least_live_paper after s) c p
       (λ d other. least_of_other before after s c sets s d other)
-      (least_lowered up.entries) before.candidates up.candidates made.candidate
+      (least_lowered (up Entries)) before.candidates (up Candidates) made.candidate
 
   -- entered in the list of the session
   pub entered_all : (old new : SessionLists) (list : List Entrant) → AreInOrder before → AreListsOf before old → list ≡ entered c p (listed old.members.entries s)
@@ -207,8 +208,8 @@ module _ (before after : Relations) (s : Code) (c : ℕ) (p : Code) (made : Make
     where
       lists_rise_on : (t : Code) → ListsRise after t
       lists_rise_on t = record {
-        numbers = IsStrictlySortedBy-filter nat_cmp (has_live_entry after t) (keys_of after.candidates) (subst (KeysRise nat_cmp) (sym made.candidates) up.candidates);
-        codes = halls_rise t after.openings (subst (KeysRise opening_cmp) (sym made.openings) up.openings);
+        numbers = IsStrictlySortedBy-filter nat_cmp (has_live_entry after t) (keys_of after.candidates) (subst (KeysRise nat_cmp) (sym made.candidates) (up Candidates));
+        codes = halls_rise t after.openings (subst (KeysRise opening_cmp) (sym made.openings) (up Openings));
       }
 
 -- ---- the place in a list

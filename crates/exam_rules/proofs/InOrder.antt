@@ -6,10 +6,11 @@ use Rattle.exam_rules.specs.Relations.{Code, Relations}
 use Rattle.exam_rules.specs.Sessions.{has_live_entry}
 use Rattle.exam_rules.specs.Names.{ListsRise}
 use Rattle.exam_rules.specs.Orders.{AreInOrder}
+use Rattle.exam_rules.specs.Tables.{Candidates, Openings}
 use Rattle.exam_rules.proofs.Naming.{halls_rise}
 
 pub lists_rise : (r : Relations) (s : Code) → AreInOrder r → ListsRise r s
 lists_rise r s up = record {
-  numbers = IsStrictlySortedBy-filter nat_cmp (has_live_entry r s) (keys_of r.candidates) up.candidates;
-  codes = halls_rise s r.openings up.openings;
+  numbers = IsStrictlySortedBy-filter nat_cmp (has_live_entry r s) (keys_of r.candidates) (up Candidates);
+  codes = halls_rise s r.openings (up Openings);
 }

@@ -25,6 +25,7 @@ use Rattle.exam_rules.specs.Relations.{Code, Relations, code_cmp, same_code, ent
 use Rattle.exam_rules.specs.Sessions.{head_of, is_live_entry, is_paper_of, least_live_paper}
 use Rattle.exam_rules.specs.Names.{ListsRise}
 use Rattle.exam_rules.specs.Orders.{AreInOrder}
+use Rattle.exam_rules.specs.Tables.{Candidates}
 use Rattle.exam_rules.specs.Lists.{listed, entrant, entrants, placed, listed_paper, SetsEntry, AreListsOf}
 use Rattle.exam_rules.proofs.InOrder.{lists_rise}
 use Rattle.exam_rules.proofs.Listed.{listed_with, entrants_are_members}
@@ -239,7 +240,7 @@ module _ (before after : Relations) (s : Code) (c : ℕ) (sets : SetsEntry befor
   pub relisted_lists : (old new : SessionLists) (list : List Entrant) → AreInOrder after → AreListsOf before old → list ≡ placed c (listed_paper after s c) (listed old.members.entries s)
       → ((t : Code) → listed new.members.entries t ≡ cond (same_code s t) list (listed old.members.entries t)) → new.halls.entries ≡ old.halls.entries → AreListsOf after new
   relisted_lists old new list up are made put halls =
-      lists_with old new list (λ t. lists_rise after t up) are (made ∙ ap (placed c (listed_paper after s c)) (are.members s) ∙ sym (listed_anew up.candidates)) put halls
+      lists_with old new list (λ t. lists_rise after t up) are (made ∙ ap (placed c (listed_paper after s c)) (are.members s) ∙ sym (listed_anew (up Candidates))) put halls
 
 -- ---- the lists as they were
 

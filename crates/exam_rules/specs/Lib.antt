@@ -2,6 +2,7 @@
 --
 -- - Relations: the facts as relations: of each table the rows with their keys, in the order of the keys; look-up and
 --   change of a row
+-- - Tables: the tables of facts by name: of each the types of its keys and rows, the order of its keys, its rows
 -- - Sessions: members; who has a live entry, also of numbers of no candidate; live papers; the sitting paper (that of a
 --   granted clash appeal if it is live and of the session, else the least); clashes; granted and barred; standing
 --   grants; the arrangement in force; the finish, rounded up to the minute
@@ -17,6 +18,7 @@
 -- - Examples: worked cases, computed by the check: 90 minutes and 25 percent from 09:00 end at 10:53; a withdrawn entry
 --   does not count; a standing grant counts from its session's date on
 pub mod Relations
+pub mod Tables
 pub mod Sessions
 pub mod Seatings
 pub mod Examples

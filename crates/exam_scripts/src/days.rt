@@ -1,5 +1,5 @@
-//! Days at the school, as texts: who sits where, who appeals, and what each command prints or answers. A day comes after
-//! the one that its comment names, or else after the timetable and the people of the school.
+//! Days at the school, as texts: who sits where, who appeals, and what each command prints or answers. A day comes
+//! after the one that its comment names, or else after the timetable and the people of the school.
 
 /// Nobody is entered.
 pub const NOBODY_IS_SHORT: &str = "\
@@ -399,8 +399,8 @@ $ attendance S1 MB-1
 ! refused 5
 ";
 
-/// After the two sessions: hall C opens in the first one, and the first candidate needs a reader. The third one comes to
-/// the first session, and the second one to both.
+/// After the two sessions: hall C opens in the first one, and the first candidate needs a reader. The third one comes
+/// to the first session, and the second one to both.
 pub const THREE_COME: &str = "\
 $ import halls f
 hall,title,features

@@ -21,7 +21,8 @@ is_table schema name = is_some (table_named schema name)
 -- nothing in the schema has the name
 abbrev pub is_free : Schema → List ℕ → Bool
 is_free schema name =
-    not (is_some (table_named schema name)) && (not (is_some (index_named schema name)) && not (is_some (view_named schema name)))
+    not (is_table schema name)
+    && (not (is_some (index_named schema name)) && not (is_some (view_named schema name)))
 
 -- the table of marks is one of those of the schema
 abbrev pub lists_marks : Schema → Bool

@@ -5,6 +5,7 @@ use Rattle.std.specs.Map.{values_of}
 use Rattle.std.proofs.lemmas.List.Elements.{recursion_from_All}
 use Rattle.std.specs.List.Sorted.{IsPermutation}
 use Rattle.std.proofs.lemmas.List.Sorted.{IsPermutation-sym, IsPermutation-trans}
+use Rattle.exam_rules.specs.Tables as table
 use Rattle.sqlite_value.specs.declared.value.Value.TheVariants.{Null}
 use Rattle.sqlite_value.specs.Order.{Row}
 use Rattle.sqlite_trees.specs.Tree.{Trees}
@@ -53,26 +54,26 @@ same_office all found office formed held order days =
     one_office all found office formed (
       record {
         sessions = record {
-          rises = up.sessions;
+          rises = up table.Sessions;
           forms =
               forms _ session_tells (λ k x is. session_day _ is.1) _ _ _ f.sessions h.sessions
               (each_value (λ x. IsDay x.day) office.relations.sessions days.sessions);
           same = h.sessions;
         };
-        papers = record { rises = up.papers; forms = forms _ paper_tells (λ k x is. tt) _ _ _ f.papers h.papers (λ e has. tt); same = h.papers };
-        halls = record { rises = up.halls; forms = forms _ hall_tells (λ k x is. tt) _ _ _ f.halls h.halls (λ e has. tt); same = h.halls };
-        openings = record { rises = up.openings; forms = forms _ opening_tells (λ k x is. tt) _ _ _ f.openings h.openings (λ e has. tt); same = h.openings };
-        candidates = record { rises = up.candidates; forms = forms _ candidate_tells (λ k x is. tt) _ _ _ f.candidates h.candidates (λ e has. tt); same = h.candidates };
-        entries = record { rises = up.entries; forms = forms _ entry_tells (λ k x is. tt) _ _ _ f.entries h.entries (λ e has. tt); same = h.entries };
-        arrangements = record { rises = up.arrangements; forms = forms _ arrangement_tells (λ k x is. tt) _ _ _ f.arrangements h.arrangements (λ e has. tt); same = h.arrangements };
+        papers = record { rises = up table.Papers; forms = forms _ paper_tells (λ k x is. tt) _ _ _ f.papers h.papers (λ e has. tt); same = h.papers };
+        halls = record { rises = up table.Halls; forms = forms _ hall_tells (λ k x is. tt) _ _ _ f.halls h.halls (λ e has. tt); same = h.halls };
+        openings = record { rises = up table.Openings; forms = forms _ opening_tells (λ k x is. tt) _ _ _ f.openings h.openings (λ e has. tt); same = h.openings };
+        candidates = record { rises = up table.Candidates; forms = forms _ candidate_tells (λ k x is. tt) _ _ _ f.candidates h.candidates (λ e has. tt); same = h.candidates };
+        entries = record { rises = up table.Entries; forms = forms _ entry_tells (λ k x is. tt) _ _ _ f.entries h.entries (λ e has. tt); same = h.entries };
+        arrangements = record { rises = up table.Arrangements; forms = forms _ arrangement_tells (λ k x is. tt) _ _ _ f.arrangements h.arrangements (λ e has. tt); same = h.arrangements };
         appeals = record {
-          rises = up.appeals;
+          rises = up table.Appeals;
           forms =
               forms _ appeal_tells (λ k a is. is.6) _ _ _ f.appeals h.appeals
               (each_value (λ a. IsDay a.lodged) office.relations.appeals days.appeals);
           same = h.appeals;
         };
-        standing = record { rises = up.standing; forms = forms _ standing_tells (λ k x is. tt) _ _ _ f.standing h.standing (λ e has. tt); same = h.standing };
+        standing = record { rises = up table.Standing; forms = forms _ standing_tells (λ k x is. tt) _ _ _ f.standing h.standing (λ e has. tt); same = h.standing };
       },
       record { rises = order.seats; forms = forms _ seat_tells (λ k x is. tt) _ _ _ formed.1 held.seats (λ e has. tt); same = held.seats },
     )

@@ -1,5 +1,7 @@
 -- The office that a database has: in the newest version, and once it was brought there and opened.
 use Rattle.std.proofs.Common.{◌≡◌, ◌≢◌, ◌⊎◌, ◌∙◌, ℕ, inl, inr, arith, refl, sym, ap, subst}
+use Rattle.exam_rules.specs.Orders.{AreInOrder}
+use Rattle.exam_rules.specs.Tables as table
 use Rattle.sqlite_trees.specs.Tree.{Trees}
 use Rattle.sqlite.specs.Effect.{Database}
 use Rattle.sqlite.specs.State.{State, HasCleanDisk, IsUnchanged}
@@ -22,22 +24,18 @@ use Rattle.exam_theorem.specs.Resting.{BringsOver, HasOffice, IsVersioned}
 
 -- the keys of an office in the forms of its columns rise
 in_order : (all : Trees) (office : Office) → HoldsFormed all office → IsInOrder office
-in_order all office formed =
-    let f = formed.0 in
-    record {
-      tables = record {
-        sessions = f.sessions.rises;
-        papers = f.papers.rises;
-        halls = f.halls.rises;
-        openings = f.openings.rises;
-        candidates = f.candidates.rises;
-        entries = f.entries.rises;
-        arrangements = f.arrangements.rises;
-        appeals = f.appeals.rises;
-        standing = f.standing.rises;
-      };
-      seats = formed.1.rises;
-    }
+in_order all office formed = record { tables = rise; seats = formed.1.rises }
+  where
+    rise : AreInOrder office.relations
+    rise table.Sessions = formed.0.sessions.rises
+    rise table.Papers = formed.0.papers.rises
+    rise table.Halls = formed.0.halls.rises
+    rise table.Openings = formed.0.openings.rises
+    rise table.Candidates = formed.0.candidates.rises
+    rise table.Entries = formed.0.entries.rises
+    rise table.Arrangements = formed.0.arrangements.rises
+    rise table.Appeals = formed.0.appeals.rises
+    rise table.Standing = formed.0.standing.rises
 
 -- tables that hold an office in the forms of their columns have it
 pub formed_has : (v : ℕ) (db : Database) (all : Trees) (office : Office) → IsVersion v → ContainsOf v db all → HasVersion v all → HoldsFormed all office → HasOffice db office

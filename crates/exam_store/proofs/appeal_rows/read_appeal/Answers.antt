@@ -2,6 +2,7 @@ use Rattle.std.proofs.Common.{◌≡◌, [], ◌∷◌, refl, ap, map, subst, �
 use Rattle.std.specs.declared.ops.Bound.TheVariants.{Excluded}
 use Rattle.sqlite.specs.Held.{state}
 use Rattle.exam_rules.specs.Relations.{Relations}
+use Rattle.exam_rules.specs.Tables as table
 use Rattle.exam_views.specs.Views.{appeal_row}
 use Rattle.exam_tables.specs.Appeals.{KeyedAppeal, appeals_from}
 use Rattle.exam_store.specs.InTurn.{rows_from}
@@ -22,7 +23,7 @@ returns-in-Some-clause-refusal g c =
     let s = c.args.session.now in
     let first = subst (λ (r : Relations). appeals_from r.appeals s c.args.from ≡ it ∷ appeals_from r.appeals s (Excluded it.0)) c.facts.ensures c.in-Some.ensures in
     let has = among c.args.office.now.relations.appeals s c.args.from it _ first in
-    refused_all g.S.Store c.args.office.now c.args.conn.now c.confirmed_row.new.conn it c.show_order.ensures.tables.appeals has c.confirmed_row.result c.confirmed_row.ensures.told
+    refused_all g.S.Store c.args.office.now c.args.conn.now c.confirmed_row.new.conn it (c.show_order.ensures.tables table.Appeals) has c.confirmed_row.result c.confirmed_row.ensures.told
     c.confirmed_row.ensures.failed
 
 pub returns-in-Some-clause-read : goal.returns-in-Some-clause-read

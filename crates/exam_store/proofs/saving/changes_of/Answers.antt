@@ -1,9 +1,10 @@
-use Rattle.std.proofs.Common.{◌≡◌, List, Ordering, ap, map, subst, sym}
+use Rattle.std.proofs.Common.{◌≡◌, List, Ordering, ap, map, refl, subst, sym}
 use Rattle.std.specs.Cmp.{IsTotalOrder, nat_cmp_total}
 use Rattle.std.specs.Cmp.Lexicographic.{nat_list_cmp_total}
 use Rattle.std.specs.Map.Iter.{deref_pair}
 use Rattle.std.proofs.lemmas.Map.Lookups.{CmpEqualImpliesEq}
 use Rattle.exam_rules.specs.Relations.{Relations}
+use Rattle.exam_rules.specs.Tables as table
 use Rattle.exam_commands.specs.KeptRows.{KeepsKeys}
 use Rattle.exam_commands.proofs.AppealKeys.{appeals_total}
 use Rattle.exam_changes.specs.declared.before.Before.{Before}
@@ -42,36 +43,36 @@ returns-clause-turns c =
     record {
       sessions = put_alone nat_list_cmp_total sessions_exact.keys was.sessions before.sessions facts.sessions.entries
           after.sessions c.in_ok-difference_since.field-0
-          (ap (λ (r : Relations). r.sessions) is) kept.sessions told.sessions
-          (c.in_ok-difference_since.ensures before.sessions sessions_exact rise.tables.sessions);
+          (ap (λ (r : Relations). r.sessions) is) (kept table.Sessions refl) (told table.Sessions)
+          (c.in_ok-difference_since.ensures before.sessions sessions_exact (rise.tables table.Sessions));
       papers = put_alone nat_list_cmp_total papers_exact.keys was.papers before.papers facts.papers.entries
-          after.papers c.in_ok-difference_since-2.field-0 (ap (λ (r : Relations). r.papers) is) kept.papers told.papers
-          (c.in_ok-difference_since-2.ensures before.papers papers_exact rise.tables.papers);
+          after.papers c.in_ok-difference_since-2.field-0 (ap (λ (r : Relations). r.papers) is) (kept table.Papers refl) (told table.Papers)
+          (c.in_ok-difference_since-2.ensures before.papers papers_exact (rise.tables table.Papers));
       halls = put_alone nat_list_cmp_total halls_exact.keys was.halls before.halls facts.halls.entries after.halls
-          c.in_ok-difference_since-3.field-0 (ap (λ (r : Relations). r.halls) is) kept.halls told.halls
-          (c.in_ok-difference_since-3.ensures before.halls halls_exact rise.tables.halls);
+          c.in_ok-difference_since-3.field-0 (ap (λ (r : Relations). r.halls) is) (kept table.Halls refl) (told table.Halls)
+          (c.in_ok-difference_since-3.ensures before.halls halls_exact (rise.tables table.Halls));
       openings = shown was.openings before.openings facts.openings.entries after.openings
-          c.in_ok-difference_since-4.field-0 (ap (λ (r : Relations). r.openings) is) told.openings
-          (c.in_ok-difference_since-4.ensures before.openings openings_exact rise.tables.openings);
+          c.in_ok-difference_since-4.field-0 (ap (λ (r : Relations). r.openings) is) (told table.Openings)
+          (c.in_ok-difference_since-4.ensures before.openings openings_exact (rise.tables table.Openings));
       candidates = put_alone nat_cmp_total candidates_exact.keys was.candidates before.candidates
           facts.candidates.entries after.candidates c.in_ok-difference_since-5.field-0
-          (ap (λ (r : Relations). r.candidates) is) kept.candidates told.candidates
-          (c.in_ok-difference_since-5.ensures before.candidates candidates_exact rise.tables.candidates);
+          (ap (λ (r : Relations). r.candidates) is) (kept table.Candidates refl) (told table.Candidates)
+          (c.in_ok-difference_since-5.ensures before.candidates candidates_exact (rise.tables table.Candidates));
       entries = put_alone appeals_total entries_exact.keys was.entries before.entries facts.entries.entries
           after.entries c.in_ok-difference_since-6.field-0
-          (ap (λ (r : Relations). r.entries) is) kept.entries told.entries
-          (c.in_ok-difference_since-6.ensures before.entries entries_exact rise.tables.entries);
+          (ap (λ (r : Relations). r.entries) is) (kept table.Entries refl) (told table.Entries)
+          (c.in_ok-difference_since-6.ensures before.entries entries_exact (rise.tables table.Entries));
       arrangements = put_alone nat_cmp_total arrangements_exact.keys was.arrangements before.arrangements
           facts.arrangements.entries after.arrangements c.in_ok-difference_since-7.field-0
-          (ap (λ (r : Relations). r.arrangements) is) kept.arrangements told.arrangements
-          (c.in_ok-difference_since-7.ensures before.arrangements arrangements_exact rise.tables.arrangements);
+          (ap (λ (r : Relations). r.arrangements) is) (kept table.Arrangements refl) (told table.Arrangements)
+          (c.in_ok-difference_since-7.ensures before.arrangements arrangements_exact (rise.tables table.Arrangements));
       appeals = put_alone appeals_total appeals_exact.keys was.appeals before.appeals facts.appeals.entries
           after.appeals c.in_ok-difference_since-8.field-0
-          (ap (λ (r : Relations). r.appeals) is) kept.appeals told.appeals
-          (c.in_ok-difference_since-8.ensures before.appeals appeals_exact rise.tables.appeals);
+          (ap (λ (r : Relations). r.appeals) is) (kept table.Appeals refl) (told table.Appeals)
+          (c.in_ok-difference_since-8.ensures before.appeals appeals_exact (rise.tables table.Appeals));
       standing = put_alone appeals_total standing_exact.keys was.standing before.standing facts.standing.entries
           after.standing c.in_ok-difference_since-9.field-0
-          (ap (λ (r : Relations). r.standing) is) kept.standing told.standing
-          (c.in_ok-difference_since-9.ensures before.standing standing_exact rise.tables.standing);
+          (ap (λ (r : Relations). r.standing) is) (kept table.Standing refl) (told table.Standing)
+          (c.in_ok-difference_since-9.ensures before.standing standing_exact (rise.tables table.Standing));
       seats = c.in_ok-seats_since.ensures c.args.draft.now.before.seats c.args.draft.now.after.seats rise.seats c.show_good.ensures.after_rises.seats c.plans_before.ensures;
     }

@@ -1,5 +1,6 @@
 use Rattle.std.proofs.Common.{None, Some, refl, subst}
 use Rattle.exam_rules.specs.Relations.{appeal_cmp, entry_cmp}
+use Rattle.exam_rules.specs.Tables as table
 use Rattle.exam_changes.specs.declared.undo.Undo.{Undo}
 use Rattle.exam_changes.specs.Undoing.{IsThere}
 use Rattle.exam_commands.proofs.AppealKeys.{appeals_exact, appeals_total}
@@ -9,58 +10,32 @@ use Rattle.exam_changes.proofs.undo.Undo.tables_before.Goals as goal
 pub returns-in-Entry : goal.returns-in-Entry
 returns-in-Entry c = λ r up there.
     rw (c.same-before.ensures, c.in-Entry.is)
-    (record {
-      sessions = refl;
-      papers = refl;
-      halls = refl;
-      openings = refl;
-      candidates = refl;
-      entries = (
+    (elim [
+      table.Entries ↦ (
         subst (λ (u : Undo). IsThere u r) c.in-Entry.is there,
-        set_others entry_cmp appeals_total appeals_exact r.entries c.in-Entry.key
-            (Some c.in-Entry.field-1) up.entries,
-      );
-      arrangements = refl;
-      appeals = refl;
-      standing = refl;
-    })
+        set_others entry_cmp appeals_total appeals_exact r.entries c.in-Entry.key (Some c.in-Entry.field-1) (up table.Entries),
+      )
+      | _ ↦ refl
+    ])
 
 pub returns-in-NewAppeal : goal.returns-in-NewAppeal
 returns-in-NewAppeal c = λ r up there.
     rw (c.same-before.ensures, c.in-NewAppeal.is)
-    (record {
-      sessions = refl;
-      papers = refl;
-      halls = refl;
-      openings = refl;
-      candidates = refl;
-      entries =
-          refl;
-      arrangements = refl;
-      appeals = (
+    (elim [
+      table.Appeals ↦ (
         subst (λ (u : Undo). IsThere u r) c.in-NewAppeal.is there,
-        set_others appeal_cmp appeals_total appeals_exact r.appeals c.in-NewAppeal.key None up.appeals,
-      );
-      standing =
-          refl;
-    })
+        set_others appeal_cmp appeals_total appeals_exact r.appeals c.in-NewAppeal.key None (up table.Appeals),
+      )
+      | _ ↦ refl
+    ])
 
 pub returns-in-Appeal : goal.returns-in-Appeal
 returns-in-Appeal c = λ r up there.
     rw (c.same-before.ensures, c.in-Appeal.is)
-    (record {
-      sessions = refl;
-      papers = refl;
-      halls = refl;
-      openings = refl;
-      candidates = refl;
-      entries =
-          refl;
-      arrangements = refl;
-      appeals = (
+    (elim [
+      table.Appeals ↦ (
         subst (λ (u : Undo). IsThere u r) c.in-Appeal.is there,
-        set_others appeal_cmp appeals_total appeals_exact r.appeals c.in-Appeal.key
-            (Some c.in-Appeal.field-1) up.appeals,
-      );
-      standing = refl;
-    })
+        set_others appeal_cmp appeals_total appeals_exact r.appeals c.in-Appeal.key (Some c.in-Appeal.field-1) (up table.Appeals),
+      )
+      | _ ↦ refl
+    ])
