@@ -1,4 +1,5 @@
 use Rattle.std.proofs.lemmas.Map.Lookups.{exact_bytes}
+use Rattle.exam_rules.specs.Tables as table
 use Rattle.exam_commands.proofs.AppealKeys.{appeals_exact, openings_exact}
 use Rattle.exam_changes.proofs.kept.KeptRows.take_back.Goals as goal
 
@@ -22,3 +23,30 @@ put_back-requires-8-clause-exact c = appeals_exact
 
 pub put_back-requires-9-clause-exact : goal.put_back-requires-9-clause-exact
 put_back-requires-9-clause-exact c = appeals_exact
+
+pub put_back-requires-clause-there : goal.put_back-requires-clause-there
+put_back-requires-clause-there c = c.requires table.Sessions
+
+pub put_back-requires-2-clause-there : goal.put_back-requires-2-clause-there
+put_back-requires-2-clause-there c = c.requires table.Papers
+
+pub put_back-requires-3-clause-there : goal.put_back-requires-3-clause-there
+put_back-requires-3-clause-there c = c.requires table.Halls
+
+pub put_back-requires-4-clause-there : goal.put_back-requires-4-clause-there
+put_back-requires-4-clause-there c = c.requires table.Openings
+
+pub put_back-requires-5-clause-there : goal.put_back-requires-5-clause-there
+put_back-requires-5-clause-there c = c.requires table.Candidates
+
+pub put_back-requires-6-clause-there : goal.put_back-requires-6-clause-there
+put_back-requires-6-clause-there c = c.requires table.Entries
+
+pub put_back-requires-7-clause-there : goal.put_back-requires-7-clause-there
+put_back-requires-7-clause-there c = c.requires table.Arrangements
+
+pub put_back-requires-8-clause-there : goal.put_back-requires-8-clause-there
+put_back-requires-8-clause-there c = c.requires table.Appeals
+
+pub put_back-requires-9-clause-there : goal.put_back-requires-9-clause-there
+put_back-requires-9-clause-there c = c.requires table.Standing

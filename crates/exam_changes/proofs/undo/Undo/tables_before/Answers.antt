@@ -11,7 +11,7 @@ pub returns-in-Entry : goal.returns-in-Entry
 returns-in-Entry c = λ r up there.
     rw (c.same-before.ensures, c.in-Entry.is)
     (elim [
-      table.Entries ↦ (
+      | table.Entries ↦ (
         subst (λ (u : Undo). IsThere u r) c.in-Entry.is there,
         set_others entry_cmp appeals_total appeals_exact r.entries c.in-Entry.key (Some c.in-Entry.field-1) (up table.Entries),
       )
@@ -22,7 +22,7 @@ pub returns-in-NewAppeal : goal.returns-in-NewAppeal
 returns-in-NewAppeal c = λ r up there.
     rw (c.same-before.ensures, c.in-NewAppeal.is)
     (elim [
-      table.Appeals ↦ (
+      | table.Appeals ↦ (
         subst (λ (u : Undo). IsThere u r) c.in-NewAppeal.is there,
         set_others appeal_cmp appeals_total appeals_exact r.appeals c.in-NewAppeal.key None (up table.Appeals),
       )
@@ -33,7 +33,7 @@ pub returns-in-Appeal : goal.returns-in-Appeal
 returns-in-Appeal c = λ r up there.
     rw (c.same-before.ensures, c.in-Appeal.is)
     (elim [
-      table.Appeals ↦ (
+      | table.Appeals ↦ (
         subst (λ (u : Undo). IsThere u r) c.in-Appeal.is there,
         set_others appeal_cmp appeals_total appeals_exact r.appeals c.in-Appeal.key (Some c.in-Appeal.field-1) (up table.Appeals),
       )

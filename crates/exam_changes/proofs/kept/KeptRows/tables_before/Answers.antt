@@ -1,0 +1,5 @@
+use Rattle.std.proofs.Common.{refl}
+use Rattle.exam_changes.proofs.kept.KeptRows.tables_before.Goals as goal
+
+pub returns : goal.returns
+returns c = λ r there. elim [ t ↦ (there t, refl) ]
