@@ -39,3 +39,14 @@ returns-in-Appeal c = λ r up there.
       )
       | _ ↦ refl
     ])
+
+pub returns-in-Nothing : goal.returns-in-Nothing
+returns-in-Nothing c = λ r up there. rw (c.same-before.ensures, c.in-Nothing.is) (elim [ table.Entries ↦ refl | _ ↦ refl ])
+
+pub returns-in-Rows : goal.returns-in-Rows
+returns-in-Rows c = λ r up there.
+    rw c.in-Rows.is (c.tables_before-before.ensures r (subst (λ (u : Undo). IsThere u r) c.in-Rows.is there))
+
+pub returns-in-Openings : goal.returns-in-Openings
+returns-in-Openings c = λ r up there.
+    rw (c.same-before.ensures, c.in-Openings.is) (elim [ table.Openings ↦ refl | _ ↦ refl ])
