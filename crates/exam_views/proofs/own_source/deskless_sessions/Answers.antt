@@ -6,6 +6,7 @@ use Rattle.std.specs.Prelude.{Some, false}
 use Rattle.exam_rules.specs.Orders.{KeysRise}
 use Rattle.exam_rules.specs.Relations.{Code, code_cmp, relations_of, row_at}
 use Rattle.exam_rules.specs.Sessions.{is_member}
+use Rattle.exam_rules.specs.Tables as table
 use Rattle.exam_commands.specs.Own.{own_session, shown_session}
 use Rattle.exam_commands.specs.State.{State}
 use Rattle.exam_views.specs.Desks.{session_without_desk}
@@ -22,7 +23,7 @@ loop-session-init c =
       tt,
       tt,
       subst (AreEntered r c.args.number) (sym is) (are_entered r c.args.number held up (λ s there. c.in_ok-items.ensures.ok s)),
-      rw (c.new-list.ensures.items, is) (all_left (record { relations = r; seats = c.args.seats.now.entries }) c.args.number held c.in_ok-items.ensures.ok up c.show_order.ensures.sessions),
+      rw (c.new-list.ensures.items, is) (all_left (record { relations = r; seats = c.args.seats.now.entries }) c.args.number held c.in_ok-items.ensures.ok up (c.show_order.ensures table.Sessions)),
     )
 
 pub loop-session-preserved-in_ok-push : goal.loop-session-preserved-in_ok-push
