@@ -10,8 +10,9 @@ use Rattle.exam_tables.specs.Held.{HasTable}
 use Rattle.exam_tables.specs.Inside.{Contains}
 use Rattle.exam_sql.specs.Texts.{load_office, load_texts}
 use Rattle.exam_tables.specs.Loaded.{AreUnderstood, IsUnderstood}
+use Rattle.exam_tables.specs.Scanned as scanned
 use Rattle.exam_check.specs.FirstBad.{first_unread}
-use Rattle.exam_check.specs.Reading.{IsReadAs, read_part, table_texts}
+use Rattle.exam_check.specs.Reading.{IsReadAs, table_texts}
 
 -- a database that is left as it was has the rows that it had
 pub still_contains : (old mid : State) (all : Trees) → IsUnchanged old mid → Contains old.now all → Contains mid.now all
@@ -29,7 +30,7 @@ in_load_order db version (session, (paper, (hall, (opening, (candidate, (entry, 
 -- a table that was read, or that is noted since its rows are those of no entries, and so of no office
 pub noted_as : {K X : Type 0} (form : Form K X) (t : OfficeTable) (all : Trees) (rows : Option (BTreeMap K X)) (made : BTreeMap K X) (before after : Option OfficeTable) {HoldsNone : Type 0}
     → MatchOption rows (after ≡ Some (first_unread before t)) (λ table. (made ≡ table) × (after ≡ before))
-    → (read_part form.cmp form).Has rows all
+    → scanned.IsReadAs form.cmp form (all form.tree) rows
     → (((entries : List (K × X)) → HasTable form entries all → ⊥) → HoldsNone)
     → IsReadAs t before after (HasTable form made.entries all) HoldsNone
 noted_as {K} {X} form t all None made before after told is none = inr (none is, told)

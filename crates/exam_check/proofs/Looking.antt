@@ -17,9 +17,11 @@ use Rattle.exam_sql.specs.Made.{ContainsMade, lists_marks}
 use Rattle.exam_sql.specs.Texts.{load_office, load_texts}
 use Rattle.exam_tables.specs.Faults.{is_store_refusal}
 use Rattle.exam_tables.specs.Forms.{Form, IsOurTable}
-use Rattle.exam_tables.specs.Loaded.{FailsToLoad, FailsToLoadFrom, IsLoadRefusal, OnlyReads, Told}
+use Rattle.exam_tables.specs.Loaded.{FailsToLoad, FailsToLoadFrom, IsLoadRefusal, Told}
 use Rattle.exam_tables.specs.Scanned.{Scans}
+use Rattle.exam_tables.specs.Parts.{LoadingBy, version_part}
 use Rattle.exam_tables.specs.Versions.{HasVersion, IsOlder, IsVersion, version}
+use Rattle.exam_tables.specs.declared.version.Version.{Version}
 use Rattle.exam_tables.proofs.Leaving.{bad_unchanged, both_survive, reads_only, still_itself, still_then, then_reads}
 use Rattle.exam_tables.specs.OurTables.{office_loads}
 use Rattle.exam_store.proofs.Marking.{listed_of, made_of, opens_as}
@@ -120,70 +122,58 @@ module _ {S : Type 0} (g : Ghosts S) (old new : Held S) where
   scan_reads form (Ok found) ours scans = (scans.1, λ all was. scans.2 all (ours.newest (state g old).now all was))
   scan_reads form (Err e) ours scans = tt
 
-  no_version : (e : Refusal)
-      → IsLoadRefusal (FailsToLoad load_office (state g old) (state g new))
-      ((all : Trees) → ContainsMade (state g old).now all → (v : ℕ) → IsVersion v → HasVersion v all → ⊥) e
-      → e ≡ BadStore → (all : Trees) → HasGoodVersion (state g old).now all → ⊥
-  no_version e (inl lacks) bad all good = let same : NoMemory ≡ BadStore = sym lacks ∙ bad in absurd cc
-  no_version e (inr (inl fails)) bad all good = fails.1 (all, made_of version (state g old).now all good.0) bad
-  no_version e (inr (inr (is, none))) bad all good = none all (made_of version (state g old).now all good.0) version (inr refl) good.1
-
-  unread_version : (e : Refusal)
-      → IsLoadRefusal (FailsToLoad load_office (state g old) (state g new))
-      ((all : Trees) → ContainsMade (state g old).now all → (v : ℕ) → IsVersion v → HasVersion v all → ⊥) e
-      → IsTrue (is_store_refusal e) → (e ≡ BadStore) ⊎ FailsToCheck g old new e
-  unread_version e (inl lacks) named = inr (inl lacks)
-  unread_version e (inr (inl fails)) named = fails_as load_office office_loads e fails.0 (one_of e named)
-  unread_version e (inr (inr (is, none))) named = inl is
+  abbrev IsNoVersion : Refusal → Type 0
+  IsNoVersion = IsLoadRefusal (FailsToLoad load_office (state g old) (state g new))
+      ((all : Trees) → ContainsMade (state g old).now all → (v : ℕ) → IsVersion v → HasVersion v all → ⊥)
 
   -- the version that could not be read
-  pub version_looks : {A : Type 0} (e : Refusal) → (HasCleanDisk (state g new) → HasCleanDisk (state g old))
-      → Survives (state g old) (state g new) (λ _. ⊥)
-      → (HasCleanDisk (state g new) → OnlyReads {A = A} (state g old) (state g new) (Err e))
-      → (HasCleanDisk (state g new) → e ≡ BadStore → IsUnchanged (state g old) (state g new))
-      → (HasCleanDisk (state g new)
-      → IsLoadRefusal (FailsToLoad load_office (state g old) (state g new))
-      ((all : Trees) → ContainsMade (state g old).now all → (v : ℕ) → IsVersion v → HasVersion v all → ⊥) e)
-      → IsTrue (is_store_refusal e) → Looks {A = A} g old new (Err e)
-  version_looks e early survives left unchanged none told = record {
-    early = early;
-    survives = survives;
-    left = left;
-    bad = λ clean bad. (unchanged clean bad, no_version e (none clean) bad);
-    refused = λ clean. unread_version e (none clean) told;
-    told = opens_as e told;
+  pub version_looks : {A : Type 0} (e : Refusal) → (HasCleanDisk (state g new) → e ≡ BadStore → IsUnchanged (state g old) (state g new))
+      → LoadingBy load_office g old new (Err e) version_part → Looks {A = A} g old new (Err e)
+  version_looks e unchanged read = record {
+    early = read.early;
+    survives = read.survives;
+    left = read.left;
+    bad = λ clean bad. (unchanged clean bad, no_version (read.bad clean) bad);
+    refused = λ clean. unread (read.bad clean);
+    told = opens_as e read.told;
   }
+    where
+      no_version : IsNoVersion e → e ≡ BadStore → (all : Trees) → HasGoodVersion (state g old).now all → ⊥
+      no_version (inl lacks) bad all good = let same : NoMemory ≡ BadStore = sym lacks ∙ bad in absurd cc
+      no_version (inr (inl fails)) bad all good = fails.1 (all, made_of version (state g old).now all good.0) bad
+      no_version (inr (inr (is, none))) bad all good = none all (made_of version (state g old).now all good.0) version (inr refl) good.1
 
-  -- what was read
-  pub looks_ok : {A : Type 0} (x : A) → (HasCleanDisk (state g new) → HasCleanDisk (state g old))
-      → Survives (state g old) (state g new) (λ _. ⊥)
-      → (HasCleanDisk (state g new) → IsUnchanged (state g old) (state g new)) → Looks {A = A} g old new (Ok x)
-  looks_ok x early survives left = record { early = early; survives = survives; left = left; bad = λ clean. tt; refused = λ clean. tt; told = tt }
+      unread : IsNoVersion e → (e ≡ BadStore) ⊎ FailsToCheck g old new e
+      unread (inl lacks) = inr (inl lacks)
+      unread (inr (inl fails)) = fails_as load_office office_loads e fails.0 (one_of e read.told)
+      unread (inr (inr (is, none))) = inl is
 
-  -- the office of an older version
-  pub looks_old : {A : Type 0} → (HasCleanDisk (state g new) → HasCleanDisk (state g old))
-      → Survives (state g old) (state g new) (λ _. ⊥)
-      → (HasCleanDisk (state g new) → IsUnchanged (state g old) (state g new))
-      → (HasCleanDisk (state g new) → (all : Trees) → ContainsMade (state g old).now all → (v : ℕ) × IsOlder v × HasVersion v all) → Looks {A = A} g old new (Err OldSchema)
-  looks_old early survives left first = record {
-    early = early;
-    survives = survives;
-    left = λ clean. inl (left clean);
-    bad = λ clean bad. let same : OldSchema ≡ BadStore = bad in absurd cc;
-    refused = λ clean. inr (inr (inr (refl, first clean)));
-    told = refl;
-  }
+  module _ (v : Version) (read : LoadingBy load_office g old new (Ok v) version_part) where
+    -- the version that was read
+    pub looks_ok : Looks g old new (Ok v)
+    looks_ok = record { early = read.early; survives = read.survives; left = read.left; bad = λ clean. tt; refused = λ clean. tt; told = tt }
 
-  -- no table has the name of the marks, as one has since version 2
-  pub looks_unmarked : {A : Type 0} → (HasCleanDisk (state g new) → HasCleanDisk (state g old))
-      → Survives (state g old) (state g new) (λ _. ⊥)
-      → (HasCleanDisk (state g new) → IsUnchanged (state g old) (state g new))
-      → lists_marks (state g new).now.schema ≡ false → Looks {A = A} g old new (Err BadStore)
-  looks_unmarked early survives left none = record {
-    early = early;
-    survives = survives;
-    left = λ clean. inl (left clean);
-    bad = λ clean bad. (left clean, λ all good. both_ways _ none (ap (λ (db : Database). lists_marks db.schema) (left clean).0.now_is ∙ listed_of version (state g old).now all good.0));
-    refused = λ clean. inl refl;
-    told = refl;
-  }
+    -- the office of an older version
+    pub looks_old : {A : Type 0} → IsOlder v.number → Looks {A = A} g old new (Err OldSchema)
+    looks_old older = record {
+      early = read.early;
+      survives = read.survives;
+      left = λ clean. inl (read.left clean);
+      bad = λ clean bad. let same : OldSchema ≡ BadStore = bad in absurd cc;
+      refused = λ clean. inr (inr (inr (refl, λ all was. (v.number, older, read.rows clean all was))));
+      told = refl;
+    }
+
+    -- no table has the name of the marks, as one has since version 2
+    pub looks_unmarked : {A : Type 0} → lists_marks (state g new).now.schema ≡ false → Looks {A = A} g old new (Err BadStore)
+    looks_unmarked none = record {
+      early = read.early;
+      survives = read.survives;
+      left = λ clean. inl (read.left clean);
+      bad = λ clean bad. (
+        read.left clean,
+        λ all good. both_ways _ none (ap (λ (db : Database). lists_marks db.schema) (read.left clean).0.now_is ∙ listed_of version (state g old).now all good.0),
+      );
+      refused = λ clean. inl refl;
+      told = refl;
+    }

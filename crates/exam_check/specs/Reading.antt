@@ -41,18 +41,17 @@ IsReadAs t before after Has HasNone =
 -- what a table is read as: its rows, or none if no office has them
 abbrev pub read_part : {K X : Type 0} → (K → K → Ordering) → Form K X → Part (Option (BTreeMap K X))
 read_part {K} {X} cmp form = record {
-  may_lack = false;
   Holds = Contains;
-  Has = λ rows all. MatchOption rows
+  Has = λ rows db all. MatchOption rows
       ((entries : List (K × X)) → HoldsTable cmp form.IsRow form.row entries (all form.tree) → ⊥)
       (λ table. HoldsTable cmp form.IsRow form.row table.entries (all form.tree));
-  HasNone = λ all. ⊥;
-  Understands = λ db. IsUnderstood db form.load;
+  HasNone = λ db all. ⊥;
+  Understands = λ rows db. IsUnderstood db form.load;
 }
 
 -- The tables and their columns exist. If the tables are those of the newest version, they are read as this.
 abbrev pub IsRead : {A : Type 0} → Part A → Database → A → Type 0
-IsRead part db rows = part.Understands db × ((all : Trees) → Contains db all → part.Has rows all)
+IsRead part db rows = part.Understands rows db × ((all : Trees) → Contains db all → part.Has rows db all)
 
 -- the tables of the list were read in order
 abbrev pub AreRead : Trees → Office → List OfficeTable → Option OfficeTable → Option OfficeTable → Type 0

@@ -1,32 +1,35 @@
 -- The database that kept the old office keeps the new one.
-use Rattle.std.proofs.Common.{◌≡◌, [], true, length, Ok, Err, Result, OnOk, IfOk, refl, sym, ap, subst, ◌∙◌}
+use Rattle.std.proofs.Common.{◌≡◌, [], true, length, Ok, Err, Result, IfOk, refl, sym, ap, subst, ◌∙◌}
 use Rattle.std.proofs.lemmas.List.Sorted.{IsPermutation-refl}
+use Rattle.sqlite_trees.specs.declared.store.Store.{Ghosts}
 use Rattle.sqlite_trees.specs.Tree.{Trees}
 use Rattle.sqlite.specs.Effect.{Database}
 use Rattle.sqlite_schema.specs.declared.schema.Schema.{Schema}
 use Rattle.exam_sql.specs.Tables.{no_schema, store_schema}
-use Rattle.sqlite.specs.State.{State as Shown, HasCleanDisk, IsUnchanged, Survives}
+use Rattle.sqlite.specs.Held.{Held, state}
+use Rattle.sqlite.specs.State.{State as Shown, HasCleanDisk}
 use Rattle.exam_types.specs.declared.refusal.Refusal.{Refusal}
 use Rattle.exam_commands.specs.State.{State, empty_state}
 use Rattle.exam_tables.specs.declared.writing.Changes.{Changes}
 use Rattle.exam_tables.specs.Held.{HoldsRows}
 use Rattle.exam_store.specs.Kept.{HoldsOffice}
-use Rattle.exam_tables.specs.Inside.{Becomes, IsOurs, written}
+use Rattle.exam_tables.specs.Inside.{Becomes, Contains, IsOurs, written}
 use Rattle.exam_store.specs.Found.{Finds, version_texts}
 use Rattle.exam_store.specs.Kept.{KeepsOurs, Keeps, Rekeeps}
 use Rattle.exam_store.specs.Refused.{HoldsFormed}
-use Rattle.exam_tables.specs.Loaded.{AreUnderstood, IsUnderstood, OnlyReads}
-use Rattle.exam_tables.proofs.Leaving.{both_survive}
-use Rattle.exam_store.proofs.Marking.{made_of, of_newest, one_version, still_made}
-use Rattle.exam_sql.specs.Made.{ContainsMade, lists_marks, lists_tables}
+use Rattle.exam_tables.specs.Loaded.{AreUnderstood}
+use Rattle.exam_tables.specs.Parts.{Loading, version_part}
+use Rattle.exam_tables.proofs.PartByPart.{all_load}
+use Rattle.exam_store.specs.Parts.{office_part}
+use Rattle.exam_store.proofs.Marking.{known_marks, made_of, of_newest, one_version}
+use Rattle.exam_sql.specs.Made.{ContainsMade, lists_tables}
 use Rattle.exam_sql.proofs.Listed.{newest_listed}
-use Rattle.sqlite.proofs.Callers.{unchanged_then}
-use Rattle.exam_sql.specs.Texts.{load_office}
 use Rattle.exam_tables.proofs.Holding.{held_facts}
 use Rattle.exam_tables.specs.Forms as forms
 use Rattle.exam_tables.specs.Writes.{all_saved}
 use Rattle.exam_store.specs.Saves.{TurnsTables}
-use Rattle.exam_tables.specs.Versions.{HasVersion, new_tables, IsMade, version}
+use Rattle.exam_tables.specs.Versions.{HasVersion, new_tables, IsKnown, IsMade, marks_since, version}
+use Rattle.exam_tables.specs.declared.version.Version.{Version}
 use Rattle.exam_tables.proofs.EachTree.{whole}
 use Rattle.exam_tables.specs.OurTables.{sessions_ours, papers_ours, halls_ours, openings_ours, candidates_ours, entries_ours, arrangements_ours, appeals_ours, standing_ours, seats_ours}
 use Rattle.exam_tables.proofs.SavedRows.{openings_named, seats_named, table_put, table_saved}
@@ -96,33 +99,26 @@ pub held_office : (all : Trees) (office : State) → HoldsFormed all office → 
 held_office all office formed = record { facts = held_facts all office.relations formed.0; seats = formed.1.same }
 
 -- the office that was loaded is kept by the tables, where they are those of this version
-pub loaded : (old mid new : Shown) (result : Result State Refusal) → (HasCleanDisk new → HasCleanDisk mid)
-    → (HasCleanDisk mid → (all : Trees) → ContainsMade old.now all → HasVersion version all)
-    → (HasCleanDisk mid → IsUnchanged old mid)
-    → (HasCleanDisk mid → IsUnderstood old.now load_office) → lists_tables old.now.schema ≡ true
-    → (HasCleanDisk new → OnOk result (lists_marks mid.now.schema ≡ true))
-    → (HasCleanDisk new → IfOk result
-    (λ office. (all : Trees) → ContainsMade mid.now all → HoldsFormed all office × IsUnchanged mid new))
-    → (HasCleanDisk new → OnOk result (AreUnderstood mid.now (version_texts version)))
-    → (HasCleanDisk new → OnlyReads mid new result) → Survives old mid (λ _. ⊥) → Survives mid new (λ _. ⊥) → IfOk result (Finds old new)
-loaded old mid new (Ok office) before held same known listed marks rows understood left first next = record {
-  listed = λ clean. newest_listed old.now.schema listed
-      (ap (λ (db : Database). lists_marks db.schema) (sym (same (before clean)).0.now_is) ∙ marks clean);
-  understood = λ clean. (known (before clean), subst (λ (db : Database). AreUnderstood db (version_texts version)) (same (before clean)).0.now_is (understood clean));
-  formed = λ clean all was. (rows clean all (still_made old mid all (same (before clean)) (made_of version old.now all (of_newest old.now all was)))).0;
-  newest = λ clean v known all was has. one_version v version all has (held (before clean) all was);
-  same = λ clean. unchanged_then old mid new (same (before clean)) (left clean);
-  kept = λ clean ours.
-      let there = made_of version old.now ours.0 (of_newest old.now ours.0 ours.1) in
-      record {
-        all = ours.0;
-        contains = ours.1;
-        version = held (before clean) ours.0 there;
-        held = held_office ours.0 office (rows clean ours.0 (still_made old mid ours.0 (same (before clean)) there)).0;
-      };
-  survives = both_survive old mid new first next;
-}
-loaded old mid new (Err e) before held same known listed marks rows understood left first next = tt
+pub loaded : {S : Type 0} (g : Ghosts S) (old mid new : Held S) (v : Version) (result : Result State Refusal) → IsKnown v → v.number ≡ version
+    → lists_tables (state g old).now.schema ≡ true → Loading g old mid (Ok v) version_part → Loading g mid new result (office_part v) → IfOk result (Finds (state g old) (state g new))
+loaded g old mid new v (Ok office) known newest listed first next =
+    let db = (state g old).now in
+    let both = all_load g old mid new version_part (office_part v) v first office next in
+    let has : HasCleanDisk (state g new) → (all : Trees) → ContainsMade db all → HasVersion version all × HoldsFormed all office = λ clean all was.
+    let held = both.rows clean all (was, was) in (subst (λ n. HasVersion n all) newest held.0, held.1) in
+    let made : (all : Trees) → Contains db all → ContainsMade db all = λ all was. made_of version db all (of_newest db all was) in
+    record {
+      listed = λ clean. newest_listed db.schema listed ((both.understood clean).1.0 ∙ known_marks v known ∙ ap marks_since newest);
+      understood = λ clean. let knows = both.understood clean in (knows.0, subst (λ n. AreUnderstood db (version_texts n)) newest knows.1.1);
+      formed = λ clean all was. (has clean all (made all was)).1;
+      newest = λ clean w is all was other. one_version w version all other (has clean all was).0;
+      same = both.left;
+      kept = λ clean ours.
+          let held = has clean ours.0 (made ours.0 ours.1) in
+          record { all = ours.0; contains = ours.1; version = held.0; held = held_office ours.0 office held.1 };
+      survives = both.survives;
+    }
+loaded g old mid new v (Err e) known newest listed first next = tt
 
 -- what opening found is kept by what is seen after it
 pub finds_kept : (old new : Shown) (result : Result State Refusal) → IfOk result (Finds old new) → IfOk result (KeepsOurs new)

@@ -4,6 +4,7 @@
 -- - Refused: a good office of a version; tables that hold none
 -- - Kept: the database that keeps an office
 -- - Found: what opening finds: the office that the tables keep, or why there is none
+-- - Parts: what is loaded from the tables of an office: the office, and the version of a good one
 -- - Applied: a command on an office in a database: its step or a failure of the store; lists of
 --   commands
 -- - Stops: what the next run opens after a stop in the middle of a command
@@ -15,6 +16,7 @@ pub mod Found
 pub mod InTurn
 pub mod Kept
 pub mod OnlyRead
+pub mod Parts
 pub mod Refused
 pub mod Saves
 pub mod Stops

@@ -27,14 +27,23 @@ undone_then old mid new first (inl same) = inr (record {
   undone = λ open_now. let it = first.undone same.0.was_open in (same.0.now_is ∙ it.0, same.0.committed_is ∙ it.1);
   autocommit = same.0.mode ∙ first.autocommit;
   unmarked = same.2 ∙ first.unmarked;
-  counts = record { changes = same.1.changes ∙ first.counts.changes; last_rowid = same.1.last_rowid ∙ first.counts.last_rowid };
+  counts = record {
+    changes = same.1.changes ∙ first.counts.changes;
+    last_rowid = same.1.last_rowid ∙ first.counts.last_rowid;
+  };
 })
 undone_then old mid new first (inr next) = inr (record {
   was_open = λ open_now. first.was_open (next.was_open open_now);
-  undone = λ open_now. let it = first.undone (next.was_open open_now) in let last = next.undone open_now in (last.0 ∙ it.1, last.1 ∙ it.1);
+  undone = λ open_now.
+      let it = first.undone (next.was_open open_now) in
+      let last = next.undone open_now in
+      (last.0 ∙ it.1, last.1 ∙ it.1);
   autocommit = next.autocommit;
   unmarked = next.unmarked;
-  counts = record { changes = next.counts.changes ∙ first.counts.changes; last_rowid = next.counts.last_rowid ∙ first.counts.last_rowid };
+  counts = record {
+    changes = next.counts.changes ∙ first.counts.changes;
+    last_rowid = next.counts.last_rowid ∙ first.counts.last_rowid;
+  };
 })
 
 left_after : (old mid new : Shown) → IsLeft old mid → IsLeft mid new → IsLeft old new
@@ -43,7 +52,12 @@ left_after old mid new (inr back) next = undone_then old mid new back next
 
 module _ {S : Type 0} (g : Ghosts S) where
   pub read_itself : (o : OfficeIn S) → OnlyIsRead g o o
-  read_itself o = record { office = refl; clean = λ clean. clean; left = λ clean. inl refl; survives = survives_itself (state g o.database) }
+  read_itself o = record {
+    office = refl;
+    clean = λ clean. clean;
+    left = λ clean. inl refl;
+    survives = survives_itself (state g o.database);
+  }
 
   pub read_then : (a b c : OfficeIn S) → OnlyIsRead g a b → OnlyIsRead g b c → OnlyIsRead g a c
   read_then a b c first next = record {
@@ -53,9 +67,12 @@ module _ {S : Type 0} (g : Ghosts S) where
     survives = both_survive (state g a.database) (state g b.database) (state g c.database) first.survives next.survives;
   }
     where
-      both : (b.database ≡ a.database) ⊎ IsLeft (state g a.database) (state g b.database) → (c.database ≡ b.database) ⊎ IsLeft (state g b.database) (state g c.database)
+      both : (b.database ≡ a.database) ⊎ IsLeft (state g a.database) (state g b.database)
+          → (c.database ≡ b.database) ⊎ IsLeft (state g b.database) (state g c.database)
           → (c.database ≡ a.database) ⊎ IsLeft (state g a.database) (state g c.database)
       both (inl same) (inl still) = inl (still ∙ same)
       both (inl same) (inr left) = inr (subst (λ (d : Held S). IsLeft (state g d) (state g c.database)) same left)
-      both (inr left) (inl still) = inr (subst (λ (d : Held S). IsLeft (state g a.database) (state g d)) (sym still) left)
-      both (inr left) (inr more) = inr (left_after (state g a.database) (state g b.database) (state g c.database) left more)
+      both (inr left) (inl still) =
+          inr (subst (λ (d : Held S). IsLeft (state g a.database) (state g d)) (sym still) left)
+      both (inr left) (inr more) =
+          inr (left_after (state g a.database) (state g b.database) (state g c.database) left more)

@@ -59,8 +59,8 @@ IsBeforeOrAfter done today before db found =
 
 -- The command is refused, the office stays, and the connection stays shut. A stop leaves only what it would have left
 -- before the command.
-pub record WritesNothing {S : Type 0} (g : Ghosts S) (old : OfficeIn S) (answer : Result Reply Refusal) (new : OfficeIn S)
-    : Type 0 where
+pub record WritesNothing {S : Type 0} (g : Ghosts S) (old : OfficeIn S) (answer : Result Reply Refusal)
+    (new : OfficeIn S) : Type 0 where
   pub refused : OnOk answer ⊥
   pub office : new.office ≡ old.office
   pub shut : (state g new.database).is_open ≡ false

@@ -3,13 +3,14 @@ ghost use Rattle.std.specs.Prelude.{◌≡◌, ◌∷◌, false, IsTrue, IfOk, I
 ghost use Rattle.sqlite.specs.Held.{state};
 ghost use Rattle.sqlite.specs.State.{HasCleanDisk, IsUnchanged, Survives};
 ghost use Rattle.exam_tables.specs.Faults.{is_store_refusal};
-ghost use Rattle.exam_tables.specs.Loaded.{AreUnderstood, FailsThen, IsLoadRefusal, OnlyReads};
+ghost use Rattle.exam_tables.specs.Loaded.{AreUnderstood};
+ghost use Rattle.exam_tables.specs.Parts.{Loading};
 ghost use Rattle.exam_tables.specs.Transactions.{Commits};
 ghost use Rattle.exam_tables.specs.Unasked.{IsUnasked};
-ghost use Rattle.exam_tables.specs.Versions.{ContainsOf, IsKnown, IsVersion, version};
+ghost use Rattle.exam_tables.specs.Versions.{IsKnown, IsVersion, version};
 ghost use Rattle.exam_store.specs.Found.{FailsToMigrate, HoldsGood, version_texts};
 ghost use Rattle.exam_store.specs.Kept.{Migrates};
-ghost use Rattle.exam_store.specs.Refused.{HoldsNone};
+ghost use Rattle.exam_store.specs.Parts.{judged_part};
 ghost use Rattle.exam_sql.specs.Made.{ContainsMade, lists_tables};
 ghost use Rattle.exam_sql.specs.Texts.{load_office as office_text};
 
@@ -56,22 +57,11 @@ pub fn migrate<S: Alter>(alloc: Global, conn: &mut Connection<S>) -> Result<(u8,
 /// The version of the office in the database, which must be good and hold no more than the version can.
 fn judged_version<S: Alter>(alloc: Global, conn: &mut Connection<S>) -> Result<Version, Refusal>
     ensures known { IfOk result IsKnown }
-    ensures found { HasCleanDisk (state S.Store conn.new) → IfOk result (λ v. (all : _)
-        → ContainsMade (state S.Store conn.old).now all
-        → HoldsGood v.number (state S.Store conn.old).now all) }
-    ensures understood { HasCleanDisk (state S.Store conn.new) → IfOk result (λ v.
-        AreUnderstood (state S.Store conn.old).now (office_text ∷ version_texts v.number)) }
-    ensures bad { HasCleanDisk (state S.Store conn.new) → IfErr result (IsLoadRefusal
-        (FailsThen S.Store conn.old conn.new) ((v : _) → IsVersion v → (all : _)
-        → ContainsOf v (state S.Store conn.old).now all → HoldsNone v all)) }
+    ensures judges { Loading S.Store conn.old conn.new result judged_part }
     ensures listed { OnOk result (IsTrue (lists_tables (state S.Store conn.old).now.schema)) }
     ensures unlisted { HasCleanDisk (state S.Store conn.new)
         → lists_tables (state S.Store conn.old).now.schema ≡ false
         → IfErr result (IsUnasked (state S.Store conn.old) (state S.Store conn.new)) }
-    ensures left { HasCleanDisk (state S.Store conn.new)
-        → OnlyReads (state S.Store conn.old) (state S.Store conn.new) result }
-    ensures survives { Survives (state S.Store conn.old) (state S.Store conn.new) (λ _. ⊥) }
-    ensures told { IfErr result (λ e. IsTrue (is_store_refusal e)) }
 {
     let version = version_of(conn)?;
     let office = load_version(alloc, conn, version)?;

@@ -1,5 +1,6 @@
 //! An office in a database.
-ghost use Rattle.std.specs.Prelude.{◌≡◌, ◌⊎◌, true, false, length, IsTrue, IsSome, IfOk, IfErr, OnOk, OnErr, MatchResult};
+ghost use Rattle.std.specs.Prelude.{◌≡◌, ◌⊎◌, true, false, length, IsTrue, IsSome, IfOk, IfErr, OnOk, OnErr};
+ghost use Rattle.std.specs.Prelude.{MatchResult};
 ghost use Rattle.std.specs.Borrow.{sem, RestsIfErr};
 ghost use Rattle.std.specs.Option.{option_map};
 ghost use Rattle.sqlite.specs.Held.{state};
@@ -154,8 +155,8 @@ impl<S: Alter> Store<S> {
         }
     }
 
-    /// Carries out a command on a day, in one transaction, or refuses it. After a refusal everything is as before. Over a
-    /// connection that is shut nothing is written.
+    /// Carries out a command on a day, in one transaction, or refuses it. After a refusal everything is as before. Over
+    /// a connection that is shut nothing is written.
     pub fn apply(&mut self, alloc: Global, command: &Command, today: Day) -> Result<Reply, Refusal>
         ensures step { MayApply command.now today self.old.office result self.new.office }
         ensures kept { IsSound (state S.Store self.new.database) → Rekeeps self.old.office self.new.office

@@ -2,10 +2,8 @@
 use Rattle.std.proofs.Common.{◌≡◌, ℕ, List, Bool, true, false, Result, Ok, Err, OnOk, IfErr, inl, inr, ap, sym, ◌∙◌}
 use Rattle.std.proofs.lemmas.Bool.{both_ways}
 use Rattle.sqlite_trees.specs.Tree.{Trees}
-use Rattle.sqlite_trees.specs.declared.error.StoreError.{StoreError}
-use Rattle.sqlite_trees.specs.declared.error.StoreError.TheVariants as cause
 use Rattle.sqlite.specs.Effect.{Database}
-use Rattle.sqlite.specs.State.{State, FailsToQuery, IsNotRun, store_error}
+use Rattle.sqlite.specs.State.{State, FailsToQuery, IsNotRun}
 use Rattle.exam_types.specs.declared.refusal.Refusal.{Refusal}
 use Rattle.exam_types.specs.declared.refusal.Refusal.TheVariants.{BadStore}
 use Rattle.exam_sql.specs.Made.{ContainsMade, lists_tables}
@@ -13,17 +11,10 @@ use Rattle.exam_sql.proofs.Listed.{tables_listed}
 use Rattle.exam_tables.specs.Faults.{refusal_of}
 use Rattle.exam_tables.specs.Loaded.{FailsToLoad, IsLeft}
 use Rattle.exam_tables.specs.Unasked.{FailsToAsk}
-
-not_bad : (why : StoreError) → refusal_of (store_error why) ≡ BadStore → ⊥
-not_bad cause.OutOfMemory e = absurd cc
-not_bad cause.Io e = absurd cc
-not_bad cause.Corrupt e = absurd cc
-not_bad cause.Full e = absurd cc
-not_bad cause.Broken e = absurd cc
-not_bad cause.Unstorable e = absurd cc
+use Rattle.exam_tables.proofs.Leaving.{no_disk}
 
 pub asks_not_bad : (old new : State) (e : Refusal) → FailsToAsk old new e → e ≡ BadStore → ⊥
-asks_not_bad old new e (error, is, (why, told, has, back, tells)) bad = not_bad why (sym (is ∙ ap refusal_of told) ∙ bad)
+asks_not_bad old new e (error, is, (why, told, has, back, tells)) bad = no_disk why (sym (is ∙ ap refusal_of told) ∙ bad)
 
 -- so no query could be run either
 pub asks_as_load : (text : List ℕ) (old new : State) (e : Refusal) → FailsToAsk old new e → FailsToLoad text old new e

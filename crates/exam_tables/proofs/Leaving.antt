@@ -1,12 +1,10 @@
 -- What calls that only read leave.
-use Rattle.std.proofs.Common.{◌≡◌, ◌⊎◌, Bool, ℕ, List, [], Option, None, Some, inl, inr, Result, Ok, Err, IfOk, IfErr, OnOk, IsTrue, refl, sym, ap, subst, ◌∙◌}
+use Rattle.std.proofs.Common.{◌≡◌, ◌⊎◌, Bool, ℕ, List, [], Option, None, Some, inl, inr, Result, Ok, Err, OnOk, IsTrue, refl, sym, ap, subst, ◌∙◌}
 use Rattle.sqlite_value.specs.Order.{Row}
 use Rattle.sqlite_schema.specs.declared.command.Returning.{Returning}
 use Rattle.sqlite_trees.specs.declared.error.StoreError.{StoreError}
 use Rattle.sqlite_trees.specs.declared.error.StoreError.TheVariants as cause
-use Rattle.sqlite_trees.specs.Tree.{Trees}
 use Rattle.sqlite.specs.Clock.{timed}
-use Rattle.sqlite.specs.Effect.{Database}
 use Rattle.sqlite.specs.declared.error.Error.{Error}
 use Rattle.sqlite.specs.declared.error.Error.TheVariants.{SqliteFailure}
 use Rattle.sqlite.specs.declared.error.ErrorCode.TheVariants.{OutOfMemory}
@@ -16,17 +14,11 @@ use Rattle.sqlite.proofs.StateLemmas.{survives_then, survives_weaker}
 use Rattle.exam_types.specs.declared.refusal.Refusal.{Refusal}
 use Rattle.exam_types.specs.declared.refusal.Refusal.TheVariants.{NoMemory, Store, BadStore}
 use Rattle.exam_sql.specs.Refusals.{is_failure}
-use Rattle.exam_sql.specs.Made.{ContainsMade, made_schema}
-use Rattle.exam_sql.proofs.Quiet.{IsQuery, shown_unchanged, failed_unchanged, commits_nothing}
+use Rattle.exam_sql.specs.Made.{made_schema}
+use Rattle.exam_sql.proofs.Quiet.{IsQuery, commits_nothing}
 use Rattle.exam_tables.specs.Faults.{refusal_of}
-use Rattle.exam_tables.specs.Loaded.{FailsToLoad, FailsToLoadFrom, IsLeft, IsStill, IsUnderstood, OnlyReads}
+use Rattle.exam_tables.specs.Loaded.{FailsToLoad, IsLeft, IsStill, IsUnderstood, OnlyReads, Told}
 use Rattle.exam_tables.proofs.Steps.{failure}
-
--- a query leaves the database as it is, or fails
-pub query_reads : {V : Type 0} (items : V → List Row) (text : List ℕ) → IsQuery text → (old new : State) (result : Result V Refusal) → IfOk result (λ rows. Shown text [] old new (items rows))
-    → IfErr result (λ e. (error : Error) × (e ≡ refusal_of error) × FailsToQuery text [] old new error) → OnlyReads old new result
-query_reads items text query old new (Ok rows) shown failed = shown_unchanged text query [] old new (items rows) shown
-query_reads items text query old new (Err e) shown failed = failed_unchanged text [] old new failed.0 failed.2
 
 pub left_then : (old mid new : State) → IsUnchanged old mid → IsLeft mid new → IsLeft old new
 left_then old mid new first (inl same) = inl (unchanged_then old mid new first same)
@@ -47,9 +39,6 @@ then_reads old mid new (Err e) first next = left_then old mid new first next
 pub reads_only : {A E : Type 0} (old new : State) (result : Result A E) → IsUnchanged old new → OnlyReads old new result
 reads_only old new (Ok value) same = same
 reads_only old new (Err e) same = inl same
-
-pub still : (old new : State) → IsUnchanged old new → IsStill old new
-still old new same = record { now = same.0.now_is; committed = same.0.committed_is; in_transaction = same.0.mode; is_open = same.0.is_open ∙ sym same.0.was_open }
 
 pub still_itself : (s : State) → IsStill s s
 still_itself s = record { now = refl; committed = refl; in_transaction = refl; is_open = refl }
@@ -77,32 +66,18 @@ pub not_bad_store : (e : Refusal) (error : Error) → e ≡ refusal_of error →
 not_bad_store e error told (inl lacks) bad = let same : NoMemory ≡ BadStore = sym (told ∙ ap refusal_of lacks) ∙ bad in absurd cc
 not_bad_store e error told (inr named) bad = let same : Store ≡ BadStore = sym (told ∙ failure error named) ∙ bad in absurd cc
 
--- the query of a text that is understood where the tables have these rows
-pub fails_to_load_from : {V : Type 0} (Holds : Database → Trees → Type 0) (text : List ℕ)
-    → ((old new : State) (all : Trees) → Holds old.now all → (error : Error) → FailsToQuery text [] old new error
-    → (error ≡ SqliteFailure OutOfMemory) ⊎ IsTrue (is_failure error)) → (old new : State) (result : Result V Refusal)
-    → IfErr result (λ e. (error : Error) × (e ≡ refusal_of error) × FailsToQuery text [] old new error) → IfErr result (FailsToLoadFrom Holds text old new)
-fails_to_load_from Holds text known old new (Ok value) failed = tt
-fails_to_load_from Holds text known old new (Err e) failed = (failed, λ there. not_bad_store e failed.0 failed.1 (known old new there.0 there.1 failed.0 failed.2))
-
 -- a query that fails, where the tables of some version exist
-pub fails_to_load : {V : Type 0} (text : List ℕ)
+pub fails_to_load : (text : List ℕ)
     → ((old new : State) (has_marks : Bool) → old.now.schema ≡ made_schema has_marks → (error : Error)
     → FailsToQuery text [] old new error → (error ≡ SqliteFailure OutOfMemory) ⊎ IsTrue (is_failure error))
-    → (old new : State) (result : Result V Refusal)
-    → IfErr result (λ e. (error : Error) × (e ≡ refusal_of error) × FailsToQuery text [] old new error) → IfErr result (FailsToLoad text old new)
-fails_to_load text known = fails_to_load_from ContainsMade text (λ old new all was. known old new was.has_marks was.contains.schema_is)
+    → (old new : State) (e : Refusal) → Told text old new e → FailsToLoad text old new e
+fails_to_load text known old new e failed =
+    (failed, λ there. not_bad_store e failed.0 failed.1 (known old new there.1.has_marks there.1.contains.schema_is failed.0 failed.2))
 
 -- a text whose rows were shown is understood
 pub shown_understood : (text : List ℕ) (old new : State) (rows : List Row) → Shown text [] old new rows → IsUnderstood old.now text
 unfolding Shown
 shown_understood text old new rows shown = (shown.0, shown.1.is)
-
-pub query_understood : {V : Type 0} (items : V → List Row) (text : List ℕ) (old new : State)
-    (result : Result V Refusal) → IfOk result (λ rows. Shown text [] old new (items rows))
-    → OnOk result (IsUnderstood old.now text)
-query_understood items text old new (Ok rows) shown = shown_understood text old new (items rows) shown
-query_understood items text old new (Err e) shown = tt
 
 -- so it was before, where nothing has changed
 pub understood_before : (text : List ℕ) (old mid : State) → IsUnchanged old mid → IsUnderstood mid.now text → IsUnderstood old.now text
@@ -114,7 +89,7 @@ understood_still (Ok value) is = is
 understood_still (Err e) is = tt
 
 -- a failure of the disk is never reported as `BadStore`
-no_disk : (why : StoreError) → refusal_of (store_error why) ≡ BadStore → ⊥
+pub no_disk : (why : StoreError) → refusal_of (store_error why) ≡ BadStore → ⊥
 no_disk cause.OutOfMemory e = absurd cc
 no_disk cause.Io e = absurd cc
 no_disk cause.Corrupt e = absurd cc

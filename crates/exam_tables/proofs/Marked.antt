@@ -1,20 +1,27 @@
 -- The table of marks, where there is one, and where there is none.
-use Rattle.std.proofs.Common.{◌≡◌, Bool, true, false, [], sym, ap, subst, ◌∙◌}
+use Rattle.std.proofs.Common.{◌≡◌, ℕ, Bool, true, false, [], Result, Ok, Err, sym, ap, subst, ◌∙◌}
+use Rattle.std.specs.BTreeMap.{BTreeMap}
+use Rattle.sqlite.specs.Held.{Held, state}
 use Rattle.sqlite.specs.State.{State, IsLive}
 use Rattle.exam_sql.proofs.VersionFails.{sound_rules}
 use Rattle.std.specs.List.Sorted.{IsStrictlySortedBy}
 use Rattle.std.proofs.lemmas.List.Sorted.{IsPermutation-refl}
+use Rattle.sqlite_trees.specs.declared.store.Store.{Ghosts}
 use Rattle.sqlite_trees.specs.Tree.{Trees}
 use Rattle.sqlite.specs.Effect.{Database}
 use Rattle.exam_sql.specs.Content.{ContainsIn}
 use Rattle.exam_sql.specs.Made.{ContainsMade, lists_marks, made_schema}
 use Rattle.exam_sql.proofs.AllTables.{marks_listed}
 use Rattle.exam_rules.specs.Orders.{KeysRise}
-use Rattle.exam_rules.specs.Relations.{appeal_cmp}
+use Rattle.exam_types.specs.declared.refusal.Refusal.{Refusal}
+use Rattle.exam_rules.specs.Relations.{Code, appeal_cmp}
+use Rattle.exam_tables.specs.Forms.{standing}
 use Rattle.exam_tables.specs.Inside.{Contains}
 use Rattle.exam_tables.specs.Loaded.{HoldsTable}
+use Rattle.exam_tables.specs.Parts.{Loading, marks_part, table_part}
 use Rattle.exam_tables.specs.Rows.{IsStanding, standing_row}
 use Rattle.exam_tables.specs.Versions.{HasOlder}
+use Rattle.exam_tables.proofs.PartByPart.{loaded_as, not_loaded}
 
 listed : (has_marks : Bool) → lists_marks (made_schema has_marks) ≡ has_marks
 listed true = marks_listed.0
@@ -46,3 +53,13 @@ older_of s all true lists live was =
 older_of s all false lists live was =
     let none = has_listed s.now all was false (sym lists) in
     (subst (λ b. ContainsIn (made_schema b) s.now all) none was.contains, was.unmarked none)
+
+-- where the table is listed, the marks are its rows
+pub marks_load : {S : Type 0} (g : Ghosts S) (old new : Held S) → lists_marks (state g old).now.schema ≡ true → (result : Result (BTreeMap (ℕ × Code) (Unit {0})) Refusal)
+    → Loading g old new result (table_part appeal_cmp standing) → Loading g old new result marks_part
+marks_load g old new lists (Ok marks) it =
+    loaded_as g old new (table_part appeal_cmp standing) marks_part
+    (λ all was. contains_marks (state g old).now all lists was) marks (Ok marks) it (λ clean all was held. held) tt
+    (λ clean is listed. is)
+marks_load g old new lists (Err e) it =
+    not_loaded g old new (table_part appeal_cmp standing) marks_part (λ all was. contains_marks (state g old).now all lists was) e (λ clean all was none. none) it

@@ -13,12 +13,8 @@ use Rattle.std.proofs.lemmas.List.Sorted.{All-permutation, IsPermutation-map, Is
 use Rattle.sqlite_value.specs.declared.value.Value.TheVariants.{Null}
 use Rattle.sqlite_value.specs.Order.{Row}
 use Rattle.sqlite_trees.proofs.ListLemmas.{IsPermutation-filter, map-map}
-use Rattle.sqlite_trees.specs.Tree.{Trees}
-use Rattle.sqlite.specs.Effect.{Database}
-use Rattle.sqlite.specs.State.{State, IsUnchanged}
 use Rattle.exam_types.specs.declared.refusal.Refusal.{Refusal}
 use Rattle.exam_sql.specs.Content.{same_key}
-use Rattle.exam_sql.specs.Made.{ContainsMade}
 use Rattle.exam_rules.specs.Orders.{KeysRise}
 use Rattle.exam_tables.specs.Loaded.{AreRowsOf, HoldsTable, IsLoadRefusal, KeysMatch}
 use Rattle.exam_tables.proofs.Inserting.{shown_entries}
@@ -125,7 +121,3 @@ pub part_failed : {A B P Q : Type 0} (e : Refusal) → (A → B) → (P → Q) �
 part_failed e fails none (inl lacks) = inl lacks
 part_failed e fails none (inr (inl told)) = inr (inl (fails told))
 part_failed e fails none (inr (inr bad)) = inr (inr (bad.0, none bad.1))
-
--- a database that a call leaves as it is holds what it held
-pub still_there : (old new : State) (all : Trees) {A : Type 0} → ContainsMade old.now all → A × IsUnchanged old new → ContainsMade new.now all
-still_there old new all was it = subst (λ (db : Database). ContainsMade db all) (sym it.1.0.now_is) was

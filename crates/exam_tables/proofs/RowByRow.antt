@@ -1,6 +1,6 @@
 -- A table that is read a row at a time: what each step finds, and what the scan answers.
 use Rattle.std.proofs.Common.{◌≡◌, ◌⊎◌, ℕ, List, [], ◌∷◌, ◌++◌, Option, Some, None, Result, Ok, Err, inl, inr}
-use Rattle.std.proofs.Common.{refl, sym, ap, subst, ◌∙◌, ◌<◌, length, length-append, get_or, OnErr, OnOk, IfOk, IfErr, IsSome, IsTrue, arith}
+use Rattle.std.proofs.Common.{refl, sym, ap, subst, ◌∙◌, ◌<◌, length, length-append, get_or, OnErr, OnOk, IsSome, IsTrue, arith}
 use Rattle.std.specs.Option.{ok_or}
 use Rattle.std.specs.BTreeMap.{is_at}
 use Rattle.std.specs.Map.{lookup}
@@ -32,7 +32,8 @@ use Rattle.exam_sql.proofs.Quiet.{failed_unchanged}
 use Rattle.exam_rules.specs.Orders.{KeysRise}
 use Rattle.exam_tables.specs.Faults.{is_store_refusal, refusal_of}
 use Rattle.exam_tables.specs.Forms.{Form, IsOurTable}
-use Rattle.exam_tables.specs.Loaded.{AreRowsOf, FailsToLoadFrom, HoldsTable, IsLoadRefusal, IsUnderstood, KeysMatch, OnlyReads}
+use Rattle.exam_tables.specs.Loaded.{AreRowsOf, FailsToLoadFrom, IsUnderstood, KeysMatch}
+use Rattle.exam_tables.specs.Parts.{LoadingBy, table_part}
 use Rattle.exam_tables.specs.declared.scanning.Next.TheVariants as next
 use Rattle.exam_tables.specs.Scanned.{BeginNone, Goes, Scans}
 use Rattle.exam_tables.proofs.Inserting.{one_read}
@@ -215,40 +216,40 @@ module _ {S K X : Type 0} (g : Ghosts S) {cmp : K → K → Ordering} (form : Fo
         (shown_by it.2 (state g new) (state g new) ((given ++ row ∷ []) ++ whole.0) all it.1 whole.1).0 table),
   )
 
-  abbrev loaded : Option (BTreeMap K X) → Result (BTreeMap K X) Refusal
-  loaded found = ok_or found BadStore
+  -- what a scan answers, with `BadStore` where no table has the rows
+  module _ (old new : Held S) (early : HasCleanDisk (state g new) → HasCleanDisk (state g old)) (survives : Survives (state g old) (state g new) (λ _. ⊥)) where
+    pub scan_loads : (found : Option (BTreeMap K X)) → (HasCleanDisk (state g new) → Scans g cmp form old new (Ok found))
+        → LoadingBy form.load g old new (ok_or found BadStore) (table_part cmp form)
+    scan_loads None scans = record {
+      rows = λ clean. tt;
+      bad = λ clean. inr (inr (refl, (scans clean).2));
+      left = λ clean. inl (scans clean).0;
+      understood = λ clean. tt;
+      survives = survives;
+      early = early;
+      told = refl;
+    }
+    scan_loads (Some table) scans = record {
+      rows = λ clean. (scans clean).2;
+      bad = λ clean. tt;
+      left = λ clean. (scans clean).0;
+      understood = λ clean. (scans clean).1;
+      survives = survives;
+      early = early;
+      told = tt;
+    }
 
-  pub loads_rows : (old new : Held S) (found : Option (BTreeMap K X)) → Scans g cmp form old new (Ok found)
-      → IfOk (loaded found) (λ table. (all : Trees) → form.Holds (state g old).now all
-      → HoldsTable cmp form.IsRow form.row table.entries (all form.tree) × IsUnchanged (state g old) (state g new))
-  loads_rows old new None scans = tt
-  loads_rows old new (Some table) scans = λ all holds. (scans.2 all holds, scans.0)
-
-  abbrev pub IsNoTable : Held S → Type 0
-  IsNoTable old =
-      (all : Trees) → form.Holds (state g old).now all → (entries : List (K × X)) → HoldsTable cmp form.IsRow form.row entries (all form.tree) → ⊥
-
-  pub loads_none : (old new : Held S) (found : Option (BTreeMap K X)) → Scans g cmp form old new (Ok found)
-      → IfErr (loaded found) (IsLoadRefusal (FailsToLoadFrom form.Holds form.load (state g old) (state g new)) (IsNoTable old))
-  loads_none old new None scans = inr (inr (refl, scans.2))
-  loads_none old new (Some table) scans = tt
-
-  pub loads_left : (old new : Held S) (found : Option (BTreeMap K X)) → Scans g cmp form old new (Ok found) → OnlyReads (state g old) (state g new) (loaded found)
-  loads_left old new None scans = inl scans.0
-  loads_left old new (Some table) scans = scans.0
-
-  pub loads_understood : (old new : Held S) (found : Option (BTreeMap K X)) → Scans g cmp form old new (Ok found) → OnOk (loaded found) (IsUnderstood (state g old).now form.load)
-  loads_understood old new None scans = tt
-  loads_understood old new (Some table) scans = scans.1
-
-  pub loads_fail : (old new : Held S) (e : Refusal) → Scans g cmp form old new (Err e)
-      → IsLoadRefusal (FailsToLoadFrom form.Holds form.load (state g old) (state g new)) (IsNoTable old) e
-  loads_fail old new e (left, inl short) = inl short
-  loads_fail old new e (left, inr fails) = inr (inl fails)
-
-pub told_loaded : {V : Type 0} (found : Option V) → IfErr (ok_or found BadStore) (λ e. IsTrue (is_store_refusal e))
-told_loaded None = refl
-told_loaded (Some table) = tt
+    pub scan_fails : (e : Refusal) → (HasCleanDisk (state g new) → Scans g cmp form old new (Err e)) → IsTrue (is_store_refusal e)
+        → LoadingBy form.load g old new (Err e) (table_part cmp form)
+    scan_fails e scans told = record {
+      rows = λ clean. tt;
+      bad = λ clean. elim (scans clean).1 [ inl short ↦ inl short | inr fails ↦ inr (inl fails) ];
+      left = λ clean. (scans clean).0;
+      understood = λ clean. tt;
+      survives = survives;
+      early = early;
+      told = told;
+    }
 
 pub on_ok : {A E P Q : Type 0} (result : Result A E) → (P → Q) → OnOk result P → OnOk result Q
 on_ok (Ok a) f p = f p

@@ -1,6 +1,7 @@
 -- What the texts of the ten tables have in common. The code names these facts, and a file of specs may not name proofs
 -- of its own crate, so the facts of keys are proved here too.
-use Rattle.std.proofs.Common.{◌≡◌, ◌&&◌, ℕ, pos, Bool, true, false, Ordering, Less, Equal, Greater, refl, ap, subst, ◌∙◌, lit<, true≢false, if◌then◌else◌}
+use Rattle.std.proofs.Common.{◌≡◌, ◌&&◌, ℕ, pos, Bool, true, false, Ordering, Less, Equal, Greater, refl, ap, subst}
+use Rattle.std.proofs.Common.{◌∙◌, lit<, true≢false, if◌then◌else◌}
 use Rattle.std.specs.Bool.{Decides, one_answer}
 use Rattle.std.specs.Cmp.{Equal-is, tied_itself, nat_cmp_total}
 use Rattle.std.specs.Cmp.Lexicographic.{nat_list_cmp_total}
@@ -37,10 +38,18 @@ use Rattle.exam_tables.specs.Stored.{kind_number, target_of, needs_of, extra_of,
 -- ---- keys
 
 pub text_key : (a b : Code) → equal (first_key plain).collation (Text a) (Text b) ≡ is_eq (code_cmp a b)
-text_key a b = one_answer _ _ (λ h. let e = text_same (Text a) b h in cc, λ (e : a ≡ b). subst (λ t. equal (first_key plain).collation (Text a) (Text t) ≡ true) e (text_itself a)) (same_codes a b)
+text_key a b = one_answer _ _ (
+  λ h. let e = text_same (Text a) b h in
+      cc,
+  λ (e : a ≡ b). subst (λ t. equal (first_key plain).collation (Text a) (Text t) ≡ true) e
+      (text_itself a),
+) (same_codes a b)
   where
     same_codes : (a b : Code) → Decides (is_eq (code_cmp a b)) (a ≡ b)
-    same_codes a b = (λ h. exact_bytes a b ((Equal-is (code_cmp a b)).0 h), λ e. subst (λ t. is_eq (code_cmp a t) ≡ true) e (ap is_eq (tied_itself nat_list_cmp_total a)))
+    same_codes a b = (
+      λ h. exact_bytes a b ((Equal-is (code_cmp a b)).0 h),
+      λ e. subst (λ t. is_eq (code_cmp a t) ≡ true) e (ap is_eq (tied_itself nat_list_cmp_total a)),
+    )
 
 pub whole_key : (m n : ℕ) → equal (first_key plain).collation (whole m) (whole n) ≡ is_eq (nat_cmp m n)
 whole_key m n = one_answer _ _ (
@@ -51,7 +60,10 @@ whole_key m n = one_answer _ _ (
 ) (same_numbers m n)
   where
     same_numbers : (m n : ℕ) → Decides (is_eq (nat_cmp m n)) (m ≡ n)
-    same_numbers m n = (λ h. exact_unsigned m n ((Equal-is (nat_cmp m n)).0 h), λ e. subst (λ k. is_eq (nat_cmp m k) ≡ true) e (ap is_eq (tied_itself nat_cmp_total m)))
+    same_numbers m n = (
+      λ h. exact_unsigned m n ((Equal-is (nat_cmp m n)).0 h),
+      λ e. subst (λ k. is_eq (nat_cmp m k) ≡ true) e (ap is_eq (tied_itself nat_cmp_total m)),
+    )
 
 one_part : (a b : Bool) → a ≡ b → (a && true) ≡ b
 one_part a b is = and_true a ∙ is
@@ -60,7 +72,8 @@ one_part a b is = and_true a ∙ is
     and_true true = refl
     and_true false = refl
 
-pub two_parts : (a b : Bool) (o p : Ordering) → a ≡ is_eq o → b ≡ is_eq p → (a && (b && true)) ≡ is_eq (ordering_then o p)
+pub two_parts : (a b : Bool) (o p : Ordering) → a ≡ is_eq o → b ≡ is_eq p
+    → (a && (b && true)) ≡ is_eq (ordering_then o p)
 two_parts a b Less p first second = ap (λ c. c && (b && true)) first
 two_parts a b Equal p first second = ap (λ c. c && (b && true)) first ∙ one_part b (is_eq p) second
 two_parts a b Greater p first second = ap (λ c. c && (b && true)) first

@@ -1,6 +1,6 @@
 -- The versions of the tables, and a database that was just made.
-use Rattle.std.specs.Prelude.{◌≡◌, ◌⊎◌, IsSome, None, Some, Bool, true, false, ℕ, ◌==◌, [], ◌∷◌, IsTrue, Result, OnOk, IfErr}
-use Rattle.std.specs.Prelude.{if◌then◌else◌}
+use Rattle.std.specs.Prelude.{◌≡◌, ◌⊎◌, IsSome, None, Some, Bool, true, false, ℕ, ◌==◌, [], ◌∷◌, IsTrue, Result}
+use Rattle.std.specs.Prelude.{OnOk, IfErr, if◌then◌else◌}
 use Rattle.sqlite_value.specs.declared.value.Value.TheVariants.{Null}
 use Rattle.sqlite_value.specs.Order.{Row}
 use Rattle.sqlite_trees.specs.Tree.{Trees, with_tree}

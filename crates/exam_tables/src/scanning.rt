@@ -1,12 +1,13 @@
 //! Reading a table a row at a time, so that no list of its rows is made.
-ghost use Rattle.std.specs.Prelude.{◌≡◌, ◌⊎◌, ◌++◌, List, [], ◌∷◌, IsTrue, IfOk, IfErr, OnOk};
+ghost use Rattle.std.specs.Prelude.{◌≡◌, ◌⊎◌, ◌++◌, List, [], ◌∷◌, IsTrue, IfErr, OnOk};
 ghost use Rattle.sqlite_value.specs.Order.{Row as Columns};
 ghost use Rattle.sqlite.specs.Given.{HasGiven};
 ghost use Rattle.sqlite.specs.Held.{state};
-ghost use Rattle.sqlite.specs.State.{HasCleanDisk, IsUnchanged, Survives};
+ghost use Rattle.sqlite.specs.State.{HasCleanDisk, Survives};
 ghost use Rattle.exam_types.specs.declared.refusal.Refusal.TheVariants.{NoMemory, BadStore};
 ghost use Rattle.exam_tables.specs.Faults.{is_store_refusal};
-ghost use Rattle.exam_tables.specs.Loaded.{AreRowsOf, FailsToLoadFrom, HoldsTable, IsLoadRefusal, IsUnderstood, OnlyReads};
+ghost use Rattle.exam_tables.specs.Loaded.{AreRowsOf};
+ghost use Rattle.exam_tables.specs.Parts.{LoadingBy, table_part};
 ghost use Rattle.exam_tables.specs.Scanned.{BeginNone, Goes, Scans};
 
 use crate::faults::refusal_of;
@@ -22,22 +23,7 @@ pub fn load_rows<T: StoredRows, S: Alter>(
     alloc: Global,
     conn: &mut Connection<S>,
 ) -> Result<BTreeMap<T::Key, T::Value>, Refusal>
-    ensures rows { HasCleanDisk (state S.Store conn.new) → IfOk result (λ table. (all : _)
-        → T.form.Holds (state S.Store conn.old).now all
-        → HoldsTable T.Key.cmp T.form.IsRow T.form.row table.entries (all T.form.tree)
-        × IsUnchanged (state S.Store conn.old) (state S.Store conn.new)) }
-    ensures bad { HasCleanDisk (state S.Store conn.new)
-        → IfErr result (IsLoadRefusal (FailsToLoadFrom T.form.Holds T.form.load
-        (state S.Store conn.old) (state S.Store conn.new))
-        ((all : _) → T.form.Holds (state S.Store conn.old).now all
-        → (entries : _) → HoldsTable T.Key.cmp T.form.IsRow T.form.row entries (all T.form.tree) → ⊥)) }
-    ensures left { HasCleanDisk (state S.Store conn.new)
-        → OnlyReads (state S.Store conn.old) (state S.Store conn.new) result }
-    ensures survives { Survives (state S.Store conn.old) (state S.Store conn.new) (λ _. ⊥) }
-    ensures understood { HasCleanDisk (state S.Store conn.new)
-        → OnOk result (IsUnderstood (state S.Store conn.old).now T.form.load) }
-    ensures early { HasCleanDisk (state S.Store conn.new) → HasCleanDisk (state S.Store conn.old) }
-    ensures told { IfErr result (λ e. IsTrue (is_store_refusal e)) }
+    ensures { LoadingBy T.form.load S.Store conn.old conn.new result (table_part T.Key.cmp T.form) }
 {
     let table = scan_table::<T, S>(alloc, conn)?;
     table.ok_or(Refusal::BadStore)

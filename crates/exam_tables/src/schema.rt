@@ -5,16 +5,16 @@ ghost use Rattle.std.specs.List.{list_all};
 ghost use Rattle.sqlite.specs.Held.{state};
 ghost use Rattle.sqlite.specs.State.{HasCleanDisk, IsLive, IsUnchanged, Survives};
 ghost use Rattle.sqlite_value.specs.Order.{column};
-ghost use Rattle.exam_sql.specs.Made.{ContainsMade, is_free, is_table, lists_marks, lists_tables};
+ghost use Rattle.exam_sql.specs.Made.{is_free, is_table, lists_marks, lists_tables};
 ghost use Rattle.exam_sql.specs.Tables as tables;
 ghost use Rattle.exam_sql.specs.Texts.{load_office};
 ghost use Rattle.exam_types.specs.declared.refusal.Refusal.TheVariants.{BadStore};
 ghost use Rattle.exam_tables.specs.Faults.{is_store_refusal};
 ghost use Rattle.exam_tables.specs.Stored.{whole};
 ghost use Rattle.exam_tables.specs.Unasked.{FailsToAsk, IsUnasked};
-ghost use Rattle.exam_tables.specs.Versions.{HasOlder, HasFirst, HasNewest, HasNoRows, HasRuled, HasVersion};
+ghost use Rattle.exam_tables.specs.Versions.{HasOlder, HasFirst, HasNewest, HasNoRows, HasRuled};
 ghost use Rattle.exam_tables.specs.Versions.{IsBlank, IsKnown, IsMade, IsVersion, Leads, version_row};
-ghost use Rattle.exam_tables.specs.Loaded.{FailsToLoad, IsLoadRefusal, IsUnderstood, OnlyReads};
+ghost use Rattle.exam_tables.specs.Parts.{LoadingBy, version_part};
 
 use crate::columns::whole_at;
 use crate::faults::refusal_of;
@@ -201,23 +201,10 @@ pub fn version_of<S: Alter>(conn: &mut Connection<S>) -> Result<Version, Refusal
     ensures unlisted { HasCleanDisk (state S.Store conn.new)
         → lists_tables (state S.Store conn.old).now.schema ≡ false
         → IfErr result (IsUnasked (state S.Store conn.old) (state S.Store conn.new)) }
-    ensures ok { HasCleanDisk (state S.Store conn.new) → IfOk result (λ version. (all : _)
-        → ContainsMade (state S.Store conn.old).now all
-        → HasVersion version.number all × IsUnchanged (state S.Store conn.old) (state S.Store conn.new)) }
+    ensures reads { LoadingBy load_office S.Store conn.old conn.new result version_part }
     ensures known { IfOk result IsKnown }
-    ensures bad { HasCleanDisk (state S.Store conn.new) → IfErr result (IsLoadRefusal
-        (FailsToLoad load_office (state S.Store conn.old) (state S.Store conn.new))
-        ((all : _) → ContainsMade (state S.Store conn.old).now all
-        → (version : _) → IsVersion version → HasVersion version all → ⊥)) }
-    ensures left { HasCleanDisk (state S.Store conn.new)
-        → OnlyReads (state S.Store conn.old) (state S.Store conn.new) result }
     ensures unchanged { HasCleanDisk (state S.Store conn.new) → IfErr result (λ e. e ≡ BadStore
         → IsUnchanged (state S.Store conn.old) (state S.Store conn.new)) }
-    ensures survives { Survives (state S.Store conn.old) (state S.Store conn.new) (λ _. ⊥) }
-    ensures understood { HasCleanDisk (state S.Store conn.new)
-        → OnOk result (IsUnderstood (state S.Store conn.old).now load_office) }
-    ensures early { HasCleanDisk (state S.Store conn.new) → HasCleanDisk (state S.Store conn.old) }
-    ensures told { IfErr result (λ e. IsTrue (is_store_refusal e)) }
 {
     if !lists_tables(conn) {
         ask_nothing(conn)?;

@@ -1,7 +1,8 @@
 //! Statements, with their errors reported as refusals.
 ghost use Rattle.std.specs.Prelude.{◌≡◌, ◌⊎◌, [], ◌∷◌, IsTrue, OnOk, IfOk, IfErr, Err, IsPermutation};
 ghost use Rattle.sqlite.specs.Held.{state};
-ghost use Rattle.sqlite.specs.State.{HasCleanDisk, KeepsCommit, Survives, Shown, ExecutesInside, FailsToQuery, CommitsShowing};
+ghost use Rattle.sqlite.specs.State.{CommitsShowing, ExecutesInside, FailsToQuery, HasCleanDisk, KeepsCommit, Shown};
+ghost use Rattle.sqlite.specs.State.{Survives};
 ghost use Rattle.sqlite.specs.Values.{bound};
 ghost use Rattle.std.specs.BTreeMap.{ContainsKey};
 ghost use Rattle.exam_types.specs.declared.refusal.Refusal.TheVariants.{NoMemory, BadStore};

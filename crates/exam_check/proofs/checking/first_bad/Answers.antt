@@ -17,38 +17,29 @@ use Rattle.exam_check.proofs.checking.first_bad.Goals as goal
 pub returns-in_err-version-clause-looks : goal.returns-in_err-version-clause-looks
 returns-in_err-version-clause-looks g c =
     let is : c.from_residual.result ≡ Err c.in_err-version.field-0.0 = search rules in
-    rw is (version_looks g.S.Store c.args.conn.now c.version_of.new.conn c.in_err-version.field-0.0
-    c.version_of.ensures.early c.version_of.ensures.survives c.in_err-version.ensures.left
-    c.in_err-version.ensures.unchanged
-    c.in_err-version.ensures.bad c.in_err-version.ensures.told)
+    rw is (version_looks g.S.Store c.args.conn.now c.version_of.new.conn c.in_err-version.field-0.0 c.in_err-version.ensures.unchanged c.in_err-version.ensures.reads)
 
 pub returns-then-version-clause-looks : goal.returns-then-version-clause-looks
 returns-then-version-clause-looks g c =
-    let v = c.in_ok-version.version.number in
-    looks_old g.S.Store c.args.conn.now c.version_of.new.conn c.version_of.ensures.early c.version_of.ensures.survives
-    c.in_ok-version.ensures.left
-    (λ clean all was. (
-      v,
-      older v c.in_ok-version.ensures.known.0 (search rules),
-      (c.in_ok-version.ensures.ok clean all was).0,
-    ))
+    let v = c.in_ok-version.version in
+    looks_old g.S.Store c.args.conn.now c.version_of.new.conn v c.in_ok-version.ensures.reads (older v.number c.in_ok-version.ensures.known.0 (search rules))
 
 pub returns-in_err-read-clause-looks : goal.returns-in_err-read-clause-looks
 returns-in_err-read-clause-looks g c =
     let is : c.from_residual-in_err-read.result ≡ Err c.in_err-read.field-0.0 = search rules in
-    let first = looks_ok g.S.Store c.args.conn.now c.version_of.new.conn c.in_ok-version.version c.version_of.ensures.early c.version_of.ensures.survives c.in_ok-version.ensures.left in
+    let first = looks_ok g.S.Store c.args.conn.now c.version_of.new.conn c.in_ok-version.version c.in_ok-version.ensures.reads in
     rw is (fails_then g.S.Store c.args.conn.now c.version_of.new.conn c.read_tables.new.conn _ _ first c.in_err-read.ensures.looks)
 
 pub returns-in_err-bad-clause-looks : goal.returns-in_err-bad-clause-looks
 returns-in_err-bad-clause-looks g c =
     let is : c.from_residual-in_err-bad.result ≡ Err c.in_err-bad.field-0.0 = search rules in
-    let first = looks_ok g.S.Store c.args.conn.now c.version_of.new.conn c.in_ok-version.version c.version_of.ensures.early c.version_of.ensures.survives c.in_ok-version.ensures.left in
+    let first = looks_ok g.S.Store c.args.conn.now c.version_of.new.conn c.in_ok-version.version c.in_ok-version.ensures.reads in
     let next = looks_then g.S.Store c.args.conn.now c.version_of.new.conn c.read_tables.new.conn _ _ first c.in_ok-read.ensures.looks in
     rw is (looks_on g.S.Store c.args.conn.now c.read_tables.new.conn _ (Err c.in_err-bad.field-0.0) next c.in_err-bad.ensures.memory)
 
 pub returns-clause-looks : goal.returns-clause-looks
 returns-clause-looks g c =
-    let first = looks_ok g.S.Store c.args.conn.now c.version_of.new.conn c.in_ok-version.version c.version_of.ensures.early c.version_of.ensures.survives c.in_ok-version.ensures.left in
+    let first = looks_ok g.S.Store c.args.conn.now c.version_of.new.conn c.in_ok-version.version c.in_ok-version.ensures.reads in
     let next = looks_then g.S.Store c.args.conn.now c.version_of.new.conn c.read_tables.new.conn _ _ first c.in_ok-read.ensures.looks in
     looks_on g.S.Store c.args.conn.now c.read_tables.new.conn _ _ next tt
 
@@ -56,19 +47,20 @@ pub returns-clause-understood : goal.returns-clause-understood
 returns-clause-understood g c = λ clean.
     let clean_1 = c.in_ok-read.ensures.looks.early clean in
     let old = state g.S.Store c.args.conn.now in
-    in_load_order old.now (c.in_ok-version.ensures.understood clean_1)
-    (all_before old (state g.S.Store c.version_of.new.conn) table_texts (c.in_ok-version.ensures.left clean_1)
+    in_load_order old.now (c.in_ok-version.ensures.reads.understood clean_1)
+    (all_before old (state g.S.Store c.version_of.new.conn) table_texts (c.in_ok-version.ensures.reads.left clean_1)
     (c.in_ok-read.ensures.understood clean))
 
 pub returns-clause-found : goal.returns-clause-found
 returns-clause-found g c = λ clean all was.
     let old = state g.S.Store c.args.conn.now in
     let mid = state g.S.Store c.version_of.new.conn in
-    let it = c.in_ok-version.ensures.ok (c.in_ok-read.ensures.looks.early clean) all was in
+    let clean_1 = c.in_ok-read.ensures.looks.early clean in
+    let same = c.in_ok-version.ensures.reads.left clean_1 in
     let newest : c.in_ok-version.version.number ≡ version = search rules in
     let marks : lists_marks mid.now.schema ≡ true = sym c.has_marks.ensures ∙ c.if-not-has_marks.false in
-    let contains = (is_of version mid.now all marks (still_made old mid all it.1 was)).0 in (
-      (of_newest old.now all (subst (λ (db : Database). Contains db all) it.1.0.now_is contains), subst (λ v. HasVersion v all) newest it.0),
+    let contains = (is_of version mid.now all marks (still_made old mid all same was)).0 in (
+      (of_newest old.now all (subst (λ (db : Database). Contains db all) same.0.now_is contains), subst (λ v. HasVersion v all) newest (c.in_ok-version.ensures.reads.rows clean_1 all was)),
       office_in c.in_ok-read.read,
       first_in all (office_in c.in_ok-read.read) c.in_ok-bad.bad c.in_ok-read.read.unread c.first_of.result 0 tables
           (refl, (refl, (refl, (refl, (refl, (refl, (refl, (refl, (refl, (refl, tt))))))))))
@@ -80,15 +72,14 @@ returns-clause-found g c = λ clean all was.
 
 pub returns-clause-listed : goal.returns-clause-listed
 returns-clause-listed g c = λ clean.
-    let same = c.in_ok-version.ensures.left (c.in_ok-read.ensures.looks.early clean) in
+    let same = c.in_ok-version.ensures.reads.left (c.in_ok-read.ensures.looks.early clean) in
     newest_listed (state g.S.Store c.args.conn.now).now.schema c.in_ok-version.ensures.listed
     (ap (λ (db : Database). lists_marks db.schema) (sym same.0.now_is)
     ∙ (sym c.has_marks.ensures ∙ c.if-not-has_marks.false))
 
 pub returns-then-not-has_marks-clause-looks : goal.returns-then-not-has_marks-clause-looks
 returns-then-not-has_marks-clause-looks g c =
-    looks_unmarked g.S.Store c.args.conn.now c.version_of.new.conn c.version_of.ensures.early c.version_of.ensures.survives
-    c.in_ok-version.ensures.left (sym c.has_marks.ensures ∙ c.if-not-has_marks.true)
+    looks_unmarked g.S.Store c.args.conn.now c.version_of.new.conn c.in_ok-version.version c.in_ok-version.ensures.reads (sym c.has_marks.ensures ∙ c.if-not-has_marks.true)
 
 pub returns-in_err-version-clause-unlisted : goal.returns-in_err-version-clause-unlisted
 returns-in_err-version-clause-unlisted g c = λ clean none.

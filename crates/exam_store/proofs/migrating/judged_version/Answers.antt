@@ -1,89 +1,49 @@
-use Rattle.std.proofs.Common.{◌≡◌, Err, inl, sym, ap, subst, ◌∙◌, rules}
+use Rattle.std.proofs.Common.{◌≡◌, Ok, Err, inl, inr, ◌∙◌, rules}
 use Rattle.std.proofs.lemmas.Bool.{both_ways}
-use Rattle.sqlite.specs.Effect.{Database}
 use Rattle.sqlite.specs.Held.{state}
-use Rattle.sqlite.proofs.Callers.{unchanged_then}
-use Rattle.exam_sql.specs.Made.{lists_marks}
 use Rattle.exam_sql.specs.Texts.{load_office}
-use Rattle.exam_tables.specs.Loaded.{AreUnderstood}
 use Rattle.exam_tables.specs.OurTables.{office_loads}
-use Rattle.exam_tables.proofs.Leaving.{both_survive, left_then, still_itself, still_then}
-use Rattle.exam_tables.proofs.Refusing.{part_failed}
-use Rattle.exam_store.specs.Found.{version_texts}
-use Rattle.exam_store.proofs.Marking.{is_of, known_marks, made_of, still_made, still_of}
+use Rattle.exam_tables.specs.Parts.{then_part, version_part}
+use Rattle.exam_tables.proofs.PartByPart.{all_load, by_queries, loaded_as, next_fails, not_loaded}
+use Rattle.exam_store.specs.Parts.{judged_part, office_part}
+use Rattle.exam_store.proofs.Marking.{is_of, known_marks}
 use Rattle.exam_store.proofs.Newest.{none_of_any, within_as}
 use Rattle.exam_store.proofs.migrating.judged_version.Goals as goal
 
-pub returns-clause-found : goal.returns-clause-found
-returns-clause-found g c = λ clean all was.
-    let old = state g.S.Store c.args.conn.now in
-    let early = c.load_version.ensures.early clean in
-    let same = c.in_ok-version.ensures.left early in
-    let there = still_made old (state g.S.Store c.version_of.new.conn) all same was in
-    let v = c.in_ok-version.version in
-    let lists = ap (λ (db : Database). lists_marks db.schema) (sym same.0.now_is) ∙ c.in_ok-office.ensures.marks clean ∙ known_marks v c.in_ok-version.ensures.known in (
-      is_of v.number old.now all lists was,
-      (c.in_ok-version.ensures.ok early all was).0,
-      c.in_ok-office.office,
-      (c.in_ok-office.ensures.rows clean all there).0,
-      (
-        c.show_good.ensures,
-        within_as v c.in_ok-office.office c.in_ok-version.ensures.known c.in_ok-office.ensures.within,
-      ),
-    )
-
-pub returns-clause-understood : goal.returns-clause-understood
-returns-clause-understood g c = λ clean.
-    let early = c.load_version.ensures.early clean in (
-      c.in_ok-version.ensures.understood early,
-      subst (λ (db : Database). AreUnderstood db (version_texts c.in_ok-version.version.number))
-          (c.in_ok-version.ensures.left early).0.now_is (c.in_ok-office.ensures.understood clean),
-    )
-
-pub returns-clause-left : goal.returns-clause-left
-returns-clause-left g c = λ clean.
-    unchanged_then (state g.S.Store c.args.conn.now) (state g.S.Store c.version_of.new.conn)
-    (state g.S.Store c.load_version.new.conn) (c.in_ok-version.ensures.left (c.load_version.ensures.early clean))
-    (c.in_ok-office.ensures.left clean)
-
-pub returns-clause-survives : goal.returns-clause-survives
-returns-clause-survives g c =
-    both_survive (state g.S.Store c.args.conn.now) (state g.S.Store c.version_of.new.conn)
-    (state g.S.Store c.load_version.new.conn) c.version_of.ensures.survives c.load_version.ensures.survives
-
--- why none is found
-
-pub returns-in_err-version-clause-bad : goal.returns-in_err-version-clause-bad
-returns-in_err-version-clause-bad g c = λ clean.
+pub returns-in_err-version-clause-judges : goal.returns-in_err-version-clause-judges
+returns-in_err-version-clause-judges g c =
     let is : c.from_residual.result ≡ Err c.in_err-version.field-0.0 = search rules in
-    rw is (part_failed c.in_err-version.field-0.0
-    (λ told. (c.args.conn.now, still_itself (state g.S.Store c.args.conn.now), load_office, office_loads, told))
-    (λ none v known all was. inl (none all (made_of v _ all was) v known)) (c.in_err-version.ensures.bad clean))
+    let first = by_queries g.S.Store c.args.conn.now c.version_of.new.conn load_office office_loads (Err c.in_err-version.field-0.0) version_part c.in_err-version.ensures.reads in
+    rw is (not_loaded g.S.Store c.args.conn.now c.version_of.new.conn version_part judged_part (λ all was. was) c.in_err-version.field-0.0 (λ clean all was none v known of. inl (none v known)) first)
 
-pub returns-in_err-office-clause-bad : goal.returns-in_err-office-clause-bad
-returns-in_err-office-clause-bad g c = λ clean.
+pub returns-in_err-office-clause-judges : goal.returns-in_err-office-clause-judges
+returns-in_err-office-clause-judges g c =
     let is : c.from_residual-in_err-office.result ≡ Err c.in_err-office.field-0.0 = search rules in
-    let old = state g.S.Store c.args.conn.now in
-    let mid = state g.S.Store c.version_of.new.conn in
-    let early = c.load_version.ensures.early clean in
-    let same = c.in_ok-version.ensures.left early in
-    rw is (part_failed c.in_err-office.field-0.0 (λ told. (told.0, still_then old mid (state g.S.Store told.0) same told.1, told.2, told.3, told.4))
-    (λ none v known all was. none_of_any c.in_ok-version.version.number v all
-    (c.in_ok-version.ensures.ok early all (made_of v old.now all was)).0
-    (λ is_v. none all (still_of c.in_ok-version.version.number old mid all same (rw is_v was))))
-    (c.in_err-office.ensures.bad clean))
+    let v = c.in_ok-version.version in
+    let first = by_queries g.S.Store c.args.conn.now c.version_of.new.conn load_office office_loads (Ok v) version_part c.in_ok-version.ensures.reads in
+    let both = next_fails g.S.Store c.args.conn.now c.version_of.new.conn c.load_version.new.conn version_part (office_part v) v first c.in_err-office.field-0.0 c.in_err-office.ensures.loads in
+    rw is (not_loaded g.S.Store c.args.conn.now c.load_version.new.conn (then_part version_part (office_part v)) judged_part (λ all was. (was, was)) c.in_err-office.field-0.0
+    (λ clean all was none w known of. elim none [
+      | inl no_version ↦ inl (no_version w known)
+      | inr no_office ↦ none_of_any v.number w all (first.rows (c.load_version.ensures.loads.early clean) all was) (λ same. no_office (rw same of))
+    ]) both)
 
-pub returns-in_err-office-clause-left : goal.returns-in_err-office-clause-left
-returns-in_err-office-clause-left g c = λ clean.
-    let is : c.from_residual-in_err-office.result ≡ Err c.in_err-office.field-0.0 = search rules in
-    rw is (left_then (state g.S.Store c.args.conn.now) (state g.S.Store c.version_of.new.conn)
-    (state g.S.Store c.load_version.new.conn) (c.in_ok-version.ensures.left (c.load_version.ensures.early clean))
-    (c.in_err-office.ensures.left clean))
+pub returns-clause-judges : goal.returns-clause-judges
+returns-clause-judges g c =
+    let v = c.in_ok-version.version in
+    let office = c.in_ok-office.office in
+    let first = by_queries g.S.Store c.args.conn.now c.version_of.new.conn load_office office_loads (Ok v) version_part c.in_ok-version.ensures.reads in
+    let both = all_load g.S.Store c.args.conn.now c.version_of.new.conn c.load_version.new.conn version_part (office_part v) v first office c.in_ok-office.ensures.loads in
+    loaded_as g.S.Store c.args.conn.now c.load_version.new.conn (then_part version_part (office_part v)) judged_part (λ all was. (was, was)) (v, office) (Ok v) both
+    (λ clean all was held. (
+      is_of v.number (state g.S.Store c.args.conn.now).now all ((both.understood clean).1.0 ∙ known_marks v c.in_ok-version.ensures.known) was,
+      held.0,
+      office,
+      held.1,
+      (c.show_good.ensures, within_as v office c.in_ok-version.ensures.known c.in_ok-office.ensures.within),
+    )) tt (λ clean knows. (knows.0, knows.1.1))
 
-pub returns-in_err-office-clause-survives : goal.returns-in_err-office-clause-survives
-returns-in_err-office-clause-survives g c =
-    both_survive (state g.S.Store c.args.conn.now) (state g.S.Store c.version_of.new.conn)
-    (state g.S.Store c.load_version.new.conn) c.version_of.ensures.survives c.load_version.ensures.survives
+-- where the names of the tables are not those of tables
 
 pub returns-in_err-office-clause-unlisted : goal.returns-in_err-office-clause-unlisted
 returns-in_err-office-clause-unlisted g c = λ clean none. absurd (both_ways _ none c.in_ok-version.ensures.listed)

@@ -5,8 +5,9 @@ use Rattle.sqlite.specs.Held.{state}
 use Rattle.exam_sql.specs.Texts.{held_texts}
 use Rattle.exam_tables.specs.Versions.{HasVersion, Widens, version}
 use Rattle.exam_tables.proofs.Committing.{commits_err, commits_ok, commits_weaker, then_commits, unchanged_commits}
+use Rattle.exam_tables.proofs.Refusing.{part_failed}
 use Rattle.exam_store.specs.Kept.{Migrates}
-use Rattle.exam_store.proofs.Marking.{some_understood, still_made}
+use Rattle.exam_store.proofs.Marking.{made_of, some_understood, still_made}
 use Rattle.exam_store.proofs.Newest.{migrates, newest_alone, not_made}
 use Rattle.exam_store.proofs.migrating.migrate.Goals as goal
 
@@ -18,7 +19,10 @@ returns-clause-made g c =
     let mid = state g.S.Store c.judged_version.new.conn in
     let new = state g.S.Store c.save_widened.new.conn in
     commits_ok old new tt (c.in_ok-version.version.number, version) Migrates
-    (commits_weaker old new (Ok tt) Widens Migrates migrates (then_commits old mid new (Ok tt) Widens c.in_ok-version.ensures.left c.judged_version.ensures.survives c.in_ok-save_widened.ensures.made))
+    (commits_weaker old new (Ok tt) Widens Migrates migrates
+    (then_commits old mid new
+    (Ok tt) Widens c.in_ok-version.ensures.judges.left c.judged_version.ensures.judges.survives
+    c.in_ok-save_widened.ensures.made))
 
 pub returns-in_err-save_widened-clause-made : goal.returns-in_err-save_widened-clause-made
 returns-in_err-save_widened-clause-made g c =
@@ -30,7 +34,7 @@ returns-in_err-save_widened-clause-made g c =
     rw is (commits_err old new e e Migrates
     (commits_weaker old new (Err e) Widens Migrates migrates
     (then_commits old mid new
-    (Err e) Widens c.in_ok-version.ensures.left c.judged_version.ensures.survives
+    (Err e) Widens c.in_ok-version.ensures.judges.left c.judged_version.ensures.judges.survives
     c.in_err-save_widened.ensures.made)))
 
 pub returns-in_err-save_widened-clause-refusal : goal.returns-in_err-save_widened-clause-refusal
@@ -42,12 +46,12 @@ returns-in_err-save_widened-clause-refusal g c = λ clean.
     let is : c.from_residual-in_err-save_widened.result ≡ Err e = search rules in
     let s = c.in_err-save_widened.ensures.made.survives in
     let clean_mid : HasCleanDisk mid = omega (arith, s.clean, clean) in
-    let same = c.in_ok-version.ensures.left clean_mid in
+    let same = c.in_ok-version.ensures.judges.left clean_mid in
     let calm : old.in_transaction ≡ false = search rules in
-    let known = c.in_ok-version.ensures.understood clean_mid in
+    let known = c.in_ok-version.ensures.judges.understood clean_mid in
     rw is (inr (inr (
       (known.0, some_understood old.now held_texts _ known.1),
-      λ made. not_made old mid new e c.judged_version.ensures.survives clean_mid s.counts calm same (c.in_err-save_widened.ensures.failed clean (made.0, still_made old mid made.0 same made.1)),
+      λ made. not_made old mid new e c.judged_version.ensures.judges.survives clean_mid s.counts calm same (c.in_err-save_widened.ensures.failed clean (made.0, still_made old mid made.0 same made.1)),
     )))
 
 -- no office of any version is there
@@ -55,13 +59,14 @@ returns-in_err-save_widened-clause-refusal g c = λ clean.
 pub returns-in_err-version-clause-refusal : goal.returns-in_err-version-clause-refusal
 returns-in_err-version-clause-refusal g c = λ clean.
     let is : c.from_residual.result ≡ Err c.in_err-version.field-0.0 = search rules in
-    rw is (inr (inl (c.in_err-version.ensures.bad clean)))
+    rw is (inr (inl (part_failed c.in_err-version.field-0.0 (λ told. told)
+    (λ none v known all was. none all (made_of v (state g.S.Store c.args.conn.now).now all was) v known was) (c.in_err-version.ensures.judges.bad clean))))
 
 pub returns-clause-found : goal.returns-clause-found
-returns-clause-found g c = λ clean. c.in_ok-version.ensures.found (omega (arith, c.in_ok-save_widened.ensures.made.survives.clean, clean))
+returns-clause-found g c = λ clean. c.in_ok-version.ensures.judges.rows (omega (arith, c.in_ok-save_widened.ensures.made.survives.clean, clean))
 
 pub returns-clause-understood : goal.returns-clause-understood
-returns-clause-understood g c = λ clean. c.in_ok-version.ensures.understood (omega (arith, c.in_ok-save_widened.ensures.made.survives.clean, clean))
+returns-clause-understood g c = λ clean. c.in_ok-version.ensures.judges.understood (omega (arith, c.in_ok-save_widened.ensures.made.survives.clean, clean))
 
 -- of the newest version already
 
@@ -72,11 +77,11 @@ returns-then-version-clause-made g c =
     let newest : c.in_ok-version.version.number ≡ version = search rules in
     let settled : IsTrue old.is_open → old.now ≡ old.committed = search rules in
     unchanged_commits old (state g.S.Store new)
-    (c.in_ok-version.version.number, version) Migrates settled c.in_ok-version.ensures.left
+    (c.in_ok-version.version.number, version) Migrates settled c.in_ok-version.ensures.judges.left
     (λ clean. newest_alone old.now (state g.S.Store new).now
-    (λ all was. subst (λ v. HasVersion v all) newest (c.in_ok-version.ensures.found clean all was).1))
+    (λ all was. subst (λ v. HasVersion v all) newest (c.in_ok-version.ensures.judges.rows clean all was).1))
     (λ trees is may. g.met.S.Store.settled new.store trees is may)
-    c.judged_version.ensures.survives
+    c.judged_version.ensures.judges.survives
 
 -- where the names of the tables are not those of tables
 

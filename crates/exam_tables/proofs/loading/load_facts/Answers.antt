@@ -1,59 +1,58 @@
-use Rattle.std.proofs.Common.{◌≡◌, Err, inl, inr, rules}
-use Rattle.exam_tables.proofs.PartByPart.{never_lacks}
-use Rattle.exam_tables.proofs.Refusing.{part_failed}
+use Rattle.std.proofs.Common.{◌≡◌, Ok, Err, inl, inr, rules}
+use Rattle.exam_tables.specs.Forms.{sessions}
+use Rattle.exam_tables.specs.OurTables.{sessions_ours}
+use Rattle.exam_tables.specs.Parts.{facts_part, table_part}
+use Rattle.exam_tables.proofs.PartByPart.{all_load, by_queries, loaded_as, next_fails, not_loaded, opened}
 use Rattle.exam_tables.proofs.loading.load_facts.Goals as goal
 
 -- each of the nine tables can be loaded
 nine : {P : Type 0} → P → P × (P × (P × (P × (P × (P × (P × (P × P)))))))
 nine p = (p, (p, (p, (p, (p, (p, (p, (p, p))))))))
 
-pub returns-clause-rows : goal.returns-clause-rows
-returns-clause-rows g c = λ clean all was.
-    let is = c.in_ok-tables.ensures.rows clean never_lacks all (nine was) in (
-      record {
-        sessions = is.0;
-        papers = is.1.0;
-        halls = is.1.1.0;
-        openings = is.1.1.1.0;
-        candidates = is.1.1.1.1.0;
-        entries = is.1.1.1.1.1.0;
-        arrangements = is.1.1.1.1.1.1.0;
-        appeals = is.1.1.1.1.1.1.1.0;
-        standing = is.1.1.1.1.1.1.1.1;
-      },
-      c.in_ok-tables.ensures.left clean never_lacks,
-    )
+pub returns-in_err-sessions : goal.returns-in_err-sessions
+returns-in_err-sessions g c =
+    let is : c.from_residual.result ≡ Err c.in_err-sessions.field-0.0 = search rules in
+    let part = table_part sessions.cmp sessions in
+    let first = by_queries g.S.Store c.args.conn.now c.load_rows.new.conn sessions.load sessions_ours.loads (Err c.in_err-sessions.field-0.0) part c.in_err-sessions.ensures in
+    rw is (not_loaded g.S.Store c.args.conn.now c.load_rows.new.conn part facts_part (λ all was. was) c.in_err-sessions.field-0.0 (λ clean all was none r held. none r.sessions held.sessions) first)
 
-pub returns-clause-left : goal.returns-clause-left
-returns-clause-left g c = λ clean. c.in_ok-tables.ensures.left clean never_lacks
+pub returns-in_err-tables : goal.returns-in_err-tables
+returns-in_err-tables g c =
+    let is : c.from_residual-in_err-tables.result ≡ Err c.in_err-tables.field-0.0 = search rules in
+    let part = table_part sessions.cmp sessions in
+    let first = by_queries g.S.Store c.args.conn.now c.load_rows.new.conn sessions.load sessions_ours.loads (Ok c.in_ok-sessions.sessions) part c.in_ok-sessions.ensures in
+    let next = c.in_err-tables.ensures.loads (opened g.S.Store c.args.conn.now c.load_rows.new.conn c.load.new.conn part c.in_ok-sessions.sessions first c.load.ensures.early) in
+    let both = next_fails g.S.Store c.args.conn.now c.load_rows.new.conn c.load.new.conn part _ c.in_ok-sessions.sessions first c.in_err-tables.field-0.0 next in
+    rw is (not_loaded g.S.Store c.args.conn.now c.load.new.conn _ facts_part (λ all was. nine was) c.in_err-tables.field-0.0 (λ clean all was none r held. elim none [
+      | inl of ↦ of r.sessions held.sessions
+      | inr (inl of) ↦ of r.papers held.papers
+      | inr (inr (inl of)) ↦ of r.halls held.halls
+      | inr (inr (inr (inl of))) ↦ of r.openings held.openings
+      | inr (inr (inr (inr (inl of)))) ↦ of r.candidates held.candidates
+      | inr (inr (inr (inr (inr (inl of))))) ↦ of r.entries held.entries
+      | inr (inr (inr (inr (inr (inr (inl of)))))) ↦ of r.arrangements held.arrangements
+      | inr (inr (inr (inr (inr (inr (inr (inl of))))))) ↦ of r.appeals held.appeals
+      | inr (inr (inr (inr (inr (inr (inr (inr of))))))) ↦ of r.standing held.standing
+    ]) both)
 
-pub returns-clause-understood : goal.returns-clause-understood
-returns-clause-understood g c = λ clean.
-    let is = c.in_ok-tables.ensures.understood clean never_lacks in
-    (is.0, (is.1.0, (is.1.1.0, (is.1.1.1.1.0, (is.1.1.1.0, (is.1.1.1.1.1.0, (is.1.1.1.1.1.1.0, (is.1.1.1.1.1.1.1.0, tt))))))))
-
-pub returns-clause-marks : goal.returns-clause-marks
-returns-clause-marks g c = λ clean. (c.in_ok-tables.ensures.understood clean never_lacks).1.1.1.1.1.1.1.1
-
-pub returns-in_err-tables-clause-bad : goal.returns-in_err-tables-clause-bad
-returns-in_err-tables-clause-bad g c = λ clean.
-    let is : c.from_residual.result ≡ Err c.in_err-tables.field-0.0 = search rules in
-    rw is (part_failed c.in_err-tables.field-0.0
-    (λ fails. (fails.0, fails.1, fails.2, fails.3, (fails.4.0, λ there. fails.4.1 (there.0, nine there.1))))
-    (λ none all was r holds. elim (none all (nine was)) [
-      | inl of ↦ of r.sessions holds.sessions
-      | inr (inl of) ↦ of r.papers holds.papers
-      | inr (inr (inl of)) ↦ of r.halls holds.halls
-      | inr (inr (inr (inl of))) ↦ of r.openings holds.openings
-      | inr (inr (inr (inr (inl of)))) ↦ of r.candidates holds.candidates
-      | inr (inr (inr (inr (inr (inl of))))) ↦ of r.entries holds.entries
-      | inr (inr (inr (inr (inr (inr (inl of)))))) ↦ of r.arrangements holds.arrangements
-      | inr (inr (inr (inr (inr (inr (inr (inl of))))))) ↦ of r.appeals holds.appeals
-      | inr (inr (inr (inr (inr (inr (inr (inr of))))))) ↦ of r.standing holds.standing
-    ])
-    (c.in_err-tables.ensures.bad clean never_lacks))
-
-pub returns-in_err-tables-clause-left : goal.returns-in_err-tables-clause-left
-returns-in_err-tables-clause-left g c = λ clean.
-    let is : c.from_residual.result ≡ Err c.in_err-tables.field-0.0 = search rules in
-    rw is (c.in_err-tables.ensures.left clean never_lacks)
+pub returns : goal.returns
+returns g c =
+    let part = table_part sessions.cmp sessions in
+    let first = by_queries g.S.Store c.args.conn.now c.load_rows.new.conn sessions.load sessions_ours.loads (Ok c.in_ok-sessions.sessions) part c.in_ok-sessions.ensures in
+    let next = c.in_ok-tables.ensures.loads (opened g.S.Store c.args.conn.now c.load_rows.new.conn c.load.new.conn part c.in_ok-sessions.sessions first c.load.ensures.early) in
+    let both = all_load g.S.Store c.args.conn.now c.load_rows.new.conn c.load.new.conn part _ c.in_ok-sessions.sessions first c.in_ok-tables.tables next in
+    loaded_as g.S.Store c.args.conn.now c.load.new.conn _ facts_part (λ all was. nine was) _ _ both
+    (λ clean all was is. record {
+      sessions = is.0;
+      papers = is.1.0;
+      halls = is.1.1.0;
+      openings = is.1.1.1.0;
+      candidates = is.1.1.1.1.0;
+      entries = is.1.1.1.1.1.0;
+      arrangements = is.1.1.1.1.1.1.0;
+      appeals = is.1.1.1.1.1.1.1.0;
+      standing = is.1.1.1.1.1.1.1.1;
+    }) tt (λ clean is. (
+      (is.0, (is.1.0, (is.1.1.0, (is.1.1.1.1.0, (is.1.1.1.0, (is.1.1.1.1.1.0, (is.1.1.1.1.1.1.0, (is.1.1.1.1.1.1.1.0, tt)))))))),
+      is.1.1.1.1.1.1.1.1,
+    ))

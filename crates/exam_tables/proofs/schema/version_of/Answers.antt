@@ -1,4 +1,4 @@
-use Rattle.std.proofs.Common.{◌≡◌, Err, [], rules, inl, inr, refl, sym, ◌∙◌}
+use Rattle.std.proofs.Common.{◌≡◌, Err, [], arith, rules, inl, inr, refl, sym, ◌∙◌}
 use Rattle.std.proofs.lemmas.Result.{IfOk-weaker, IfErr-weaker}
 use Rattle.sqlite.specs.Held.{state}
 use Rattle.exam_sql.specs.Texts.{load_office}
@@ -10,56 +10,43 @@ use Rattle.exam_tables.proofs.Leaving.{bad_unchanged, query_survives, reads_only
 use Rattle.exam_tables.proofs.Versioned.{version_held, version_shown}
 use Rattle.exam_tables.proofs.schema.version_of.Goals as goal
 
-pub returns-clause-ok : goal.returns-clause-ok
-returns-clause-ok g c = λ clean.
-    IfOk-weaker c.version_in.result _ _ (λ version is all was.
-    let rows = c.in_ok-rows.rows.items in
-    let shown = shown_by (office.loads was.has_marks) (state g.S.Store c.args.conn.now) (state g.S.Store c.all_rows.new.conn) rows all was.contains (c.in_ok-rows.ensures.shown clean) in
-    (version_held version.number (all 0) rows shown.0 (sym c.as_slice.ensures.value ∙ is), shown.1)) c.version_in.ensures.ok
-
-pub returns-clause-bad : goal.returns-clause-bad
-returns-clause-bad g c = λ clean.
-    IfErr-weaker c.version_in.result _ _ (λ e why. inr (inr (
-      why.0,
-      λ all was version one held.
-          let rows = c.in_ok-rows.rows.items in
-          let shown = shown_by (office.loads was.has_marks) (state g.S.Store c.args.conn.now) (state g.S.Store c.all_rows.new.conn) rows all was.contains (c.in_ok-rows.ensures.shown clean) in
-          why.1 version one (c.as_slice.ensures.value ∙ version_shown version (all 0) rows shown.0 held),
-    ))) c.version_in.ensures.bad
-
-pub returns-clause-told : goal.returns-clause-told
-returns-clause-told g c = IfErr-weaker c.version_in.result _ _ (λ e why. rw why.0 refl) c.version_in.ensures.bad
-
-pub returns-clause-left : goal.returns-clause-left
-returns-clause-left g c = λ clean.
+pub returns-clause-reads : goal.returns-clause-reads
+returns-clause-reads g c =
     let old = state g.S.Store c.args.conn.now in
     let new = state g.S.Store c.all_rows.new.conn in
-    reads_only old new c.version_in.result (shown_unchanged load_office office.is_query [] old new c.in_ok-rows.rows.items (c.in_ok-rows.ensures.shown clean))
+    let rows = c.in_ok-rows.rows.items in
+    record {
+      rows = λ clean. IfOk-weaker c.version_in.result _ _ (λ version is all was.
+          let shown = shown_by (office.loads was.has_marks) old new rows all was.contains (c.in_ok-rows.ensures.shown clean) in
+          version_held version.number (all 0) rows shown.0 (sym c.as_slice.ensures.value ∙ is)) c.version_in.ensures.ok;
+      bad = λ clean. IfErr-weaker c.version_in.result _ _ (λ e why. inr (inr (
+        why.0,
+        λ all was version one held.
+            let shown = shown_by (office.loads was.has_marks) old new rows all was.contains (c.in_ok-rows.ensures.shown clean) in
+            why.1 version one (c.as_slice.ensures.value ∙ version_shown version (all 0) rows shown.0 held),
+      ))) c.version_in.ensures.bad;
+      left = λ clean. reads_only old new c.version_in.result (shown_unchanged load_office office.is_query [] old new rows (c.in_ok-rows.ensures.shown clean));
+      understood = λ clean. understood_still c.version_in.result (shown_understood load_office old new rows (c.in_ok-rows.ensures.shown clean));
+      survives = query_survives load_office office.is_query old new c.all_rows.ensures.survives;
+      early = λ clean. omega (arith, c.all_rows.ensures.survives.clean, clean);
+      told = IfErr-weaker c.version_in.result _ _ (λ e why. rw why.0 refl) c.version_in.ensures.bad;
+    }
 
-pub returns-in_err-rows-clause-left : goal.returns-in_err-rows-clause-left
-returns-in_err-rows-clause-left g c = λ clean.
+pub returns-in_err-rows-clause-reads : goal.returns-in_err-rows-clause-reads
+returns-in_err-rows-clause-reads g c =
     let is : c.from_residual-in_err-rows.result ≡ Err c.in_err-rows.field-0.0 = search rules in
-    let it = c.in_err-rows.ensures.failed clean in
-    rw is (failed_unchanged load_office [] (state g.S.Store c.args.conn.now) (state g.S.Store c.all_rows.new.conn) it.0 it.2)
-
-pub returns-clause-survives : goal.returns-clause-survives
-returns-clause-survives g c = query_survives load_office office.is_query (state g.S.Store c.args.conn.now) (state g.S.Store c.all_rows.new.conn) c.all_rows.ensures.survives
-
-pub returns-in_err-rows-clause-survives : goal.returns-in_err-rows-clause-survives
-returns-in_err-rows-clause-survives g c = query_survives load_office office.is_query (state g.S.Store c.args.conn.now) (state g.S.Store c.all_rows.new.conn) c.all_rows.ensures.survives
-
-pub returns-in_err-rows-clause-bad : goal.returns-in_err-rows-clause-bad
-returns-in_err-rows-clause-bad g c = λ clean.
-    let is : c.from_residual-in_err-rows.result ≡ Err c.in_err-rows.field-0.0 = search rules in
-    rw is (inr (inl (fails_to_load {V = Unit {0}} load_office
-    (λ old new has_marks. load_fails (office.loads has_marks) old new) (state g.S.Store c.args.conn.now)
-    (state g.S.Store c.all_rows.new.conn) (Err c.in_err-rows.field-0.0) (c.in_err-rows.ensures.failed clean))))
-
-pub returns-clause-understood : goal.returns-clause-understood
-returns-clause-understood g c = λ clean.
-    understood_still c.version_in.result
-    (shown_understood load_office (state g.S.Store c.args.conn.now)
-    (state g.S.Store c.all_rows.new.conn) c.in_ok-rows.rows.items (c.in_ok-rows.ensures.shown clean))
+    let old = state g.S.Store c.args.conn.now in
+    let new = state g.S.Store c.all_rows.new.conn in
+    rw is (record {
+      rows = λ clean. tt;
+      bad = λ clean. inr (inl (fails_to_load load_office (λ old new has_marks. load_fails (office.loads has_marks) old new) old new
+          c.in_err-rows.field-0.0 (c.in_err-rows.ensures.failed clean)));
+      left = λ clean. let it = c.in_err-rows.ensures.failed clean in failed_unchanged load_office [] old new it.0 it.2;
+      understood = λ clean. tt;
+      survives = query_survives load_office office.is_query old new c.all_rows.ensures.survives;
+      early = λ clean. omega (arith, c.all_rows.ensures.survives.clean, clean);
+      told = c.in_err-rows.ensures.told;
+    })
 
 pub returns-clause-unchanged : goal.returns-clause-unchanged
 returns-clause-unchanged g c = λ clean.
@@ -88,15 +75,20 @@ returns-in_err-rows-clause-unlisted g c = λ clean none. never_unlisted _ c.from
 pub returns-then-not-lists_tables-clause-unlisted : goal.returns-then-not-lists_tables-clause-unlisted
 returns-then-not-lists_tables-clause-unlisted g c = λ clean none. inl (refl, c.in_ok-ask_nothing.ensures.ok clean)
 
-pub returns-then-not-lists_tables-clause-bad : goal.returns-then-not-lists_tables-clause-bad
-returns-then-not-lists_tables-clause-bad g c = λ clean. inr (inr (
-  refl,
-  λ all was version one held.
-      unlisted_none (state g.S.Store c.args.conn.now).now all (sym c.lists_tables.ensures ∙ c.if-not-lists_tables.true) was,
-))
-
-pub returns-then-not-lists_tables-clause-left : goal.returns-then-not-lists_tables-clause-left
-returns-then-not-lists_tables-clause-left g c = λ clean. inl (c.in_ok-ask_nothing.ensures.ok clean)
+pub returns-then-not-lists_tables-clause-reads : goal.returns-then-not-lists_tables-clause-reads
+returns-then-not-lists_tables-clause-reads g c = record {
+  rows = λ clean. tt;
+  bad = λ clean. inr (inr (
+    refl,
+    λ all was version one held.
+        unlisted_none (state g.S.Store c.args.conn.now).now all (sym c.lists_tables.ensures ∙ c.if-not-lists_tables.true) was,
+  ));
+  left = λ clean. inl (c.in_ok-ask_nothing.ensures.ok clean);
+  understood = λ clean. tt;
+  survives = c.ask_nothing.ensures.survives;
+  early = λ clean. omega (arith, c.ask_nothing.ensures.survives.clean, clean);
+  told = refl;
+}
 
 pub returns-then-not-lists_tables-clause-unchanged : goal.returns-then-not-lists_tables-clause-unchanged
 returns-then-not-lists_tables-clause-unchanged g c = λ clean bad. c.in_ok-ask_nothing.ensures.ok clean
@@ -108,15 +100,20 @@ returns-in_err-ask_nothing-clause-unlisted g c = λ clean none.
     let is : c.from_residual.result ≡ Err c.in_err-ask_nothing.field-0.0 = search rules in
     rw is (inr (c.in_err-ask_nothing.ensures.failed clean))
 
-pub returns-in_err-ask_nothing-clause-bad : goal.returns-in_err-ask_nothing-clause-bad
-returns-in_err-ask_nothing-clause-bad g c = λ clean.
+pub returns-in_err-ask_nothing-clause-reads : goal.returns-in_err-ask_nothing-clause-reads
+returns-in_err-ask_nothing-clause-reads g c =
     let is : c.from_residual.result ≡ Err c.in_err-ask_nothing.field-0.0 = search rules in
-    rw is (inr (inl (asks_as_load load_office (state g.S.Store c.args.conn.now) (state g.S.Store c.ask_nothing.new.conn) c.in_err-ask_nothing.field-0.0 (c.in_err-ask_nothing.ensures.failed clean))))
-
-pub returns-in_err-ask_nothing-clause-left : goal.returns-in_err-ask_nothing-clause-left
-returns-in_err-ask_nothing-clause-left g c = λ clean.
-    let is : c.from_residual.result ≡ Err c.in_err-ask_nothing.field-0.0 = search rules in
-    rw is (asks_left (state g.S.Store c.args.conn.now) (state g.S.Store c.ask_nothing.new.conn) c.in_err-ask_nothing.field-0.0 (c.in_err-ask_nothing.ensures.failed clean))
+    let old = state g.S.Store c.args.conn.now in
+    let new = state g.S.Store c.ask_nothing.new.conn in
+    rw is (record {
+      rows = λ clean. tt;
+      bad = λ clean. inr (inl (asks_as_load load_office old new c.in_err-ask_nothing.field-0.0 (c.in_err-ask_nothing.ensures.failed clean)));
+      left = λ clean. asks_left old new c.in_err-ask_nothing.field-0.0 (c.in_err-ask_nothing.ensures.failed clean);
+      understood = λ clean. tt;
+      survives = c.ask_nothing.ensures.survives;
+      early = λ clean. omega (arith, c.ask_nothing.ensures.survives.clean, clean);
+      told = c.in_err-ask_nothing.ensures.told;
+    })
 
 pub returns-in_err-ask_nothing-clause-unchanged : goal.returns-in_err-ask_nothing-clause-unchanged
 returns-in_err-ask_nothing-clause-unchanged g c = λ clean.

@@ -1,4 +1,5 @@
 use Rattle.std.proofs.Common.{◌≡◌, Err, subst, rules}
+use Rattle.sqlite.specs.Effect.{Database}
 use Rattle.sqlite.specs.Held.{state}
 use Rattle.exam_check.proofs.Found.{still_contains}
 use Rattle.exam_check.proofs.Looking.{fails_still, fails_then, looks_on, looks_then}
@@ -23,8 +24,13 @@ pub returns-clause-read : goal.returns-clause-read
 returns-clause-read g c = λ clean.
     let clean_1 = c.in_ok-more.ensures.looks.early clean in
     let same = c.in_ok-rows.ensures.looks.left clean_1 in
+    let part = g.M.Reads.part in
+    let more = c.in_ok-more.more in
     let first = c.in_ok-rows.ensures.read clean_1 in
     let next = c.in_ok-more.ensures.read clean in (
-      (first.0, subst g.M.Reads.part.Understands same.0.now_is next.0),
-      λ all was. (first.1 all was, next.1 all (still_contains (state g.S.Store c.args.conn.now) (state g.S.Store c.read_table.new.conn) all same was)),
+      (first.0, subst (part.Understands more) same.0.now_is next.0),
+      λ all was. (
+        first.1 all was,
+        subst (λ (db : Database). part.Has more db all) same.0.now_is (next.1 all (still_contains (state g.S.Store c.args.conn.now) (state g.S.Store c.read_table.new.conn) all same was)),
+      ),
     )
