@@ -53,7 +53,7 @@ same_office all found office formed held order days =
     let up = order.tables in
     one_office all found office formed (
       elim [
-        table.Sessions ↦ record {
+        | table.Sessions ↦ record {
           rises = up table.Sessions;
           forms =
               forms _ session_tells (λ k x is. session_day _ is.1) _ _ _ (f table.Sessions) (h table.Sessions)

@@ -39,7 +39,7 @@ use Rattle.exam_tables.proofs.SavedRows.{openings_named, seats_named, table_put,
 pub holds_after : (before after : State) (c : Changes) (all : Trees) → TurnsTables before after c → HoldsOffice all before → HoldsOffice (written (all_saved c) all) after
 holds_after before after c all turns was = record {
   facts = elim [
-    table.Sessions ↦ subst (HoldsRows forms.sessions.row after.relations.sessions) (sym (whole c all forms.sessions.tree)) (table_put sessions_ours.keys _ _ _ _ turns.sessions (was.facts table.Sessions))
+    | table.Sessions ↦ subst (HoldsRows forms.sessions.row after.relations.sessions) (sym (whole c all forms.sessions.tree)) (table_put sessions_ours.keys _ _ _ _ turns.sessions (was.facts table.Sessions))
     | table.Papers ↦ subst (HoldsRows forms.papers.row after.relations.papers) (sym (whole c all forms.papers.tree)) (table_put papers_ours.keys _ _ _ _ turns.papers (was.facts table.Papers))
     | table.Halls ↦ subst (HoldsRows forms.halls.row after.relations.halls) (sym (whole c all forms.halls.tree)) (table_put halls_ours.keys _ _ _ _ turns.halls (was.facts table.Halls))
     | table.Openings ↦ subst (HoldsRows forms.openings.row after.relations.openings) (sym (whole c all forms.openings.tree))
