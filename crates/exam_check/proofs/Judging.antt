@@ -15,7 +15,7 @@ use Rattle.sqlite.specs.declared.error.ErrorCode.TheVariants.{OutOfMemory}
 use Rattle.sqlite.specs.Effect.{Database}
 use Rattle.sqlite.specs.Held.{Held, state}
 use Rattle.sqlite.specs.State.{HasCleanDisk}
-use Rattle.exam_rules.specs.Tables as table
+use Rattle.exam_rules.specs.Tables as fact
 use Rattle.exam_types.specs.declared.refusal.Refusal.{Refusal}
 use Rattle.exam_types.specs.declared.refusal.Refusal.TheVariants.{NoMemory, Store, BadStore}
 use Rattle.exam_commands.specs.Good.{IsGood, IsTableGood, tables}
@@ -65,15 +65,15 @@ good_office all o (sessions, (papers, (halls, (openings, (candidates, (entries, 
     let appeal = and_parts _ _ appeals.1.0 in (
       (
         elim [
-          table.Sessions ↦ sessions.0
-          | table.Papers ↦ papers.0
-          | table.Halls ↦ halls.0
-          | table.Openings ↦ openings.0
-          | table.Candidates ↦ candidates.0
-          | table.Entries ↦ entries.0
-          | table.Arrangements ↦ arrangements.0
-          | table.Appeals ↦ appeals.0
-          | table.Standing ↦ standing.0
+          | fact.Sessions ↦ sessions.0
+          | fact.Papers ↦ papers.0
+          | fact.Halls ↦ halls.0
+          | fact.Openings ↦ openings.0
+          | fact.Candidates ↦ candidates.0
+          | fact.Entries ↦ entries.0
+          | fact.Arrangements ↦ arrangements.0
+          | fact.Appeals ↦ appeals.0
+          | fact.Standing ↦ standing.0
         ],
         seats.0,
       ),
@@ -99,23 +99,23 @@ office_good all o (facts, seats) good =
     let limit_4 = and_parts _ _ limit_3.1 in
     let limit_5 = and_parts _ _ limit_4.1 in
     let limit_6 = and_parts _ _ limit_5.1 in (
-      (facts table.Sessions, limit_1.0),
+      (facts fact.Sessions, limit_1.0),
       (
-        (facts table.Papers, both_true limit_2.0 refer_1.0),
+        (facts fact.Papers, both_true limit_2.0 refer_1.0),
         (
-          (facts table.Halls, limit_3.0),
+          (facts fact.Halls, limit_3.0),
           (
-            (facts table.Openings, both_true limit_4.0 refer_2.0),
+            (facts fact.Openings, both_true limit_4.0 refer_2.0),
             (
-              (facts table.Candidates, limit_5.0),
+              (facts fact.Candidates, limit_5.0),
               (
-                (facts table.Entries, both_true limit_6.0 refer_3.0),
+                (facts fact.Entries, both_true limit_6.0 refer_3.0),
                 (
-                  (facts table.Arrangements, refer_4.0),
+                  (facts fact.Arrangements, refer_4.0),
                   (
-                    (facts table.Appeals, (both_true limit_6.1 refer_4.1, good.single)),
+                    (facts fact.Appeals, (both_true limit_6.1 refer_4.1, good.single)),
                     (
-                      (facts table.Standing, good.marks),
+                      (facts fact.Standing, good.marks),
                       ((seats, good.best), tt),
                     ),
                   ),

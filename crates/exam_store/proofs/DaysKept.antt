@@ -54,7 +54,12 @@ appeals_dated [] forms = All-nil OfAppeal
 appeals_dated (e ∷ es) forms = All-cons OfAppeal e.1 (values_of es) forms.0.6 (appeals_dated es forms.1)
 
 pub formed_days : (all : Trees) (office : State) → HoldsFormed all office → HasDays office.relations
-formed_days all office formed = record { sessions = sessions_dated office.relations.sessions (formed.0 table.Sessions).forms; appeals = appeals_dated office.relations.appeals (formed.0 table.Appeals).forms }
+formed_days all office formed =
+    record {
+      sessions = sessions_dated office.relations.sessions (formed.0 table.Sessions).forms;
+      appeals =
+          appeals_dated office.relations.appeals (formed.0 table.Appeals).forms;
+    }
 
 -- ---- the change of a command
 

@@ -63,9 +63,19 @@ same_office all found office formed held order days =
         | table.Papers ↦ record { rises = up table.Papers; forms = forms _ paper_tells (λ k x is. tt) _ _ _ (f table.Papers) (h table.Papers) (λ e has. tt); same = h table.Papers }
         | table.Halls ↦ record { rises = up table.Halls; forms = forms _ hall_tells (λ k x is. tt) _ _ _ (f table.Halls) (h table.Halls) (λ e has. tt); same = h table.Halls }
         | table.Openings ↦ record { rises = up table.Openings; forms = forms _ opening_tells (λ k x is. tt) _ _ _ (f table.Openings) (h table.Openings) (λ e has. tt); same = h table.Openings }
-        | table.Candidates ↦ record { rises = up table.Candidates; forms = forms _ candidate_tells (λ k x is. tt) _ _ _ (f table.Candidates) (h table.Candidates) (λ e has. tt); same = h table.Candidates }
+        | table.Candidates ↦ record {
+          rises = up table.Candidates;
+          forms =
+              forms _ candidate_tells (λ k x is. tt) _ _ _ (f table.Candidates) (h table.Candidates) (λ e has. tt);
+          same = h table.Candidates;
+        }
         | table.Entries ↦ record { rises = up table.Entries; forms = forms _ entry_tells (λ k x is. tt) _ _ _ (f table.Entries) (h table.Entries) (λ e has. tt); same = h table.Entries }
-        | table.Arrangements ↦ record { rises = up table.Arrangements; forms = forms _ arrangement_tells (λ k x is. tt) _ _ _ (f table.Arrangements) (h table.Arrangements) (λ e has. tt); same = h table.Arrangements }
+        | table.Arrangements ↦ record {
+          rises = up table.Arrangements;
+          forms =
+              forms _ arrangement_tells (λ k x is. tt) _ _ _ (f table.Arrangements) (h table.Arrangements) (λ e has. tt);
+          same = h table.Arrangements;
+        }
         | table.Appeals ↦ record {
           rises = up table.Appeals;
           forms =

@@ -177,7 +177,8 @@ module _ (before after : State) (c : Changes) (all : Trees) (turns : TurnsTables
   entries_put = only_puts entries c.entries.items w5 refl refl refl (put_whole c all entries.tree) (whole c all entries.tree) turns.entries (will.facts table.Entries)
 
   arrangements_put : Passes w6 (with_put arrangements c.arrangements.items) w7
-  arrangements_put = only_puts arrangements c.arrangements.items w6 refl refl refl (put_whole c all arrangements.tree) (whole c all arrangements.tree) turns.arrangements (will.facts table.Arrangements)
+  arrangements_put = only_puts arrangements c.arrangements.items w6 refl refl refl (put_whole c all arrangements.tree)
+      (whole c all arrangements.tree) turns.arrangements (will.facts table.Arrangements)
 
   appeals_put : Passes w7 (with_put appeals c.appeals.items) w8
   appeals_put = only_puts appeals c.appeals.items w7 refl refl refl (put_whole c all appeals.tree) (whole c all appeals.tree) turns.appeals (will.facts table.Appeals)

@@ -159,7 +159,9 @@ module _ (all : Trees) (office : State) (good : IsGood office) (rises : KeysRise
       (λ x h. by_code paper_row x.0.1 _ (λ e. refl) r.papers (and_parts _ _ (test_has _ r.entries x refer.2 h)).1)
 
   arrangement_candidate : LinkHolds all (link 12 (1 ∷ []) 7 (1 ∷ []))
-  arrangement_candidate = refer_by arrangement_row candidate_row r.arrangements r.candidates (all 12) (all 7) (held.facts table.Arrangements) (held.facts table.Candidates) (λ p c. agree plain (1 ∷ []) p (1 ∷ []) c)
+  arrangement_candidate =
+      refer_by arrangement_row candidate_row r.arrangements r.candidates (all 12) (all 7)
+      (held.facts table.Arrangements) (held.facts table.Candidates) (λ p c. agree plain (1 ∷ []) p (1 ∷ []) c)
       (λ x h. candidate_by x.0 _ (λ e. refl) r.candidates (test_has _ r.arrangements x refer.3 h))
 
   appeal_candidate : LinkHolds all (link 13 (1 ∷ []) 7 (1 ∷ []))

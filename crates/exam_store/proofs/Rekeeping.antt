@@ -39,7 +39,9 @@ use Rattle.exam_tables.proofs.SavedRows.{openings_named, seats_named, table_put,
 pub holds_after : (before after : State) (c : Changes) (all : Trees) → TurnsTables before after c → HoldsOffice all before → HoldsOffice (written (all_saved c) all) after
 holds_after before after c all turns was = record {
   facts = elim [
-    | table.Sessions ↦ subst (HoldsRows forms.sessions.row after.relations.sessions) (sym (whole c all forms.sessions.tree)) (table_put sessions_ours.keys _ _ _ _ turns.sessions (was.facts table.Sessions))
+    | table.Sessions ↦ subst (HoldsRows forms.sessions.row after.relations.sessions)
+        (sym (whole c all forms.sessions.tree))
+        (table_put sessions_ours.keys _ _ _ _ turns.sessions (was.facts table.Sessions))
     | table.Papers ↦ subst (HoldsRows forms.papers.row after.relations.papers) (sym (whole c all forms.papers.tree)) (table_put papers_ours.keys _ _ _ _ turns.papers (was.facts table.Papers))
     | table.Halls ↦ subst (HoldsRows forms.halls.row after.relations.halls) (sym (whole c all forms.halls.tree)) (table_put halls_ours.keys _ _ _ _ turns.halls (was.facts table.Halls))
     | table.Openings ↦ subst (HoldsRows forms.openings.row after.relations.openings) (sym (whole c all forms.openings.tree))
@@ -52,7 +54,9 @@ holds_after before after c all turns was = record {
         (sym (whole c all forms.arrangements.tree))
         (table_put arrangements_ours.keys _ _ _ _ turns.arrangements (was.facts table.Arrangements))
     | table.Appeals ↦ subst (HoldsRows forms.appeals.row after.relations.appeals) (sym (whole c all forms.appeals.tree)) (table_put appeals_ours.keys _ _ _ _ turns.appeals (was.facts table.Appeals))
-    | table.Standing ↦ subst (HoldsRows forms.standing.row after.relations.standing) (sym (whole c all forms.standing.tree)) (table_put standing_ours.keys _ _ _ _ turns.standing (was.facts table.Standing))
+    | table.Standing ↦ subst (HoldsRows forms.standing.row after.relations.standing)
+        (sym (whole c all forms.standing.tree))
+        (table_put standing_ours.keys _ _ _ _ turns.standing (was.facts table.Standing))
   ];
   seats = subst (HoldsRows forms.seats.row after.seats) (sym (whole c all forms.seats.tree)) (table_saved seats_ours.keys seats_named _ _ _ _ _ turns.seats was.seats);
 }

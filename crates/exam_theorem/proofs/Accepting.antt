@@ -46,11 +46,10 @@ not_none v db all good (inr (inr (inr (office, held, wrong)))) = wrong (subst (I
 
 -- other tables with the same rows hold the office in the forms of the columns too
 formed_again : (all more : Trees) (office : Office) → HoldsFormed all office → HoldsOffice more office → HoldsFormed more office
-formed_again all more office formed held =
-    (
-      λ t. record { rises = (formed.0 t).rises; forms = (formed.0 t).forms; same = held.facts t },
-      record { rises = formed.1.rises; forms = formed.1.forms; same = held.seats },
-    )
+formed_again all more office formed held = (
+  λ t. record { rises = (formed.0 t).rises; forms = (formed.0 t).forms; same = held.facts t },
+  record { rises = formed.1.rises; forms = formed.1.forms; same = held.seats },
+)
 
 -- no version was read
 pub version_failed : (old new : State) (None : Type 0) (e : Refusal) → IsAccepted old.now → ((v : ℕ) (all : Trees) → IsVersion v → HoldsGood v old.now all → None → ⊥)

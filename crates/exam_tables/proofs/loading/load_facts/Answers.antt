@@ -15,7 +15,9 @@ returns-in_err-sessions g c =
     let is : c.from_residual.result ≡ Err c.in_err-sessions.field-0.0 = search rules in
     let part = table_part sessions.cmp sessions in
     let first = by_queries g.S.Store c.args.conn.now c.load_rows.new.conn sessions.load sessions_ours.loads (Err c.in_err-sessions.field-0.0) part c.in_err-sessions.ensures in
-    rw is (not_loaded g.S.Store c.args.conn.now c.load_rows.new.conn part facts_part (λ all was. was) c.in_err-sessions.field-0.0 (λ clean all was none r held. none r.sessions (held table.Sessions)) first)
+    rw is (not_loaded g.S.Store c.args.conn.now c.load_rows.new.conn part facts_part
+    (λ all was. was) c.in_err-sessions.field-0.0
+    (λ clean all was none r held. none r.sessions (held table.Sessions)) first)
 
 pub returns-in_err-tables : goal.returns-in_err-tables
 returns-in_err-tables g c =
