@@ -15,6 +15,7 @@ use Rattle.sqlite.specs.declared.error.ErrorCode.TheVariants.{OutOfMemory}
 use Rattle.sqlite.specs.Effect.{Database}
 use Rattle.sqlite.specs.Held.{Held, state}
 use Rattle.sqlite.specs.State.{HasCleanDisk}
+use Rattle.exam_rules.specs.Tables as fact
 use Rattle.exam_types.specs.declared.refusal.Refusal.{Refusal}
 use Rattle.exam_types.specs.declared.refusal.Refusal.TheVariants.{NoMemory, Store, BadStore}
 use Rattle.exam_commands.specs.Good.{IsGood, IsTableGood, tables}
@@ -63,17 +64,17 @@ good_office all o (sessions, (papers, (halls, (openings, (candidates, (entries, 
     let entry = and_parts _ _ entries.1 in
     let appeal = and_parts _ _ appeals.1.0 in (
       (
-        record {
-          sessions = sessions.0;
-          papers = papers.0;
-          halls = halls.0;
-          openings = openings.0;
-          candidates = candidates.0;
-          entries = entries.0;
-          arrangements = arrangements.0;
-          appeals = appeals.0;
-          standing = standing.0;
-        },
+        elim [
+          | fact.Sessions ↦ sessions.0
+          | fact.Papers ↦ papers.0
+          | fact.Halls ↦ halls.0
+          | fact.Openings ↦ openings.0
+          | fact.Candidates ↦ candidates.0
+          | fact.Entries ↦ entries.0
+          | fact.Arrangements ↦ arrangements.0
+          | fact.Appeals ↦ appeals.0
+          | fact.Standing ↦ standing.0
+        ],
         seats.0,
       ),
       record {
@@ -98,23 +99,23 @@ office_good all o (facts, seats) good =
     let limit_4 = and_parts _ _ limit_3.1 in
     let limit_5 = and_parts _ _ limit_4.1 in
     let limit_6 = and_parts _ _ limit_5.1 in (
-      (facts.sessions, limit_1.0),
+      (facts fact.Sessions, limit_1.0),
       (
-        (facts.papers, both_true limit_2.0 refer_1.0),
+        (facts fact.Papers, both_true limit_2.0 refer_1.0),
         (
-          (facts.halls, limit_3.0),
+          (facts fact.Halls, limit_3.0),
           (
-            (facts.openings, both_true limit_4.0 refer_2.0),
+            (facts fact.Openings, both_true limit_4.0 refer_2.0),
             (
-              (facts.candidates, limit_5.0),
+              (facts fact.Candidates, limit_5.0),
               (
-                (facts.entries, both_true limit_6.0 refer_3.0),
+                (facts fact.Entries, both_true limit_6.0 refer_3.0),
                 (
-                  (facts.arrangements, refer_4.0),
+                  (facts fact.Arrangements, refer_4.0),
                   (
-                    (facts.appeals, (both_true limit_6.1 refer_4.1, good.single)),
+                    (facts fact.Appeals, (both_true limit_6.1 refer_4.1, good.single)),
                     (
-                      (facts.standing, good.marks),
+                      (facts fact.Standing, good.marks),
                       ((seats, good.best), tt),
                     ),
                   ),

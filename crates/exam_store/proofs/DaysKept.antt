@@ -13,6 +13,7 @@ use Rattle.exam_rules.specs.declared.rows.Appeal.{Appeal}
 use Rattle.exam_rules.specs.declared.rows.Session.{Session}
 use Rattle.exam_rules.specs.declared.rows.Subject.{Subject}
 use Rattle.exam_rules.specs.Relations.{Code, Relations, appeal_cmp, code_cmp, entry_cmp, has_row, put_row}
+use Rattle.exam_rules.specs.Tables as table
 use Rattle.exam_commands.specs.declared.command.Command.{Command}
 use Rattle.exam_commands.specs.declared.command.Command.TheVariants as command
 use Rattle.exam_commands.specs.declared.command.Decision.{Decision}
@@ -53,7 +54,12 @@ appeals_dated [] forms = All-nil OfAppeal
 appeals_dated (e ∷ es) forms = All-cons OfAppeal e.1 (values_of es) forms.0.6 (appeals_dated es forms.1)
 
 pub formed_days : (all : Trees) (office : State) → HoldsFormed all office → HasDays office.relations
-formed_days all office formed = record { sessions = sessions_dated office.relations.sessions formed.0.sessions.forms; appeals = appeals_dated office.relations.appeals formed.0.appeals.forms }
+formed_days all office formed =
+    record {
+      sessions = sessions_dated office.relations.sessions (formed.0 table.Sessions).forms;
+      appeals =
+          appeals_dated office.relations.appeals (formed.0 table.Appeals).forms;
+    }
 
 -- ---- the change of a command
 

@@ -52,28 +52,38 @@ same_office all found office formed held order days =
     let h = held.facts in
     let up = order.tables in
     one_office all found office formed (
-      record {
-        sessions = record {
+      elim [
+        | table.Sessions ↦ record {
           rises = up table.Sessions;
           forms =
-              forms _ session_tells (λ k x is. session_day _ is.1) _ _ _ f.sessions h.sessions
+              forms _ session_tells (λ k x is. session_day _ is.1) _ _ _ (f table.Sessions) (h table.Sessions)
               (each_value (λ x. IsDay x.day) office.relations.sessions days.sessions);
-          same = h.sessions;
-        };
-        papers = record { rises = up table.Papers; forms = forms _ paper_tells (λ k x is. tt) _ _ _ f.papers h.papers (λ e has. tt); same = h.papers };
-        halls = record { rises = up table.Halls; forms = forms _ hall_tells (λ k x is. tt) _ _ _ f.halls h.halls (λ e has. tt); same = h.halls };
-        openings = record { rises = up table.Openings; forms = forms _ opening_tells (λ k x is. tt) _ _ _ f.openings h.openings (λ e has. tt); same = h.openings };
-        candidates = record { rises = up table.Candidates; forms = forms _ candidate_tells (λ k x is. tt) _ _ _ f.candidates h.candidates (λ e has. tt); same = h.candidates };
-        entries = record { rises = up table.Entries; forms = forms _ entry_tells (λ k x is. tt) _ _ _ f.entries h.entries (λ e has. tt); same = h.entries };
-        arrangements = record { rises = up table.Arrangements; forms = forms _ arrangement_tells (λ k x is. tt) _ _ _ f.arrangements h.arrangements (λ e has. tt); same = h.arrangements };
-        appeals = record {
+          same = h table.Sessions;
+        }
+        | table.Papers ↦ record { rises = up table.Papers; forms = forms _ paper_tells (λ k x is. tt) _ _ _ (f table.Papers) (h table.Papers) (λ e has. tt); same = h table.Papers }
+        | table.Halls ↦ record { rises = up table.Halls; forms = forms _ hall_tells (λ k x is. tt) _ _ _ (f table.Halls) (h table.Halls) (λ e has. tt); same = h table.Halls }
+        | table.Openings ↦ record { rises = up table.Openings; forms = forms _ opening_tells (λ k x is. tt) _ _ _ (f table.Openings) (h table.Openings) (λ e has. tt); same = h table.Openings }
+        | table.Candidates ↦ record {
+          rises = up table.Candidates;
+          forms =
+              forms _ candidate_tells (λ k x is. tt) _ _ _ (f table.Candidates) (h table.Candidates) (λ e has. tt);
+          same = h table.Candidates;
+        }
+        | table.Entries ↦ record { rises = up table.Entries; forms = forms _ entry_tells (λ k x is. tt) _ _ _ (f table.Entries) (h table.Entries) (λ e has. tt); same = h table.Entries }
+        | table.Arrangements ↦ record {
+          rises = up table.Arrangements;
+          forms =
+              forms _ arrangement_tells (λ k x is. tt) _ _ _ (f table.Arrangements) (h table.Arrangements) (λ e has. tt);
+          same = h table.Arrangements;
+        }
+        | table.Appeals ↦ record {
           rises = up table.Appeals;
           forms =
-              forms _ appeal_tells (λ k a is. is.6) _ _ _ f.appeals h.appeals
+              forms _ appeal_tells (λ k a is. is.6) _ _ _ (f table.Appeals) (h table.Appeals)
               (each_value (λ a. IsDay a.lodged) office.relations.appeals days.appeals);
-          same = h.appeals;
-        };
-        standing = record { rises = up table.Standing; forms = forms _ standing_tells (λ k x is. tt) _ _ _ f.standing h.standing (λ e has. tt); same = h.standing };
-      },
+          same = h table.Appeals;
+        }
+        | table.Standing ↦ record { rises = up table.Standing; forms = forms _ standing_tells (λ k x is. tt) _ _ _ (f table.Standing) (h table.Standing) (λ e has. tt); same = h table.Standing }
+      ],
       record { rises = order.seats; forms = forms _ seat_tells (λ k x is. tt) _ _ _ formed.1 held.seats (λ e has. tt); same = held.seats },
     )

@@ -19,6 +19,7 @@ use Rattle.exam_sql.proofs.KeptReferences.{Along, Goes, goes_both, puts_part, de
 use Rattle.exam_sql.proofs.KeptReferences.{all_refer_at, left_was}
 use Rattle.exam_rules.specs.Orders.{KeysRise}
 use Rattle.exam_rules.specs.Relations.{seat_cmp}
+use Rattle.exam_rules.specs.Tables as table
 use Rattle.exam_commands.specs.Good.{IsGood}
 use Rattle.exam_commands.specs.State.{State}
 use Rattle.exam_tables.specs.declared.writing.Changes.{Changes}
@@ -156,33 +157,34 @@ module _ (before after : State) (c : Changes) (all : Trees) (turns : TurnsTables
   seats_end = whole c all seats.tree ∙ ap (delete_all seats.places (keys_deleted seat_key c.seats.delete.items)) (sym (put_whole c all seats.tree))
 
   sessions_put : Passes w0 (with_put sessions c.sessions.items) w1
-  sessions_put = only_puts sessions c.sessions.items w0 refl refl refl (put_whole c all sessions.tree) (whole c all sessions.tree) turns.sessions will.facts.sessions
+  sessions_put = only_puts sessions c.sessions.items w0 refl refl refl (put_whole c all sessions.tree) (whole c all sessions.tree) turns.sessions (will.facts table.Sessions)
 
   papers_put : Passes w1 (with_put papers c.papers.items) w2
-  papers_put = only_puts papers c.papers.items w1 refl refl refl (put_whole c all papers.tree) (whole c all papers.tree) turns.papers will.facts.papers
+  papers_put = only_puts papers c.papers.items w1 refl refl refl (put_whole c all papers.tree) (whole c all papers.tree) turns.papers (will.facts table.Papers)
 
   halls_put : Passes w2 (with_put halls c.halls.items) w3
-  halls_put = only_puts halls c.halls.items w2 refl refl refl (put_whole c all halls.tree) (whole c all halls.tree) turns.halls will.facts.halls
+  halls_put = only_puts halls c.halls.items w2 refl refl refl (put_whole c all halls.tree) (whole c all halls.tree) turns.halls (will.facts table.Halls)
 
   openings_put : Passes w3 (with_put openings c.openings.put.items) w4
   openings_put = puts openings c.openings.put.items w3 refl refl refl (put_whole c all openings.tree)
       (λ r h. left_was openings.places (keys_deleted opening_key c.openings.delete.items) (mid openings.tree) r
-      (subst (λ l. Has l r) openings_end h)) turns.openings will.facts.openings
+      (subst (λ l. Has l r) openings_end h)) turns.openings (will.facts table.Openings)
 
   candidates_put : Passes w4 (with_put candidates c.candidates.items) w5
-  candidates_put = only_puts candidates c.candidates.items w4 refl refl refl (put_whole c all candidates.tree) (whole c all candidates.tree) turns.candidates will.facts.candidates
+  candidates_put = only_puts candidates c.candidates.items w4 refl refl refl (put_whole c all candidates.tree) (whole c all candidates.tree) turns.candidates (will.facts table.Candidates)
 
   entries_put : Passes w5 (with_put entries c.entries.items) w6
-  entries_put = only_puts entries c.entries.items w5 refl refl refl (put_whole c all entries.tree) (whole c all entries.tree) turns.entries will.facts.entries
+  entries_put = only_puts entries c.entries.items w5 refl refl refl (put_whole c all entries.tree) (whole c all entries.tree) turns.entries (will.facts table.Entries)
 
   arrangements_put : Passes w6 (with_put arrangements c.arrangements.items) w7
-  arrangements_put = only_puts arrangements c.arrangements.items w6 refl refl refl (put_whole c all arrangements.tree) (whole c all arrangements.tree) turns.arrangements will.facts.arrangements
+  arrangements_put = only_puts arrangements c.arrangements.items w6 refl refl refl (put_whole c all arrangements.tree)
+      (whole c all arrangements.tree) turns.arrangements (will.facts table.Arrangements)
 
   appeals_put : Passes w7 (with_put appeals c.appeals.items) w8
-  appeals_put = only_puts appeals c.appeals.items w7 refl refl refl (put_whole c all appeals.tree) (whole c all appeals.tree) turns.appeals will.facts.appeals
+  appeals_put = only_puts appeals c.appeals.items w7 refl refl refl (put_whole c all appeals.tree) (whole c all appeals.tree) turns.appeals (will.facts table.Appeals)
 
   standing_put : Passes w8 (with_put standing c.standing.items) w9
-  standing_put = only_puts standing c.standing.items w8 refl refl refl (put_whole c all standing.tree) (whole c all standing.tree) turns.standing will.facts.standing
+  standing_put = only_puts standing c.standing.items w8 refl refl refl (put_whole c all standing.tree) (whole c all standing.tree) turns.standing (will.facts table.Standing)
 
   seats_put : Passes w9 (with_put seats c.seats.put.items) w10
   seats_put = puts seats c.seats.put.items w9 refl refl refl (put_whole c all seats.tree)

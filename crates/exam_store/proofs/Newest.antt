@@ -5,6 +5,7 @@ use Rattle.std.proofs.lemmas.Bool.{both_ways, cases_eq}
 use Rattle.sqlite_trees.specs.Tree.{Trees}
 use Rattle.sqlite.specs.Effect.{Database}
 use Rattle.sqlite.specs.State.{State, HasCleanDisk, IsUnchanged, Survives}
+use Rattle.exam_rules.specs.Tables as table
 use Rattle.exam_types.specs.declared.refusal.Refusal.{Refusal}
 use Rattle.exam_sql.specs.Made.{ContainsMade}
 use Rattle.exam_sql.proofs.Keys.{equal_itself}
@@ -23,17 +24,7 @@ renewed v all has = rw (has, both_true (equal_itself (pos 1)) refl) refl
 
 holds_with : (all : Trees) (office : Office) → HoldsOffice all office → HoldsOffice (with_version all) office
 holds_with all office held = record {
-  facts = record {
-    sessions = held.facts.sessions;
-    papers = held.facts.papers;
-    halls = held.facts.halls;
-    candidates = held.facts.candidates;
-    openings = held.facts.openings;
-    entries = held.facts.entries;
-    arrangements = held.facts.arrangements;
-    appeals = held.facts.appeals;
-    standing = held.facts.standing;
-  };
+  facts = elim [ table.Sessions ↦ held.facts table.Sessions | t ↦ held.facts t ];
   seats = held.seats;
 }
 

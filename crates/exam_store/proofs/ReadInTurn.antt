@@ -15,6 +15,7 @@ use Rattle.exam_types.specs.declared.refusal.Refusal.{Refusal}
 use Rattle.exam_types.specs.declared.refusal.Refusal.TheVariants as refusal
 use Rattle.exam_rules.specs.Orders.{KeysRise}
 use Rattle.exam_rules.specs.Relations.{Code, appeal_cmp, same_code}
+use Rattle.exam_rules.specs.Tables as table
 use Rattle.exam_commands.specs.State.{State as Office}
 use Rattle.exam_views.specs.declared.view.AppealRow.{AppealRow}
 use Rattle.exam_views.specs.Sources.{Gives, is_source_refusal}
@@ -52,7 +53,7 @@ fails_to_read g office old new it rises has refusal.Store told fails =
 fails_to_read g office old new it rises has refusal.BadStore told fails = (
   refl,
   λ clean keeps. let why = fails clean in let was = subst (λ (db : Database). Keeps db office) ((why.same refl).0.now_is) keeps in
-      why.none refl office.relations.appeals (record { all = was.all; contains = was.contains; rises = rises; same = was.held.facts.appeals }) has,
+      why.none refl office.relations.appeals (record { all = was.all; contains = was.contains; rises = rises; same = (was.held.facts table.Appeals) }) has,
 )
 fails_to_read g office old new it rises has other told fails = absurd cc
 

@@ -35,6 +35,7 @@ use Rattle.exam_rules.specs.declared.rows.Appeal.{Appeal}
 use Rattle.exam_rules.specs.declared.rows.Hall.{Hall}
 use Rattle.exam_rules.specs.declared.rows.Opening.{Opening}
 use Rattle.exam_rules.specs.declared.rows.Candidate.{Candidate}
+use Rattle.exam_rules.specs.Tables as table
 use Rattle.exam_commands.specs.Good.{IsGood, papers_refer, openings_refer, entries_refer, arrangements_refer, appeals_refer, may_bear}
 use Rattle.exam_commands.specs.State.{State}
 use Rattle.exam_commands.proofs.Members.{kept_from}
@@ -138,39 +139,41 @@ module _ (all : Trees) (office : State) (good : IsGood office) (rises : KeysRise
       (papers.0, openings.0, entries.0, others.0, others.1)
 
   paper_session : LinkHolds all (link 3 (3 ∷ []) 1 (1 ∷ []))
-  paper_session = refer_by paper_row session_row r.papers r.sessions (all 3) (all 1) held.facts.papers held.facts.sessions (λ p c. agree plain (1 ∷ []) p (3 ∷ []) c)
+  paper_session = refer_by paper_row session_row r.papers r.sessions (all 3) (all 1) (held.facts table.Papers) (held.facts table.Sessions) (λ p c. agree plain (1 ∷ []) p (3 ∷ []) c)
       (λ x h. by_code session_row x.1.session _ (λ e. refl) r.sessions (test_has _ r.papers x refer.0 h))
 
   opening_session : LinkHolds all (link 8 (1 ∷ []) 1 (1 ∷ []))
-  opening_session = refer_by opening_row session_row r.openings r.sessions (all 8) (all 1) held.facts.openings held.facts.sessions (λ p c. agree plain (1 ∷ []) p (1 ∷ []) c)
+  opening_session = refer_by opening_row session_row r.openings r.sessions (all 8) (all 1) (held.facts table.Openings) (held.facts table.Sessions) (λ p c. agree plain (1 ∷ []) p (1 ∷ []) c)
       (λ x h. by_code session_row x.0.0 _ (λ e. refl) r.sessions (and_parts _ _ (test_has _ r.openings x refer.1 h)).0)
 
   opening_hall : LinkHolds all (link 8 (2 ∷ []) 5 (1 ∷ []))
-  opening_hall = refer_by opening_row hall_row r.openings r.halls (all 8) (all 5) held.facts.openings held.facts.halls (λ p c. agree plain (1 ∷ []) p (2 ∷ []) c)
+  opening_hall = refer_by opening_row hall_row r.openings r.halls (all 8) (all 5) (held.facts table.Openings) (held.facts table.Halls) (λ p c. agree plain (1 ∷ []) p (2 ∷ []) c)
       (λ x h. by_code hall_row x.0.1 _ (λ e. refl) r.halls (and_parts _ _ (test_has _ r.openings x refer.1 h)).1)
 
   entry_candidate : LinkHolds all (link 10 (1 ∷ []) 7 (1 ∷ []))
-  entry_candidate = refer_by entry_row candidate_row r.entries r.candidates (all 10) (all 7) held.facts.entries held.facts.candidates (λ p c. agree plain (1 ∷ []) p (1 ∷ []) c)
+  entry_candidate = refer_by entry_row candidate_row r.entries r.candidates (all 10) (all 7) (held.facts table.Entries) (held.facts table.Candidates) (λ p c. agree plain (1 ∷ []) p (1 ∷ []) c)
       (λ x h. candidate_by x.0.0 _ (λ e. refl) r.candidates (and_parts _ _ (test_has _ r.entries x refer.2 h)).0)
 
   entry_paper : LinkHolds all (link 10 (2 ∷ []) 3 (1 ∷ []))
-  entry_paper = refer_by entry_row paper_row r.entries r.papers (all 10) (all 3) held.facts.entries held.facts.papers (λ p c. agree plain (1 ∷ []) p (2 ∷ []) c)
+  entry_paper = refer_by entry_row paper_row r.entries r.papers (all 10) (all 3) (held.facts table.Entries) (held.facts table.Papers) (λ p c. agree plain (1 ∷ []) p (2 ∷ []) c)
       (λ x h. by_code paper_row x.0.1 _ (λ e. refl) r.papers (and_parts _ _ (test_has _ r.entries x refer.2 h)).1)
 
   arrangement_candidate : LinkHolds all (link 12 (1 ∷ []) 7 (1 ∷ []))
-  arrangement_candidate = refer_by arrangement_row candidate_row r.arrangements r.candidates (all 12) (all 7) held.facts.arrangements held.facts.candidates (λ p c. agree plain (1 ∷ []) p (1 ∷ []) c)
+  arrangement_candidate =
+      refer_by arrangement_row candidate_row r.arrangements r.candidates (all 12) (all 7)
+      (held.facts table.Arrangements) (held.facts table.Candidates) (λ p c. agree plain (1 ∷ []) p (1 ∷ []) c)
       (λ x h. candidate_by x.0 _ (λ e. refl) r.candidates (test_has _ r.arrangements x refer.3 h))
 
   appeal_candidate : LinkHolds all (link 13 (1 ∷ []) 7 (1 ∷ []))
-  appeal_candidate = refer_by appeal_row candidate_row r.appeals r.candidates (all 13) (all 7) held.facts.appeals held.facts.candidates (λ p c. agree plain (1 ∷ []) p (1 ∷ []) c)
+  appeal_candidate = refer_by appeal_row candidate_row r.appeals r.candidates (all 13) (all 7) (held.facts table.Appeals) (held.facts table.Candidates) (λ p c. agree plain (1 ∷ []) p (1 ∷ []) c)
       (λ x h. candidate_by x.0.0 _ (λ e. refl) r.candidates (and_parts _ _ (test_has _ r.appeals x refer.4 h)).0)
 
   appeal_session : LinkHolds all (link 13 (3 ∷ []) 1 (1 ∷ []))
-  appeal_session = refer_by appeal_row session_row r.appeals r.sessions (all 13) (all 1) held.facts.appeals held.facts.sessions (λ p c. agree plain (1 ∷ []) p (3 ∷ []) c)
+  appeal_session = refer_by appeal_row session_row r.appeals r.sessions (all 13) (all 1) (held.facts table.Appeals) (held.facts table.Sessions) (λ p c. agree plain (1 ∷ []) p (3 ∷ []) c)
       (λ x h. by_code session_row x.1.session _ (λ e. refl) r.sessions (and_parts _ _ (and_parts _ _ (test_has _ r.appeals x refer.4 h)).1).0)
 
   standing_appeal : LinkHolds all (link 17 (1 ∷ 2 ∷ []) 13 (1 ∷ 2 ∷ []))
-  standing_appeal = refer_by standing_row appeal_row r.standing r.appeals (all 17) (all 13) held.facts.standing held.facts.appeals (λ p c. agree plain (1 ∷ 2 ∷ []) p (1 ∷ 2 ∷ []) c)
+  standing_appeal = refer_by standing_row appeal_row r.standing r.appeals (all 17) (all 13) (held.facts table.Standing) (held.facts table.Appeals) (λ p c. agree plain (1 ∷ 2 ∷ []) p (1 ∷ 2 ∷ []) c)
       (λ x h. appeal_by x.0 _ (λ e. refl) r.appeals (borne (row_at appeal_cmp r.appeals x.0) (test_has _ r.standing x good.marks h)))
 
   -- a seat is where its candidate sits
@@ -188,14 +191,14 @@ module _ (all : Trees) (office : State) (good : IsGood office) (rises : KeysRise
       opened (sitting_terms r x.0.0 x.0.1) (row_at code_cmp r.halls x.1) (row_at opening_cmp r.openings (x.0.0, x.1)) (and_parts _ _ (and_parts _ _ fitting).1).0
 
   seat_candidate : LinkHolds all (link 15 (2 ∷ []) 7 (1 ∷ []))
-  seat_candidate = refer_by seat_row candidate_row office.seats r.candidates (all 15) (all 7) held.seats held.facts.candidates (λ p c. agree plain (1 ∷ []) p (2 ∷ []) c)
+  seat_candidate = refer_by seat_row candidate_row office.seats r.candidates (all 15) (all 7) held.seats (held.facts table.Candidates) (λ p c. agree plain (1 ∷ []) p (2 ∷ []) c)
       (λ x h.
       let e = has_mapped (λ (e : ℕ × Candidate). e.0) r.candidates x.0.1 (seated x h) in
       some_from _ _ (Null ∷ candidate_row e.0.0 e.0.1) (mapped_has (λ (e : ℕ × Candidate). Null ∷ candidate_row e.0 e.1) r.candidates e.0 e.1)
       (subst (λ m. (equal (first_key plain).collation (whole m) (whole x.0.1) && true) ≡ true) e.2 (both_true (equal_itself (pos x.0.1)) refl)))
 
   seat_opening : LinkHolds all (link 15 (1 ∷ 3 ∷ []) 8 (1 ∷ 2 ∷ []))
-  seat_opening = refer_by seat_row opening_row office.seats r.openings (all 15) (all 8) held.seats held.facts.openings (λ p c. agree plain (1 ∷ 2 ∷ []) p (1 ∷ 3 ∷ []) c)
+  seat_opening = refer_by seat_row opening_row office.seats r.openings (all 15) (all 8) held.seats (held.facts table.Openings) (λ p c. agree plain (1 ∷ 2 ∷ []) p (1 ∷ 3 ∷ []) c)
       (λ x h. opening_by (x.0.0, x.1) _ (λ e. refl) r.openings (sits_opened x h))
 
   pub all_refer : AllRefer all

@@ -24,6 +24,7 @@ use Rattle.exam_store.specs.Parts.{office_part}
 use Rattle.exam_store.proofs.Marking.{known_marks, made_of, of_newest, one_version}
 use Rattle.exam_sql.specs.Made.{ContainsMade, lists_tables}
 use Rattle.exam_sql.proofs.Listed.{newest_listed}
+use Rattle.exam_rules.specs.Tables as table
 use Rattle.exam_tables.proofs.Holding.{held_facts}
 use Rattle.exam_tables.specs.Forms as forms
 use Rattle.exam_tables.specs.Writes.{all_saved}
@@ -37,22 +38,26 @@ use Rattle.exam_tables.proofs.SavedRows.{openings_named, seats_named, table_put,
 -- the rows of each table are those of the new office
 pub holds_after : (before after : State) (c : Changes) (all : Trees) → TurnsTables before after c → HoldsOffice all before → HoldsOffice (written (all_saved c) all) after
 holds_after before after c all turns was = record {
-  facts = record {
-    sessions = subst (HoldsRows forms.sessions.row after.relations.sessions) (sym (whole c all forms.sessions.tree)) (table_put sessions_ours.keys _ _ _ _ turns.sessions was.facts.sessions);
-    papers = subst (HoldsRows forms.papers.row after.relations.papers) (sym (whole c all forms.papers.tree)) (table_put papers_ours.keys _ _ _ _ turns.papers was.facts.papers);
-    halls = subst (HoldsRows forms.halls.row after.relations.halls) (sym (whole c all forms.halls.tree)) (table_put halls_ours.keys _ _ _ _ turns.halls was.facts.halls);
-    openings = subst (HoldsRows forms.openings.row after.relations.openings) (sym (whole c all forms.openings.tree))
-        (table_saved openings_ours.keys openings_named _ _ _ _ _ turns.openings was.facts.openings);
-    candidates = subst (HoldsRows forms.candidates.row after.relations.candidates)
+  facts = elim [
+    | table.Sessions ↦ subst (HoldsRows forms.sessions.row after.relations.sessions)
+        (sym (whole c all forms.sessions.tree))
+        (table_put sessions_ours.keys _ _ _ _ turns.sessions (was.facts table.Sessions))
+    | table.Papers ↦ subst (HoldsRows forms.papers.row after.relations.papers) (sym (whole c all forms.papers.tree)) (table_put papers_ours.keys _ _ _ _ turns.papers (was.facts table.Papers))
+    | table.Halls ↦ subst (HoldsRows forms.halls.row after.relations.halls) (sym (whole c all forms.halls.tree)) (table_put halls_ours.keys _ _ _ _ turns.halls (was.facts table.Halls))
+    | table.Openings ↦ subst (HoldsRows forms.openings.row after.relations.openings) (sym (whole c all forms.openings.tree))
+        (table_saved openings_ours.keys openings_named _ _ _ _ _ turns.openings (was.facts table.Openings))
+    | table.Candidates ↦ subst (HoldsRows forms.candidates.row after.relations.candidates)
         (sym (whole c all forms.candidates.tree))
-        (table_put candidates_ours.keys _ _ _ _ turns.candidates was.facts.candidates);
-    entries = subst (HoldsRows forms.entries.row after.relations.entries) (sym (whole c all forms.entries.tree)) (table_put entries_ours.keys _ _ _ _ turns.entries was.facts.entries);
-    arrangements = subst (HoldsRows forms.arrangements.row after.relations.arrangements)
+        (table_put candidates_ours.keys _ _ _ _ turns.candidates (was.facts table.Candidates))
+    | table.Entries ↦ subst (HoldsRows forms.entries.row after.relations.entries) (sym (whole c all forms.entries.tree)) (table_put entries_ours.keys _ _ _ _ turns.entries (was.facts table.Entries))
+    | table.Arrangements ↦ subst (HoldsRows forms.arrangements.row after.relations.arrangements)
         (sym (whole c all forms.arrangements.tree))
-        (table_put arrangements_ours.keys _ _ _ _ turns.arrangements was.facts.arrangements);
-    appeals = subst (HoldsRows forms.appeals.row after.relations.appeals) (sym (whole c all forms.appeals.tree)) (table_put appeals_ours.keys _ _ _ _ turns.appeals was.facts.appeals);
-    standing = subst (HoldsRows forms.standing.row after.relations.standing) (sym (whole c all forms.standing.tree)) (table_put standing_ours.keys _ _ _ _ turns.standing was.facts.standing);
-  };
+        (table_put arrangements_ours.keys _ _ _ _ turns.arrangements (was.facts table.Arrangements))
+    | table.Appeals ↦ subst (HoldsRows forms.appeals.row after.relations.appeals) (sym (whole c all forms.appeals.tree)) (table_put appeals_ours.keys _ _ _ _ turns.appeals (was.facts table.Appeals))
+    | table.Standing ↦ subst (HoldsRows forms.standing.row after.relations.standing)
+        (sym (whole c all forms.standing.tree))
+        (table_put standing_ours.keys _ _ _ _ turns.standing (was.facts table.Standing))
+  ];
   seats = subst (HoldsRows forms.seats.row after.seats) (sym (whole c all forms.seats.tree)) (table_saved seats_ours.keys seats_named _ _ _ _ _ turns.seats was.seats);
 }
 
@@ -73,19 +78,7 @@ keeps_empty db made =
       contains = made;
       version = refl;
       held = record {
-        facts =
-            record {
-              sessions = none;
-              papers = none;
-              halls = none;
-              candidates = none;
-              openings = none;
-              entries =
-                  none;
-              arrangements = none;
-              appeals = none;
-              standing = none;
-            };
+        facts = elim [ table.Sessions ↦ none | _ ↦ none ];
         seats = none;
       };
     }

@@ -7,6 +7,7 @@ use Rattle.sqlite_value.specs.Order.{Row}
 use Rattle.sqlite_trees.specs.Tree.{Trees}
 use Rattle.sqlite_schema.specs.declared.schema.Table.{Table}
 use Rattle.sqlite.specs.Effect.{Database}
+use Rattle.exam_rules.specs.Tables as table
 use Rattle.exam_sql.specs.Content.{Holds, places}
 use Rattle.exam_sql.specs.Tables as tables
 use Rattle.exam_sql.specs.Tables.{store_schema}
@@ -53,11 +54,11 @@ module _ (here there : Database) (office : State) (one : Keeps here office) (oth
       let x = one.held.facts in
       let y = other.held.facts in
       each_table (λ t. IsPermutation (one.all t.tree) (other.all t.tree))
-      (rw (one.version, other.version) (IsPermutation-refl _)) (both _ _ _ x.sessions y.sessions)
-      (both _ _ _ x.papers y.papers) (both _ _ _ x.halls y.halls) (both _ _ _ x.candidates y.candidates)
-      (both _ _ _ x.openings y.openings) (both _ _ _ x.entries y.entries) (both _ _ _ x.arrangements y.arrangements)
-      (both _ _ _ x.appeals y.appeals) (both _ _ _ one.held.seats other.held.seats)
-      (both _ _ _ x.standing y.standing)
+      (rw (one.version, other.version) (IsPermutation-refl _)) (both _ _ _ (x table.Sessions) (y table.Sessions))
+      (both _ _ _ (x table.Papers) (y table.Papers)) (both _ _ _ (x table.Halls) (y table.Halls)) (both _ _ _ (x table.Candidates) (y table.Candidates))
+      (both _ _ _ (x table.Openings) (y table.Openings)) (both _ _ _ (x table.Entries) (y table.Entries)) (both _ _ _ (x table.Arrangements) (y table.Arrangements))
+      (both _ _ _ (x table.Appeals) (y table.Appeals)) (both _ _ _ one.held.seats other.held.seats)
+      (both _ _ _ (x table.Standing) (y table.Standing))
 
   over : (all : Trees) → Contains here all → Contains there all
   over all meant = record {

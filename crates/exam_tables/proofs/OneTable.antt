@@ -23,6 +23,7 @@ use Rattle.exam_rules.specs.declared.rows.Subject.{Subject}
 use Rattle.exam_rules.specs.declared.rows.Subject.TheVariants as subject
 use Rattle.exam_rules.specs.declared.rows.Status.{Status}
 use Rattle.exam_rules.specs.declared.rows.Status.TheVariants as status
+use Rattle.exam_rules.specs.Tables as table
 use Rattle.exam_tables.specs.Held.{HoldsRelations, HoldsSeats}
 use Rattle.exam_tables.specs.Loaded.{HoldsTable}
 use Rattle.exam_tables.specs.Rows.{session_row, paper_row, hall_row, candidate_row, opening_row, entry_row, arrangement_row, appeal_row, standing_row, seat_row}
@@ -266,15 +267,15 @@ numbers_mirrored = nat_cmp_total.antisymm
 
 pub one_facts : (all : Trees) (r s : Relations) → HoldsRelations all r → HoldsRelations all s → r ≡ s
 one_facts all r s x y =
-    let sessions = one_table codes_mirrored (λ a b x y. session_tells a b (session_day _ x.1) (session_day _ y.1)) (all 1) _ _ x.sessions y.sessions in
-    let papers = one_table codes_mirrored (λ a b x y. paper_tells a b tt tt) (all 3) _ _ x.papers y.papers in
-    let halls = one_table codes_mirrored (λ a b x y. hall_tells a b tt tt) (all 5) _ _ x.halls y.halls in
-    let openings = one_table (pairs_mirrored codes_mirrored codes_mirrored) (λ a b x y. opening_tells a b tt tt) (all 8) _ _ x.openings y.openings in
-    let candidates = one_table numbers_mirrored (λ a b x y. candidate_tells a b tt tt) (all 7) _ _ x.candidates y.candidates in
-    let entries = one_table (pairs_mirrored numbers_mirrored codes_mirrored) (λ a b x y. entry_tells a b tt tt) (all 10) _ _ x.entries y.entries in
-    let arrangements = one_table numbers_mirrored (λ a b x y. arrangement_tells a b tt tt) (all 12) _ _ x.arrangements y.arrangements in
-    let appeals = one_table (pairs_mirrored numbers_mirrored codes_mirrored) (λ a b x y. appeal_tells a b x.6 y.6) (all 13) _ _ x.appeals y.appeals in
-    let standing = one_table (pairs_mirrored numbers_mirrored codes_mirrored) (λ a b x y. standing_tells a b tt tt) (all 17) _ _ x.standing y.standing in
+    let sessions = one_table codes_mirrored (λ a b x y. session_tells a b (session_day _ x.1) (session_day _ y.1)) (all 1) _ _ (x table.Sessions) (y table.Sessions) in
+    let papers = one_table codes_mirrored (λ a b x y. paper_tells a b tt tt) (all 3) _ _ (x table.Papers) (y table.Papers) in
+    let halls = one_table codes_mirrored (λ a b x y. hall_tells a b tt tt) (all 5) _ _ (x table.Halls) (y table.Halls) in
+    let openings = one_table (pairs_mirrored codes_mirrored codes_mirrored) (λ a b x y. opening_tells a b tt tt) (all 8) _ _ (x table.Openings) (y table.Openings) in
+    let candidates = one_table numbers_mirrored (λ a b x y. candidate_tells a b tt tt) (all 7) _ _ (x table.Candidates) (y table.Candidates) in
+    let entries = one_table (pairs_mirrored numbers_mirrored codes_mirrored) (λ a b x y. entry_tells a b tt tt) (all 10) _ _ (x table.Entries) (y table.Entries) in
+    let arrangements = one_table numbers_mirrored (λ a b x y. arrangement_tells a b tt tt) (all 12) _ _ (x table.Arrangements) (y table.Arrangements) in
+    let appeals = one_table (pairs_mirrored numbers_mirrored codes_mirrored) (λ a b x y. appeal_tells a b x.6 y.6) (all 13) _ _ (x table.Appeals) (y table.Appeals) in
+    let standing = one_table (pairs_mirrored numbers_mirrored codes_mirrored) (λ a b x y. standing_tells a b tt tt) (all 17) _ _ (x table.Standing) (y table.Standing) in
     λ i. record {
       sessions = sessions i;
       papers = papers i;

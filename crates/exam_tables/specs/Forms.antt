@@ -10,6 +10,8 @@ use Rattle.sqlite_trees.specs.Tree.{Trees}
 use Rattle.sqlite_schema.specs.declared.schema.Schema.{Schema}
 use Rattle.sqlite.specs.Effect.{Database}
 use Rattle.exam_rules.specs.Relations.{Code, code_cmp, opening_cmp, entry_cmp, appeal_cmp, seat_cmp}
+use Rattle.exam_rules.specs.Tables.{Table, KeyOf, RowOf, Sessions, Papers, Halls, Openings, Candidates}
+use Rattle.exam_rules.specs.Tables.{Entries, Arrangements, Appeals, Standing}
 use Rattle.exam_rules.specs.declared.rows.Session.{Session}
 use Rattle.exam_rules.specs.declared.rows.Paper.{Paper}
 use Rattle.exam_rules.specs.declared.rows.Hall.{Hall}
@@ -93,6 +95,18 @@ seats = made_form tables.seat seat_cmp seat_row IsSeat
 -- version 1 has no table of marks
 abbrev pub standing : Form (ℕ × Code) (Unit {0})
 standing = record (made_form tables.standing appeal_cmp standing_row IsStanding) { Holds = inside.Contains }
+
+-- that of each table of facts
+abbrev pub form_of : (t : Table) → Form (KeyOf t) (RowOf t)
+form_of Sessions = sessions
+form_of Papers = papers
+form_of Halls = halls
+form_of Openings = openings
+form_of Candidates = candidates
+form_of Entries = entries
+form_of Arrangements = arrangements
+form_of Appeals = appeals
+form_of Standing = standing
 
 -- the columns of the key of an opening and of a seat, by which rows are deleted
 abbrev pub opening_key : Code × Code → Row

@@ -4,8 +4,9 @@ use Rattle.sqlite_value.specs.declared.value.Value.TheVariants.{Null}
 use Rattle.sqlite_value.specs.Order.{Row}
 use Rattle.sqlite_trees.specs.Tree.{Trees}
 use Rattle.exam_rules.specs.Relations.{Code, Relations}
+use Rattle.exam_rules.specs.Tables.{Table, rows_of}
 use Rattle.exam_tables.specs.Forms as forms
-use Rattle.exam_tables.specs.Forms.{Form}
+use Rattle.exam_tables.specs.Forms.{Form, form_of}
 use Rattle.exam_tables.specs.Loaded.{HoldsTable}
 
 -- the rows, in any order, are those of the entries
@@ -21,28 +22,12 @@ abbrev pub HasTable : {K X : Type 0} → Form K X → List (K × X) → Trees �
 HasTable form entries all = HoldsTable form.cmp form.IsRow form.row entries (all form.tree)
 
 -- each table has the rows of its relation
-pub record HoldsFacts (all : Trees) (r : Relations) : Type 0 where
-  pub sessions : HasRows forms.sessions r.sessions all
-  pub papers : HasRows forms.papers r.papers all
-  pub halls : HasRows forms.halls r.halls all
-  pub candidates : HasRows forms.candidates r.candidates all
-  pub openings : HasRows forms.openings r.openings all
-  pub entries : HasRows forms.entries r.entries all
-  pub arrangements : HasRows forms.arrangements r.arrangements all
-  pub appeals : HasRows forms.appeals r.appeals all
-  pub standing : HasRows forms.standing r.standing all
+abbrev pub HoldsFacts : Trees → Relations → Type 0
+HoldsFacts all r = (t : Table) → HasRows (form_of t) (rows_of r t) all
 
 -- each table has the rows of its relation, whose keys rise and whose values have its forms
-pub record HoldsRelations (all : Trees) (r : Relations) : Type 0 where
-  pub sessions : HasTable forms.sessions r.sessions all
-  pub papers : HasTable forms.papers r.papers all
-  pub halls : HasTable forms.halls r.halls all
-  pub openings : HasTable forms.openings r.openings all
-  pub candidates : HasTable forms.candidates r.candidates all
-  pub entries : HasTable forms.entries r.entries all
-  pub arrangements : HasTable forms.arrangements r.arrangements all
-  pub appeals : HasTable forms.appeals r.appeals all
-  pub standing : HasTable forms.standing r.standing all
+abbrev pub HoldsRelations : Trees → Relations → Type 0
+HoldsRelations all r = (t : Table) → HasTable (form_of t) (rows_of r t) all
 
 abbrev pub HoldsSeats : Trees → List ((Code × ℕ) × Code) → Type 0
 HoldsSeats all seats = HasTable forms.seats seats all

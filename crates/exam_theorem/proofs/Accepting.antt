@@ -46,22 +46,10 @@ not_none v db all good (inr (inr (inr (office, held, wrong)))) = wrong (subst (I
 
 -- other tables with the same rows hold the office in the forms of the columns too
 formed_again : (all more : Trees) (office : Office) → HoldsFormed all office → HoldsOffice more office → HoldsFormed more office
-formed_again all more office formed held =
-    let f = formed.0 in
-    let h = held.facts in (
-      record {
-        sessions = record { rises = f.sessions.rises; forms = f.sessions.forms; same = h.sessions };
-        papers = record { rises = f.papers.rises; forms = f.papers.forms; same = h.papers };
-        halls = record { rises = f.halls.rises; forms = f.halls.forms; same = h.halls };
-        openings = record { rises = f.openings.rises; forms = f.openings.forms; same = h.openings };
-        candidates = record { rises = f.candidates.rises; forms = f.candidates.forms; same = h.candidates };
-        entries = record { rises = f.entries.rises; forms = f.entries.forms; same = h.entries };
-        arrangements = record { rises = f.arrangements.rises; forms = f.arrangements.forms; same = h.arrangements };
-        appeals = record { rises = f.appeals.rises; forms = f.appeals.forms; same = h.appeals };
-        standing = record { rises = f.standing.rises; forms = f.standing.forms; same = h.standing };
-      },
-      record { rises = formed.1.rises; forms = formed.1.forms; same = held.seats },
-    )
+formed_again all more office formed held = (
+  λ t. record { rises = (formed.0 t).rises; forms = (formed.0 t).forms; same = held.facts t },
+  record { rises = formed.1.rises; forms = formed.1.forms; same = held.seats },
+)
 
 -- no version was read
 pub version_failed : (old new : State) (None : Type 0) (e : Refusal) → IsAccepted old.now → ((v : ℕ) (all : Trees) → IsVersion v → HoldsGood v old.now all → None → ⊥)

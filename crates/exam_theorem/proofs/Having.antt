@@ -27,15 +27,15 @@ in_order : (all : Trees) (office : Office) → HoldsFormed all office → IsInOr
 in_order all office formed = record { tables = rise; seats = formed.1.rises }
   where
     rise : AreInOrder office.relations
-    rise table.Sessions = formed.0.sessions.rises
-    rise table.Papers = formed.0.papers.rises
-    rise table.Halls = formed.0.halls.rises
-    rise table.Openings = formed.0.openings.rises
-    rise table.Candidates = formed.0.candidates.rises
-    rise table.Entries = formed.0.entries.rises
-    rise table.Arrangements = formed.0.arrangements.rises
-    rise table.Appeals = formed.0.appeals.rises
-    rise table.Standing = formed.0.standing.rises
+    rise table.Sessions = (formed.0 table.Sessions).rises
+    rise table.Papers = (formed.0 table.Papers).rises
+    rise table.Halls = (formed.0 table.Halls).rises
+    rise table.Openings = (formed.0 table.Openings).rises
+    rise table.Candidates = (formed.0 table.Candidates).rises
+    rise table.Entries = (formed.0 table.Entries).rises
+    rise table.Arrangements = (formed.0 table.Arrangements).rises
+    rise table.Appeals = (formed.0 table.Appeals).rises
+    rise table.Standing = (formed.0 table.Standing).rises
 
 -- tables that hold an office in the forms of their columns have it
 pub formed_has : (v : ℕ) (db : Database) (all : Trees) (office : Office) → IsVersion v → ContainsOf v db all → HasVersion v all → HoldsFormed all office → HasOffice db office
