@@ -26,7 +26,8 @@ fn options() -> Options {
     options
 }
 
-fn connect<D: Disk + Drop>(
+/// Opens the files, or gives them back.
+pub fn connect<D: Disk + Drop>(
     alloc: Global,
     files: Files<D>,
 ) -> Result<Connection<FileStore<D>>, Files<D>> {

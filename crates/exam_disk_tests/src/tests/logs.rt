@@ -1,7 +1,8 @@
 //! A database at a path, and a log beside it: only an office is used, and nothing is made of an empty file.
 use super::lines::{End, ends};
 use exam_store::Store;
-use sqlite::Connection;
+use sqlite::{Alter, Connection};
+use std::alloc::Global;
 use std::fs;
 use std::test::Fail;
 
@@ -32,13 +33,17 @@ const COMMANDS: &[(&str, End, End)] = &[
     ("export S1", (1, "", "refused 24\n"), (1, "", "refused 4\n")),
 ];
 
-/// Makes an office that a stop leaves with its commits in the log, and then one that was closed.
+/// Makes an office that a stop leaves with its commits in the log: a drop copies nothing from there into the database.
+fn stop_office<S: Alter + Drop>(alloc: Global, conn: Connection<S>) -> Result<(), Fail> {
+    drop(Store::create(alloc, conn).ok().ok_or("create")?);
+    Ok(())
+}
+
+/// Makes an office that was stopped, and then one that was closed.
 fn make_offices(rt: &HostRuntime) -> Result<(), Fail> {
     fs::write(rt, "examoffice_logs/empty", "")?;
     let conn = Connection::open(rt, DATABASE).ok().ok_or("open")?;
-    let store = Store::create(rt.alloc(), conn).ok().ok_or("create")?;
-    // A drop copies nothing from the log into the database.
-    drop(store);
+    stop_office(rt.alloc(), conn)?;
     fs::copy(rt, LOG, "examoffice_logs/stopped-wal")?;
     if !ends(rt, DATABASE, "check", (0, "good\n", ""))? {
         return Err(Fail::new("the stopped office is not good"));

@@ -18,6 +18,9 @@ use std::test::Fail;
 /// More calls than a command makes of a file, its opening and its close among them.
 const MOST_CALLS: u64 = 400;
 
+/// The days before, and the text whose steps are refused.
+pub type Turn<'a> = (&'a [&'a str], &'a str);
+
 /// What a step does if no call fails.
 #[derive(Drop)]
 struct Course {
@@ -210,17 +213,23 @@ fn refuse(
 }
 
 /// Refuses each step of a text, over files that hold the days before.
-pub fn refuse_in_turn(
-    rt: &HostRuntime,
-    days: &[&str],
-    text: &str,
-    ways: &[Unsynced],
-) -> Result<(), Fail> {
-    let alloc = rt.alloc();
+fn refuse_in_turn(alloc: Global, (days, text): Turn<'_>, ways: &[Unsynced]) -> Result<(), Fail> {
     let mut files = files_after(alloc, days)?;
     for part in text.split("$ ").skip(1) {
         let step = Step::parse(part).ok_or("step")?;
         files = refuse(alloc, files, &step, ways)?;
+    }
+    Ok(())
+}
+
+/// Refuses each step of each of these texts. As a test of its own each would cost the check some seconds.
+pub fn refuse_each_turn(
+    rt: &HostRuntime,
+    turns: &[Turn<'_>],
+    ways: &[Unsynced],
+) -> Result<(), Fail> {
+    for turn in turns {
+        refuse_in_turn(rt.alloc(), *turn, ways)?;
     }
     Ok(())
 }
@@ -233,21 +242,6 @@ $ init
 > ready
 ";
 
-#[test]
-fn an_office_is_made_whole_or_not_at_all(rt: HostRuntime) -> Result<(), Fail> {
-    refuse_in_turn(&rt, &[], INIT, IS_THERE)
-}
-
-#[test]
-fn a_timetable_is_imported_whole_or_not_at_all(rt: HostRuntime) -> Result<(), Fail> {
-    refuse_in_turn(&rt, &[INIT], TIMETABLE, IS_THERE)
-}
-
-#[test]
-fn people_are_imported_whole_or_not_at_all(rt: HostRuntime) -> Result<(), Fail> {
-    refuse_in_turn(&rt, &[INIT, TIMETABLE], PEOPLE, IS_THERE)
-}
-
 /// The days at the school before anybody is entered.
 pub const NOBODY_SITS: &[&str] = &[INIT, TIMETABLE, PEOPLE];
 
@@ -257,21 +251,42 @@ pub const ONE_SITS: &[&str] = &[INIT, TIMETABLE, PEOPLE, FIRST_TAKES_A, INIT];
 /// The days before a third one comes.
 pub const TWO_SIT: &[&str] = &[INIT, TIMETABLE, PEOPLE, FIRST_TAKES_A, SECOND_NEEDS_A];
 
-#[test]
-fn the_first_entry_is_made_whole_or_not_at_all(rt: HostRuntime) -> Result<(), Fail> {
-    refuse_in_turn(&rt, NOBODY_SITS, NOBODY_IS_SHORT, IS_THERE)?;
-    refuse_in_turn(&rt, NOBODY_SITS, FIRST_TAKES_A, IS_THERE)
-}
+/// An office that is made, and imports.
+const IMPORTS: &[Turn<'_>] = &[
+    (&[], INIT),
+    (&[INIT], TIMETABLE),
+    (&[INIT, TIMETABLE], PEOPLE),
+    (NOBODY_SITS, NOBODY_IS_SHORT),
+    (NOBODY_SITS, FIRST_TAKES_A),
+    (TWO_SIT, THIRD_IS_SHORT),
+    (&[INIT, TIMETABLE, PEOPLE, THREE_HALLS], THREE_NEEDS),
+    (NOBODY_SITS, TWO_PAPERS_IN_A_HALL),
+    (NOBODY_SITS, REFUSED_FILES),
+    (&[INIT, TIMETABLE, ALL_OPENED], ONE_OPENING_MORE),
+];
 
 #[test]
-fn an_entry_without_a_seat_is_made_whole_or_not_at_all(rt: HostRuntime) -> Result<(), Fail> {
-    refuse_in_turn(&rt, TWO_SIT, THIRD_IS_SHORT, IS_THERE)
+fn imports_are_made_whole_or_not_at_all(rt: HostRuntime) -> Result<(), Fail> {
+    refuse_each_turn(&rt, IMPORTS, IS_THERE)
 }
 
+/// Halls that close sooner, clashes, and desks that are taken away.
+const CHANGES: &[Turn<'_>] = &[
+    (NOBODY_SITS, A_QUARTER_MORE),
+    (NOBODY_SITS, TWO_PAPERS_AT_ONCE),
+    (NOBODY_SITS, FEWER_DESKS),
+    (NOBODY_SITS, CLOSED),
+    (NOBODY_SITS, BARRED_FROM_A),
+];
+
 #[test]
-fn sheets_after_a_grant_change_nothing(rt: HostRuntime) -> Result<(), Fail> {
-    refuse_in_turn(
-        &rt,
+fn seats_change_whole_or_not_at_all(rt: HostRuntime) -> Result<(), Fail> {
+    refuse_each_turn(&rt, CHANGES, IS_THERE)
+}
+
+/// Appeals, what is decided of them, and sheets and requests that show them.
+const APPEALS: &[Turn<'_>] = &[
+    (
         &[
             INIT,
             TIMETABLE,
@@ -281,103 +296,24 @@ fn sheets_after_a_grant_change_nothing(rt: HostRuntime) -> Result<(), Fail> {
             BARRED_FROM_B,
         ],
         ONE_HAS_NO_DESK,
-        IS_THERE,
-    )
-}
-
-#[test]
-fn a_desk_comes_free_whole_or_not_at_all(rt: HostRuntime) -> Result<(), Fail> {
-    refuse_in_turn(&rt, NOBODY_SITS, BARRED_FROM_A, IS_THERE)
-}
-
-#[test]
-fn needs_are_imported_whole_or_not_at_all(rt: HostRuntime) -> Result<(), Fail> {
-    refuse_in_turn(
-        &rt,
-        &[INIT, TIMETABLE, PEOPLE, THREE_HALLS],
-        THREE_NEEDS,
-        IS_THERE,
-    )
-}
-
-#[test]
-fn a_hall_closes_sooner_whole_or_not_at_all(rt: HostRuntime) -> Result<(), Fail> {
-    refuse_in_turn(&rt, NOBODY_SITS, A_QUARTER_MORE, IS_THERE)
-}
-
-#[test]
-fn entries_for_two_papers_are_made_whole_or_not_at_all(rt: HostRuntime) -> Result<(), Fail> {
-    refuse_in_turn(&rt, NOBODY_SITS, TWO_PAPERS_IN_A_HALL, IS_THERE)
-}
-
-#[test]
-fn a_clash_is_made_whole_or_not_at_all(rt: HostRuntime) -> Result<(), Fail> {
-    refuse_in_turn(&rt, NOBODY_SITS, TWO_PAPERS_AT_ONCE, IS_THERE)
-}
-
-#[test]
-fn a_clash_is_turned_whole_or_not_at_all(rt: HostRuntime) -> Result<(), Fail> {
-    refuse_in_turn(
-        &rt,
+    ),
+    (
         &[INIT, TIMETABLE, PEOPLE, TWO_PAPERS_AT_ONCE],
         CLASH_IS_GRANTED,
-        IS_THERE,
-    )
-}
-
-#[test]
-fn a_refused_file_changes_nothing(rt: HostRuntime) -> Result<(), Fail> {
-    refuse_in_turn(&rt, NOBODY_SITS, REFUSED_FILES, IS_THERE)
-}
-
-#[test]
-fn an_appeal_is_lodged_and_taken_back_whole_or_not_at_all(rt: HostRuntime) -> Result<(), Fail> {
-    refuse_in_turn(&rt, TWO_SIT, LODGED_ONCE, IS_THERE)
-}
-
-#[test]
-fn an_appeal_is_refused_whole_or_not_at_all(rt: HostRuntime) -> Result<(), Fail> {
-    refuse_in_turn(&rt, TWO_SIT, REFUSED, IS_THERE)
-}
-
-#[test]
-fn a_request_to_see_changes_nothing(rt: HostRuntime) -> Result<(), Fail> {
-    refuse_in_turn(&rt, ONE_SITS, SEEN, IS_THERE)
-}
-
-#[test]
-fn desks_are_taken_away_whole_or_not_at_all(rt: HostRuntime) -> Result<(), Fail> {
-    refuse_in_turn(&rt, NOBODY_SITS, FEWER_DESKS, IS_THERE)
-}
-
-#[test]
-fn an_opening_too_many_changes_nothing(rt: HostRuntime) -> Result<(), Fail> {
-    refuse_in_turn(
-        &rt,
-        &[INIT, TIMETABLE, ALL_OPENED],
-        ONE_OPENING_MORE,
-        IS_THERE,
-    )
-}
-
-#[test]
-fn a_grant_moves_another_whole_or_not_at_all(rt: HostRuntime) -> Result<(), Fail> {
-    refuse_in_turn(&rt, ONE_SITS, MOVED_BY_A_CHAIN, IS_THERE)
-}
-
-#[test]
-fn a_hall_is_closed_whole_or_not_at_all(rt: HostRuntime) -> Result<(), Fail> {
-    refuse_in_turn(&rt, NOBODY_SITS, CLOSED, IS_THERE)
-}
-
-#[test]
-fn a_standing_grant_moves_others_whole_or_not_at_all(rt: HostRuntime) -> Result<(), Fail> {
-    refuse_in_turn(
-        &rt,
+    ),
+    (TWO_SIT, LODGED_ONCE),
+    (TWO_SIT, REFUSED),
+    (ONE_SITS, SEEN),
+    (ONE_SITS, MOVED_BY_A_CHAIN),
+    (
         &[INIT, TIMETABLE, PEOPLE, TWO_SESSIONS, THREE_COME],
         MOVED_TWICE,
-        IS_THERE,
-    )
+    ),
+];
+
+#[test]
+fn appeals_are_carried_out_whole_or_not_at_all(rt: HostRuntime) -> Result<(), Fail> {
+    refuse_each_turn(&rt, APPEALS, IS_THERE)
 }
 
 /// The first candidate posts an appeal too late, in time, and again, then another under its reference, and takes the first

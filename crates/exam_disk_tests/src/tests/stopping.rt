@@ -1,6 +1,6 @@
 //! The machine stops at any call of the files: a command is there whole or not at all, and what was answered is there.
 use super::disks::Unsynced;
-use super::refusing::{INIT, NOBODY_SITS, ONE_SITS, TWO_SIT, refuse_in_turn};
+use super::refusing::{INIT, NOBODY_SITS, ONE_SITS, TWO_SIT, Turn, refuse_each_turn};
 use exam_school::{FIRST_TAKES_A, PEOPLE, SECOND_NEEDS_A, TIMETABLE};
 use exam_scripts::days::{
     BARRED_FROM_B, FROM_VERSION_1, FROM_VERSION_2, MOVED_TWICE, OF_VERSION_1, OF_VERSION_2,
@@ -16,25 +16,13 @@ const STOPPED: &[Unsynced] = &[
     Unsynced::Torn(false),
 ];
 
-#[test]
-fn a_candidate_is_seated_by_a_chain_whole_or_not_at_all(rt: HostRuntime) -> Result<(), Fail> {
-    refuse_in_turn(&rt, ONE_SITS, SECOND_NEEDS_A, STOPPED)
-}
-
-#[test]
-fn a_hall_appeal_is_granted_whole_or_not_at_all(rt: HostRuntime) -> Result<(), Fail> {
-    refuse_in_turn(&rt, TWO_SIT, BARRED_FROM_B, STOPPED)
-}
-
-#[test]
-fn an_entry_is_withdrawn_whole_or_not_at_all(rt: HostRuntime) -> Result<(), Fail> {
-    refuse_in_turn(&rt, NOBODY_SITS, WITHDRAWN, STOPPED)
-}
-
-#[test]
-fn a_migration_from_version_1_is_made_whole_or_not_at_all(rt: HostRuntime) -> Result<(), Fail> {
-    refuse_in_turn(
-        &rt,
+/// A candidate who is seated by a chain, a grant, a withdrawal, and migrations; a standing grant is among the tables of the
+/// last one.
+const TURNS: &[Turn<'_>] = &[
+    (ONE_SITS, SECOND_NEEDS_A),
+    (TWO_SIT, BARRED_FROM_B),
+    (NOBODY_SITS, WITHDRAWN),
+    (
         &[
             INIT,
             TIMETABLE,
@@ -44,15 +32,8 @@ fn a_migration_from_version_1_is_made_whole_or_not_at_all(rt: HostRuntime) -> Re
             OF_VERSION_1,
         ],
         FROM_VERSION_1,
-        STOPPED,
-    )
-}
-
-/// A standing grant is among the tables.
-#[test]
-fn a_migration_from_version_2_is_made_whole_or_not_at_all(rt: HostRuntime) -> Result<(), Fail> {
-    refuse_in_turn(
-        &rt,
+    ),
+    (
         &[
             INIT,
             TIMETABLE,
@@ -63,6 +44,10 @@ fn a_migration_from_version_2_is_made_whole_or_not_at_all(rt: HostRuntime) -> Re
             OF_VERSION_2,
         ],
         FROM_VERSION_2,
-        STOPPED,
-    )
+    ),
+];
+
+#[test]
+fn commands_are_carried_out_whole_or_not_at_all(rt: HostRuntime) -> Result<(), Fail> {
+    refuse_each_turn(&rt, TURNS, STOPPED)
 }

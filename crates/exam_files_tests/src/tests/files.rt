@@ -39,11 +39,6 @@ date 2027-06-01 start 09:00 candidates 2
 0000002 B           1 10:00 Ada Lin
 ";
 
-#[test]
-fn the_same_rows_are_read_from_files_of_other_forms(rt: HostRuntime) -> Result<(), Fail> {
-    play(rt.alloc(), FORMS)
-}
-
 /// A file of each kind, with values at the ends of their ranges.
 const ENDS: &str = "\
 $ import sessions f
@@ -78,11 +73,6 @@ number,needs,extra
 > added 2 changed 0 same 0
 ";
 
-#[test]
-fn values_at_the_ends_of_their_ranges_are_read(rt: HostRuntime) -> Result<(), Fail> {
-    play(rt.alloc(), ENDS)
-}
-
 /// Files whose first record is not the header of their kind.
 const HEADERS: &str = "\
 $ import candidates f
@@ -108,11 +98,6 @@ hall,title,features
 A,Aula,-
 ! refused 2
 ";
-
-#[test]
-fn a_file_without_its_header_is_refused(rt: HostRuntime) -> Result<(), Fail> {
-    play(rt.alloc(), HEADERS)
-}
 
 /// Records with too few fields, with too many, and with a field that is no value of its column. Blank lines before
 /// them do not count.
@@ -189,11 +174,6 @@ MA-1,Maths,S1,0,-
 ! refused 1 record 1 column 4
 ";
 
-#[test]
-fn a_bad_record_is_refused_at_its_first_bad_column(rt: HostRuntime) -> Result<(), Fail> {
-    play(rt.alloc(), RECORDS)
-}
-
 /// Records that contradict an earlier one of their file, even after a bad one.
 const CONTRADICTIONS: &str = "\
 $ import candidates f
@@ -222,8 +202,11 @@ S1,B,2,12:00,no
 ";
 
 #[test]
-fn a_record_that_contradicts_an_earlier_one_is_refused(rt: HostRuntime) -> Result<(), Fail> {
-    play(rt.alloc(), CONTRADICTIONS)
+fn files_are_read_or_refused_as_told(rt: HostRuntime) -> Result<(), Fail> {
+    for text in [FORMS, ENDS, HEADERS, RECORDS, CONTRADICTIONS] {
+        play(rt.alloc(), text)?;
+    }
+    Ok(())
 }
 
 /// Compares the answer to a file with this one.

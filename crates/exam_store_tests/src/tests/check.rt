@@ -1,8 +1,8 @@
 //! An office as the rows of its tables, and what makes a table of it bad.
-use crate::tests::offices::{InMemory, office_of, refusal_of_opening};
+use crate::tests::offices::{InMemory, after, office_of};
+use crate::tests::views::{checked, expect_answers};
 use exam_check::{Table, check, check_line};
 use exam_school::{ROWS, TWO_SIT, expect_same};
-use exam_types::Refusal;
 use sqlite::Connection;
 use std::alloc::Global;
 use std::str;
@@ -19,26 +19,17 @@ fn found_after(alloc: Global, sql: &str) -> Result<Option<Table>, Fail> {
     Ok(check(alloc, &mut conn)?)
 }
 
-/// Whether opening accepts that office after these statements.
-fn is_opened_after(alloc: Global, sql: &str) -> Result<bool, Fail> {
-    Ok(refusal_of_opening(alloc, office_after(alloc, sql)?) == 0)
+/// Compares the line that `check` prints for what it found.
+fn expect_found(found: Option<Table>, wanted: &str, place: &str) -> Result<(), Fail> {
+    expect_same(str::from_utf8(check_line(found))?.trim_end(), wanted, place)
 }
 
 /// Expects, after the statements of each line, the line that `check` prints of that office.
 fn finds_each(alloc: Global, text: &str) -> Result<(), Fail> {
     for line in text.lines() {
         let (wanted, sql) = line.split_once(": ").ok_or("line")?;
-        let found = str::from_utf8(check_line(found_after(alloc, sql)?))?;
-        expect_same(found.trim_end(), wanted, sql)?;
+        expect_found(found_after(alloc, sql)?, wanted, sql)?;
     }
-    Ok(())
-}
-
-#[test]
-fn a_good_office_has_no_bad_table(rt: HostRuntime) -> Result<(), Fail> {
-    assert_eq!(rt; found_after(rt.alloc(), "")?, None);
-    assert!(rt; is_opened_after(rt.alloc(), "")?);
-    assert!(rt; !is_opened_after(rt.alloc(), "DELETE FROM seat WHERE number = 1")?);
     Ok(())
 }
 
@@ -55,11 +46,6 @@ bad office: DROP TABLE seat; UPDATE office SET version = 2
 bad office: DROP TABLE arrangement; CREATE TABLE arrangement (number INTEGER NOT NULL, needs INTEGER NOT NULL, PRIMARY KEY (number)) STRICT
 ";
 
-#[test]
-fn what_is_no_office_is_found(rt: HostRuntime) -> Result<(), Fail> {
-    finds_each(rt.alloc(), NO_OFFICE)
-}
-
 /// Rows that are not the stored form of anything.
 const NO_FORM: &str = "\
 bad session: INSERT INTO session VALUES ('s2', '2027-06-01', 540)
@@ -71,11 +57,6 @@ bad entry: UPDATE entry SET live = 2
 bad arrangement: UPDATE arrangement SET extra = 101
 bad appeal: INSERT INTO appeal VALUES (1, 'R1', 'S1', 1, 'A', 0, 0, '', 6, NULL, '2027-05-01')
 ";
-
-#[test]
-fn rows_of_no_form_are_found(rt: HostRuntime) -> Result<(), Fail> {
-    finds_each(rt.alloc(), NO_FORM)
-}
 
 /// A target that does not exist; two granted appeals for an arrangement, two for a clash, or two open ones, of one
 /// candidate for one session; marks of a hall appeal, and of an open one.
@@ -94,11 +75,6 @@ bad standing: INSERT INTO appeal VALUES (3, 'R1', 'S1', 3, '', 0, 25, '', 1, NUL
 INSERT INTO standing VALUES (3, 'R1')
 ";
 
-#[test]
-fn bad_appeals_and_marks_are_found(rt: HostRuntime) -> Result<(), Fail> {
-    finds_each(rt.alloc(), APPEALS)
-}
-
 /// A plan without a seat that a sweep would give, a seat for nobody, two seats at one desk, a hall that does not fit;
 /// and several bad tables; the check finds the first.
 const SEATS: &str = "\
@@ -112,11 +88,6 @@ INSERT INTO appeal VALUES (1, 'R1', 'S1', 1, 'Z', 0, 0, '', 1, NULL, '2027-05-01
 bad appeal: INSERT INTO appeal VALUES (1, 'R1', 'S1', 1, 'Z', 0, 0, '', 1, NULL, '2027-05-01'); \
 DELETE FROM seat WHERE number = 1
 ";
-
-#[test]
-fn bad_seats_are_found_last(rt: HostRuntime) -> Result<(), Fail> {
-    finds_each(rt.alloc(), SEATS)
-}
 
 /// Tables that are made again without their foreign keys, so that the database takes rows that refer to nothing.
 const LOOSE: &str = "\
@@ -135,8 +106,11 @@ INSERT INTO entry VALUES (1, 'ZZ-1', 1)
 ";
 
 #[test]
-fn rows_that_refer_to_nothing_are_found(rt: HostRuntime) -> Result<(), Fail> {
-    finds_each(rt.alloc(), LOOSE)
+fn the_first_bad_table_is_found(rt: HostRuntime) -> Result<(), Fail> {
+    for text in [NO_OFFICE, NO_FORM, APPEALS, SEATS, LOOSE] {
+        finds_each(rt.alloc(), text)?;
+    }
+    Ok(())
 }
 
 /// What is found of that office after so many statements, in which the number of each takes the place of `*`, and
@@ -156,11 +130,16 @@ fn found_of_many(
     Ok(check(alloc, &mut conn)?)
 }
 
-/// Whether so many more rows are one too many for the table, and one fewer are good.
-fn has_limit(alloc: Global, rows: (&str, &str), too_many: u32, table: Table) -> Result<bool, Fail> {
+/// Expects that so many more rows are one too many, and that one fewer are good.
+fn expect_limit(
+    alloc: Global,
+    rows: (&str, &str),
+    too_many: u32,
+    wanted: &str,
+) -> Result<(), Fail> {
     let within = found_of_many(alloc, rows, too_many.saturating_sub(1))?;
-    let beyond = found_of_many(alloc, rows, too_many)?;
-    Ok(within.is_none() && beyond == Some(table))
+    expect_found(within, "good", rows.0)?;
+    expect_found(found_of_many(alloc, rows, too_many)?, wanted, rows.0)
 }
 
 const A_SESSION: (&str, &str) = ("INSERT INTO session VALUES ('X*', '2027-06-01', 540)", "");
@@ -181,24 +160,20 @@ const AN_APPEAL: (&str, &str) = (
     "",
 );
 
-#[test]
-fn sessions_and_appeals_have_limits(rt: HostRuntime) -> Result<(), Fail> {
-    assert!(rt; has_limit(rt.alloc(), A_SESSION, 400, Table::Session)?);
-    assert!(rt; has_limit(rt.alloc(), AN_APPEAL, 65, Table::Appeal)?);
-    Ok(())
-}
+/// Rows, how many of them are one too many, and the line that `check` prints then.
+const LIMITS: &[((&str, &str), u32, &str)] = &[
+    (A_SESSION, 400, "bad session"),
+    (A_PAPER, 2000, "bad paper"),
+    (A_HALL, 499, "bad hall"),
+    (AN_OPENING, 255, "bad opening"),
+    (AN_APPEAL, 65, "bad appeal"),
+];
 
 #[test]
-fn halls_and_openings_have_limits(rt: HostRuntime) -> Result<(), Fail> {
-    assert!(rt; has_limit(rt.alloc(), A_HALL, 499, Table::Hall)?);
-    assert!(rt; has_limit(rt.alloc(), AN_OPENING, 255, Table::Opening)?);
-    Ok(())
-}
-
-#[test]
-fn papers_have_a_limit(rt: HostRuntime) -> Result<(), Fail> {
-    let found = found_of_many(rt.alloc(), A_PAPER, 2000)?;
-    assert_eq!(rt; found, Some(Table::Paper));
+fn tables_have_limits(rt: HostRuntime) -> Result<(), Fail> {
+    for (rows, too_many, wanted) in LIMITS {
+        expect_limit(rt.alloc(), *rows, *too_many, wanted)?;
+    }
     Ok(())
 }
 
@@ -222,42 +197,33 @@ fn found_of_candidates(alloc: Global, doublings: u32) -> Result<Option<Table>, F
 /// 5,120 candidates are more than a session may have, 20,480 more than an office may have.
 #[test]
 fn candidates_and_members_have_limits(rt: HostRuntime) -> Result<(), Fail> {
-    assert_eq!(rt; found_of_candidates(rt.alloc(), 10)?, Some(Table::Entry));
-    assert_eq!(rt;
-        found_of_candidates(rt.alloc(), 12)?,
-        Some(Table::Candidate)
-    );
-    Ok(())
-}
-
-/// What makes an office one of each older version, whatever else is wrong with its rows.
-const OLDER: &str = "\
-DROP TABLE standing; UPDATE office SET version = 1
-DROP TABLE standing; UPDATE office SET version = 1; DELETE FROM seat
-UPDATE office SET version = 2
-UPDATE office SET version = 2; DELETE FROM seat
-UPDATE office SET version = 2; DROP TABLE standing
-";
-
-#[test]
-fn an_older_office_is_refused(rt: HostRuntime) -> Result<(), Fail> {
-    for sql in OLDER.lines() {
-        let mut conn = office_after(rt.alloc(), sql)?;
-        assert_eq!(rt;
-            check(rt.alloc(), &mut conn),
-            Err(Refusal::OldSchema),
-            "{sql}"
-        );
+    for (doublings, wanted) in [(10, "bad entry"), (12, "bad candidate")] {
+        expect_found(found_of_candidates(rt.alloc(), doublings)?, wanted, wanted)?;
     }
     Ok(())
 }
 
+/// Offices of older versions, whatever else is wrong with their rows, and one without a seat that a sweep would give.
+const OLDER: &str = "\
+27 24 27: DROP TABLE standing; UPDATE office SET version = 1; DELETE FROM seat
+27 0 0: UPDATE office SET version = 2
+27 24 27: UPDATE office SET version = 2; DELETE FROM seat
+bad seat 24 24: DELETE FROM seat WHERE number = 1
+";
+
+#[test]
+fn an_older_office_is_migrated_and_not_opened_before(rt: HostRuntime) -> Result<(), Fail> {
+    expect_answers(rt.alloc(), OLDER)
+}
+
+const A_SHELF: &str = "CREATE TABLE shelf (code TEXT NOT NULL, PRIMARY KEY (code)) STRICT";
+
 #[test]
 fn another_database_has_no_office(rt: HostRuntime) -> Result<(), Fail> {
-    let mut conn = Connection::open_in_memory(rt.alloc())?;
-    assert_eq!(rt; check(rt.alloc(), &mut conn), Ok(Some(Table::Office)));
-    conn.execute_batch("CREATE TABLE shelf (code TEXT NOT NULL, PRIMARY KEY (code)) STRICT")?;
-    assert_eq!(rt; check(rt.alloc(), &mut conn), Ok(Some(Table::Office)));
+    for sql in ["", A_SHELF] {
+        let mut conn = after(Connection::open_in_memory(rt.alloc())?, sql)?;
+        expect_same(checked(rt.alloc(), &mut conn)?.as_str(), "bad office", sql)?;
+    }
     Ok(())
 }
 

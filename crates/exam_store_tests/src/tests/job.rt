@@ -44,3 +44,17 @@ fn play(rt: &HostRuntime, days: &[&str]) -> Result<(), Fail> {
     drop(office_after(rt.alloc(), days)?);
     Ok(())
 }
+
+/// What days show, and their texts. As a test of its own each would cost the check some seconds.
+type Days<'a> = &'a [(&'a str, &'a [&'a str])];
+
+/// Plays each of these at a base office of its own. Tells what the first one shows that does not go as its texts say.
+fn play_each(rt: &HostRuntime, each: Days<'_>) -> Result<(), Fail> {
+    for (shows, days) in each {
+        if let Err(fail) = play(rt, days) {
+            let _ = eprintln!(rt; "{shows}");
+            return Err(fail);
+        }
+    }
+    Ok(())
+}

@@ -8,7 +8,7 @@ use std::str;
 use std::test::Fail;
 
 /// What `check` prints of the office, or the number of its refusal.
-fn checked(alloc: Global, conn: &mut InMemory) -> Result<String, Fail> {
+pub fn checked(alloc: Global, conn: &mut InMemory) -> Result<String, Fail> {
     match check(alloc, conn) {
         Ok(found) => Ok(format!(in alloc; "{}", str::from_utf8(check_line(found))?.trim_end())?),
         Err(refusal) => Ok(format!(in alloc; "{}", refusal.number())?),
@@ -91,11 +91,16 @@ bad office 24 24: DROP TABLE standing; UPDATE office SET version = 1; DROP TABLE
 27 24 27: UPDATE office SET version = 2; DROP TABLE standing
 ";
 
-#[test]
-fn only_tables_are_tables(rt: HostRuntime) -> Result<(), Fail> {
-    for line in OTHERS.lines() {
+/// Compares what checking, migrating and opening answer after the statements of each line.
+pub fn expect_answers(alloc: Global, text: &str) -> Result<(), Fail> {
+    for line in text.lines() {
         let (wanted, sql) = line.split_once(": ").ok_or("line")?;
-        expect_same(answers_after(rt.alloc(), sql)?.as_str(), wanted, sql)?;
+        expect_same(answers_after(alloc, sql)?.as_str(), wanted, sql)?;
     }
     Ok(())
+}
+
+#[test]
+fn only_tables_are_tables(rt: HostRuntime) -> Result<(), Fail> {
+    expect_answers(rt.alloc(), OTHERS)
 }

@@ -87,9 +87,9 @@ fn an_appeal_stands_whose_answer_is_cut(rt: HostRuntime) -> Result<(), Fail> {
     let mut store = office_with(rt.alloc(), TWO_SIT)?;
     let exchange = (AGAINST_B.as_bytes(), OPEN.as_bytes());
     expect_cut(&rt, &mut store, exchange, 10)?;
-    expect_answer(&rt, &mut store, LODGED)?;
+    expect_answer(rt.alloc(), &mut store, LODGED)?;
     expect_unwritten(&rt, &mut store, exchange)?;
-    expect_answer(&rt, &mut store, ONE_APPEAL)?;
+    expect_answer(rt.alloc(), &mut store, ONE_APPEAL)?;
     assert_eq!(rt; appeal_count(store)?, 1);
     Ok(())
 }

@@ -1,10 +1,11 @@
 //! Requests in turn, each read at once and then byte by byte, with each answer byte for byte.
 use super::client::{Giving, serve};
 use super::office::office_with;
-use exam_school::{ONE_SITS, TWO_SIT};
+use exam_school::{ONE_SITS, TWO_SIT, expect_same};
 use exam_store::Store;
 use sqlite::MemStore;
-use std::process::Abort;
+use std::alloc::Global;
+use std::str;
 use std::test::Fail;
 
 /// A day, the parts of a request with how often each comes there, and the answer.
@@ -16,15 +17,15 @@ pub const LAST_DAY: &str = "2027-05-30";
 pub const DAY_AFTER: &str = "2027-05-31";
 
 /// Makes the request twice, the second time byte by byte, and compares both answers.
-pub fn expect_answer<R: Abort + AllocGlobal>(
-    rt: &R,
+pub fn expect_answer(
+    alloc: Global,
     store: &mut Store<MemStore>,
     asked: Exchange<'_>,
 ) -> Result<(), Fail> {
     let (on, parts, answer) = asked;
-    let mut request = String::new(rt.alloc());
+    let mut request = String::new(alloc);
     for (part, count) in parts {
-        request.push_str(part.repeat(rt.alloc(), *count)?.as_str())?;
+        request.push_str(part.repeat(alloc, *count)?.as_str())?;
     }
     for step in [usize::MAX, 1] {
         let given = Giving {
@@ -32,22 +33,20 @@ pub fn expect_answer<R: Abort + AllocGlobal>(
             step,
             fails: false,
         };
-        let (served, taken) = serve(rt.alloc(), store, on, given, usize::MAX)?;
-        assert_eq!(rt; taken.as_slice(), answer.as_bytes(), "{request}");
-        assert!(rt; served == Ok(()), "{request}");
+        let (served, taken) = serve(alloc, store, on, given, usize::MAX)?;
+        expect_same(str::from_utf8(taken.as_slice())?, answer, request.as_str())?;
+        if served.is_err() {
+            return Err(Fail::new("not served"));
+        }
     }
     Ok(())
 }
 
 /// Makes the requests in turn, at the school with these rows.
-fn exchange<R: Abort + AllocGlobal>(
-    rt: &R,
-    rows: &str,
-    exchanges: &[Exchange<'_>],
-) -> Result<(), Fail> {
-    let mut store = office_with(rt.alloc(), rows)?;
+fn exchange(alloc: Global, rows: &str, exchanges: &[Exchange<'_>]) -> Result<(), Fail> {
+    let mut store = office_with(alloc, rows)?;
     for asked in exchanges {
-        expect_answer(rt, &mut store, *asked)?;
+        expect_answer(alloc, &mut store, *asked)?;
     }
     Ok(())
 }
@@ -112,12 +111,6 @@ const SEATS: &[Exchange<'_>] = &[
     ),
 ];
 
-#[test]
-fn a_candidate_sees_their_seat_and_nobody_elses(rt: HostRuntime) -> Result<(), Fail> {
-    assert_eq!(rt; UNKNOWN.len(), 108);
-    exchange(&rt, ONE_SITS, SEATS)
-}
-
 /// The first candidate sits one of two papers at the same time.
 const TWO_PAPERS: &str = "\
 INSERT INTO paper VALUES ('PH-2', 'Physics', 'S1', 60, 16);
@@ -133,11 +126,6 @@ const CLASHES: &[Exchange<'_>] = &[(
         "{\"clashes\":[{\"paper\":\"PH-2\",\"session\":\"S1\",\"sitting\":\"MA-1\"}]}"
     ),
 )];
-
-#[test]
-fn a_candidate_sees_which_papers_clash(rt: HostRuntime) -> Result<(), Fail> {
-    exchange(&rt, TWO_PAPERS, CLASHES)
-}
 
 /// Each route with a method that it does not have.
 const OTHER_METHODS: &[Exchange<'_>] = &[
@@ -162,11 +150,6 @@ const OTHER_METHODS: &[Exchange<'_>] = &[
         not_allowed!("DELETE"),
     ),
 ];
-
-#[test]
-fn each_route_tells_its_methods(rt: HostRuntime) -> Result<(), Fail> {
-    exchange(&rt, ONE_SITS, OTHER_METHODS)
-}
 
 pub const AGAINST_B: &str = posted!(
     65,
@@ -240,11 +223,6 @@ const APPEALS: &[Exchange<'_>] = &[
     ),
     (DAY_AFTER, &[(AGAINST_B, 1)], RETRACTED),
 ];
-
-#[test]
-fn an_appeal_is_lodged_once_and_taken_back_once(rt: HostRuntime) -> Result<(), Fail> {
-    exchange(&rt, TWO_SIT, APPEALS)
-}
 
 /// The request for a seat up to the line of the code; an empty line after it would make it complete.
 const SEAT_ASKED: &str =
@@ -352,8 +330,15 @@ const HOSTILE: &[Exchange<'_>] = &[
 ];
 
 #[test]
-fn hostile_requests_are_refused(rt: HostRuntime) -> Result<(), Fail> {
-    exchange(&rt, ONE_SITS, HOSTILE)
+fn requests_are_answered_as_told(rt: HostRuntime) -> Result<(), Fail> {
+    if UNKNOWN.len() != 108 {
+        return Err(Fail::new("length"));
+    }
+    exchange(rt.alloc(), ONE_SITS, SEATS)?;
+    exchange(rt.alloc(), TWO_PAPERS, CLASHES)?;
+    exchange(rt.alloc(), ONE_SITS, OTHER_METHODS)?;
+    exchange(rt.alloc(), TWO_SIT, APPEALS)?;
+    exchange(rt.alloc(), ONE_SITS, HOSTILE)
 }
 
 /// 8,192 bytes without an empty line. The server looks for one after each byte: this takes minutes under `rt try`.
@@ -365,5 +350,5 @@ const LONG_HEAD: &[Exchange<'_>] = &[(
 
 #[test]
 fn a_head_that_does_not_end_is_too_large(rt: HostRuntime) -> Result<(), Fail> {
-    exchange(&rt, ONE_SITS, LONG_HEAD)
+    exchange(rt.alloc(), ONE_SITS, LONG_HEAD)
 }

@@ -1,39 +1,11 @@
 //! Appeals that candidates post to the server, what the office decides of them, and who moves then.
-use super::play;
+use super::{Days, play_each};
 use exam_school::{FIRST_TAKES_A, SECOND_NEEDS_A};
 use exam_scripts::days::{
     BARRED_FROM_A, BARRED_FROM_B, CLASH_IS_GRANTED, MOVED_BY_A_CHAIN, ONE_HAS_NO_DESK,
     TWO_PAPERS_AT_ONCE,
 };
 use std::test::Fail;
-
-#[test]
-fn a_grant_unseats_the_appellant_alone(rt: HostRuntime) -> Result<(), Fail> {
-    play(
-        &rt,
-        &[
-            FIRST_TAKES_A,
-            SECOND_NEEDS_A,
-            BARRED_FROM_B,
-            ONE_HAS_NO_DESK,
-        ],
-    )
-}
-
-#[test]
-fn the_desk_of_an_appellant_goes_to_another(rt: HostRuntime) -> Result<(), Fail> {
-    play(&rt, &[BARRED_FROM_A])
-}
-
-#[test]
-fn a_grant_moves_another_by_a_chain(rt: HostRuntime) -> Result<(), Fail> {
-    play(&rt, &[FIRST_TAKES_A, MOVED_BY_A_CHAIN])
-}
-
-#[test]
-fn a_granted_clash_turns_the_sitting_paper(rt: HostRuntime) -> Result<(), Fail> {
-    play(&rt, &[TWO_PAPERS_AT_ONCE, CLASH_IS_GRANTED])
-}
 
 const PAPER_WAS_LEFT: &str = r#"$ POST /candidates/0000003/appeals on 2027-05-27
 {"kind":"clash","paper":"PH-2","reason":"","ref":"CA1","session":"S1"}
@@ -43,11 +15,6 @@ $ withdraw 0000003 PH-2
 $ decide 0000003 CA1 granted ok on 2027-05-27
 ! refused 8
 "#;
-
-#[test]
-fn a_paper_that_was_left_is_not_granted(rt: HostRuntime) -> Result<(), Fail> {
-    play(&rt, &[TWO_PAPERS_AT_ONCE, PAPER_WAS_LEFT])
-}
 
 const SESSION_WAS_LEFT: &str = r#"$ import entries f
 number,paper
@@ -63,11 +30,6 @@ $ decide 0000001 HA1 granted ok on 2027-05-31
 $ decide 0000001 HA1 refused ok on 2027-05-31
 > decided refused hall - moved 0
 "#;
-
-#[test]
-fn who_left_the_session_is_granted_nothing(rt: HostRuntime) -> Result<(), Fail> {
-    play(&rt, &[SESSION_WAS_LEFT])
-}
 
 const THREE_WISHES: &str = r#"$ POST /candidates/0000001/appeals on 2027-05-23
 {"extra":25,"kind":"arrangement","needs":"screen","reason":"","ref":"AR1","session":"S1"}
@@ -99,7 +61,41 @@ $ POST /candidates/0000001/appeals on 2027-05-22
 > {"error":19}
 "#;
 
+/// What becomes of appeals.
+const DECIDED: Days<'_> = &[
+    (
+        "a grant unseats the appellant alone",
+        &[
+            FIRST_TAKES_A,
+            SECOND_NEEDS_A,
+            BARRED_FROM_B,
+            ONE_HAS_NO_DESK,
+        ],
+    ),
+    ("the desk of an appellant goes to another", &[BARRED_FROM_A]),
+    (
+        "a grant moves another by a chain",
+        &[FIRST_TAKES_A, MOVED_BY_A_CHAIN],
+    ),
+    (
+        "a granted clash turns the sitting paper",
+        &[TWO_PAPERS_AT_ONCE, CLASH_IS_GRANTED],
+    ),
+    (
+        "a paper that was left is not granted",
+        &[TWO_PAPERS_AT_ONCE, PAPER_WAS_LEFT],
+    ),
+    (
+        "who left the session is granted nothing",
+        &[SESSION_WAS_LEFT],
+    ),
+    (
+        "a later grant supersedes an earlier one",
+        &[FIRST_TAKES_A, SECOND_NEEDS_A, THREE_WISHES],
+    ),
+];
+
 #[test]
-fn a_later_grant_supersedes_an_earlier_one(rt: HostRuntime) -> Result<(), Fail> {
-    play(&rt, &[FIRST_TAKES_A, SECOND_NEEDS_A, THREE_WISHES])
+fn appeals_are_decided_as_told(rt: HostRuntime) -> Result<(), Fail> {
+    play_each(&rt, DECIDED)
 }

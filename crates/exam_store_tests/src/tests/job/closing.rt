@@ -1,17 +1,7 @@
 //! Withdrawals, reinstatements and closed halls.
-use super::play;
+use super::{Days, play_each};
 use exam_scripts::days::{CLOSED, WITHDRAWN};
 use std::test::Fail;
-
-#[test]
-fn a_withdrawn_entry_stays_withdrawn_after_the_same_import(rt: HostRuntime) -> Result<(), Fail> {
-    play(&rt, &[WITHDRAWN])
-}
-
-#[test]
-fn a_closed_hall_is_closed_once(rt: HostRuntime) -> Result<(), Fail> {
-    play(&rt, &[CLOSED])
-}
 
 const NOT_ENTERED: &str = "\
 $ import entries f
@@ -38,11 +28,6 @@ $ withdraw 0000001 MA-1
 ! refused 9
 ";
 
-#[test]
-fn entries_that_cannot_be_withdrawn_or_reinstated_are_refused(rt: HostRuntime) -> Result<(), Fail> {
-    play(&rt, &[NOT_ENTERED])
-}
-
 const UNKNOWN: &str = "\
 $ door-list S9 A
 ! refused 4
@@ -56,7 +41,24 @@ $ door-list S1 C
 ! refused 25
 ";
 
+/// Entries that are withdrawn, and halls that are not open.
+const LEFT: Days<'_> = &[
+    (
+        "a withdrawn entry stays withdrawn after the same import",
+        &[WITHDRAWN],
+    ),
+    ("a closed hall is closed once", &[CLOSED]),
+    (
+        "entries that cannot be withdrawn or reinstated are refused",
+        &[NOT_ENTERED],
+    ),
+    (
+        "an unknown hall is refused unlike one that is not opened",
+        &[UNKNOWN],
+    ),
+];
+
 #[test]
-fn an_unknown_hall_is_refused_unlike_one_that_is_not_opened(rt: HostRuntime) -> Result<(), Fail> {
-    play(&rt, &[UNKNOWN])
+fn withdrawn_entries_and_closed_halls_stay_so(rt: HostRuntime) -> Result<(), Fail> {
+    play_each(&rt, LEFT)
 }

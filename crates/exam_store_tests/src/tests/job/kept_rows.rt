@@ -1,5 +1,5 @@
 //! The rows that the tables hold after commands.
-use super::play;
+use super::{Days, play_each};
 use exam_school::{FIRST_TAKES_A, SECOND_NEEDS_A};
 use std::test::Fail;
 
@@ -96,11 +96,6 @@ SELECT one, version FROM office
 > 1|3|
 ";
 
-#[test]
-fn each_import_is_kept_in_its_table(rt: HostRuntime) -> Result<(), Fail> {
-    play(&rt, &[TIMETABLE, CANDIDATES])
-}
-
 const A_IS_TAKEN: &str = "\
 $ sql
 SELECT session, number, hall FROM seat
@@ -121,14 +116,6 @@ $ sql
 SELECT session, number, hall FROM seat
 > S1|2|A|
 ";
-
-#[test]
-fn seats_are_put_changed_and_deleted(rt: HostRuntime) -> Result<(), Fail> {
-    play(
-        &rt,
-        &[FIRST_TAKES_A, A_IS_TAKEN, SECOND_NEEDS_A, B_CLOSES_EARLY],
-    )
-}
 
 /// Files with a good row before a bad one.
 const REFUSED: &str = "\
@@ -194,11 +181,6 @@ number,paper
 > added 0 changed 0 same 1
 ";
 
-#[test]
-fn refused_imports_and_a_second_creation_write_nothing(rt: HostRuntime) -> Result<(), Fail> {
-    play(&rt, &[FIRST_TAKES_A, ALL_ROWS, REFUSED, READY, ALL_ROWS])
-}
-
 const TAKES_B: &str = "\
 $ sql
 UPDATE seat SET hall = 'B'
@@ -207,11 +189,6 @@ $ door-list S1 B
 date 2027-06-01 start 09:00 desks 1 seated 1
    1 0000001 MA-1         Bo Berg
 ";
-
-#[test]
-fn a_seat_of_another_best_plan_is_kept(rt: HostRuntime) -> Result<(), Fail> {
-    play(&rt, &[FIRST_TAKES_A, TAKES_B])
-}
 
 /// Every kind and state of appeals, all features and each of them alone.
 const APPEALS: &str = "\
@@ -262,7 +239,29 @@ appeals 9
 
 /// An office with every kind and state of appeals is opened, a later command leaves them as they are, and so does
 /// their register.
+
+/// Which rows the tables hold.
+const KEPT: Days<'_> = &[
+    ("each import is kept in its table", &[TIMETABLE, CANDIDATES]),
+    (
+        "seats are put changed and deleted",
+        &[FIRST_TAKES_A, A_IS_TAKEN, SECOND_NEEDS_A, B_CLOSES_EARLY],
+    ),
+    (
+        "refused imports and a second creation write nothing",
+        &[FIRST_TAKES_A, ALL_ROWS, REFUSED, READY, ALL_ROWS],
+    ),
+    (
+        "a seat of another best plan is kept",
+        &[FIRST_TAKES_A, TAKES_B],
+    ),
+    (
+        "appeals of all kinds and states are kept",
+        &[APPEALS, REGISTER],
+    ),
+];
+
 #[test]
-fn appeals_of_all_kinds_and_states_are_kept(rt: HostRuntime) -> Result<(), Fail> {
-    play(&rt, &[APPEALS, REGISTER])
+fn rows_are_kept_as_told(rt: HostRuntime) -> Result<(), Fail> {
+    play_each(&rt, KEPT)
 }

@@ -1,5 +1,5 @@
 //! An import file and a standard output that fail, and reads that are interrupted.
-use super::play;
+use super::{Days, play, play_each};
 use exam_school::FIRST_TAKES_A;
 use std::test::Fail;
 
@@ -60,11 +60,6 @@ $ export S1
 > session,number,paper,hall,desk
 ";
 
-#[test]
-fn a_command_stands_whose_line_is_lost(rt: HostRuntime) -> Result<(), Fail> {
-    play(&rt, &[FIRST_TAKES_A, LOST])
-}
-
 /// Commands whose line is held back, that line, and what is exported then.
 const HELD_BACK: &str = "\
 $ withdraw 0000001 MA-1 held back
@@ -94,7 +89,19 @@ $ export S1
 S1,0000001,MA-1,A,1
 ";
 
+/// Commands whose line does not reach its reader.
+const LOST_LINES: Days<'_> = &[
+    (
+        "a command stands whose line is lost",
+        &[FIRST_TAKES_A, LOST],
+    ),
+    (
+        "a command stands whose line is held back",
+        &[FIRST_TAKES_A, HELD_BACK],
+    ),
+];
+
 #[test]
-fn a_command_stands_whose_line_is_held_back(rt: HostRuntime) -> Result<(), Fail> {
-    play(&rt, &[FIRST_TAKES_A, HELD_BACK])
+fn commands_stand_without_their_line(rt: HostRuntime) -> Result<(), Fail> {
+    play_each(&rt, LOST_LINES)
 }

@@ -1,16 +1,11 @@
 //! Who sits where after imports, withdrawals and a smaller hall, and the sheets that say so.
-use super::play;
+use super::{Days, play_each};
 use exam_school::{FIRST_TAKES_A, SECOND_NEEDS_A};
 use exam_scripts::days::{
     A_QUARTER_MORE, FEWER_DESKS, NOBODY_IS_SHORT, THIRD_IS_SHORT, THREE_HALLS, THREE_NEEDS,
     TWO_PAPERS_AT_ONCE, TWO_PAPERS_IN_A_HALL,
 };
 use std::test::Fail;
-
-#[test]
-fn first_candidate_takes_the_least_hall(rt: HostRuntime) -> Result<(), Fail> {
-    play(&rt, &[FIRST_TAKES_A])
-}
 
 const SHEETS: &str = "\
 $ attendance S1 MA-1
@@ -42,24 +37,6 @@ $ shortage S9
 ! refused 4
 ";
 
-#[test]
-fn need_moves_another_by_a_chain(rt: HostRuntime) -> Result<(), Fail> {
-    play(&rt, &[FIRST_TAKES_A, SECOND_NEEDS_A, SHEETS])
-}
-
-#[test]
-fn shortage_names_seated_and_unseated(rt: HostRuntime) -> Result<(), Fail> {
-    play(
-        &rt,
-        &[
-            NOBODY_IS_SHORT,
-            FIRST_TAKES_A,
-            SECOND_NEEDS_A,
-            THIRD_IS_SHORT,
-        ],
-    )
-}
-
 /// The third one needs a quiet hall, and there is none until hall B becomes one.
 const B_BECOMES_QUIET: &str = "\
 $ import arrangements f
@@ -85,11 +62,6 @@ $ door-list S1 B
 date 2027-06-01 start 09:00 desks 1 seated 1
    1 0000003 MA-1         Cy Dahl
 ";
-
-#[test]
-fn hall_that_becomes_quiet_seats_who_needs_it(rt: HostRuntime) -> Result<(), Fail> {
-    play(&rt, &[FIRST_TAKES_A, B_BECOMES_QUIET])
-}
 
 /// The fourth one sits a paper that no hall fits.
 const TWO_ARE_SHORT: &str = "\
@@ -120,16 +92,6 @@ candidates 4
 0000004
 ";
 
-#[test]
-fn who_fits_no_hall_is_short_beside_who_finds_no_desk(rt: HostRuntime) -> Result<(), Fail> {
-    play(&rt, &[TWO_ARE_SHORT])
-}
-
-#[test]
-fn least_of_two_short_chains_is_taken(rt: HostRuntime) -> Result<(), Fail> {
-    play(&rt, &[THREE_HALLS, THREE_NEEDS])
-}
-
 const THREE_PAPERS: &str = "\
 $ import papers f
 paper,title,session,minutes,requires
@@ -149,16 +111,6 @@ S1,0000001,P-1,C,1
 S1,0000002,P-2,B,1
 S1,0000003,P-3,A,1
 ";
-
-#[test]
-fn what_papers_require_seats_as_needs_do(rt: HostRuntime) -> Result<(), Fail> {
-    play(&rt, &[THREE_HALLS, THREE_PAPERS])
-}
-
-#[test]
-fn a_hall_fits_that_closes_no_sooner_than_the_end(rt: HostRuntime) -> Result<(), Fail> {
-    play(&rt, &[A_QUARTER_MORE])
-}
 
 const THE_LATEST_END: &str = "\
 $ import sessions f
@@ -188,16 +140,6 @@ date 2027-06-01 start 23:59 candidates 1
 0000001 -           - 43:59 Bo Berg
 ";
 
-#[test]
-fn no_hall_is_open_at_the_latest_end(rt: HostRuntime) -> Result<(), Fail> {
-    play(&rt, &[THE_LATEST_END])
-}
-
-#[test]
-fn desks_are_counted_by_paper_before_number(rt: HostRuntime) -> Result<(), Fail> {
-    play(&rt, &[TWO_PAPERS_IN_A_HALL])
-}
-
 /// A paper code of 12 bytes, and a hall code of 8.
 const WIDE_COLUMNS: &str = "\
 $ import halls f
@@ -225,16 +167,6 @@ $ door-list S1 HALL2027
 > DOOR LIST session S1 hall HALL2027
 date 2027-06-01 start 09:00 desks 2000 seated 0
 ";
-
-#[test]
-fn wide_codes_fill_their_columns(rt: HostRuntime) -> Result<(), Fail> {
-    play(&rt, &[WIDE_COLUMNS])
-}
-
-#[test]
-fn fewer_desks_put_the_greater_number_out(rt: HostRuntime) -> Result<(), Fail> {
-    play(&rt, &[FEWER_DESKS])
-}
 
 /// Hall A is for candidates with arrangements alone.
 const A_IS_RESERVED: &str = "\
@@ -266,13 +198,6 @@ S1,0000001,MA-1,A,1
 S1,0000002,MA-1,B,1
 ";
 
-#[test]
-fn extra_time_opens_a_reserved_hall_and_moves_nobody_by_itself(
-    rt: HostRuntime,
-) -> Result<(), Fail> {
-    play(&rt, &[A_IS_RESERVED])
-}
-
 const ONE_IS_LEFT: &str = "\
 $ withdraw 0000003 MA-1
 > withdrawn
@@ -289,7 +214,60 @@ $ export S1
 S1,0000003,MA-1,C,1
 ";
 
+/// Who sits where.
+const SEATED: Days<'_> = &[
+    ("first candidate takes the least hall", &[FIRST_TAKES_A]),
+    (
+        "need moves another by a chain",
+        &[FIRST_TAKES_A, SECOND_NEEDS_A, SHEETS],
+    ),
+    (
+        "shortage names seated and unseated",
+        &[
+            NOBODY_IS_SHORT,
+            FIRST_TAKES_A,
+            SECOND_NEEDS_A,
+            THIRD_IS_SHORT,
+        ],
+    ),
+    (
+        "hall that becomes quiet seats who needs it",
+        &[FIRST_TAKES_A, B_BECOMES_QUIET],
+    ),
+    (
+        "who fits no hall is short beside who finds no desk",
+        &[TWO_ARE_SHORT],
+    ),
+    (
+        "least of two short chains is taken",
+        &[THREE_HALLS, THREE_NEEDS],
+    ),
+    (
+        "what papers require seats as needs do",
+        &[THREE_HALLS, THREE_PAPERS],
+    ),
+    (
+        "a hall fits that closes no sooner than the end",
+        &[A_QUARTER_MORE],
+    ),
+    ("no hall is open at the latest end", &[THE_LATEST_END]),
+    (
+        "desks are counted by paper before number",
+        &[TWO_PAPERS_IN_A_HALL],
+    ),
+    ("wide codes fill their columns", &[WIDE_COLUMNS]),
+    ("fewer desks put the greater number out", &[FEWER_DESKS]),
+    (
+        "extra time opens a reserved hall and moves nobody by itself",
+        &[A_IS_RESERVED],
+    ),
+    (
+        "a hall that still fits is kept",
+        &[TWO_PAPERS_AT_ONCE, ONE_IS_LEFT],
+    ),
+];
+
 #[test]
-fn a_hall_that_still_fits_is_kept(rt: HostRuntime) -> Result<(), Fail> {
-    play(&rt, &[TWO_PAPERS_AT_ONCE, ONE_IS_LEFT])
+fn candidates_are_seated_as_told(rt: HostRuntime) -> Result<(), Fail> {
+    play_each(&rt, SEATED)
 }

@@ -1,5 +1,5 @@
 //! Arrangements that stand for later sessions: two days, with what each command prints.
-use super::play;
+use super::{Days, play_each};
 use exam_school::FIRST_TAKES_A;
 use exam_scripts::days::{
     FROM_VERSION_1, FROM_VERSION_2, MOVED_TWICE, OF_VERSION_1, OF_VERSION_2, THREE_COME,
@@ -38,11 +38,6 @@ SELECT number, ref FROM standing
 > 1|AR1|
 "#;
 
-#[test]
-fn a_standing_grant_counts_from_its_date_on(rt: HostRuntime) -> Result<(), Fail> {
-    play(&rt, &[TWO_SESSIONS, A_QUARTER_MORE])
-}
-
 const A_SCREEN_AND_NONE: &str = r#"$ POST /candidates/0000001/appeals on 2027-05-22
 {"extra":0,"kind":"arrangement","needs":"screen","reason":"","ref":"AR1","session":"S1"}
 > {"state":"open"}
@@ -73,27 +68,32 @@ $ appeals S2
 appeals 0
 "#;
 
-#[test]
-fn a_later_grant_ends_a_standing_one(rt: HostRuntime) -> Result<(), Fail> {
-    play(&rt, &[TWO_SESSIONS, A_SCREEN_AND_NONE])
-}
-
-#[test]
-fn who_moves_in_two_sessions_counts_twice(rt: HostRuntime) -> Result<(), Fail> {
-    play(&rt, &[TWO_SESSIONS, THREE_COME, MOVED_TWICE])
-}
-
 const STILL_STANDS: &str = "\
 $ sql
 SELECT number, ref FROM standing
 > 2|AR1|
 ";
 
-#[test]
-fn a_migration_names_both_versions(rt: HostRuntime) -> Result<(), Fail> {
-    play(&rt, &[FIRST_TAKES_A, OF_VERSION_1, FROM_VERSION_1])?;
-    play(
-        &rt,
+/// What a standing grant gives, and how long.
+const STANDING: Days<'_> = &[
+    (
+        "a standing grant counts from its date on",
+        &[TWO_SESSIONS, A_QUARTER_MORE],
+    ),
+    (
+        "a later grant ends a standing one",
+        &[TWO_SESSIONS, A_SCREEN_AND_NONE],
+    ),
+    (
+        "who moves in two sessions counts twice",
+        &[TWO_SESSIONS, THREE_COME, MOVED_TWICE],
+    ),
+    (
+        "a migration from version 1 names both versions",
+        &[FIRST_TAKES_A, OF_VERSION_1, FROM_VERSION_1],
+    ),
+    (
+        "a migration from version 2 keeps the marks",
         &[
             TWO_SESSIONS,
             THREE_COME,
@@ -102,5 +102,10 @@ fn a_migration_names_both_versions(rt: HostRuntime) -> Result<(), Fail> {
             FROM_VERSION_2,
             STILL_STANDS,
         ],
-    )
+    ),
+];
+
+#[test]
+fn standing_grants_count_as_told(rt: HostRuntime) -> Result<(), Fail> {
+    play_each(&rt, STANDING)
 }

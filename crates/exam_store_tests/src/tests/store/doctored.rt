@@ -35,11 +35,6 @@ INSERT INTO arrangement VALUES (1, 64, 0)
 INSERT INTO arrangement VALUES (1, 0, 101)
 ";
 
-#[test]
-fn a_value_out_of_range_is_refused(rt: HostRuntime) -> Result<(), Fail> {
-    expect_each(&rt, &[ROWS], OUT_OF_RANGE, "", BAD_STORE)
-}
-
 /// Kinds, subjects, states, answers, references and days that no appeal has.
 const NO_APPEALS: &str = "\
 INSERT INTO appeal VALUES (1, 'R1', 'S1', 0, 'A', 0, 0, '', 1, NULL, '2027-05-01')
@@ -67,12 +62,6 @@ INSERT INTO appeal VALUES (1, 'R1', 'S1', 1, 'A', 0, 0, '', 1, NULL, '2027-5-1')
 const AN_APPEAL: &str =
     "INSERT INTO appeal VALUES (1, 'R1', 'S1', 1, 'A', 0, 0, '', 1, NULL, '2027-05-01')";
 
-#[test]
-fn an_appeal_of_no_form_is_refused(rt: HostRuntime) -> Result<(), Fail> {
-    expect_each(&rt, &[ROWS], NO_APPEALS, "", BAD_STORE)?;
-    expect_each(&rt, &[ROWS], AN_APPEAL, "", 0)
-}
-
 /// Another version, a table that is missing, and one with fewer columns.
 const OTHER_TABLES: &str = "\
 UPDATE office SET version = 4
@@ -93,11 +82,6 @@ DROP TABLE session
 DROP TABLE office
 DROP TABLE arrangement; CREATE TABLE arrangement (number INTEGER NOT NULL, PRIMARY KEY (number)) STRICT
 ";
-
-#[test]
-fn another_version_and_other_tables_are_refused(rt: HostRuntime) -> Result<(), Fail> {
-    expect_each(&rt, &[], OTHER_TABLES, "", BAD_STORE)
-}
 
 const A_SHELF: &str = "CREATE TABLE shelf (code TEXT NOT NULL, PRIMARY KEY (code)) STRICT";
 
@@ -130,12 +114,6 @@ const AGAIN: &str = "\
 INSERT INTO appeal
 SELECT number, 'R2', session, kind, target, needs, extra, reason, state, answer, '2027-05-02' FROM appeal";
 
-#[test]
-fn an_appeal_that_may_stand_once_is_refused_twice(rt: HostRuntime) -> Result<(), Fail> {
-    expect_each(&rt, &[ROWS], SINGLES, AGAIN, BAD_STORE)?;
-    expect_each(&rt, &[ROWS], SEVERAL, AGAIN, 0)
-}
-
 /// Hall and clash appeals, and arrangements that are open, refused or retracted.
 const UNMARKED: &str = "\
 INSERT INTO appeal VALUES (1, 'R1', 'S1', 1, 'A', 0, 0, '', 2, 'Yes', '2027-05-01')
@@ -153,10 +131,25 @@ INSERT INTO appeal VALUES (1, 'R1', 'S1', 3, '', 1, 0, '', 5, 'Yes', '2027-05-01
 
 const MARK: &str = "INSERT INTO standing VALUES (1, 'R1')";
 
+/// Rows, statements each of which makes another office of them, statements that follow, and the number of the refusal of
+/// opening it, or 0.
+const DOCTORED: &[(&[&str], &str, &str, u16)] = &[
+    (&[ROWS], OUT_OF_RANGE, "", BAD_STORE),
+    (&[ROWS], NO_APPEALS, "", BAD_STORE),
+    (&[ROWS], AN_APPEAL, "", 0),
+    (&[], OTHER_TABLES, "", BAD_STORE),
+    (&[ROWS], SINGLES, AGAIN, BAD_STORE),
+    (&[ROWS], SEVERAL, AGAIN, 0),
+    (&[ROWS], UNMARKED, MARK, BAD_STORE),
+    (&[ROWS], MARKED, MARK, 0),
+];
+
 #[test]
-fn a_mark_of_what_was_never_granted_is_refused(rt: HostRuntime) -> Result<(), Fail> {
-    expect_each(&rt, &[ROWS], UNMARKED, MARK, BAD_STORE)?;
-    expect_each(&rt, &[ROWS], MARKED, MARK, 0)
+fn only_good_offices_are_opened(rt: HostRuntime) -> Result<(), Fail> {
+    for (rows, lines, then, refusal) in DOCTORED {
+        expect_each(&rt, rows, lines, then, *refusal)?;
+    }
+    Ok(())
 }
 
 /// The school with that many more halls.
